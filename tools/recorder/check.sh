@@ -94,23 +94,29 @@ expect "a hand-over of a program that asks for OpenCL 2.0" 0 "launch 0, sum_all:
     -- --build-options "-cl-std=CL2.0 -DORDER=memory_order_acq_rel" sum_all.sim
 expect "atomics of a program that does not ask for OpenCL 2.0" 2 "no launch was recorded" "since it has atomics of OpenCL 2.0: --opencl20 gives it these" \
     -- --build-options -DORDER=memory_order_acq_rel sum_all.sim
+# one thread runs the groups one by one, so that the last one is group 5, and nobody waits for a lock
+export OCLGRIND_NUM_THREADS=1
 # each of three groups takes a lock that is a flag, reads and writes the counter, lets it go, and ends
 expect "a lock that is a flag" 0 "flag_lock: nothing found (3 groups of 1 work-item, 15 records)" \
     -- --build-options "-cl-std=CL2.0 -DORDER=memory_order_release" flag_lock.sim
-expect "a lock that is a flag and releases nothing" 1 "race on counter\[0\]" -- --build-options "-cl-std=CL2.0 -DORDER=memory_order_relaxed" flag_lock.sim
-# two groups of two items each write a word; what they read of the table is not recorded
-expect "constant memory" 0 "constants: nothing found (2 groups of 2 work-items, 6 records)" -- constants.sim
 expect "a relaxed count" 1 "races 5 diverge 0 unmatched 0 held 0" "race on parts\[0..4\]" "a release that an acquire takes, at memory_scope_device, would" \
     -- --opencl20 --build-options -DORDER=memory_order_relaxed sum_all.sim
+# of the six releases that the load is to name, four are of groups that are not recorded
+expect "a window of hand-overs" 2 "sum_all: nothing found in what was recorded (2 groups" "hand-overs from groups outside the window, not recorded: 4" \
+    -- --opencl20 --groups 4:2 --build-options "-DORDER=memory_order_release -DACQUIRES" sum_all.sim
+# group 2 is stopped, and group 3 never begins
+expect "a kernel that is stopped" 2 "nothing found in what was recorded (4 groups of 2 work-items, 15 records)" \
+    "records of 2 of 4 groups were lost (the first is group 2)" -- stopped.sim
+unset OCLGRIND_NUM_THREADS
+expect "a lock that is a flag and releases nothing" 1 "race on counter\[0\]" -- --build-options "-cl-std=CL2.0 -DORDER=memory_order_relaxed" flag_lock.sim
 expect "releases alone" 1 "races 5 diverge 0 unmatched 0 held 0" \
     -- --opencl20 --build-options -DORDER=memory_order_release sum_all.sim
 # Each count continues the sequences of all before it: the load names six releases, four of them by a load before it. Six
 # groups write a part, count and end, the last one loads twice, and adds six parts with two reads and a write each.
 expect "releases, and a load that acquires" 0 "sum_all: nothing found (6 groups of 1 work-item, 38 records)" \
     -- --opencl20 --build-options "-DORDER=memory_order_release -DACQUIRES" sum_all.sim
-# of the six releases that the load is to name, four are of groups that are not recorded
-expect "a window of hand-overs" 2 "sum_all: nothing found in what was recorded (2 groups" "hand-overs from groups outside the window, not recorded: 4" \
-    -- --opencl20 --groups 4:2 --build-options "-DORDER=memory_order_release -DACQUIRES" sum_all.sim
+# two groups of two items each write a word; what they read of the table is not recorded
+expect "constant memory" 0 "constants: nothing found (2 groups of 2 work-items, 6 records)" -- constants.sim
 # each group has a record of each of its 64 items, and its end
 expect "a large launch" 0 "large: nothing found (128 groups of 64 work-items, 8320 records)" -- large.sim
 expect "a large window" 2 "(65 groups of 64 work-items, 4225 records)" "only groups 1 to 65 of 128 were recorded" \
@@ -145,9 +151,18 @@ expect "what is left out" 1 "left_out: FOUND (2 groups of 2 work-items, 6 record
 expect "out of bounds" 1 "out of bounds: read of 4 bytes, 8 bytes before the start of words, which has 16 bytes:" "kernel.cl:3:[0-9]*: read by group 0, item 0" \
     "called at kernel.cl:9:[0-9]*: " "read of 16 bytes, partly behind the end of words, which has 16 bytes:" "2 times" \
     "atomic of 4 bytes, 4 bytes behind the end of tile, which has 8 bytes:" -- outside.sim
-# group 2 is stopped, and group 3 never begins
-expect "a kernel that is stopped" 2 "nothing found in what was recorded (4 groups of 2 work-items, 15 records)" \
-    "records of 2 of 4 groups were lost (the first is group 2)" -- stopped.sim
+# the folder is the same whatever the number of threads, where no atomics meet
+for threads in 1 4; do
+    OCLGRIND_NUM_THREADS=$threads "$here/../gpurace-record" --simulator --only-record --keep "$work/by-$threads" \
+        "$work/sum_tiles" sum_tiles.cl 3 > "$work/said" 2>&1
+done
+diff -r "$work/by-1" "$work/by-4" > "$work/said" || fail "one thread, and four"
+# where they meet, each acquire names what it read from
+for turn in 1 2 3; do
+    OCLGRIND_NUM_THREADS=4 "$here/../gpurace-record" --opencl20 --only-record --keep "$work/chains-$turn" chains.sim > "$work/said" 2>&1
+    python3 chains.py "${GPURACE_PROGRAM:-$here/../../gpurace}" "$work/chains-$turn/000-chains" "$work/said" > "$work/names" 2>&1 ||
+        { cp "$work/names" "$work/said"; fail "names by four threads"; }
+done
 
 [ $failures = 0 ] || exit 1
 echo "check.sh: the recorder and its reports are as expected"

@@ -7,16 +7,18 @@
 #include "settings.h"
 #include "texts.h"
 
+#include <atomic>
 #include <deque>
 #include <map>
 #include <mutex>
+#include <set>
 #include <unordered_map>
 #include <utility>
 
 namespace gpurace {
 
 struct Record {
-    uint64_t offset;    // in the buffer; of a barrier its site, of its group's
+    uint64_t offset;    // in the buffer
     uint32_t buffer;    // its number in the simulator's memory
     uint32_t place;     // of its group's
     uint32_t size;      // in bytes; of a barrier its flags
@@ -80,7 +82,7 @@ struct Reached {
     };
 };
 
-// Places, or the sites of barriers, in the order in which they were reached.
+// Places, numbered in the order in which they were reached.
 class Places {
 public:
     static constexpr uint32_t NO_CALL = UINT32_MAX; // in the kernel itself
@@ -91,13 +93,8 @@ public:
         return entry->second;
     }
     const std::vector<Reached> &all() const { return all_; }
-    // The numbers that these places have among all of the launch, which get those that they lack. `calls` has those of the places of calls.
-    std::vector<uint32_t> numbers_in(Places &launch, const std::vector<uint32_t> *calls) const {
-        std::vector<uint32_t> numbers;
-        for (const Reached &it : all_) // a call has its number before what it leads to
-            numbers.push_back(launch.number_of({it.at, it.call == NO_CALL ? NO_CALL : (calls ? *calls : numbers)[it.call]}));
-        return numbers;
-    }
+    // No more will be reached.
+    void close() { numbers_ = {}; }
 
 private:
     std::unordered_map<Reached, uint32_t, Reached::Hash> numbers_;
@@ -119,14 +116,7 @@ using Buffers = std::array<std::map<uint32_t, Buffer>, 2>; // by space, by numbe
 
 // What the report of this launch does not speak of.
 struct Losses {
-    uint64_t fences = 0, unknown_orders = 0, names_outside_window = 0, accesses_of_parts_of_words = 0;
-
-    void add(const Losses &other) {
-        fences += other.fences;
-        unknown_orders += other.unknown_orders;
-        names_outside_window += other.names_outside_window;
-        accesses_of_parts_of_words += other.accesses_of_parts_of_words;
-    }
+    std::atomic<uint64_t> fences{0}, unknown_orders{0}, names_outside_window{0}, accesses_of_parts_of_words{0};
 };
 
 // The releases whose release sequences the value of each atomic word belongs to. A word is its buffer's number and its offset.
@@ -150,37 +140,34 @@ private:
     std::map<uint64_t, Names> heads_;
 };
 
-// Those of global memory, which groups of several threads share. A thread holds the stripes of an access from before it is told
-// what the access does until that is done, so that they change in the order in which values change.
+// Those of a part of global memory, which groups of several threads share.
 struct Stripe {
     std::mutex mutex;
     Sequences sequences;
 };
-using Stripes = std::array<Stripe, 64>;
+using Stripes = std::array<Stripe, 16>;
 
+// What a thread has of them, from before it is told of an access until that is done: they change in the order in which values do. It lets
+// go what it had before it waits for more, and waits in ascending order. (Where an exception ends the thread, so does this.)
 class Held {
 public:
-    // Lets go what was held before: a thread that waits for stripes holds none, or lower ones of the same access.
     void take(Stripes &stripes, uint64_t word, uint64_t size) {
         release();
-        const uint64_t first = line_of(word), more = line_of(word + size - 1) - first, count = stripes.size();
-        for (uint64_t at = more == 0 ? first % count : 0; at < count; at++) {
-            if ((at - first) % count > more) continue;
-            stripes[at].mutex.lock();
-            held_.push_back(&stripes[at]);
-            if (more == 0) return;
-        }
+        const uint64_t first = word / 64, more = (word + size - 1) / 64 - first;
+        for (size_t at = 0; at < stripes.size(); at++)
+            if ((at - first) % stripes.size() <= more) {
+                locks_.emplace_back(stripes[at].mutex);
+                sequences.push_back(&stripes[at].sequences);
+            }
     }
     void release() {
-        for (Stripe *stripe : held_) stripe->mutex.unlock();
-        held_.clear();
+        locks_.clear();
+        sequences.clear();
     }
-    const std::vector<Stripe *> &stripes() const { return held_; }
-    ~Held() { release(); } // where an exception ends the thread
+    std::vector<Sequences *> sequences;
 
 private:
-    static uint64_t line_of(uint64_t word) { return (word >> 6) + (word >> 40); }
-    std::vector<Stripe *> held_;
+    std::vector<std::unique_lock<std::mutex>> locks_;
 };
 
 // A thread runs a group from its begin to its end, and nothing here is of another one meanwhile.
@@ -194,12 +181,12 @@ struct Group {
     Record last_barrier{}, scratch{};
     bool has_barrier = false;
     Copies copies;
-    Places places, sites;
-    std::vector<uint32_t> launch_places, launch_sites; // their numbers in the launch, when that has ended
+    Places places;
+    std::vector<uint32_t> launch_places; // their numbers in the launch, when that has ended
+    std::set<uint32_t> barriers;         // places
     std::vector<Names> names; // their numbers count release operations, whatever number of words each has
     Buffers buffers;
     Sequences sequences;      // of local memory
-    Losses losses;
     std::map<uint32_t, Outside> outside; // by place
 
     // Keeps a record, and answers where it is: a group that is not kept, or is full, has its last one alone.
@@ -225,17 +212,17 @@ struct Launch {
     Window window;                       // the groups that are recorded
     bool has_atomics = true;             // plain writes may end release sequences
     Stripes stripes;
+    Losses losses;
     std::mutex mutex;                    // of all below, while groups run
     std::map<uint32_t, Group> group;     // those that have begun, by their numbers in the launch
     Buffers buffers;
-    Losses losses;
-    Places reached, sites;               // of all groups
-    std::vector<std::string> places;     // the texts of those that are reached
+    Places reached;                      // of all groups
+    std::vector<std::string> places;     // the texts of those
+    std::map<uint32_t, uint64_t> sites;  // of those that are barriers, the sites
     std::map<uint32_t, Outside> outside; // by place
 
     // The group has ended, or the launch has before it.
     void join(const Group &group) {
-        losses.add(group.losses);
         for (size_t space = 0; space < buffers.size(); space++)
             for (const auto &[number, of_group] : group.buffers[space]) {
                 Buffer &buffer = buffers[space][number];
@@ -247,8 +234,9 @@ struct Launch {
     void number_places() {
         for (auto &[number, group] : group) {
             if (!group.is_complete) join(group);
-            group.launch_places = group.places.numbers_in(reached, nullptr);
-            group.launch_sites = group.sites.numbers_in(sites, &group.launch_places);
+            for (const auto &[at, call] : group.places.all()) // a call is there before what it leads to
+                group.launch_places.push_back(reached.number_of({at, call == Places::NO_CALL ? call : group.launch_places[call]}));
+            for (const uint32_t place : group.barriers) sites[group.launch_places[place]] = 0;
             for (const auto &[place, of_group] : group.outside) {
                 const auto [all, is_first] = outside.emplace(group.launch_places[place], of_group);
                 if (!is_first) all->second.count += of_group.count;

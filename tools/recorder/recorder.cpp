@@ -59,9 +59,15 @@ public:
     void finish() {
         if (!launch_) return;
         launch_->number_places();
-        for (const Reached &it : launch_->reached.all()) {
-            const std::string behind = it.call == Places::NO_CALL ? "" : CALLED + launch_->places[it.call];
-            launch_->places.push_back(text_of(static_cast<const llvm::Instruction *>(it.at)) + behind);
+        for (const auto &[at, call] : launch_->reached.all()) {
+            const std::string behind = call == Places::NO_CALL ? "" : CALLED + launch_->places[call];
+            launch_->places.push_back(text_of(static_cast<const llvm::Instruction *>(at)) + behind);
+        }
+        Places sites;
+        for (auto &[place, site] : launch_->sites) {
+            const auto &[at, call] = launch_->reached.all()[place];
+            const void *location = static_cast<const llvm::Instruction *>(at)->getDebugLoc().get();
+            site = 1 + sites.number_of({location ? location : at, call});
         }
         write_launch(*launch_, settings_, "");
         launch_.reset();
@@ -113,11 +119,13 @@ public:
         running.work_group = nullptr;
         const std::lock_guard<std::mutex> lock(launch_->mutex);
         launch_->join(group);
+        group.places.close();
         if (!group.is_kept && group.outside.empty()) launch_->group.erase(group.number);
     }
     // The item that does the asynchronous copies passes every barrier of its group.
     void workGroupBarrier(const WorkGroup *work_group, uint32_t) override {
         if (!launch_) return;
+        running.held.release(); // of the copies
         Group &group = group_of(work_group);
         if (!group.has_barrier) return;
         Record record = group.last_barrier;
@@ -126,17 +134,18 @@ public:
     }
 
     void instructionExecuted(const WorkItem *item, const llvm::Instruction *instruction, const TypedValue &) override {
-        if (!launch_) return;
-        if (launch_->has_atomics) running.held.release();
-        const auto *call = llvm::dyn_cast<llvm::CallInst>(instruction);
-        if (!call) return;
+        const unsigned opcode = instruction->getOpcode();
+        if (!launch_ || (opcode != llvm::Instruction::Call && opcode != llvm::Instruction::Store)) return;
+        running.held.release(); // nothing else changes memory
+        if (opcode == llvm::Instruction::Store) return;
+        const auto *call = llvm::cast<llvm::CallInst>(instruction);
         const Call kind = kind_of(call);
         if (item->getState() == WorkItem::BARRIER)
             barrier(item, call, kind);
         else if (kind == Call::copy)
             begin_copy(item, call);
         else if (kind == Call::fence)
-            group_of(item->getWorkGroup()).losses.fences++;
+            launch_->losses.fences++;
         else if (kind >= Call::explicit_load)
             running.given = explicit_of(item, call, kind);
         else if (kind == Call::atomic)
@@ -251,7 +260,7 @@ private:
     static uint64_t word_of(const Record &record) { return uint64_t(record.buffer) << 40 | record.offset; }
     // The sequences that an atomic's word is of; global memory's are held.
     static Sequences &sequences_of(Group &group, const Record &record) {
-        return record.space == GPURACE_LOCAL ? group.sequences : running.held.stripes().front()->sequences;
+        return record.space == GPURACE_LOCAL ? group.sequences : *running.held.sequences.front();
     }
     // The record of an access, or nothing where that is out of bounds.
     std::optional<Record> record_of(const Memory *memory, Group &group, uint32_t place, uint16_t item, uint8_t kind, size_t address, size_t size) {
@@ -267,7 +276,7 @@ private:
         Buffer &buffer = group.buffers[space][number];
         buffer.bytes = memory->getBuffer(address)->size;
         buffer.bits |= bits;
-        group.losses.accesses_of_parts_of_words += bits % 4 != 0 ? 1 : 0;
+        if (bits % 4 != 0) launch_->losses.accesses_of_parts_of_words++;
         return record;
     }
     // Where an address is that is in no buffer. One before a buffer's start names the buffer before that.
@@ -306,7 +315,7 @@ private:
         if (record.kind == GPURACE_WRITE && record.space == GPURACE_LOCAL) group.sequences.write(word_of(record), record.size);
         if (record.kind == GPURACE_WRITE && record.space == GPURACE_GLOBAL && launch_->has_atomics) {
             running.held.take(launch_->stripes, word_of(record), record.size);
-            for (Stripe *stripe : running.held.stripes()) stripe->sequences.write(word_of(record), record.size);
+            for (Sequences *sequences : running.held.sequences) sequences->write(word_of(record), record.size);
         }
         group.keep(record);
     }
@@ -318,11 +327,10 @@ private:
             flags = (given & CLK_GLOBAL_MEM_FENCE ? GPURACE_GLOBAL_FENCE : GPURACE_NO_FENCE) |
                     (given & CLK_LOCAL_MEM_FENCE ? GPURACE_LOCAL_FENCE : GPURACE_NO_FENCE);
         }
-        const void *location = call->getDebugLoc().get();
         Group &group = group_of(item->getWorkGroup());
-        const uint32_t site = group.sites.number_of({location ? location : call, caller_of(group, item)});
-        group.last_barrier = {site, 0, place_of(group, item), flags, -1, item_of(item), GPURACE_BARRIER, 0, 0, 0};
+        group.last_barrier = {0, 0, place_of(group, item), flags, -1, item_of(item), GPURACE_BARRIER, 0, 0, 0};
         group.has_barrier = true;
+        group.barriers.insert(group.last_barrier.place);
         group.keep(group.last_barrier);
     }
 
@@ -330,7 +338,7 @@ private:
     uint8_t order_of(const WorkItem *item, const llvm::Value *value, uint8_t kind) {
         const uint64_t order = llvm::isa<llvm::UndefValue>(value) ? UINT64_MAX : item->getOperand(value).getUInt();
         if (order > 5 || (kind == GPURACE_STORE && order == 2) || (kind == GPURACE_LOAD && order == 3)) {
-            group_of(item->getWorkGroup()).losses.unknown_orders++;
+            launch_->losses.unknown_orders++;
             return GPURACE_RELAXED;
         }
         switch (order) {
@@ -393,7 +401,7 @@ private:
         Names heads = sequences_of(group, record).heads(word_of(record));
         const auto is_outside = [&](const Name &head) { return !launch_->is_in_window(head.group); };
         const auto kept = std::remove_if(heads.begin(), heads.end(), is_outside);
-        group.losses.names_outside_window += uint64_t(heads.end() - kept);
+        launch_->losses.names_outside_window += uint64_t(heads.end() - kept);
         heads.erase(kept, heads.end());
         if (heads.empty()) return;
         record.names = int32_t(group.names.size());

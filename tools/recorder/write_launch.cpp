@@ -5,17 +5,25 @@
 #include <cerrno>
 #include <cstring>
 #include <fstream>
+#include <future>
 #include <iomanip>
-#include <set>
 #include <sys/stat.h>
 
 namespace gpurace {
 namespace {
 
 int write_bytes(void *context, const unsigned char *bytes, size_t length) {
-    std::ostream &out = *static_cast<std::ostream *>(context);
-    return out.write(reinterpret_cast<const char *>(bytes), std::streamsize(length)).good();
+    static_cast<std::string *>(context)->append(reinterpret_cast<const char *>(bytes), length);
+    return 1;
 }
+
+// The streams of some groups that follow each other, or what there is to tell of them where they have files of their own.
+struct Part {
+    std::string bytes;
+    uint64_t records = 0, items = 0, added_loads = 0;
+    std::set<uint32_t> cut;
+    bool is_good = true;
+};
 
 class Writer {
 public:
@@ -114,7 +122,7 @@ private:
         const auto kind = gpurace_kind(record.kind);
         const auto space = gpurace_space(record.space);
         const auto scope = gpurace_scope(record.scope);
-        if (kind == GPURACE_BARRIER) return gpurace_barrier(&stream, record.item, group.launch_sites[record.offset] + 1, record.size);
+        if (kind == GPURACE_BARRIER) return gpurace_barrier(&stream, record.item, launch_.sites.at(group.launch_places[record.place]), record.size);
         const uint64_t word = first_word(record) + at;
         if (kind < GPURACE_LOAD) return gpurace_plain(&stream, record.item, kind, space, word);
         const auto found = names(group, record, at);
@@ -129,7 +137,7 @@ private:
     }
 
     // Puts the records of a group. Answers what stopped it, or GPURACE_OK.
-    gpurace_status put_records(gpurace_stream &stream, const Group &group) {
+    gpurace_status put_records(gpurace_stream &stream, const Group &group, Part &part) const {
         for (const Record &record : group.records) {
             if (record.item == group.items && !group.has_copies) continue;
             // a place without room for its number is not told
@@ -140,43 +148,63 @@ private:
                 const uint32_t before = stream.records;
                 const gpurace_status status = put(stream, group, record, at);
                 if (status != GPURACE_OK) return status;
-                added_loads_ += stream.records - before - 1;
+                part.added_loads += stream.records - before - 1;
             }
         }
         return GPURACE_OK;
     }
 
-    // Each group has a file, and where there are many groups all have one.
+    // Each group has a file, and where there are many groups all have one. Each processor makes the streams of some.
     bool write_streams() {
-        const uint64_t count = launch_.window.count();
-        std::ofstream joined;
-        if (count > GPURACE_MOST_GROUPS) joined.open(folder_ + "/groups.gpurace", std::ios::binary);
-        for (uint32_t number = 0; number < count; number++) {
+        const uint64_t count = launch_.window.count(), most = std::max(1u, std::thread::hardware_concurrency()), parts = std::min(count, most);
+        for (uint64_t number = 0; number < count; number++) {
+            Group &group = launch_.group[uint32_t(launch_.window.group_of(number))];
+            if (group.items == 0) group.items = uint32_t(launch_.local.count()); // it never began: the kernel was stopped
+        }
+        std::vector<std::future<Part>> made;
+        for (uint64_t at = 0; at < parts; at++)
+            made.push_back(std::async(std::launch::async, &Writer::make, this, count * at / parts, count * (at + 1) / parts));
+        bool is_good = true;
+        for (auto &it : made) is_good = add(it.get()) && is_good;
+        return is_good;
+    }
+    Part make(uint64_t first, uint64_t end) const {
+        Part part;
+        for (uint64_t number = first; part.is_good && number < end; number++) {
+            part.is_good = make_stream(uint32_t(number), part);
+            if (launch_.window.count() > GPURACE_MOST_GROUPS) continue;
             std::ostringstream name;
             name << folder_ << "/group" << std::setw(2) << std::setfill('0') << number << ".gpurace";
-            std::ofstream own;
-            if (!joined.is_open()) own.open(name.str(), std::ios::binary);
-            std::ofstream &out = joined.is_open() ? joined : own;
-            if (!write_stream(number, out) || !out.flush().good()) return false;
+            part.is_good = write_file(name.str(), part.bytes) && part.is_good;
+            part.bytes.clear();
         }
-        return true;
+        return part;
+    }
+    bool add(const Part &part) {
+        records_ += part.records;
+        items_ += part.items;
+        added_loads_ += part.added_loads;
+        cut_.insert(part.cut.begin(), part.cut.end());
+        return part.is_good && (part.bytes.empty() || write_file(folder_ + "/groups.gpurace", part.bytes));
+    }
+    static bool write_file(const std::string &name, const std::string &bytes) {
+        return std::ofstream(name, std::ios::binary | std::ios::app).write(bytes.data(), std::streamsize(bytes.size())).flush().good();
     }
 
-    bool write_stream(uint32_t number, std::ostream &out) {
-        Group &group = launch_.group[uint32_t(launch_.window.group_of(number))];
-        if (group.items == 0) group.items = uint32_t(launch_.local.count()); // it never began: the kernel was stopped
+    bool make_stream(uint32_t number, Part &part) const {
+        const Group &group = launch_.group.at(uint32_t(launch_.window.group_of(number)));
         const uint32_t items = group.streamed_items();
         gpurace_stream stream;
-        gpurace_status status = gpurace_stream_open_as(&stream, version(group), write_bytes, &out, number, items, launch_.number);
-        if (status == GPURACE_OK) status = put_records(stream, group);
+        gpurace_status status = gpurace_stream_open_as(&stream, version(group), write_bytes, &part.bytes, number, items, launch_.number);
+        if (status == GPURACE_OK) status = put_records(stream, group, part);
         const bool is_cut = !group.is_complete || group.is_full || status == GPURACE_TOO_MANY_RECORDS;
         if (status == GPURACE_TOO_MANY_RECORDS) status = GPURACE_OK;
         if (status == GPURACE_OK) status = gpurace_stream_close(&stream, is_cut);
         if (status != GPURACE_OK)
             std::fprintf(stderr, "gpurace-recorder: %s: group %u: %s\n", folder_.c_str(), number, gpurace_status_text(status));
-        if (is_cut) cut_.insert(number);
-        records_ += stream.records;
-        items_ += items;
+        if (is_cut) part.cut.insert(number);
+        part.records += stream.records;
+        part.items += items;
         return status == GPURACE_OK;
     }
 
