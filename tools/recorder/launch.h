@@ -176,7 +176,7 @@ struct Group {
     bool is_kept = false;            // it is in the window that is recorded
     bool has_copies = false;         // asynchronous copies, which one more item does
     bool is_complete = false, is_full = false;
-    std::vector<Record> records;
+    std::deque<Record> records;      // which grows without copies
     std::vector<uint32_t> releases;  // of each item, its release operations so far
     Record last_barrier{}, scratch{};
     bool has_barrier = false;

@@ -134,11 +134,10 @@ public:
     }
 
     void instructionExecuted(const WorkItem *item, const llvm::Instruction *instruction, const TypedValue &) override {
-        const unsigned opcode = instruction->getOpcode();
-        if (!launch_ || (opcode != llvm::Instruction::Call && opcode != llvm::Instruction::Store)) return;
+        const auto *call = llvm::dyn_cast<llvm::CallInst>(instruction);
+        if (!launch_ || (!call && !llvm::isa<llvm::StoreInst>(instruction))) return;
         running.held.release(); // nothing else changes memory
-        if (opcode == llvm::Instruction::Store) return;
-        const auto *call = llvm::cast<llvm::CallInst>(instruction);
+        if (!call) return;
         const Call kind = kind_of(call);
         if (item->getState() == WorkItem::BARRIER)
             barrier(item, call, kind);

@@ -23,6 +23,7 @@ struct Part {
     uint64_t records = 0, items = 0, added_loads = 0;
     std::set<uint32_t> cut;
     bool is_good = true;
+    int error = 0; // of the system, where it is not
 };
 
 class Writer {
@@ -114,8 +115,7 @@ private:
     // The version of a group's stream: one whose records have room for several names, where an acquire has several.
     gpurace_version version(const Group &group) const {
         const auto has_several = [&](const Record &it) { return it.names >= 0 && group.names[size_t(it.names)].size() > 1; };
-        const bool is_wanted = !group.names.empty() && std::any_of(group.records.begin(), group.records.end(), has_several);
-        return is_wanted ? GPURACE_VERSION_4 : GPURACE_VERSION_3;
+        return std::any_of(group.records.begin(), group.records.end(), has_several) ? GPURACE_VERSION_4 : GPURACE_VERSION_3;
     }
 
     gpurace_status put(gpurace_stream &stream, const Group &group, const Record &record, uint64_t at) const {
@@ -164,18 +164,17 @@ private:
         std::vector<std::future<Part>> made;
         for (uint64_t at = 0; at < parts; at++)
             made.push_back(std::async(std::launch::async, &Writer::make, this, count * at / parts, count * (at + 1) / parts));
-        bool is_good = true;
-        for (auto &it : made) is_good = add(it.get()) && is_good;
-        return is_good;
+        return std::all_of(made.begin(), made.end(), [this](auto &it) { return add(it.get()); });
     }
-    Part make(uint64_t first, uint64_t end) const {
+    Part make(uint64_t first, uint64_t end) {
         Part part;
         for (uint64_t number = first; part.is_good && number < end; number++) {
-            part.is_good = make_stream(uint32_t(number), part);
-            if (launch_.window.count() > GPURACE_MOST_GROUPS) continue;
             std::ostringstream name;
             name << folder_ << "/group" << std::setw(2) << std::setfill('0') << number << ".gpurace";
-            part.is_good = write_file(name.str(), part.bytes) && part.is_good;
+            part.is_good = make_stream(uint32_t(number), part);
+            if (launch_.window.count() > GPURACE_MOST_GROUPS) continue;
+            part.is_good = part.is_good && write_file(name.str(), part.bytes);
+            part.error = errno;
             part.bytes.clear();
         }
         return part;
@@ -185,14 +184,15 @@ private:
         items_ += part.items;
         added_loads_ += part.added_loads;
         cut_.insert(part.cut.begin(), part.cut.end());
+        if (!part.is_good) errno = part.error;
         return part.is_good && (part.bytes.empty() || write_file(folder_ + "/groups.gpurace", part.bytes));
     }
     static bool write_file(const std::string &name, const std::string &bytes) {
         return std::ofstream(name, std::ios::binary | std::ios::app).write(bytes.data(), std::streamsize(bytes.size())).flush().good();
     }
 
-    bool make_stream(uint32_t number, Part &part) const {
-        const Group &group = launch_.group.at(uint32_t(launch_.window.group_of(number)));
+    bool make_stream(uint32_t number, Part &part) {
+        Group &group = launch_.group.at(uint32_t(launch_.window.group_of(number)));
         const uint32_t items = group.streamed_items();
         gpurace_stream stream;
         gpurace_status status = gpurace_stream_open_as(&stream, version(group), write_bytes, &part.bytes, number, items, launch_.number);
@@ -205,6 +205,7 @@ private:
         if (is_cut) part.cut.insert(number);
         part.records += stream.records;
         part.items += items;
+        group.records.clear();
         return status == GPURACE_OK;
     }
 
