@@ -88,7 +88,7 @@ public:
     static constexpr uint32_t NO_CALL = UINT32_MAX; // in the kernel itself
 
     uint32_t number_of(const Reached &reached) {
-        const auto [entry, is_new] = numbers_.emplace(reached, uint32_t(all_.size()));
+        const auto [entry, is_new] = numbers_.try_emplace(reached, uint32_t(all_.size()));
         if (is_new) all_.push_back(reached);
         return entry->second;
     }

@@ -16,10 +16,12 @@
 #include "oclgrind/WorkItem.h"
 
 #include "llvm/IR/Function.h"
+#include "llvm/IR/InstIterator.h"
 #include "llvm/IR/Instructions.h"
 #include "llvm/Passes/PassBuilder.h"
 #include "llvm/Passes/PassPlugin.h"
 #include "llvm/Transforms/Scalar/GVN.h"
+#include "llvm/Transforms/Utils/BasicBlockUtils.h"
 #include "llvm/Transforms/Utils/Mem2Reg.h"
 
 #include <memory>
@@ -134,21 +136,8 @@ public:
     }
 
     void instructionExecuted(const WorkItem *item, const llvm::Instruction *instruction, const TypedValue &) override {
-        const auto *call = llvm::dyn_cast<llvm::CallInst>(instruction);
-        if (!launch_ || (!call && !llvm::isa<llvm::StoreInst>(instruction))) return;
-        running.held.release(); // nothing else changes memory
-        if (!call) return;
-        const Call kind = kind_of(call);
-        if (item->getState() == WorkItem::BARRIER)
-            barrier(item, call, kind);
-        else if (kind == Call::copy)
-            begin_copy(item, call);
-        else if (kind == Call::fence)
-            launch_->losses.fences++;
-        else if (kind >= Call::explicit_load)
-            running.given = explicit_of(item, call, kind);
-        else if (kind == Call::atomic)
-            running.given.item = nullptr; // the builtin within the operation is done
+        const unsigned opcode = instruction->getOpcode(); // nothing else changes memory
+        if (launch_ && (opcode == llvm::Instruction::Call || opcode == llvm::Instruction::Store)) changed_memory(item, instruction);
     }
 
     void memoryLoad(const Memory *memory, const WorkItem *item, size_t address, size_t size) override {
@@ -229,7 +218,7 @@ private:
         return uint16_t(size_of(item->getWorkGroup()->getGroupSize()).index_of(id.x, id.y, id.z));
     }
     static Call kind_of(const llvm::CallInst *call) {
-        auto [entry, is_new] = running.calls.emplace(call, Call::other);
+        auto [entry, is_new] = running.calls.try_emplace(call, Call::other);
         if (is_new && call->getCalledFunction()) entry->second = call_of(call->getCalledFunction()->getName());
         return entry->second;
     }
@@ -287,6 +276,23 @@ private:
         const auto number = uint32_t(memory->extractBuffer(start));
         const std::lock_guard<std::mutex> lock(launch_->mutex);
         return told_outside(launch_->buffers[space][number].name_or(number), buffer->size, offset, before);
+    }
+
+    // It may have. (A function of its own: the check before it is done for every instruction, and this seldom.)
+    [[gnu::noinline]] void changed_memory(const WorkItem *item, const llvm::Instruction *instruction) {
+        running.held.release();
+        const auto *call = llvm::dyn_cast<llvm::CallInst>(instruction);
+        const Call kind = call ? kind_of(call) : Call::other;
+        if (item->getState() == WorkItem::BARRIER)
+            barrier(item, call, kind);
+        else if (kind == Call::copy)
+            begin_copy(item, call);
+        else if (kind == Call::fence)
+            launch_->losses.fences++;
+        else if (kind >= Call::explicit_load)
+            running.given = explicit_of(item, call, kind);
+        else if (kind == Call::atomic)
+            running.given.item = nullptr; // the builtin within the operation is done
     }
 
     void access(const Memory *memory, const WorkItem *item, uint8_t kind, size_t address, size_t size) {
@@ -436,9 +442,25 @@ extern "C" void releasePlugins(Context *context) {
 
 namespace {
 
+// Makes an address in an array of arrays one instruction: Oclgrind interprets and checks each that there is.
+void join_addresses(llvm::Function &function) {
+    using Address = llvm::GetElementPtrInst;
+    for (llvm::Instruction &it : llvm::make_early_inc_range(llvm::instructions(function))) {
+        auto *element = llvm::dyn_cast<Address>(&it);
+        auto *array = element ? llvm::dyn_cast<Address>(element->getPointerOperand()) : nullptr;
+        const auto *first = array ? llvm::dyn_cast<llvm::ConstantInt>(element->getOperand(1)) : nullptr;
+        if (!first || !first->isZero()) continue;
+        llvm::SmallVector<llvm::Value *> indices(array->indices());
+        indices.append(element->idx_begin() + 1, element->idx_end());
+        llvm::ReplaceInstWithInst(element, Address::Create(array->getSourceElementType(), array->getPointerOperand(), indices));
+        if (array->use_empty()) array->eraseFromParent();
+    }
+}
+
 struct NarrowVectors : llvm::PassInfoMixin<NarrowVectors> {
     llvm::PreservedAnalyses run(llvm::Function &function, llvm::FunctionAnalysisManager &) {
         components::narrow(function);
+        join_addresses(function);
         return llvm::PreservedAnalyses::none();
     }
 };
@@ -446,7 +468,7 @@ struct NarrowVectors : llvm::PassInfoMixin<NarrowVectors> {
 } // namespace
 
 // The plugin is one of Clang, too: it has values of an item's own kept out of private memory and calculated once, so that Oclgrind has half as
-// much to interpret, and vectors accessed by component. All else is as -O0 has it.
+// much to interpret, addresses calculated at once, and vectors accessed by component. All else is as -O0 has it.
 extern "C" llvm::PassPluginLibraryInfo llvmGetPassPluginInfo() {
     return {LLVM_PLUGIN_API_VERSION, "gpurace", "1", [](llvm::PassBuilder &builder) {
                 builder.registerPipelineStartEPCallback([](llvm::ModulePassManager &passes, llvm::OptimizationLevel) {
