@@ -155,6 +155,14 @@ def with_values(made: Parser, words: List[str]) -> List[str]:
     return joined + words[at:]
 
 
+def no_program(name: str) -> str:
+    """Why there is no program of this name: it may be in this folder, which is not on the path, or it may be a file that can't be run."""
+    here = os.path.join(".", name)
+    if os.path.dirname(name) == "" and shutil.which(here):
+        return f"there is no program {name} on the path; {here} is one"
+    return f"{name} is not executable" if os.path.isfile(name) else f"there is no program {name}"
+
+
 def options_of(words: List[str]) -> argparse.Namespace:
     made = parser()
     options = made.parse_args(with_values(made, words))
@@ -165,7 +173,7 @@ def options_of(words: List[str]) -> argparse.Namespace:
     is_file = options.words[0].endswith(".sim")
     options.simulator = options.simulator or is_file
     if not (os.path.isfile(options.words[0]) if is_file else shutil.which(options.words[0])):
-        stop(WRONG_WORDS, f"there is no {'file' if is_file else 'program'} {options.words[0]}")
+        stop(WRONG_WORDS, f"there is no file {options.words[0]}" if is_file else no_program(options.words[0]))
     for name in ("most_records", "timeout", "seed", "schedules"):
         if getattr(options, name) is not None and options.simulator:
             stop(WRONG_WORDS, f"the simulator has no --{name.replace('_', '-')}")
