@@ -58,10 +58,10 @@ def check(say: Callable[[str], None]) -> bool:
     missing = missing_packages()
     for needed, package in NEEDED:
         state = "missing" if package in missing else "there  "
-        print(f"  {state}  {os.path.basename(needed)}, of the package {package}")
+        print(f"  {state}  {os.path.basename(needed)}, of the package {package}", flush=True)
     program = [sys.executable, os.path.join(RECORDER, "tests", "small_program.py")]
     told = subprocess.run(program + ["list"], capture_output=True, text=True)
-    print("".join(f"  {line}\n" for line in (told.stdout or told.stderr).splitlines()), end="")
+    print("".join(f"  {line}\n" for line in (told.stdout or told.stderr).splitlines()), end="", flush=True)
     if missing or told.returncode != 0:
         say("not ready" + (f": apt-get install {' '.join(missing)}" if missing else ""))
         return False
