@@ -18,7 +18,7 @@ IS_FOLDER = b"gpurace: folder: Is a directory\n"
 WRITE_FAULT = b"gpurace: write fault\n"
 
 # commands on standard input, and their status on a race
-INPUTS = {"": 1, "replay": 1, "dump": 0, "dump --partial": 0, "upgrade": 0}
+INPUTS = {"": 1, "replay": 1, "replay --json": 1, "dump": 0, "dump --partial": 0, "upgrade": 0}
 
 # commands on files, which follow the words, and their status on a race
 FILES = {

@@ -25,31 +25,35 @@ gpurace_is_free = refl
 
 names_taken : (t : Task) → faults (words_of t) ≡ []
 unfolding clap_on_literals faults
-names_taken Replay = refl
+names_taken (Replay false) = refl
+names_taken (Replay true) = refl
 names_taken Pack = refl
 names_taken (Dump false) = refl
 names_taken (Dump true) = refl
 names_taken Upgrade = refl
 
--- the row of the flag of `dump`, where it is there and where it is not
-abbrev flag_row : Bool → Row
-flag_row true = record { id = codes "partial"; values = codes "true" ∷ []; count = None; source = Some CommandLine; reading = reading_of String }
-flag_row false = record { id = codes "partial"; values = codes "false" ∷ []; count = None; source = Some DefaultValue; reading = reading_of String }
+-- the row of a flag, where it is there and where it is not
+abbrev flag_row : Text → Bool → Row
+flag_row flag true = record { id = flag; values = codes "true" ∷ []; count = None; source = Some CommandLine; reading = reading_of String }
+flag_row flag false = record { id = flag; values = codes "false" ∷ []; count = None; source = Some DefaultValue; reading = reading_of String }
 
 abbrev rows_of_task : Task → List Row
-rows_of_task (Dump partial) = flag_row partial ∷ []
+rows_of_task (Replay json) = flag_row (codes "json") json ∷ []
+rows_of_task (Dump partial) = flag_row (codes "partial") partial ∷ []
 rows_of_task t = []
 
 names_met : (t : Task) → command_of (words_of t) ≡ Some (name_of t, rows_of_task t)
 unfolding clap_on_literals command_of
-names_met Replay = refl
+names_met (Replay false) = refl
+names_met (Replay true) = refl
 names_met Pack = refl
 names_met (Dump false) = refl
 names_met (Dump true) = refl
 names_met Upgrade = refl
 
 pub names_ask : NamesAsk
-names_ask Replay = record { taken = names_taken Replay; asks = rw (names_met Replay) refl }
+names_ask (Replay false) = record { taken = names_taken (Replay false); asks = rw (names_met (Replay false)) (refl, refl) }
+names_ask (Replay true) = record { taken = names_taken (Replay true); asks = rw (names_met (Replay true)) (refl, refl) }
 names_ask Pack = record { taken = names_taken Pack; asks = rw (names_met Pack) refl }
 names_ask (Dump false) = record { taken = names_taken (Dump false); asks = rw (names_met (Dump false)) (refl, refl) }
 names_ask (Dump true) = record { taken = names_taken (Dump true); asks = rw (names_met (Dump true)) (refl, refl) }
@@ -64,7 +68,7 @@ unfolding clap_on_literals command_of
 none_met = refl
 
 pub no_word_asks : NoWordAsks
-no_word_asks = record { taken = none_taken; asks = rw none_met refl }
+no_word_asks = record { taken = none_taken; asks = rw none_met (refl, refl) }
 
 -- ---- a parse
 

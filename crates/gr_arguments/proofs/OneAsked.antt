@@ -14,35 +14,35 @@ apart : (x y : Text) → bytes_eq x y ≡ false → bytes_eq x x ≡ true → x 
 apart x y differ same e = true≢false (sym same ∙ ap (λ (z : Text). bytes_eq x z) e ∙ differ)
 
 task_apart : (t : Task) (y : Text) → bytes_eq (codes "replay") y ≡ false → bytes_eq (codes "pack") y ≡ false → bytes_eq (codes "dump") y ≡ false → bytes_eq (codes "upgrade") y ≡ false → name_of t ≡ y → ⊥
-task_apart Replay y replay pack dump upgrade e = apart (codes "replay") y replay refl e
+task_apart (Replay json) y replay pack dump upgrade e = apart (codes "replay") y replay refl e
 task_apart Pack y replay pack dump upgrade e = apart (codes "pack") y pack refl e
 task_apart (Dump partial) y replay pack dump upgrade e = apart (codes "dump") y dump refl e
 task_apart Upgrade y replay pack dump upgrade e = apart (codes "upgrade") y upgrade refl e
 
 -- the command of a task is the one of its name
 name_is : (name : Text) (rows : List Row) (t : Task) → IsAskedTask name rows t → name ≡ name_of t
-name_is name rows Replay h = h
+name_is name rows (Replay json) h = h.0
 name_is name rows Pack h = h
 name_is name rows (Dump partial) h = h.0
 name_is name rows Upgrade h = h
 
 one_task : (name : Text) (rows : List Row) (t u : Task) → IsAskedTask name rows t → IsAskedTask name rows u → t ≡ u
-one_task name rows (Dump p) (Dump q) h k = ap Dump (sym h.1 ∙ k.1)
-one_task name rows Replay Replay h k = refl
+one_task name rows (Replay p) (Replay q) h k = ap Replay (sym h.1 ∙ k.1)
+one_task name rows (Replay p) Pack h k = absurd (apart (codes "replay") (codes "pack") refl refl (sym h.0 ∙ k))
+one_task name rows (Replay p) (Dump q) h k = absurd (apart (codes "replay") (codes "dump") refl refl (sym h.0 ∙ k.0))
+one_task name rows (Replay p) Upgrade h k = absurd (apart (codes "replay") (codes "upgrade") refl refl (sym h.0 ∙ k))
+one_task name rows Pack (Replay q) h k = absurd (apart (codes "pack") (codes "replay") refl refl (sym h ∙ k.0))
 one_task name rows Pack Pack h k = refl
-one_task name rows Upgrade Upgrade h k = refl
-one_task name rows Replay Pack h k = absurd (apart (codes "replay") (codes "pack") refl refl (sym h ∙ k))
-one_task name rows Replay (Dump q) h k = absurd (apart (codes "replay") (codes "dump") refl refl (sym h ∙ k.0))
-one_task name rows Replay Upgrade h k = absurd (apart (codes "replay") (codes "upgrade") refl refl (sym h ∙ k))
-one_task name rows Pack Replay h k = absurd (apart (codes "pack") (codes "replay") refl refl (sym h ∙ k))
 one_task name rows Pack (Dump q) h k = absurd (apart (codes "pack") (codes "dump") refl refl (sym h ∙ k.0))
 one_task name rows Pack Upgrade h k = absurd (apart (codes "pack") (codes "upgrade") refl refl (sym h ∙ k))
-one_task name rows (Dump p) Replay h k = absurd (apart (codes "dump") (codes "replay") refl refl (sym h.0 ∙ k))
+one_task name rows (Dump p) (Replay q) h k = absurd (apart (codes "dump") (codes "replay") refl refl (sym h.0 ∙ k.0))
 one_task name rows (Dump p) Pack h k = absurd (apart (codes "dump") (codes "pack") refl refl (sym h.0 ∙ k))
+one_task name rows (Dump p) (Dump q) h k = ap Dump (sym h.1 ∙ k.1)
 one_task name rows (Dump p) Upgrade h k = absurd (apart (codes "dump") (codes "upgrade") refl refl (sym h.0 ∙ k))
-one_task name rows Upgrade Replay h k = absurd (apart (codes "upgrade") (codes "replay") refl refl (sym h ∙ k))
+one_task name rows Upgrade (Replay q) h k = absurd (apart (codes "upgrade") (codes "replay") refl refl (sym h ∙ k.0))
 one_task name rows Upgrade Pack h k = absurd (apart (codes "upgrade") (codes "pack") refl refl (sym h ∙ k))
 one_task name rows Upgrade (Dump q) h k = absurd (apart (codes "upgrade") (codes "dump") refl refl (sym h ∙ k.0))
+one_task name rows Upgrade Upgrade h k = refl
 
 -- of what one thing at most is, there is one
 the_one : {X : Type 0} (P : X → Type 0) → ((x y : X) → P x → P y → x ≡ y) → (o p : Option X) → IsTheOne P o → IsTheOne P p → o ≡ p

@@ -20,7 +20,7 @@ use Rattle.gr_arguments.specs.declared.request.HistoryArguments.{HistoryArgument
 use Rattle.gr_arguments.specs.declared.request.Request.{Request}
 use Rattle.gr_arguments.specs.declared.request.Request.TheVariants as request
 use Rattle.gr_arguments.specs.declared.request.Task.{Task}
-use Rattle.gr_arguments.specs.declared.request.Task.TheVariants.{Dump}
+use Rattle.gr_arguments.specs.declared.request.Task.TheVariants.{Dump, Replay}
 use Rattle.gr_arguments.specs.Commands.{command_of, faults, name_met, name_of, values_met}
 
 -- the files that the values have
@@ -33,8 +33,9 @@ has_flag flag rows = option_map_or (λ text. bytes_eq text (codes "true")) (firs
 
 -- ---- a task over standard input
 
--- the command of this name asks for this task with these values; of a text that of all, or also of what stands before a fault
+-- the command of this name asks for this task with these values; of a report the text or the JSON; of a text that of all, or also of what stands before a fault
 abbrev pub IsAskedTask : Text → List Row → Task → Type 0
+IsAskedTask name rows (Replay json) = (name ≡ codes "replay") × (has_flag (codes "json") rows ≡ json)
 IsAskedTask name rows (Dump partial) = (name ≡ codes "dump") × (has_flag (codes "partial") rows ≡ partial)
 IsAskedTask name rows t = name ≡ name_of t
 

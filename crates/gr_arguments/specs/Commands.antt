@@ -13,7 +13,7 @@ use Rattle.gr_arguments.specs.declared.request.Task.TheVariants.{Replay, Pack, D
 
 -- the command of a task
 abbrev pub name_of : Task → Text
-name_of Replay = codes "replay"
+name_of (Replay json) = codes "replay"
 name_of Pack = codes "pack"
 name_of (Dump partial) = codes "dump"
 name_of Upgrade = codes "upgrade"
@@ -40,6 +40,10 @@ flag_rule id = record (new_rule id) { long = Some id; action = Some SetTrue }
 -- an option with a value
 abbrev pub option_rule : Text → Rule
 option_rule id = record (new_rule id) { long = Some id; value_names = 1 }
+
+-- the command that reports on streams: whether as JSON
+abbrev pub replaying : Shape
+replaying = (with_rule (new_app (codes "replay")) (flag_rule (codes "json"))).top
 
 -- the command that writes streams as text: whether also what stands before a fault
 abbrev pub dumping : Shape
@@ -84,7 +88,7 @@ inquiring =
     wanted_files).top
 
 abbrev pub tasks : App
-tasks = with_subcommand (with_subcommand (with_subcommand (with_subcommand (record { top = alone; subs = [] }) (command_named (codes "replay"))) (command_named (codes "pack"))) dumping) (command_named (codes "upgrade"))
+tasks = with_subcommand (with_subcommand (with_subcommand (with_subcommand (record { top = alone; subs = [] }) replaying) (command_named (codes "pack"))) dumping) (command_named (codes "upgrade"))
 
 abbrev pub gpurace : App
 gpurace = with_subcommand (with_subcommand (with_subcommand (with_subcommand (with_subcommand (with_subcommand tasks explaining) racing) recalling) running) checking) inquiring

@@ -15,6 +15,7 @@ WordsAskOnce = (words : List Text) (a b : Asked) → AsksTo a words → AsksTo b
 
 -- the words of a task: the name of its command, and its flag where it has one
 abbrev pub words_of : Task → List Text
+words_of (Replay true) = codes "replay" ∷ codes "--json" ∷ []
 words_of (Dump true) = codes "dump" ∷ codes "--partial" ∷ []
 words_of t = name_of t ∷ []
 
@@ -24,7 +25,7 @@ NamesAsk = (t : Task) → AsksTo (perform t) (words_of t)
 
 -- and no word for a report
 abbrev pub NoWordAsks : Type 0
-NoWordAsks = AsksTo (perform Replay) []
+NoWordAsks = AsksTo (perform (Replay false)) []
 
 -- the word is not empty, and begins with another byte than a hyphen
 abbrev pub IsPlain : Text → Type 0

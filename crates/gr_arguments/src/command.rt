@@ -108,9 +108,8 @@ the two, where something does: each barrier of their group that one of them is b
 the first and an acquire before the second; and last the cause of the race. With --buffers there is also the buffer of the
 word, and with --places the place in the source of each of these records and barriers, where the files have it.
 
-The pair is found without clocks, in time that grows with the accesses to the word times the records of the launch: a trace
-of 100,000 records takes seconds, one of a million may take minutes. Accesses that are held back by an unmatched acquire are
-not judged; what is held, and all else that is no race, replay and run tell.
+A trace of a million records takes about a second. Accesses that are held back by an unmatched acquire are not judged; what is
+held, and all else that is no race, replay and run tell.
 
 Where a file of buffers is given, or a folder has one, a word may be given by its name in place of SPACE and WORD, as in
 `gpurace explain FOLDER 'partial[10]'`.";
@@ -314,7 +313,7 @@ const PAGES: [Page; 10] = [
         about: REPLAY,
         long_about: None,
         example: AFTER_REPLAY,
-        parameters: &[],
+        parameters: &[Parameter::Flag("json", JSON)],
     },
     Page {
         name: "pack",

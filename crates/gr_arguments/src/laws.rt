@@ -7,8 +7,8 @@ pub fn words_ask_for_one_thing()
     ensures { WordsAskOnce }
 {}
 
-/// The name of a task's command, with `--partial` behind `dump` where the task is partial, asks for the task, and no word
-/// at all for a report.
+/// The name of a task's command asks for the task, with `--json` behind `replay` where its report is to be JSON and `--partial`
+/// behind `dump` where the task is partial; and no word at all asks for the text of a report.
 pub fn names_ask_for_tasks()
     ensures named { NamesAsk }
     ensures none { NoWordAsks }

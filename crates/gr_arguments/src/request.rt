@@ -8,7 +8,9 @@ ghost use Rattle.gr_arguments.specs.Commands.{faults, meant, name_met, values_me
 ghost use Rattle.gr_arguments.specs.Names.{text_of};
 
 use crate::command::command;
-use crate::values::{check_of, dump_of, explain_of, history_of, races_of, run_of, why_held_of};
+use crate::values::{
+    check_of, dump_of, explain_of, history_of, races_of, replay_of, run_of, why_held_of,
+};
 use clap::{ArgMatches, Error};
 use gr_model::config::Config;
 use gr_model::event::{EventId, Word};
@@ -18,8 +20,8 @@ use std::convert::AsStr;
 /// What is done with the streams that stand one after another on standard input.
 #[derive(Clone, Copy, Debug, PartialEq, Eq)]
 pub enum Task {
-    /// Report on their launch.
-    Replay,
+    /// Report on their launch, as text or as JSON.
+    Replay { json: bool },
     /// Write the bytes of the streams whose text stands there instead.
     Pack,
     /// Write their text; where they are refused and it is to be `partial`, the text of what stands before the fault.
@@ -189,7 +191,7 @@ fn request_by<'a>(
     ensures { IfOk result (λ r. IsAskedBy (text_of name) (rows_of (found_of values.now)) (asked_of r)) }
 {
     match name {
-        Name::Replay => Ok(Request::Perform(Task::Replay)),
+        Name::Replay => Ok(Request::Perform(replay_of(values))),
         Name::Pack => Ok(Request::Perform(Task::Pack)),
         Name::Dump => Ok(Request::Perform(dump_of(values))),
         Name::Upgrade => Ok(Request::Perform(Task::Upgrade)),
@@ -207,7 +209,7 @@ fn request_in<'a>(alloc: Global, matches: &ArgMatches<'a>) -> Result<Request<'a>
     ensures { IfOk result (λ r. IsAskedBy (name_met (subcommand_rows_of matches.now)) (values_met (subcommand_rows_of matches.now)) (asked_of r)) }
 {
     match matches.subcommand() {
-        None => Ok(Request::Perform(Task::Replay)),
+        None => Ok(Request::Perform(Task::Replay { json: false })),
         Some((name, values)) => request_by(alloc, name_meant(name), values),
     }
 }

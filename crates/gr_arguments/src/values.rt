@@ -4,7 +4,7 @@ ghost use Rattle.std.specs.Prelude.{◌≡◌, ℕ, Option, IfOk, IfErr, MatchOp
 ghost use Rattle.clap.specs.Walk.{rows_of};
 ghost use Rattle.clap.specs.Words.{found_of};
 ghost use Rattle.gr_model.specs.Configs.{Settings};
-ghost use Rattle.gr_arguments.specs.declared.request.Task.TheVariants.{Dump};
+ghost use Rattle.gr_arguments.specs.declared.request.Task.TheVariants.{Dump, Replay};
 ghost use Rattle.gr_arguments.specs.Asked as asked;
 ghost use Rattle.gr_arguments.specs.Asked.{IsAskedCheck, IsAskedEvent, IsAskedForm, IsAskedHistory, IsAskedRaces, IsAskedRun, IsExplained, IsMost, IsNumberOr, IsSetUp, IsTheOne, NamesWord, has_flag};
 
@@ -29,6 +29,15 @@ fn asks_for(values: &ArgMatches<'_>, flag: &str) -> bool
     match values.get_str(flag) {
         None => false,
         Some(text) => text == "true",
+    }
+}
+
+/// The task that the values of the command `replay` ask for.
+pub(crate) fn replay_of(values: &ArgMatches<'_>) -> Task
+    ensures { result ≡ Replay (has_flag (codes "json") (rows_of (found_of values.now))) }
+{
+    Task::Replay {
+        json: asks_for(values, "json"),
     }
 }
 

@@ -16,7 +16,7 @@ use Rattle.gr_places.specs.FaultText.{sides_fault_line}
 use Rattle.gr_places.specs.declared.sides_fault.SidesFault.TheVariants.{Run}
 use Rattle.gr_record.specs.declared.fault.Fault.{Fault}
 use Rattle.gr_record.specs.declared.fault.Fault.TheVariants.{Write, Memory}
-use Rattle.gr_replay.specs.Replays.{IsExactOfEach, IsReplayFault}
+use Rattle.gr_replay.specs.Replays.{IsExact, IsExactOfEach, IsReplayFault, WritesPrefix}
 use Rattle.gr_report.specs.FaultText.{fault_line}
 use Rattle.gr_report.specs.Putting.{AppendsPrefix}
 use Rattle.gr_report.specs.ReportText.{report_text}
@@ -80,7 +80,7 @@ memory_is_no_writing e = let same : Memory ≡ Write = cc in absurd cc
 
 module _ {T X : Type 0} (remaining : T → Option (List ℕ)) (Gives : List ℕ → Result T X → Type 0) (input old new old_errors new_errors : Option (List ℕ)) (status : ℕ) (told : IsFaultTold old new old_errors new_errors status Memory) where
   no_memory_to_perform : (t : Task) → IsAnswerOf input old new old_errors new_errors status t
-  no_memory_to_perform Replay = inr (Memory, record { why = at_any input (λ bytes. IsReplayFault bytes Memory) (λ bytes. inl (inl tt)); told = told; prefix = λ h. absurd cc })
+  no_memory_to_perform (Replay json) = inr (Memory, record { why = at_any input (λ bytes. IsReplayFault bytes Memory) (λ bytes. inl (inl tt)); told = told; prefix = λ h. absurd cc })
   no_memory_to_perform Pack = inr (Memory, record { why = λ _. at_any input (λ bytes. Fails Memory (packed bytes)) (λ bytes. tt); told = told; prefix = λ h. absurd cc })
   no_memory_to_perform (Dump true) =
       inr (Memory, record { why = λ _. at_any input (λ bytes. Fails Memory (dumped bytes)) (λ bytes. tt); line = told.line; ends = told.ends; partial = λ _ inside. absurd (inside tt); untouched = λ _. told.untouched (λ e. cc); prefix = λ h. absurd cc })
@@ -128,6 +128,11 @@ of_report json (Some inputs) old new r exact prefix = (r, exact, prefix)
 pub of_each : (known : Option (List (List ℕ))) (old new : Option (List ℕ)) → IfSome known (λ inputs. WritesPrefixOfEach inputs old new) → IfSome known (λ inputs. (r : WholeReport) × IsExactOfEach inputs r × WritesReportPrefix false r old new)
 of_each None old new none = tt
 of_each (Some inputs) old new (r, exact, prefix) = (r, exact, (report_text r, refl, prefix))
+
+-- so does a prefix of the text of a report of the input
+pub of_input : (input old new : Option (List ℕ)) → IfSome input (λ bytes. WritesPrefix bytes old new) → IfSome input (λ bytes. (r : WholeReport) × IsExact bytes r × WritesReportPrefix false r old new)
+of_input None old new none = tt
+of_input (Some bytes) old new (r, exact, prefix) = (r, exact, (report_text r, refl, prefix))
 
 -- ---- words that are not taken
 

@@ -17,7 +17,7 @@ use Rattle.gr_check.specs.Checked.{CheckedSaid, IsCheckFileFault, IsCheckedAsKno
 use Rattle.gr_held.specs.Why.{IsWhy}
 use Rattle.gr_places.specs.SideLines.{place_number}
 use Rattle.gr_races.specs.Accounts.{IsAccountOf}
-use Rattle.gr_replay.specs.Replays.{IsExact, IsExactOfEach, IsReplayFault, WritesPrefix}
+use Rattle.gr_replay.specs.Replays.{IsExact, IsExactOfEach, IsReplayFault}
 use Rattle.gr_input.specs.Faults.{Fails, IsOutside}
 use Rattle.gr_text.specs.Texts.{packed}
 use Rattle.gr_text.specs.Dumps.{dumped, upgraded}
@@ -38,6 +38,21 @@ use Rattle.gr_command.specs.declared.status.TheConstants.{NOTHING, USAGE, WANTIN
 use Rattle.gr_command.specs.Outcomes.{IsOutcome, IsTold}
 use Rattle.gr_command.specs.Statuses.{check_status, fault_status, race_status, sides_fault_status, IsReportStatus}
 
+-- ---- reports
+
+-- the text of a report; its JSON is a rendering
+abbrev pub IsReportTextOf : Bool → WholeReport → List ℕ → Type 0
+IsReportTextOf false r text = text ≡ report_text r
+IsReportTextOf true r text = ⊤
+
+-- a text of a report is written whole
+abbrev pub WritesReport : Bool → WholeReport → Option (List ℕ) → Option (List ℕ) → Type 0
+WritesReport json r old new = (text : List ℕ) × IsReportTextOf json r text × Appends old new text
+
+-- or a prefix of it
+abbrev pub WritesReportPrefix : Bool → WholeReport → Option (List ℕ) → Option (List ℕ) → Type 0
+WritesReportPrefix json r old new = (text : List ℕ) × IsReportTextOf json r text × AppendsPrefix old new text
+
 -- ---- tasks over standard input
 
 -- a fault is told
@@ -45,14 +60,14 @@ abbrev pub IsFaultTold : Option (List ℕ) → Option (List ℕ) → Option (Lis
 IsFaultTold = IsTold fault_line fault_status Write
 
 module _ (input old new old_errors new_errors : Option (List ℕ)) (status : ℕ) where
-  -- the report of the input, whose whole text is written; or why it has none
-  abbrev pub IsReport : WholeReport → Type 0
-  IsReport r = IfSome input (λ bytes. IsExact bytes r) × Appends old new (report_text r)
+  -- the report of the input, whose whole text or JSON is written; or why it has none
+  abbrev pub IsReport : Bool → WholeReport → Type 0
+  IsReport json r = IfSome input (λ bytes. IsExact bytes r) × WritesReport json r old new
 
-  abbrev pub IsAnswer : Type 0
-  IsAnswer =
-      IsOutcome fault_line fault_status Write old new old_errors new_errors status IsReport IsReportStatus
-      (λ f. IfSome input (λ bytes. IsReplayFault bytes f)) (IfSome input (λ bytes. WritesPrefix bytes old new))
+  abbrev pub IsAnswer : Bool → Type 0
+  IsAnswer json =
+      IsOutcome fault_line fault_status Write old new old_errors new_errors status (IsReport json) IsReportStatus
+      (λ f. IfSome input (λ bytes. IsReplayFault bytes f)) (IfSome input (λ bytes. (r : WholeReport) × IsExact bytes r × WritesReportPrefix json r old new))
 
   -- what the input means is written whole; or why it means nothing
   abbrev pub IsRewriting : (List ℕ → Result (List ℕ) Fault) → Type 0
@@ -76,7 +91,7 @@ module _ (input old new old_errors new_errors : Option (List ℕ)) (status : ℕ
 
   -- what each task leaves behind
   abbrev pub IsAnswerOf : Task → Type 0
-  IsAnswerOf Replay = IsAnswer
+  IsAnswerOf (Replay json) = IsAnswer json
   IsAnswerOf Pack = IsRewriting packed
   IsAnswerOf (Dump false) = IsRewriting dumped
   IsAnswerOf (Dump true) = IsPartialDump
@@ -97,19 +112,6 @@ in_both json IsText = in_form json IsText IsText
 abbrev pub IsWordTextOf : AskedForm → Bool → Word → SidesSaid → Streams → List ℕ → Type 0
 IsWordTextOf in_short json w = in_form json (λ said s. Renders (IsExplanation s w)) (λ said. IsLine w)
 IsWordTextOf (in_long places buffers) json w = in_both json (λ said s. Renders (IsAccountOf s (place_number said.places) w))
-
--- the text of a report; its JSON is a rendering
-abbrev pub IsReportTextOf : Bool → WholeReport → List ℕ → Type 0
-IsReportTextOf false r text = text ≡ report_text r
-IsReportTextOf true r text = ⊤
-
--- a text of a report is written whole
-abbrev pub WritesReport : Bool → WholeReport → Option (List ℕ) → Option (List ℕ) → Type 0
-WritesReport json r old new = (text : List ℕ) × IsReportTextOf json r text × Appends old new text
-
--- or a prefix of it
-abbrev pub WritesReportPrefix : Bool → WholeReport → Option (List ℕ) → Option (List ℕ) → Type 0
-WritesReportPrefix json r old new = (text : List ℕ) × IsReportTextOf json r text × AppendsPrefix old new text
 
 -- the names of the side files
 abbrev pub sides_of : Option (List ℕ) → Option (List ℕ) → Pair (List ℕ)

@@ -15,7 +15,7 @@ ghost use Rattle.gr_command.specs.Answers.{IsAnswerOf, IsAnswered, IsCheckOutcom
 ghost use Rattle.gr_command.specs.Statuses.{check_status, fault_status, race_status, sides_fault_status, IsReportStatus};
 
 use crate::checking::write_check;
-use crate::running::run_files;
+use crate::reporting::{replay_json, run_files};
 use crate::status::{
     FAILED, NOTHING, USAGE, WANTING, status_of, status_of_check, status_of_race, status_of_report,
     status_of_sides_fault,
@@ -149,7 +149,8 @@ fn perform<R: Read, W: Write, E: Write>(
     ensures { IsAnswerOf (R.remaining reader.old) (W.contents writer.old) (W.contents writer.new) (E.contents errors.old) (E.contents errors.new) result task }
 {
     match task {
-        Task::Replay => conclude(replay(alloc, reader, writer), errors),
+        Task::Replay { json: false } => conclude(replay(alloc, reader, writer), errors),
+        Task::Replay { json: true } => conclude(replay_json(alloc, reader, writer), errors),
         Task::Pack => conclude_rewriting(pack(alloc, reader, writer), errors),
         Task::Dump { partial: false } => conclude_rewriting(dump(alloc, reader, writer), errors),
         Task::Dump { partial: true } => {

@@ -5,5 +5,5 @@
 
 mod checking;
 pub mod execute;
-mod running;
+mod reporting;
 pub mod status;

@@ -13,4 +13,4 @@ mod run;
 
 pub use each::read_each;
 pub use launch::read_joined;
-pub use run::replay;
+pub use run::{read_report, replay};

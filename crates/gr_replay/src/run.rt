@@ -41,7 +41,10 @@ fn report_by<A: Allocator + Copy, T: Read>(
 ///
 /// # Errors
 /// Those of `replay` but `Write`.
-fn read_report<A: Allocator + Copy, T: Read>(alloc: A, reader: &mut T) -> Result<Report<A>, Fault>
+pub fn read_report<A: Allocator + Copy, T: Read>(
+    alloc: A,
+    reader: &mut T,
+) -> Result<Report<A>, Fault>
     ensures report { IfOk result (λ r. IfSome (T.remaining reader.old) (λ bytes. IsExact bytes (whole_of r))) }
     ensures fault { IfErr result (λ f. IfSome (T.remaining reader.old) (λ bytes. IsReadFault bytes f)) }
     ensures reading { IfErr result IsOfReading }

@@ -1,15 +1,26 @@
+use Rattle.std.proofs.Common.{refl}
+use Rattle.std.proofs.lemmas.Result.{IfErr-weaker, IfOk-weaker}
 use Rattle.gr_record.specs.declared.fault.Fault.TheVariants.{Write}
 use Rattle.gr_report.specs.FaultText.{fault_line}
+use Rattle.gr_report.specs.ReportText.{report_text}
 use Rattle.gr_report.specs.Whole.{whole_of}
 use Rattle.gr_command.specs.Statuses.{fault_status}
-use Rattle.gr_command.proofs.AnswerLemmas.{both, done_of, outcome_of, partial_of}
+use Rattle.gr_command.proofs.AnswerLemmas.{both, done_of, of_input, outcome_of, partial_of}
 use Rattle.gr_command.proofs.execute.perform.Goals as goal
 
-pub returns-in-Replay : goal.returns-in-Replay
-returns-in-Replay g c =
-    rw c.in-Replay.is
+pub returns-in-Replay-false : goal.returns-in-Replay-false
+returns-in-Replay-false g c =
+    rw (c.in-Replay-false.is, c.in-Replay-false.json-test)
     (outcome_of fault_line fault_status Write _ _ _ _ _ _ _ _ _ whole_of c.replay.result
-    (both _ _ c.replay.result c.replay.ensures.report c.replay.ensures.text) c.replay.ensures.fault c.replay.ensures.untouched c.replay.ensures.prefix
+    (both _ _ c.replay.result c.replay.ensures.report (IfOk-weaker c.replay.result _ _ (λ r text. (report_text (whole_of r), refl, text)) c.replay.ensures.text)) c.replay.ensures.fault c.replay.ensures.untouched
+    (IfErr-weaker c.replay.result _ _ (λ f prefix writing. of_input _ _ _ (prefix writing)) c.replay.ensures.prefix)
+    c.conclude-in-Replay-false.ensures.report c.conclude-in-Replay-false.ensures.silent c.conclude-in-Replay-false.ensures.fault c.conclude-in-Replay-false.ensures.told)
+
+pub returns-in-Replay-true : goal.returns-in-Replay-true
+returns-in-Replay-true g c =
+    rw (c.in-Replay-true.is, c.in-Replay-true.json-test)
+    (outcome_of fault_line fault_status Write _ _ _ _ _ _ _ _ _ whole_of c.replay_json.result
+    (both _ _ c.replay_json.result c.replay_json.ensures.report c.replay_json.ensures.text) c.replay_json.ensures.fault c.replay_json.ensures.untouched c.replay_json.ensures.prefix
     c.conclude.ensures.report c.conclude.ensures.silent c.conclude.ensures.fault c.conclude.ensures.told)
 
 pub returns-in-Pack : goal.returns-in-Pack
