@@ -59,7 +59,7 @@ pub fn barriers_before(list: &[Event], item: u16, index: u32) -> usize
 /// What is told of an event of a group, or `None` where its item has no event of this index.
 pub fn details_at<A: Allocator>(
     traces: &Traces<A>,
-    records: &Records<A>,
+    records: &Records<'_, A>,
     event: EventId,
 ) -> Option<Details>
     requires same { records.now ≡ traces.now }
@@ -77,7 +77,11 @@ pub fn details_at<A: Allocator>(
 }
 
 /// What is told of an event of a launch. It takes time that grows with the records of the event's group.
-pub fn details_of<A: Allocator>(traces: &Traces<A>, records: &Records<A>, event: EventId) -> Details
+pub fn details_of<A: Allocator>(
+    traces: &Traces<A>,
+    records: &Records<'_, A>,
+    event: EventId,
+) -> Details
     requires same { records.now ≡ traces.now }
     requires there { model.IsEvent traces.now event }
     ensures { spec.details_of traces.now event ≡ Some result }

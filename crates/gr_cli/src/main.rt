@@ -1,37 +1,21 @@
 //! `gpurace`: reports the data races and the divergent barriers of an OpenCL kernel launch, from its trace.
 //!
-//! All that the program decides stands in `gr_command`. `main` hands in words, input, output and error, and what opens a file. What
-//! files stand for that people give (`plan`), and what is told beside the line of a fault (`told`), stands here.
+//! What the words name is opened by `gr_plan`, and all that the program decides is in `gr_command`. `main` hands in words, input,
+//! output and error, and what opens a file.
 #![tactic(auto)]
 
-mod account;
-mod files;
-mod held;
-mod line;
-mod named;
-mod plan;
-mod progress;
-mod reading;
 mod refused;
-mod seen;
-mod sited;
-mod sought;
-mod source;
-mod table;
-mod text_fault;
-mod told;
-mod watched;
 
-use crate::held::Held;
-use crate::plan::plan_of;
-use crate::reading::Reading;
 use crate::refused::refuse;
-use crate::table::Table;
-use crate::told::tell;
-use crate::watched::Cleared;
 use gr_command::execute::{execute, fail};
 use gr_command::status::USAGE;
 use gr_model::memory::Memory;
+use gr_plan::held::Held;
+use gr_plan::plan::plan_of;
+use gr_plan::reading::Reading;
+use gr_plan::table::Table;
+use gr_plan::told::tell;
+use gr_plan::watched::Cleared;
 use gr_record::fault::Fault;
 use std::alloc::Global;
 use std::io::{BufWriter, ErrorKind, IsTerminal, Write};

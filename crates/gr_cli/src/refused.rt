@@ -1,9 +1,9 @@
 //! What is told where nothing is done about the words of a command line.
 
-use crate::plan::Refusal;
 use gr_command::execute::fail;
 use gr_command::status::{USAGE, status_of_sides_fault};
 use gr_places::sides_fault::{SidesFault, write_sides_fault};
+use gr_plan::plan::Refusal;
 use std::io::Write;
 
 /// Tells why nothing is done, and gives the exit status. That standard error fails is passed over.

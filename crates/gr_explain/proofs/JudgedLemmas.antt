@@ -28,6 +28,6 @@ module _ {Z : Type 0} (s : Streams) (w : Word) (e f : EventId) (a b : Access Z) 
   )
 
 -- an access of which nothing is kept is held
-pub held_where_none : {Z : Type 0} (s : Streams) (e : EventId) (o : Option (Access Z)) → o ≡ None → IsAccessing s e → IsKept s (IsGrounded s) e o → ¬ IsGrounded s e
+pub held_where_none : {Z : Type 0} (s : Streams) (e : EventId) (o : Option (Access Z)) → o ≡ None → IsAccessing s e → IsKept s e o → ¬ IsGrounded s e
 held_where_none s e (Some a) none access kept = λ grounded. let no : Some a ≡ None = none in cc
 held_where_none s e None none access kept = λ grounded. let no : Some access.0 ≡ None = sym access.1 ∙ kept grounded in cc

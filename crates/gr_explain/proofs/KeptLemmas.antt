@@ -1,145 +1,107 @@
--- What is kept of the wanted events where a step is made, and at rest.
-use Rattle.std.proofs.Common.{◌≡◌, ◌≢◌, ◌⊎◌, ℕ, zero, suc, Bool, true, false, cond, List, [], ◌∷◌, ◌++◌, Option, Some, None, is_some, option_and_then, slice_get, refl, sym, ap, ◌∙◌, subst, inl, inr, ⊎_elim, true≢false, MatchOption}
+-- What is kept of the wanted events, where one more access comes, and along all grounded events.
+use Rattle.std.proofs.Common.{◌≡◌, ◌≢◌, ◌⊎◌, Bool, true, false, cond, Contains, List, [], ◌∷◌, ◌++◌, Option, Some, None, slice_get, refl, sym, ap, ◌∙◌, subst, arith, inl, inr, ⊎_elim, true≢false, zero, suc, ℕ}
+use Rattle.std.proofs.lemmas.List.Elements.{Contains-append_left, Contains-push, Contains-push_cases}
 use Rattle.gr_model.specs.declared.event.EventId.{EventId}
-use Rattle.gr_model.specs.declared.event.Kind.{Kind}
-use Rattle.gr_model.specs.declared.event.Kind.TheVariants.{Read, Write, Load, Store, Rmw, Barrier, End}
-use Rattle.gr_model.specs.declared.event.Word.{Word}
-use Rattle.gr_model.specs.Access.{event_word, word_if_access, word_in}
-use Rattle.gr_model.specs.Barriers.{StandsIn, mark_of_kind}
-use Rattle.gr_model.specs.LawfulOrders.{IsIn, IsLawful, IsWholeOrder}
+use Rattle.gr_model.specs.LawfulOrders.{IsIn, IsWholeOrder}
 use Rattle.gr_model.specs.Streams.{Streams, word_at}
-use Rattle.gr_model.specs.Waits.{IsGrounded}
-use Rattle.gr_steps.proofs.BarrierPlaces.{barrier_there}
+use Rattle.gr_model.proofs.Cuts.{same_event as from_parts}
+use Rattle.gr_model.proofs.Descent.{lawful_is_grounded}
 use Rattle.gr_clocks.specs.declared.access.Access.{Access}
-use Rattle.gr_closure.proofs.LongerOrders.{in_back, in_longer, in_prefix}
-use Rattle.gr_closure.specs.Accesses.{IsAccess, IsAccessOf}
-use Rattle.gr_order.specs.Sequences.{CanStep, IsDone, Sequence}
-use Rattle.gr_steps.specs.Steps.{AreGrounded}
+use Rattle.gr_clocks.specs.ClockedAccess.{ClockedAccess, bare, clocked}
+use Rattle.gr_closure.specs.Accesses.{IsAccess}
+use Rattle.gr_hits.specs.Accesses.{AreAccesses, of_none, of_access, of_other}
+use Rattle.gr_shadow.proofs.KeepsLemmas.{Contains-first, Contains-rest}
+use Rattle.gr_shadow.specs.Clashes.{event_of}
+use Rattle.gr_explain.specs.Accesses.{AreKept, AreThoseOf, IsKept, IsThatOf, access_at}
 use Rattle.gr_explain.specs.Events.{Has, same_event}
+use Rattle.gr_explain.proofs.Lists.{first_or_rest}
 use Rattle.gr_explain.proofs.Sets.{event_from_equal, event_itself}
-use Rattle.gr_sequencer.specs.Answers.{IsStep}
-use Rattle.gr_sequencer.specs.declared.handled.Handled.{Handled}
-use Rattle.gr_sequencer.specs.declared.handled.Handled.TheVariants.{One, Meet}
-use Rattle.gr_explain.specs.Accesses.{AreKept, IsKept, KeepsStep, access_at}
-
-is_or_not : (d e : EventId) → (d ≡ e) ⊎ (d ≢ e)
-is_or_not d e = by_test (same_event d e) refl
-  where
-    by_test : (b : Bool) → same_event d e ≡ b → (d ≡ e) ⊎ (d ≢ e)
-    by_test true t = inl (event_from_equal d e t)
-    by_test false f = inr (λ same. true≢false (sym (subst (λ (x : EventId). same_event d x ≡ true) same (event_itself d)) ∙ f))
 
 -- ---- one access more
 
-module _ {Z : Type 0} (old new : List (EventId × Access Z)) (e : EventId) (a : Access Z) (update : (d : EventId) → access_at new d ≡ cond (same_event e d) (Some a) (access_at old d)) where
-  kept_here : access_at new e ≡ Some a
-  kept_here = update e ∙ ap (λ b. cond b (Some a) (access_at old e)) (event_itself e)
-
-  kept_there : (d : EventId) → d ≢ e → access_at new d ≡ access_at old d
-  kept_there d other = by_test (same_event e d) refl
+module _ {Z : Type 0} (wanted : List EventId) (accesses : List ClockedAccess) (a : Access Z) (old new : List (EventId × Access Z)) where
+  -- of an event that is another one
+  other_stays : (d : EventId) → event_of (clocked a) ≢ d → access_at new d ≡ access_at old d → IsThatOf accesses d (access_at old d) → IsThatOf (accesses ++ clocked a ∷ []) d (access_at new d)
+  other_stays d other same that = subst (IsThatOf (accesses ++ clocked a ∷ []) d) (sym same) (by_case (access_at old d) that)
     where
-      by_test : (b : Bool) → same_event e d ≡ b → access_at new d ≡ access_at old d
-      by_test true t = absurd (other (sym (event_from_equal e d t)))
-      by_test false f = update d ∙ ap (λ b. cond b (Some a) (access_at old d)) f
+      by_case : (o : Option (Access Z)) → IsThatOf accesses d o → IsThatOf (accesses ++ clocked a ∷ []) d o
+      by_case None none = λ x there is. ⊎_elim
+          (λ (was : Contains accesses x). none x was is)
+          (λ (last : clocked a ≡ x). other (ap event_of last ∙ is))
+          (Contains-push_cases accesses (clocked a) x there)
+      by_case (Some b) that = (Contains-append_left accesses (clocked a ∷ []) (clocked b) that.0, that.1)
 
--- ---- barriers have no words
+  -- its event is wanted, and it is kept
+  pub wanted_added : ((d : EventId) → access_at new d ≡ cond (same_event (event_of (clocked a)) d) (Some a) (access_at old d)) → AreThoseOf wanted accesses old → AreThoseOf wanted (accesses ++ clocked a ∷ []) new
+  wanted_added update those d has = by_test (same_event (event_of (clocked a)) d) refl
+    where
+      by_test : (b : Bool) → same_event (event_of (clocked a)) d ≡ b → IsThatOf (accesses ++ clocked a ∷ []) d (access_at new d)
+      by_test true t =
+          let here : access_at new d ≡ Some a = update d ∙ ap (λ b. cond b (Some a) (access_at old d)) t in
+          subst (IsThatOf (accesses ++ clocked a ∷ []) d) (sym here) (Contains-push accesses (clocked a), event_from_equal (event_of (clocked a)) d t)
+      by_test false f =
+          other_stays d (λ same. true≢false (sym (subst (λ (e : EventId). same_event (event_of (clocked a)) e ≡ true) same (event_itself (event_of (clocked a)))) ∙ f))
+          (update d ∙ ap (λ b. cond b (Some a) (access_at old d)) f) (those d has)
 
-kind_without_word : (k : Kind) (site : ℕ) (w : Word) → is_some (mark_of_kind k site) ≡ true → word_if_access k w ≡ None
-kind_without_word Read site w is = cc
-kind_without_word Write site w is = cc
-kind_without_word (Load scope order) site w is = cc
-kind_without_word (Store scope order) site w is = cc
-kind_without_word (Rmw scope order) site w is = cc
-kind_without_word (Barrier global local) site w is = refl
-kind_without_word (End cut) site w is = refl
+  -- its event is not wanted, and nothing changes
+  pub unwanted_added : ¬ Has wanted (event_of (clocked a)) → new ≡ old → AreThoseOf wanted accesses old → AreThoseOf wanted (accesses ++ clocked a ∷ []) new
+  unwanted_added not_wanted same those d has =
+      other_stays d (λ is. not_wanted (subst (Has wanted) (sym is) has)) (ap (λ (kept : List (EventId × Access Z)). access_at kept d) same) (those d has)
 
-pub barrier_has_none : (s : Streams) (g k : ℕ) (b : EventId) → StandsIn s b g k → word_at s b ≡ None
-barrier_has_none s g k b stands =
-    let there = barrier_there s b g k stands in
-    ap (option_and_then (event_word b.at.group)) there.1 ∙ kind_without_word there.0.kind there.0.word (word_in there.0.space b.at.group there.0.word) there.2
+-- ---- the accesses along an order, and its events
 
--- ---- a step
+module _ (s : Streams) where
+  -- an access is that of an event of the order
+  pub event_there : (order : List EventId) (accesses : List ClockedAccess) (x : ClockedAccess) → AreAccesses s order accesses → Contains accesses x → IsIn order (event_of x) × IsAccess s (event_of x) (bare x)
+  event_there _ _ x of_none there = absurd (omega (arith, there.1))
+  event_there _ _ x (of_access {e = e} {x = y} {order = order} {accesses = accesses} of_e rest) there = ⊎_elim
+      (λ (is : y ≡ x).
+      let of_x : IsAccess s e (bare x) = subst (λ (z : ClockedAccess). IsAccess s e (bare z)) is of_e in
+      let same : e ≡ event_of x = sym (from_parts (event_of x) e of_x.item of_x.index) in
+      ((0, ap Some same), subst (λ (d : EventId). IsAccess s d (bare x)) same of_x))
+      (λ (later : Contains accesses x). let h = event_there order accesses x rest later in ((suc h.0.0, h.0.1), h.1))
+      (first_or_rest y accesses x there)
+  event_there _ _ x (of_other {e = e} {order = order} {accesses = accesses} none rest) there = let h = event_there order accesses x rest there in ((suc h.0.0, h.0.1), h.1)
 
-still_kept : {Z : Type 0} (s : Streams) (P Q : EventId → Type 0) (d : EventId) (o : Option (Access Z)) → (P d → Q d) → (Q d → P d ⊎ (word_at s d ≡ None)) → IsKept s P d o → IsKept s Q d o
-still_kept s P Q d None to from kept = λ q. ⊎_elim (λ (p : P d). kept p) (λ (none : word_at s d ≡ None). none) (from q)
-still_kept s P Q d (Some a) to from kept = (to kept.0, kept.1)
+  -- an event of the order has its access, unless it has no word
+  access_there : (order : List EventId) (accesses : List ClockedAccess) (p : ℕ) (d : EventId) → AreAccesses s order accesses → slice_get order p ≡ Some d → (word_at s d ≡ None) ⊎ ((x : ClockedAccess) × Contains accesses x × (event_of x ≡ d))
+  access_there _ _ p d of_none at = let no : None ≡ Some d = at in cc
+  access_there _ _ zero d (of_access {e = e} {x = x} {order = order} {accesses = accesses} of_e rest) at =
+      let h : Some e ≡ Some d = at in
+      let same : e ≡ d = cc in
+      inr (x, Contains-first x accesses, from_parts (event_of x) e of_e.item of_e.index ∙ same)
+  access_there _ _ (suc p) d (of_access {e = e} {x = x} {order = order} {accesses = accesses} of_e rest) at = ⊎_elim
+      (λ (none : word_at s d ≡ None). inl none)
+      (λ (h : (y : ClockedAccess) × Contains accesses y × (event_of y ≡ d)). inr (h.0, Contains-rest x accesses h.0 h.1, h.2))
+      (access_there order accesses p d rest at)
+  access_there _ _ zero d (of_other {e = e} {order = order} {accesses = accesses} none rest) at = let h : Some e ≡ Some d = at in let same : e ≡ d = cc in inl (subst (λ (f : EventId). word_at s f ≡ None) same none)
+  access_there _ _ (suc p) d (of_other {e = e} {order = order} {accesses = accesses} none rest) at = access_there order accesses p d rest at
 
-alone : (e d : EventId) (p : ℕ) → slice_get (e ∷ []) p ≡ Some d → d ≡ e
-alone e d zero at = let h : Some e ≡ Some d = at in cc
-alone e d (suc p) at = let h : None ≡ Some d = at in cc
+-- an access tells the same with its allocator
+full_access : {Z : Type 0} (s : Streams) (e : EventId) (a : Access Z) → IsAccess s e (bare (clocked a)) → IsAccess s e a
+full_access s e a of_e = record {
+  word = of_e.word;
+  item = of_e.item;
+  index = of_e.index;
+  event = of_e.event;
+  at_event = of_e.at_event;
+  class = of_e.class;
+  counts = of_e.counts;
+}
 
-module _ (s : Streams) (old : List EventId) (e : EventId) (new : List EventId) (order : new ≡ old ++ e ∷ []) where
-  in_one : IsIn new e
-  in_one = subst (λ (l : List EventId). IsIn l e) (sym order) (in_back old (e ∷ []) e (0, refl))
+-- along all grounded events, what is kept of a wanted event is its access
+module _ {Z : Type 0} (s : Streams) (wanted : List EventId) (kept : List (EventId × Access Z)) (order : List EventId) (whole : IsWholeOrder s order) (accesses : List ClockedAccess) (are : AreAccesses s order accesses) where
+  kept_of : (d : EventId) (o : Option (Access Z)) → IsThatOf accesses d o → IsKept s d o
+  kept_of d None none = λ grounded.
+      let there = whole.whole d grounded in
+      ⊎_elim
+      (λ (no_word : word_at s d ≡ None). no_word)
+      (λ (h : (x : ClockedAccess) × Contains accesses x × (event_of x ≡ d)). absurd (none h.0 h.1 h.2))
+      (access_there s order accesses there.0 d are there.1)
+  kept_of d (Some a) that =
+      let h = event_there s order accesses (clocked a) are that.0 in
+      let there : IsIn order d = subst (IsIn order) that.1 h.0 in
+      (lawful_is_grounded s order d whole.lawful there, full_access s d a (subst (λ (e : EventId). IsAccess s e (bare (clocked a))) that.1 h.1))
 
-  in_more : (d : EventId) → IsIn old d → IsIn new d
-  in_more d was = subst (λ (l : List EventId). IsIn l d) (sym order) (in_prefix old (e ∷ []) d was)
-
-  one_of : (d : EventId) → IsIn new d → IsIn old d ⊎ (d ≡ e)
-  one_of d there = ⊎_elim (λ (was : IsIn old d). inl was) (λ (b : IsIn (e ∷ []) d). inr (alone e d b.0 b.1)) (in_longer old (e ∷ []) d (subst (λ (l : List EventId). IsIn l d) order there))
-
-  access_kept : {Z : Type 0} (a : Access Z) (wanted : List EventId) (before after : List (EventId × Access Z)) → IsAccess s e a → KeepsStep wanted (One e (Some a)) before after → AreKept s (IsIn old) wanted before → AreKept s (IsIn new) wanted after
-  access_kept {Z} a wanted before after of_e keeps kept d has = ⊎_elim
-      (λ (same : d ≡ e).
-      let has_e : Has wanted e = subst (Has wanted) same has in
-      let here : IsKept s (IsIn new) e (access_at after e) = subst (λ (o : Option (Access Z)). IsKept s (IsIn new) e o) (sym (keeps.0 has_e)) (in_one, of_e) in
-      subst (λ (x : EventId). IsKept s (IsIn new) x (access_at after x)) (sym same) here)
-      (λ (other : d ≢ e).
-      subst (λ (o : Option (Access Z)). IsKept s (IsIn new) d o) (sym (keeps.1 d other))
-      (still_kept s (IsIn old) (IsIn new) d (access_at before d) (in_more d) (λ there. ⊎_elim (λ (was : IsIn old d). inl was) (λ (same : d ≡ e). absurd (other same)) (one_of d there)) (kept d has)))
-      (is_or_not d e)
-
-  other_kept : {Z : Type 0} (wanted : List EventId) (accesses : List (EventId × Access Z)) → word_at s e ≡ None → AreKept s (IsIn old) wanted accesses → AreKept s (IsIn new) wanted accesses
-  other_kept wanted accesses none kept d has =
-      still_kept s (IsIn old) (IsIn new) d (access_at accesses d) (in_more d)
-      (λ there. ⊎_elim (λ (was : IsIn old d). inl was) (λ (same : d ≡ e). inr (subst (λ (x : EventId). word_at s x ≡ None) (sym same) none)) (one_of d there))
-      (kept d has)
-
-met_kept : {Z : Type 0} (s : Streams) (old barriers new : List EventId) (wanted : List EventId) (accesses : List (EventId × Access Z)) → new ≡ old ++ barriers → ((d : EventId) → IsIn barriers d → word_at s d ≡ None) → AreKept s (IsIn old) wanted accesses → AreKept s (IsIn new) wanted accesses
-met_kept s old barriers new wanted accesses order none kept d has =
-    still_kept s (IsIn old) (IsIn new) d (access_at accesses d)
-    (λ was. subst (λ (l : List EventId). IsIn l d) (sym order) (in_prefix old barriers d was))
-    (λ there. ⊎_elim (λ (was : IsIn old d). inl was) (λ (b : IsIn barriers d). inr (none d b)) (in_longer old barriers d (subst (λ (l : List EventId). IsIn l d) order there)))
-    (kept d has)
-
-pub taken_stays : {Z : Type 0} (old new : Sequence) (step : Handled Z) → IsStep old new step → new.taken ≡ old.taken
-taken_stays old new (One e access) h = h.0.taken
-taken_stays old new (Meet g k) h = h.taken
-
--- what is kept stays so where a step is made
-pub kept_step : {Z : Type 0} (s : Streams) (old new : Sequence) (step : Handled Z) (wanted : List EventId) (before after : List (EventId × Access Z)) → old.taken ≡ s → IsStep old new step → KeepsStep wanted step before after → AreKept s (IsIn old.handled) wanted before → AreKept s (IsIn new.handled) wanted after
-kept_step s old new (One e (Some a)) wanted before after taken h keeps kept =
-    access_kept s old.handled e new.handled h.0.handles.order a wanted before after (subst (λ (t : Streams). IsAccessOf t e (Some a)) (h.0.taken ∙ taken) h.1) keeps kept
-kept_step {Z} s old new (One e None) wanted before after taken h keeps kept =
-    subst (λ (accesses : List (EventId × Access Z)). AreKept s (IsIn new.handled) wanted accesses) (sym keeps)
-    (other_kept s old.handled e new.handled h.0.handles.order wanted before (subst (λ (t : Streams). word_at t e ≡ None) (h.0.taken ∙ taken) h.1) kept)
-kept_step {Z} s old new (Meet g k) wanted before after taken h keeps kept =
-    subst (λ (accesses : List (EventId × Access Z)). AreKept s (IsIn new.handled) wanted accesses) (sym keeps)
-    (met_kept s old.handled h.meets.barriers new.handled wanted before h.meets.order (λ d b. subst (λ (t : Streams). word_at t d ≡ None) taken (barrier_has_none old.taken g k d (h.meets.are.each b.0 d b.1).1)) kept)
-
--- where no step is left, what was handled is what is grounded
-pub kept_at_rest : {Z : Type 0} (s : Streams) (q : Sequence) (wanted : List EventId) (accesses : List (EventId × Access Z)) → q.taken ≡ s → IsDone q → AreKept s (IsIn q.handled) wanted accesses → AreKept s (IsGrounded s) wanted accesses
-kept_at_rest s q wanted accesses taken done kept d has =
-    let grounded = subst (λ (t : Streams). AreGrounded t q.handled) taken done.grounded in
-    still_kept s (IsIn q.handled) (IsGrounded s) d (access_at accesses d) (λ there. (grounded d).0 there) (λ is. inl ((grounded d).1 is)) (kept d has)
-
--- no step is left where none was made
-pub done_where_none : {Z : Type 0} (o : Option (Handled Z)) (q : Sequence) → ((step : Handled Z) → o ≡ Some step → ⊥) → MatchOption o (IsDone q) (λ step. CanStep q) → IsDone q
-done_where_none None q none is = is
-done_where_none (Some step) q none is = absurd (none step refl)
-
--- ---- the access of a step
-
-pub keeps_one : {Z : Type 0} (wanted : List EventId) (step : Handled Z) (e : EventId) (o : Option (Access Z)) (a : Access Z) (old new : List (EventId × Access Z)) → step ≡ One e o → o ≡ Some a → ((d : EventId) → access_at new d ≡ cond (same_event e d) (Some a) (access_at old d)) → KeepsStep wanted step old new
-keeps_one wanted step e o a old new is some update = rw (is, some) (λ has. kept_here old new e a update, kept_there old new e a update)
-
--- and its handled events are a lawful order of all grounded ones
-pub whole_at_rest : (s : Streams) (q : Sequence) → q.taken ≡ s → IsDone q → IsLawful q.taken q.handled → IsWholeOrder s q.handled
-whole_at_rest s q taken done lawful =
-    let grounded = subst (λ (t : Streams). AreGrounded t q.handled) taken done.grounded in
-    record { lawful = subst (λ (t : Streams). IsLawful t q.handled) taken lawful; whole = λ e is. (grounded e).1 is }
-
--- nothing changed where no step was made
-pub same_where_none : {Z : Type 0} (o : Option (Handled Z)) (q r : Sequence) → ((step : Handled Z) → o ≡ Some step → ⊥) → MatchOption o (r ≡ q) (λ step. IsStep q r step) → r ≡ q
-same_where_none None q r none is = is
-same_where_none (Some step) q r none is = absurd (none step refl)
+  pub kept_of_whole : AreThoseOf wanted accesses kept → AreKept s wanted kept
+  kept_of_whole those d has = kept_of d (access_at kept d) (those d has)

@@ -10,7 +10,6 @@ pub mod JudgedLemmas
 pub mod SeenLemmas
 pub mod Lists
 pub mod SearchLemmas
-pub mod AlongLemmas
 pub mod RacePairs
 pub mod AlikeLemmas
 pub mod TagPairLemmas

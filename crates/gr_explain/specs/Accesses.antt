@@ -1,16 +1,16 @@
 -- The accesses of some events, kept as the events are handled.
 -- Source: docs/MODEL.md, "Steps" and "Clocks".
-use Rattle.std.specs.Prelude.{◌≡◌, ◌≢◌, List, Option, None, Some}
+use Rattle.std.specs.Prelude.{◌≡◌, ◌≢◌, Contains, List, Option, None, Some}
 use Rattle.std.specs.Map.{lookup}
 use Rattle.gr_model.specs.declared.event.EventId.{EventId}
 use Rattle.gr_model.specs.declared.race.Race.{Race}
 use Rattle.gr_model.specs.Streams.{Streams, word_at}
 use Rattle.gr_model.specs.Waits.{IsGrounded}
 use Rattle.gr_clocks.specs.declared.access.Access.{Access}
+use Rattle.gr_clocks.specs.ClockedAccess.{ClockedAccess, clocked}
 use Rattle.gr_closure.specs.Accesses.{IsAccess}
+use Rattle.gr_shadow.specs.Clashes.{event_of}
 use Rattle.gr_explain.specs.Events.{Has, same_event}
-use Rattle.gr_sequencer.specs.declared.handled.Handled.{Handled}
-use Rattle.gr_sequencer.specs.declared.handled.Handled.TheVariants.{One, Meet}
 
 -- both events of a pair are wanted
 pub record AreWanted (wanted : List EventId) (r : Race) : Type 0 where
@@ -19,24 +19,27 @@ pub record AreWanted (wanted : List EventId) (r : Race) : Type 0 where
 
 -- the access that is kept of an event
 abbrev pub access_at : {Z : Type 0} → List (EventId × Access Z) → EventId → Option (Access Z)
-access_at accesses e = lookup (same_event e) accesses
+access_at kept e = lookup (same_event e) kept
 
--- what is kept of an event is its access, and the event is among those that were handled; where nothing is kept, it is not among them, or is no access
-abbrev pub IsKept : {Z : Type 0} → Streams → (EventId → Type 0) → EventId → Option (Access Z) → Type 0
-IsKept s Among e None = Among e → word_at s e ≡ None
-IsKept s Among e (Some a) = Among e × IsAccess s e a
+-- what is kept of an event is the access among these that it has, or nothing where it has none
+abbrev pub IsThatOf : {Z : Type 0} → List ClockedAccess → EventId → Option (Access Z) → Type 0
+IsThatOf accesses e None = (x : ClockedAccess) → Contains accesses x → event_of x ≢ e
+IsThatOf accesses e (Some a) = Contains accesses (clocked a) × (event_of (clocked a) ≡ e)
 
 -- this is so of each wanted event
-abbrev pub AreKept : {Z : Type 0} → Streams → (EventId → Type 0) → List EventId → List (EventId × Access Z) → Type 0
-AreKept s Among wanted accesses = (e : EventId) → Has wanted e → IsKept s Among e (access_at accesses e)
+abbrev pub AreThoseOf : {Z : Type 0} → List EventId → List ClockedAccess → List (EventId × Access Z) → Type 0
+AreThoseOf wanted accesses kept = (e : EventId) → Has wanted e → IsThatOf accesses e (access_at kept e)
 
--- and of both events of a pair, where the grounded ones were handled
-pub record AreBothKept {Z : Type 0} (s : Streams) (accesses : List (EventId × Access Z)) (r : Race) : Type 0 where
-  pub first : IsKept s (IsGrounded s) r.first (access_at accesses r.first)
-  pub second : IsKept s (IsGrounded s) r.second (access_at accesses r.second)
+-- what is kept of an event is its access, and the event is grounded; where nothing is kept, it is not grounded, or is no access
+abbrev pub IsKept : {Z : Type 0} → Streams → EventId → Option (Access Z) → Type 0
+IsKept s e None = IsGrounded s e → word_at s e ≡ None
+IsKept s e (Some a) = IsGrounded s e × IsAccess s e a
 
--- the access of a step is kept where its event is wanted, and what was kept stays
-abbrev pub KeepsStep : {Z : Type 0} → List EventId → Handled Z → List (EventId × Access Z) → List (EventId × Access Z) → Type 0
-KeepsStep wanted (One e (Some a)) old new = (Has wanted e → access_at new e ≡ Some a) × ((d : EventId) → d ≢ e → access_at new d ≡ access_at old d)
-KeepsStep wanted (One e None) old new = new ≡ old
-KeepsStep wanted (Meet g k) old new = new ≡ old
+-- this is so of each wanted event
+abbrev pub AreKept : {Z : Type 0} → Streams → List EventId → List (EventId × Access Z) → Type 0
+AreKept s wanted kept = (e : EventId) → Has wanted e → IsKept s e (access_at kept e)
+
+-- and of both events of a pair
+pub record AreBothKept {Z : Type 0} (s : Streams) (kept : List (EventId × Access Z)) (r : Race) : Type 0 where
+  pub first : IsKept s r.first (access_at kept r.first)
+  pub second : IsKept s r.second (access_at kept r.second)

@@ -1,11 +1,11 @@
 pub mod Taking
 pub mod Events
+pub mod Records
 pub mod LeastRaces
 pub mod Judgements
 pub mod Answering
 pub mod Accesses
 pub mod Judged
-pub mod Along
 pub mod ClashPairs
 pub mod Seen
 pub mod Search

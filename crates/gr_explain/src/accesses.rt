@@ -1,19 +1,18 @@
 //! The accesses of some events of a launch, kept as they are handled.
 
-ghost use Rattle.std.specs.Prelude.{◌≡◌, [], IfOk, OnOk, All};
+ghost use Rattle.std.specs.Prelude.{◌≡◌, ◌∷◌, ◌++◌, [], All, IfOk, List, OnOk};
 ghost use Rattle.gr_model.specs.declared.race.Race.{Race as AnyRace};
-ghost use Rattle.gr_model.specs.LawfulOrders.{IsIn};
-ghost use Rattle.gr_model.specs.Waits.{IsGrounded};
-ghost use Rattle.gr_explain.specs.Accesses.{AreBothKept, AreKept, AreWanted, KeepsStep};
+ghost use Rattle.gr_clocks.specs.ClockedAccess.{ClockedAccess, clocked};
+ghost use Rattle.gr_explain.specs.Accesses.{AreBothKept, AreKept, AreThoseOf, AreWanted};
 
-use crate::sequencing::take_all;
+use crate::seen::event_of;
 use gr_clocks::access::Access;
 use gr_model::event::EventId;
 use gr_model::memory::Memory;
 use gr_model::race::Race;
 use gr_model::traces::Traces;
-use gr_sequencer::handled::Handled;
-use gr_sequencer::sequencer::Sequencer;
+use gr_taking::keeper::Keeper;
+use gr_taking::taking::follow;
 use indexmap::{IndexMap, IndexSet};
 use std::alloc::Allocator;
 use std::hash::{BuildHasherDefault, FoldHasher};
@@ -51,66 +50,49 @@ fn events_of<A: Allocator + Copy>(alloc: A, races: &[Race]) -> Result<Events<A>,
     Ok(events)
 }
 
-/// Keeps the access of a step, if it has one and its event is wanted.
+/// The same access once more.
 ///
 /// # Errors
 /// `Memory`: out of memory.
-fn keep<A: Allocator>(
-    accesses: &mut Accesses<A>,
-    wanted: &Events<A>,
-    step: Handled<A>,
-) -> Result<(), Memory>
-    ensures { OnOk result (KeepsStep wanted.now.keys step accesses.old.entries accesses.new.entries) }
+fn copy_of<A: Allocator + Copy>(access: &Access<A>) -> Result<Access<A>, Memory>
+    ensures { IfOk result (λ a. a ≡ access.now) }
 {
-    match step {
-        Handled::One {
-            event,
-            access: Some(access),
-        } => {
-            if wanted.contains(&event) {
-                accesses.insert(event, access)?;
-            }
-            Ok(())
+    let Ok(clock) = access.clock.copy() else {
+        return Err(Memory);
+    };
+    Ok(Access {
+        word: access.word,
+        item: access.item,
+        index: access.index,
+        class: access.class,
+        clock,
+    })
+}
+
+/// Keeps the accesses of the events that are wanted.
+#[derive(Drop)]
+struct WantedKeeper<'a, A: Allocator> {
+    wanted: &'a Events<A>,
+}
+
+impl<A: Allocator + Copy> Keeper<A> for WantedKeeper<'_, A> {
+    type Kept = Accesses<A>;
+
+    ghost stands = { λ keeper accesses kept. AreThoseOf keeper.wanted.now.keys accesses kept.entries };
+
+    fn add(&self, kept: &mut Accesses<A>, access: &Access<A>) -> Result<(), Memory>
+        ensures { OnOk result ((accesses : List ClockedAccess) → AreThoseOf self.now.wanted.now.keys accesses kept.old.entries → AreThoseOf self.now.wanted.now.keys (accesses ++ clocked access.now ∷ []) kept.new.entries) }
+    {
+        let event = event_of(access);
+        if self.wanted.contains(&event) {
+            kept.insert(event, copy_of(access)?)?;
         }
-        _ => Ok(()),
+        Ok(())
     }
-}
 
-/// Handles all events that can be handled, which are the grounded ones, and keeps the accesses of those that are wanted.
-///
-/// # Errors
-/// `Memory`: out of memory.
-fn handle_all<A: Allocator + Copy>(
-    sequencer: &mut Sequencer<A>,
-    wanted: &Events<A>,
-    accesses: &mut Accesses<A>,
-) -> Result<(), Memory>
-    requires { AreKept sequencer.old.taken (IsIn sequencer.old.handled) wanted.now.keys accesses.old.entries }
-    ensures { OnOk result (AreKept sequencer.old.taken (IsGrounded sequencer.old.taken) wanted.now.keys accesses.new.entries) }
-{
-    while let Some(step) = sequencer.step()? {
-        keep(accesses, wanted, step)?;
-        // brings into the proof that no more events are handled than were taken
-        let _held = sequencer.held();
-    }
-    Ok(())
-}
-
-/// The accesses of the wanted events among those that a sequencer, which has handled nothing, can handle.
-///
-/// # Errors
-/// `Memory`: out of memory.
-fn kept_by<A: Allocator + Copy>(
-    alloc: A,
-    sequencer: &mut Sequencer<A>,
-    wanted: &Events<A>,
-) -> Result<Accesses<A>, Memory>
-    requires { sequencer.old.handled ≡ [] }
-    ensures { IfOk result (λ accesses. AreKept sequencer.old.taken (IsGrounded sequencer.old.taken) wanted.now.keys accesses.entries) }
-{
-    let mut accesses = IndexMap::new(alloc);
-    handle_all(sequencer, wanted, &mut accesses)?;
-    Ok(accesses)
+    fn close(&self, _kept: &mut Accesses<A>, _group: u16)
+        ensures { (accesses : List ClockedAccess) → AreThoseOf self.now.wanted.now.keys accesses _kept.old.entries → AreThoseOf self.now.wanted.now.keys accesses _kept.new.entries }
+    {}
 }
 
 /// The accesses of the wanted events of a launch that are grounded.
@@ -122,10 +104,11 @@ fn accesses_of<A: Allocator + Copy>(
     traces: &Traces<A>,
     wanted: &Events<A>,
 ) -> Result<Accesses<A>, Memory>
-    ensures { IfOk result (λ accesses. AreKept traces.now (IsGrounded traces.now) wanted.now.keys accesses.entries) }
+    ensures { IfOk result (λ accesses. AreKept traces.now wanted.now.keys accesses.entries) }
 {
-    let mut sequencer = take_all(alloc, traces)?;
-    kept_by(alloc, &mut sequencer, wanted)
+    let mut accesses = IndexMap::new(alloc);
+    follow(alloc, traces, &WantedKeeper { wanted }, &mut accesses)?;
+    Ok(accesses)
 }
 
 /// The accesses of the events of pairs of a launch that are grounded.

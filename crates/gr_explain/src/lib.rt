@@ -13,7 +13,6 @@ mod pairs;
 pub mod records;
 mod search;
 mod seen;
-pub mod sequencing;
 mod tag_pairs;
 pub mod tags;
 pub mod taking;

@@ -4,16 +4,13 @@ ghost use Rattle.std.specs.Prelude.{◌≡◌, ◌∷◌, ◌++◌, [], ℕ, All
 ghost use Rattle.std.specs.Map.{lookup};
 ghost use Rattle.gr_model.specs.declared.event.EventId.{EventId as AnyEvent};
 ghost use Rattle.gr_model.specs.declared.event.Word.{Word as AnyWord};
-ghost use Rattle.gr_model.specs.LawfulOrders.{IsWholeOrder};
 ghost use Rattle.gr_model.specs.Reports.{WordBelow};
 ghost use Rattle.gr_clocks.specs.ClockedAccess.{ClockedAccess, clocked};
 ghost use Rattle.gr_shadow.specs.Kept.{same_word};
-ghost use Rattle.gr_explain.specs.Along.{AddsStep, IsAlong};
 ghost use Rattle.gr_explain.specs.TagRaces.{AreTagRaces};
 ghost use Rattle.gr_explain.specs.WordPairs.{StandForWords, races_at, races_of};
 
 use crate::seen::event_of;
-use crate::sequencing::take_all;
 use crate::tag_pairs::TagPairs;
 use crate::tags::Tags;
 use gr_clocks::access::Access;
@@ -21,8 +18,8 @@ use gr_model::event::Word;
 use gr_model::memory::Memory;
 use gr_model::race::Race;
 use gr_model::traces::Traces;
-use gr_sequencer::handled::Handled;
-use gr_sequencer::sequencer::Sequencer;
+use gr_taking::keeper::Keeper;
+use gr_taking::taking::follow;
 use indexmap::IndexMap;
 use std::alloc::Allocator;
 use std::hash::{BuildHasherDefault, FoldHasher};
@@ -61,46 +58,27 @@ fn add_access<A: Allocator + Copy, T: Tags>(
     }
 }
 
-/// Adds the access of a step, if it has one and that is to one of the words.
-///
-/// # Errors
-/// `Memory`: out of memory.
-fn add_step<A: Allocator + Copy, T: Tags>(
-    pairs: &mut WordPairs<A>,
-    tags: &T,
-    step: Handled<A>,
-) -> Result<(), Memory>
-    ensures { OnOk result ((words : List AnyWord) → AddsStep (λ accesses entries. StandForWords (T.tag_of tags.now) words accesses entries) step pairs.old.entries pairs.new.entries) }
-{
-    match step {
-        Handled::One {
-            event: _,
-            access: Some(access),
-        } => add_access(pairs, tags, &access),
-        _ => Ok(()),
-    }
+/// Keeps of each of some words the pairs of tags that race on it.
+#[derive(Drop)]
+struct WordsKeeper<'a, T> {
+    words: &'a [Word],
+    tags: &'a T,
 }
 
-/// Handles all events that can be handled, which are the grounded ones, and adds the accesses to the words.
-///
-/// # Errors
-/// `Memory`: out of memory.
-fn handle_all<A: Allocator + Copy, T: Tags>(
-    sequencer: &mut Sequencer<A>,
-    pairs: &mut WordPairs<A>,
-    tags: &T,
-    words: &[Word],
-) -> Result<(), Memory>
-    requires along { IsAlong (λ accesses entries. StandForWords (T.tag_of tags.now) words.now accesses entries) sequencer.old.taken sequencer.old.handled pairs.old.entries }
-    requires ascending { AllPairs WordBelow words.now }
-    ensures { OnOk result (AreTagRaces sequencer.old.taken (T.tag_of tags.now) words.now (races_at pairs.new.entries words.now)) }
-{
-    while let Some(step) = sequencer.step()? {
-        add_step(pairs, tags, step)?;
-        // brings into the proof that no more events are handled than were taken
-        let _held = sequencer.held();
+impl<A: Allocator + Copy, T: Tags> Keeper<A> for WordsKeeper<'_, T> {
+    type Kept = WordPairs<A>;
+
+    ghost stands = { λ keeper accesses pairs. StandForWords (T.tag_of keeper.tags.now) keeper.words.now accesses pairs.entries };
+
+    fn add(&self, kept: &mut WordPairs<A>, access: &Access<A>) -> Result<(), Memory>
+        ensures { OnOk result ((accesses : List ClockedAccess) → StandForWords (T.tag_of self.now.tags.now) self.now.words.now accesses kept.old.entries → StandForWords (T.tag_of self.now.tags.now) self.now.words.now (accesses ++ clocked access.now ∷ []) kept.new.entries) }
+    {
+        add_access(kept, self.tags, access)
     }
-    Ok(())
+
+    fn close(&self, _kept: &mut WordPairs<A>, _group: u16)
+        ensures { (accesses : List ClockedAccess) → StandForWords (T.tag_of self.now.tags.now) self.now.words.now accesses _kept.old.entries → StandForWords (T.tag_of self.now.tags.now) self.now.words.now accesses _kept.new.entries }
+    {}
 }
 
 /// Adds the races that were found of a word.
@@ -141,31 +119,12 @@ fn list_words<A: Allocator + Copy>(
     Ok(races)
 }
 
-/// The races of the words of the launch whose records a sequencer has taken, and of which it has handled nothing.
-///
-/// # Errors
-/// `Memory`: out of memory.
-fn races_of_words<A: Allocator + Copy, T: Tags>(
-    alloc: A,
-    sequencer: &mut Sequencer<A>,
-    words: &[Word],
-    tags: &T,
-) -> Result<Vec<Race, A>, Memory>
-    requires nothing { sequencer.old.handled ≡ [] }
-    requires ascending { AllPairs WordBelow words.now }
-    ensures { IfOk result (λ races. AreTagRaces sequencer.old.taken (T.tag_of tags.now) words.now races.items) }
-{
-    let mut pairs = pairs_of_words(alloc, words)?;
-    handle_all(sequencer, &mut pairs, tags, words)?;
-    list_words(alloc, &pairs, words)
-}
-
 /// Of each of these words, which ascend, a race for each two tags that race on it, of accesses that have the two: the first one that is
 /// found along the order in which the events are handled.
 ///
 /// It handles the events of the launch once, with clocks. Its time grows with the events, and with the accesses to the words times the
-/// work-items that accessed them with tags of which no race was found; its memory with the events, and with the work-items, tags and
-/// classes of the accesses to each word.
+/// work-items that accessed them with tags of which no race was found; its memory with the work-items, tags and classes of the accesses
+/// to each word, and with the events that wait for others.
 ///
 /// # Errors
 /// `Memory`: out of memory.
@@ -181,6 +140,7 @@ pub fn races_by_tags<A: Allocator + Copy, T: Tags>(
     if words.is_empty() {
         return Ok(Vec::new(alloc));
     }
-    let mut sequencer = take_all(alloc, traces)?;
-    races_of_words(alloc, &mut sequencer, words, tags)
+    let mut pairs = pairs_of_words(alloc, words)?;
+    follow(alloc, traces, &WordsKeeper { words, tags }, &mut pairs)?;
+    list_words(alloc, &pairs, words)
 }

@@ -1,7 +1,4 @@
 pub mod Accepted
-pub mod TakenLists
-pub mod EventLists
-pub mod StepLemmas
 pub mod Reporting
 pub mod Faults
 pub mod Judged

@@ -6,8 +6,9 @@ use Rattle.gr_model.specs.declared.event.Event.{Event}
 use Rattle.gr_model.specs.declared.limits.TheConstants.{MOST_RECORDS}
 use Rattle.gr_model.specs.Streams.{Streams, IsAccepted, list_of, size_of}
 use Rattle.gr_lanes.specs.Takes.{CanTake, IsEventButItem, with_record}
-use Rattle.gr_intake.specs.Sequencing.{AreTakenFrom, with_list}
-use Rattle.gr_intake.proofs.TakenLists.{can_take_next, good_at, room_for_next, set_twice}
+use Rattle.gr_intake.specs.Sequencing.{AreTakenFrom}
+use Rattle.gr_taking.specs.Taken.{with_list}
+use Rattle.gr_taking.proofs.TakenLists.{can_take_next, good_at, room_for_next, set_twice}
 
 -- the first of the records to come was taken
 pub one_taken_from : (s t new : Streams) (g : ℕ) (old rest : List Event) (e : Event) → g < length s.lists → AreTakenFrom s g old t (e ∷ rest) → new ≡ with_record t g e → AreTakenFrom s g old new rest

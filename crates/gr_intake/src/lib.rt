@@ -2,11 +2,8 @@
 //! handled at once; of the input no more is kept than what waits.
 #![tactic(auto)]
 
-mod handling;
 pub mod intake;
 mod judging;
 mod open;
 pub mod reports;
-pub mod taking;
-mod turn;
 mod waiting;

@@ -9,8 +9,6 @@ ghost use Rattle.gr_record.specs.Versions.{record_length};
 ghost use Rattle.gr_intake.specs.Intakes.{AreOpen, IsKeptOpen, come_of, next_event_at, with_event};
 ghost use Rattle.gr_intake.specs.Sequencing.{AreShadowsOf};
 
-use crate::taking::take_record;
-use crate::turn::Turn;
 use gr_backlog::backlog::Backlog;
 use gr_model::event::Event;
 use gr_model::limits::MOST_RECORDS;
@@ -20,6 +18,9 @@ use gr_record::header::Header;
 use gr_record::reading::read_event;
 use gr_sequencer::sequencer::Sequencer;
 use gr_shadow::launch::LaunchShadows;
+use gr_taking::keeper::ShadowKeeper;
+use gr_taking::taking::take_record;
+use gr_taking::turn::Turn;
 use std::alloc::{Allocator, Global};
 
 /// A stream whose end has not come.
@@ -103,7 +104,14 @@ impl<A: Allocator + Copy> Open<A> {
             return Ok(());
         }
         let group = self.backlog.header().group;
-        take_record(sequencer, shadows, group, event, &mut self.turn)?;
+        take_record(
+            sequencer,
+            &ShadowKeeper,
+            shadows,
+            group,
+            event,
+            &mut self.turn,
+        )?;
         self.waits = self.turn.is_stuck();
         self.count += 1;
         Ok(())

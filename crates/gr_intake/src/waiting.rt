@@ -9,13 +9,14 @@ ghost use Rattle.gr_intake.specs.Intakes.{AreGroupsOf, come, headers_of};
 ghost use Rattle.gr_intake.specs.Laws.{AreStreams};
 ghost use Rattle.gr_intake.specs.Sequencing.{AreShadowsOf, AreTakenFrom};
 
-use crate::handling::handle_ready;
-use crate::taking::take_record;
-use crate::turn::{MOST_IN_TURN, Turn};
 use gr_backlog::backlog::Backlog;
 use gr_model::memory::Memory;
 use gr_sequencer::sequencer::Sequencer;
 use gr_shadow::launch::LaunchShadows;
+use gr_taking::handling::handle_ready;
+use gr_taking::keeper::ShadowKeeper;
+use gr_taking::taking::take_record;
+use gr_taking::turn::{MOST_IN_TURN, Turn};
 use std::alloc::Allocator;
 
 /// Has a sequencer take some of the records that wait of a stream. Tells whether it took one; none waits where it did not.
@@ -44,7 +45,14 @@ fn take_some<A: Allocator + Copy>(
     for _ in 0..MOST_IN_TURN {
         match stream.next() {
             None => break,
-            Some(event) => take_record(sequencer, shadows, header.group, event, &mut turn)?,
+            Some(event) => take_record(
+                sequencer,
+                &ShadowKeeper,
+                shadows,
+                header.group,
+                event,
+                &mut turn,
+            )?,
         }
         took = true;
         if turn.is_over() {
@@ -75,7 +83,7 @@ fn take_turn<A: Allocator + Copy>(
     ensures shadows { OnOk result (AreShadowsOf sequencer.new shadows.new) }
 {
     let took = take_some(sequencer, shadows, stream)?;
-    handle_ready(sequencer, shadows)?;
+    handle_ready(sequencer, &ShadowKeeper, shadows)?;
     Ok(took)
 }
 
@@ -130,6 +138,6 @@ pub(crate) fn take_waiting<A: Allocator + Copy>(
     ensures shadows { OnOk result (AreShadowsOf sequencer.new shadows.new) }
 {
     while take_round(sequencer, shadows, streams)? {}
-    handle_ready(sequencer, shadows)?;
+    handle_ready(sequencer, &ShadowKeeper, shadows)?;
     Ok(())
 }

@@ -22,7 +22,6 @@ use gr_accesses::details::{Details, details_of};
 use gr_explain::explain::explain;
 use gr_explain::records::Records;
 use gr_explain::tags::Tags;
-use gr_explain::taking::take_all;
 use gr_model::event::{EventId, Word};
 use gr_model::memory::Memory;
 use gr_model::traces::Traces;
@@ -97,7 +96,7 @@ fn other_races<A: Allocator + Copy>(
 fn account_with<A: Allocator + Copy>(
     alloc: A,
     traces: &Traces<A>,
-    records: &Records<A>,
+    records: &Records<'_, A>,
     first: EventId,
     second: EventId,
     cause: Cause,
@@ -136,7 +135,7 @@ fn account_of_pair<A: Allocator + Copy>(
     ensures { IfOk result (λ account. IsAccount traces.now (number_at index.now) word (account_said account)) }
 {
     let cause = cause_of(alloc, traces, word, first, second)?;
-    let records = Records::of(take_all(alloc, traces)?);
+    let records = Records::of(alloc, traces)?;
     let tags = PlaceTags {
         records: &records,
         index,

@@ -167,7 +167,7 @@ fn acquire_below(list: &[Event], item: u16, index: u32) -> Option<u32>
 /// What is told of an item's event of this index, where there is one.
 fn told_at<A: Allocator>(
     traces: &Traces<A>,
-    records: &Records<A>,
+    records: &Records<'_, A>,
     at: ItemId,
     index: Option<u32>,
 ) -> Option<Told>
@@ -183,7 +183,7 @@ fn told_at<A: Allocator>(
 /// The first release of its item behind an access.
 fn release_behind<A: Allocator>(
     traces: &Traces<A>,
-    records: &Records<A>,
+    records: &Records<'_, A>,
     access: EventId,
 ) -> Option<Told>
     requires same { records.now ≡ traces.now }
@@ -198,7 +198,7 @@ fn release_behind<A: Allocator>(
 /// The last acquire of its item before an access.
 fn acquire_before<A: Allocator>(
     traces: &Traces<A>,
-    records: &Records<A>,
+    records: &Records<'_, A>,
     access: EventId,
 ) -> Option<Told>
     requires same { records.now ≡ traces.now }
@@ -217,7 +217,7 @@ fn acquire_before<A: Allocator>(
 pub fn between_of<A: Allocator>(
     alloc: A,
     traces: &Traces<A>,
-    records: &Records<A>,
+    records: &Records<'_, A>,
     first: EventId,
     second: EventId,
 ) -> Result<Between<A>, Memory>

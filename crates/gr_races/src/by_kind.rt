@@ -13,7 +13,6 @@ use crate::causes::causes_told;
 use crate::listing::{KindEntry, entries_of};
 use crate::place_tags::tag_races;
 use gr_explain::records::Records;
-use gr_explain::taking::take_all;
 use gr_model::memory::Memory;
 use gr_model::traces::Traces;
 use gr_places::index::PlaceIndex;
@@ -51,7 +50,7 @@ impl<A: Allocator> RacesByKind<A> {
 fn list_found<A: Allocator + Copy>(
     alloc: A,
     traces: &Traces<A>,
-    records: &Records<A>,
+    records: &Records<'_, A>,
     index: &PlaceIndex<'_, A>,
     causes: bool,
     report: Report<A>,
@@ -85,7 +84,7 @@ fn list_races<A: Allocator + Copy>(
     ensures report { IfOk result (λ r. IsReportOf traces.now (whole_of r.report)) }
 {
     let report = detect(alloc, traces)?;
-    let records = Records::of(take_all(alloc, traces)?);
+    let records = Records::of(alloc, traces)?;
     list_found(alloc, traces, &records, index, causes, report)
 }
 

@@ -106,7 +106,7 @@ fn operation_of(kind: &Kind) -> Option<Operation>
 }
 
 /// What an event of a launch does, or `None` where it is not there or is no access.
-fn operation_at<A: Allocator>(records: &Records<A>, event: EventId) -> Option<Operation>
+fn operation_at<A: Allocator>(records: &Records<'_, A>, event: EventId) -> Option<Operation>
     ensures { result ≡ spec.operation_at records.now event }
 {
     let taken = records.event_at(event)?;
@@ -115,7 +115,7 @@ fn operation_at<A: Allocator>(records: &Records<A>, event: EventId) -> Option<Op
 
 /// What an event of a launch does, and where, or `None` where it is not there or is no access.
 pub(crate) fn placed_at<A: Allocator>(
-    records: &Records<A>,
+    records: &Records<'_, A>,
     index: &PlaceIndex<'_, A>,
     event: EventId,
 ) -> Option<PlacedOperation>
@@ -176,7 +176,7 @@ fn kind_of(
 /// A race with its kind, where this is the cause that is told of it, or `None` where its events are not two accesses of
 /// the launch.
 pub(crate) fn kinded<A: Allocator>(
-    records: &Records<A>,
+    records: &Records<'_, A>,
     index: &PlaceIndex<'_, A>,
     race: &Race,
     cause: Option<Cause>,

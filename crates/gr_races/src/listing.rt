@@ -57,7 +57,7 @@ fn keep_row<A: Allocator>(
 /// `Memory`: out of memory.
 fn all_kinded<A: Allocator + Copy>(
     alloc: A,
-    records: &Records<A>,
+    records: &Records<'_, A>,
     index: &PlaceIndex<'_, A>,
     races: &[Race],
     causes: &[Cause],
@@ -186,7 +186,7 @@ fn list_kinds<A: Allocator + Copy>(
 /// `Memory`: out of memory.
 pub(crate) fn ordered_rows<A: Allocator + Copy>(
     alloc: A,
-    records: &Records<A>,
+    records: &Records<'_, A>,
     index: &PlaceIndex<'_, A>,
     races: &[Race],
     causes: &[Cause],
@@ -204,7 +204,7 @@ pub(crate) fn ordered_rows<A: Allocator + Copy>(
 /// `Memory`: out of memory.
 pub(crate) fn entries_of<A: Allocator + Copy>(
     alloc: A,
-    records: &Records<A>,
+    records: &Records<'_, A>,
     index: &PlaceIndex<'_, A>,
     races: &[Race],
     causes: &[Cause],

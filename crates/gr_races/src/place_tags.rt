@@ -21,7 +21,7 @@ use std::alloc::Allocator;
 #[derive(Clone, Copy)]
 pub(crate) struct PlaceTags<'a, A: Allocator> {
     /// The records.
-    pub(crate) records: &'a Records<A>,
+    pub(crate) records: &'a Records<'a, A>,
     /// The places.
     pub(crate) index: &'a PlaceIndex<'a, A>,
 }
@@ -44,7 +44,7 @@ impl<A: Allocator> Tags for PlaceTags<'_, A> {
 pub(crate) fn tag_races<A: Allocator + Copy>(
     alloc: A,
     traces: &Traces<A>,
-    records: &Records<A>,
+    records: &Records<'_, A>,
     index: &PlaceIndex<'_, A>,
     words: &[Word],
 ) -> Result<Vec<Race, A>, Memory>

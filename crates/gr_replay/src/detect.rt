@@ -9,7 +9,6 @@ ghost use Rattle.gr_report.specs.Whole.{whole_of};
 
 use crate::races::races_of;
 use gr_intake::reports::report_of;
-use gr_intake::taking::take_traces;
 use gr_model::memory::Memory;
 use gr_model::race::Race;
 use gr_model::shape::Shape;
@@ -17,6 +16,8 @@ use gr_model::traces::Traces;
 use gr_report::report::Report;
 use gr_sequencer::sequencer::Sequencer;
 use gr_shadow::launch::LaunchShadows;
+use gr_taking::keeper::ShadowKeeper;
+use gr_taking::taking::take_traces;
 use std::alloc::{Allocator, Global};
 
 /// What is found of a launch: its report, and of each racy word two events that race on it.
@@ -75,7 +76,7 @@ fn detection_by<A: Allocator + Copy>(
     ensures report { IfOk result (λ found. IsReportOf traces.now (whole_of found.report)) }
     ensures races { IfOk result (λ found. ArePairedRaces traces.now found.races.items) }
 {
-    take_traces(sequencer, shadows, traces)?;
+    take_traces(sequencer, &ShadowKeeper, shadows, traces)?;
     detection_of(alloc, sequencer, shadows)
 }
 

@@ -1,4 +1,4 @@
-//! Tests alone, of `gr_replay`: growths that are refused, readers and writers that fail, and what is read of streams.
+//! Tests alone, of what reads streams and writes reports: growths that are refused, readers and writers that fail, and what is read of streams.
 #![tactic(auto)]
 
 #[cfg(test)]
@@ -7,6 +7,8 @@ mod each;
 mod facts;
 #[cfg(test)]
 mod failures;
+#[cfg(test)]
+mod formats;
 #[cfg(test)]
 mod growths;
 #[cfg(test)]

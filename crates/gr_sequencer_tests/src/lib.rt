@@ -34,3 +34,5 @@ mod turns;
 mod waits;
 #[cfg(test)]
 mod woken;
+#[cfg(test)]
+mod worlds;

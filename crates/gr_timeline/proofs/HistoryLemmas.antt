@@ -1,166 +1,184 @@
--- What a history says where a step is made, and at rest.
-use Rattle.std.proofs.Common.{◌≡◌, ◌≢◌, ◌⊎◌, ◌↔◌, ◌<◌, ◌≤◌, ℕ, zero, suc, List, [], ◌∷◌, ◌++◌, Option, Some, None, MatchOption, length, slice_get, take, refl, sym, ap, ◌∙◌, subst, inl, inr, ⊎_elim, arith}
-use Rattle.std.proofs.lemmas.List.{length-map, map-append, take-append-le}
-use Rattle.std.proofs.Math.Seq.{take-append_seam}
+-- The history of a word, of the accesses along a lawful order of all grounded events.
+use Rattle.std.proofs.Common.{◌≡◌, ◌≢◌, ◌↔◌, ◌<◌, ℕ, zero, suc, Bool, true, false, cond, Contains, List, [], ◌∷◌, ◌++◌, Some, None, append-nil, append_assoc, filter, length, map, slice_get, take, refl, sym, ap, ◌∙◌, subst, inr, ⊎_elim, arith, true≢false}
+use Rattle.std.proofs.lemmas.List.{length-map, length-take-le, map-append}
+use Rattle.std.proofs.lemmas.List.Elements.{filter-append}
 use Rattle.gr_model.specs.declared.event.EventId.{EventId}
 use Rattle.gr_model.specs.declared.event.Word.{Word}
+use Rattle.gr_model.specs.contracts.event.WordEq.TheImpl.Laws as equal
 use Rattle.gr_model.specs.Access.{memory_of}
 use Rattle.gr_model.specs.HappensBefore.{HappensBefore}
-use Rattle.gr_model.specs.LawfulOrders.{IsIn, IsLawful}
-use Rattle.gr_model.specs.Streams.{Streams, word_at}
-use Rattle.gr_steps.specs.Steps.{AreGrounded, Handles}
-use Rattle.gr_clocks.specs.declared.access.Access.{Access}
+use Rattle.gr_model.specs.LawfulOrders.{IsWholeOrder}
+use Rattle.gr_model.specs.Streams.{Streams}
+use Rattle.gr_model.proofs.Cuts.{same_event}
+use Rattle.gr_model.proofs.WordLemmas.{same_from_equal}
+use Rattle.gr_clocks.specs.ClockedAccess.{ClockedAccess, bare}
+use Rattle.gr_clocks.specs.Counts.{Counts}
 use Rattle.gr_closure.specs.Accesses.{IsAccess}
-use Rattle.gr_order.specs.Sequences.{IsDone, Sequence}
-use Rattle.gr_sequencer.specs.Answers.{IsStep}
-use Rattle.gr_sequencer.specs.declared.handled.Handled.{Handled}
-use Rattle.gr_sequencer.specs.declared.handled.Handled.TheVariants.{One, Meet}
-use Rattle.gr_explain.proofs.KeptLemmas.{barrier_has_none}
+use Rattle.gr_hits.specs.Accesses.{AreAccesses, of_none, of_access, of_other}
+use Rattle.gr_shadow.specs.Clashes.{event_of}
+use Rattle.gr_shadow.specs.Kept.{same_word}
+use Rattle.gr_shadow.proofs.KeepsLemmas.{Contains-first, Contains-rest}
+use Rattle.gr_explain.proofs.KeptLemmas.{event_there}
+use Rattle.gr_explain.proofs.Lists.{within}
 use Rattle.gr_accesses.specs.Accesses.{IsOn}
-use Rattle.gr_timeline.specs.Histories.{AddsStep, IsAdded, IsAlong, IsCounted, IsHistory, Line, events_of}
-use Rattle.gr_timeline.specs.Selections.{AreThose, of_none}
-use Rattle.gr_timeline.proofs.SelectionLemmas.{other_more, others_more, those_more, those_where, those_within}
+use Rattle.gr_timeline.specs.declared.entry.Entry.{Entry}
+use Rattle.gr_timeline.specs.Histories.{AreEntriesOf, IsCounted, IsHistory, Line, access_pair, entry_pair, events_of, is_counted, line_below, lines_below, lines_of}
+use Rattle.gr_timeline.specs.Selections as those
+use Rattle.gr_timeline.specs.Selections.{AreThose}
+use Rattle.gr_timeline.proofs.EntryLemmas.{events_below, those_counted}
+use Rattle.gr_timeline.proofs.SelectionLemmas.{those_once, those_where}
 
--- an element of a list with one more is an earlier one or that one
-last_cases : {X : Type 0} (xs : List X) (x : X) (p : ℕ) (y : X) → slice_get (xs ++ x ∷ []) p ≡ Some y → ((p < length xs) × (slice_get xs p ≡ Some y)) ⊎ ((p ≡ length xs) × (y ≡ x))
-last_cases [] x zero y at = let h : Some x ≡ Some y = at in let same : y ≡ x = cc in inr (refl, same)
-last_cases [] x (suc p) y at = let no : None ≡ Some y = at in cc
-last_cases (z ∷ xs) x zero y at = inl (omega arith, at)
-last_cases (z ∷ xs) x (suc p) y at = ⊎_elim
-    (λ (inside : (p < length xs) × (slice_get xs p ≡ Some y)). inl (omega (arith, inside.0), inside.1))
-    (λ (last : (p ≡ length xs) × (y ≡ x)). inr (ap suc last.0, last.1))
-    (last_cases xs x p y at)
+abbrev is_on : Word → ClockedAccess → Bool
+is_on w x = same_word x.word w
 
--- ---- no line more
+-- ---- one access more
 
-module _ (s : Streams) (w : Word) (lines : List Line) where
-  others_along : (old others new : List EventId) → new ≡ old ++ others → ((i : ℕ) (d : EventId) → slice_get others i ≡ Some d → word_at s d ≢ Some w) → IsAlong s w old lines → IsAlong s w new lines
-  others_along old others new order are_not along = record {
-    events = subst (λ (l : List EventId). AreThose (IsOn s w) l (events_of lines)) (sym order) (others_more (IsOn s w) old others (events_of lines) along.events are_not);
-    above = along.above;
-    behind = along.behind;
+module _ {Z : Type 0} (w : Word) (accesses : List ClockedAccess) (y : ClockedAccess) (old new : List (Entry Z)) where
+  pub entry_added : (x : Entry Z) → new ≡ old ++ x ∷ [] → entry_pair x ≡ access_pair y → is_on w y ≡ true → AreEntriesOf w accesses old → AreEntriesOf w (accesses ++ y ∷ []) new
+  entry_added x pushed same on are =
+      let last : filter (is_on w) (y ∷ []) ≡ y ∷ [] = ap (λ b. cond b (y ∷ []) []) on in
+      let more : filter (is_on w) (accesses ++ y ∷ []) ≡ filter (is_on w) accesses ++ y ∷ [] = filter-append (is_on w) accesses (y ∷ []) ∙ ap (λ l. filter (is_on w) accesses ++ l) last in
+      ap (map entry_pair) pushed
+      ∙ (map-append entry_pair old (x ∷ [])
+      ∙ (ap (λ l. l ++ entry_pair x ∷ []) are
+      ∙ (ap (λ p. map access_pair (filter (is_on w) accesses) ++ p ∷ []) same
+      ∙ (sym (map-append access_pair (filter (is_on w) accesses) (y ∷ []))
+      ∙ ap (map access_pair) (sym more)))))
+
+  pub other_added : new ≡ old → is_on w y ≡ false → AreEntriesOf w accesses old → AreEntriesOf w (accesses ++ y ∷ []) new
+  other_added same off are =
+      let last : filter (is_on w) (y ∷ []) ≡ [] = ap (λ b. cond b (y ∷ []) []) off in
+      let more : filter (is_on w) (accesses ++ y ∷ []) ≡ filter (is_on w) accesses = filter-append (is_on w) accesses (y ∷ []) ∙ (ap (λ l. filter (is_on w) accesses ++ l) last ∙ append-nil (filter (is_on w) accesses)) in
+      ap (map entry_pair) same ∙ (are ∙ ap (map access_pair) (sym more))
+
+-- ---- lists of pairs
+
+firsts : {X Y Z : Type 0} (f : Y → X × Z) (ys : List Y) → map (λ p. p.0) (map f ys) ≡ map (λ y. (f y).0) ys
+firsts f [] = refl
+firsts f (y ∷ ys) = ap (λ l. (f y).0 ∷ l) (firsts f ys)
+
+-- what a mapped list has at a place is that of the element there
+mapped_at : {X Y : Type 0} (f : X → Y) (xs : List X) (p : ℕ) (y : Y) → slice_get (map f xs) p ≡ Some y → (x : X) × (slice_get xs p ≡ Some x) × (f x ≡ y)
+mapped_at f [] p y at = let no : None ≡ Some y = at in cc
+mapped_at f (x ∷ xs) zero y at = let h : Some (f x) ≡ Some y = at in let same : f x ≡ y = cc in (x, refl, same)
+mapped_at f (x ∷ xs) (suc p) y at = mapped_at f xs p y at
+
+map_at : {X Y : Type 0} (f : X → Y) (xs : List X) (p : ℕ) (x : X) → slice_get xs p ≡ Some x → slice_get (map f xs) p ≡ Some (f x)
+map_at f [] p x at = let no : None ≡ Some x = at in cc
+map_at f (z ∷ xs) zero x at = let h : Some z ≡ Some x = at in let same : z ≡ x = cc in ap (λ v. Some (f v)) same
+map_at f (z ∷ xs) (suc p) x at = map_at f xs p x at
+
+passed_first : {X : Type 0} (test : X → Bool) (z : X) (xs : List X) (x : X) (b : Bool) → test z ≡ b → (p : ℕ) → slice_get (cond b (z ∷ filter test xs) (filter test xs)) p ≡ Some x → ((n : ℕ) → slice_get (filter test xs) n ≡ Some x → Contains xs x × (test x ≡ true)) → Contains (z ∷ xs) x × (test x ≡ true)
+passed_first test z xs x true t zero at later = let h : Some z ≡ Some x = at in let same : z ≡ x = cc in (subst (Contains (z ∷ xs)) same (Contains-first z xs), subst (λ v. test v ≡ true) same t)
+passed_first test z xs x true t (suc p) at later = let rest = later p at in (Contains-rest z xs x rest.0, rest.1)
+passed_first test z xs x false f p at later = let rest = later p at in (Contains-rest z xs x rest.0, rest.1)
+
+-- what passes a test is in the list
+passed_at : {X : Type 0} (test : X → Bool) (xs : List X) (p : ℕ) (x : X) → slice_get (filter test xs) p ≡ Some x → Contains xs x × (test x ≡ true)
+passed_at test [] p x at = let no : None ≡ Some x = at in cc
+passed_at test (z ∷ xs) p x at = passed_first test z xs x (test z) refl p at (λ n there. passed_at test xs n x there)
+
+-- a line is that of the entry there, below those before it
+line_at : {Z : Type 0} (above : List EventId) (entries : List (Entry Z)) (p : ℕ) (l : Line) → slice_get (lines_below above entries) p ≡ Some l → (x : Entry Z) × (slice_get entries p ≡ Some x) × (l ≡ line_below (above ++ take p (map (λ y. y.event) entries)) x)
+line_at above [] p l at = let no : None ≡ Some l = at in cc
+line_at above (x ∷ entries) zero l at =
+    let h : Some (line_below above x) ≡ Some l = at in
+    let same : l ≡ line_below above x = cc in
+    (x, refl, same ∙ ap (λ a. line_below a x) (sym (append-nil above)))
+line_at above (x ∷ entries) (suc p) l at =
+    let h = line_at (above ++ x.event ∷ []) entries p l at in
+    (h.0, h.1, h.2 ∙ ap (λ a. line_below a h.0) (append_assoc above (x.event ∷ []) (take p (map (λ y. y.event) entries))))
+
+-- ---- the accesses to the word
+
+module _ (s : Streams) (w : Word) where
+  abbrev on : List ClockedAccess → List EventId
+  on accesses = map (λ x. (access_pair x).0) (filter (is_on w) accesses)
+
+  event_first : (e : EventId) (x : ClockedAccess) (order : List EventId) (accesses : List ClockedAccess) → IsAccess s e (bare x) → AreThose (IsOn s w) order (on accesses) → (b : Bool) → is_on w x ≡ b → AreThose (IsOn s w) (e ∷ order) (map (λ y. (access_pair y).0) (cond b (x ∷ filter (is_on w) accesses) (filter (is_on w) accesses)))
+  event_first e x order accesses of_e later true t =
+      subst (λ (d : EventId). AreThose (IsOn s w) (e ∷ order) (d ∷ on accesses)) (sym (same_event (event_of x) e of_e.item of_e.index))
+      (those.of_one (of_e.word ∙ ap Some (same_from_equal x.word w t)) later)
+  event_first e x order accesses of_e later false f =
+      those.of_other (λ is. let h : Some x.word ≡ Some w = sym of_e.word ∙ is in let v : x.word ≡ w = cc in true≢false (sym (subst (λ (u : Word). same_word x.word u ≡ true) v (equal.laws-law.refl x.word)) ∙ f)) later
+
+  -- they are those of the events of the order that access it
+  events_on : (order : List EventId) (accesses : List ClockedAccess) → AreAccesses s order accesses → AreThose (IsOn s w) order (on accesses)
+  events_on _ _ of_none = those.of_none
+  events_on _ _ (of_access {e = e} {x = x} {order = order} {accesses = accesses} of_e rest) = event_first e x order accesses of_e (events_on order accesses rest) (is_on w x) refl
+  events_on _ _ (of_other {e = e} {order = order} {accesses = accesses} none rest) = those.of_other (λ is. let no : None ≡ Some w = sym none ∙ is in cc) (events_on order accesses rest)
+
+-- a clock of an access counts of other events those that happen before it
+counted_is_before : (s : Streams) (w : Word) (e : EventId) (x : ClockedAccess) → IsAccess s e (bare x) → x.word ≡ w → (d : EventId) → d ≢ e → IsCounted x.clock d ↔ HappensBefore s (memory_of w) d e
+counted_is_before s w e x of_e word d other = (
+  λ counted. ⊎_elim
+      (λ (same : d ≡ e). absurd (other same))
+      (λ (is : HappensBefore s (memory_of x.word) d e). subst (λ (v : Word). HappensBefore s (memory_of v) d e) word is)
+      ((of_e.counts d).0 counted),
+  λ is. (of_e.counts d).1 (inr (subst (λ (v : Word). HappensBefore s (memory_of v) d e) (sym word) is)),
+)
+
+-- what the first elements of a list have at a place
+taken_at : {X : Type 0} (xs : List X) (n i : ℕ) (x : X) → slice_get (take n xs) i ≡ Some x → (i < n) × (slice_get xs i ≡ Some x)
+taken_at [] zero i x at = let no : None ≡ Some x = at in cc
+taken_at [] (suc n) i x at = let no : None ≡ Some x = at in cc
+taken_at (z ∷ xs) zero i x at = let no : None ≡ Some x = at in cc
+taken_at (z ∷ xs) (suc n) zero x at = (omega arith, at)
+taken_at (z ∷ xs) (suc n) (suc i) x at = let rest = taken_at xs n i x at in (omega (arith, rest.0), rest.1)
+
+module _ {Z : Type 0} (s : Streams) (w : Word) (entries : List (Entry Z)) (order : List EventId) (whole : IsWholeOrder s order) (accesses : List ClockedAccess) (are : AreAccesses s order accesses) (stands : AreEntriesOf w accesses entries) where
+  abbrev events : List EventId
+  events = map (λ x. x.event) entries
+
+  events_are : AreThose (IsOn s w) order events
+  events_are =
+      subst (AreThose (IsOn s w) order) (sym (firsts access_pair (filter (is_on w) accesses)) ∙ (ap (map (λ p. p.0)) (sym stands) ∙ firsts entry_pair entries))
+      (events_on s w order accesses are)
+
+  -- the access of an entry
+  record IsOfEntry (x : Entry Z) : Type 0 where
+    access : ClockedAccess
+    word : access.word ≡ w
+    clock : access.clock ≡ x.clock
+    is : IsAccess s x.event (bare access)
+
+  entry_access : (p : ℕ) (x : Entry Z) → slice_get entries p ≡ Some x → IsOfEntry x
+  entry_access p x at =
+      let paired = mapped_at access_pair (filter (is_on w) accesses) p (entry_pair x) (subst (λ (l : List (EventId × Counts)). slice_get l p ≡ Some (entry_pair x)) stands (map_at entry_pair entries p x at)) in
+      let passed = passed_at (is_on w) accesses p paired.0 paired.1 in
+      let there = event_there s order accesses paired.0 are passed.0 in
+      record {
+        access = paired.0;
+        word = same_from_equal paired.0.word w passed.1;
+        clock = ap (λ q. q.1) paired.2;
+        is = subst (λ (d : EventId). IsAccess s d (bare paired.0)) (ap (λ q. q.0) paired.2) there.1;
+      }
+
+  line_behind : (p : ℕ) (l : Line) → slice_get (lines_of entries) p ≡ Some l → (l.above ≡ p) × AreThose (λ d. HappensBefore s (memory_of w) d l.event) (take p (events_of (lines_of entries))) l.behind
+  line_behind p l at =
+      let h = line_at [] entries p l at in
+      let x = h.0 in
+      let lt : p < length events = omega (arith, within entries p x h.1, length-map entries (λ y. y.event)) in
+      let counts = above_counted x (entry_access p x h.1) (map_at (λ y. y.event) entries p x h.1) in
+      let before = those_where (IsCounted x.clock) (λ d. HappensBefore s (memory_of w) d x.event) (take p events) (filter (is_counted x.clock) (take p events)) counts (those_counted x.clock (take p events)) in
+      subst (λ (m : Line). (m.above ≡ p) × AreThose (λ d. HappensBefore s (memory_of w) d m.event) (take p (events_of (lines_of entries))) m.behind) (sym h.2) (
+        length-take-le p events (omega (arith, lt)),
+        subst (λ (all : List EventId). AreThose (λ d. HappensBefore s (memory_of w) d x.event) (take p all) (filter (is_counted x.clock) (take p events))) (sym (events_below [] entries)) before,
+      )
+    where
+      above_counted : (x : Entry Z) → IsOfEntry x → slice_get events p ≡ Some x.event → (i : ℕ) (d : EventId) → slice_get (take p events) i ≡ Some d → IsCounted x.clock d ↔ HappensBefore s (memory_of w) d x.event
+      above_counted x of_x here i d there =
+          let earlier = taken_at events p i d there in
+          let other : d ≢ x.event = λ same. omega (arith, earlier.0, those_once (IsOn s w) order events events_are whole.lawful.once i p d earlier.1 (here ∙ ap Some (sym same))) in
+          subst (λ (c : Counts). IsCounted c d ↔ HappensBefore s (memory_of w) d x.event) of_x.clock (counted_is_before s w x.event of_x.access of_x.is of_x.word d other)
+
+  pub history_of_whole : IsHistory s w (lines_of entries)
+  history_of_whole = record {
+    order = order;
+    whole = whole;
+    along = record {
+      events = subst (AreThose (IsOn s w) order) (sym (events_below [] entries)) events_are;
+      above = λ p l at. (line_behind p l at).0;
+      behind = λ p l at. (line_behind p l at).1;
+    };
   }
-
-  other_along : (old new : List EventId) (e : EventId) → new ≡ old ++ e ∷ [] → word_at s e ≢ Some w → IsAlong s w old lines → IsAlong s w new lines
-  other_along old new e order is_not along = record {
-    events = subst (λ (l : List EventId). AreThose (IsOn s w) l (events_of lines)) (sym order) (other_more (IsOn s w) old (events_of lines) e along.events is_not);
-    above = along.above;
-    behind = along.behind;
-  }
-
--- ---- one line more
-
-module _ {Z : Type 0} (s : Streams) (w : Word) (old : List EventId) (e : EventId) (new : List EventId) (handles : Handles s old e new) (a : Access Z) (of_e : IsAccess s e a) (word : a.word ≡ w) (before : List Line) (along : IsAlong s w old before) where
-  -- what stands above is no later event, and not this one
-  above_differs : (i : ℕ) (d : EventId) → slice_get (events_of before) i ≡ Some d → d ≢ e
-  above_differs i d at same = handles.ready.fresh (subst (λ (x : EventId). IsIn old x) same (those_within (IsOn s w) old (events_of before) i d along.events at))
-
-  counted_is_before : (i : ℕ) (d : EventId) → slice_get (events_of before) i ≡ Some d → IsCounted a.clock d ↔ HappensBefore s (memory_of w) d e
-  counted_is_before i d at = (
-    λ counted. ⊎_elim
-        (λ (same : d ≡ e). absurd (above_differs i d at same))
-        (λ (is : HappensBefore s (memory_of a.word) d e). subst (λ (v : Word). HappensBefore s (memory_of v) d e) word is)
-        ((of_e.counts d).0 counted),
-    λ is. (of_e.counts d).1 (inr (subst (λ (v : Word). HappensBefore s (memory_of v) d e) (sym word) is)),
-  )
-
-  module _ (after : List Line) (added : IsAdded e a.clock before after) where
-    abbrev line : Line
-    line = record { event = e; above = length before; behind = added.behind }
-
-    events_more : events_of after ≡ events_of before ++ e ∷ []
-    events_more = ap events_of added.pushed ∙ map-append (λ l. l.event) before (line ∷ [])
-
-    above_last : take (length before) (events_of after) ≡ events_of before
-    above_last =
-        let here : take (length (events_of before)) (events_of before ++ e ∷ []) ≡ events_of before = take-append_seam (events_of before) (e ∷ []) in
-        let there : take (length before) (events_of before ++ e ∷ []) ≡ events_of before = subst (λ (n : ℕ). take n (events_of before ++ e ∷ []) ≡ events_of before) (length-map before (λ l. l.event)) here in
-        ap (take (length before)) events_more ∙ there
-
-    above_earlier : (p : ℕ) → p < length before → take p (events_of after) ≡ take p (events_of before)
-    above_earlier p lt =
-        let within : p ≤ length (events_of before) = omega (arith, lt, length-map before (λ l. l.event)) in
-        ap (take p) events_more ∙ take-append-le p (events_of before) (e ∷ []) within
-
-    abbrev Behind : ℕ → Line → Type 0
-    Behind p l = AreThose (λ d. HappensBefore s (memory_of w) d l.event) (take p (events_of after)) l.behind
-
-    last_behind : Behind (length before) line
-    last_behind =
-        subst (λ (above : List EventId). AreThose (λ d. HappensBefore s (memory_of w) d e) above added.behind) (sym above_last)
-        (those_where (IsCounted a.clock) (λ d. HappensBefore s (memory_of w) d e) (events_of before) added.behind counted_is_before added.counted)
-
-    added_behind : (p : ℕ) (l : Line) → slice_get after p ≡ Some l → Behind p l
-    added_behind p l at = ⊎_elim
-        (λ (inside : (p < length before) × (slice_get before p ≡ Some l)).
-        subst (λ (above : List EventId). AreThose (λ d. HappensBefore s (memory_of w) d l.event) above l.behind) (sym (above_earlier p inside.0)) (along.behind p l inside.1))
-        (λ (last : (p ≡ length before) × (l ≡ line)).
-        subst (λ (q : ℕ). Behind q l) (sym last.0) (subst (λ (m : Line). Behind (length before) m) (sym last.1) last_behind))
-        (last_cases before line p l (subst (λ (lines : List Line). slice_get lines p ≡ Some l) added.pushed at))
-
-    added_above : (p : ℕ) (l : Line) → slice_get after p ≡ Some l → l.above ≡ p
-    added_above p l at = ⊎_elim
-        (λ (inside : (p < length before) × (slice_get before p ≡ Some l)). along.above p l inside.1)
-        (λ (last : (p ≡ length before) × (l ≡ line)). ap (λ (m : Line). m.above) last.1 ∙ sym last.0)
-        (last_cases before line p l (subst (λ (lines : List Line). slice_get lines p ≡ Some l) added.pushed at))
-
-    added_along : IsAlong s w new after
-    added_along = record {
-      events =
-          subst (λ (order : List EventId). AreThose (IsOn s w) order (events_of after)) (sym handles.order)
-          (subst (λ (events : List EventId). AreThose (IsOn s w) (old ++ e ∷ []) events) (sym events_more)
-          (those_more (IsOn s w) old (events_of before) e along.events (of_e.word ∙ ap Some word)));
-      above = added_above;
-      behind = added_behind;
-    }
-
--- ---- a step
-
-module _ (s : Streams) (w : Word) (before after : List Line) where
-  access_along : {Z : Type 0} (old new : List EventId) (e : EventId) (a : Access Z) → Handles s old e new → IsAccess s e a → ((a.word ≡ w) × IsAdded e a.clock before after) ⊎ ((a.word ≢ w) × (after ≡ before)) → IsAlong s w old before → IsAlong s w new after
-  access_along old new e a handles of_e adds along = ⊎_elim
-      (λ (one : (a.word ≡ w) × IsAdded e a.clock before after). added_along s w old e new handles a of_e one.0 before along after one.1)
-      (λ (other : (a.word ≢ w) × (after ≡ before)).
-      subst (λ (lines : List Line). IsAlong s w new lines) (sym other.1)
-      (other_along s w before old new e handles.order (λ is. let h : Some a.word ≡ Some w = sym of_e.word ∙ is in let same : a.word ≡ w = cc in other.0 same) along))
-      adds
-
-  none_along : (old new : List EventId) (e : EventId) → Handles s old e new → word_at s e ≡ None → after ≡ before → IsAlong s w old before → IsAlong s w new after
-  none_along old new e handles none same along =
-      subst (λ (lines : List Line). IsAlong s w new lines) (sym same)
-      (other_along s w before old new e handles.order (λ is. let no : None ≡ Some w = sym none ∙ is in cc) along)
-
--- a history stays so where a step is made
-pub along_step : {Z : Type 0} (s : Streams) (w : Word) (old new : Sequence) (step : Handled Z) (before after : List Line) → old.taken ≡ s → IsStep old new step → AddsStep w step before after → IsAlong s w old.handled before → IsAlong s w new.handled after
-along_step s w old new (One e (Some a)) before after taken h adds along =
-    access_along s w before after old.handled new.handled e a
-    (subst (λ (t : Streams). Handles t old.handled e new.handled) taken h.0.handles)
-    (subst (λ (t : Streams). IsAccess t e a) (h.0.taken ∙ taken) h.1) adds along
-along_step s w old new (One e None) before after taken h adds along =
-    none_along s w before after old.handled new.handled e
-    (subst (λ (t : Streams). Handles t old.handled e new.handled) taken h.0.handles)
-    (subst (λ (t : Streams). word_at t e ≡ None) (h.0.taken ∙ taken) h.1) adds along
-along_step s w old new (Meet g k) before after taken h adds along =
-    subst (λ (lines : List Line). IsAlong s w new.handled lines) (sym adds)
-    (others_along s w before old.handled h.meets.barriers new.handled h.meets.order
-    (λ i d at is. let no : None ≡ Some w = sym (subst (λ (t : Streams). word_at t d ≡ None) taken (barrier_has_none old.taken g k d (h.meets.are.each i d at).1)) ∙ is in cc)
-    along)
-
--- along no events there are no lines
-pub none_along_none : (s : Streams) (w : Word) → IsAlong s w [] []
-none_along_none s w = record { events = of_none; above = λ p l at. let no : None ≡ Some l = at in cc; behind = λ p l at. let no : None ≡ Some l = at in cc }
-
--- where no step is left, the order is one of all grounded events
-pub history_at_rest : (s : Streams) (w : Word) (q : Sequence) (lines : List Line) → q.taken ≡ s → IsDone q → IsLawful q.taken q.handled → IsAlong s w q.handled lines → IsHistory s w lines
-history_at_rest s w q lines taken done lawful along =
-    let grounded = subst (λ (t : Streams). AreGrounded t q.handled) taken done.grounded in
-    record {
-      order = q.handled;
-      whole = record { lawful = subst (λ (t : Streams). IsLawful t q.handled) taken lawful; whole = λ e is. (grounded e).1 is };
-      along = along;
-    }
-
--- nothing changed where no step was made
-pub same_where_none : {Z : Type 0} (o : Option (Handled Z)) (q r : Sequence) → ((step : Handled Z) → o ≡ Some step → ⊥) → MatchOption o (r ≡ q) (λ step. IsStep q r step) → r ≡ q
-same_where_none None q r none is = is
-same_where_none (Some step) q r none is = absurd (none step refl)

@@ -1,34 +1,8 @@
 -- The elements of a list of which something is so, where the list grows.
-use Rattle.std.proofs.Common.{◌≡◌, ◌↔◌, ℕ, zero, suc, List, [], ◌∷◌, ◌++◌, Some, None, ap, append-nil, arith, refl, slice_get, subst, sym}
+use Rattle.std.proofs.Common.{◌≡◌, ◌↔◌, ℕ, zero, suc, List, Some, None, ap, arith, refl, slice_get, subst, sym}
 use Rattle.gr_timeline.specs.Selections.{AreThose, of_none, of_one, of_other}
 
 module _ {X : Type 0} (P : X → Type 0) where
-  -- those of two lists, one after the other
-  pub those_after : (xs ys those others : List X) → AreThose P xs those → AreThose P ys others → AreThose P (xs ++ ys) (those ++ others)
-  those_after _ ys _ others of_none behind = behind
-  those_after _ ys _ others (of_one {xs = xs} {those = those} is rest) behind = of_one is (those_after xs ys those others rest behind)
-  those_after _ ys _ others (of_other {xs = xs} {those = those} is_not rest) behind = of_other is_not (those_after xs ys those others rest behind)
-
-  -- with one more
-  pub those_more : (xs those : List X) (x : X) → AreThose P xs those → P x → AreThose P (xs ++ x ∷ []) (those ++ x ∷ [])
-  those_more xs those x are is = those_after xs (x ∷ []) those (x ∷ []) are (of_one is of_none)
-
-  none_of : (xs : List X) → ((i : ℕ) (x : X) → slice_get xs i ≡ Some x → ¬ P x) → AreThose P xs []
-  none_of [] are_not = of_none
-  none_of (x ∷ xs) are_not = of_other (are_not 0 x refl) (none_of xs (λ i y at. are_not (suc i) y at))
-
-  -- with others
-  pub others_more : (xs others those : List X) → AreThose P xs those → ((i : ℕ) (x : X) → slice_get others i ≡ Some x → ¬ P x) → AreThose P (xs ++ others) those
-  others_more xs others those are are_not =
-      subst (λ (l : List X). AreThose P (xs ++ others) l) (append-nil those) (those_after xs others those [] are (none_of others are_not))
-
-  alone : (Q : X → Type 0) (x : X) → ¬ Q x → (i : ℕ) (y : X) → slice_get (x ∷ []) i ≡ Some y → ¬ Q y
-  alone Q x is_not zero y at = let h : Some x ≡ Some y = at in let same : x ≡ y = cc in subst (λ z. ¬ Q z) same is_not
-  alone Q x is_not (suc i) y at = let no : None ≡ Some y = at in cc
-
-  pub other_more : (xs those : List X) (x : X) → AreThose P xs those → ¬ P x → AreThose P (xs ++ x ∷ []) those
-  other_more xs those x are is_not = others_more xs (x ∷ []) those are (alone P x is_not)
-
   -- each of those is an element of the list
   pub those_within : (xs those : List X) (i : ℕ) (x : X) → AreThose P xs those → slice_get those i ≡ Some x → (p : ℕ) × (slice_get xs p ≡ Some x)
   those_within _ _ i x of_none at = let no : None ≡ Some x = at in cc

@@ -1,5 +1,5 @@
 -- What is shown of a history.
-use Rattle.std.proofs.Common.{◌≡◌, ◌↔◌, ◌∙◌, ℕ, ◌+◌, Bool, length, true, codes, Contains, List, ◌++◌, Option, Some, ap, ap₂, option_map, slice_get, sym}
+use Rattle.std.proofs.Common.{◌≡◌, ◌↔◌, ◌∙◌, ◌+◌, Bool, length, true, Contains, List, ap, sym}
 use Rattle.std.specs.List.{IsDistinct, list_any}
 use Rattle.std.specs.Map.{keys_of}
 use Rattle.std.proofs.lemmas.List.{length-map}

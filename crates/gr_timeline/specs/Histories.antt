@@ -1,16 +1,17 @@
 -- The accesses to one word of a launch, in an order in which they can be handled, each with those that happen before it.
 -- Source: docs/MODEL.md, "Lawful orders" and "Happens-before".
-use Rattle.std.specs.Prelude.{◌≡◌, ◌≢◌, ◌⊎◌, ℕ, ◌<◌, Bool, List, [], ◌∷◌, ◌++◌, None, Some, filter, length, map, nat_lt, slice_get, take}
+use Rattle.std.specs.Prelude.{◌≡◌, ℕ, ◌<◌, Bool, List, [], ◌∷◌, ◌++◌, Some, filter, length, map, nat_lt, slice_get, take}
 use Rattle.gr_model.specs.declared.event.EventId.{EventId}
 use Rattle.gr_model.specs.declared.event.Word.{Word}
 use Rattle.gr_model.specs.Access.{memory_of}
 use Rattle.gr_model.specs.HappensBefore.{HappensBefore}
 use Rattle.gr_model.specs.LawfulOrders.{IsWholeOrder}
 use Rattle.gr_model.specs.Streams.{Streams}
+use Rattle.gr_clocks.specs.ClockedAccess.{ClockedAccess}
 use Rattle.gr_clocks.specs.Counts.{Counts, count_of}
 use Rattle.gr_accesses.specs.Accesses.{IsOn}
-use Rattle.gr_sequencer.specs.declared.handled.Handled.{Handled}
-use Rattle.gr_sequencer.specs.declared.handled.Handled.TheVariants.{One, Meet}
+use Rattle.gr_shadow.specs.Clashes.{event_of}
+use Rattle.gr_shadow.specs.Kept.{same_word}
 use Rattle.gr_timeline.specs.declared.entry.Entry.{Entry}
 use Rattle.gr_timeline.specs.Selections.{AreThose}
 
@@ -54,16 +55,15 @@ pub record IsHistory (s : Streams) (w : Word) (lines : List Line) : Type 0 where
   pub whole : IsWholeOrder s order
   pub along : IsAlong s w order lines
 
--- ---- one access more
+-- ---- the accesses that come
 
--- an access is added, with those above it that a clock counts
-pub record IsAdded (e : EventId) (c : Counts) (old new : List Line) : Type 0 where
-  pub behind : List EventId
-  pub counted : AreThose (IsCounted c) (events_of old) behind
-  pub pushed : new ≡ old ++ record { event = e; above = length old; behind = behind } ∷ []
+-- an event and its clock
+abbrev pub entry_pair : {Z : Type 0} → Entry Z → EventId × Counts
+entry_pair x = (x.event, x.clock)
 
--- what a step adds: its access, if it has one and that is of the word, and else nothing
-abbrev pub AddsStep : {Z : Type 0} → Word → Handled Z → List Line → List Line → Type 0
-AddsStep w (One e (Some a)) old new = ((a.word ≡ w) × IsAdded e a.clock old new) ⊎ ((a.word ≢ w) × (new ≡ old))
-AddsStep w (One e None) old new = new ≡ old
-AddsStep w (Meet g k) old new = new ≡ old
+abbrev pub access_pair : ClockedAccess → EventId × Counts
+access_pair x = (event_of x, x.clock)
+
+-- entries are those of the accesses to the word, in their order
+abbrev pub AreEntriesOf : {Z : Type 0} → Word → List ClockedAccess → List (Entry Z) → Type 0
+AreEntriesOf w accesses entries = map entry_pair entries ≡ map access_pair (filter (λ x. same_word x.word w) accesses)

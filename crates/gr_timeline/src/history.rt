@@ -1,38 +1,55 @@
 //! The accesses to one word of a launch, in an order in which they can be handled.
 
-ghost use Rattle.std.specs.Prelude.{◌≡◌, [], IfOk};
-ghost use Rattle.gr_timeline.specs.Histories.{IsHistory, lines_of};
+ghost use Rattle.std.specs.Prelude.{◌∷◌, ◌++◌, [], IfOk, List, OnOk};
+ghost use Rattle.gr_clocks.specs.ClockedAccess.{ClockedAccess, clocked};
+ghost use Rattle.gr_timeline.specs.Histories.{AreEntriesOf, IsHistory, lines_of};
 
 use crate::entry::Entry;
-use crate::handling::handle_all;
-use gr_explain::sequencing::take_all;
-use gr_model::event::Word;
+use gr_clocks::access::Access;
+use gr_model::event::{EventId, Word};
 use gr_model::memory::Memory;
 use gr_model::traces::Traces;
-use gr_sequencer::sequencer::Sequencer;
+use gr_taking::keeper::Keeper;
+use gr_taking::taking::follow;
 use std::alloc::Allocator;
 
-/// The history of a word of the launch whose records a sequencer has taken, and of which it has handled nothing.
-///
-/// # Errors
-/// `Memory`: out of memory.
-fn entries_of<A: Allocator + Copy>(
-    alloc: A,
-    sequencer: &mut Sequencer<A>,
+/// Keeps the accesses to a word.
+#[derive(Clone, Copy, Debug)]
+struct WordKeeper {
     word: Word,
-) -> Result<Vec<Entry<A>, A>, Memory>
-    requires { sequencer.old.handled ≡ [] }
-    ensures { IfOk result (λ entries. IsHistory sequencer.old.taken word (lines_of entries.items)) }
-{
-    let mut entries = Vec::new(alloc);
-    handle_all(sequencer, &mut entries, word)?;
-    Ok(entries)
+}
+
+impl<A: Allocator + Copy> Keeper<A> for WordKeeper {
+    type Kept = Vec<Entry<A>, A>;
+
+    ghost stands = { λ keeper accesses entries. AreEntriesOf keeper.word accesses entries.items };
+
+    fn add(&self, kept: &mut Vec<Entry<A>, A>, access: &Access<A>) -> Result<(), Memory>
+        ensures { OnOk result ((accesses : List ClockedAccess) → AreEntriesOf self.now.word accesses kept.old.items → AreEntriesOf self.now.word (accesses ++ clocked access.now ∷ []) kept.new.items) }
+    {
+        if access.word == self.word {
+            let event = EventId {
+                at: access.item,
+                index: access.index,
+            };
+            let Ok(clock) = access.clock.copy() else {
+                return Err(Memory);
+            };
+            kept.push(Entry { event, clock })?;
+        }
+        Ok(())
+    }
+
+    fn close(&self, _kept: &mut Vec<Entry<A>, A>, _group: u16)
+        ensures { (accesses : List ClockedAccess) → AreEntriesOf self.now.word accesses _kept.old.items → AreEntriesOf self.now.word accesses _kept.new.items }
+    {}
 }
 
 /// The accesses to a word that are grounded, each once, in a lawful order of the launch, and each with those above it that
 /// happen before it.
 ///
-/// It handles the events of the launch once. Time and memory grow with the events: which accesses happen before one is in its clock.
+/// It handles the events of the launch once. Its time grows with the events, its memory with the accesses to the word and with the
+/// events that wait for others: which accesses happen before one is in its clock.
 ///
 /// # Errors
 /// `Memory`: out of memory.
@@ -43,6 +60,7 @@ pub fn history_of<A: Allocator + Copy>(
 ) -> Result<Vec<Entry<A>, A>, Memory>
     ensures { IfOk result (λ entries. IsHistory traces.now word (lines_of entries.items)) }
 {
-    let mut sequencer = take_all(alloc, traces)?;
-    entries_of(alloc, &mut sequencer, word)
+    let mut entries = Vec::new(alloc);
+    follow(alloc, traces, &WordKeeper { word }, &mut entries)?;
+    Ok(entries)
 }

@@ -3,7 +3,6 @@
 #![tactic(auto)]
 
 pub mod entry;
-mod handling;
 pub mod history;
 pub mod standing;
 pub mod told;

@@ -4,7 +4,8 @@ use Rattle.gr_model.specs.declared.event.Event.{Event}
 use Rattle.gr_model.specs.Streams.{Streams, list_of}
 use Rattle.std.proofs.lemmas.Result.{err_from_is_err_and}
 use Rattle.gr_backlog.specs.Waiting.{Coming}
-use Rattle.gr_intake.specs.Sequencing.{AreTakenFrom, with_list}
+use Rattle.gr_intake.specs.Sequencing.{AreTakenFrom}
+use Rattle.gr_taking.specs.Taken.{with_list}
 use Rattle.gr_intake.proofs.Rounds.{fewer_wait, next_can, next_good, next_header, next_room, next_taken}
 use Rattle.gr_intake.proofs.waiting.take_some.Goals as goal
 
@@ -43,7 +44,7 @@ loop-preserved g c =
       some = λ _. fewer_wait s c.loop.sequencer.taken old c.loop.stream c.next.new.self h c.in-Some.event same c.requires.there c.loop.invariant.taken c.in-Some.ensures;
       none = λ none. absurd (true≢false none);
       sequence = c.in_ok-take_record-in-Some.ensures.sequence;
-      shadows = c.in_ok-take_record-in-Some.ensures.shadows;
+      shadows = c.in_ok-take_record-in-Some.ensures.along;
     }
 
 pub returns-then-is_over-clause-taken : goal.returns-then-is_over-clause-taken
@@ -64,8 +65,8 @@ loop-init g c = record {
 pub take_record-requires-clause-sequence : goal.take_record-requires-clause-sequence
 take_record-requires-clause-sequence g c = c.loop.invariant.sequence
 
-pub take_record-requires-clause-shadows : goal.take_record-requires-clause-shadows
-take_record-requires-clause-shadows g c = c.loop.invariant.shadows
+pub take_record-requires-clause-along : goal.take_record-requires-clause-along
+take_record-requires-clause-along g c = c.loop.invariant.shadows
 
 pub returns-in-None-clause-taken : goal.returns-in-None-clause-taken
 returns-in-None-clause-taken g c = subst (λ (x : Coming). AreTakenFrom c.args.sequencer.now.taken c.args.stream.now.header.group c.args.stream.now.waiting c.loop.sequencer.taken x.waiting) (sym c.in-None.ensures.1) c.loop.invariant.taken
@@ -98,7 +99,7 @@ pub returns-then-is_over-clause-sequence : goal.returns-then-is_over-clause-sequ
 returns-then-is_over-clause-sequence g c = c.in_ok-take_record-in-Some.ensures.sequence
 
 pub returns-then-is_over-clause-shadows : goal.returns-then-is_over-clause-shadows
-returns-then-is_over-clause-shadows g c = c.in_ok-take_record-in-Some.ensures.shadows
+returns-then-is_over-clause-shadows g c = c.in_ok-take_record-in-Some.ensures.along
 
 pub returns-after-loop-clause-taken : goal.returns-after-loop-clause-taken
 returns-after-loop-clause-taken g c = c.loop.invariant.taken

@@ -1,13 +1,12 @@
-use Rattle.std.proofs.Common.{ap, subst}
-use Rattle.std.specs.Prelude.{IfOk}
-use Rattle.gr_model.specs.Streams.{Streams}
-use Rattle.gr_order.specs.Sequences.{Sequence}
-use Rattle.gr_timeline.specs.Histories.{IsHistory, lines_of}
+use Rattle.std.proofs.Common.{ap, map}
+use Rattle.gr_timeline.specs.Histories.{entry_pair}
+use Rattle.gr_timeline.proofs.HistoryLemmas.{history_of_whole}
 use Rattle.gr_timeline.proofs.history.history_of.Goals as goal
 
-pub entries_of-requires : goal.entries_of-requires
-entries_of-requires g c = ap (λ (q : Sequence). q.handled) c.in_ok-sequencer.ensures
+pub follow-requires : goal.follow-requires
+follow-requires g c = ap (map entry_pair) c.new-entries.ensures.items
 
 pub returns : goal.returns
 returns g c =
-    subst (λ (s : Streams). IfOk c.entries_of.result (λ entries. IsHistory s c.args.word (lines_of entries.items))) (ap (λ (q : Sequence). q.taken) c.in_ok-sequencer.ensures) c.entries_of.ensures
+    let along = c.in_ok-follow.ensures in
+    history_of_whole c.args.traces.now c.args.word c.follow.new.kept.items along.order along.whole along.accesses along.are along.stands

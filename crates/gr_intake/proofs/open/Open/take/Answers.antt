@@ -55,8 +55,8 @@ take_record-requires-clause-room g c =
 pub take_record-requires-clause-sequence : goal.take_record-requires-clause-sequence
 take_record-requires-clause-sequence g c = c.requires.sequence
 
-pub take_record-requires-clause-shadows : goal.take_record-requires-clause-shadows
-take_record-requires-clause-shadows g c = c.requires.shadows
+pub take_record-requires-clause-along : goal.take_record-requires-clause-along
+take_record-requires-clause-along g c = c.requires.shadows
 
 pub returns-clause-sizes : goal.returns-clause-sizes
 returns-clause-sizes g c = ap (λ (x : Streams). x.sizes) c.in_ok-take_record.ensures.taken
@@ -71,7 +71,7 @@ pub returns-clause-sequence : goal.returns-clause-sequence
 returns-clause-sequence g c = c.in_ok-take_record.ensures.sequence
 
 pub returns-clause-shadows : goal.returns-clause-shadows
-returns-clause-shadows g c = c.in_ok-take_record.ensures.shadows
+returns-clause-shadows g c = c.in_ok-take_record.ensures.along
 
 pub returns-then-self-clause-come : goal.returns-then-self-clause-come
 returns-then-self-clause-come g c = waiting_comes c.args.sequencer.now.taken c.args.self.now.backlog c.push.new.self c.args.event c.in_ok-push.ensures.ok

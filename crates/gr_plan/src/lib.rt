@@ -1,0 +1,20 @@
+//! What the words of a command line name: files with several streams, folders and standard input, each opened and read as the
+//! command takes it (`plan`), and what is told beside the line of a fault (`told`).
+#![tactic(auto)]
+
+mod account;
+mod files;
+pub mod held;
+mod line;
+mod named;
+pub mod plan;
+mod progress;
+pub mod reading;
+mod seen;
+mod sited;
+mod sought;
+mod source;
+pub mod table;
+mod text_fault;
+pub mod told;
+pub mod watched;

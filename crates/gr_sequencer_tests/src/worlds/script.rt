@@ -1,0 +1,84 @@
+//! Scripts: steps, each with what is answered to it.
+
+use crate::worlds::calls::{Numbers, new, step};
+use crate::worlds::records::Record;
+use crate::worlds::told::{Told, reported};
+use gr_model::event::ItemId;
+use gr_world::step::{Step, StepError};
+use gr_world::world::World;
+use std::alloc::Allocator;
+
+/// A step as the scripts have it: what is sent is a record of the tables.
+#[derive(Clone, Copy)]
+pub(crate) enum Tried {
+    Send(u16, Record),
+    Close(u16, bool),
+    Take(u16),
+    Handle(ItemId),
+    Meet(u16),
+    Pass,
+    WorkTake(u16),
+}
+
+impl Tried {
+    /// The step, or `None` where no acquire may have the names of what is sent.
+    fn step(self) -> Option<Step> {
+        Some(match self {
+            Tried::Send(group, record) => Step::Send(group, record.event()?),
+            Tried::Close(group, cut) => Step::Close(group, cut),
+            Tried::Take(queue) => Step::Take(queue),
+            Tried::Handle(item) => Step::Handle(item),
+            Tried::Meet(group) => Step::Meet(group),
+            Tried::Pass => Step::Pass,
+            Tried::WorkTake(worker) => Step::WorkTake(worker),
+        })
+    }
+}
+
+/// A step, and what is answered to it.
+pub(crate) type Line = (Tried, Result<(), StepError>);
+
+/// A script of steps, which begins with a new world.
+#[derive(Clone, Copy)]
+pub(crate) struct Script {
+    pub(crate) name: &'static str,
+    /// The sizes of the groups.
+    pub(crate) sizes: &'static [u16],
+    pub(crate) numbers: Numbers,
+    pub(crate) lines: &'static [Line],
+    /// How many of the steps are refused.
+    pub(crate) refused: u64,
+    /// What is reported at the end, or `None` where the world is not at rest then.
+    pub(crate) told: Option<Told>,
+}
+
+/// The steps of a script, or `None` if out of memory.
+pub(crate) fn steps_of<A: Allocator>(alloc: A, script: &Script) -> Option<Vec<Step, A>> {
+    let mut steps = Vec::new(alloc);
+    for (tried, _) in script.lines {
+        steps.push(tried.step()?).ok()?;
+    }
+    Some(steps)
+}
+
+/// The place of the first line whose step is answered otherwise, if there is one.
+fn first_wrong_line<A: Allocator + Copy>(world: &mut World<A>, lines: &[Line]) -> Option<usize> {
+    for (place, (tried, answer)) in lines.iter().enumerate() {
+        let told = tried.step().and_then(|tried| step(world, tried));
+        if told != Some(*answer) {
+            return Some(place);
+        }
+    }
+    None
+}
+
+/// How a script went: the place of the first line with another answer, if there is one, and what was reported at the
+/// end, if the world was at rest.
+pub(crate) type Outcome = (Option<usize>, Option<Told>);
+
+/// How a script went, or `None` where there is no world.
+pub(crate) fn went<A: Allocator + Copy>(alloc: A, script: &Script) -> Option<Outcome> {
+    let mut world = new(alloc, script.sizes, script.numbers)?;
+    let wrong = first_wrong_line(&mut world, script.lines);
+    Some((wrong, reported(&world)))
+}

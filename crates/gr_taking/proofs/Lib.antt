@@ -1,0 +1,3 @@
+mod EventLists
+pub mod TakenLists
+mod StepLemmas

@@ -1,0 +1,54 @@
+//! All events that can be handled, and their accesses.
+
+ghost use Rattle.std.specs.Prelude.{◌≡◌, ◌++◌, List, OnOk};
+ghost use Rattle.gr_order.specs.Sequences.{IsDone, IsSequence};
+ghost use Rattle.gr_clocks.specs.ClockedAccess.{ClockedAccess};
+ghost use Rattle.gr_taking.specs.Along.{accesses_of, IsAlong};
+
+use crate::keeper::Keeper;
+use gr_model::memory::Memory;
+use gr_sequencer::handled::Handled;
+use gr_sequencer::sequencer::Sequencer;
+use std::alloc::Allocator;
+
+/// Has a keeper add the access of a step, if it has one.
+///
+/// # Errors
+/// `Memory`: out of memory.
+#[inline(always)]
+pub(crate) fn give<A: Allocator, K: Keeper<A>>(
+    keeper: &K,
+    kept: &mut K::Kept,
+    step: Handled<A>,
+) -> Result<(), Memory>
+    ensures { OnOk result ((accesses : List ClockedAccess) → K.stands keeper.now accesses kept.old → K.stands keeper.now (accesses ++ accesses_of step) kept.new) }
+{
+    match step {
+        Handled::One {
+            event: _,
+            access: Some(access),
+        } => keeper.add(kept, &access),
+        _ => Ok(()),
+    }
+}
+
+/// Handles all events that can be handled, and has a keeper add their accesses.
+///
+/// # Errors
+/// `Memory`: out of memory.
+pub fn handle_ready<A: Allocator + Copy, K: Keeper<A>>(
+    sequencer: &mut Sequencer<A>,
+    keeper: &K,
+    kept: &mut K::Kept,
+) -> Result<(), Memory>
+    requires { IsAlong (K.stands keeper.now) sequencer.old kept.old }
+    ensures taken { OnOk result (sequencer.new.taken ≡ sequencer.old.taken) }
+    ensures done { OnOk result (IsDone sequencer.new) }
+    ensures sequence { OnOk result (IsSequence sequencer.new) }
+    ensures along { OnOk result (IsAlong (K.stands keeper.now) sequencer.new kept.new) }
+{
+    while let Some(step) = sequencer.step()? {
+        give(keeper, kept, step)?;
+    }
+    Ok(())
+}

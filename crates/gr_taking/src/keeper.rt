@@ -1,0 +1,54 @@
+//! What is kept of the accesses of a launch.
+
+ghost use Rattle.std.specs.Prelude.{◌++◌, ◌∷◌, [], List, OnOk};
+ghost use Rattle.gr_clocks.specs.ClockedAccess.{ClockedAccess, clocked};
+ghost use Rattle.gr_shadow.specs.Launches.{StandsForLaunch};
+
+use gr_clocks::access::Access;
+use gr_model::memory::Memory;
+use gr_shadow::launch::LaunchShadows;
+use std::alloc::Allocator;
+
+/// What keeps something of the accesses of a launch, which come one after another along the order in which its events are handled.
+pub trait Keeper<A: Allocator> {
+    /// What is kept of them.
+    type Kept;
+
+    // this is kept of these accesses
+    ghost stands: { Self → List ClockedAccess → Self.Kept → Type 0 };
+
+    /// Adds an access, which comes after all others.
+    ///
+    /// # Errors
+    /// `Memory`: out of memory.
+    fn add(&self, kept: &mut Self::Kept, access: &Access<A>) -> Result<(), Memory>
+        ensures { OnOk result ((accesses : List ClockedAccess) → stands self.now accesses kept.old → stands self.now (accesses ++ clocked access.now ∷ []) kept.new) };
+
+    /// A group has ended: no access to its local words comes any more.
+    fn close(&self, kept: &mut Self::Kept, group: u16)
+        ensures { (accesses : List ClockedAccess) → stands self.now accesses kept.old → stands self.now accesses kept.new };
+}
+
+/// Keeps the shadows of all words.
+#[derive(Clone, Copy, Debug)]
+pub struct ShadowKeeper;
+
+impl<A: Allocator + Copy> Keeper<A> for ShadowKeeper {
+    type Kept = LaunchShadows<A>;
+
+    ghost stands = { λ keeper accesses shadows. StandsForLaunch accesses shadows };
+
+    #[inline(always)]
+    fn add(&self, kept: &mut LaunchShadows<A>, access: &Access<A>) -> Result<(), Memory>
+        ensures { OnOk result ((accesses : List ClockedAccess) → StandsForLaunch accesses kept.old → StandsForLaunch (accesses ++ clocked access.now ∷ []) kept.new) }
+    {
+        kept.apply(access)?;
+        Ok(())
+    }
+
+    fn close(&self, kept: &mut LaunchShadows<A>, group: u16)
+        ensures { (accesses : List ClockedAccess) → StandsForLaunch accesses kept.old → StandsForLaunch accesses kept.new }
+    {
+        kept.close(group);
+    }
+}
