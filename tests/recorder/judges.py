@@ -49,7 +49,9 @@ class Judges(unittest.TestCase):
 
     def end(self, more=""):
         """As the recorder does when the last group has ended."""
-        (self.folder / "info.txt").write_text(info("sums", 0, more=more))
+        part = self.folder / "info.part"
+        part.write_text(info("sums", 0, more=more))
+        part.rename(self.folder / "info.txt")
         (self.folder / "begun.txt").unlink()
         self.judge.finish()
         launch, = self.report.launches

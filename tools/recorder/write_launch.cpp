@@ -3,6 +3,7 @@
 #include "launch.h"
 
 #include <cerrno>
+#include <cstdio>
 #include <cstring>
 #include <fstream>
 #include <future>
@@ -221,11 +222,11 @@ private:
     }
 
     bool write_info(const std::string &refusal) {
-        std::ofstream out(folder_ + "/info.txt");
+        std::ofstream out(folder_ + "/info.part");
         out << shape_lines(launch_.kernel, launch_.number, launch_.global.all(), launch_.local.all(), launch_.groups.all(), test_label());
         if (!refusal.empty()) {
             out << "not-recorded " << refusal << '\n';
-            return out.flush().good();
+            return show_info(out);
         }
         if (launch_.window.count() < launch_.groups.count()) out << launch_.window.lines();
         out << "items " << items_ << "\nrecords " << records_ << '\n';
@@ -234,7 +235,12 @@ private:
             if (group.is_kept && group.has_copies)
                 out << "copying-item " << launch_.window.number_of(number) << ' ' << group.items << '\n';
         write_losses(out);
-        return out.flush().good();
+        return show_info(out);
+    }
+    // It is there as a whole: who judges beside the program looks for it.
+    bool show_info(std::ofstream &out) const {
+        out.close();
+        return out.good() && std::rename((folder_ + "/info.part").c_str(), (folder_ + "/info.txt").c_str()) == 0;
     }
     void write_losses(std::ostream &out) const {
         const Losses &losses = launch_.losses;
