@@ -30,7 +30,7 @@ use gr_lanes::seq_error::SeqError;
 use gr_model::event::{Event, EventId, ItemId, Name};
 use gr_model::memory::Memory;
 use gr_model::shape::Shape;
-use gr_order::order::Order;
+use gr_order::schedule::Schedule;
 use gr_order::steps::Ready;
 use std::alloc::{Allocator, Global};
 use std::marker::Model;
@@ -39,7 +39,7 @@ use std::marker::Model;
 #[derive(Drop)]
 #[derive_where(Debug)]
 pub struct Agenda<A: Allocator = Global> {
-    order: Order<A>,
+    order: Schedule<A>,
     worklist: Worklist<A>,
     waiting: Vec<Vec<ItemId, A>, A>,
     /// Of each group an instance that is known not to be divergent, if one is.
@@ -58,7 +58,7 @@ impl<A: Allocator> Model for Agenda<A> {
 }
 
 /// The name of an event, if it is a release.
-fn name_of<A: Allocator>(order: &Order<A>, event: EventId) -> Option<Name>
+fn name_of<A: Allocator>(order: &Schedule<A>, event: EventId) -> Option<Name>
     ensures { (n : AnyName) → n.at ≡ event.at → release_place order.now.taken n ≡ Some event.index → result ≡ Some n }
 {
     match order.lanes().release_number(event) {
@@ -107,7 +107,7 @@ fn no_instances<A: Allocator + Copy>(alloc: A) -> Result<Vec<Option<u32>, A>, Me
 }
 
 /// Whether an item's next event is a barrier, as it is where an instance of its group may meet.
-fn is_at_barrier<A: Allocator>(order: &Order<A>, item: ItemId) -> bool
+fn is_at_barrier<A: Allocator>(order: &Schedule<A>, item: ItemId) -> bool
     ensures { CanMeet order.now.taken order.now.handled item.group → item.item < size_of order.now.taken item.group → IsTrue result }
 {
     // brings the order's frontier into the proof
@@ -119,7 +119,7 @@ fn is_at_barrier<A: Allocator>(order: &Order<A>, item: ItemId) -> bool
 }
 
 /// Puts the group of an item on the list, if the item's next event is a barrier.
-fn put_group<A: Allocator>(order: &Order<A>, worklist: &mut Worklist<A>, item: ItemId)
+fn put_group<A: Allocator>(order: &Schedule<A>, worklist: &mut Worklist<A>, item: ItemId)
     ensures there { CanMeet order.now.taken order.now.handled item.group → item.item < size_of order.now.taken item.group → Has worklist.new (Group item.group) }
     ensures keeps { KeepsSteps worklist.old worklist.new }
 {
@@ -129,7 +129,7 @@ fn put_group<A: Allocator>(order: &Order<A>, worklist: &mut Worklist<A>, item: I
 }
 
 /// Whether the release of a name was handled.
-fn is_handled<A: Allocator>(order: &Order<A>, name: Name) -> bool
+fn is_handled<A: Allocator>(order: &Schedule<A>, name: Name) -> bool
     ensures { IsTrue result ↔ IsReleaseHandled order.now.taken order.now.handled name }
 {
     let frontier = order.frontier();
@@ -140,7 +140,7 @@ fn is_handled<A: Allocator>(order: &Order<A>, name: Name) -> bool
 }
 
 /// The first of an event's names whose release was not handled, if there is one.
-fn first_unhandled<A: Allocator>(order: &Order<A>, event: &Event) -> Option<Name>
+fn first_unhandled<A: Allocator>(order: &Schedule<A>, event: &Event) -> Option<Name>
     ensures { MatchOption result (All (IsReleaseHandled order.now.taken order.now.handled) event.now.names) (λ n. Contains event.now.names n × ¬ IsReleaseHandled order.now.taken order.now.handled n) }
 {
     let names = event.names.as_slice();
@@ -153,7 +153,7 @@ fn first_unhandled<A: Allocator>(order: &Order<A>, event: &Event) -> Option<Name
 }
 
 /// A name by which an item's next event is held up, if there is one.
-fn named_by<A: Allocator>(order: &Order<A>, item: ItemId) -> Option<Name>
+fn named_by<A: Allocator>(order: &Schedule<A>, item: ItemId) -> Option<Name>
     ensures { (d : AnyEvent) (n : AnyName) → IsHeldUp order.now.taken order.now.handled d n → d.at ≡ item → IsSomeAnd result (IsHeldUp order.now.taken order.now.handled d) }
 {
     // brings the order's frontier into the proof
@@ -165,13 +165,13 @@ fn named_by<A: Allocator>(order: &Order<A>, item: ItemId) -> Option<Name>
 }
 
 /// Whether a step is that of an item whose every event was handled: it can't be made, and nothing holds it up.
-fn is_idle<A: Allocator>(order: &Order<A>, step: Ready) -> bool
+fn is_idle<A: Allocator>(order: &Schedule<A>, step: Ready) -> bool
     ensures none { IsTrue result → ¬ CanMake order.now step }
     ensures free { IsTrue result → (d : AnyEvent) (n : AnyName) → Item d.at ≡ step → ¬ IsHeldUp order.now.taken order.now.handled d n }
 {
-    // brings the order's frontier and its invariant into the proof
+    // brings the order's frontier into the proof
     let _frontier = order.frontier();
-    let _taken = order.lanes();
+    order.sequence_holds();
     match step {
         Ready::Group(_) => false,
         Ready::Item(item) => order.waiting(item).is_none(),
@@ -179,7 +179,7 @@ fn is_idle<A: Allocator>(order: &Order<A>, step: Ready) -> bool
 }
 
 /// Puts an item on the list, if one of its events waits.
-fn put_if_pending<A: Allocator>(order: &Order<A>, worklist: &mut Worklist<A>, item: ItemId)
+fn put_if_pending<A: Allocator>(order: &Schedule<A>, worklist: &mut Worklist<A>, item: ItemId)
     ensures there { IsPending order.now item → Has worklist.new (Item item) }
     ensures keeps { KeepsSteps worklist.old worklist.new }
 {
@@ -190,7 +190,12 @@ fn put_if_pending<A: Allocator>(order: &Order<A>, worklist: &mut Worklist<A>, it
 }
 
 /// Puts those of a group's first items on the list of whose events some waits.
-fn put_pending<A: Allocator>(order: &Order<A>, worklist: &mut Worklist<A>, group: u16, items: u16)
+fn put_pending<A: Allocator>(
+    order: &Schedule<A>,
+    worklist: &mut Worklist<A>,
+    group: u16,
+    items: u16,
+)
     ensures there { (k : ℕ) → k < items → IsPending order.now (record { group = group; item = k }) → Has worklist.new (Item (record { group = group; item = k })) }
     ensures keeps { KeepsSteps worklist.old worklist.new }
 {
@@ -204,7 +209,7 @@ fn put_pending<A: Allocator>(order: &Order<A>, worklist: &mut Worklist<A>, group
 /// # Errors
 /// `Memory`: out of memory.
 fn note<A: Allocator>(
-    order: &Order<A>,
+    order: &Schedule<A>,
     lists: &mut Vec<Vec<ItemId, A>, A>,
     step: Ready,
 ) -> Result<(), Memory>
@@ -221,7 +226,7 @@ fn note<A: Allocator>(
 }
 
 /// The number among its barriers of an item's next event, if it is one.
-fn next_barrier<A: Allocator>(order: &Order<A>, item: ItemId) -> Option<u32>
+fn next_barrier<A: Allocator>(order: &Schedule<A>, item: ItemId) -> Option<u32>
     ensures { IfSome result (λ k. IsNextBarrier order.now item k) }
 {
     let frontier = order.frontier();
@@ -237,7 +242,7 @@ fn is_number(told: Option<u32>, number: u32) -> bool
 }
 
 /// Whether an item's next event is its barrier of this number.
-fn is_next_barrier<A: Allocator>(order: &Order<A>, item: ItemId, number: u32) -> bool
+fn is_next_barrier<A: Allocator>(order: &Schedule<A>, item: ItemId, number: u32) -> bool
     ensures { IsTrue result → IsNextBarrier order.now item number }
 {
     let frontier = order.frontier();
@@ -273,15 +278,14 @@ fn tell_undiverged<A: Allocator>(undiverged: &mut Vec<Option<u32>, A>, group: u1
 
 /// Notes that the instance is not divergent at whose barrier an item stands that can't go on.
 fn mark_undiverged<A: Allocator>(
-    order: &Order<A>,
+    order: &Schedule<A>,
     undiverged: &mut Vec<Option<u32>, A>,
     step: Ready,
 )
     requires { ¬ CanMake order.now step }
     ensures { AreUndiverged order.now.taken undiverged.old.items → AreUndiverged order.now.taken undiverged.new.items }
 {
-    // brings the order's invariant into the proof
-    let _taken = order.lanes();
+    order.sequence_holds();
     match step {
         Ready::Group(_) => {}
         Ready::Item(item) => match next_barrier(order, item) {
@@ -303,7 +307,7 @@ fn forget_undiverged<A: Allocator>(undiverged: &mut Vec<Option<u32>, A>, group: 
 
 /// Puts on the list what may have become ready where any item of a group may go on.
 fn wake_group<A: Allocator>(
-    order: &Order<A>,
+    order: &Schedule<A>,
     worklist: &mut Worklist<A>,
     undiverged: &mut Vec<Option<u32>, A>,
     group: u16,
@@ -328,7 +332,7 @@ impl<A: Allocator + Copy> Agenda<A> {
     pub fn new(alloc: A, shape: Shape<A>) -> Result<Agenda<A>, Memory>
         ensures { IfOk result (λ a. a ≡ nothing shape) }
     {
-        let order = Order::new(alloc, shape)?;
+        let order = Schedule::new(alloc, shape)?;
         let waiting = no_lists(alloc)?;
         Agenda::of_order(alloc, order, waiting)
     }
@@ -340,7 +344,7 @@ impl<A: Allocator + Copy> Agenda<A> {
     pub fn without_groups(alloc: A) -> Result<Agenda<A>, Memory>
         ensures { IfOk result (λ a. a ≡ nothing []) }
     {
-        let order = Order::without_groups(alloc)?;
+        let order = Schedule::without_groups(alloc)?;
         Agenda::of_order(alloc, order, Vec::new(alloc))
     }
 
@@ -350,7 +354,7 @@ impl<A: Allocator + Copy> Agenda<A> {
     /// `Memory`: out of memory.
     fn of_order(
         alloc: A,
-        order: Order<A>,
+        order: Schedule<A>,
         waiting: Vec<Vec<ItemId, A>, A>,
     ) -> Result<Agenda<A>, Memory>
         requires { order ≡ nothing order.taken.sizes }
@@ -382,8 +386,7 @@ impl<A: Allocator + Copy> Agenda<A> {
             waiting,
             undiverged,
         } = self;
-        // brings the order's invariant into the proof
-        let _taken = order.lanes();
+        order.sequence_holds();
         let order = order.with_group(alloc, group, items)?;
         let lists = filled(alloc, waiting)?;
         Ok(Agenda {
@@ -397,12 +400,11 @@ impl<A: Allocator + Copy> Agenda<A> {
 
 impl<A: Allocator> Agenda<A> {
     /// What was taken of the launch's streams, and the order in which its events were handled.
-    pub fn order(&self) -> &Order<A>
+    pub fn order(&self) -> &Schedule<A>
         ensures order { result.now ≡ self.now }
         ensures sequence { IsSequence self.now }
     {
-        // brings the order's invariant into the proof
-        let _taken = self.order.lanes();
+        self.order.sequence_holds();
         &self.order
     }
 
@@ -470,8 +472,7 @@ impl<A: Allocator> Agenda<A> {
         ensures step { HandlesEvent (taking self.old group event) (next_of self.old.taken group event) self.new }
         ensures sequence { IsSequence self.new }
     {
-        // brings the order's invariant into the proof
-        let _taken = self.order.lanes();
+        self.order.sequence_holds();
         self.order.take_at_once(group, event);
     }
 
@@ -481,8 +482,7 @@ impl<A: Allocator> Agenda<A> {
         ensures step { HandlesEvent self.old event self.new }
         ensures sequence { IsSequence self.new }
     {
-        // brings the order's invariant into the proof
-        let _taken = self.order.lanes();
+        self.order.sequence_holds();
         let released = name_of(&self.order, event);
         self.order.handle_event(event);
         self.worklist.put(Ready::Item(event.at));
@@ -499,8 +499,7 @@ impl<A: Allocator> Agenda<A> {
         ensures step { MeetsNext self.old group self.new }
         ensures sequence { IsSequence self.new }
     {
-        // brings the order's invariant into the proof
-        let _taken = self.order.lanes();
+        self.order.sequence_holds();
         self.order.meet_instance(group);
         self.worklist.put(Ready::Group(group));
         put_pending(
@@ -515,8 +514,7 @@ impl<A: Allocator> Agenda<A> {
     fn is_undiverged_at(&self, item: ItemId) -> bool
         ensures { IsTrue result → ¬ CanHandle self.now.taken self.now.handled item }
     {
-        // brings the order's invariant into the proof
-        let _taken = self.order.lanes();
+        self.order.sequence_holds();
         match undiverged_of(&self.undiverged, item.group) {
             None => false,
             Some(instance) => is_next_barrier(&self.order, item, instance),
@@ -567,8 +565,7 @@ impl<A: Allocator> Agenda<A> {
         ensures unchanged { self.new ≡ self.old }
         ensures sequence { IsSequence self.new }
     {
-        // brings the order's invariant into the proof
-        let _taken = self.order.lanes();
+        self.order.sequence_holds();
         for _ in 0..self.worklist.len() {
             match self.try_last() {
                 None => {}

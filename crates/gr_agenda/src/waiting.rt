@@ -15,12 +15,17 @@ use std::alloc::Allocator;
 /// How many lists there are.
 pub(crate) const LISTS: usize = 2048;
 
+/// How far apart the lists of two neighbouring items are, and those of an item's releases: primes, so that few share one.
+const ITEM_STEP: usize = 67;
+
+const RELEASE_STEP: usize = 257;
+
 /// The list for those that wait for the release of this name. Others may share it.
 fn bucket_of(named: Name) -> usize
     ensures { result ≡ bucket_of named }
 {
-    let item = usize::from(named.at.group) + usize::from(named.at.item) * 67;
-    (item + named.release as usize * 257) % LISTS
+    let item = usize::from(named.at.group) + usize::from(named.at.item) * ITEM_STEP;
+    (item + named.release as usize * RELEASE_STEP) % LISTS
 }
 
 /// Enters an item among those that wait for the release of this name.

@@ -1,5 +1,5 @@
 -- How many records of each kind a launch has.
--- Source: docs/FORMATS.md, "Check".
+-- Source: docs/OUTPUT.md, "check".
 use Rattle.std.specs.Prelude.{ℕ, Bool, true, false, List, length, filter, sum}
 use Rattle.std.specs.List.{sum_by}
 use Rattle.gr_model.specs.declared.event.Event.{Event}

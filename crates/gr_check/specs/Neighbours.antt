@@ -1,5 +1,5 @@
 -- The file beside which another one does not fit, by the groups that their headers say.
--- Source: docs/FORMATS.md, "Check".
+-- Source: docs/OUTPUT.md, "check".
 use Rattle.std.specs.Prelude.{ℕ, ◌+◌, Bool, false, ◌&&◌, nat_le, List, Option, None, Some, option_and_then, position, slice_get, Result, Ok, Err}
 use Rattle.gr_model.specs.declared.limits.TheConstants.{MOST_GROUPS}
 use Rattle.gr_record.specs.declared.error.RecordError.{RecordError}

@@ -1,5 +1,5 @@
 -- What the fault of files is about.
--- Source: docs/FORMATS.md, "Check".
+-- Source: docs/OUTPUT.md, "check".
 use Rattle.std.specs.Prelude.{ℕ, List, Option, option_map, slice_get}
 use Rattle.gr_record.specs.declared.fault.Fault.{Fault}
 use Rattle.gr_record.specs.declared.fault.Fault.TheVariants as faults

@@ -1,5 +1,5 @@
 -- Where in a stream its fault stands.
--- Source: docs/FORMATS.md, "Check".
+-- Source: docs/OUTPUT.md, "check".
 use Rattle.std.specs.Prelude.{ℕ, ◌-◌, List, length, Option, None, Some}
 use Rattle.gr_model.specs.declared.limits.TheConstants.{MOST_RECORDS}
 use Rattle.gr_record.specs.declared.error.RecordError.{RecordError}

@@ -1,7 +1,7 @@
 //! Whether inputs are the streams of a launch.
 
 ghost use Rattle.std.specs.Prelude.{◌≡◌, IfErr, IfOk, IsFalse, IsTrue, map};
-ghost use Rattle.gr_input.specs.Faults.{IsOutside};
+ghost use Rattle.gr_record.specs.InputFaults.{IsOutside};
 ghost use Rattle.gr_model.specs.Streams.{AreAccepted};
 ghost use Rattle.gr_record.specs.Faults.{IsOfValues};
 ghost use Rattle.gr_replay.specs.Each.{IsEachFault, ReadsEach, inputs_of};
@@ -38,7 +38,7 @@ fn is_outside(fault: Fault) -> bool
 /// The launch whose streams these inputs are, one each.
 ///
 /// # Errors
-/// The first fault of the inputs, in the order of docs/FORMATS.md; `Memory`.
+/// The first fault of the inputs, in the order of docs/OUTPUT.md, "Lines of faults"; `Memory`.
 fn launch_of<A: Allocator + Copy>(alloc: A, inputs: &[Vec<u8, A>]) -> Result<Traces<A>, Fault>
     ensures launch { IfOk result (λ t. ReadsEach (inputs_of inputs.now) t) }
     ensures accepted { IfOk result (λ t. AreAccepted t) }

@@ -1,5 +1,5 @@
 //! A law of the place that is told of a fault. It is the contract of a function that does nothing, told in words in
-//! docs/FORMATS.md, "Check".
+//! docs/OUTPUT.md, "check".
 
 ghost use Rattle.gr_check.specs.Laws.{FaultsAreWhereReadingStops};
 

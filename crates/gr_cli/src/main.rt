@@ -81,12 +81,11 @@ fn run<H>(handle: H, rt: HostRuntime, words: &[String]) -> u8
 where
     H: Threads + Wait + Clock + Copy + Send + 'static,
 {
-    let alloc = rt.alloc();
-    let mut plan = match plan_of(rt, alloc, words) {
+    let mut plan = match plan_of(rt, words) {
         Ok(plan) => plan,
         Err(refusal) => return refuse(&refusal, &mut rt.stderr()),
     };
-    if plan.watch(rt, alloc).is_err() {
+    if plan.watch(rt).is_err() {
         return fail(&Fault::Memory, &mut rt.stderr());
     }
     let asked = match &plan.words {
@@ -99,9 +98,9 @@ where
     if let Some(progress) = &plan.files.table.progress {
         progress.clear();
     }
-    let _ = tell(rt, alloc, &mut plan, first_of(words), &mut errors);
-    if status == 0 {
-        let _ = plan.files.seen.tell(&mut errors);
+    let _ = tell(rt, &mut plan, first_of(words), &mut errors);
+    if let (0, Some(sought)) = (status, &plan.files.seen.sought) {
+        let _ = sought.tell(&mut errors);
     }
     status
 }

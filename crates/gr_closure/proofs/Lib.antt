@@ -6,3 +6,8 @@ pub mod GroupKnowledge
 pub mod HandledKnowledge
 pub mod KnowledgeGrowth
 pub mod ClockCounts
+pub mod PairTests
+pub mod Clashing
+pub mod Adding
+pub mod Growing
+pub mod Pairing

@@ -1,3 +1,5 @@
 pub mod Knowledge
-pub mod Laws
+pub mod KnowledgeLaws
 pub mod Accesses
+pub mod AccessesAlong
+pub mod HitLaws

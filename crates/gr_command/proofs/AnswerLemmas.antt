@@ -10,8 +10,8 @@ use Rattle.gr_arguments.specs.Commands.{AreHelp, AreWrong, IsHelp, IsWrongUsage}
 use Rattle.gr_arguments.specs.declared.request.Task.{Task}
 use Rattle.gr_arguments.specs.declared.request.Task.TheVariants.{Replay, Pack, Dump, Upgrade}
 use Rattle.gr_model.specs.Reports.{WholeReport}
-use Rattle.gr_input.specs.Faults.{Fails, IsOutside}
-use Rattle.gr_input.proofs.Outside.{at_any}
+use Rattle.gr_record.specs.InputFaults.{Fails, IsOutside}
+use Rattle.gr_record.proofs.Outside.{at_any}
 use Rattle.gr_places.specs.FaultText.{sides_fault_line}
 use Rattle.gr_places.specs.declared.sides_fault.SidesFault.TheVariants.{Run}
 use Rattle.gr_record.specs.declared.fault.Fault.{Fault}

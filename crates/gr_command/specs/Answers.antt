@@ -1,5 +1,5 @@
 -- What a run of the program leaves behind: on standard output, on standard error, and its status.
--- Source: docs/FORMATS.md, "Report", "Fault lines" and "Exit statuses".
+-- Source: docs/OUTPUT.md, "The report", "Lines of faults" and "Statuses".
 use Rattle.std.specs.Prelude.{◌≡◌, ◌≢◌, ◌⊎◌, ℕ, Bool, false, true, List, Option, None, Some, Result, Ok, Err, IfSome, ⊤}
 use Rattle.std.specs.Io.KnownBytes.{Appends, Keeps}
 use Rattle.gr_model.specs.declared.event.Word.{Word}
@@ -12,13 +12,13 @@ use Rattle.gr_record.specs.declared.fault.Fault.{Fault}
 use Rattle.gr_record.specs.declared.fault.Fault.TheVariants.{Write}
 use Rattle.gr_report.specs.ReportText.{report_text}
 use Rattle.gr_report.specs.FaultText.{fault_line}
-use Rattle.gr_accesses.specs.Racy.{IsRacyIn}
+use Rattle.gr_timeline.specs.Racy.{IsRacyIn}
 use Rattle.gr_check.specs.Checked.{CheckedSaid, IsCheckFileFault, IsCheckedAsKnown, is_accepted}
 use Rattle.gr_held.specs.Why.{IsWhy}
 use Rattle.gr_places.specs.SideLines.{place_number}
 use Rattle.gr_races.specs.Accounts.{IsAccountOf}
 use Rattle.gr_replay.specs.Replays.{IsExact, IsExactOfEach, IsReplayFault}
-use Rattle.gr_input.specs.Faults.{Fails, IsOutside}
+use Rattle.gr_record.specs.InputFaults.{Fails, IsOutside}
 use Rattle.gr_text.specs.Texts.{packed}
 use Rattle.gr_text.specs.Dumps.{dumped, upgraded}
 use Rattle.gr_text.specs.Partial.{text_before_fault}

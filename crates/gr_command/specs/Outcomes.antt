@@ -1,5 +1,5 @@
 -- The form of all that a run of the program leaves behind: what was asked for is done, or a fault is told.
--- Source: docs/FORMATS.md, "Fault lines" and "Exit statuses".
+-- Source: docs/OUTPUT.md, "Lines of faults" and "Statuses".
 use Rattle.std.specs.Prelude.{◌≡◌, ◌≢◌, ◌⊎◌, ℕ, List, Option}
 use Rattle.std.specs.Io.KnownBytes.{Keeps}
 use Rattle.gr_report.specs.Putting.{AppendsPrefix}

@@ -1,5 +1,5 @@
 -- The exit statuses of the program.
--- Source: docs/FORMATS.md, "Exit statuses".
+-- Source: docs/OUTPUT.md, "Statuses".
 use Rattle.std.specs.Prelude.{◌≡◌, ◌⊎◌, ℕ, Bool, if◌then◌else◌}
 use Rattle.gr_model.specs.Reports.{WholeReport}
 use Rattle.gr_record.specs.declared.error.RecordError.TheVariants.{Memory as NoMemory}

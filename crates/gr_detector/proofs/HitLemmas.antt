@@ -8,7 +8,7 @@ use Rattle.gr_model.specs.Configs.{IsConfig, Settings, worker_number}
 use Rattle.gr_model.specs.Reports.{AreRaces, Lists, WordBelow}
 use Rattle.gr_model.proofs.HitLaws.{IsHit-filter}
 use Rattle.gr_steps.proofs.EventRecords.{filter-there}
-use Rattle.gr_hits.proofs.Clashing.{lists_as, whole_hits_are_races}
+use Rattle.gr_closure.proofs.Clashing.{lists_as, whole_hits_are_races}
 use Rattle.gr_order.specs.Sequences.{Sequence}
 use Rattle.gr_route.specs.IntakeSeats.{Taker}
 use Rattle.gr_route.specs.WorkSeats.{Giver}

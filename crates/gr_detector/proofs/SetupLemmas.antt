@@ -10,7 +10,7 @@ use Rattle.gr_model.specs.declared.limits.TheConstants.{MOST_GROUPS}
 use Rattle.gr_model.specs.Configs.{Settings}
 use Rattle.gr_route.proofs.Sizes.{each_has_place, none_has_size}
 use Rattle.gr_route.specs.IntakeSeats.{Taker}
-use Rattle.gr_sender.specs.Senders.{Sending}
+use Rattle.gr_threads.specs.Senders.{Sending}
 use Rattle.gr_sequencer_thread.specs.Feeds.{AreSeated, intakes_of}
 use Rattle.gr_detector.specs.Runs.{AreSendersOf, Run}
 use Rattle.gr_detector.specs.Setups.{AreOpenBelow, AreSeatedBelow, AreUnseated, IsOpenSender}

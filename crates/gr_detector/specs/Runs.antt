@@ -9,7 +9,7 @@ use Rattle.gr_model.specs.Configs.{Settings}
 use Rattle.gr_model.specs.Streams.{Streams}
 use Rattle.gr_route.specs.IntakeSeats.{Seat}
 use Rattle.gr_route.specs.WorkSeats.{Worker}
-use Rattle.gr_sender.specs.Senders.{Sending}
+use Rattle.gr_threads.specs.Senders.{Sending}
 use Rattle.gr_sequencer_thread.specs.Ends.{Begin}
 use Rattle.gr_sequencer_thread.specs.Feeds.{intakes_of, works_of}
 

@@ -6,7 +6,7 @@ use Rattle.gr_model.specs.declared.limits.TheConstants.{MOST_GROUPS, MOST_RECORD
 use Rattle.gr_route.specs.IntakeRule.{no_sizes}
 use Rattle.gr_route.specs.IntakeSeats.{Taker}
 use Rattle.gr_route.specs.WorkSeats.{Giver}
-use Rattle.gr_sender.specs.Senders.{Sending}
+use Rattle.gr_threads.specs.Senders.{Sending}
 
 -- of each queue nothing was popped
 abbrev pub AreUnpopped : List Taker → Type 0

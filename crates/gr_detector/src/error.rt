@@ -1,7 +1,7 @@
 //! Why a run doesn't start, and why it has no report.
 
 use crate::running::Running;
-use gr_sender::receipt::Receipt;
+use gr_threads::receipt::Receipt;
 use std::alloc::{Allocator, Global};
 use thiserror::Error;
 

@@ -12,11 +12,11 @@ use gr_model::event::Word;
 use gr_model::memory::Memory;
 use gr_report::report::Report;
 use gr_report::rows::Rows;
-use gr_sender::receipt::Receipt;
 use gr_sequencer_thread::inlet::Inlet;
 use gr_sequencer_thread::outlet::Outlet;
 use gr_shadow::merge::merge;
-use gr_worker_thread::thread::WorkerThread;
+use gr_threads::receipt::Receipt;
+use gr_threads::worker_thread::WorkerThread;
 use std::alloc::Allocator;
 use std::thread::Threads;
 

@@ -11,10 +11,10 @@ ghost use Rattle.gr_detector.specs.Runs.{AreReceiptsOf, IsEachOnce, IsRunning, r
 use crate::error::FinishError;
 use crate::joins::{has_each_once, join_intakes, settle_all, with_races};
 use gr_report::report::Report;
-use gr_sender::receipt::Receipt;
 use gr_sequencer_thread::end::Parts;
 use gr_sequencer_thread::thread::SequencerThread;
-use gr_worker_thread::thread::WorkerThread;
+use gr_threads::receipt::Receipt;
+use gr_threads::worker_thread::WorkerThread;
 use std::alloc::{Allocator, Global};
 use std::marker::Model;
 use std::thread::Threads;

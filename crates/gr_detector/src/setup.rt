@@ -10,10 +10,10 @@ use gr_model::limits::MOST_PLACES;
 use gr_model::memory::Memory;
 use gr_model::shape::Shape;
 use gr_route::work::WorkQueue;
-use gr_sender::sender::Sender;
 use gr_sequencer_thread::inlet::Inlet;
 use gr_sequencer_thread::outlet::Outlet;
-use gr_worker_thread::worker::Worker;
+use gr_threads::sender::Sender;
+use gr_threads::worker::Worker;
 use std::alloc::Allocator;
 use std::sync::Arc;
 

@@ -6,11 +6,11 @@ ghost use Rattle.std.specs.Prelude.{◌≡◌, ◌≤◌, [], vec_capacity, vec_
 ghost use Rattle.gr_sequencer_thread.specs.Ends.{begin_line, end_line};
 ghost use Rattle.gr_detector.specs.Runs.{worker_queues};
 
-use gr_sender::sender::Sender;
 use gr_sequencer_thread::end::SequencerEnd;
 use gr_sequencer_thread::thread::SequencerThread;
-use gr_worker_thread::thread::WorkerThread;
-use gr_worker_thread::worker::WorkerEnd;
+use gr_threads::sender::Sender;
+use gr_threads::worker::WorkerEnd;
+use gr_threads::worker_thread::WorkerThread;
 use std::alloc::Allocator;
 use std::sync::Wait;
 use std::thread::Threads;

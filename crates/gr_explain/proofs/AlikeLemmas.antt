@@ -10,9 +10,9 @@ use Rattle.indexmap.specs.IndexMap.{insert_entry}
 use Rattle.gr_model.specs.declared.event.EventId.{EventId}
 use Rattle.gr_model.specs.declared.event.ItemId.{ItemId}
 use Rattle.gr_model.specs.contracts.event.ItemIdPartialEq.TheImpl as equality
-use Rattle.gr_scopes.specs.declared.class.Class.{Class}
-use Rattle.gr_scopes.specs.declared.class.Class.TheVariants.{PlainRead, PlainWrite, GroupRead, GroupModify, DeviceRead, DeviceModify}
-use Rattle.gr_scopes.specs.Classes.{exempt}
+use Rattle.gr_model.specs.declared.class.Class.{Class}
+use Rattle.gr_model.specs.declared.class.Class.TheVariants.{PlainRead, PlainWrite, GroupRead, GroupModify, DeviceRead, DeviceModify}
+use Rattle.gr_model.specs.Classes.{exempt}
 use Rattle.gr_clocks.specs.Counts.{count_of}
 use Rattle.gr_clocks.specs.Rows.{same_item}
 use Rattle.gr_clocks.proofs.RowLemmas.{same_items}

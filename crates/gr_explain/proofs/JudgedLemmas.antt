@@ -9,8 +9,8 @@ use Rattle.gr_model.proofs.HitsAreRaces.{may_race_swaps}
 use Rattle.gr_clocks.specs.declared.access.Access.{Access}
 use Rattle.gr_clocks.specs.ClockedAccess.{clocked}
 use Rattle.gr_closure.specs.Accesses.{IsAccess}
-use Rattle.gr_hits.proofs.Adding.{bare_access}
-use Rattle.gr_hits.proofs.PairTests.{clash_is_hit, hit_is_clash}
+use Rattle.gr_closure.proofs.Adding.{bare_access}
+use Rattle.gr_closure.proofs.PairTests.{clash_is_hit, hit_is_clash}
 use Rattle.gr_explain.specs.Accesses.{IsKept}
 use Rattle.gr_explain.specs.Judged.{ClashOn, IsAccessing}
 

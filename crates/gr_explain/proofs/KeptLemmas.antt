@@ -9,7 +9,7 @@ use Rattle.gr_model.proofs.Descent.{lawful_is_grounded}
 use Rattle.gr_clocks.specs.declared.access.Access.{Access}
 use Rattle.gr_clocks.specs.ClockedAccess.{ClockedAccess, bare, clocked}
 use Rattle.gr_closure.specs.Accesses.{IsAccess}
-use Rattle.gr_hits.specs.Accesses.{AreAccesses, of_none, of_access, of_other}
+use Rattle.gr_closure.specs.AccessesAlong.{AreAccesses, of_none, of_access, of_other}
 use Rattle.gr_shadow.proofs.KeepsLemmas.{Contains-first, Contains-rest}
 use Rattle.gr_shadow.specs.Clashes.{event_of}
 use Rattle.gr_explain.specs.Accesses.{AreKept, AreThoseOf, IsKept, IsThatOf, access_at}

@@ -1,4 +1,3 @@
-pub mod TakenLists
 pub mod RecordLemmas
 pub mod Sets
 pub mod EventOrder

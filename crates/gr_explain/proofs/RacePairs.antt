@@ -16,9 +16,9 @@ use Rattle.gr_model.proofs.Pairs.{PairIn, PairIn-from_some, SomeOf, SomePair-fro
 use Rattle.gr_model.proofs.RacePairLaws.{race_swap}
 use Rattle.gr_clocks.specs.ClockedAccess.{ClockedAccess, bare}
 use Rattle.gr_closure.specs.Accesses.{IsAccess}
-use Rattle.gr_hits.specs.Accesses.{AreAccesses, of_none, of_access, of_other}
-use Rattle.gr_hits.proofs.Pairing.{clashes_are_race_pairs}
-use Rattle.gr_hits.proofs.PairTests.{clash_is_hit}
+use Rattle.gr_closure.specs.AccessesAlong.{AreAccesses, of_none, of_access, of_other}
+use Rattle.gr_closure.proofs.Pairing.{clashes_are_race_pairs}
+use Rattle.gr_closure.proofs.PairTests.{clash_is_hit}
 use Rattle.gr_shadow.specs.Clashes.{IsClashIn, IsClashOf, event_of}
 use Rattle.gr_explain.specs.LeastRaces.{IsLeastOf, IsLeastRace}
 use Rattle.gr_explain.specs.ClashPairs.{IsClashPair}

@@ -6,7 +6,7 @@ use Rattle.gr_model.specs.declared.event.EventId.{EventId}
 use Rattle.gr_model.specs.declared.event.Word.{Word}
 use Rattle.gr_model.specs.RacePairs.{IsTurned, Pair}
 use Rattle.gr_model.specs.Reports.{EventBelow}
-use Rattle.gr_scopes.specs.declared.class.Class.{Class}
+use Rattle.gr_model.specs.declared.class.Class.{Class}
 use Rattle.gr_shadow.specs.Clashes.{ClockedAccess, clashes, clashes_with, event_of}
 use Rattle.gr_explain.specs.ClashPairs.{IsClashPair, IsOfList}
 use Rattle.gr_explain.specs.LeastRaces.{IsLeastOf}

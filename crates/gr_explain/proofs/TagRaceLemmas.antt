@@ -10,7 +10,7 @@ use Rattle.gr_model.specs.LawfulOrders.{IsWholeOrder}
 use Rattle.gr_model.specs.RacePairs.{IsRacePair, IsTurned, Pair, TagsRace}
 use Rattle.gr_model.specs.Reports.{WordBelow}
 use Rattle.gr_model.specs.Streams.{Streams}
-use Rattle.gr_hits.specs.Accesses.{AreAccesses}
+use Rattle.gr_closure.specs.AccessesAlong.{AreAccesses}
 use Rattle.gr_shadow.specs.Clashes.{ClockedAccess}
 use Rattle.gr_shadow.proofs.KeepsLemmas.{Contains-first, Contains-rest}
 use Rattle.gr_explain.specs.TagPairs.{HaveOtherTags, IsTaggedClash, StandsForTags, is_of_tags}

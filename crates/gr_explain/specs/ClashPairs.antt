@@ -5,7 +5,7 @@ use Rattle.gr_model.specs.declared.event.EventId.{EventId}
 use Rattle.gr_model.specs.declared.event.Word.{Word}
 use Rattle.gr_model.specs.RacePairs.{IsTurned, Pair}
 use Rattle.gr_model.specs.Reports.{EventBelow}
-use Rattle.gr_scopes.specs.declared.class.Class.{Class}
+use Rattle.gr_model.specs.declared.class.Class.{Class}
 use Rattle.gr_shadow.specs.Clashes.{ClockedAccess, IsClashIn, event_of}
 
 -- an event of a class is that of an access to the word

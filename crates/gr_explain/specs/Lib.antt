@@ -1,4 +1,3 @@
-pub mod Taking
 pub mod Events
 pub mod Records
 pub mod LeastRaces

@@ -8,7 +8,7 @@ use Rattle.gr_model.specs.contracts.event.EventIdOrd.TheImpl as event_order
 use Rattle.gr_model.specs.contracts.event.ItemIdOrd.TheImpl as item_order
 use Rattle.gr_model.specs.RacePairs.{IsTurned, Pair}
 use Rattle.gr_model.specs.Reports.{EventBelow}
-use Rattle.gr_scopes.specs.declared.class.Class.{Class}
+use Rattle.gr_model.specs.declared.class.Class.{Class}
 use Rattle.gr_shadow.specs.Clashes.{ClockedAccess, clashes_with, event_of}
 
 -- the events of accesses of one class

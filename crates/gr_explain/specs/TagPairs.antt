@@ -6,7 +6,7 @@ use Rattle.gr_model.specs.declared.event.EventId.{EventId}
 use Rattle.gr_model.specs.declared.event.Word.{Word}
 use Rattle.gr_model.specs.RacePairs.{HasTags, IsTurned}
 use Rattle.gr_model.specs.Reports.{EventBelow}
-use Rattle.gr_scopes.specs.declared.class.Class.{Class}
+use Rattle.gr_model.specs.declared.class.Class.{Class}
 use Rattle.gr_shadow.specs.Clashes.{ClockedAccess, IsClashIn, event_of}
 use Rattle.gr_explain.specs.Alike.{AlikeEvents, IsInPlaceOf, IsOfKind, event_clashes}
 use Rattle.gr_explain.specs.ClashPairs.{IsClashPair, IsOfList}

@@ -8,9 +8,9 @@ ghost use Rattle.gr_explain.specs.Alike as spec;
 ghost use Rattle.gr_explain.specs.Alike.{IsOfKind, KeepsEvents, event_clashes, no_events};
 
 use gr_clocks::access::Access;
+use gr_model::class::{Class, exempt};
 use gr_model::event::{EventId, ItemId};
 use gr_model::memory::Memory;
-use gr_scopes::class::{Class, exempt};
 use indexmap::IndexMap;
 use std::alloc::{Allocator, Global};
 use std::hash::{BuildHasherDefault, FoldHasher};

@@ -13,7 +13,7 @@ use gr_model::event::{EventId, Word};
 use gr_model::memory::Memory;
 use gr_model::traces::Traces;
 use gr_taking::keeper::Keeper;
-use gr_taking::taking::follow;
+use gr_taking::traces::follow;
 use std::alloc::Allocator;
 
 /// Keeps the accesses to a word, and the least pair of them that races.

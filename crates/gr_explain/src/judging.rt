@@ -9,11 +9,11 @@ ghost use Rattle.gr_explain.specs.Judged.{AreAccesses, AreJudgements, ClashOn, I
 
 use crate::accesses::{Accesses, accesses_of_pairs};
 use gr_clocks::access::Access;
+use gr_model::class::exempt;
 use gr_model::event::Word;
 use gr_model::memory::Memory;
 use gr_model::race::Race;
 use gr_model::traces::Traces;
-use gr_scopes::class::exempt;
 use std::alloc::Allocator;
 
 /// What two events are to each other on a word.

@@ -15,5 +15,4 @@ mod search;
 mod seen;
 mod tag_pairs;
 pub mod tags;
-pub mod taking;
 pub mod word_pairs;

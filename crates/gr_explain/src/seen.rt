@@ -9,10 +9,10 @@ ghost use Rattle.gr_explain.specs.Seen.{IsAmong, IsFirstOf, IsClashing, IsPairWi
 
 use crate::pairs::lesser;
 use gr_clocks::access::Access;
+use gr_model::class::{Class, exempt};
 use gr_model::event::{EventId, ItemId};
 use gr_model::memory::Memory;
 use gr_model::race::{is_below, turned};
-use gr_scopes::class::{Class, exempt};
 use std::alloc::{Allocator, Global};
 use std::collections::BTreeSet;
 use std::marker::Model;

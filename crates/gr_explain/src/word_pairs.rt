@@ -19,7 +19,7 @@ use gr_model::memory::Memory;
 use gr_model::race::Race;
 use gr_model::traces::Traces;
 use gr_taking::keeper::Keeper;
-use gr_taking::taking::follow;
+use gr_taking::traces::follow;
 use indexmap::IndexMap;
 use std::alloc::Allocator;
 use std::hash::{BuildHasherDefault, FoldHasher};

@@ -10,12 +10,13 @@ ghost use Rattle.gr_model.specs.Streams as model;
 ghost use Rattle.gr_held.specs.Waiting.{ForgetsGrounded};
 ghost use Rattle.gr_model.specs.Waits.{IsGrounded};
 
-use crate::taking::{handle_all, take_all};
-use gr_agenda::agenda::Agenda;
 use gr_lanes::lanes::Lanes;
 use gr_model::event::{Event, EventId, ItemId};
 use gr_model::memory::Memory;
 use gr_model::traces::Traces;
+use gr_sequencer::sequencer::Sequencer;
+use gr_taking::keeper::NoKeeper;
+use gr_taking::traces::follow;
 use std::alloc::{Allocator, Global};
 use std::marker::Model;
 
@@ -23,7 +24,7 @@ use std::marker::Model;
 #[derive(Drop)]
 #[derive_where(Debug)]
 pub(crate) struct Judged<A: Allocator = Global> {
-    agenda: Agenda<A>,
+    sequencer: Sequencer<A>,
 }
 
 impl<A: Allocator> Model for Judged<A> {
@@ -32,9 +33,9 @@ impl<A: Allocator> Model for Judged<A> {
 
     ghost Value = { Streams };
 
-    ghost view = { λ j. j.agenda.taken };
+    ghost view = { λ j. j.sequencer.taken };
 
-    ghost invariant = { λ j. IsDone j.agenda × AreComplete j.agenda.taken };
+    ghost invariant = { λ j. IsDone j.sequencer × AreComplete j.sequencer.taken };
 }
 
 impl<A: Allocator + Copy> Judged<A> {
@@ -45,9 +46,8 @@ impl<A: Allocator + Copy> Judged<A> {
     pub(crate) fn of(alloc: A, traces: &Traces<A>) -> Result<Judged<A>, Memory>
         ensures { IfOk result (λ j. j ≡ traces.now) }
     {
-        let mut agenda = take_all(alloc, traces)?;
-        handle_all(&mut agenda);
-        Ok(Judged { agenda })
+        let sequencer = follow(alloc, traces, &NoKeeper, &mut ())?;
+        Ok(Judged { sequencer })
     }
 }
 
@@ -60,7 +60,7 @@ impl<A: Allocator> Judged<A> {
         ensures prefixes { model.ArePrefixes self.now }
         ensures whole { (order : List AnyEvent) × IsWholeOrder self.now order }
     {
-        self.agenda.order().lanes()
+        self.sequencer.order().lanes()
     }
 
     /// The first event of an item that is not grounded, whether it is there or not.
@@ -70,7 +70,7 @@ impl<A: Allocator> Judged<A> {
     {
         EventId {
             at: item,
-            index: self.agenda.order().frontier().get(item),
+            index: self.sequencer.order().frontier().get(item),
         }
     }
 
@@ -86,7 +86,7 @@ impl<A: Allocator> Judged<A> {
         requires { ¬ IsGrounded self.now event }
         ensures { result ≡ model.event_at self.now event }
     {
-        let order = self.agenda.order();
+        let order = self.sequencer.order();
         let handled = order.frontier().get(event.at);
         order.windows().waiting(event.at, event.index - handled)
     }

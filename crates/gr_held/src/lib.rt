@@ -9,6 +9,5 @@ mod judged;
 mod names;
 pub mod reason;
 mod reasons;
-mod taking;
 mod walk;
 pub mod why;

@@ -13,14 +13,14 @@ use Rattle.gr_model.specs.Shapes.{IsPartOfShape}
 use Rattle.gr_model.specs.Streams.{Streams, is_complete, list_of, size_of}
 use Rattle.gr_model.proofs.GroupLaws.{group_grows, list_stays, nothing_came, part_of_none, prefixes_with_group}
 use Rattle.gr_steps.proofs.Orders.{lawful_empty}
-use Rattle.gr_hits.proofs.Growing.{accesses_stay}
+use Rattle.gr_closure.proofs.Growing.{accesses_stay}
 use Rattle.gr_order.specs.Sequences as orders
 use Rattle.gr_order.specs.Sequences.{IsSequence, Sequence, nothing}
 use Rattle.gr_steps.proofs.StepGrowth.{lawful_grows}
 use Rattle.gr_shadow.specs.Launches.{LaunchKept}
 use Rattle.gr_shadow.specs.Launches.{StandsForLaunch}
 use Rattle.gr_model.proofs.PutLemmas.{all_put, length_put, put_other, put_same, sum_put}
-use Rattle.gr_hits.specs.Accesses.AreAccesses.{of_none}
+use Rattle.gr_closure.specs.AccessesAlong.AreAccesses.{of_none}
 use Rattle.gr_lanes.specs.Takes.{CanTake, nothing_taken, with_record}
 use Rattle.gr_record.proofs.Places.{header_group, header_items}
 use Rattle.gr_record.specs.declared.error.RecordError.TheVariants.{Truncated}
@@ -33,7 +33,7 @@ use Rattle.gr_intake.specs.Intakes.{AreGroupsOf, AreOpen, IsIntake, IsNext, IsRe
 use Rattle.gr_intake.specs.Joined.{Flat}
 use Rattle.gr_intake.specs.Laws.{AreStreams}
 use Rattle.gr_intake.specs.Sequencing.{AreShadowsOf}
-use Rattle.gr_backlog.specs.Waiting.{Coming}
+use Rattle.gr_intake.specs.Waiting.{Coming}
 use Rattle.gr_intake.proofs.Behind.{header_cut, nothing_follows, record_cut}
 use Rattle.gr_intake.proofs.Accepted.{AreRead, none_are, one_end, one_more, with_one}
 

@@ -7,7 +7,7 @@ use Rattle.std.proofs.lemmas.List.{get_or-map, length-map}
 use Rattle.gr_model.specs.Shapes.{HasItem}
 use Rattle.gr_model.specs.Streams.{Streams, size_of}
 use Rattle.gr_record.specs.declared.header.Header.{Header}
-use Rattle.gr_backlog.specs.Waiting.{Coming}
+use Rattle.gr_intake.specs.Waiting.{Coming}
 use Rattle.gr_intake.specs.Intakes.{AreGroupsOf, come, come_of, headers_of, list_in}
 use Rattle.gr_intake.specs.Joined.{Flat}
 use Rattle.gr_intake.specs.Laws.{AreStreams}

@@ -16,7 +16,7 @@ use Rattle.gr_intake.specs.Intakes.{AreGroupsOf, IsGap, come, come_of, coming_in
 use Rattle.gr_intake.specs.Joined.{Flat}
 use Rattle.gr_intake.specs.Laws.{AreStreams}
 use Rattle.gr_intake.specs.Launch.{HasGroup, IsLaunchFault, IsLaunchOf}
-use Rattle.gr_backlog.specs.Waiting.{Coming}
+use Rattle.gr_intake.specs.Waiting.{Coming}
 
 -- ---- sizes
 

@@ -1,9 +1,9 @@
 pub mod Accepted
 pub mod Reporting
+mod Sources
 pub mod Faults
 pub mod Judged
 pub mod Headers
 pub mod Comings
-mod Turns
-mod Rounds
 pub mod Behind
+mod Backlogs

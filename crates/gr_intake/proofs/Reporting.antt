@@ -1,6 +1,6 @@
 -- The words that are hit along the order of all grounded events are the races of the report.
 use Rattle.std.proofs.Common.{◌≡◌, List, subst}
-use Rattle.gr_hits.proofs.Clashing.{whole_hits_are_races}
+use Rattle.gr_closure.proofs.Clashing.{whole_hits_are_races}
 use Rattle.gr_model.specs.declared.event.Word.{Word}
 use Rattle.gr_model.specs.Reports.{AreRaces, Lists, WordBelow}
 use Rattle.gr_model.specs.Streams.{Streams}

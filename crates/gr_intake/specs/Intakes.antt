@@ -23,7 +23,7 @@ use Rattle.gr_shadow.specs.Launches.{LaunchKept}
 use Rattle.gr_intake.specs.Joined.{Flat, ◌>>=◌, at_place, joined_at}
 use Rattle.gr_intake.specs.Laws.{AreStreams}
 use Rattle.gr_intake.specs.Sequencing.{AreShadowsOf}
-use Rattle.gr_backlog.specs.Waiting.{Coming}
+use Rattle.gr_intake.specs.Waiting.{Coming}
 use Rattle.gr_intake.specs.declared.intake.Intake.{Intake}
 use Rattle.gr_intake.specs.declared.open.Open.{Open}
 

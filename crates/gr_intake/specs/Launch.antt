@@ -5,7 +5,7 @@ use Rattle.gr_model.specs.Shapes.{IsShapeFault}
 use Rattle.gr_model.specs.Streams.{Streams}
 use Rattle.gr_record.specs.declared.fault.Fault.{Fault}
 use Rattle.gr_record.specs.declared.fault.Fault.TheVariants as faults
-use Rattle.gr_input.specs.Faults.{Fails}
+use Rattle.gr_record.specs.InputFaults.{Fails}
 use Rattle.gr_intake.specs.Joined.{Flat, joined_of}
 
 -- one of the streams is of this group

@@ -3,3 +3,4 @@ pub mod Laws
 pub mod Launch
 pub mod Sequencing
 pub mod Intakes
+pub mod Waiting

@@ -3,7 +3,7 @@
 ghost use Rattle.std.specs.Prelude.{◌≡◌, ◌↔◌, ◌++◌, ◌∷◌, [], ◌<◌, ℕ, List, AllPairs, false, IfErr, IfOk, None, Some, Ok, Err, OnOk, IsTrue, IsFalse, length};
 ghost use Rattle.std.specs.List.{list_any};
 ghost use Rattle.std.specs.Prelude.{not, ◌==◌};
-ghost use Rattle.gr_input.specs.Faults.{Fails};
+ghost use Rattle.gr_record.specs.InputFaults.{Fails};
 ghost use Rattle.gr_model.specs.Shapes.{HasItem};
 ghost use Rattle.gr_record.specs.declared.layout.TheConstants.{HEADER_LENGTH};
 ghost use Rattle.gr_record.specs.Faults.{IsOfValues};
@@ -11,8 +11,8 @@ ghost use Rattle.gr_record.specs.Reading.{header_at};
 ghost use Rattle.gr_record.specs.Spelling.{IsHeader};
 ghost use Rattle.gr_intake.specs.Intakes.{IsBetween, IsIntake, IsKeptOpen, IsNew, IsRead, IsStuck, Moves, Stays, behind, come, come_of, goes_on, read_behind, read_on, streams_in, unit_of};
 
+use crate::backlog::Backlog;
 use crate::open::Open;
-use gr_backlog::backlog::Backlog;
 use gr_model::event::ItemId;
 use gr_model::growing::GrowingShape;
 use gr_model::memory::Memory;

@@ -11,11 +11,12 @@ ghost use Rattle.gr_report.specs.Whole.{whole_of};
 
 use crate::intake::Intake;
 use crate::reports::report_of;
-use crate::waiting::take_waiting;
 use gr_model::growing::GrowingShape;
 use gr_model::shape::ShapeError;
 use gr_record::fault::Fault;
 use gr_report::report::Report;
+use gr_taking::keeper::ShadowKeeper;
+use gr_taking::rounds::take_all;
 use std::alloc::Allocator;
 
 /// Why groups of these sizes are those of no launch, where no two have the same number: there is none, or else one is missing
@@ -50,8 +51,9 @@ impl<A: Allocator + Copy> Intake<A> {
         if let Some(fault) = gap_of(self.sequencer.shape()) {
             return Err(fault);
         }
-        take_waiting(
+        take_all(
             &mut self.sequencer,
+            &ShadowKeeper,
             &mut self.shadows,
             self.streams.as_mut_slice(),
         )?;

@@ -9,7 +9,7 @@ ghost use Rattle.gr_record.specs.Versions.{record_length};
 ghost use Rattle.gr_intake.specs.Intakes.{AreOpen, IsKeptOpen, come_of, next_event_at, with_event};
 ghost use Rattle.gr_intake.specs.Sequencing.{AreShadowsOf};
 
-use gr_backlog::backlog::Backlog;
+use crate::backlog::Backlog;
 use gr_model::event::Event;
 use gr_model::limits::MOST_RECORDS;
 use gr_model::memory::Memory;

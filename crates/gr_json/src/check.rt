@@ -2,7 +2,7 @@
 
 use crate::lines::line_of;
 use crate::sentences::{right, wrong};
-use crate::words::text_value;
+use crate::words::{Made, text_value};
 use gr_check::checking::Checked;
 use gr_check::counts::Counts;
 use gr_check::places::FaultPlace;
@@ -10,27 +10,23 @@ use gr_check::spot::Spot;
 use gr_model::memory::Memory;
 use gr_record::fault::Fault;
 use serde_json::{Value, json};
-use std::alloc::{AllocError, Global};
+use std::alloc::Global;
 
 /// How large a launch is, and how many records of each kind it has.
-///
-/// # Errors
-/// `AllocError`: out of memory.
-fn counts_value(alloc: Global, counts: &Counts) -> Result<Value, AllocError> {
-    let kinds = json!(in alloc; {
-        "barriers": counts.barriers,
-        "ends": counts.ends,
-        "loads": counts.loads,
-        "reads": counts.reads,
-        "rmws": counts.rmws,
-        "stores": counts.stores,
-        "writes": counts.writes
-    })?;
+fn counts_value(alloc: Global, counts: &Counts) -> Made {
     json!(in alloc; {
         "accepted": true,
         "groups": counts.groups,
         "items": counts.items,
-        "kinds": kinds,
+        "kinds": {
+            "barriers": counts.barriers,
+            "ends": counts.ends,
+            "loads": counts.loads,
+            "reads": counts.reads,
+            "rmws": counts.rmws,
+            "stores": counts.stores,
+            "writes": counts.writes
+        },
         "records": counts.records,
         "type": "check"
     })
@@ -47,10 +43,7 @@ fn spot_values(spot: Option<Spot>) -> (Value, Value) {
 }
 
 /// What a fault is about, or null where that is no stream and no group.
-///
-/// # Errors
-/// `AllocError`: out of memory.
-fn place_value(alloc: Global, place: FaultPlace<'_>) -> Result<Value, AllocError> {
+fn place_value(alloc: Global, place: FaultPlace<'_>) -> Made {
     match place {
         FaultPlace::Stream { stream, file, spot } => {
             let (byte, record) = spot_values(spot);
@@ -67,27 +60,20 @@ fn place_value(alloc: Global, place: FaultPlace<'_>) -> Result<Value, AllocError
             json!(in alloc; {"beside": beside, "file": file, "stream": stream})
         }
         FaultPlace::Missing { group, beside } => {
-            let beside = text_value(alloc, beside)?;
-            json!(in alloc; {"beside": beside, "group": group})
+            json!(in alloc; {"beside": text_value(alloc, beside)?, "group": group})
         }
         FaultPlace::Nothing => Ok(Value::Null),
     }
 }
 
 /// A refusal: where it is, what is wrong and what would be right.
-///
-/// # Errors
-/// `AllocError`: out of memory.
-fn refusal_value(alloc: Global, fault: Fault, place: FaultPlace<'_>) -> Result<Value, AllocError> {
-    let place = place_value(alloc, place)?;
-    let right = right(fault);
-    let wrong = wrong(fault);
+fn refusal_value(alloc: Global, fault: Fault, place: FaultPlace<'_>) -> Made {
     json!(in alloc; {
         "accepted": false,
-        "place": place,
-        "right": right,
+        "place": place_value(alloc, place)?,
+        "right": right(fault),
         "type": "check",
-        "wrong": wrong
+        "wrong": wrong(fault)
     })
 }
 
@@ -96,9 +82,11 @@ fn refusal_value(alloc: Global, fault: Fault, place: FaultPlace<'_>) -> Result<V
 /// # Errors
 /// `Memory`: out of memory.
 pub fn check_json(alloc: Global, checked: &Checked<'_>) -> Result<Vec<u8>, Memory> {
-    let value = match checked {
-        Checked::Accepted(counts) => counts_value(alloc, counts)?,
-        Checked::Refused { fault, place } => refusal_value(alloc, *fault, *place)?,
-    };
-    line_of(alloc, &value)
+    line_of(
+        alloc,
+        match checked {
+            Checked::Accepted(counts) => counts_value(alloc, counts),
+            Checked::Refused { fault, place } => refusal_value(alloc, *fault, *place),
+        },
+    )
 }

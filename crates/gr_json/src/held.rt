@@ -1,41 +1,29 @@
 //! Why an event is held as JSON.
 
-use crate::lines::push_object;
-use crate::words::event_value;
+use crate::lines::{line_of, push_object};
+use crate::words::{Made, event_value};
 use gr_held::reason::{Link, Reason};
 use gr_held::why::WhyHeld;
 use gr_model::event::{EventId, Name};
 use gr_model::memory::Memory;
-use serde_json::{Value, json};
-use std::alloc::{AllocError, Allocator, Global};
+use serde_json::json;
+use std::alloc::{Allocator, Global};
 
 /// A reason that is about an event.
-///
-/// # Errors
-/// `AllocError`: out of memory.
-fn about_event(alloc: Global, name: &str, event: EventId) -> Result<Value, AllocError> {
-    let event = event_value(alloc, event)?;
-    json!(in alloc; {"event": event, "name": name})
+fn about_event(alloc: Global, name: &str, event: EventId) -> Made {
+    json!(in alloc; {"event": event_value(alloc, event)?, "name": name})
 }
 
 /// A reason that is about a release that an acquire names.
-///
-/// # Errors
-/// `AllocError`: out of memory.
-fn about_release(alloc: Global, name: &str, named: Name) -> Result<Value, AllocError> {
-    let group = named.at.group;
-    let item = named.at.item;
+fn about_release(alloc: Global, name: &str, named: Name) -> Made {
     json!(in alloc; {
         "name": name,
-        "release": {"group": group, "item": item, "number": named.release}
+        "release": {"group": named.at.group, "item": named.at.item, "number": named.release}
     })
 }
 
 /// Why an event is held.
-///
-/// # Errors
-/// `AllocError`: out of memory.
-fn reason_value(alloc: Global, reason: Reason) -> Result<Value, AllocError> {
+fn reason_value(alloc: Global, reason: Reason) -> Made {
     match reason {
         Reason::Behind(event) => about_event(alloc, "behind", event),
         Reason::Release(event) => about_event(alloc, "release", event),
@@ -46,20 +34,26 @@ fn reason_value(alloc: Global, reason: Reason) -> Result<Value, AllocError> {
     }
 }
 
-fn push_links(alloc: Global, text: &mut Vec<u8>, links: &[Link]) -> Result<(), Memory> {
-    for link in links {
-        let event = event_value(alloc, link.event)?;
-        let reason = reason_value(alloc, link.reason)?;
-        let value = json!(in alloc; {"event": event, "reason": reason, "type": "held"})?;
-        push_object(alloc, text, &value)?;
-    }
-    Ok(())
+/// An event that is held, and why.
+fn link_value(alloc: Global, link: &Link) -> Made {
+    json!(in alloc; {
+        "event": event_value(alloc, link.event)?,
+        "reason": reason_value(alloc, link.reason)?,
+        "type": "held"
+    })
 }
 
-fn push_event(alloc: Global, text: &mut Vec<u8>, kind: &str, event: EventId) -> Result<(), Memory> {
-    let event = event_value(alloc, event)?;
-    let value = json!(in alloc; {"event": event, "type": kind})?;
-    push_object(alloc, text, &value)
+fn links_json(alloc: Global, links: &[Link]) -> Result<Vec<u8>, Memory> {
+    let mut text = Vec::new(alloc);
+    for link in links {
+        push_object(alloc, &mut text, link_value(alloc, link))?;
+    }
+    Ok(text)
+}
+
+/// An event of which this is told.
+fn told_value(alloc: Global, kind: &str, event: EventId) -> Made {
+    json!(in alloc; {"event": event_value(alloc, event)?, "type": kind})
 }
 
 /// Why an event is held, or that it is not, as lines of JSON.
@@ -71,11 +65,9 @@ pub fn why_json<A: Allocator>(
     event: EventId,
     why: &WhyHeld<A>,
 ) -> Result<Vec<u8>, Memory> {
-    let mut text = Vec::new(alloc);
     match why {
-        WhyHeld::NoRecord => push_event(alloc, &mut text, "no record", event)?,
-        WhyHeld::Judged => push_event(alloc, &mut text, "judged", event)?,
-        WhyHeld::Held(links) => push_links(alloc, &mut text, links)?,
+        WhyHeld::NoRecord => line_of(alloc, told_value(alloc, "no record", event)),
+        WhyHeld::Judged => line_of(alloc, told_value(alloc, "judged", event)),
+        WhyHeld::Held(links) => links_json(alloc, links),
     }
-    Ok(text)
 }

@@ -1,54 +1,43 @@
 //! The history of a word as JSON.
 
-use crate::details::put_details;
+use crate::details::{Members, put_details};
 use crate::lines::push_object;
-use crate::words::{buffer_value, event_value, word_value};
-use gr_accesses::accesses::Accesses;
+use crate::words::{Made, buffer_value, event_value, word_value};
+use gr_model::class::class_of;
 use gr_model::event::Word;
 use gr_model::memory::Memory;
 use gr_places::index::PlaceIndex;
 use gr_places::sides::Sides;
-use gr_scopes::class::class_of;
+use gr_timeline::accesses::Accesses;
 use gr_timeline::entry::Entry;
 use gr_timeline::standing::{Above, Named, Standing};
-use gr_timeline::told::Told;
+use gr_timeline::word_history::HistoryAnswer;
 use serde_json::{Map, Value, json, put};
 use std::alloc::{AllocError, Global};
 
 /// Some events: the first few, and how many others there are.
-///
-/// # Errors
-/// `AllocError`: out of memory.
-fn named_value(alloc: Global, named: &Named) -> Result<Value, AllocError> {
-    let mut values = Vec::new(alloc);
+fn named_value(alloc: Global, named: &Named) -> Made {
+    let mut events = Vec::new(alloc);
     for event in &named.events {
-        values.push(event_value(alloc, *event)?)?;
+        events.push(event_value(alloc, *event)?)?;
     }
-    let events = Value::Array(values);
-    let others = named.others;
-    json!(in alloc; {"events": events, "others": others})
+    json!(in alloc; {"events": Value::Array(events), "others": named.others})
 }
 
 /// Adds how an access stands to those above it.
-///
-/// # Errors
-/// `AllocError`: out of memory.
 fn put_standing(
     alloc: Global,
-    members: &mut Map<String, Value>,
+    members: &mut Members,
     standing: &Standing,
 ) -> Result<(), AllocError> {
-    put(members, alloc, "behind", Value::from(standing.behind))?;
     let races = named_value(alloc, &standing.races)?;
-    put(members, alloc, "races_with", races)?;
     let unordered = named_value(alloc, &standing.unordered)?;
+    put(members, alloc, "behind", Value::from(standing.behind))?;
+    put(members, alloc, "races_with", races)?;
     put(members, alloc, "unordered_with", unordered)
 }
 
 /// An access, what is told of it, and how it stands to those above it, to which it is added.
-///
-/// # Errors
-/// `Memory`: out of memory.
 fn entry_value(
     alloc: Global,
     places: &PlaceIndex<'_>,
@@ -70,41 +59,15 @@ fn entry_value(
     Ok(Value::Object(members))
 }
 
-fn push_entries(
-    alloc: Global,
-    text: &mut Vec<u8>,
-    sides: &Sides<'_>,
-    told: &Told,
-) -> Result<(), Memory> {
-    let places = PlaceIndex::of(alloc, sides.places)?;
-    let mut above = Above::new(alloc);
-    for entry in &told.entries {
-        let value = entry_value(alloc, &places, &mut above, &told.known, entry)?;
-        push_object(alloc, text, &value)?;
-    }
-    Ok(())
-}
-
 /// The word, its buffer, how many accesses there are, how many others are held, and whether some of them race.
-///
-/// # Errors
-/// `AllocError`: out of memory.
-fn end_value(
-    alloc: Global,
-    sides: &Sides<'_>,
-    word: Word,
-    told: &Told,
-) -> Result<Value, AllocError> {
-    let buffer = buffer_value(alloc, sides.buffers, word)?;
-    let word = word_value(alloc, word)?;
-    let accesses = told.entries.len();
+fn end_value(alloc: Global, sides: &Sides<'_>, word: Word, told: &HistoryAnswer) -> Made {
     json!(in alloc; {
-        "accesses": accesses,
-        "buffer": buffer,
+        "accesses": told.entries.len(),
+        "buffer": buffer_value(alloc, sides.buffers, word)?,
         "held": told.held,
         "races": told.racy,
         "type": "end",
-        "word": word
+        "word": word_value(alloc, word)?
     })
 }
 
@@ -116,11 +79,15 @@ pub fn history_json(
     alloc: Global,
     sides: &Sides<'_>,
     word: Word,
-    told: &Told,
+    told: &HistoryAnswer,
 ) -> Result<Vec<u8>, Memory> {
+    let places = PlaceIndex::of(alloc, sides.places)?;
+    let mut above = Above::new(alloc);
     let mut text = Vec::new(alloc);
-    push_entries(alloc, &mut text, sides, told)?;
-    let end = end_value(alloc, sides, word, told)?;
-    push_object(alloc, &mut text, &end)?;
+    for entry in &told.entries {
+        let value = entry_value(alloc, &places, &mut above, &told.known, entry)?;
+        push_object(alloc, &mut text, Ok(value))?;
+    }
+    push_object(alloc, &mut text, end_value(alloc, sides, word, told))?;
     Ok(text)
 }

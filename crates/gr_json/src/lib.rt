@@ -1,4 +1,4 @@
-//! Answers about a launch as lines of JSON, an object each (docs/FORMATS.md, "JSON").
+//! Answers about a launch as lines of JSON, an object each (docs/OUTPUT.md, "JSON objects").
 //!
 //! Nothing is claimed of these texts; runs test them. That the answers are right is proved where they are made.
 #![tactic(auto)]

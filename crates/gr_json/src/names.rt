@@ -32,11 +32,8 @@ pub fn kind_name(kind: Kind) -> &'static str {
         Kind::Load(_, _) => "load",
         Kind::Store(_, _) => "store",
         Kind::Rmw(_, _) => "rmw",
-        Kind::Barrier {
-            global: _,
-            local: _,
-        } => "barrier",
-        Kind::End { cut: _ } => "end",
+        Kind::Barrier { .. } => "barrier",
+        Kind::End { .. } => "end",
     }
 }
 
@@ -46,13 +43,7 @@ pub fn atomic_of(kind: Kind) -> Option<(Scope, Order)> {
         Kind::Load(scope, order) | Kind::Store(scope, order) | Kind::Rmw(scope, order) => {
             Some((scope, order))
         }
-        Kind::Read
-        | Kind::Write
-        | Kind::Barrier {
-            global: _,
-            local: _,
-        }
-        | Kind::End { cut: _ } => None,
+        Kind::Read | Kind::Write | Kind::Barrier { .. } | Kind::End { .. } => None,
     }
 }
 

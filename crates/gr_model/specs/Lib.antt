@@ -19,3 +19,6 @@ pub mod Hits
 pub mod Reports
 pub mod RacePairs
 pub mod Laws
+pub mod Conflicts
+pub mod Classes
+pub mod ClassLaws

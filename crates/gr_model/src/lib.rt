@@ -1,7 +1,11 @@
 //! The memory model of the detector: the types that every other crate speaks of, and in `specs/` the definitions of
-//! happens-before, of a data race and of the report. Told in words in docs/MODEL.md.
+//! happens-before, of a data race and of the report. Told in words in docs/MODEL.md. Beside them conflict, inclusive scope and
+//! synchronization of two accesses, and the class of an access, which is all that a race test has to know of its kind.
 #![tactic(auto)]
 
+pub mod access;
+pub mod class;
+pub mod class_laws;
 pub mod config;
 pub mod event;
 pub mod growing;

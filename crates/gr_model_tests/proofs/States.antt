@@ -20,8 +20,8 @@ use Rattle.gr_clocks.proofs.ReleaseLemmas.{left_elsewhere}
 use Rattle.gr_model.specs.Access.{memory_of}
 use Rattle.gr_model.specs.declared.event.Space.TheVariants.{Global, Local}
 use Rattle.gr_model.specs.declared.event.Word.TheVariants.{Global as GlobalWord}
-use Rattle.gr_scopes.specs.declared.class.Class.{Class}
-use Rattle.gr_scopes.specs.declared.class.Class.TheVariants.{PlainRead, PlainWrite, GroupModify}
+use Rattle.gr_model.specs.declared.class.Class.{Class}
+use Rattle.gr_model.specs.declared.class.Class.TheVariants.{PlainRead, PlainWrite, GroupModify}
 use Rattle.gr_shadow.specs.Clashes.{clashes, IsHitIn}
 use Rattle.gr_shadow.specs.StandsFor.{IsHitBy}
 

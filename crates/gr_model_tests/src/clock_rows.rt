@@ -1,113 +1,19 @@
-//! Worked rows of vector clocks. A call to which a growth was refused leaves the counts as they were, and then gives the
+//! A worked row of vector clocks. A call to which a growth was refused leaves the counts as they were, and then gives the
 //! row's answer.
 
 ghost use Rattle.std.specs.Prelude.{◌≡◌, ◌<◌, ◌∷◌, [], IfSome};
 
 use crate::launch::{item, two_items};
-use gr_clocks::clock::{Clock, ClockError, LARGEST_COUNT};
+use gr_clocks::clock::Clock;
 use gr_clocks::clocks::Clocks;
 use gr_clocks::snapshot::Snapshot;
 use gr_model::event::{Scope, Space, Word};
 use refusing::growths::refuse_each;
 use std::alloc::Allocator;
 
-/// A clock of two items; where a growth is refused it is asked for once more.
-fn new_clock<A: Allocator + Copy>(alloc: A) -> Option<Clock<A>> {
-    let shape = two_items(alloc)?;
-    Clock::new(alloc, &shape)
-        .or_else(|_| Clock::new(alloc, &shape))
-        .ok()
-}
-
 /// The counts of both items.
 fn counts<A: Allocator>(clock: &Clock<A>) -> [u32; 2] {
     [clock.get(item(0)), clock.get(item(1))]
-}
-
-fn tick<A: Allocator + Copy>(clock: &mut Clock<A>, place: u16) -> bool {
-    let before = counts(clock);
-    if clock.tick(item(place)).is_ok() {
-        return true;
-    }
-    let stays = counts(clock) == before;
-    clock.tick(item(place)).is_ok() && stays
-}
-
-fn join<A: Allocator + Copy>(clock: &mut Clock<A>, other: &Clock<A>) -> bool {
-    let before = counts(clock);
-    if clock.join(other).is_ok() {
-        return true;
-    }
-    let stays = counts(clock) == before;
-    clock.join(other).is_ok() && stays
-}
-
-fn copy<A: Allocator + Copy>(clock: &Clock<A>) -> Option<Clock<A>> {
-    if let Ok(copied) = clock.copy() {
-        return Some(copied);
-    }
-    clock.copy().ok()
-}
-
-/// What is seen of a clock: its counts, its copy's, and whether it covers indices 1 and 2 of item 0.
-type Joined = ([u32; 2], [u32; 2], bool, bool);
-
-/// Ticks item 0 of one clock twice and item 1 of another once, and joins the first into the other, which is told of.
-fn tick_and_join<A: Allocator + Copy>(
-    first: &mut Clock<A>,
-    second: &mut Clock<A>,
-) -> Option<Joined> {
-    if !(tick(first, 0) && tick(first, 0) && tick(second, 1) && join(second, first)) {
-        return None;
-    }
-    let copied = copy(second)?;
-    Some((
-        counts(second),
-        counts(&copied),
-        second.covers(item(0), 1),
-        second.covers(item(0), 2),
-    ))
-}
-
-/// The same of two new clocks.
-fn ticks_and_a_join<A: Allocator + Copy>(alloc: A) -> Option<Joined> {
-    let mut first = new_clock(alloc)?;
-    let mut second = new_clock(alloc)?;
-    tick_and_join(&mut first, &mut second)
-}
-
-#[test]
-fn a_clock_ticks_joins_and_covers(rt: HostRuntime) {
-    let want = Some(([2, 1], [2, 1], true, false));
-    let growths = refuse_each(rt.alloc(), 1, |heap| Ok(ticks_and_a_join(heap) == want));
-    assert!(rt; growths.is_ok(), "{growths:?}");
-}
-
-/// Ticks an item so often, and tells how often it went well from the start on.
-fn tick_times<A: Allocator + Copy>(clock: &mut Clock<A>, place: u16, times: u32) -> u32 {
-    for done in 0..times {
-        if clock.tick(item(place)).is_err() {
-            return done;
-        }
-    }
-    times
-}
-
-/// Ticks item 0 up to the greatest count, and once more: how many ticks went well, what the last one answers, and the counts
-/// behind it.
-fn ticks_to_the_limit<A: Allocator + Copy>(
-    alloc: A,
-) -> Option<(u32, Result<(), ClockError>, [u32; 2])> {
-    let mut clock = new_clock(alloc)?;
-    let ticked = tick_times(&mut clock, 0, 16_777_216);
-    Some((ticked, clock.tick(item(0)), counts(&clock)))
-}
-
-#[test]
-fn a_count_is_spent_at_its_limit(rt: HostRuntime) {
-    let want = Some((16_777_216, Err(ClockError::Spent), [16_777_216, 0]));
-    assert_eq!(rt; ticks_to_the_limit(rt.alloc()), want);
-    assert_eq!(rt; LARGEST_COUNT, 16_777_216);
 }
 
 /// The clocks of two items; where a growth is refused they are asked for once more.

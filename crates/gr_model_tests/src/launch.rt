@@ -1,4 +1,4 @@
-//! The launches of the worked rows: one group of two items, or of three.
+//! The launch of the worked rows: one group of two items.
 
 ghost use Rattle.std.specs.Prelude.{◌≡◌, ◌∷◌, [], IfSome};
 
@@ -13,24 +13,10 @@ pub(crate) fn item(item: u16) -> ItemId
     ItemId { group: 0, item }
 }
 
-/// The shape of one group of so many items; where a growth is refused it is asked for once more.
-fn one_group<A: Allocator + Copy>(alloc: A, items: u16) -> Option<Shape<A>>
-    ensures { IfSome result (λ s. s ≡ items ∷ []) }
-{
-    let sizes = vec![in alloc; items].or_else(|_| vec![in alloc; items]);
-    Shape::new(sizes.ok()?).ok()
-}
-
-/// The shape of one group of two items.
+/// The shape of one group of two items; where a growth is refused it is asked for once more.
 pub(crate) fn two_items<A: Allocator + Copy>(alloc: A) -> Option<Shape<A>>
     ensures { IfSome result (λ s. s ≡ 2 ∷ []) }
 {
-    one_group(alloc, 2)
-}
-
-/// The shape of one group of three items.
-pub(crate) fn three_items<A: Allocator + Copy>(alloc: A) -> Option<Shape<A>>
-    ensures { IfSome result (λ s. s ≡ 3 ∷ []) }
-{
-    one_group(alloc, 3)
+    let sizes = vec![in alloc; 2].or_else(|_| vec![in alloc; 2]);
+    Shape::new(sizes.ok()?).ok()
 }

@@ -11,3 +11,6 @@ pub mod HeldLemmas
 pub mod WaitLemmas
 pub mod ComingLemmas
 pub mod AtOnceLemmas
+mod Cutting
+mod Acquiring
+mod Diverging

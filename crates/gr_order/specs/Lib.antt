@@ -5,3 +5,4 @@ pub mod Readiness
 pub mod Waiting
 pub mod AtOnce
 pub mod Forgetting
+pub mod Acquires

@@ -6,8 +6,8 @@ ghost use Rattle.gr_lanes.specs.Remembered.{forgotten_of};
 ghost use Rattle.gr_order.specs.Forgetting.{ForgetsNext, ForgetsPassed, HasPassed, HaveAllPassed};
 ghost use Rattle.gr_order.specs.Readiness.{IsNextInstance};
 
+use crate::instances::cause;
 use gr_clocks::tally::Tally;
-use gr_findings::instances::cause;
 use gr_lanes::lanes::Lanes;
 use gr_model::event::ItemId;
 use gr_model::memory::Memory;

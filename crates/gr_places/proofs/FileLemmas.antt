@@ -2,8 +2,8 @@
 use Rattle.std.proofs.Common.{◌≡◌, ◌⊎◌, ℕ, ◌<◌, Bool, true, false, List, [], ◌∷◌, ◌++◌, Option, None, Some, Result, Ok, Err, inl, inr, map, length, ◌∙◌, ap, subst, sym, arith, true≢false}
 use Rattle.std.specs.Option.{is_some}
 use Rattle.std.specs.Prelude.{IfSome, option_map}
-use Rattle.gr_input.proofs.Outside.{at_known}
-use Rattle.gr_input.specs.Faults.{IsOutside}
+use Rattle.gr_record.proofs.Outside.{at_known}
+use Rattle.gr_record.specs.InputFaults.{IsOutside}
 use Rattle.gr_places.specs.SideLines.{BufferSaid, PlaceSaid, buffers_in, places_in}
 use Rattle.gr_record.specs.declared.fault.Fault.{Fault}
 use Rattle.gr_replay.specs.Each.{all_known}

@@ -3,7 +3,7 @@ use Rattle.std.proofs.Common.{◌≡◌, ◌<◌, ◌+◌, ℕ, Bool, true, fals
 use Rattle.std.specs.List.{position_from}
 use Rattle.std.proofs.lemmas.List.{at_drop_more, drop_all}
 use Rattle.std.specs.Option.{option_and_then, option_map}
-use Rattle.gr_lines.specs.LineReading.{same}
+use Rattle.gr_text.specs.LineReading.{same}
 use Rattle.gr_places.specs.declared.places.Placed.{Placed}
 use Rattle.gr_places.specs.declared.places.Placed.TheVariants.{Event, Site}
 use Rattle.gr_places.specs.declared.places.PlaceLine.{PlaceLine}

@@ -6,8 +6,8 @@ use Rattle.std.specs.Option.{is_some, option_map, option_and_then}
 use Rattle.std.specs.Cmp.Lexicographic.{pointwise, same_text, other_text}
 use Rattle.std.proofs.lemmas.Bool.{and_parts, eq-eqb, eqb-true, le-leb, leb-true, lt-ltb, ltb-true}
 use Rattle.std.proofs.lemmas.List.{append_cancel_left, append_cancel_right, drop_at, length-append, take-append-drop, take_at}
-use Rattle.gr_lines.specs.LineReading as reading
-use Rattle.gr_lines.proofs.LineNumbers.{chosen, number_back, number_found, same_is, same_self}
+use Rattle.gr_text.specs.LineReading as reading
+use Rattle.gr_text.proofs.LineNumbers.{chosen, number_back, number_found, same_is, same_self}
 use Rattle.gr_model.specs.declared.event.Word.{Word}
 use Rattle.gr_model.specs.declared.event.Word.TheVariants.{Global, Local}
 use Rattle.gr_places.specs.declared.buffers.BufferLine.{BufferLine}

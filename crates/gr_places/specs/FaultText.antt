@@ -1,5 +1,5 @@
 -- The line that tells why nothing is told of a launch with side files.
--- Source: docs/FORMATS.md, "Fault lines".
+-- Source: docs/OUTPUT.md, "Lines of faults".
 use Rattle.std.specs.Prelude.{ℕ, List, ◌++◌, codes, decimal}
 use Rattle.gr_report.specs.FaultText.{fault_line}
 use Rattle.gr_report.specs.Putting.{field}

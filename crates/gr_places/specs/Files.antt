@@ -1,5 +1,5 @@
 -- Files that are opened by their names, and what holds of their bytes.
--- Source: docs/FORMATS.md, "Explanation".
+-- Source: docs/OUTPUT.md, "explain".
 use Rattle.std.specs.Prelude.{◌≡◌, ◌⊎◌, ℕ, List, [], ◌∷◌, ◌++◌, map, Option, Result, Ok, Err, ⊤}
 use Rattle.gr_record.specs.declared.fault.Fault.{Fault}
 use Rattle.gr_record.specs.declared.fault.Fault.TheVariants as faults

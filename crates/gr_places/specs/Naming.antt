@@ -2,7 +2,7 @@
 -- Source: docs/FORMATS.md, "Side files".
 use Rattle.std.specs.Prelude.{◌≡◌, ℕ, ◌+◌, ◌^◌, ◌<◌, Bool, false, ◌&&◌, ◌==◌, nat_lt, if◌then◌else◌, List, [], ◌∷◌, ◌++◌, Option, None, Some, decimal}
 use Rattle.std.specs.Option.{option_map}
-use Rattle.gr_lines.specs.LineReading.{same}
+use Rattle.gr_text.specs.LineReading.{same}
 use Rattle.gr_model.specs.declared.event.Word.{Word}
 use Rattle.gr_model.specs.declared.event.Word.TheVariants.{Global, Local}
 use Rattle.gr_places.specs.declared.buffers.Element.{Element}

@@ -4,7 +4,7 @@ use Rattle.std.specs.Prelude.{◌≡◌, ℕ, Bool, List, Option}
 use Rattle.std.specs.Borrow.{Bor}
 use Rattle.std.specs.Map.{lookup}
 use Rattle.std.specs.Option.{option_and_then, option_map}
-use Rattle.gr_lines.specs.LineReading.{same}
+use Rattle.gr_text.specs.LineReading.{same}
 use Rattle.gr_places.specs.contracts.places.PlacedPartialEq.TheImpl as equality
 use Rattle.gr_places.specs.declared.places.Placed.{Placed}
 use Rattle.gr_places.specs.SideLines.{PlaceSaid, place_number, place_of, text_number}

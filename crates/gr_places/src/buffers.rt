@@ -8,9 +8,9 @@ ghost use Rattle.gr_places.specs.SideLines as spec;
 use crate::fault::SideFault;
 use crate::lines::keep;
 use crate::words::parse_text;
-use gr_lines::words::{is_word, parse_number, parse_short, split_word};
 use gr_model::event::Word;
 use gr_text::lines::split_line;
+use gr_text::words::{is_word, parse_number, parse_short, split_word};
 use std::alloc::Allocator;
 
 /// A line of a file of buffers.

@@ -3,7 +3,7 @@
 ghost use Rattle.std.specs.Prelude.{◌≡◌, ◌<◌, ◌++◌, false, IfErr, IfOk, IfSome, IsOk, IsTrue, OnOk, length, map};
 ghost use Rattle.std.specs.Fn.{FnReturnsAt};
 ghost use Rattle.std.specs.Option.{is_some};
-ghost use Rattle.gr_input.specs.Faults.{IsOutside};
+ghost use Rattle.gr_record.specs.InputFaults.{IsOutside};
 ghost use Rattle.gr_places.specs.SideLines.{buffer_line, buffers_in, place_line, places_in};
 ghost use Rattle.gr_places.specs.Opening as spec;
 ghost use Rattle.gr_places.specs.Files.{IsOpeningFault};
@@ -13,9 +13,9 @@ use crate::fault::SideFault;
 use crate::opening::open_all;
 use crate::places::{PlaceLine, read_places};
 use crate::sides_fault::SidesFault;
-use gr_input::read_all;
 use gr_model::memory::Memory;
 use gr_record::fault::Fault;
+use gr_record::input::read_all;
 use std::alloc::Allocator;
 use std::io::{self, Read};
 

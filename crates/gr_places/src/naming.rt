@@ -6,8 +6,8 @@ ghost use Rattle.gr_places.specs.Naming as spec;
 ghost use Rattle.gr_places.specs.SideLines.{buffer_line, element};
 
 use crate::buffers::{BufferLine, Element, element_of};
-use gr_lines::words::parse_number;
 use gr_model::event::Word;
+use gr_text::words::parse_number;
 
 /// The bytes behind these at the front, if they stand there.
 fn behind<'a>(bytes: &'a [u8], front: &[u8]) -> Option<&'a [u8]>

@@ -8,9 +8,9 @@ ghost use Rattle.gr_places.specs.SideLines as spec;
 use crate::fault::SideFault;
 use crate::lines::keep;
 use crate::words::{is_digit_first, parse_text};
-use gr_lines::words::{parse_number, parse_short, split_word};
 use gr_model::event::{EventId, ItemId};
 use gr_text::lines::split_line;
+use gr_text::words::{parse_number, parse_short, split_word};
 use std::alloc::Allocator;
 
 /// What has a place in the source.

@@ -45,7 +45,7 @@ fn write_bad_line<W: Write>(writer: &mut W, before: &[u8], line: u64) -> Result<
     finish(writer)
 }
 
-/// Writes the line of the fault (docs/FORMATS.md, "Fault lines"), and flushes. It takes no memory.
+/// Writes the line of the fault (docs/OUTPUT.md, "Lines of faults"), and flushes. It takes no memory.
 ///
 /// # Errors
 /// `WriteFault` if the writer fails, which has then taken a prefix of the line.

@@ -1,20 +1,23 @@
 //! What of the streams in a series of bytes was read: where each begins, and how many records there were.
 
+use crate::files::fault_of;
 use crate::seen::Seen;
 use gr_model::limits::MOST_GROUPS;
 use gr_model::memory::Memory;
 use gr_record::error::RecordError;
+use gr_record::fault::Fault;
 use gr_record::header::Header;
 use gr_record::layout::HEADER_LENGTH;
 use gr_record::reading::read_event;
 use gr_record::stream::read_front_header;
 use std::alloc::Global;
+use std::io::Read;
 
 /// The first byte of a record that is an end; no record has a greater one.
 const END: u8 = 6;
 
-/// How many bytes say that a header begins.
-const MAGIC_LENGTH: usize = 4;
+/// How many bytes are read at once.
+const PIECE_LENGTH: usize = 65_536;
 
 /// How many streams are told apart, at most: one more than a launch may have.
 const MOST_STREAMS: usize = MOST_GROUPS + 1;
@@ -37,10 +40,8 @@ enum Front {
     Refused,
     /// A header.
     Begins(Header),
-    /// A record of so many bytes.
-    Record(usize),
-    /// An end of so many bytes.
-    Ends(usize),
+    /// A record of so many bytes, which is an end or none.
+    Record(usize, bool),
 }
 
 /// What was read of a series of bytes that has streams, one after another.
@@ -51,7 +52,7 @@ pub struct Account {
     /// How many records of the stream at hand were passed.
     pub records: u64,
     /// How many records were passed in all.
-    pub all_records: u64,
+    all_records: u64,
     /// How many bytes were passed.
     pub passed: u64,
     /// Whether what stands next is not of a stream.
@@ -63,19 +64,15 @@ pub struct Account {
     /// Whether each record is looked at as a whole one.
     judges: bool,
     header: Option<Header>,
-    bytes: Vec<u8>,
+    /// The bytes at hand.
+    pub bytes: Vec<u8>,
 }
 
 /// Whether the bytes begin as a header does.
 pub fn begins_stream(bytes: &[u8]) -> bool {
-    match bytes.get(..MAGIC_LENGTH) {
-        None => false,
-        Some(magic) => {
-            magic == b"GRT1".as_slice()
-                || magic == b"GRT2".as_slice()
-                || magic == b"GRT3".as_slice()
-                || magic == b"GRT4".as_slice()
-        }
+    match bytes.strip_prefix(b"GRT".as_slice()) {
+        Some([version, ..]) => b'1' <= *version && *version <= b'4',
+        Some([]) | None => false,
     }
 }
 
@@ -91,18 +88,16 @@ fn header_at(bytes: &[u8]) -> Front {
 /// The record at the front of bytes, in the stream of this header.
 fn record_at(header: Header, bytes: &[u8], is_whole: bool) -> Front {
     let length = header.version.record_length();
-    if bytes.len() < length {
+    let Some(record) = bytes.get(..length) else {
         return Front::Little;
-    }
-    let (record, _) = bytes.split_at(length);
+    };
     if is_whole && read_event(header, record).is_err() {
         return Front::Refused;
     }
     match record.first() {
         None => Front::Little,
         Some(kind) if *kind > END => Front::Refused,
-        Some(kind) if *kind == END => Front::Ends(length),
-        Some(_) => Front::Record(length),
+        Some(kind) => Front::Record(length, *kind == END),
     }
 }
 
@@ -123,25 +118,42 @@ impl Account {
         }
     }
 
-    /// Takes bytes that were read, and passes what was taken before.
+    /// Takes bytes that were read, passes what was taken before, and tells how many records were passed.
     ///
     /// # Errors
     /// `Memory`: out of memory.
-    pub fn take(&mut self, piece: &[u8]) -> Result<(), Memory> {
+    pub fn take(&mut self, piece: &[u8]) -> Result<u64, Memory> {
+        let before = self.all_records;
         self.pass(Look::Quick)?;
-        if self.is_stopped {
-            return Ok(());
+        if !self.is_stopped {
+            self.bytes.extend_from_slice(piece)?;
         }
-        self.keep(piece)
+        Ok(self.all_records.saturating_sub(before))
     }
 
-    /// Takes bytes that were read.
+    /// Takes and passes the bytes of a reader, up to its end or to what is not of a stream.
     ///
     /// # Errors
-    /// `Memory`: out of memory.
-    pub fn keep(&mut self, piece: &[u8]) -> Result<(), Memory> {
-        self.bytes.extend_from_slice(piece)?;
+    /// `Read` where the reader fails; `Memory`.
+    pub fn read<R: Read>(&mut self, reader: &mut R, look: Look) -> Result<(), Fault> {
+        let mut piece = [0u8; PIECE_LENGTH];
+        for _ in 0..u64::MAX {
+            match reader.read(&mut piece) {
+                Err(error) => return Err(fault_of(&error)),
+                Ok(0) => break,
+                Ok(n) => self.add(&piece[..n], look)?,
+            }
+            if self.is_stopped {
+                break;
+            }
+        }
         Ok(())
+    }
+
+    /// Takes and passes bytes.
+    fn add(&mut self, piece: &[u8], look: Look) -> Result<(), Memory> {
+        self.bytes.extend_from_slice(piece)?;
+        self.pass(look)
     }
 
     /// Passes the headers and records that are whole.
@@ -170,22 +182,17 @@ impl Account {
         }
     }
 
+    /// The bytes at hand from this place on.
+    fn rest(&self, at: usize) -> &[u8] {
+        self.bytes.get(at..).unwrap_or(&[])
+    }
+
     /// What stands at this place of the bytes at hand.
     fn front(&self, at: usize, look: Look) -> Front {
-        let Some(rest) = self.bytes.get(at..) else {
-            return Front::Little;
-        };
+        let rest = self.rest(at);
         match self.header {
             None => header_at(rest),
             Some(header) => record_at(header, rest, self.judges || self.ends_here(look)),
-        }
-    }
-
-    /// Whether a stream begins at this place of the bytes at hand.
-    fn begins_at(&self, at: usize) -> bool {
-        match self.bytes.get(at..) {
-            None => false,
-            Some(rest) => self.header.is_none() && begins_stream(rest),
         }
     }
 
@@ -200,7 +207,7 @@ impl Account {
 
     /// Passes the header or the record at this place of the bytes at hand, and tells how long it is: 0 where none is passed.
     fn pass_front(&mut self, at: usize, look: Look) -> Result<usize, Memory> {
-        if self.begins_at(at) {
+        if self.header.is_none() && begins_stream(self.rest(at)) {
             self.note_start()?;
         }
         let n = match self.front(at, look) {
@@ -210,22 +217,18 @@ impl Account {
                 0
             }
             Front::Begins(header) => {
-                self.begin(header)?;
+                self.header = Some(header);
+                self.records = 0;
+                self.seen.begin(&header)?;
                 HEADER_LENGTH
             }
-            Front::Record(length) => {
-                self.count();
-                self.show(at, length)?;
-                length
-            }
-            Front::Ends(_) if self.ends_here(look) => {
+            Front::Record(_, true) if self.ends_here(look) => {
                 self.is_stopped = true;
                 self.is_at_end = true;
                 0
             }
-            Front::Ends(length) => {
-                self.count();
-                self.header = None;
+            Front::Record(length, is_end) => {
+                self.count(at, length, is_end)?;
                 length
             }
         };
@@ -233,15 +236,14 @@ impl Account {
         Ok(n)
     }
 
-    /// Begins the stream of a header.
-    fn begin(&mut self, header: Header) -> Result<(), Memory> {
-        self.header = Some(header);
-        self.records = 0;
-        self.seen.begin(&header)
-    }
-
-    /// Shows the record at this place of the bytes at hand.
-    fn show(&mut self, at: usize, length: usize) -> Result<(), Memory> {
+    /// Counts the record at this place of the bytes at hand, and shows it if it is no end.
+    fn count(&mut self, at: usize, length: usize, is_end: bool) -> Result<(), Memory> {
+        self.records = self.records.saturating_add(1);
+        self.all_records = self.all_records.saturating_add(1);
+        if is_end {
+            self.header = None;
+            return Ok(());
+        }
         let record = self.bytes.get(at..at.saturating_add(length));
         match (&self.header, record) {
             (Some(header), Some(record)) => self.seen.pass(header, record),
@@ -249,29 +251,19 @@ impl Account {
         }
     }
 
-    /// Counts a record.
-    fn count(&mut self) {
-        self.records = self.records.saturating_add(1);
-        self.all_records = self.all_records.saturating_add(1);
-    }
-
     /// Whether a header stands next, and no record.
     pub fn is_at_header(&self) -> bool {
         self.header.is_none()
     }
 
-    /// The bytes at hand.
-    pub fn bytes(&self) -> &[u8] {
-        self.bytes.as_slice()
-    }
-
     /// Whether a header begins in the record that stands next.
     pub fn has_header_inside(&self) -> bool {
-        let Some(header) = self.header else {
-            return false;
+        let length = match self.header {
+            None => 0,
+            Some(header) => header.version.record_length(),
         };
-        for at in 0..header.version.record_length() {
-            if is_header_from(self.bytes.as_slice(), at) {
+        for at in 0..length {
+            if is_header(self.rest(at)) {
                 return true;
             }
         }
@@ -279,16 +271,11 @@ impl Account {
     }
 }
 
-/// Whether a header stands at this place; what is missing of it behind the bytes is taken for right.
-fn is_header_from(bytes: &[u8], at: usize) -> bool {
-    let Some(rest) = bytes.get(at..) else {
-        return false;
-    };
-    if !begins_stream(rest) {
-        return false;
-    }
-    match read_front_header(rest) {
-        Ok(_) | Err(RecordError::Truncated) => true,
-        Err(_) => false,
-    }
+/// Whether bytes begin with a header; what is missing of it is taken for right.
+fn is_header(bytes: &[u8]) -> bool {
+    begins_stream(bytes)
+        && match read_front_header(bytes) {
+            Ok(_) | Err(RecordError::Truncated) => true,
+            Err(_) => false,
+        }
 }

@@ -49,17 +49,6 @@ fn takes_value(option: &str) -> bool {
     }
 }
 
-/// What the next word is.
-#[derive(Clone, Copy, PartialEq, Eq)]
-enum Next {
-    /// An option, or another word.
-    Any,
-    /// The value of an option.
-    Value,
-    /// No option.
-    Other,
-}
-
 impl<'a> Line<'a> {
     /// The line of a command, behind which these words stand.
     ///
@@ -77,32 +66,22 @@ impl<'a> Line<'a> {
             options: Vec::new(alloc),
             values: Vec::new(alloc),
         };
-        let mut next = Next::Any;
+        let (mut is_value, mut is_behind_options) = (false, false);
         for word in words {
-            next = line.add(next, word.as_str())?;
+            let word = word.as_str();
+            if is_value {
+                is_value = false;
+                line.options.push(word)?;
+            } else if is_behind_options || !is_option(word) {
+                line.values.push(word)?;
+            } else if word == "--" {
+                is_behind_options = true;
+            } else {
+                is_value = takes_value(word);
+                line.options.push(word)?;
+            }
         }
         Ok(line)
-    }
-
-    /// Adds a word, and tells what the next is.
-    fn add(&mut self, next: Next, word: &'a str) -> Result<Next, Memory> {
-        if next == Next::Value {
-            self.options.push(word)?;
-            return Ok(Next::Any);
-        }
-        if next == Next::Any && word == "--" {
-            return Ok(Next::Other);
-        }
-        if next == Next::Any && is_option(word) {
-            self.options.push(word)?;
-            return Ok(if takes_value(word) {
-                Next::Value
-            } else {
-                Next::Any
-            });
-        }
-        self.values.push(word)?;
-        Ok(next)
     }
 
     /// Whether an option is there.

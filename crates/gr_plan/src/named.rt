@@ -1,6 +1,8 @@
 //! A word of memory that is given by its name, as `partial[10]`.
 
+use crate::files::{copy_of, read_file};
 use crate::line::Line;
+use crate::plan::Refusal;
 use gr_model::event::Word;
 use gr_model::memory::Memory;
 use gr_places::buffers::{BufferLine, read_buffers};
@@ -8,8 +10,6 @@ use gr_places::fault::SideFault;
 use gr_places::naming::word_said;
 use gr_record::fault::Fault;
 use std::alloc::Global;
-use std::fs;
-use std::io::ErrorKind;
 
 /// A name among the words of `explain` or `history`.
 #[derive(Clone, Copy, Debug)]
@@ -18,21 +18,8 @@ pub struct Naming<'a> {
     pub name: &'a str,
     /// The memory that the word is of, where it is given too.
     pub space: Option<&'a str>,
-    /// Which of the words behind the command are files: those from here on ..
-    pub first_file: usize,
-    /// .. and up to here.
-    pub behind_files: usize,
-}
-
-/// Why a name is that of no word.
-#[derive(Clone, Copy, Debug, PartialEq, Eq)]
-pub enum Unnamed {
-    /// The line with this number has not the form of a line of buffers.
-    BadLine(u64),
-    /// No word has the name.
-    NoWord,
-    /// The file can't be read, or memory ran out.
-    Run(Fault),
+    /// The files.
+    pub files: &'a [&'a str],
 }
 
 /// Whether a word of the command line has the form of a name.
@@ -40,46 +27,31 @@ fn is_name(word: &str) -> bool {
     word.ends_with(']') && word.contains('[')
 }
 
+/// The group whose local memory a word of the command line names.
+fn group_in(word: &str) -> Option<u32> {
+    word.strip_prefix('l')?.parse::<u32>().ok()
+}
+
 /// Whether a word of the command line names a memory.
 fn is_space(word: &str) -> bool {
-    match word.strip_prefix('l') {
-        None => word == "g",
-        Some(group) => group.parse::<u32>().is_ok(),
-    }
+    word == "g" || group_in(word).is_some()
 }
 
 /// The name among the words, if there is one: behind a memory, or the first or the last of the words.
-pub fn naming_in<'a>(line: &Line<'a>) -> Option<Naming<'a>> {
+pub fn naming_in<'a>(line: &'a Line<'_>) -> Option<Naming<'a>> {
     let values = line.values.as_slice();
-    let (first, second) = (*values.first()?, *values.get(1)?);
-    if is_space(first) {
-        return if is_name(second) {
-            Some(Naming {
-                name: second,
-                space: Some(first),
-                first_file: 2,
-                behind_files: values.len(),
-            })
-        } else {
-            None
-        };
-    }
-    if is_name(first) {
-        return Some(Naming {
-            name: first,
-            space: None,
-            first_file: 1,
-            behind_files: values.len(),
-        });
-    }
-    let last = *values.last()?;
-    if is_name(last) {
-        Some(Naming {
-            name: last,
-            space: None,
-            first_file: 0,
-            behind_files: values.len().saturating_sub(1),
-        })
+    let (first, behind) = values.split_first()?;
+    let (second, behind_second) = behind.split_first()?;
+    let (last, before) = values.split_last()?;
+    let (name, space, files) = if is_space(first) {
+        (*second, Some(*first), behind_second)
+    } else if is_name(first) {
+        (*first, None, behind)
+    } else {
+        (*last, None, before)
+    };
+    if is_name(name) {
+        Some(Naming { name, space, files })
     } else {
         None
     }
@@ -87,15 +59,10 @@ pub fn naming_in<'a>(line: &Line<'a>) -> Option<Naming<'a>> {
 
 /// Whether the words of a line are of this memory.
 fn is_of(line: &BufferLine<'_>, space: Option<&str>) -> bool {
-    let Some(space) = space else {
-        return true;
-    };
-    match line.first {
-        Word::Global(_) => space == "g",
-        Word::Local(group, _) => match space.strip_prefix('l') {
-            None => false,
-            Some(number) => number.parse::<u16>() == Ok(group),
-        },
+    match (line.first, space) {
+        (_, None) => true,
+        (Word::Global(_), Some(space)) => space == "g",
+        (Word::Local(group, _), Some(space)) => group_in(space) == Some(u32::from(group)),
     }
 }
 
@@ -117,30 +84,21 @@ fn lines_of<'a>(
 /// The word that a name says, by the lines of a file of buffers.
 ///
 /// # Errors
-/// `NoWord` where no word has the name; `BadLine`, or `Run` with `Read` or `Memory`, where the file is not known.
-pub fn word_in(
-    rt: HostRuntime,
-    alloc: Global,
-    naming: &Naming<'_>,
-    buffers: &str,
-) -> Result<Word, Unnamed> {
-    let bytes = match fs::read(&rt, buffers) {
-        Ok(bytes) => bytes,
-        Err(error) if error.kind() == ErrorKind::OutOfMemory => {
-            return Err(Unnamed::Run(Fault::Memory));
-        }
-        Err(_) => return Err(Unnamed::Run(Fault::Read)),
-    };
+/// `NoWord` where no word has the name; `BadBuffers`, or `Run` with `Read` or `Memory`, where the file is not known.
+pub fn word_in(rt: HostRuntime, naming: &Naming<'_>, buffers: &str) -> Result<Word, Refusal> {
+    let alloc = rt.alloc();
+    let bytes = read_file(rt, buffers)?;
     let lines = match read_buffers(alloc, bytes.as_slice()) {
         Ok(lines) => lines,
-        Err(SideFault::BadLine(line)) => return Err(Unnamed::BadLine(line)),
-        Err(SideFault::Memory) => return Err(Unnamed::Run(Fault::Memory)),
+        Err(SideFault::BadLine(line)) => return Err(Refusal::BadBuffers(line)),
+        Err(SideFault::Memory) => return Err(Refusal::Run(Fault::Memory)),
     };
-    let Ok(lines) = lines_of(alloc, lines.as_slice(), naming.space) else {
-        return Err(Unnamed::Run(Fault::Memory));
-    };
+    let lines = lines_of(alloc, lines.as_slice(), naming.space)?;
     match word_said(lines.as_slice(), naming.name) {
-        None => Err(Unnamed::NoWord),
         Some(word) => Ok(word),
+        None => {
+            let name = copy_of(alloc, naming.name)?;
+            Err(Refusal::NoWord(name, copy_of(alloc, buffers)?))
+        }
     }
 }

@@ -26,12 +26,6 @@ pub struct Progress {
     next: AtomicU64,
 }
 
-/// How many milliseconds a time is.
-fn milliseconds(time: Duration) -> u64 {
-    let seconds = time.as_secs().saturating_mul(1000);
-    seconds.saturating_add(u64::from(time.subsec_millis()))
-}
-
 impl Progress {
     /// The progress of an input of which nothing was read, with as many bytes, where that is known.
     pub fn new(rt: HostRuntime, total: Option<u64>) -> Progress {
@@ -52,7 +46,8 @@ impl Progress {
         let Ok(now) = self.rt.monotonic() else {
             return;
         };
-        let passed = milliseconds(now.saturating_sub(self.begun));
+        let passed = now.saturating_sub(self.begun).as_millis();
+        let passed = u64::try_from(passed).unwrap_or(u64::MAX);
         if passed < self.next.load(Ordering::SeqCst) {
             return;
         }

@@ -67,20 +67,14 @@ impl Reading {
 
     /// Keeps what is to be told of bytes that were read.
     fn note(&mut self, piece: &[u8]) -> Result<(), Memory> {
-        let is_noted = match self.begins.last() {
-            None => false,
-            Some(begin) => begin.file == self.at,
-        };
-        if !is_noted {
-            self.begins.push(Begin {
-                file: self.at,
-                byte: self.read,
-            })?;
+        let (file, byte) = (self.at, self.read);
+        if self.begins.last().map(|begin| begin.file) != Some(file) {
+            self.begins.push(Begin { file, byte })?;
         }
         self.read = self.read.saturating_add(piece.len() as u64);
         let records = match &mut self.account {
             None => 0,
-            Some(account) => taken(account, piece)?,
+            Some(account) => account.take(piece)?,
         };
         if let Some(progress) = &self.progress {
             progress.add(piece.len() as u64, records);
@@ -101,13 +95,6 @@ impl Reading {
         }
         found
     }
-}
-
-/// Takes bytes into an account, and tells how many records were passed.
-fn taken(account: &mut Account, piece: &[u8]) -> Result<u64, Memory> {
-    let before = account.all_records;
-    account.take(piece)?;
-    Ok(account.all_records.saturating_sub(before))
 }
 
 impl Read for Reading {

@@ -5,7 +5,6 @@ use crate::sought::Sought;
 use gr_model::memory::Memory;
 use gr_record::header::Header;
 use gr_record::reading::read_event;
-use std::io::{self, Write};
 
 /// Who sees each record.
 #[derive(Drop, Default)]
@@ -51,17 +50,6 @@ impl Seen {
         match &mut self.sited {
             None => Ok(()),
             Some(sited) => sited.pass(header.group, &event, record),
-        }
-    }
-
-    /// Tells of a word that was looked for and is not there.
-    ///
-    /// # Errors
-    /// Those of the writer.
-    pub fn tell<W: Write>(&self, errors: &mut W) -> io::Result<()> {
-        match &self.sought {
-            None => Ok(()),
-            Some(sought) => sought.tell(errors),
         }
     }
 }

@@ -1,6 +1,6 @@
 //! Where in the source the records of a folder stand: by the sites that they tell, and the folder's file `sites`.
 
-use gr_model::event::{Event, EventId, ItemId, Kind};
+use gr_model::event::{Event, Kind};
 use gr_model::memory::Memory;
 use gr_record::header::Header;
 use gr_text::lines::split_line;
@@ -86,13 +86,13 @@ impl Sited {
     /// # Errors
     /// `Memory`: out of memory.
     pub fn pass(&mut self, group: u16, event: &Event, record: &[u8]) -> Result<(), Memory> {
-        let item = event.item;
-        let index = self.next_index(item);
-        let at = ItemId { group, item };
+        let index = self.next_index(event.item);
         match (self.place_of(site_of(record)), event.kind) {
             (None, _) => Ok(()),
             (Some(place), Kind::Barrier { .. }) => self.add_barrier(event.word, place),
-            (Some(place), _) => self.add_event(EventId { at, index }, place),
+            (Some(place), _) => {
+                self.add_line(&[u32::from(group), u32::from(event.item), index], place)
+            }
         }
     }
 
@@ -113,26 +113,21 @@ impl Sited {
         self.lines.get(site.checked_sub(1)?).copied()
     }
 
-    /// Adds the line of an event.
-    fn add_event(&mut self, event: EventId, place: (usize, usize)) -> Result<(), Memory> {
-        push_number(&mut self.places, u32::from(event.at.group))?;
-        push_number(&mut self.places, u32::from(event.at.item))?;
-        push_number(&mut self.places, event.index)?;
-        self.end_line(place)
-    }
-
     /// Adds the line of barriers, once.
     fn add_barrier(&mut self, barrier: u32, place: (usize, usize)) -> Result<(), Memory> {
         if self.barriers.contains(&barrier) {
             return Ok(());
         }
         self.barriers.push(barrier)?;
-        push_number(&mut self.places, barrier)?;
-        self.end_line(place)
+        self.add_line(&[barrier], place)
     }
 
-    /// Ends a line with a place.
-    fn end_line(&mut self, (start, end): (usize, usize)) -> Result<(), Memory> {
+    /// Adds a line that says the place of what has these numbers.
+    fn add_line(&mut self, numbers: &[u32], place: (usize, usize)) -> Result<(), Memory> {
+        for number in numbers {
+            push_number(&mut self.places, *number)?;
+        }
+        let (start, end) = place;
         if let Some(place) = self.sites.get(start..end) {
             self.places.extend_from_slice(place)?;
         }

@@ -1,69 +1,113 @@
 //! What is read where a name of the command line is opened.
 
-use std::alloc::Global;
-use std::fs::File;
+use gr_model::memory::Memory;
+use std::alloc::{AllocError, Global};
+use std::fs::{self, File};
 use std::io::{self, Read, Seek, SeekFrom, Stdin};
 use std::sync::Arc;
 
-/// Bytes that were read before, from one place up to another.
-#[derive(Drop)]
-pub struct Kept {
-    bytes: Arc<Vec<u8>>,
-    at: usize,
-    end: usize,
-}
-
-impl Kept {
-    /// The bytes from `at` up to `end`.
-    pub fn new(bytes: Arc<Vec<u8>>, at: usize, end: usize) -> Kept {
-        Kept { bytes, at, end }
+/// How many bytes the file of a path has.
+pub fn file_size(rt: HostRuntime, path: &str) -> Option<u64> {
+    match fs::metadata(&rt, path) {
+        Ok(metadata) if metadata.is_file() => Some(metadata.len()),
+        Ok(_) | Err(_) => None,
     }
 }
 
-impl Read for Kept {
-    fn read(&mut self, buf: &mut [u8]) -> io::Result<usize> {
-        let Some(mut rest) = self.bytes.get(self.at..self.end) else {
-            return Ok(0);
-        };
-        let n = rest.read(buf)?;
-        self.at = self.at.saturating_add(n);
-        Ok(n)
-    }
+/// What has the bytes of a piece.
+#[derive(Drop)]
+enum Bytes {
+    /// The file of a path. It is open only while it is read, so that thousands of its streams may be read side by side.
+    File(HostRuntime, String),
+    /// Bytes that were read before.
+    Kept(Arc<Vec<u8>>),
 }
 
-/// The bytes of a file from one place up to another. The file is open only while it is read, so that thousands of its streams
-/// may be read side by side.
+/// Bytes from one place up to another, or to their end where that comes first.
 #[derive(Drop)]
-pub struct Part {
-    rt: HostRuntime,
-    path: String,
+pub struct Piece {
+    bytes: Bytes,
     at: u64,
     end: u64,
 }
 
-impl Part {
-    /// The bytes of the file of a path from `at` up to `end`, or to its end where that comes first.
+impl Piece {
+    /// All bytes of the file of a path.
+    pub fn of_file(rt: HostRuntime, path: String) -> Piece {
+        Piece {
+            bytes: Bytes::File(rt, path),
+            at: 0,
+            end: u64::MAX,
+        }
+    }
+
+    /// Bytes that were read before.
+    ///
+    /// # Errors
+    /// `Memory`: out of memory.
+    pub fn of_bytes(alloc: Global, bytes: Vec<u8>) -> Result<Piece, Memory> {
+        Ok(Piece {
+            at: 0,
+            end: bytes.len() as u64,
+            bytes: Bytes::Kept(Arc::new(alloc, bytes)?),
+        })
+    }
+
+    /// Of what has the bytes, those from `at` up to `end`, or to the end of the piece.
+    ///
+    /// # Errors
+    /// `AllocError`: out of memory.
+    pub fn part(&self, at: u64, end: u64) -> Result<Piece, AllocError> {
+        let bytes = match &self.bytes {
+            Bytes::File(rt, path) => Bytes::File(*rt, path.clone()?),
+            Bytes::Kept(bytes) => Bytes::Kept(Arc::try_clone(bytes)?),
+        };
+        let end = end.min(self.end);
+        Ok(Piece { bytes, at, end })
+    }
+
+    /// The same bytes, to be read.
     ///
     /// # Errors
     /// Those of the file; `OutOfMemory`.
-    pub fn open(rt: HostRuntime, alloc: Global, path: &str, at: u64, end: u64) -> io::Result<Part> {
-        File::open(&rt, path)?;
-        match String::from_str(alloc, path) {
-            Ok(path) => Ok(Part { rt, path, at, end }),
-            Err(_) => Err(io::Error::from(io::ErrorKind::OutOfMemory)),
+    pub fn open(&self) -> io::Result<Piece> {
+        if let Bytes::File(rt, path) = &self.bytes {
+            File::open(rt, path.as_str())?;
         }
+        Ok(self.part(self.at, self.end)?)
+    }
+
+    /// How many bytes there are, where that is known.
+    pub fn size(&self) -> Option<u64> {
+        let end = match &self.bytes {
+            Bytes::File(rt, path) if self.end == u64::MAX => file_size(*rt, path.as_str())?,
+            Bytes::File(_, _) | Bytes::Kept(_) => self.end,
+        };
+        Some(end.saturating_sub(self.at))
     }
 }
 
-impl Read for Part {
+impl Read for Piece {
     fn read(&mut self, buf: &mut [u8]) -> io::Result<usize> {
         let left = self.end.saturating_sub(self.at);
         let most = buf.len().min(usize::try_from(left).unwrap_or(usize::MAX));
-        let mut file = File::open(&self.rt, self.path.as_str())?;
-        file.seek(SeekFrom::Start(self.at))?;
-        let n = file.read(&mut buf[..most])?;
-        self.at = self.at.saturating_add(n as u64);
-        Ok(n)
+        match &self.bytes {
+            Bytes::File(rt, path) => {
+                let mut file = File::open(rt, path.as_str())?;
+                file.seek(SeekFrom::Start(self.at))?;
+                let n = file.read(&mut buf[..most])?;
+                self.at = self.at.saturating_add(n as u64);
+                Ok(n)
+            }
+            Bytes::Kept(bytes) => {
+                let Some(mut rest) = bytes.get(self.at as usize..) else {
+                    return Ok(0);
+                };
+                let n = rest.read(&mut buf[..most])?;
+                self.at = self.at.saturating_add(n as u64);
+                Ok(n)
+            }
+        }
     }
 }
 
@@ -72,10 +116,8 @@ impl Read for Part {
 pub enum Source {
     /// A file or a pipe from where it stands to its end.
     Whole(File),
-    /// As many bytes of a file.
-    Part(Part),
-    /// Bytes that were read before.
-    Kept(Kept),
+    /// Some bytes.
+    Piece(Piece),
     /// Standard input.
     Input(Stdin),
     /// What can't be opened.
@@ -86,8 +128,7 @@ impl Read for Source {
     fn read(&mut self, buf: &mut [u8]) -> io::Result<usize> {
         match self {
             Source::Whole(file) => file.read(buf),
-            Source::Part(part) => part.read(buf),
-            Source::Kept(kept) => kept.read(buf),
+            Source::Piece(piece) => piece.read(buf),
             Source::Input(input) => input.read(buf),
             Source::Missing => Err(io::Error::from(io::ErrorKind::NotFound)),
         }

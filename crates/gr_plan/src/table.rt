@@ -1,62 +1,29 @@
 //! What the names of a command line's files open.
 
 use crate::progress::Progress;
-use crate::source::{Kept, Part, Source};
+use crate::source::{Piece, Source, file_size};
 use crate::watched::Watched;
 use gr_model::memory::Memory;
 use indexmap::IndexMap;
 use std::alloc::Global;
-use std::fs::{self, File};
+use std::fs::File;
 use std::hash::{BuildHasherDefault, FoldHasher};
 use std::io;
 use std::sync::Arc;
 
-/// What a name opens that is no path of a whole file.
-#[derive(Drop)]
-pub enum Origin {
-    /// The bytes of a file from one place up to another, or to its end.
-    Part {
-        /// The path of the file.
-        path: String,
-        /// Where the bytes begin.
-        start: u64,
-        /// Where they end, if not with the file.
-        end: Option<u64>,
-    },
-    /// Bytes that were read before, from one place up to another.
-    Kept {
-        /// The bytes.
-        bytes: Arc<Vec<u8>>,
-        /// Where they begin.
-        start: usize,
-        /// Where they end.
-        end: usize,
-    },
-}
-
 /// The names that open something else than the whole file of this path.
 #[derive(Drop)]
 pub struct Table {
-    alloc: Global,
-    origins: IndexMap<String, Origin, BuildHasherDefault<FoldHasher>>,
+    pieces: IndexMap<String, Piece, BuildHasherDefault<FoldHasher>>,
     /// Who tells how far the reading is.
     pub progress: Option<Arc<Progress>>,
-}
-
-/// How many bytes the file of a path has.
-pub fn file_size(rt: HostRuntime, path: &str) -> Option<u64> {
-    match fs::metadata(&rt, path) {
-        Ok(metadata) if metadata.is_file() => Some(metadata.len()),
-        Ok(_) | Err(_) => None,
-    }
 }
 
 impl Table {
     /// No names.
     pub fn new(alloc: Global) -> Table {
         Table {
-            alloc,
-            origins: IndexMap::new(alloc),
+            pieces: IndexMap::new(alloc),
             progress: None,
         }
     }
@@ -65,21 +32,16 @@ impl Table {
     ///
     /// # Errors
     /// `Memory`: out of memory.
-    pub fn add(&mut self, name: String, origin: Origin) -> Result<(), Memory> {
+    pub fn add(&mut self, name: String, piece: Piece) -> Result<(), Memory> {
         if !self.has(name.as_str()) {
-            self.origins.insert(name, origin)?;
+            self.pieces.insert(name, piece)?;
         }
         Ok(())
     }
 
-    /// What a name opens, if it is one of the table.
-    fn origin_of(&self, name: &str) -> Option<&Origin> {
-        self.origins.get(name)
-    }
-
     /// Whether the table has a name.
     pub fn has(&self, name: &str) -> bool {
-        self.origin_of(name).is_some()
+        self.pieces.get(name).is_some()
     }
 
     /// Who tells how far the reading is, once more.
@@ -107,22 +69,9 @@ impl Table {
 
     /// How many bytes a name opens, where that is known.
     pub fn size_of(&self, rt: HostRuntime, name: &str) -> Option<u64> {
-        match self.origin_of(name) {
+        match self.pieces.get(name) {
             None => file_size(rt, name),
-            Some(
-                Origin::Kept {
-                    bytes: _,
-                    start,
-                    end,
-                },
-            ) => Some(end.saturating_sub(*start) as u64),
-            Some(Origin::Part { path, start, end }) => {
-                let end = match end {
-                    None => file_size(rt, path.as_str())?,
-                    Some(end) => *end,
-                };
-                Some(end.saturating_sub(*start))
-            }
+            Some(piece) => piece.size(),
         }
     }
 
@@ -131,17 +80,9 @@ impl Table {
     /// # Errors
     /// Those of the file.
     pub fn open(&self, rt: HostRuntime, name: &str) -> io::Result<Source> {
-        match self.origin_of(name) {
+        match self.pieces.get(name) {
             None => Ok(Source::Whole(File::open(&rt, name)?)),
-            Some(Origin::Part { path, start, end }) => {
-                let end = end.unwrap_or(u64::MAX);
-                let part = Part::open(rt, self.alloc, path.as_str(), *start, end)?;
-                Ok(Source::Part(part))
-            }
-            Some(Origin::Kept { bytes, start, end }) => {
-                let bytes = Arc::try_clone(bytes)?;
-                Ok(Source::Kept(Kept::new(bytes, *start, *end)))
-            }
+            Some(piece) => Ok(Source::Piece(piece.open()?)),
         }
     }
 }

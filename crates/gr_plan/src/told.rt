@@ -4,14 +4,11 @@ use crate::account::{Account, Look, begins_stream};
 use crate::files::{Kind, kind_of};
 use crate::held::Held;
 use crate::plan::Plan;
-use crate::text_fault::{bad_line, tell_word};
+use crate::text_fault::tell_word;
 use gr_model::memory::Memory;
-use std::alloc::Global;
+use gr_record::fault::Fault;
 use std::fs::File;
 use std::io::{self, Read, Write};
-
-/// How many bytes are read at once.
-const PIECE_LENGTH: usize = 65_536;
 
 /// The words with which the text of a trace begins.
 const TEXT_BEGINS: &[u8] = b"group ";
@@ -21,10 +18,8 @@ const TEXT_BEGINS: &[u8] = b"group ";
 enum Subject {
     /// Reading.
     Reading,
-    /// The stream of this number, from 0.
-    Stream(u64),
-    /// The header of the stream of this number.
-    Header(u64),
+    /// The stream of this number, from 0, or only its header.
+    Stream(u64, bool),
     /// The line of this number, from 1.
     Line(u64),
     /// Something else.
@@ -51,11 +46,7 @@ fn subject_of(line: &str) -> Subject {
         return Subject::Reading;
     }
     if let Some(stream) = number_in(line, "gpurace: stream ") {
-        return if is_of_header(line) {
-            Subject::Header(stream)
-        } else {
-            Subject::Stream(stream)
-        };
+        return Subject::Stream(stream, is_of_header(line));
     }
     match number_in(line, "gpurace: line ") {
         Some(number) if line.ends_with(": bad line\n") => Subject::Line(number),
@@ -63,23 +54,30 @@ fn subject_of(line: &str) -> Subject {
     }
 }
 
-/// Why a file can't be opened, if so. Pipes are left as they are.
-fn error_of_opening(rt: HostRuntime, name: &str) -> Option<io::Error> {
+/// Why a file can't be opened, or can be and not read, if so. Pipes are left as they are.
+fn error_of(rt: HostRuntime, name: &str, is_read: bool) -> Option<io::Error> {
     match kind_of(rt, name) {
         Kind::Input | Kind::Pipe => None,
-        Kind::File | Kind::Folder | Kind::Missing => File::open(&rt, name).err(),
+        Kind::File | Kind::Folder | Kind::Missing => match File::open(&rt, name) {
+            Err(error) => Some(error),
+            Ok(mut file) if is_read => file.read(&mut [0u8; 1]).err(),
+            Ok(_) => None,
+        },
     }
 }
 
-/// Why a file that can be opened can't be read, if so.
-fn error_of_reading(rt: HostRuntime, name: &str) -> Option<io::Error> {
-    match kind_of(rt, name) {
-        Kind::File | Kind::Folder => {
-            let mut byte = [0u8; 1];
-            File::open(&rt, name).ok()?.read(&mut byte).err()
+/// The first of these files that can't be opened, or can be and not read, and why.
+fn first_error<'a>(
+    rt: HostRuntime,
+    names: &[&'a str],
+    is_read: bool,
+) -> Option<(&'a str, io::Error)> {
+    for name in names {
+        if let Some(error) = error_of(rt, name, is_read) {
+            return Some((*name, error));
         }
-        Kind::Input | Kind::Pipe | Kind::Missing => None,
     }
+    None
 }
 
 /// What an error says before its number.
@@ -91,68 +89,33 @@ fn without_code(text: &str) -> &str {
 }
 
 /// Writes why a file can't be read.
-fn put_error(alloc: Global, errors: &mut Held, name: &str, error: &io::Error) -> io::Result<()> {
-    let text = format!(in alloc; "{error}")?;
+fn put_error(rt: HostRuntime, errors: &mut Held, name: &str, error: &io::Error) -> io::Result<()> {
+    let text = format!(in rt.alloc(); "{error}")?;
     let message = without_code(text.as_str());
     writeln!(errors, "gpurace: {name}: {message}")
 }
 
-/// The first of these files that can't be opened, and why.
-fn unopened(rt: HostRuntime, names: &[String]) -> Option<(&str, io::Error)> {
-    for name in names {
-        if let Some(error) = error_of_opening(rt, name.as_str()) {
-            return Some((name.as_str(), error));
-        }
-    }
-    None
-}
-
-/// The first of these files that can be opened and not read, and why.
-fn unread(rt: HostRuntime, names: &[String]) -> Option<(&str, io::Error)> {
-    for name in names {
-        if let Some(error) = error_of_reading(rt, name.as_str()) {
-            return Some((name.as_str(), error));
-        }
-    }
-    None
-}
-
-/// The account of a reader's one stream, up to its first record at fault.
-fn account_of<R: Read>(alloc: Global, reader: &mut R) -> Result<Account, Memory> {
-    let mut account = Account::new(alloc, false);
-    let mut piece = [0u8; PIECE_LENGTH];
-    for _ in 0..u64::MAX {
-        let Ok(n) = reader.read(&mut piece) else {
-            break;
-        };
-        if n == 0 || account.is_stopped {
-            break;
-        }
-        account.keep(&piece[..n])?;
-        account.pass(Look::Whole(0))?;
-    }
-    Ok(account)
-}
-
-/// Writes at which record of a stream its fault is.
+/// Writes at which record of a stream its fault is, or that it is at its header.
 fn put_spot<W: Write>(
     errors: &mut W,
     stream: u64,
     name: Option<&str>,
     account: &Account,
+    is_of_header: bool,
 ) -> io::Result<()> {
     let record = account.records;
     if let Some(name) = name {
-        if account.is_at_end {
-            writeln!(errors, "gpurace: {name}: stream {stream}, behind its end")?;
-        } else if account.is_at_header() {
-            writeln!(errors, "gpurace: {name}: stream {stream}, at its header")?;
+        write!(errors, "gpurace: {name}: stream {stream}, ")?;
+        if account.is_at_end && !is_of_header {
+            writeln!(errors, "behind its end")?;
+        } else if account.is_at_header() || is_of_header {
+            writeln!(errors, "at its header")?;
         } else {
-            writeln!(
-                errors,
-                "gpurace: {name}: stream {stream}, at its record {record}"
-            )?;
+            writeln!(errors, "at its record {record}")?;
         }
+    }
+    if is_of_header {
+        return put_text(errors, name.unwrap_or("the input"), account);
     }
     if account.has_header_inside() {
         writeln!(
@@ -164,43 +127,33 @@ fn put_spot<W: Write>(
 }
 
 /// Writes that the bytes of a stream are a text, if they begin as one.
-fn put_text<W: Write>(errors: &mut W, name: Option<&str>, bytes: &[u8]) -> io::Result<()> {
-    if !bytes.starts_with(TEXT_BEGINS) {
+fn put_text<W: Write>(errors: &mut W, name: &str, account: &Account) -> io::Result<()> {
+    if !account.is_at_header() || !account.bytes.starts_with(TEXT_BEGINS) {
         return Ok(());
     }
-    match name {
-        None => writeln!(
-            errors,
-            "gpurace: the input is a text, of which gpurace pack makes a trace"
-        ),
-        Some(name) => writeln!(
-            errors,
-            "gpurace: {name} is a text, of which gpurace pack makes a trace"
-        ),
-    }
+    writeln!(
+        errors,
+        "gpurace: {name} is a text, of which gpurace pack makes a trace"
+    )
 }
 
-/// The account of a file's one stream, up to its first record at fault, where the file can be read again.
-fn account_again(
-    rt: HostRuntime,
-    alloc: Global,
-    plan: &Plan,
-    name: &str,
-) -> Result<Option<Account>, Memory> {
+/// The account of a file's one stream, up to its first record at fault, where the file can be read again and memory does not run out.
+fn account_again(rt: HostRuntime, plan: &Plan, name: &str) -> Option<Account> {
     let table = &plan.files.table;
     if !table.has(name) && kind_of(rt, name) != Kind::File {
-        return Ok(None);
+        return None;
     }
-    match table.open(rt, name) {
-        Err(_) => Ok(None),
-        Ok(mut source) => Ok(Some(account_of(alloc, &mut source)?)),
+    let mut source = table.open(rt, name).ok()?;
+    let mut account = Account::new(rt.alloc(), false);
+    match account.read(&mut source, Look::Whole(0)) {
+        Err(Fault::Memory) => None,
+        Ok(()) | Err(_) => Some(account),
     }
 }
 
 /// Tells of the fault of a stream that is read from a file of its own.
 fn tell_file<W: Write>(
     rt: HostRuntime,
-    alloc: Global,
     plan: &Plan,
     errors: &mut W,
     stream: u64,
@@ -210,18 +163,10 @@ fn tell_file<W: Write>(
         return Ok(());
     };
     let name = name.as_str();
-    let Ok(Some(account)) = account_again(rt, alloc, plan, name) else {
-        return writeln!(errors, "gpurace: {name}: stream {stream}");
-    };
-    if is_of_header {
-        writeln!(errors, "gpurace: {name}: stream {stream}, at its header")?;
-        return if account.is_at_header() {
-            put_text(errors, Some(name), account.bytes())
-        } else {
-            Ok(())
-        };
+    match account_again(rt, plan, name) {
+        None => writeln!(errors, "gpurace: {name}: stream {stream}"),
+        Some(account) => put_spot(errors, stream, Some(name), &account, is_of_header),
     }
-    put_spot(errors, stream, Some(name), &account)
 }
 
 /// The name of the file that has this byte of the input.
@@ -243,81 +188,50 @@ fn tell_input<W: Write>(
     if account.pass(Look::Whole(stream)).is_err() {
         return Ok(());
     }
-    let start = match account.starts.get(stream as usize) {
-        None => account.passed,
-        Some(start) => *start,
-    };
-    let name = given_at(plan, start);
-    if !is_of_header {
-        return put_spot(errors, stream, name, &account);
-    }
-    if let Some(name) = name {
-        writeln!(errors, "gpurace: {name}: stream {stream}, at its header")?;
-    }
-    if account.is_at_header() {
-        put_text(errors, name, account.bytes())?;
-    }
-    Ok(())
+    let start = account.starts.get(stream as usize).copied();
+    let name = given_at(plan, start.unwrap_or(account.passed));
+    put_spot(errors, stream, name, &account, is_of_header)
 }
 
 /// Tells of a line of a text that is at fault.
 fn tell_line<W: Write>(plan: &Plan, errors: &mut W, number: u64) -> io::Result<()> {
-    let Some(text) = &plan.reading.text else {
-        return Ok(());
-    };
-    if begins_stream(text.as_slice()) {
-        return writeln!(
+    match &plan.reading.text {
+        None => Ok(()),
+        Some(text) if begins_stream(text.as_slice()) => writeln!(
             errors,
             "gpurace: the input is a trace already, and no text of one"
-        );
-    }
-    match bad_line(text.as_slice(), number) {
-        None => Ok(()),
-        Some(bad) => tell_word(errors, number, &bad),
-    }
-}
-
-/// Whether the line of a file that can't be read stays for this command, with what is told below it.
-fn keeps_line(command: &str) -> bool {
-    match command {
-        "races" | "history" | "check" | "why-held" | "upgrade" => false,
-        _ => true,
+        ),
+        Some(text) => tell_word(errors, text.as_slice(), number),
     }
 }
 
 /// The files of which one can't be opened or read: side files, and those of streams.
-fn files_of(alloc: Global, plan: &Plan) -> Result<Vec<String>, Memory> {
-    let mut names = Vec::new(alloc);
+fn files_of(rt: HostRuntime, plan: &Plan) -> Result<Vec<&str>, Memory> {
+    let mut names = Vec::new(rt.alloc());
     for name in &plan.sides {
-        names.push(String::from_str(alloc, name.as_str())?)?;
+        names.push(name.as_str())?;
     }
     for name in &plan.files.names {
         if !plan.files.table.has(name.as_str()) {
-            names.push(String::from_str(alloc, name.as_str())?)?;
+            names.push(name.as_str())?;
         }
     }
     for name in &plan.given {
-        names.push(String::from_str(alloc, name.as_str())?)?;
+        names.push(name.as_str())?;
     }
     Ok(names)
 }
 
 /// Tells which file can't be read, and why.
-fn tell_unread(
-    rt: HostRuntime,
-    alloc: Global,
-    plan: &Plan,
-    command: &str,
-    errors: &mut Held,
-) -> io::Result<()> {
-    let Ok(names) = files_of(alloc, plan) else {
+fn tell_unread(rt: HostRuntime, plan: &Plan, command: &str, errors: &mut Held) -> io::Result<()> {
+    let Ok(names) = files_of(rt, plan) else {
         return errors.pass();
     };
-    if let Some((name, error)) = unopened(rt, names.as_slice()) {
+    if let Some((name, error)) = first_error(rt, names.as_slice(), false) {
         pass_or_forget(command, errors)?;
-        return put_error(alloc, errors, name, &error);
+        return put_error(rt, errors, name, &error);
     }
-    let Some((name, error)) = unread(rt, names.as_slice()) else {
+    let Some((name, error)) = first_error(rt, names.as_slice(), true) else {
         return errors.pass();
     };
     pass_or_forget(command, errors)?;
@@ -328,15 +242,15 @@ fn tell_unread(
             "gpurace: {name}: no stream in this folder: no file whose name ends in .gpurace"
         );
     }
-    put_error(alloc, errors, name, &error)
+    put_error(rt, errors, name, &error)
 }
 
 /// Passes on the line of a file that can't be read, or forgets it where the file is told in its place.
 fn pass_or_forget(command: &str, errors: &mut Held) -> io::Result<()> {
-    if keeps_line(command) {
-        return errors.pass();
+    match command {
+        "races" | "history" | "check" | "why-held" | "upgrade" => errors.forget(),
+        _ => errors.pass()?,
     }
-    errors.forget();
     Ok(())
 }
 
@@ -344,24 +258,18 @@ fn pass_or_forget(command: &str, errors: &mut Held) -> io::Result<()> {
 ///
 /// # Errors
 /// Those of standard error.
-pub fn tell(
-    rt: HostRuntime,
-    alloc: Global,
-    plan: &mut Plan,
-    command: &str,
-    errors: &mut Held,
-) -> io::Result<()> {
+pub fn tell(rt: HostRuntime, plan: &mut Plan, command: &str, errors: &mut Held) -> io::Result<()> {
     let subject = subject_of(errors.text());
     if subject == Subject::Reading {
-        return tell_unread(rt, alloc, plan, command, errors);
+        return tell_unread(rt, plan, command, errors);
     }
     errors.pass()?;
     let is_each = !plan.files.names.is_empty();
     match subject {
-        Subject::Stream(stream) if is_each => tell_file(rt, alloc, plan, errors, stream, false),
-        Subject::Header(stream) if is_each => tell_file(rt, alloc, plan, errors, stream, true),
-        Subject::Stream(stream) => tell_input(plan, errors, stream, false),
-        Subject::Header(stream) => tell_input(plan, errors, stream, true),
+        Subject::Stream(stream, is_of_header) if is_each => {
+            tell_file(rt, plan, errors, stream, is_of_header)
+        }
+        Subject::Stream(stream, is_of_header) => tell_input(plan, errors, stream, is_of_header),
         Subject::Line(number) => tell_line(plan, errors, number),
         Subject::Reading | Subject::Other => Ok(()),
     }

@@ -7,3 +7,4 @@ pub mod PartingLemmas
 pub mod CauseLemmas
 pub mod BetweenLemmas
 pub mod AccountLemmas
+mod TakenLists

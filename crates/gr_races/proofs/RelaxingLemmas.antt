@@ -1,12 +1,15 @@
 -- Where a rule is relaxed, lists that are accepted still are.
-use Rattle.std.proofs.Common.{◌≡◌, ℕ, ◌≤◌, ◌==◌, ◌&&◌, Bool, true, false, cond, List, [], ◌∷◌, filter, map, Option, Some, None, option_and_then, option_map, slice_get, get_or, zero, suc, refl, sym, ap, ◌∙◌, subst}
+use Rattle.std.proofs.Common.{◌≡◌, ℕ, ◌<◌, ◌≤◌, ◌==◌, ◌&&◌, Bool, true, false, true≢false, cond, List, [], ◌∷◌, All, filter, length, map, Option, Some, None, option_and_then, option_map, slice_get, get_or, zero, suc, refl, sym, ap, ◌∙◌, subst, arith}
 use Rattle.std.specs.Prelude.{not}
-use Rattle.std.proofs.lemmas.List.{length-map}
+use Rattle.std.specs.List.{list_all}
+use Rattle.std.proofs.lemmas.Bool.{and_parts}
+use Rattle.std.proofs.lemmas.List.{ext_get_or, get_or-map, length-map}
 use Rattle.gr_model.specs.declared.event.Event.{Event}
 use Rattle.gr_model.specs.declared.event.EventId.{EventId}
 use Rattle.gr_model.specs.declared.event.Kind.{Kind}
 use Rattle.gr_model.specs.declared.event.Kind.TheVariants.{Read, Write, Load, Store, Rmw, Barrier, End}
 use Rattle.gr_model.specs.declared.event.Name.{Name}
+use Rattle.gr_model.specs.declared.event.Scope.TheVariants.{Device, Group}
 use Rattle.gr_model.specs.declared.event.Space.{Space}
 use Rattle.gr_model.specs.declared.event.Word.{Word}
 use Rattle.gr_model.specs.declared.race.Race.{Race}
@@ -16,9 +19,10 @@ use Rattle.gr_model.specs.Events.{IsEventOk, IsKindOk, IsNamingOk, is_end_kind}
 use Rattle.gr_model.specs.Streams.{AreAccepted, AreGood, IsAccepted, IsGoodAt, Streams, event_at, is_complete, is_of, list_of, size_of, word_at}
 use Rattle.gr_races.specs.declared.relaxing.Relaxation.{Relaxation}
 use Rattle.gr_races.specs.declared.relaxing.Relaxation.TheVariants.{BothFlags, DeviceScope}
-use Rattle.gr_explain.specs.Judged.{AreAccesses}
+use Rattle.gr_explain.specs.declared.judging.Judgement.TheVariants.{Race as AsRace}
+use Rattle.gr_explain.specs.Judged.{AreAccesses, AreJudgements, IsJudged}
 use Rattle.gr_races.specs.Causes.{IsPairOf}
-use Rattle.gr_races.specs.Relaxing.{relaxed, relaxed_event, relaxed_kind}
+use Rattle.gr_races.specs.Relaxing.{is_relaxed, relaxed, relaxed_event, relaxed_kind}
 
 -- ---- one record
 
@@ -179,3 +183,50 @@ pub still_accesses : (r : Relaxation) (s : Streams) (pair : Race) → IsPairOf s
 still_accesses r s pair race =
     let may_race = race.race.may_race in
     record { first = (pair.word, still_word r s pair.first ∙ may_race.word_first); second = (pair.word, still_word r s pair.second ∙ may_race.word_second) }
+
+-- ---- where a rule changes nothing
+
+same_kind : (r : Relaxation) (k : Kind) → is_relaxed r k ≡ true → relaxed_kind r k ≡ k
+same_kind BothFlags Read is = refl
+same_kind BothFlags Write is = refl
+same_kind BothFlags (Load scope order) is = refl
+same_kind BothFlags (Store scope order) is = refl
+same_kind BothFlags (Rmw scope order) is = refl
+same_kind BothFlags (Barrier true true) is = refl
+same_kind BothFlags (Barrier true false) is = absurd (true≢false (sym is))
+same_kind BothFlags (Barrier false local) is = absurd (true≢false (sym is))
+same_kind BothFlags (End cut) is = refl
+same_kind DeviceScope Read is = refl
+same_kind DeviceScope Write is = refl
+same_kind DeviceScope (Load Device order) is = refl
+same_kind DeviceScope (Load Group order) is = absurd (true≢false (sym is))
+same_kind DeviceScope (Store Device order) is = refl
+same_kind DeviceScope (Store Group order) is = absurd (true≢false (sym is))
+same_kind DeviceScope (Rmw Device order) is = refl
+same_kind DeviceScope (Rmw Group order) is = absurd (true≢false (sym is))
+same_kind DeviceScope (Barrier global local) is = refl
+same_kind DeviceScope (End cut) is = refl
+
+-- a list of such records is the same
+pub same_list : (r : Relaxation) (xs : List Event) → list_all (λ x. is_relaxed r x.kind) xs ≡ true → map (relaxed_event r) xs ≡ xs
+same_list r [] all = refl
+same_list r (x ∷ xs) all =
+    let parts = and_parts (is_relaxed r x.kind) (list_all (λ y. is_relaxed r y.kind) xs) all in
+    let first : relaxed_event r x ≡ x = ap (λ (k : Kind). record { item = x.item; kind = k; space = x.space; word = x.word; names = x.names }) (same_kind r x.kind parts.0) in
+    ap (λ (y : Event). y ∷ map (relaxed_event r) xs) first ∙ ap (λ (ys : List Event). x ∷ ys) (same_list r xs parts.1)
+
+-- and a launch of such lists
+pub same_launch : (r : Relaxation) (s : Streams) → ((k : ℕ) → k < length s.lists → map (relaxed_event r) (list_of s k) ≡ list_of s k) → relaxed r s ≡ s
+same_launch r s each =
+    let relax : List Event → List Event = map (relaxed_event r) in
+    let lists : map relax s.lists ≡ s.lists = ext_get_or [] (map relax s.lists) s.lists (length-map s.lists relax)
+    (λ k lt. let within : k < length s.lists = omega (arith, lt, length-map s.lists relax) in get_or-map relax s.lists k [] [] within ∙ each k within) in
+    ap (λ (ls : List (List Event)). record { sizes = s.sizes; lists = ls }) lists
+
+-- each race still is one
+pub all_still_race : (s : Streams) (r : Relaxation) → relaxed r s ≡ s → (races : List Race) → All (IsPairOf s) races → AreJudgements (relaxed r s) races (map (λ race. AsRace) races)
+all_still_race s r same [] all = tt
+all_still_race s r same (x ∷ xs) all =
+    let pair : IsPairOf s x = all 0 x (omega arith) in
+    let here : IsJudged s x AsRace = ((pair.first, pair.second), pair.race) in
+    (subst (λ (t : Streams). IsJudged t x AsRace) (sym same) here, all_still_race s r same xs (λ k d lt. all (suc k) d (omega (arith, lt))))

@@ -1,5 +1,5 @@
 -- The least racing pair of a word, what its accesses are, what stands between them, the cause of their race, and the word's other races.
--- Source: docs/FORMATS.md, "The long form of explain".
+-- Source: docs/OUTPUT.md, "explain --long".
 use Rattle.std.specs.Prelude.{◌≡◌, ◌∷◌, [], ℕ, List, MatchOption, Option, Some, filter, not}
 use Rattle.gr_model.specs.declared.event.EventId.{EventId}
 use Rattle.gr_model.specs.declared.event.Word.{Word}
@@ -17,9 +17,9 @@ use Rattle.gr_races.specs.Telling.{with_causes}
 use Rattle.gr_races.specs.declared.cause.Cause.{Cause}
 use Rattle.gr_races.specs.Causes.{IsCause}
 use Rattle.gr_races.specs.declared.account.Account.{Account}
-use Rattle.gr_accesses.specs.declared.details.Details.{Details}
+use Rattle.gr_timeline.specs.declared.details.Details.{Details}
 use Rattle.gr_races.specs.Between.{BetweenSaid, between_of, between_said}
-use Rattle.gr_accesses.specs.Details.{details_of}
+use Rattle.gr_timeline.specs.Details.{details_of}
 
 -- the races of a word but for those of two tags
 abbrev pub others_of : List KindedRace → ℕ → ℕ → List KindedRace

@@ -1,5 +1,5 @@
 -- What stands between the two accesses of a racing pair.
--- Source: docs/FORMATS.md, "The long form of explain".
+-- Source: docs/OUTPUT.md, "explain --long".
 use Rattle.std.specs.Prelude.{ℕ, Bool, List, [], Option, None, drop, filter, filter_map, find, if◌then◌else◌, nat_lt, option_and_then, option_map, take, ◌==◌}
 use Rattle.std.specs.List.{enumerate_from, last_or}
 use Rattle.gr_model.specs.declared.event.Event.{Event}
@@ -11,9 +11,9 @@ use Rattle.gr_model.specs.Instances.{Mark}
 use Rattle.gr_model.specs.Streams.{Streams, places_from, trace_of}
 use Rattle.gr_races.specs.declared.between.Between.{Between}
 use Rattle.gr_races.specs.declared.between.Crossing.{Crossing}
-use Rattle.gr_races.specs.declared.between.Told.{Told}
-use Rattle.gr_accesses.specs.declared.details.Details.{Details}
-use Rattle.gr_accesses.specs.Details.{details_of, phase_of}
+use Rattle.gr_races.specs.declared.between.DetailedEvent.{DetailedEvent}
+use Rattle.gr_timeline.specs.declared.details.Details.{Details}
+use Rattle.gr_timeline.specs.Details.{details_of, phase_of}
 
 -- ---- barriers
 
@@ -40,19 +40,19 @@ crossings s e f =
 abbrev pub is_acquire : Event → Bool
 is_acquire e = is_acquire_kind e.kind
 
-abbrev pub with_details : EventId → Details → Told
+abbrev pub with_details : EventId → Details → DetailedEvent
 with_details e d = record { event = e; details = d }
 
 -- what is told of an item's event of this index, where there is one
-abbrev pub told_at : Streams → ItemId → ℕ → Option Told
+abbrev pub told_at : Streams → ItemId → ℕ → Option DetailedEvent
 told_at s i k = let e : EventId = record { at = i; index = k } in option_map (with_details e) (details_of s e)
 
 -- of the releases of its item's trace the first that stands behind an event
-abbrev pub release_behind : Streams → EventId → Option Told
+abbrev pub release_behind : Streams → EventId → Option DetailedEvent
 release_behind s e = option_and_then (told_at s e.at) (find (nat_lt e.index) (places_from is_release 0 (trace_of s e.at)))
 
 -- of the acquires of its item's trace the last that stands before an event
-abbrev pub acquire_before : Streams → EventId → Option Told
+abbrev pub acquire_before : Streams → EventId → Option DetailedEvent
 acquire_before s e = option_and_then (told_at s e.at) (last_or None (filter (λ k. nat_lt k e.index) (places_from is_acquire 0 (trace_of s e.at))))
 
 -- ---- both
@@ -60,8 +60,8 @@ acquire_before s e = option_and_then (told_at s e.at) (last_or None (filter (λ 
 -- what is said to stand between two accesses
 pub record BetweenSaid : Type 0 where
   pub crossings : List Crossing
-  pub release : Option Told
-  pub acquire : Option Told
+  pub release : Option DetailedEvent
+  pub acquire : Option DetailedEvent
 
 abbrev pub between_said : {Z : Type 0} → Between Z → BetweenSaid
 between_said b = record { crossings = b.crossings.items; release = b.release; acquire = b.acquire }

@@ -1,5 +1,5 @@
 -- What follows of a launch with one of its rules relaxed, and of causes.
--- Source: docs/FORMATS.md, "The long form of explain".
+-- Source: docs/OUTPUT.md, "explain --long".
 use Rattle.std.specs.Prelude.{◌≡◌}
 use Rattle.gr_model.specs.declared.event.EventId.{EventId}
 use Rattle.gr_model.specs.declared.event.Word.{Word}

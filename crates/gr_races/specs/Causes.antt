@@ -1,5 +1,5 @@
 -- The cause of a race: the first rule without which its two accesses would be no race, or else what is missing between them.
--- Source: docs/FORMATS.md, "The long form of explain". Causes are this project's own.
+-- Source: docs/OUTPUT.md, "explain --long". Causes are this project's own.
 use Rattle.std.specs.Prelude.{◌≡◌, ◌≢◌, List}
 use Rattle.gr_model.specs.declared.event.EventId.{EventId}
 use Rattle.gr_model.specs.declared.event.Word.{Word}

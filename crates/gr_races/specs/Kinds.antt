@@ -1,5 +1,5 @@
 -- Kinds of races.
--- Source: docs/FORMATS.md, "Races". They are this project's own.
+-- Source: docs/OUTPUT.md, "races". They are this project's own.
 use Rattle.std.specs.Prelude.{ℕ, ◌+◌, ◌*◌, Bool, ◌==◌, ◌&&◌, ◌||◌, is_some, nat_lt, if◌then◌else◌, Option, None, Some, option_and_then, option_map, List}
 use Rattle.std.specs.List.{filter_map}
 use Rattle.std.specs.Option.{option_map_or}

@@ -1,5 +1,5 @@
 -- Races kind by kind.
--- Source: docs/FORMATS.md, "Races".
+-- Source: docs/OUTPUT.md, "races".
 use Rattle.std.specs.Prelude.{if◌then◌else◌, List, [], ◌∷◌, ◌++◌, Option, None, Some, filter, map, not}
 use Rattle.std.specs.List.{list_any}
 use Rattle.gr_model.specs.declared.race.Race.{Race}

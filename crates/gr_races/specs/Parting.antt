@@ -1,5 +1,5 @@
 -- Divergent instances of barriers that stand between two events of one work-group.
--- Source: docs/FORMATS.md, "The long form of explain". They are this project's own.
+-- Source: docs/OUTPUT.md, "explain --long". They are this project's own.
 use Rattle.std.specs.Prelude.{◌≡◌, ◌⊎◌, ℕ, ◌<◌, Some}
 use Rattle.gr_model.specs.declared.event.EventId.{EventId}
 use Rattle.gr_model.specs.Barriers.{IsDivergent, is_barrier}

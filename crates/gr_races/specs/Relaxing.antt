@@ -1,10 +1,11 @@
 -- A launch with one of its rules relaxed: the same records, but for the flags of its barriers or the scopes of its atomics.
--- Source: docs/FORMATS.md, "The long form of explain". What is relaxed is this project's own.
-use Rattle.std.specs.Prelude.{map, true}
+-- Source: docs/OUTPUT.md, "explain --long". What is relaxed is this project's own.
+use Rattle.std.specs.Prelude.{Bool, map, true, false, ◌&&◌}
 use Rattle.gr_model.specs.declared.event.Event.{Event}
 use Rattle.gr_model.specs.declared.event.Kind.{Kind}
 use Rattle.gr_model.specs.declared.event.Kind.TheVariants.{Read, Write, Load, Store, Rmw, Barrier, End}
-use Rattle.gr_model.specs.declared.event.Scope.TheVariants.{Device}
+use Rattle.gr_model.specs.declared.event.Scope.{Scope}
+use Rattle.gr_model.specs.declared.event.Scope.TheVariants.{Device, Group}
 use Rattle.gr_model.specs.Streams.{Streams}
 use Rattle.gr_races.specs.declared.relaxing.Relaxation.{Relaxation}
 use Rattle.gr_races.specs.declared.relaxing.Relaxation.TheVariants.{BothFlags, DeviceScope}
@@ -19,6 +20,10 @@ with_both_flags (Rmw scope order) = Rmw scope order
 with_both_flags (Barrier global local) = Barrier true true
 with_both_flags (End cut) = End cut
 
+abbrev pub is_device : Scope → Bool
+is_device Group = false
+is_device Device = true
+
 -- an atomic access has device scope
 abbrev pub with_device_scope : Kind → Kind
 with_device_scope Read = Read
@@ -32,6 +37,14 @@ with_device_scope (End cut) = End cut
 abbrev pub relaxed_kind : Relaxation → Kind → Kind
 relaxed_kind BothFlags kind = with_both_flags kind
 relaxed_kind DeviceScope kind = with_device_scope kind
+
+-- what a record says where the rule is relaxed it says already
+abbrev pub is_relaxed : Relaxation → Kind → Bool
+is_relaxed BothFlags (Barrier global local) = global && local
+is_relaxed DeviceScope (Load scope order) = is_device scope
+is_relaxed DeviceScope (Store scope order) = is_device scope
+is_relaxed DeviceScope (Rmw scope order) = is_device scope
+is_relaxed r kind = true
 
 -- the same record but for its kind
 abbrev pub relaxed_event : Relaxation → Event → Event

@@ -1,5 +1,5 @@
 -- Runs of words with consecutive numbers.
--- Source: docs/FORMATS.md, "Races".
+-- Source: docs/OUTPUT.md, "races".
 use Rattle.std.specs.Prelude.{ℕ, ◌+◌, Bool, false, ◌==◌, ◌&&◌, if◌then◌else◌, List, [], ◌∷◌}
 use Rattle.gr_model.specs.declared.event.Word.{Word}
 use Rattle.gr_model.specs.declared.event.Word.TheVariants.{Global, Local}

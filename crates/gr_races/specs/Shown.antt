@@ -1,5 +1,5 @@
 -- What is shown of the races of a launch.
--- Source: docs/FORMATS.md, "Races".
+-- Source: docs/OUTPUT.md, "races".
 use Rattle.std.specs.Prelude.{◌≡◌, ℕ, Bool, List, Option, length}
 use Rattle.gr_model.specs.declared.event.Word.{Word}
 use Rattle.gr_model.specs.declared.race.Race.{Race}

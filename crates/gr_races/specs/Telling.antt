@@ -1,5 +1,5 @@
 -- The causes that are told of races.
--- Source: docs/FORMATS.md, "Races".
+-- Source: docs/OUTPUT.md, "races".
 use Rattle.std.specs.Prelude.{◌≡◌, Bool, true, false, List, [], ◌∷◌, Option, None, Some}
 use Rattle.gr_model.specs.declared.race.Race.{Race}
 use Rattle.gr_model.specs.Streams.{Streams}

@@ -18,7 +18,6 @@ use crate::cause::{Cause, cause_of};
 use crate::kinds::KindedRace;
 use crate::listing::ordered_rows;
 use crate::place_tags::{PlaceTags, tag_races};
-use gr_accesses::details::{Details, details_of};
 use gr_explain::explain::explain;
 use gr_explain::records::Records;
 use gr_explain::tags::Tags;
@@ -27,6 +26,7 @@ use gr_model::memory::Memory;
 use gr_model::traces::Traces;
 use gr_places::index::PlaceIndex;
 use gr_places::sides::Sides;
+use gr_timeline::details::{Details, details_of};
 use std::alloc::{Allocator, Global};
 
 /// A racing pair, the cause of the race, and the other races of the word.

@@ -8,13 +8,13 @@ ghost use Rattle.gr_model.specs.Barriers.{is_barrier};
 ghost use Rattle.gr_model.specs.Streams as model;
 ghost use Rattle.gr_races.specs.Between as spec;
 
-use gr_accesses::details::{Details, barriers_before, details_at, is_of};
 use gr_explain::records::Records;
 use gr_lanes::kinds::{is_barrier, is_release};
 use gr_model::event::{Event, EventId, ItemId, Kind};
 use gr_model::limits::MOST_RECORDS;
 use gr_model::memory::Memory;
 use gr_model::traces::Traces;
+use gr_timeline::details::{Details, barriers_before, details_at, is_of};
 use std::alloc::{AllocError, Allocator, Global};
 
 /// A barrier instance that one of two accesses of a work-group is behind, and the other not.
@@ -32,7 +32,7 @@ pub struct Crossing {
 
 /// An event of a launch, and what is told of it.
 #[derive(Clone, Copy, Debug, PartialEq, Eq)]
-pub struct Told {
+pub struct DetailedEvent {
     /// The event.
     pub event: EventId,
     /// What it is.
@@ -46,9 +46,9 @@ pub struct Between<A: Allocator = Global> {
     /// Of two accesses of one group the barrier instances that one is behind and the other not, ascending.
     pub crossings: Vec<Crossing, A>,
     /// The first release of its item behind the first access.
-    pub release: Option<Told>,
+    pub release: Option<DetailedEvent>,
     /// The last acquire of its item before the second access.
-    pub acquire: Option<Told>,
+    pub acquire: Option<DetailedEvent>,
 }
 
 /// The instance of a barrier that is the one of this number of its item.
@@ -170,14 +170,14 @@ fn told_at<A: Allocator>(
     records: &Records<'_, A>,
     at: ItemId,
     index: Option<u32>,
-) -> Option<Told>
+) -> Option<DetailedEvent>
     requires same { records.now ≡ traces.now }
     requires group { at.group < length traces.now.sizes }
     ensures { result ≡ option_and_then (spec.told_at traces.now at) index }
 {
     let event = EventId { at, index: index? };
     let details = details_at(traces, records, event)?;
-    Some(Told { event, details })
+    Some(DetailedEvent { event, details })
 }
 
 /// The first release of its item behind an access.
@@ -185,7 +185,7 @@ fn release_behind<A: Allocator>(
     traces: &Traces<A>,
     records: &Records<'_, A>,
     access: EventId,
-) -> Option<Told>
+) -> Option<DetailedEvent>
     requires same { records.now ≡ traces.now }
     requires group { access.at.group < length traces.now.sizes }
     ensures { result ≡ spec.release_behind traces.now access }
@@ -200,7 +200,7 @@ fn acquire_before<A: Allocator>(
     traces: &Traces<A>,
     records: &Records<'_, A>,
     access: EventId,
-) -> Option<Told>
+) -> Option<DetailedEvent>
     requires same { records.now ≡ traces.now }
     requires group { access.at.group < length traces.now.sizes }
     ensures { result ≡ spec.acquire_before traces.now access }

@@ -1,10 +1,11 @@
 //! The causes of races.
 
-ghost use Rattle.std.specs.Prelude.{◌≡◌, ◌↔◌, All, IfOk, IsTrue};
+ghost use Rattle.std.specs.Prelude.{◌≡◌, ◌↔◌, All, IfOk, IsTrue, map};
 ghost use Rattle.gr_model.specs.declared.event.EventId.{EventId as AnyEvent};
 ghost use Rattle.gr_model.specs.declared.event.Word.{Word as AnyWord};
 ghost use Rattle.gr_model.specs.RacePairs.{IsRacePair};
 ghost use Rattle.gr_model.specs.Streams.{ArePrefixes, Streams};
+ghost use Rattle.gr_explain.specs.declared.judging.Judgement.TheVariants.{Race as AsRace};
 ghost use Rattle.gr_explain.specs.Judgements.{IsJudgement};
 ghost use Rattle.gr_explain.specs.Judged.{AreJudgements};
 ghost use Rattle.gr_lanes.specs.Remembered.{IsAllRemembered};
@@ -14,9 +15,9 @@ ghost use Rattle.gr_races.specs.Causes.{AreCauses, IsCause, IsCauseOf, IsMended,
 ghost use Rattle.gr_races.specs.Relaxing as spec;
 
 use crate::parting::are_parted;
-use crate::relaxing::{Relaxation, relaxed};
+use crate::relaxing::{Relaxation, changes_nothing, relaxed};
+use crate::taken::take_all;
 use gr_explain::judging::{Judgement, judge_races};
-use gr_explain::taking::take_all;
 use gr_lanes::lanes::Lanes;
 use gr_model::event::{EventId, Word};
 use gr_model::memory::Memory;
@@ -39,6 +40,17 @@ pub enum Cause {
     NoHandOver,
 }
 
+/// Each of some races is one.
+///
+/// # Errors
+/// `Memory`: out of memory.
+fn all_race<A: Allocator>(alloc: A, races: &[Race]) -> Result<Vec<Judgement, A>, Memory>
+    ensures { IfOk result (λ judgements. judgements.items ≡ map (λ race. AsRace) races.now) }
+{
+    let judgements = races.iter().map(|_| Judgement::Race).collect(alloc)?;
+    Ok(judgements)
+}
+
 /// What the two accesses of each race are to each other where a rule is relaxed.
 ///
 /// # Errors
@@ -52,6 +64,9 @@ fn judged_where<A: Allocator + Copy>(
     requires pairs { All (IsPairOf traces.now) races.now }
     ensures { IfOk result (λ judgements. AreJudgements (spec.relaxed relaxation traces.now) races.now judgements.items) }
 {
+    if changes_nothing(traces, relaxation) {
+        return all_race(alloc, races);
+    }
     let relaxed = relaxed(alloc, traces, relaxation)?;
     judge_races(alloc, &relaxed, races)
 }
@@ -136,8 +151,8 @@ pub fn causes_of<A: Allocator + Copy>(
 {
     let with_flags = judged_where(alloc, traces, Relaxation::BothFlags, races)?;
     let with_scope = judged_where(alloc, traces, Relaxation::DeviceScope, races)?;
-    let order = take_all(alloc, traces)?;
-    causes_from(alloc, order.lanes(), races, &with_flags, &with_scope)
+    let lanes = take_all(alloc, traces)?;
+    causes_from(alloc, &lanes, races, &with_flags, &with_scope)
 }
 
 /// The cause of a race of two events on a word, the smaller event first: that of `causes_of`.

@@ -18,3 +18,4 @@ mod parting;
 mod place_tags;
 pub mod relaxing;
 pub mod runs;
+mod taken;

@@ -1,7 +1,8 @@
 //! A launch with one of its rules relaxed: the same records, but for the flags of its barriers or the scopes of its
 //! atomics.
 
-ghost use Rattle.std.specs.Prelude.{◌≡◌, IfOk, map};
+ghost use Rattle.std.specs.Prelude.{◌≡◌, IfOk, IsTrue, map};
+ghost use Rattle.std.specs.List.{list_all};
 ghost use Rattle.gr_races.specs.Relaxing as spec;
 
 use gr_model::event::{Event, Kind, Scope};
@@ -66,6 +67,39 @@ fn relaxed_event(relaxation: Relaxation, event: &Event) -> Event
         Relaxation::DeviceScope => with_device_scope(event.kind),
     };
     Event { kind, ..*event }
+}
+
+/// Whether a record says already what it says where a rule is relaxed.
+fn is_relaxed(relaxation: Relaxation, event: &Event) -> bool
+    ensures { result ≡ spec.is_relaxed relaxation event.now.kind }
+{
+    match (relaxation, event.kind) {
+        (Relaxation::BothFlags, Kind::Barrier { global, local }) => global && local,
+        (
+            Relaxation::DeviceScope,
+            Kind::Load(scope, _) | Kind::Store(scope, _) | Kind::Rmw(scope, _),
+        ) => scope == Scope::Device,
+        _ => true,
+    }
+}
+
+/// Whether all records of a list do.
+fn are_relaxed(relaxation: Relaxation, list: &[Event]) -> bool
+    ensures { result ≡ list_all (λ x. spec.is_relaxed relaxation x.kind) list.now }
+{
+    list.iter().all(|event| is_relaxed(relaxation, event))
+}
+
+/// Whether a launch is the same where a rule is relaxed.
+pub(crate) fn changes_nothing<A: Allocator>(traces: &Traces<A>, relaxation: Relaxation) -> bool
+    ensures { IsTrue result → spec.relaxed relaxation traces.now ≡ traces.now }
+{
+    for group in 0..traces.shape().groups() {
+        if !are_relaxed(relaxation, traces.list(group)) {
+            return false;
+        }
+    }
+    true
 }
 
 /// The list of a group where a rule is relaxed.

@@ -12,3 +12,5 @@ pub mod Spelled
 pub mod SpelledPrefixes
 pub mod Steps
 pub mod Written
+pub mod Consuming
+pub mod Outside

@@ -8,3 +8,4 @@ pub mod Sites
 pub mod Spelling
 pub mod Versions
 pub mod WholeStreams
+pub mod InputFaults

@@ -6,6 +6,7 @@ pub mod encoding;
 pub mod error;
 pub mod fault;
 pub mod header;
+pub mod input;
 pub mod laws;
 pub mod layout;
 pub mod part;

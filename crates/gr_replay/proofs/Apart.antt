@@ -7,8 +7,8 @@ use Rattle.std.proofs.lemmas.Option.{slice_get-get_or, slice_get-map, get_or_fro
 use Rattle.gr_record.specs.declared.error.RecordError.TheVariants.{AfterEnd}
 use Rattle.gr_record.specs.declared.fault.Fault.{Fault}
 use Rattle.gr_record.specs.declared.fault.Fault.TheVariants as faults
-use Rattle.gr_input.specs.Faults.{Fails}
-use Rattle.gr_input.proofs.Outside.{fails_through}
+use Rattle.gr_record.specs.InputFaults.{Fails}
+use Rattle.gr_record.proofs.Outside.{fails_through}
 use Rattle.gr_intake.specs.Joined.{Flat, stream_at}
 use Rattle.gr_replay.specs.Each.{AreRead, all_known, each_at, inputs_of, only_stream_at}
 

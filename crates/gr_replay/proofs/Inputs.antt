@@ -5,13 +5,13 @@ use Rattle.std.specs.Io.KnownBytes.{Consumes}
 use Rattle.gr_record.specs.declared.fault.Fault.{Fault}
 use Rattle.gr_record.specs.declared.fault.Fault.TheVariants as faults
 use Rattle.gr_record.specs.Faults.{IsOfReading, IsOfValues}
-use Rattle.gr_input.specs.Faults.{Fails}
-use Rattle.gr_input.proofs.Outside.{at_any}
+use Rattle.gr_record.specs.InputFaults.{Fails}
+use Rattle.gr_record.proofs.Outside.{at_any}
 use Rattle.gr_intake.specs.declared.intake.Intake.{Intake}
 use Rattle.gr_intake.specs.declared.open.Open.{Open}
 use Rattle.gr_intake.specs.Intakes.{Moves, behind, come, coming_in, read_behind, unit_at, unit_of}
 use Rattle.gr_intake.specs.Joined.{joined_of}
-use Rattle.gr_backlog.specs.Waiting.{Coming}
+use Rattle.gr_intake.specs.Waiting.{Coming}
 use Rattle.gr_intake.proofs.Comings.{between}
 
 -- ---- nothing was read

@@ -12,8 +12,8 @@ use Rattle.gr_record.specs.Faults.{stream_fault}
 use Rattle.gr_record.specs.WholeStreams as record_spec
 use Rattle.gr_record.specs.WholeStreams.{front_header_at, front_records_at}
 use Rattle.gr_replay.specs.declared.joined.Stream.{Stream}
-use Rattle.gr_input.specs.Faults.{Fails}
-use Rattle.gr_input.proofs.Outside.{fails_through}
+use Rattle.gr_record.specs.InputFaults.{Fails}
+use Rattle.gr_record.proofs.Outside.{fails_through}
 use Rattle.gr_intake.specs.Joined.{Flat, stream_at, joined_at}
 use Rattle.gr_replay.specs.InMemory.{flats}
 use Rattle.gr_intake.proofs.Faults.{fault_at-fails}

@@ -5,7 +5,7 @@ use Rattle.gr_model.specs.Streams.{Streams}
 use Rattle.gr_record.specs.declared.error.RecordError.TheVariants.{AfterEnd}
 use Rattle.gr_record.specs.declared.fault.Fault.{Fault}
 use Rattle.gr_record.specs.declared.fault.Fault.TheVariants as faults
-use Rattle.gr_input.specs.Faults.{Fails}
+use Rattle.gr_record.specs.InputFaults.{Fails}
 use Rattle.gr_intake.specs.Joined.{Flat, ◌>>=◌, stream_at}
 use Rattle.gr_intake.specs.Launch.{IsLaunchOf, IsLaunchFault}
 

@@ -1,9 +1,9 @@
 //! The report of a launch, and its races.
 
-ghost use Rattle.std.specs.Prelude.{◌≡◌, IfOk};
+ghost use Rattle.std.specs.Prelude.{IfOk};
 ghost use Rattle.gr_model.specs.RacePairs.{ArePairedRaces};
 ghost use Rattle.gr_model.specs.Reports.{IsReportOf};
-ghost use Rattle.gr_order.specs.Sequences.{IsDone, IsSequence, nothing};
+ghost use Rattle.gr_order.specs.Sequences.{IsDone, IsSequence};
 ghost use Rattle.gr_intake.specs.Sequencing.{AreShadowsOf};
 ghost use Rattle.gr_report.specs.Whole.{whole_of};
 
@@ -11,13 +11,12 @@ use crate::races::races_of;
 use gr_intake::reports::report_of;
 use gr_model::memory::Memory;
 use gr_model::race::Race;
-use gr_model::shape::Shape;
 use gr_model::traces::Traces;
 use gr_report::report::Report;
 use gr_sequencer::sequencer::Sequencer;
 use gr_shadow::launch::LaunchShadows;
 use gr_taking::keeper::ShadowKeeper;
-use gr_taking::taking::take_traces;
+use gr_taking::traces::follow;
 use std::alloc::{Allocator, Global};
 
 /// What is found of a launch: its report, and of each racy word two events that race on it.
@@ -28,17 +27,6 @@ pub struct Detection<A: Allocator = Global> {
     pub report: Report<A>,
     /// The racy words, ascending, each with a racing pair.
     pub races: Vec<Race, A>,
-}
-
-/// A sequencer of a launch of this shape, of which nothing was taken.
-///
-/// # Errors
-/// `Memory`: out of memory.
-fn new_sequencer<A: Allocator + Copy>(alloc: A, shape: &Shape<A>) -> Result<Sequencer<A>, Memory>
-    ensures { IfOk result (λ s. s ≡ nothing shape.now) }
-{
-    let shape = shape.copy()?;
-    Sequencer::new(alloc, shape)
 }
 
 /// What is found of a launch of which all was taken, and all was handled that can be.
@@ -61,25 +49,6 @@ fn detection_of<A: Allocator + Copy>(
     Ok(Detection { report, races })
 }
 
-/// What is found of a launch, by a sequencer that has taken nothing of it, and shadows without accesses.
-///
-/// # Errors
-/// `Memory`: out of memory.
-fn detection_by<A: Allocator + Copy>(
-    alloc: A,
-    sequencer: &mut Sequencer<A>,
-    shadows: &mut LaunchShadows<A>,
-    traces: &Traces<A>,
-) -> Result<Detection<A>, Memory>
-    requires nothing { sequencer.old ≡ nothing traces.now.sizes }
-    requires shadows { AreShadowsOf sequencer.old shadows.old }
-    ensures report { IfOk result (λ found. IsReportOf traces.now (whole_of found.report)) }
-    ensures races { IfOk result (λ found. ArePairedRaces traces.now found.races.items) }
-{
-    take_traces(sequencer, &ShadowKeeper, shadows, traces)?;
-    detection_of(alloc, sequencer, shadows)
-}
-
 /// The report of a launch, and of each racy word two events that race on it.
 ///
 /// # Errors
@@ -91,9 +60,9 @@ pub fn detect_races<A: Allocator + Copy>(
     ensures report { IfOk result (λ found. IsReportOf traces.now (whole_of found.report)) }
     ensures races { IfOk result (λ found. ArePairedRaces traces.now found.races.items) }
 {
-    let mut sequencer = new_sequencer(alloc, traces.shape())?;
     let mut shadows = LaunchShadows::new(alloc);
-    detection_by(alloc, &mut sequencer, &mut shadows, traces)
+    let sequencer = follow(alloc, traces, &ShadowKeeper, &mut shadows)?;
+    detection_of(alloc, &sequencer, &shadows)
 }
 
 /// The report of a launch.

@@ -3,17 +3,17 @@
 ghost use Rattle.std.specs.Prelude.{◌≡◌, ◌++◌, ◌∷◌, [], IfErr, IfOk, IfSome, OnOk, map};
 ghost use Rattle.gr_record.specs.Faults.{IsOfReading, IsOfValues};
 ghost use Rattle.gr_replay.specs.Each.{AreRead, IsEachFault, ReadsEach, all_known, each_of, inputs_of, only_stream_at};
-ghost use Rattle.gr_input.specs.Faults.{Gives, IsOutside};
+ghost use Rattle.gr_record.specs.InputFaults.{Gives, IsOutside};
 ghost use Rattle.gr_replay.specs.InMemory.{flat, flats};
 ghost use Rattle.gr_intake.specs.Laws.{AreStreams};
 
 use crate::joined::{Stream, keep, read_stream};
 use crate::launch::traces_of;
-use gr_input::read_all;
 use gr_model::memory::Memory;
 use gr_model::traces::Traces;
 use gr_record::error::RecordError;
 use gr_record::fault::Fault;
+use gr_record::input::read_all;
 use std::alloc::Allocator;
 use std::io::Read;
 

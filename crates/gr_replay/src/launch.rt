@@ -8,12 +8,12 @@ ghost use Rattle.gr_intake.specs.Laws.{AreStreams};
 ghost use Rattle.gr_intake.specs.Launch.{AreApart, AreRising, ArePlaced, IsLeastMissing, IsLaunchOf, IsLaunchFault, Reads, IsReadFault};
 
 use crate::joined::{Stream, read_streams};
-use gr_input::read_all;
 use gr_model::event::Event;
 use gr_model::memory::Memory;
 use gr_model::shape::Shape;
 use gr_model::traces::Traces;
 use gr_record::fault::Fault;
+use gr_record::input::read_all;
 use std::alloc::{Allocator, Global};
 use std::io::Read;
 

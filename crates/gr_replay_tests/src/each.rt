@@ -3,10 +3,9 @@
 use crate::launches::packed;
 use gr_model::memory::Memory;
 use gr_model::shape::ShapeError;
-use gr_model::traces::Traces;
 use gr_record::error::RecordError;
 use gr_record::fault::Fault;
-use gr_replay::{read_each, read_joined};
+use gr_replay::read_each;
 use refusing::failing::FailingReader;
 use refusing::growths::refuse_each;
 use std::alloc::{AllocError, Allocator, Global};
@@ -43,40 +42,6 @@ fn readers_of<'a, A: Allocator>(
         readers.push(input.as_slice())?;
     }
     Ok(readers)
-}
-
-/// Whether these are two groups of two records each, and those of the other.
-fn are_same(traces: &Traces, due: &Traces) -> bool {
-    let groups = traces.shape().groups() == 2 && due.shape().groups() == 2;
-    groups
-        && traces.list(0).len() == 2
-        && traces.list(1).len() == 2
-        && traces.list(0) == due.list(0)
-        && traces.list(1) == due.list(1)
-}
-
-/// Whether streams give what the whole gives, from a reader each and joined.
-fn give(alloc: Global, texts: &[&str; 2], due: &Traces) -> Result<bool, Fail> {
-    let inputs = inputs_of(alloc, texts)?;
-    let readers = readers_of(alloc, &inputs)?;
-    let each = read_each(alloc, readers).map_err(|_| "refused")?;
-    let joined = format!(in alloc; "{}{}", texts[0], texts[1])?;
-    let bytes = packed(alloc, &joined)?;
-    let joined = read_joined(alloc, &mut bytes.as_slice()).map_err(|_| "refused")?;
-    Ok(are_same(&each, due) && are_same(&joined, due))
-}
-
-#[test]
-fn streams_give_one_launch_in_either_order(rt: HostRuntime) -> Result<(), Fail> {
-    let inputs = inputs_of(rt.alloc(), &[BARRIER, ACQUIRE])?;
-    let readers = readers_of(rt.alloc(), &inputs)?;
-    let due = read_each(rt.alloc(), readers).map_err(|_| "refused")?;
-    assert!(rt; give(rt.alloc(), &[BARRIER, ACQUIRE], &due)?, "in order");
-    assert!(rt;
-        give(rt.alloc(), &[ACQUIRE, BARRIER], &due)?,
-        "the second group first"
-    );
-    Ok(())
 }
 
 /// A record of no kind, and an end: neither begins with a magic.

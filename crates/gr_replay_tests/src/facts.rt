@@ -2,7 +2,7 @@
 
 ghost use Rattle.std.specs.Prelude.{◌≡◌};
 
-use gr_backlog::backlog::Backlog;
+use gr_intake::backlog::Backlog;
 use gr_model::event::{Event, Kind, Space};
 use gr_model::memory::Memory;
 use gr_model::names::Names;

@@ -1,10 +1,7 @@
-//! Records, texts and reports: streams in pieces, values that no file gives, growths that are refused, readers and writers that fail.
+//! Records, texts and reports: values that no file gives, growths that are refused, readers and writers that fail.
 
 mod facts;
-mod failing;
+pub(crate) mod failing;
 mod growths;
-mod large;
-mod pieces;
-mod refused;
 mod reports;
 mod works;

@@ -1,12 +1,11 @@
 //! Each growth is refused in turn: the answer is then want of memory, with nothing written, or the report.
 
-use crate::launches::{Launch, RACE, launches, packed, report};
+use crate::launches::{HAND_OVERS, LINES, Launch, RACE, packed, report};
 use gr_model::memory::Memory;
 use gr_record::fault::Fault;
 use gr_replay::replay;
 use refusing::growths::{Growths, refuse_each};
 use std::alloc::{Allocator, Global};
-use std::process::Abort;
 use std::test::Fail;
 
 /// Whether this text is written, or memory runs out with nothing written.
@@ -37,21 +36,11 @@ fn launch_refused(alloc: Global, launch: Launch) -> Result<Result<Growths, u64>,
     Ok(replay_refused(alloc, &bytes, due.as_bytes()))
 }
 
-/// The same of launches of one kind.
-fn all_refused<H: Abort + Copy>(rt: H, alloc: Global, kind: &[Launch]) -> Result<(), Fail> {
-    for &launch in kind {
-        let growths = launch_refused(alloc, launch)?;
-        assert!(rt; growths.is_ok(), "{}: {growths:?}", launch.0);
-    }
-    Ok(())
-}
-
 #[test]
 fn each_refused_growth_is_want_of_memory(rt: HostRuntime) -> Result<(), Fail> {
-    let growths = launch_refused(rt.alloc(), RACE)?;
-    assert!(rt; growths.is_ok(), "a race: {growths:?}");
-    for kind in launches() {
-        all_refused(rt, rt.alloc(), kind)?;
+    for launch in [RACE, LINES, HAND_OVERS] {
+        let growths = launch_refused(rt.alloc(), launch)?;
+        assert!(rt; growths.is_ok(), "{}: {growths:?}", launch.0);
     }
     Ok(())
 }

@@ -12,8 +12,6 @@ mod formats;
 #[cfg(test)]
 mod growths;
 #[cfg(test)]
-mod large;
-#[cfg(test)]
 mod launches;
 #[cfg(test)]
 mod waiting;

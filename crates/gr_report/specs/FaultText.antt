@@ -1,5 +1,5 @@
 -- The line that tells why a run failed.
--- Source: docs/FORMATS.md, "Fault lines".
+-- Source: docs/OUTPUT.md, "Lines of faults".
 use Rattle.std.specs.Prelude.{ℕ, List, ◌++◌, codes, decimal}
 use Rattle.gr_model.specs.declared.shape.ShapeError.{ShapeError}
 use Rattle.gr_model.specs.declared.shape.ShapeError.TheVariants.{NoGroups, TooManyGroups, BadItems, TooManyItems}

@@ -1,5 +1,5 @@
 -- The text of a report: a line each, numbers in decimal.
--- Source: docs/FORMATS.md, "Report".
+-- Source: docs/OUTPUT.md, "The report".
 use Rattle.std.specs.Prelude.{ℕ, List, ◌++◌, length, decimal, codes}
 use Rattle.std.specs.List.{flat_map}
 use Rattle.gr_model.specs.declared.event.Word.{Word}

@@ -80,7 +80,7 @@ fn put_text<W: Write>(writer: &mut W, fault: Fault) -> Result<(), WriteFault>
     }
 }
 
-/// Writes the line of the fault (docs/FORMATS.md, "Fault lines"). It takes no memory.
+/// Writes the line of the fault (docs/OUTPUT.md, "Lines of faults"). It takes no memory.
 ///
 /// # Errors
 /// `WriteFault` if the writer fails, which has then taken a prefix of the line.

@@ -1,6 +1,6 @@
 //! The report of a launch as data, its text, and the lines of faults.
 //!
-//! The texts are docs/FORMATS.md, "Report" and "Fault lines"; docs/REPORT.md says what each line of a report means.
+//! The texts are docs/OUTPUT.md, "The report" and "Lines of faults"; docs/USING.md says what each line of a report means.
 #![tactic(auto)]
 
 mod fault_text;

@@ -130,7 +130,7 @@ fn put_all<A: Allocator, W: Write>(writer: &mut W, report: &Report<A>) -> Result
     put_end(writer, report)
 }
 
-/// Writes the text of the report (docs/FORMATS.md, "Report"), and flushes. It takes no memory.
+/// Writes the text of the report (docs/OUTPUT.md, "The report"), and flushes. It takes no memory.
 ///
 /// # Errors
 /// `WriteFault` if the writer fails, which has then taken a prefix of the text.

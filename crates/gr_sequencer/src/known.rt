@@ -19,12 +19,12 @@ use gr_clocks::clock::{Clock, ClockError};
 use gr_clocks::clocks::{Clocks, memory_of};
 use gr_clocks::snapshot::Snapshot;
 use gr_lanes::instance::barrier;
+use gr_model::access::release_scope;
+use gr_model::class::class_of;
 use gr_model::event::{Event, EventId, ItemId, Kind, Word, word_of};
 use gr_model::memory::Memory;
 use gr_model::shape::Shape;
-use gr_order::order::Order;
-use gr_scopes::access::release_scope;
-use gr_scopes::class::class_of;
+use gr_order::schedule::Schedule;
 use indexmap::IndexMap;
 use std::alloc::{Allocator, Global};
 use std::hash::{BuildHasherDefault, FoldHasher};
@@ -95,7 +95,7 @@ impl<A: Allocator> Known<A> {
 }
 
 /// The memories that the barriers of a convergent instance flag, of which none was handled: the global one, the local one.
-fn flags_of<A: Allocator>(order: &Order<A>, group: u16, instance: u32) -> (bool, bool)
+fn flags_of<A: Allocator>(order: &Schedule<A>, group: u16, instance: u32) -> (bool, bool)
     requires convergent { (a : Mark) × IsConvergent order.now.taken group instance a }
     requires fresh { ¬ HasMet order.now.taken order.now.handled group instance }
     ensures { (a : Mark) → IsConvergent order.now.taken group instance a → (result.0 ≡ a.global) × (result.1 ≡ a.local) }
@@ -114,7 +114,7 @@ impl<A: Allocator> Known<A> {
     /// sources, before the event's own tick.
     fn known_or_learned(
         &self,
-        order: &Order<A>,
+        order: &Schedule<A>,
         event: EventId,
         taken: &Event,
         word: Word,
@@ -142,7 +142,7 @@ impl<A: Allocator> Known<A> {
     /// The clock in its word's memory of an event that may be handled next and is an access.
     fn clock_of(
         &self,
-        order: &Order<A>,
+        order: &Schedule<A>,
         event: EventId,
         taken: &Event,
         word: Word,
@@ -170,7 +170,7 @@ impl<A: Allocator> Known<A> {
     /// `Memory`: out of memory.
     pub(crate) fn access_of(
         &self,
-        order: &Order<A>,
+        order: &Schedule<A>,
         event: EventId,
         taken: &Event,
     ) -> Result<Option<Access<A>>, Memory>
@@ -201,7 +201,7 @@ impl<A: Allocator> Known<A> {
     /// `Memory`: out of memory. What is known is then as before.
     pub(crate) fn keep(
         &mut self,
-        order: &Order<A>,
+        order: &Schedule<A>,
         event: EventId,
         taken: &Event,
         access: &Option<Access<A>>,
@@ -234,7 +234,7 @@ impl<A: Allocator> Known<A> {
     /// `Memory`: out of memory. What is known is then as before.
     pub(crate) fn advance(
         &mut self,
-        order: &Order<A>,
+        order: &Schedule<A>,
         event: EventId,
         taken: &Event,
     ) -> Result<(), Memory>
@@ -266,7 +266,7 @@ impl<A: Allocator> Known<A> {
     #[inline(always)]
     fn count_at_once(
         &mut self,
-        order: &Order<A>,
+        order: &Schedule<A>,
         group: u16,
         event: EventId,
         taken: &Event,
@@ -295,7 +295,7 @@ impl<A: Allocator> Known<A> {
     #[inline(always)]
     pub(crate) fn handle_at_once(
         &mut self,
-        order: &Order<A>,
+        order: &Schedule<A>,
         group: u16,
         event: EventId,
         taken: &Event,
@@ -329,7 +329,12 @@ impl<A: Allocator> Known<A> {
     ///
     /// # Errors
     /// `Memory`: out of memory. What is known is then as before.
-    pub(crate) fn meet(&mut self, order: &Order<A>, group: u16, instance: u32) -> Result<(), Memory>
+    pub(crate) fn meet(
+        &mut self,
+        order: &Schedule<A>,
+        group: u16,
+        instance: u32,
+    ) -> Result<(), Memory>
     where
         A: Clone,
         requires shape { self.old.clocks.sizes ≡ order.now.taken.sizes }

@@ -19,7 +19,6 @@ ghost use Rattle.gr_sequencer.specs.Answers.{IsOfGroup, IsOfItem, IsStep};
 use crate::handled::Handled;
 use crate::known::Known;
 use gr_agenda::agenda::Agenda;
-use gr_findings::{acquires, groups, instances};
 use gr_lanes::seq_error::SeqError;
 use gr_model::event::{Event, EventId, ItemId};
 use gr_model::growing::GrowingShape;
@@ -27,7 +26,9 @@ use gr_model::memory::Memory;
 use gr_model::report::{Divergence, Unmatched};
 use gr_model::shape::Shape;
 use gr_order::go_error::GoError;
+use gr_order::schedule::Schedule;
 use gr_order::steps::Ready;
+use gr_order::{acquires, groups, instances};
 use std::alloc::{Allocator, Global};
 use std::marker::Model;
 
@@ -146,6 +147,14 @@ impl<A: Allocator + Copy> Sequencer<A> {
 }
 
 impl<A: Allocator> Sequencer<A> {
+    /// What was taken of the launch's streams, and the order in which its events were handled.
+    pub fn order(&self) -> &Schedule<A>
+        ensures order { result.now ≡ self.now }
+        ensures sequence { IsSequence self.now }
+    {
+        self.agenda.order()
+    }
+
     /// Takes the next record of a group. It is one that some group may have, whatever its item.
     ///
     /// # Errors

@@ -10,10 +10,10 @@ ghost use Rattle.gr_sequencer.specs.Sources.{AreSources, IsSource, LearnsNothing
 
 use crate::known::Snapshots;
 use gr_clocks::snapshot::Snapshot;
+use gr_model::access::inclusive;
 use gr_model::event::{Event, EventId, Name};
 use gr_model::limits::MOST_NAMES;
-use gr_order::order::Order;
-use gr_scopes::access::inclusive;
+use gr_order::schedule::Schedule;
 use std::alloc::Allocator;
 use std::marker::Model;
 
@@ -67,7 +67,7 @@ impl<'a, A: Allocator> Sources<'a, A> {
 }
 
 /// The record of the release of this name, which has this index.
-fn release_event<A: Allocator>(order: &Order<A>, name: Name, index: u32) -> Option<Event>
+fn release_event<A: Allocator>(order: &Schedule<A>, name: Name, index: u32) -> Option<Event>
     requires { release_place order.now.taken name ≡ Some index }
     ensures { result ≡ event_at order.now.taken (record { at = name.at; index = index }) }
 {
@@ -76,7 +76,7 @@ fn release_event<A: Allocator>(order: &Order<A>, name: Name, index: u32) -> Opti
 
 /// The snapshot of the release of one of an event's names, where the two are of inclusive scope.
 fn source<'a, A: Allocator>(
-    order: &Order<A>,
+    order: &Schedule<A>,
     snapshots: &'a Snapshots<A>,
     event: EventId,
     taken: &Event,
@@ -117,7 +117,7 @@ fn with<'a, A: Allocator>(
 
 /// The sources of an event, found name by name. `None` if there are none.
 fn sources_from<'a, A: Allocator>(
-    order: &Order<A>,
+    order: &Schedule<A>,
     snapshots: &'a Snapshots<A>,
     event: EventId,
     taken: &Event,
@@ -140,7 +140,7 @@ fn sources_from<'a, A: Allocator>(
 /// The snapshots that an event joins: those of the releases that it names with inclusive scope. `None` if there are none.
 #[inline(always)]
 pub(crate) fn sources_of<'a, A: Allocator>(
-    order: &Order<A>,
+    order: &Schedule<A>,
     snapshots: &'a Snapshots<A>,
     event: EventId,
     taken: &Event,

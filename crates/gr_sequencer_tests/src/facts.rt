@@ -8,7 +8,6 @@ use crate::calls::{is_lawful, shape_of, take};
 use crate::rows::{ACQUIRE, BARRIER, END, FIRST_0_0, READ, RELEASE, Record, event_of};
 use crate::trials::{Trial, holds_always};
 use gr_agenda::agenda::Agenda;
-use gr_findings::instances::cause;
 use gr_lanes::instance::{barrier, has_mark_of, is_divergent};
 use gr_lanes::lanes::Lanes;
 use gr_lanes::seq_error::SeqError;
@@ -17,7 +16,8 @@ use gr_model::growing::GrowingShape;
 use gr_model::memory::Memory;
 use gr_model::report::{Divergence, DivergenceCause};
 use gr_model::shape::Shape;
-use gr_order::order::Order;
+use gr_order::instances::cause;
+use gr_order::schedule::Schedule;
 use gr_order::steps::Ready;
 use gr_sequencer::handled::Handled;
 use gr_sequencer::sequencer::Sequencer;
@@ -145,7 +145,7 @@ fn cause_while_the_group_goes_on<A: Allocator>(lanes: &Lanes<A>) -> bool {
 }
 
 /// An event is not handled before a release that it names, here the last.
-fn next_behind_the_last_release<A: Allocator>(order: &Order<A>, item: ItemId) {
+fn next_behind_the_last_release<A: Allocator>(order: &Schedule<A>, item: ItemId) {
     if let Some(event) = order.next(item)
         && let Some(taken) = order.event_at(event)
         && let Some(name) = taken.names.as_slice().last()
@@ -156,7 +156,7 @@ fn next_behind_the_last_release<A: Allocator>(order: &Order<A>, item: ItemId) {
 }
 
 /// Where a step is ready the order is not at its end.
-fn is_at_end_before_a_step<A: Allocator>(order: &Order<A>) -> bool {
+fn is_at_end_before_a_step<A: Allocator>(order: &Schedule<A>) -> bool {
     if let Some(Ready::Item(_)) = order.ready() {
         prove!(!order.is_at_end());
         return true;
@@ -165,7 +165,7 @@ fn is_at_end_before_a_step<A: Allocator>(order: &Order<A>) -> bool {
 }
 
 /// Where an instance meets, as many events are handled as the group has items.
-fn meet_of_all<A: Allocator>(order: &mut Order<A>) -> bool {
+fn meet_of_all<A: Allocator>(order: &mut Schedule<A>) -> bool {
     if order.lanes().shape().groups() == 0 {
         return false;
     }
@@ -301,13 +301,13 @@ fn nobody_is_missing_while_a_group_goes_on(rt: HostRuntime) -> Result<(), SeqErr
 }
 
 /// Has an order take a record.
-fn order_takes<A: Allocator>(order: &mut Order<A>, record: &Record) -> bool {
+fn order_takes<A: Allocator>(order: &mut Schedule<A>, record: &Record) -> bool {
     let event = event_of(record);
     is_lawful(&event) && order.taken(record.0) < 16_777_216 && order.take(record.0, event).is_ok()
 }
 
 /// Whether a fact is reached with an order of one group of so many items, which takes these records first.
-fn is_reached_by_order<F: Fn(&mut Order) -> bool>(
+fn is_reached_by_order<F: Fn(&mut Schedule) -> bool>(
     alloc: Global,
     items: u16,
     records: &[Record],
@@ -316,13 +316,13 @@ fn is_reached_by_order<F: Fn(&mut Order) -> bool>(
     requires { F.IsAlwaysCallable fact }
 {
     let shape = shape_of(alloc, &[items])?;
-    let mut order = Order::new(alloc, shape)?;
+    let mut order = Schedule::new(alloc, shape)?;
     let are_taken = records.iter().all(|record| order_takes(&mut order, record));
     Ok(are_taken && fact(&mut order))
 }
 
 /// Handles the releases of the first item, while the acquire of the second waits for both.
-fn waits_for_both<A: Allocator>(order: &mut Order<A>) -> bool {
+fn waits_for_both<A: Allocator>(order: &mut Schedule<A>) -> bool {
     next_behind_the_last_release(order, SECOND);
     let is_handled = order.handle(FIRST).is_ok();
     next_behind_the_last_release(order, SECOND);

@@ -2,29 +2,17 @@
 //! that was divergent.
 
 use crate::calls::{is_lawful, shape_of};
-use gr_model::event::{Event, ItemId, Kind, Space};
-use gr_model::names::Names;
-use gr_order::order::Order;
+use crate::rows::{BARRIER, GLOBAL, event_of};
+use gr_model::event::ItemId;
+use gr_order::schedule::Schedule;
 use refusing::Refusing;
 use std::alloc::{Allocator, Global};
 
-fn barrier(item: u16, site: u32) -> Event {
-    Event {
-        item,
-        kind: Kind::Barrier {
-            global: true,
-            local: true,
-        },
-        space: Space::Global,
-        word: site,
-        names: Names::none(),
-    }
-}
-
 /// Takes the barriers of two items, with these sites.
-fn come<A: Allocator>(order: &mut Order<A>, sites: [u32; 2]) -> Option<()> {
+fn come<A: Allocator>(order: &mut Schedule<A>, sites: [u32; 2]) -> Option<()> {
     for item in 0..2_u16 {
-        let event = barrier(item, sites[usize::from(item)]);
+        let site = sites[usize::from(item)];
+        let event = event_of(&(0, item, BARRIER, GLOBAL, site, &[]));
         if !is_lawful(&event) || order.taken(0) >= 16_777_216 {
             return None;
         }
@@ -34,14 +22,14 @@ fn come<A: Allocator>(order: &mut Order<A>, sites: [u32; 2]) -> Option<()> {
 }
 
 /// Both items come with one site, and meet.
-fn meet<A: Allocator>(order: &mut Order<A>) -> Option<()> {
+fn meet<A: Allocator>(order: &mut Schedule<A>) -> Option<()> {
     come(order, [7, 7])?;
     let _instance = order.meet(0).ok()?;
     Some(())
 }
 
 /// They come with two sites, and each passes by itself.
-fn part<A: Allocator>(order: &mut Order<A>) -> Option<()> {
+fn part<A: Allocator>(order: &mut Schedule<A>) -> Option<()> {
     come(order, [7, 8])?;
     for item in 0..2 {
         let _event = order.handle(ItemId { group: 0, item }).ok()?;
@@ -50,7 +38,7 @@ fn part<A: Allocator>(order: &mut Order<A>) -> Option<()> {
 }
 
 /// Both items part once, or not, and meet so many times.
-fn go<A: Allocator>(order: &mut Order<A>, is_parted: bool, times: u32) -> Option<()> {
+fn go<A: Allocator>(order: &mut Schedule<A>, is_parted: bool, times: u32) -> Option<()> {
     if is_parted {
         part(order)?;
     }
@@ -63,7 +51,7 @@ fn go<A: Allocator>(order: &mut Order<A>, is_parted: bool, times: u32) -> Option
 /// The same of two items of which nothing was taken.
 fn go_anew<A: Allocator + Copy>(alloc: A, is_parted: bool, times: u32) -> Option<()> {
     let shape = shape_of(alloc, &[2]).ok()?;
-    let mut order = Order::new(alloc, shape).ok()?;
+    let mut order = Schedule::new(alloc, shape).ok()?;
     go(&mut order, is_parted, times)
 }
 

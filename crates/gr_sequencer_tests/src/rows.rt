@@ -1,26 +1,36 @@
 //! The worked rows: the records of a launch, and what is told of it once all of them were taken and no step is left.
 
-use gr_model::event::{Event, ItemId, Kind, Name, Order, Scope, Space};
+use gr_model::event::{Event, EventId, ItemId, Kind, Name, Order, Scope, Space, Word};
 use gr_model::names::Names;
-use gr_model::report::{AcquireCause, DivergenceCause};
+use gr_model::report::{AcquireCause, Divergence, DivergenceCause, Unmatched};
 
 /// A record: its group, its item, its kind, its memory, its word or site, and the releases that it names.
 pub(crate) type Record = (u16, u16, Kind, Space, u32, &'static [Name]);
 
-/// A divergent instance: its group, its number and its cause.
-pub(crate) type Divergent = (u16, u32, DivergenceCause);
+/// What is told at the end: the first two of each list, and the numbers.
+#[derive(Clone, Copy, Debug, PartialEq, Eq)]
+pub(crate) struct Told {
+    pub(crate) races: (Option<Word>, Option<Word>),
+    pub(crate) divergences: (Option<Divergence>, Option<Divergence>),
+    pub(crate) unmatched: (Option<Unmatched>, Option<Unmatched>),
+    pub(crate) cut: (Option<u16>, Option<u16>),
+    pub(crate) held: u64,
+    pub(crate) groups: u16,
+    pub(crate) items: u32,
+    pub(crate) records: u64,
+}
 
-/// An unmatched acquire: its group, its item, its index and its cause.
-pub(crate) type Unmatched = (u16, u16, u32, AcquireCause);
-
-/// What is told at the end: the first divergent instances, the first unmatched acquires, the first cut groups, and how many
-/// events are held.
-pub(crate) type Told = (
-    (Option<Divergent>, Option<Divergent>),
-    (Option<Unmatched>, Option<Unmatched>, Option<Unmatched>),
-    (Option<u16>, Option<u16>),
-    u64,
-);
+/// What is told of a group with one item and no records but its end.
+pub(crate) const NOTHING: Told = Told {
+    races: (None, None),
+    divergences: (None, None),
+    unmatched: (None, None),
+    cut: (None, None),
+    held: 0,
+    groups: 1,
+    items: 1,
+    records: 1,
+};
 
 /// A row: its name, the sizes of its groups, its records, and what is told at its end.
 pub(crate) type Row = (&'static str, &'static [u16], &'static [Record], Told);
@@ -41,51 +51,30 @@ pub(crate) fn event_of(record: &Record) -> Event {
     }
 }
 
-const GLOBAL: Space = Space::Global;
+pub(crate) const GLOBAL: Space = Space::Global;
 
-const LOCAL: Space = Space::Local;
+pub(crate) const LOCAL: Space = Space::Local;
 
 pub(crate) const READ: Kind = Kind::Read;
 
-const WRITE: Kind = Kind::Write;
+pub(crate) const WRITE: Kind = Kind::Write;
 
 pub(crate) const ACQUIRE: Kind = Kind::Load(Scope::Device, Order::Acquire);
 
 pub(crate) const RELEASE: Kind = Kind::Store(Scope::Device, Order::Release);
-
-const GROUP_ACQUIRE: Kind = Kind::Load(Scope::Group, Order::Acquire);
-
-const GROUP_RELEASE: Kind = Kind::Store(Scope::Group, Order::Release);
-
-const BOTH: Kind = Kind::Rmw(Scope::Device, Order::Both);
 
 pub(crate) const BARRIER: Kind = Kind::Barrier {
     global: true,
     local: true,
 };
 
-const LOCAL_BARRIER: Kind = Kind::Barrier {
-    global: false,
-    local: true,
-};
-
-const BARE_BARRIER: Kind = Kind::Barrier {
-    global: false,
-    local: false,
-};
-
 pub(crate) const END: Kind = Kind::End { cut: false };
 
 const CUT: Kind = Kind::End { cut: true };
 
-/// The first release of an item, by its group and its place.
+/// The first release of item 0 of group 0.
 pub(crate) const FIRST_0_0: &[Name] = &[Name {
     at: ItemId { group: 0, item: 0 },
-    release: 0,
-}];
-
-const FIRST_0_1: &[Name] = &[Name {
-    at: ItemId { group: 0, item: 1 },
     release: 0,
 }];
 
@@ -110,102 +99,17 @@ const FIRST_1_0: &[Name] = &[Name {
     release: 0,
 }];
 
-/// Nothing is told.
-pub(crate) const NOTHING: Told = ((None, None), (None, None, None), (None, None), 0);
+/// The first event of item 0 of group 0.
+const EVENT_0_0: EventId = EventId {
+    at: ItemId { group: 0, item: 0 },
+    index: 0,
+};
 
-const HANDED_OVER: Row = (
-    "a release hands over to another group",
-    &[1, 1],
-    &[
-        (0, 0, WRITE, GLOBAL, 16, &[]),
-        (0, 0, RELEASE, GLOBAL, 20, &[]),
-        (0, 0, END, GLOBAL, 0, &[]),
-        (1, 0, ACQUIRE, GLOBAL, 20, FIRST_0_0),
-        (1, 0, READ, GLOBAL, 16, &[]),
-        (1, 0, END, GLOBAL, 0, &[]),
-    ],
-    NOTHING,
-);
-
-const HANDED_OVER_LAST_FIRST: Row = (
-    "the acquire's group comes first",
-    &[1, 1],
-    &[
-        (1, 0, ACQUIRE, GLOBAL, 20, FIRST_0_0),
-        (1, 0, READ, GLOBAL, 16, &[]),
-        (1, 0, END, GLOBAL, 0, &[]),
-        (0, 0, WRITE, GLOBAL, 16, &[]),
-        (0, 0, RELEASE, GLOBAL, 20, &[]),
-        (0, 0, END, GLOBAL, 0, &[]),
-    ],
-    NOTHING,
-);
-
-const SCOPES_OF_A_GROUP: Row = (
-    "a release of another group's scope",
-    &[1, 1],
-    &[
-        (0, 0, WRITE, GLOBAL, 16, &[]),
-        (0, 0, GROUP_RELEASE, GLOBAL, 20, &[]),
-        (0, 0, END, GLOBAL, 0, &[]),
-        (1, 0, GROUP_ACQUIRE, GLOBAL, 20, FIRST_0_0),
-        (1, 0, READ, GLOBAL, 16, &[]),
-        (1, 0, END, GLOBAL, 0, &[]),
-    ],
-    NOTHING,
-);
-
-const TWO_MEMORIES: Row = (
-    "a release on a global word, accesses to a local one",
-    &[2],
-    &[
-        (0, 0, WRITE, LOCAL, 4, &[]),
-        (0, 0, RELEASE, GLOBAL, 20, &[]),
-        (0, 1, ACQUIRE, GLOBAL, 20, FIRST_0_0),
-        (0, 1, READ, LOCAL, 4, &[]),
-        (0, 0, END, GLOBAL, 0, &[]),
-    ],
-    NOTHING,
-);
-
-const LOCAL_FLAG: Row = (
-    "a barrier that flags the local memory",
-    &[2],
-    &[
-        (0, 0, WRITE, GLOBAL, 16, &[]),
-        (0, 0, LOCAL_BARRIER, GLOBAL, 1, &[]),
-        (0, 1, LOCAL_BARRIER, GLOBAL, 1, &[]),
-        (0, 1, READ, GLOBAL, 16, &[]),
-        (0, 0, END, GLOBAL, 0, &[]),
-    ],
-    NOTHING,
-);
-
-const BOTH_FLAGS: Row = (
-    "a barrier that flags both memories",
-    &[2],
-    &[
-        (0, 0, WRITE, GLOBAL, 16, &[]),
-        (0, 0, BARRIER, GLOBAL, 1, &[]),
-        (0, 1, BARRIER, GLOBAL, 1, &[]),
-        (0, 1, READ, GLOBAL, 16, &[]),
-        (0, 0, END, GLOBAL, 0, &[]),
-    ],
-    NOTHING,
-);
-
-const NO_FLAGS: Row = (
-    "a barrier that flags no memory",
-    &[2],
-    &[
-        (0, 0, WRITE, GLOBAL, 16, &[]),
-        (0, 0, BARE_BARRIER, GLOBAL, 1, &[]),
-        (0, 1, BARE_BARRIER, GLOBAL, 1, &[]),
-        (0, 1, READ, GLOBAL, 16, &[]),
-        (0, 0, END, GLOBAL, 0, &[]),
-    ],
-    NOTHING,
-);
+/// The first event of item 0 of group 1.
+const EVENT_1_0: EventId = EventId {
+    at: ItemId { group: 1, item: 0 },
+    index: 0,
+};
 
 const MISSING_ITEM: Row = (
     "an item never comes to the second barrier",
@@ -220,12 +124,20 @@ const MISSING_ITEM: Row = (
         (0, 1, READ, GLOBAL, 16, &[]),
         (0, 0, END, GLOBAL, 0, &[]),
     ],
-    (
-        (Some((0, 1, DivergenceCause::Missing)), None),
-        (None, None, None),
-        (None, None),
-        0,
-    ),
+    Told {
+        races: (Some(Word::Global(16)), None),
+        divergences: (
+            Some(Divergence {
+                group: 0,
+                instance: 1,
+                cause: DivergenceCause::Missing,
+            }),
+            None,
+        ),
+        items: 3,
+        records: 8,
+        ..NOTHING
+    },
 );
 
 const TWO_SITES: Row = (
@@ -236,35 +148,26 @@ const TWO_SITES: Row = (
         (0, 1, BARRIER, GLOBAL, 2, &[]),
         (0, 0, END, GLOBAL, 0, &[]),
     ],
-    (
-        (Some((0, 0, DivergenceCause::Site)), None),
-        (None, None, None),
-        (None, None),
-        0,
-    ),
-);
-
-const TWO_FLAGS: Row = (
-    "two flags",
-    &[2],
-    &[
-        (0, 0, BARRIER, GLOBAL, 1, &[]),
-        (0, 1, LOCAL_BARRIER, GLOBAL, 1, &[]),
-        (0, 0, END, GLOBAL, 0, &[]),
-    ],
-    (
-        (Some((0, 0, DivergenceCause::Flags)), None),
-        (None, None, None),
-        (None, None),
-        0,
-    ),
+    Told {
+        divergences: (
+            Some(Divergence {
+                group: 0,
+                instance: 0,
+                cause: DivergenceCause::Site,
+            }),
+            None,
+        ),
+        items: 2,
+        records: 3,
+        ..NOTHING
+    },
 );
 
 const NO_SUCH_RELEASE: Row = (
-    "a release that is not there",
+    "a release that is not there, and a cut stream",
     &[1, 3],
     &[
-        (0, 0, END, GLOBAL, 0, &[]),
+        (0, 0, CUT, GLOBAL, 0, &[]),
         (1, 0, ACQUIRE, GLOBAL, 20, FIRST_0_0),
         (1, 0, WRITE, GLOBAL, 16, &[]),
         (1, 1, WRITE, GLOBAL, 24, &[]),
@@ -272,165 +175,106 @@ const NO_SUCH_RELEASE: Row = (
         (1, 1, READ, GLOBAL, 16, &[]),
         (1, 0, END, GLOBAL, 0, &[]),
     ],
-    (
-        (None, None),
-        (Some((1, 0, 0, AcquireCause::Absent)), None, None),
-        (None, None),
-        2,
-    ),
+    Told {
+        races: (Some(Word::Global(24)), None),
+        unmatched: (
+            Some(Unmatched {
+                event: EVENT_1_0,
+                cause: AcquireCause::Absent,
+            }),
+            None,
+        ),
+        cut: (Some(0), None),
+        held: 2,
+        groups: 2,
+        items: 4,
+        records: 7,
+        ..NOTHING
+    },
 );
 
 const CROSSED_NAMES: Row = (
     "two acquires that wait for one another",
     &[1, 1],
     &[
-        (0, 0, ACQUIRE, GLOBAL, 20, FIRST_1_0),
-        (0, 0, RELEASE, GLOBAL, 24, &[]),
-        (0, 0, END, GLOBAL, 0, &[]),
         (1, 0, ACQUIRE, GLOBAL, 24, FIRST_0_0),
+        (0, 0, ACQUIRE, GLOBAL, 20, FIRST_1_0),
         (1, 0, RELEASE, GLOBAL, 20, &[]),
+        (0, 0, RELEASE, GLOBAL, 24, &[]),
         (1, 0, END, GLOBAL, 0, &[]),
+        (0, 0, END, GLOBAL, 0, &[]),
     ],
-    (
-        (None, None),
-        (
-            Some((0, 0, 0, AcquireCause::Behind)),
-            Some((1, 0, 0, AcquireCause::Behind)),
-            None,
+    Told {
+        unmatched: (
+            Some(Unmatched {
+                event: EVENT_0_0,
+                cause: AcquireCause::Behind,
+            }),
+            Some(Unmatched {
+                event: EVENT_1_0,
+                cause: AcquireCause::Behind,
+            }),
         ),
-        (None, None),
-        4,
-    ),
+        held: 4,
+        groups: 2,
+        items: 2,
+        records: 6,
+        ..NOTHING
+    },
 );
 
 const TWO_HANDS: Row = (
     "a release to two items, and one of them to the first",
     &[3],
     &[
-        (0, 0, WRITE, GLOBAL, 16, &[]),
-        (0, 0, RELEASE, GLOBAL, 20, &[]),
-        (0, 1, ACQUIRE, GLOBAL, 20, FIRST_0_0),
-        (0, 1, READ, GLOBAL, 16, &[]),
-        (0, 2, ACQUIRE, GLOBAL, 20, FIRST_0_0),
-        (0, 2, READ, GLOBAL, 16, &[]),
-        (0, 2, RELEASE, GLOBAL, 24, &[]),
-        (0, 0, ACQUIRE, GLOBAL, 24, FIRST_0_2),
-        (0, 0, WRITE, GLOBAL, 16, &[]),
+        (0, 0, WRITE, LOCAL, 16, &[]),
+        (0, 0, RELEASE, LOCAL, 20, &[]),
+        (0, 1, ACQUIRE, LOCAL, 20, FIRST_0_0),
+        (0, 1, READ, LOCAL, 16, &[]),
+        (0, 2, ACQUIRE, LOCAL, 20, FIRST_0_0),
+        (0, 2, READ, LOCAL, 16, &[]),
+        (0, 2, RELEASE, LOCAL, 24, &[]),
+        (0, 0, ACQUIRE, LOCAL, 24, FIRST_0_2),
+        (0, 0, WRITE, LOCAL, 16, &[]),
         (0, 0, END, GLOBAL, 0, &[]),
     ],
-    NOTHING,
+    Told {
+        races: (Some(Word::Local(0, 16)), None),
+        items: 3,
+        records: 10,
+        ..NOTHING
+    },
 );
 
-const CUT_STREAM: Row = (
-    "a cut stream",
-    &[1],
-    &[(0, 0, WRITE, GLOBAL, 16, &[]), (0, 0, CUT, GLOBAL, 0, &[])],
-    ((None, None), (None, None, None), (Some(0), None), 0),
-);
-
-const ITS_OWN_NAME: Row = (
-    "an acquire that names itself",
-    &[1],
+const TWO_NAMES: Row = (
+    "an acquire of two releases in another group, which comes before both",
+    &[2, 1],
     &[
-        (0, 0, BOTH, GLOBAL, 20, FIRST_0_0),
-        (0, 0, END, GLOBAL, 0, &[]),
-    ],
-    (
-        (None, None),
-        (Some((0, 0, 0, AcquireCause::Behind)), None, None),
-        (None, None),
-        1,
-    ),
-);
-
-const TWO_RELEASES: Row = (
-    "an acquire of two releases, of which one comes after it",
-    &[3],
-    &[
+        (1, 0, ACQUIRE, GLOBAL, 20, FIRST_0_0_AND_0_1),
+        (0, 0, WRITE, GLOBAL, 16, &[]),
+        (1, 0, READ, GLOBAL, 16, &[]),
         (0, 0, RELEASE, GLOBAL, 20, &[]),
-        (0, 2, ACQUIRE, GLOBAL, 20, FIRST_0_0_AND_0_1),
-        (0, 2, READ, GLOBAL, 16, &[]),
+        (1, 0, READ, GLOBAL, 24, &[]),
+        (0, 1, WRITE, GLOBAL, 24, &[]),
+        (1, 0, END, GLOBAL, 0, &[]),
         (0, 1, RELEASE, GLOBAL, 20, &[]),
         (0, 0, END, GLOBAL, 0, &[]),
     ],
-    NOTHING,
+    Told {
+        groups: 2,
+        items: 3,
+        records: 9,
+        ..NOTHING
+    },
 );
 
-const ONE_OF_TWO_RELEASES: Row = (
-    "an acquire of two releases, of which one is on another word and one never comes",
-    &[3],
-    &[
-        (0, 0, RELEASE, GLOBAL, 24, &[]),
-        (0, 2, ACQUIRE, GLOBAL, 20, FIRST_0_0_AND_0_1),
-        (0, 2, READ, GLOBAL, 16, &[]),
-        (0, 0, END, GLOBAL, 0, &[]),
-    ],
-    (
-        (None, None),
-        (Some((0, 2, 0, AcquireCause::Absent)), None, None),
-        (None, None),
-        2,
-    ),
-);
-
-const ANOTHER_WORD: Row = (
-    "a release on another word",
-    &[2],
-    &[
-        (0, 0, RELEASE, GLOBAL, 20, &[]),
-        (0, 1, ACQUIRE, GLOBAL, 24, FIRST_0_0),
-        (0, 0, END, GLOBAL, 0, &[]),
-    ],
-    (
-        (None, None),
-        (Some((0, 1, 0, AcquireCause::OtherWord)), None, None),
-        (None, None),
-        1,
-    ),
-);
-
-const BEHIND_A_BARRIER: Row = (
-    "a release behind a barrier that its acquire is before",
-    &[2],
-    &[
-        (0, 0, ACQUIRE, GLOBAL, 20, FIRST_0_1),
-        (0, 0, BARRIER, GLOBAL, 1, &[]),
-        (0, 1, WRITE, GLOBAL, 16, &[]),
-        (0, 1, BARRIER, GLOBAL, 1, &[]),
-        (0, 1, RELEASE, GLOBAL, 20, &[]),
-        (0, 0, END, GLOBAL, 0, &[]),
-    ],
-    (
-        (None, None),
-        (Some((0, 0, 0, AcquireCause::Behind)), None, None),
-        (None, None),
-        4,
-    ),
-);
-
-/// All rows.
-pub(crate) fn rows() -> &'static [Row] {
-    &ROWS
-}
-
-static ROWS: [Row; 19] = [
-    HANDED_OVER,
-    HANDED_OVER_LAST_FIRST,
-    SCOPES_OF_A_GROUP,
-    TWO_MEMORIES,
-    LOCAL_FLAG,
-    BOTH_FLAGS,
-    NO_FLAGS,
+/// All rows. They meet each growth: of barriers that meet and that diverge, of releases to one and to several, of names, of what
+/// waits, and of each list that is told.
+pub(crate) static ROWS: [Row; 6] = [
     MISSING_ITEM,
     TWO_SITES,
-    TWO_FLAGS,
     NO_SUCH_RELEASE,
     CROSSED_NAMES,
     TWO_HANDS,
-    CUT_STREAM,
-    ITS_OWN_NAME,
-    ANOTHER_WORD,
-    TWO_RELEASES,
-    ONE_OF_TWO_RELEASES,
-    BEHIND_A_BARRIER,
+    TWO_NAMES,
 ];

@@ -2,7 +2,7 @@
 //! or behind each record, or in one call with it where that can be, by `step` or by the calls that it stands for.
 
 use crate::calls::{handle, meet, step, take, take_and_handle};
-use crate::rows::{Record, Row, Told, event_of, rows};
+use crate::rows::{ROWS, Record, Row, Told, event_of};
 use crate::told::told;
 use crate::trials::{Trial, holds_always};
 use gr_model::event::ItemId;
@@ -12,7 +12,7 @@ use std::test::Fail;
 
 /// How the steps are made.
 #[derive(Clone, Copy, Debug, PartialEq, Eq)]
-pub(crate) enum Way {
+enum Way {
     /// By `step`, once all records were taken.
     Last,
     /// By `step`, behind each record.
@@ -54,11 +54,7 @@ fn take_record<A: Allocator + Copy>(
 }
 
 /// Takes all records of a row.
-pub(crate) fn take_all<A: Allocator + Copy>(
-    sequencer: &mut Sequencer<A>,
-    row: &Row,
-    way: Way,
-) -> Option<()> {
+fn take_all<A: Allocator + Copy>(sequencer: &mut Sequencer<A>, row: &Row, way: Way) -> Option<()> {
     let (_, _, records, _) = row;
     for record in records.iter() {
         take_record(sequencer, record, way)?;
@@ -75,10 +71,9 @@ fn go_round<A: Allocator + Copy>(sequencer: &mut Sequencer<A>, group: u16) -> Op
     Some(())
 }
 
-/// So many rounds over three groups: more than any row has records.
+/// So many rounds over both groups: more than any row has records.
 fn go_rounds<A: Allocator + Copy>(sequencer: &mut Sequencer<A>) -> Option<()> {
     for _time in 0..11_u32 {
-        go_round(sequencer, 2)?;
         go_round(sequencer, 1)?;
         go_round(sequencer, 0)?;
     }
@@ -109,7 +104,11 @@ struct Telling<'a> {
 
 impl Trial for Telling<'_> {
     fn holds<A: Allocator + Copy>(&self, sequencer: &mut Sequencer<A>) -> bool {
-        told_of(sequencer, self.row, self.way) == Some(self.row.3)
+        let due = Told {
+            races: (None, None),
+            ..self.row.3
+        };
+        told_of(sequencer, self.row, self.way) == Some(due)
     }
 }
 
@@ -120,7 +119,7 @@ fn is_told_always(alloc: Global, row: &Row, way: Way) -> bool {
 
 #[test]
 fn rows_are_told_whatever_growth_is_refused(rt: HostRuntime) {
-    for row in rows() {
+    for row in &ROWS {
         for way in [Way::Last, Way::Behind, Way::Together, Way::ByCalls] {
             assert!(rt; is_told_always(rt.alloc(), row, way), "{}: {way:?}", row.0);
         }

@@ -1,36 +1,30 @@
 //! What a sequencer tells at its end.
 
-use crate::rows::{Divergent, Told, Unmatched};
-use gr_model::report::{Divergence, Unmatched as Acquire};
+use crate::rows::{NOTHING, Told};
+use gr_model::report::{Divergence, Unmatched};
 use gr_sequencer::sequencer::Sequencer;
 use std::alloc::Allocator;
 
-fn divergent(divergence: Option<&Divergence>) -> Option<Divergent> {
-    let divergence = divergence?;
-    Some((divergence.group, divergence.instance, divergence.cause))
-}
-
-fn unmatched(acquire: Option<&Acquire>) -> Option<Unmatched> {
-    let acquire = acquire?;
-    let event = acquire.event;
-    Some((event.at.group, event.at.item, event.index, acquire.cause))
+/// The first two of a list.
+pub(crate) fn two<T: Copy>(list: &[T]) -> (Option<T>, Option<T>) {
+    (list.get(0).copied(), list.get(1).copied())
 }
 
 /// The first divergent instances, their list tried twice.
 fn divergences<A: Allocator + Copy>(
     sequencer: &Sequencer<A>,
-) -> Option<(Option<Divergent>, Option<Divergent>)> {
+) -> Option<(Option<Divergence>, Option<Divergence>)> {
     let list = match sequencer.divergences() {
         Ok(list) => list,
         Err(_) => sequencer.divergences().ok()?,
     };
-    Some((divergent(list.get(0)), divergent(list.get(1))))
+    Some(two(&list))
 }
 
 /// The first unmatched acquires, their list tried twice; `None` before the end.
-fn acquires<A: Allocator + Copy>(
+fn unmatched<A: Allocator + Copy>(
     sequencer: &Sequencer<A>,
-) -> Option<(Option<Unmatched>, Option<Unmatched>, Option<Unmatched>)> {
+) -> Option<(Option<Unmatched>, Option<Unmatched>)> {
     if !sequencer.at_end() {
         return None;
     }
@@ -38,28 +32,28 @@ fn acquires<A: Allocator + Copy>(
         Ok(list) => list,
         Err(_) => sequencer.unmatched().ok()?,
     };
-    Some((
-        unmatched(list.get(0)),
-        unmatched(list.get(1)),
-        unmatched(list.get(2)),
-    ))
+    Some(two(&list))
 }
 
 /// The first cut groups, their list tried twice.
-fn cut_groups<A: Allocator + Copy>(sequencer: &Sequencer<A>) -> Option<(Option<u16>, Option<u16>)> {
+fn cut<A: Allocator + Copy>(sequencer: &Sequencer<A>) -> Option<(Option<u16>, Option<u16>)> {
     let list = match sequencer.cut() {
         Ok(list) => list,
         Err(_) => sequencer.cut().ok()?,
     };
-    Some((list.get(0).copied(), list.get(1).copied()))
+    Some(two(&list))
 }
 
-/// The lists at the end, and how many events are held; `None` before the end.
+/// What is told at the end, without races; `None` before it.
 pub(crate) fn told<A: Allocator + Copy>(sequencer: &Sequencer<A>) -> Option<Told> {
-    Some((
-        divergences(sequencer)?,
-        acquires(sequencer)?,
-        cut_groups(sequencer)?,
-        sequencer.held(),
-    ))
+    Some(Told {
+        divergences: divergences(sequencer)?,
+        unmatched: unmatched(sequencer)?,
+        cut: cut(sequencer)?,
+        held: sequencer.held(),
+        groups: sequencer.shape().groups(),
+        items: sequencer.shape().total(),
+        records: u64::from(sequencer.taken(0)) + u64::from(sequencer.taken(1)),
+        ..NOTHING
+    })
 }

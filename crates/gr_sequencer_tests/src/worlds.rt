@@ -3,8 +3,6 @@
 
 mod calls;
 mod facts;
-mod records;
-mod rows;
 mod schedules;
 mod script;
 mod scripts;

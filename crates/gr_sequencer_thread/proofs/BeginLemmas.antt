@@ -7,7 +7,7 @@ use Rattle.std.proofs.lemmas.List.{get_or-map, length-map}
 use Rattle.gr_model.specs.declared.event.Event.{Event}
 use Rattle.gr_model.specs.Configs.{IsConfig, Settings}
 use Rattle.gr_model.specs.Streams.{events_of}
-use Rattle.gr_hits.specs.Accesses.{AreAccesses, of_none}
+use Rattle.gr_closure.specs.AccessesAlong.{AreAccesses, of_none}
 use Rattle.gr_order.specs.Sequences.{IsSequence, Sequence, nothing}
 use Rattle.gr_route.specs.IntakeSeats.{Taker}
 use Rattle.gr_route.specs.WorkRule.{is_stopped}

@@ -13,8 +13,8 @@ use Rattle.gr_model.specs.Streams.{Streams, word_at}
 use Rattle.gr_clocks.specs.declared.access.Access.{Access as AnyAccess}
 use Rattle.gr_clocks.specs.ClockedAccess.{bare}
 use Rattle.gr_closure.specs.Accesses.{IsAccess, IsAccessOf}
-use Rattle.gr_hits.specs.Accesses.{AreAccesses, in_flight_list}
-use Rattle.gr_hits.proofs.Adding.{bare_access, handled_adds, met_add_none, others_add_none}
+use Rattle.gr_closure.specs.AccessesAlong.{AreAccesses, in_flight_list}
+use Rattle.gr_closure.proofs.Adding.{bare_access, handled_adds, met_add_none, others_add_none}
 use Rattle.gr_model.specs.declared.event.Sent.{Sent}
 use Rattle.gr_order.specs.Sequences.{HandlesEvent, IsSequence, MeetsInstance, Sequence, taking}
 use Rattle.gr_sequencer.specs.Answers.{IsStep}

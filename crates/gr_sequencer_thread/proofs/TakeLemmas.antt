@@ -9,7 +9,7 @@ use Rattle.gr_model.specs.declared.limits.TheConstants.{MOST_RECORDS}
 use Rattle.gr_model.specs.Configs.{Settings}
 use Rattle.gr_model.specs.Streams.{Streams, is_complete, list_of}
 use Rattle.gr_model.proofs.Sending.{events_append, events_else, events_here}
-use Rattle.gr_hits.proofs.Growing.{accesses_stay}
+use Rattle.gr_closure.proofs.Growing.{accesses_stay}
 use Rattle.gr_lanes.specs.Takes.{with_record}
 use Rattle.gr_lanes.proofs.Growth.{record_grows}
 use Rattle.gr_order.specs.Sequences.{IsSequence, Sequence, taking}

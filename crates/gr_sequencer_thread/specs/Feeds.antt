@@ -6,7 +6,7 @@ use Rattle.gr_model.specs.declared.event.Sent.{Sent}
 use Rattle.gr_model.specs.declared.limits.TheConstants.{MOST_RECORDS}
 use Rattle.gr_model.specs.Configs.{IsConfig, Settings, worker_number}
 use Rattle.gr_model.specs.Streams.{AreComplete, Streams, list_of}
-use Rattle.gr_hits.specs.Accesses.{AreAccesses, in_flight_list}
+use Rattle.gr_closure.specs.AccessesAlong.{AreAccesses, in_flight_list}
 use Rattle.gr_lanes.specs.Takes.{CanTake, IsEventButItem}
 use Rattle.gr_order.specs.Sequences.{IsDone, IsSequence, Sequence, taking}
 use Rattle.gr_route.specs.declared.work.Work.{Work}

@@ -11,7 +11,7 @@ use gr_model::event::Sent;
 use gr_model::limits::{MOST_GROUPS, MOST_ITEMS_OF_A_GROUP, MOST_PLACES, MOST_RECORDS};
 use gr_model::memory::Memory;
 use gr_route::intake::{Intake, IntakeSeat, TakerSeat};
-use gr_sender::sender::Sender;
+use gr_threads::sender::Sender;
 use std::alloc::{Allocator, Global};
 use std::marker::Model;
 use std::sync::{Arc, Wait};

@@ -1,8 +1,8 @@
 -- What is kept of the accesses to a word: a touch of each, or a later one in its place.
 use Rattle.std.specs.Prelude.{◌≡◌, ℕ, ◌≤◌, Bool, ◌&&◌, not, nat_lt, List, [], ◌∷◌, ◌++◌, Contains}
 use Rattle.gr_model.specs.declared.event.EventId.{EventId}
-use Rattle.gr_scopes.specs.declared.class.Class.{Class}
-use Rattle.gr_scopes.specs.declared.class.Class.TheVariants.{PlainRead, PlainWrite, GroupRead, GroupModify, DeviceRead, DeviceModify}
+use Rattle.gr_model.specs.declared.class.Class.{Class}
+use Rattle.gr_model.specs.declared.class.Class.TheVariants.{PlainRead, PlainWrite, GroupRead, GroupModify, DeviceRead, DeviceModify}
 use Rattle.gr_clocks.specs.Rows.{same_item}
 use Rattle.gr_clocks.specs.Counts.{count_of}
 use Rattle.gr_clocks.specs.ClockedAccess.{ClockedAccess}

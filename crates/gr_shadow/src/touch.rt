@@ -8,8 +8,8 @@ ghost use Rattle.gr_shadow.specs.Keeps.{Keeps, touch_of, touch_clashes, touch_ev
 
 use arrayvec::ArrayVec;
 use gr_clocks::access::Access;
+use gr_model::class::{Class, exempt};
 use gr_model::event::{EventId, ItemId};
-use gr_scopes::class::{Class, exempt};
 use std::alloc::Allocator;
 
 /// How many touches of a word are kept in its shadow itself.

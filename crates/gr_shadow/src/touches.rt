@@ -7,8 +7,8 @@ ghost use Rattle.gr_shadow.specs.Keeps.{Keeps, touch_clashes, kept_group, IsOfCl
 
 use crate::touch::Touch;
 use gr_clocks::access::Access;
+use gr_model::class::{Class, exempt};
 use gr_model::memory::Memory;
-use gr_scopes::class::{Class, exempt};
 use std::alloc::{Allocator, Global};
 use std::marker::Model;
 

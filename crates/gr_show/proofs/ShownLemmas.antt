@@ -3,7 +3,7 @@ use Rattle.std.proofs.Common.{◌↔◌, IsTrue, Option, None, Some, is_some, re
 use Rattle.gr_model.specs.declared.event.Word.{Word}
 use Rattle.gr_model.specs.RacePairs.{Pair}
 use Rattle.gr_model.specs.Streams.{Streams}
-use Rattle.gr_accesses.specs.Racy.{IsRacyIn}
+use Rattle.gr_timeline.specs.Racy.{IsRacyIn}
 use Rattle.gr_show.specs.Shown.{IsExplanation}
 
 pub race_said : (s : Streams) (w : Word) (pair : Option Pair) → IsExplanation s w pair → IsTrue (is_some pair) ↔ IsRacyIn w s

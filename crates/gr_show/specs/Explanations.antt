@@ -1,5 +1,5 @@
 -- The line that tells of a word's least racing pair, or that it has none.
--- Source: docs/FORMATS.md, "Explanation".
+-- Source: docs/OUTPUT.md, "explain".
 use Rattle.std.specs.Prelude.{ℕ, List, ◌++◌, Option, None, Some, decimal, codes}
 use Rattle.gr_model.specs.declared.event.EventId.{EventId}
 use Rattle.gr_model.specs.declared.event.Word.{Word}

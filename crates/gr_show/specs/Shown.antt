@@ -1,5 +1,5 @@
 -- What answers the questions about a launch, and the line of a word's least racing pair.
--- Source: docs/FORMATS.md, "Explanation".
+-- Source: docs/OUTPUT.md, "explain".
 use Rattle.std.specs.Prelude.{◌≡◌, ◌↔◌, ℕ, Bool, IsTrue, List, Option, MatchOption, map}
 use Rattle.gr_model.specs.declared.event.EventId.{EventId}
 use Rattle.gr_model.specs.declared.event.Word.{Word}
@@ -12,15 +12,15 @@ use Rattle.gr_model.specs.Reports.{IsReportOf, WholeReport}
 use Rattle.gr_report.specs.Whole.{whole_of}
 use Rattle.gr_places.specs.SideLines.{place_number}
 use Rattle.gr_places.specs.Sides.{SidesSaid}
-use Rattle.gr_accesses.specs.declared.details.Details.{Details}
-use Rattle.gr_accesses.specs.Accesses.{AreAccesses}
-use Rattle.gr_accesses.specs.Held.{IsHeldCount}
-use Rattle.gr_accesses.specs.Racy.{IsRacyIn}
+use Rattle.gr_timeline.specs.declared.details.Details.{Details}
+use Rattle.gr_timeline.specs.Accesses.{AreAccesses}
+use Rattle.gr_timeline.specs.Held.{IsHeldCount}
+use Rattle.gr_timeline.specs.Racy.{IsRacyIn}
 use Rattle.gr_held.specs.Waiting.{IsHeldEvent}
 use Rattle.gr_races.specs.declared.by_kind.RacesByKind.{RacesByKind}
 use Rattle.gr_races.specs.Listing.{Entry, entry_of}
 use Rattle.gr_races.specs.Shown.{AreListedRaces}
-use Rattle.gr_timeline.specs.declared.told.Told.{Told}
+use Rattle.gr_timeline.specs.declared.word_history.HistoryAnswer.{HistoryAnswer}
 use Rattle.gr_timeline.specs.Histories.{IsHistory, Line, lines_of}
 use Rattle.gr_show.specs.Explanations.{explanation_line}
 
@@ -63,7 +63,7 @@ pub record HistorySaid : Type 0 where
   pub held : ℕ
   pub racy : Bool
 
-abbrev pub history_said : {Z : Type 0} → Told Z → HistorySaid
+abbrev pub history_said : {Z : Type 0} → HistoryAnswer Z → HistorySaid
 history_said t = record { known = t.known.entries; lines = lines_of t.entries.items; held = t.held; racy = t.racy }
 
 -- those of a word of a launch

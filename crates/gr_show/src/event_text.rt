@@ -1,45 +1,94 @@
-//! What is told of an access, and the line of a cause, as text.
+//! Words, events, places, and what is told of an access, as text.
 
-use gr_accesses::details::Details;
 use gr_json::names::{atomic_of, cause_name, cause_sentence, kind_name, order_name, scope_name};
-use gr_model::event::{Kind, Word};
+use gr_model::event::{EventId, Word};
+use gr_places::buffers::element_of;
+use gr_places::sides::Sides;
 use gr_races::cause::Cause;
-use gr_report::putting::{WriteFault, put, put_field};
-use std::io::Write;
+use gr_timeline::details::Details;
+use std::alloc::{AllocError, Allocator};
+use std::fmt::{self, Display, Formatter};
 
-/// Writes a space and a word.
-pub(crate) fn put_name<W: Write>(writer: &mut W, name: &str) -> Result<(), WriteFault> {
-    put(writer, b" ")?;
-    put(writer, name.as_bytes())
-}
+/// That text was added, unless memory ran out.
+pub(crate) type Added = Result<(), AllocError>;
 
-fn put_kind<W: Write>(writer: &mut W, kind: Kind) -> Result<(), WriteFault> {
-    put_name(writer, kind_name(kind))?;
-    match atomic_of(kind) {
-        None => Ok(()),
-        Some((scope, order)) => {
-            put_name(writer, scope_name(scope))?;
-            put_name(writer, order_name(order))
+/// The memory and the number of a word.
+#[derive(Clone, Copy)]
+pub(crate) struct WordText(pub(crate) Word);
+
+impl Display for WordText {
+    fn fmt<W: fmt::Write>(&self, f: &mut Formatter<W>) -> fmt::Result {
+        match self.0 {
+            Word::Global(number) => write!(f, "global {number}"),
+            Word::Local(group, number) => write!(f, "local {group} {number}"),
         }
     }
 }
 
-/// Writes what is told of an access.
-pub(crate) fn put_told<W: Write>(writer: &mut W, details: &Details) -> Result<(), WriteFault> {
-    put_kind(writer, details.kind)?;
-    put_field(writer, b" record ", details.number)?;
-    put_field(writer, b" phase ", details.phase)
+/// An event.
+#[derive(Clone, Copy)]
+pub(crate) struct EventText(pub(crate) EventId);
+
+impl Display for EventText {
+    fn fmt<W: fmt::Write>(&self, f: &mut Formatter<W>) -> fmt::Result {
+        let EventId { at, index } = self.0;
+        write!(f, "{} {} {index}", at.group, at.item)
+    }
 }
 
-/// Writes the line of a cause of a race on a word.
-pub(crate) fn put_cause<W: Write>(
-    writer: &mut W,
+/// Where an event or a site stands, if it is said.
+#[derive(Clone, Copy)]
+pub(crate) struct AtText<'a>(pub(crate) Option<&'a str>);
+
+impl Display for AtText<'_> {
+    fn fmt<W: fmt::Write>(&self, f: &mut Formatter<W>) -> fmt::Result {
+        match self.0 {
+            None => Ok(()),
+            Some(place) => write!(f, " at {place}"),
+        }
+    }
+}
+
+/// What is told of an access.
+#[derive(Clone, Copy)]
+pub(crate) struct ToldText(pub(crate) Details);
+
+impl Display for ToldText {
+    fn fmt<W: fmt::Write>(&self, f: &mut Formatter<W>) -> fmt::Result {
+        let details = self.0;
+        write!(f, "{}", kind_name(details.kind))?;
+        if let Some((scope, order)) = atomic_of(details.kind) {
+            write!(f, " {} {}", scope_name(scope), order_name(order))?;
+        }
+        write!(f, " record {} phase {}", details.number, details.phase)
+    }
+}
+
+/// Adds the line of a word and two events that race on it.
+pub(crate) fn put_pair<A: Allocator>(
+    text: &mut String<A>,
     word: Word,
-    cause: Cause,
-) -> Result<(), WriteFault> {
-    put(writer, b"cause ")?;
-    put(writer, cause_name(cause).as_bytes())?;
-    put(writer, b": ")?;
-    put(writer, cause_sentence(word, cause).as_bytes())?;
-    put(writer, b"\n")
+    first: EventId,
+    second: EventId,
+) -> Added {
+    let (word, first, second) = (WordText(word), EventText(first), EventText(second));
+    writeln!(text, "race {word}: {first} with {second}")
+}
+
+/// Adds the line of the buffer of a word, where one is known.
+pub(crate) fn put_buffer<A: Allocator>(
+    text: &mut String<A>,
+    sides: &Sides<'_>,
+    word: Word,
+) -> Added {
+    match element_of(sides.buffers, word) {
+        None => Ok(()),
+        Some(named) => writeln!(text, "buffer {}[{}]", named.name, named.index),
+    }
+}
+
+/// Adds the line of a cause of a race on a word.
+pub(crate) fn put_cause<A: Allocator>(text: &mut String<A>, word: Word, cause: Cause) -> Added {
+    let sentence = cause_sentence(word, cause);
+    writeln!(text, "cause {}: {sentence}", cause_name(cause))
 }

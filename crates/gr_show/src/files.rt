@@ -8,7 +8,7 @@ ghost use Rattle.gr_places.specs.Opening.{HoldsOfAllFiles, IsSidesFault, side_na
 ghost use Rattle.gr_show.specs.Told.{IsShown, IsTold, ShowsPrefix};
 ghost use Rattle.gr_places.specs.declared.sides_fault.SidesFault.TheVariants.{Run as ARun};
 
-use crate::question::{Question, Told};
+use crate::question::{Question, Rendered};
 use crate::streams::answer_of_streams;
 use crate::writing::write_text;
 use gr_places::files::{Opened, SideNames, buffers_of, bytes_of, open_files, places_of};
@@ -29,7 +29,7 @@ fn answer_of_files<'a, A, Q, T, O>(
     sides: &SideNames<'a>,
     names: &[&'a str],
     opener: O,
-) -> Result<Told<A>, SidesFault>
+) -> Result<Rendered<A>, SidesFault>
 where
     A: Allocator + Copy,
     Q: Question<A>,

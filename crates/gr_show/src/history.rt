@@ -1,18 +1,17 @@
 //! The question for the history of a word.
 
-ghost use Rattle.gr_accesses.specs.Racy.{IsRacyIn};
+ghost use Rattle.gr_timeline.specs.Racy.{IsRacyIn};
 ghost use Rattle.gr_show.specs.Rendering.{Renders};
 ghost use Rattle.gr_show.specs.Shown.{IsToldOf, history_said};
 
-use crate::history_text::put_history;
+use crate::history_text::history_text;
 use crate::question::{JsonQuestion, Question};
 use gr_json::history::history_json;
 use gr_model::event::Word;
 use gr_model::memory::Memory;
 use gr_model::traces::Traces;
-use gr_places::index::PlaceIndex;
 use gr_places::sides::Sides;
-use gr_timeline::told::{Told, told_of};
+use gr_timeline::word_history::{HistoryAnswer, word_history_of};
 use std::alloc::{Allocator, Global};
 
 /// The word whose history is asked for.
@@ -23,7 +22,7 @@ pub struct WordHistory {
 }
 
 impl<A: Allocator + Copy> Question<A> for WordHistory {
-    type Answer = Told<A>;
+    type Answer = HistoryAnswer<A>;
 
     ghost is_answer = { λ q said launch told. IsToldOf launch q.word (history_said told) };
 
@@ -31,28 +30,38 @@ impl<A: Allocator + Copy> Question<A> for WordHistory {
 
     ghost is_text = { λ q said launch. Renders (IsToldOf launch q.word) };
 
-    fn answer(&self, alloc: A, launch: &Traces<A>, _sides: &Sides<'_>) -> Result<Told<A>, Memory> {
-        told_of(alloc, launch, self.word)
+    fn answer(
+        &self,
+        alloc: A,
+        launch: &Traces<A>,
+        _sides: &Sides<'_>,
+    ) -> Result<HistoryAnswer<A>, Memory> {
+        word_history_of(alloc, launch, self.word)
     }
 
-    fn found(&self, answer: &Told<A>) -> bool {
+    fn found(&self, answer: &HistoryAnswer<A>) -> bool {
         answer.racy
     }
 
-    fn text(&self, alloc: A, answer: &Told<A>, sides: &Sides<'_>) -> Result<Vec<u8, A>, Memory> {
-        let places = PlaceIndex::of(alloc, sides.places)?;
-        let mut text = Vec::new(alloc);
-        match put_history(alloc, &mut text, sides, &places, self.word, answer) {
-            Ok(()) => Ok(text),
-            Err(_) => Err(Memory),
-        }
+    fn text(
+        &self,
+        alloc: A,
+        answer: &HistoryAnswer<A>,
+        sides: &Sides<'_>,
+    ) -> Result<Vec<u8, A>, Memory> {
+        history_text(alloc, sides, self.word, answer)
     }
 }
 
 impl JsonQuestion for WordHistory {
     ghost is_json = { λ q said launch. Renders (IsToldOf launch q.word) };
 
-    fn json(&self, alloc: Global, answer: &Told, sides: &Sides<'_>) -> Result<Vec<u8>, Memory> {
+    fn json(
+        &self,
+        alloc: Global,
+        answer: &HistoryAnswer,
+        sides: &Sides<'_>,
+    ) -> Result<Vec<u8>, Memory> {
         history_json(alloc, sides, self.word, answer)
     }
 }

@@ -1,126 +1,97 @@
 //! The text of the history of a word.
 
-use crate::event_text::put_told;
-use crate::explanation::put_event;
-use crate::sides_text::{end_at, put_buffer};
-use gr_accesses::details::Details;
+use crate::event_text::{Added, AtText, EventText, ToldText, put_buffer};
+use gr_model::class::class_of;
 use gr_model::event::Word;
+use gr_model::memory::Memory;
 use gr_places::index::PlaceIndex;
 use gr_places::places::Placed;
 use gr_places::sides::Sides;
-use gr_report::putting::{WriteFault, put, put_field};
-use gr_scopes::class::class_of;
+use gr_timeline::details::Details;
 use gr_timeline::entry::Entry;
 use gr_timeline::standing::{Above, Named, Standing};
-use gr_timeline::told::Told;
+use gr_timeline::word_history::HistoryAnswer;
 use std::alloc::Allocator;
-use std::io::Write;
 
-fn put_named<A: Allocator + Copy, W: Write>(
-    writer: &mut W,
-    before: &[u8],
-    named: &Named<A>,
-) -> Result<(), WriteFault> {
-    put(writer, before)?;
-    for (place, event) in named.events.iter().enumerate() {
-        put_event(writer, if place == 0 { b" " } else { b", " }, *event)?;
+/// Adds events behind these words, if there are some.
+fn put_named<A: Allocator + Copy>(text: &mut String<A>, before: &str, named: &Named<A>) -> Added {
+    let mut between = before;
+    for event in &named.events {
+        write!(text, "{between} {}", EventText(*event))?;
+        between = ",";
     }
     if named.others > 0 {
-        put_field(writer, b" and ", named.others)?;
-        put(writer, b" more")?;
+        write!(text, " and {} more", named.others)?;
     }
     Ok(())
 }
 
-fn put_behind<A: Allocator + Copy, W: Write>(
-    writer: &mut W,
-    standing: &Standing<A>,
-) -> Result<(), WriteFault> {
+fn put_standing<A: Allocator + Copy>(text: &mut String<A>, standing: &Standing<A>) -> Added {
+    put_named(text, " races with", &standing.races)?;
     if standing.behind == 0 {
-        return put(writer, b" behind none");
+        return write!(text, " behind none");
     }
-    put(writer, b" behind all")?;
+    write!(text, " behind all")?;
     if standing.races.count() > 0 {
-        put(writer, b" others")?;
+        write!(text, " others")?;
     }
-    if standing.unordered.count() > 0 {
-        put_named(writer, b" but", &standing.unordered)?;
-    }
-    Ok(())
+    put_named(text, " but", &standing.unordered)
 }
 
-fn put_standing<A: Allocator + Copy, W: Write>(
-    writer: &mut W,
-    standing: &Standing<A>,
-) -> Result<(), WriteFault> {
-    if standing.races.count() > 0 {
-        put_named(writer, b" races with", &standing.races)?;
-    }
-    put_behind(writer, standing)
-}
-
-/// What is told of an access, and how it stands to those above it, to which it is added.
-fn put_access<A: Allocator + Copy, W: Write>(
+/// Adds what is told of an access, and how it stands to those above it, to which it is added.
+fn put_access<A: Allocator + Copy>(
     alloc: A,
-    writer: &mut W,
+    text: &mut String<A>,
     above: &mut Above<A>,
     entry: &Entry<A>,
     details: &Details,
-) -> Result<(), WriteFault> {
-    put_told(writer, details)?;
-    let Some(class) = class_of(&details.kind) else {
-        return Ok(());
-    };
-    let Ok(standing) = above.standing(alloc, entry, class) else {
-        return Err(WriteFault);
-    };
-    put_standing(writer, &standing)?;
-    match above.add(alloc, entry.event, class) {
-        Ok(()) => Ok(()),
-        Err(_) => Err(WriteFault),
+) -> Result<(), Memory> {
+    write!(text, " {}", ToldText(*details))?;
+    if let Some(class) = class_of(&details.kind) {
+        let standing = above.standing(alloc, entry, class)?;
+        put_standing(text, &standing)?;
+        above.add(alloc, entry.event, class)?;
     }
+    Ok(())
 }
 
-fn put_entry<A: Allocator + Copy, W: Write>(
+fn put_entries<A: Allocator + Copy>(
     alloc: A,
-    writer: &mut W,
-    places: &PlaceIndex<'_, A>,
-    above: &mut Above<A>,
-    told: &Told<A>,
-    entry: &Entry<A>,
-) -> Result<(), WriteFault> {
-    put_event(writer, b"access ", entry.event)?;
-    if let Some(details) = told.known.get(&entry.event) {
-        put_access(alloc, writer, above, entry, details)?;
-    }
-    end_at(writer, places, Placed::Event(entry.event))
-}
-
-/// Writes the history of a word with what side files say.
-///
-/// # Errors
-/// `WriteFault` where the writer fails, or memory runs out.
-pub(crate) fn put_history<A: Allocator + Copy, W: Write>(
-    alloc: A,
-    writer: &mut W,
+    text: &mut String<A>,
     sides: &Sides<'_>,
-    places: &PlaceIndex<'_, A>,
-    word: Word,
-    told: &Told<A>,
-) -> Result<(), WriteFault> {
-    put_buffer(writer, sides, word)?;
+    told: &HistoryAnswer<A>,
+) -> Result<(), Memory> {
+    let places = PlaceIndex::of(alloc, sides.places)?;
     let mut above = Above::new(alloc);
     for entry in &told.entries {
-        put_entry(alloc, writer, places, &mut above, told, entry)?;
+        write!(text, "access {}", EventText(entry.event))?;
+        if let Some(details) = told.known.get(&entry.event) {
+            put_access(alloc, text, &mut above, entry, details)?;
+        }
+        let at = AtText(places.place_of(Placed::Event(entry.event)));
+        writeln!(text, "{at}")?;
     }
-    put_field(writer, b"end accesses ", told.entries.len())?;
-    put_field(writer, b" held ", told.held)?;
-    put(
-        writer,
-        if told.racy {
-            b" races yes\n".as_slice()
-        } else {
-            b" races no\n".as_slice()
-        },
-    )
+    Ok(())
+}
+
+/// The text of the history of a word, with what side files say.
+///
+/// # Errors
+/// `Memory`: out of memory.
+pub(crate) fn history_text<A: Allocator + Copy>(
+    alloc: A,
+    sides: &Sides<'_>,
+    word: Word,
+    told: &HistoryAnswer<A>,
+) -> Result<Vec<u8, A>, Memory> {
+    let mut text = String::new(alloc);
+    put_buffer(&mut text, sides, word)?;
+    put_entries(alloc, &mut text, sides, told)?;
+    let (accesses, races) = (told.entries.len(), if told.racy { "yes" } else { "no" });
+    writeln!(
+        text,
+        "end accesses {accesses} held {} races {races}",
+        told.held
+    )?;
+    Ok(text.into_bytes())
 }

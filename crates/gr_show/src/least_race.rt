@@ -1,7 +1,7 @@
 //! The question for the least racing pair of a word.
 
 ghost use Rattle.std.specs.Prelude.{◌≡◌, IfOk};
-ghost use Rattle.gr_accesses.specs.Racy.{IsRacyIn};
+ghost use Rattle.gr_timeline.specs.Racy.{IsRacyIn};
 ghost use Rattle.gr_show.specs.Explanations.{explanation_line};
 ghost use Rattle.gr_show.specs.Rendering.{Renders};
 ghost use Rattle.gr_show.specs.Shown.{IsExplanation, IsLine};

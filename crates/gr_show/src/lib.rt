@@ -2,7 +2,7 @@
 //! texts.
 //!
 //! That an answer is right is a contract; its text is a rendering, of which nothing is claimed but for the line of `explain`. The
-//! texts are docs/FORMATS.md, "Explanation" and what follows there.
+//! texts are docs/OUTPUT.md, "explain" and what follows there.
 #![tactic(auto)]
 
 mod account_text;
@@ -18,7 +18,6 @@ pub mod question;
 pub mod races;
 mod races_text;
 mod show;
-mod sides_text;
 mod streams;
 pub mod why_held;
 mod why_text;

@@ -1,18 +1,17 @@
 //! The question for the long form of `explain`.
 
 ghost use Rattle.std.specs.Prelude.{option_map};
-ghost use Rattle.gr_accesses.specs.Racy.{IsRacyIn};
+ghost use Rattle.gr_timeline.specs.Racy.{IsRacyIn};
 ghost use Rattle.gr_places.specs.SideLines.{place_number};
 ghost use Rattle.gr_races.specs.Accounts.{IsAccountOf, account_said};
 ghost use Rattle.gr_show.specs.Rendering.{Renders};
 
-use crate::account_text::put_account;
+use crate::account_text::account_text;
 use crate::question::{JsonQuestion, Question};
 use gr_json::account::account_json;
 use gr_model::event::Word;
 use gr_model::memory::Memory;
 use gr_model::traces::Traces;
-use gr_places::index::PlaceIndex;
 use gr_places::sides::Sides;
 use gr_races::account::{Account, account_of};
 use std::alloc::{Allocator, Global};
@@ -52,12 +51,7 @@ impl<A: Allocator + Copy> Question<A> for LongRace {
         answer: &Option<Account<A>>,
         sides: &Sides<'_>,
     ) -> Result<Vec<u8, A>, Memory> {
-        let places = PlaceIndex::of(alloc, sides.places)?;
-        let mut text = Vec::new(alloc);
-        match put_account(&mut text, sides, &places, self.word, answer.as_ref()) {
-            Ok(()) => Ok(text),
-            Err(_) => Err(Memory),
-        }
+        account_text(alloc, sides, self.word, answer.as_ref())
     }
 }
 

@@ -11,7 +11,7 @@ use std::alloc::{Allocator, Global};
 
 /// What is told of a launch: a text, and whether what is looked for is found.
 #[derive(Drop)]
-pub(crate) struct Told<A: Allocator> {
+pub(crate) struct Rendered<A: Allocator> {
     /// The text, whole.
     pub(crate) text: Vec<u8, A>,
     /// Whether it is found.

@@ -5,7 +5,7 @@ ghost use Rattle.gr_show.specs.Rendering.{Renders};
 ghost use Rattle.gr_show.specs.Shown.{AreRaces, races_said};
 
 use crate::question::{JsonQuestion, Question};
-use crate::races_text::put_races;
+use crate::races_text::races_text;
 use gr_json::races::races_json;
 use gr_model::memory::Memory;
 use gr_model::traces::Traces;
@@ -50,11 +50,7 @@ impl<A: Allocator + Copy> Question<A> for Races {
         answer: &RacesByKind<A>,
         sides: &Sides<'_>,
     ) -> Result<Vec<u8, A>, Memory> {
-        let mut text = Vec::new(alloc);
-        match put_races(&mut text, sides, answer, self.most) {
-            Ok(()) => Ok(text),
-            Err(_) => Err(Memory),
-        }
+        races_text(alloc, sides, answer, self.most)
     }
 }
 

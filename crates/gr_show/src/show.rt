@@ -6,7 +6,7 @@ ghost use Rattle.gr_record.specs.declared.fault.Fault.TheVariants as faults;
 ghost use Rattle.gr_replay.specs.Each.{all_known};
 ghost use Rattle.gr_places.specs.Files.{IsShowFault};
 ghost use Rattle.gr_show.specs.Told.{IsShown, ShowsPrefix};
-ghost use Rattle.gr_accesses.specs.Racy.{IsRacyIn};
+ghost use Rattle.gr_timeline.specs.Racy.{IsRacyIn};
 ghost use Rattle.gr_show.specs.Shown.{IsLine};
 
 use crate::least_race::LeastRace;

@@ -8,7 +8,7 @@ ghost use Rattle.gr_places.specs.Files.{IsShowFault};
 ghost use Rattle.gr_places.specs.Sides.{sides_said};
 ghost use Rattle.gr_show.specs.Told.{IsShown, IsTold, ShowsPrefix};
 
-use crate::question::{Question, Told};
+use crate::question::{Question, Rendered};
 use crate::writing::write_text;
 use gr_places::sides::Sides;
 use gr_record::fault::Fault;
@@ -25,14 +25,14 @@ pub(crate) fn answer_of_streams<A: Allocator + Copy, Q: Question<A>, T: Read + D
     question: &Q,
     readers: Vec<T, A>,
     sides: &Sides<'_>,
-) -> Result<Told<A>, Fault>
+) -> Result<Rendered<A>, Fault>
     ensures told { IfOk result (λ told. IsTold (Q.is_text question.now (sides_said sides.now)) (Q.is_found question.now) (all_known (map T.remaining readers.items)) told.text.items told.found) }
     ensures fault { IfErr result (λ f. IfSome (all_known (map T.remaining readers.items)) (λ inputs. IsEachFault inputs f)) }
     ensures reading { IfErr result (λ f. (f ≢ faults.Write) × (f ≢ faults.Threads)) }
 {
     let launch = read_each(alloc, readers)?;
     let answer = question.answer(alloc, &launch, sides)?;
-    Ok(Told {
+    Ok(Rendered {
         text: question.text(alloc, &answer, sides)?,
         found: question.found(&answer),
     })

@@ -5,7 +5,7 @@ ghost use Rattle.gr_show.specs.Rendering.{Renders};
 ghost use Rattle.gr_show.specs.Shown.{IsHeldIn};
 
 use crate::question::{JsonQuestion, Question};
-use crate::why_text::put_why;
+use crate::why_text::why_text;
 use gr_held::why::{WhyHeld, why_held};
 use gr_json::held::why_json;
 use gr_model::event::EventId;
@@ -49,11 +49,7 @@ impl<A: Allocator + Copy> Question<A> for HeldEvent {
         answer: &WhyHeld<A>,
         _sides: &Sides<'_>,
     ) -> Result<Vec<u8, A>, Memory> {
-        let mut text = Vec::new(alloc);
-        match put_why(&mut text, self.event, answer) {
-            Ok(()) => Ok(text),
-            Err(_) => Err(Memory),
-        }
+        why_text(alloc, self.event, answer)
     }
 }
 

@@ -3,8 +3,8 @@ use Rattle.std.proofs.Common.{◌≡◌, ℕ, List, [], ◌∷◌, ◌++◌, Opt
 use Rattle.std.specs.Prelude.{IfSome, option_map}
 use Rattle.gr_record.specs.declared.header.Header.{Header}
 use Rattle.gr_record.specs.declared.fault.Fault.{Fault}
-use Rattle.gr_input.specs.Faults.{Fails}
-use Rattle.gr_input.proofs.Outside.{fails_through}
+use Rattle.gr_record.specs.InputFaults.{Fails}
+use Rattle.gr_record.proofs.Outside.{fails_through}
 use Rattle.gr_replay.specs.Each.{all_known}
 use Rattle.gr_intake.specs.Joined.{◌>>=◌}
 use Rattle.gr_streams.specs.Headers.{header_behind, headers_behind, headers_of}

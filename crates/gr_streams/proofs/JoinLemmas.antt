@@ -9,7 +9,7 @@ use Rattle.gr_model.specs.declared.event.Event.{Event}
 use Rattle.gr_record.specs.declared.fault.Fault.{Fault}
 use Rattle.gr_record.specs.declared.header.Header.{Header}
 use Rattle.gr_intake.specs.Joined.{◌>>=◌}
-use Rattle.gr_sender.specs.Senders.{Sending}
+use Rattle.gr_threads.specs.Senders.{Sending}
 use Rattle.gr_streams.specs.Headers.{AreApart}
 use Rattle.gr_streams.specs.Records.{and_one, events_at, lists_behind, lists_of}
 use Rattle.gr_streams.specs.Sources.{ArePlaced, AreServed, Begun, HasSender}

@@ -13,7 +13,7 @@ use Rattle.gr_replay.specs.Each.{all_known}
 use Rattle.gr_intake.specs.Joined.{Flat}
 use Rattle.gr_intake.specs.Launch.{HasGroup, IsLaunchOf}
 use Rattle.gr_route.specs.IntakeSeats.{Seat}
-use Rattle.gr_sender.specs.Senders.{Sending}
+use Rattle.gr_threads.specs.Senders.{Sending}
 use Rattle.gr_steps.proofs.Orders.{there_is}
 use Rattle.gr_streams.specs.Headers.{AreApart, AreHeadersOf, bare, bares, streams_with}
 use Rattle.gr_streams.specs.Sources.{AreKnown, AreOfRun, AreReceiptsFor, AreSenders, AreServed, Begun, IsReady}

@@ -18,7 +18,7 @@ use Rattle.gr_record.specs.Decoding.{HasMemory, Standing, answer, last_answer, r
 use Rattle.gr_record.specs.Faults.{stream_fault}
 use Rattle.gr_record.proofs.Resuming.{fault_stays}
 use Rattle.gr_intake.specs.Joined.{at_place}
-use Rattle.gr_sender.specs.Senders.{Sending}
+use Rattle.gr_threads.specs.Senders.{Sending}
 use Rattle.gr_streams.specs.Records.{events_at}
 use Rattle.gr_streams.specs.Sending.{AreSent, IsFed, Tells}
 use Rattle.gr_streams.specs.Sources.{IsHeaded}

@@ -11,10 +11,10 @@ use Rattle.gr_record.specs.declared.part.Part.TheVariants as parts
 use Rattle.gr_record.specs.declared.header.Header.{Header}
 use Rattle.gr_record.specs.Laws.{AreBytes}
 use Rattle.gr_record.specs.Decoding.{GrowsAs, Reading, header_part, parts_of, read_from, reading}
-use Rattle.gr_sender.specs.declared.sender.SendError.{SendError}
-use Rattle.gr_sender.specs.declared.sender.SendError.TheVariants.{Closed, UnknownItem, BadEvent, StreamFull, Full}
-use Rattle.gr_sender.specs.Refusals.{IsRefusalOfEnd, is_full}
-use Rattle.gr_sender.specs.Senders.{Sending}
+use Rattle.gr_threads.specs.declared.sender.SendError.{SendError}
+use Rattle.gr_threads.specs.declared.sender.SendError.TheVariants.{Closed, UnknownItem, BadEvent, StreamFull, Full}
+use Rattle.gr_threads.specs.Refusals.{IsRefusalOfEnd, is_full}
+use Rattle.gr_threads.specs.Senders.{Sending}
 use Rattle.gr_streams.specs.Sending.{IsStuck, events_in}
 
 -- a list with an end behind it is complete

@@ -13,8 +13,8 @@ use Rattle.gr_record.specs.declared.part.Part.{Part}
 use Rattle.gr_record.specs.declared.part.Part.TheVariants as parts
 use Rattle.gr_record.specs.Decoding.{StandsFor, Standing, reading}
 use Rattle.gr_record.specs.Laws.{AreBytes}
-use Rattle.gr_sender.specs.Refusals.{IsSendable}
-use Rattle.gr_sender.specs.Senders.{Sending}
+use Rattle.gr_threads.specs.Refusals.{IsSendable}
+use Rattle.gr_threads.specs.Senders.{Sending}
 
 -- what is sent of an event: an end is sent by its mark alone
 abbrev pub sent_by_kind : Kind → Event → Event

@@ -9,14 +9,14 @@ use Rattle.gr_record.specs.WholeStreams.{front_header_at}
 use Rattle.gr_record.specs.declared.fault.Fault.{Fault}
 use Rattle.gr_record.specs.declared.fault.Fault.TheVariants as faults
 use Rattle.gr_route.specs.IntakeSeats.{Seat}
-use Rattle.gr_sender.specs.Senders.{Sending}
+use Rattle.gr_threads.specs.Senders.{Sending}
 use Rattle.gr_detector.specs.Runs.{IsOfRun, Run}
 use Rattle.gr_streams.specs.Headers.{AreApart}
 use Rattle.gr_streams.specs.Records.{events_at}
 use Rattle.gr_streams.specs.Sending.{Tells}
 use Rattle.gr_streams.specs.declared.thread.OfReader.{OfReader}
-use Rattle.gr_streams.specs.declared.thread.Work.{Work}
-use Rattle.gr_streams.specs.declared.thread.Work.TheVariants.{Started, Over, Joining}
+use Rattle.gr_streams.specs.declared.thread.ReaderState.{ReaderState}
+use Rattle.gr_streams.specs.declared.thread.ReaderState.TheVariants.{Started, Over, Joining}
 use Rattle.gr_streams.specs.declared.source.Source.{Source}
 
 -- the bytes of the stream, its header included, where they are known
@@ -53,10 +53,10 @@ abbrev pub begun_of : {T A : Type 0} → (T → Option (List ℕ)) → OfReader 
 begun_of remaining p = record { place = p.place; header = p.source.value.header; bytes = known_of remaining p.source.value; sender = p.sender.value }
 
 -- a thread reads it, or else reading it has left this; none is being joined while others look
-abbrev pub IsWorkOf : {T A : Type 0} → (T → Option (List ℕ)) → OfReader T A → Work T A → Type 0
-IsWorkOf remaining p (Started handle) = handle.promise ≡ p
-IsWorkOf remaining p (Over ended) = IsEndOf (begun_of remaining p) ended.receipt ended.fault
-IsWorkOf remaining p Joining = ⊥
+abbrev pub IsStateOf : {T A : Type 0} → (T → Option (List ℕ)) → OfReader T A → ReaderState T A → Type 0
+IsStateOf remaining p (Started handle) = handle.promise ≡ p
+IsStateOf remaining p (Over ended) = IsEndOf (begun_of remaining p) ended.receipt ended.fault
+IsStateOf remaining p Joining = ⊥
 
 -- ---- the streams of a run
 

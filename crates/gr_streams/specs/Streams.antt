@@ -10,7 +10,7 @@ use Rattle.gr_model.specs.Streams.{Streams}
 use Rattle.gr_record.specs.declared.header.Header.{Header}
 use Rattle.gr_record.specs.declared.fault.Fault.{Fault}
 use Rattle.gr_record.specs.declared.fault.Fault.TheVariants as faults
-use Rattle.gr_input.specs.Faults.{Fails}
+use Rattle.gr_record.specs.InputFaults.{Fails}
 use Rattle.gr_report.specs.Putting.{AppendsPrefix}
 use Rattle.gr_report.specs.ReportText.{report_text}
 use Rattle.gr_replay.specs.Replays.{IsExactOfEach}

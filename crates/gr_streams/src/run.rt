@@ -2,7 +2,7 @@
 
 ghost use Rattle.std.specs.Prelude.{◌≡◌, ◌≢◌, ◌⊎◌, ℕ, List, All, IfErr, IfOk, IfSome, None, Ok, Some, map};
 ghost use Rattle.std.specs.Io.KnownBytes.{Appends, Keeps};
-ghost use Rattle.gr_input.specs.Faults.{Fails};
+ghost use Rattle.gr_record.specs.InputFaults.{Fails};
 ghost use Rattle.gr_model.specs.Shapes.{IsShape};
 ghost use Rattle.gr_record.specs.declared.fault.Fault.TheVariants as faults;
 ghost use Rattle.gr_replay.specs.Each.{all_known};

@@ -3,7 +3,7 @@
 ghost use Rattle.std.specs.Prelude.{◌≡◌, ◌≢◌, ◌==◌, ◌<◌, ◌≤◌, not, length, All, IfErr, IfOk, IfSome, Ok, Some};
 ghost use Rattle.std.specs.List.{list_any};
 ghost use Rattle.std.specs.Io.KnownBytes.{Consumes, IsAtEnd};
-ghost use Rattle.gr_input.specs.Faults.{Fails, Gives};
+ghost use Rattle.gr_record.specs.InputFaults.{Fails, Gives};
 ghost use Rattle.gr_record.specs.declared.fault.Fault.TheVariants as faults;
 ghost use Rattle.gr_record.specs.declared.layout.TheConstants.{HEADER_LENGTH};
 ghost use Rattle.gr_record.specs.Faults.{IsOfReading};

@@ -8,7 +8,7 @@ use crate::forward::{Ended, Forward};
 use crate::reading::read_on;
 use crate::source::Source;
 use gr_record::fault::Fault;
-use gr_sender::sender::Sender;
+use gr_threads::sender::Sender;
 use std::alloc::{Allocator, Global};
 use std::io::Read;
 use std::marker::Model;
@@ -35,7 +35,7 @@ impl<T: Read, A: Allocator> Promise<Ended<A>> for OfReader<T, A> {
 
 /// How a stream is read.
 #[derive(Drop)]
-pub(crate) enum Work<T: Read, A: Allocator = Global> {
+pub(crate) enum ReaderState<T: Read, A: Allocator = Global> {
     /// By a thread.
     Started(PromisedHandle<Ended<A>, OfReader<T, A>>),
     /// No more. This is what is left of the stream.
@@ -48,17 +48,17 @@ pub(crate) enum Work<T: Read, A: Allocator = Global> {
 #[derive(Drop)]
 pub(crate) struct ReaderThread<T: Read, A: Allocator = Global> {
     begun: Snapshot<OfReader<T, A>>,
-    work: Work<T, A>,
+    work: ReaderState<T, A>,
 }
 
 impl<T: Read, A: Allocator> Model for ReaderThread<T, A> {
-    ghost use Rattle.gr_streams.specs.Sources.{Begun, IsWorkOf, begun_of};
+    ghost use Rattle.gr_streams.specs.Sources.{Begun, IsStateOf, begun_of};
 
     ghost Value = { Begun };
 
     ghost view = { λ t. begun_of T.remaining t.begun.value };
 
-    ghost invariant = { λ t. IsWorkOf T.remaining t.begun.value t.work };
+    ghost invariant = { λ t. IsStateOf T.remaining t.begun.value t.work };
 }
 
 impl<T, A> ReaderThread<T, A>
@@ -91,15 +91,15 @@ where
         let begun = Snapshot::of(&promise);
         let forward = Forward::new(alloc, sender);
         let Ok(theirs) = Arc::try_clone(abandoned) else {
-            let work = Work::Over(forward.fail(&rt, Fault::Threads));
+            let work = ReaderState::Over(forward.fail(&rt, Fault::Threads));
             return ReaderThread { begun, work };
         };
         let read = move || read_on(rt, place, source, forward, theirs);
         let work = match thread::spawn_with(&rt, promise, read) {
-            Ok(handle) => Work::Started(handle),
+            Ok(handle) => ReaderState::Started(handle),
             Err(refused) => {
                 abandoned.store(true, Ordering::SeqCst);
-                Work::Over((refused.value)())
+                ReaderState::Over((refused.value)())
             }
         };
         ReaderThread { begun, work }
@@ -111,8 +111,8 @@ impl<T: Read, A: Allocator> ReaderThread<T, A> {
     pub(crate) fn settle<R: Threads>(&mut self, rt: &R)
         ensures { self.new ≡ self.old }
     {
-        self.work = match mem::replace(&mut self.work, Work::Joining) {
-            Work::Started(handle) => Work::Over(handle.join(rt)),
+        self.work = match mem::replace(&mut self.work, ReaderState::Joining) {
+            ReaderState::Started(handle) => ReaderState::Over(handle.join(rt)),
             over => over,
         };
     }
@@ -123,9 +123,9 @@ impl<T: Read, A: Allocator> ReaderThread<T, A> {
     {
         let ReaderThread { begun: _, work } = self;
         match work {
-            Work::Started(handle) => handle.join(rt),
-            Work::Over(ended) => ended,
-            Work::Joining => unreachable!(),
+            ReaderState::Started(handle) => handle.join(rt),
+            ReaderState::Over(ended) => ended,
+            ReaderState::Joining => unreachable!(),
         }
     }
 }

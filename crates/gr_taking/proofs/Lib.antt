@@ -1,3 +1,6 @@
 mod EventLists
-pub mod TakenLists
+pub mod TakenLemmas
+mod Turns
+mod RoundLemmas
+mod Lists
 mod StepLemmas

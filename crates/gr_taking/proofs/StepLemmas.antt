@@ -3,8 +3,8 @@ use Rattle.std.proofs.Common.{◌≡◌, ◌-◌, ◌<◌, ◌≤◌, List, [], 
 use Rattle.std.proofs.lemmas.List.{length-append}
 use Rattle.gr_model.specs.Streams.{Streams, word_at}
 use Rattle.gr_closure.specs.Accesses.{IsAccessOf}
-use Rattle.gr_hits.specs.Accesses.{AreAccesses}
-use Rattle.gr_hits.proofs.Adding.{bare_access, handled_adds, met_add_none, others_add_none}
+use Rattle.gr_closure.specs.AccessesAlong.{AreAccesses}
+use Rattle.gr_closure.proofs.Adding.{bare_access, handled_adds, met_add_none, others_add_none}
 use Rattle.gr_order.specs.Sequences.{Sequence, IsSequence, event_count}
 use Rattle.gr_sequencer.specs.Answers.{IsStep}
 use Rattle.gr_sequencer.specs.declared.handled.Handled.{Handled}

@@ -5,7 +5,7 @@ use Rattle.gr_model.specs.declared.event.EventId.{EventId}
 use Rattle.gr_model.specs.LawfulOrders.{IsWholeOrder}
 use Rattle.gr_model.specs.Streams.{Streams}
 use Rattle.gr_clocks.specs.ClockedAccess.{ClockedAccess, clocked}
-use Rattle.gr_hits.specs.Accesses.{AreAccesses}
+use Rattle.gr_closure.specs.AccessesAlong.{AreAccesses}
 use Rattle.gr_order.specs.Sequences.{Sequence}
 use Rattle.gr_sequencer.specs.declared.handled.Handled.{Handled}
 use Rattle.gr_sequencer.specs.declared.handled.Handled.TheVariants.{One}

@@ -29,6 +29,26 @@ pub trait Keeper<A: Allocator> {
         ensures { (accesses : List ClockedAccess) → stands self.now accesses kept.old → stands self.now accesses kept.new };
 }
 
+/// Keeps nothing, for who asks only what can be handled.
+#[derive(Clone, Copy, Debug)]
+pub struct NoKeeper;
+
+impl<A: Allocator> Keeper<A> for NoKeeper {
+    type Kept = ();
+
+    ghost stands = { λ keeper accesses kept. Unit {0} };
+
+    fn add(&self, kept: &mut (), access: &Access<A>) -> Result<(), Memory>
+        ensures { OnOk result ((accesses : List ClockedAccess) → Unit {0} → Unit {0}) }
+    {
+        Ok(())
+    }
+
+    fn close(&self, kept: &mut (), group: u16)
+        ensures { (accesses : List ClockedAccess) → Unit {0} → Unit {0} }
+    {}
+}
+
 /// Keeps the shadows of all words.
 #[derive(Clone, Copy, Debug)]
 pub struct ShadowKeeper;

@@ -4,5 +4,8 @@
 
 pub mod handling;
 pub mod keeper;
+pub mod rounds;
+pub mod source;
 pub mod taking;
+pub mod traces;
 pub mod turn;

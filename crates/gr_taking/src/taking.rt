@@ -1,15 +1,14 @@
-//! All records of a launch, taken by a sequencer and handled as they can be.
+//! A record of a group, taken by a sequencer and handled as soon as it can be.
 //!
 //! A record whose event can be handled at once is taken and handled in one call. The others wait, and what waits is looked at
 //! now and then (`turn`), so that no more records are kept than wait.
 
-ghost use Rattle.std.specs.Prelude.{◌≡◌, ◌<◌, [], OnOk, length};
+ghost use Rattle.std.specs.Prelude.{◌≡◌, ◌<◌, OnOk, length};
 ghost use Rattle.gr_model.specs.declared.limits.TheConstants.{MOST_RECORDS};
-ghost use Rattle.gr_model.specs.Streams.{IsAccepted, list_of, size_of};
+ghost use Rattle.gr_model.specs.Streams.{list_of};
 ghost use Rattle.gr_lanes.specs.Takes.{CanTake, IsEventButItem, with_record};
-ghost use Rattle.gr_order.specs.Sequences.{IsDone, IsSequence, nothing};
-ghost use Rattle.gr_taking.specs.Along.{IsAlong, IsAlongWhole};
-ghost use Rattle.gr_taking.specs.Taken.{with_list};
+ghost use Rattle.gr_order.specs.Sequences.{IsSequence};
+ghost use Rattle.gr_taking.specs.Along.{IsAlong};
 
 use crate::handling::{give, handle_ready};
 use crate::keeper::Keeper;
@@ -17,7 +16,6 @@ use crate::turn::Turn;
 use gr_lanes::seq_error::SeqError;
 use gr_model::event::Event;
 use gr_model::memory::Memory;
-use gr_model::traces::Traces;
 use gr_sequencer::sequencer::Sequencer;
 use std::alloc::Allocator;
 
@@ -101,76 +99,5 @@ pub fn take_record<A: Allocator + Copy, K: Keeper<A>>(
     if event.kind.is_end() {
         close(sequencer, keeper, kept, group);
     }
-    Ok(())
-}
-
-/// Has a sequencer take the whole list of a group of which it has taken nothing.
-///
-/// # Errors
-/// `Memory`: out of memory.
-fn take_list<A: Allocator + Copy, K: Keeper<A>>(
-    sequencer: &mut Sequencer<A>,
-    keeper: &K,
-    kept: &mut K::Kept,
-    group: u16,
-    items: u16,
-    list: &[Event],
-) -> Result<(), Memory>
-    requires there { group < length sequencer.old.taken.lists }
-    requires nothing { list_of sequencer.old.taken group ≡ [] }
-    requires accepted { IsAccepted (size_of sequencer.old.taken group) list.now }
-    requires sequence { IsSequence sequencer.old }
-    requires along { IsAlong (K.stands keeper.now) sequencer.old kept.old }
-    ensures taken { OnOk result (sequencer.new.taken ≡ with_list sequencer.old.taken group list.now) }
-    ensures sequence { OnOk result (IsSequence sequencer.new) }
-    ensures along { OnOk result (IsAlong (K.stands keeper.now) sequencer.new kept.new) }
-{
-    let mut turn = Turn::new(items, sequencer.held());
-    for event in list {
-        take_record(sequencer, keeper, kept, group, *event, &mut turn)?;
-    }
-    Ok(())
-}
-
-/// Has a sequencer that has taken nothing take all records of a launch, and handles all that can be.
-///
-/// # Errors
-/// `Memory`: out of memory.
-pub fn take_traces<A: Allocator + Copy, K: Keeper<A>>(
-    sequencer: &mut Sequencer<A>,
-    keeper: &K,
-    kept: &mut K::Kept,
-    traces: &Traces<A>,
-) -> Result<(), Memory>
-    requires nothing { sequencer.old ≡ nothing traces.now.sizes }
-    requires along { IsAlong (K.stands keeper.now) sequencer.old kept.old }
-    ensures taken { OnOk result (sequencer.new.taken ≡ traces.now) }
-    ensures done { OnOk result (IsDone sequencer.new) }
-    ensures sequence { OnOk result (IsSequence sequencer.new) }
-    ensures along { OnOk result (IsAlong (K.stands keeper.now) sequencer.new kept.new) }
-{
-    for group in 0..traces.shape().groups() {
-        let items = traces.shape().items(group);
-        take_list(sequencer, keeper, kept, group, items, traces.list(group))?;
-    }
-    handle_ready(sequencer, keeper, kept)?;
-    Ok(())
-}
-
-/// Has a keeper add the accesses of a launch, along a lawful order of all events that are not held.
-///
-/// # Errors
-/// `Memory`: out of memory.
-pub fn follow<A: Allocator + Copy, K: Keeper<A>>(
-    alloc: A,
-    traces: &Traces<A>,
-    keeper: &K,
-    kept: &mut K::Kept,
-) -> Result<(), Memory>
-    requires { K.stands keeper.now [] kept.old }
-    ensures { OnOk result (IsAlongWhole (K.stands keeper.now) traces.now kept.new) }
-{
-    let mut sequencer = Sequencer::new(alloc, traces.shape().copy()?)?;
-    take_traces(&mut sequencer, keeper, kept, traces)?;
     Ok(())
 }

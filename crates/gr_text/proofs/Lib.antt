@@ -8,3 +8,11 @@ pub mod SaidStreams
 pub mod UpgradedStreams
 pub mod Partials
 pub mod PartialLaws
+pub mod LineBytes
+pub mod LineNumbers
+pub mod LineSites
+pub mod LineWords
+pub mod LinesAgain
+pub mod LinesFound
+pub mod NamesRead
+pub mod FirstWords

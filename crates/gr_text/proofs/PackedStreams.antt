@@ -12,20 +12,20 @@ use Rattle.gr_model.specs.Streams.{is_complete}
 use Rattle.gr_record.specs.declared.fault.Fault.{Fault}
 use Rattle.gr_record.specs.declared.fault.Fault.TheVariants as faults
 use Rattle.gr_record.specs.declared.header.Header.{Header}
-use Rattle.gr_lines.specs.declared.line.Line.{Line}
-use Rattle.gr_lines.specs.declared.line.Line.TheVariants as lines
+use Rattle.gr_text.specs.declared.line.Line.{Line}
+use Rattle.gr_text.specs.declared.line.Line.TheVariants as lines
 use Rattle.gr_record.specs.declared.header.Version.{Version}
 use Rattle.gr_record.specs.declared.header.Version.TheVariants.{One}
 use Rattle.gr_record.specs.Versions.{places}
 use Rattle.gr_record.specs.PrefixLaws.{Runs}
-use Rattle.gr_lines.specs.declared.line.SitedLine.{SitedLine}
+use Rattle.gr_text.specs.declared.line.SitedLine.{SitedLine}
 use Rattle.gr_record.specs.Sites.{Sited, events_of}
-use Rattle.gr_lines.specs.LineLaws.{IsSitedSaid}
-use Rattle.gr_lines.specs.LineReading.{sited_said}
-use Rattle.gr_lines.specs.LineText.{sited_text}
+use Rattle.gr_text.specs.LineLaws.{IsSitedSaid}
+use Rattle.gr_text.specs.LineReading.{sited_said}
+use Rattle.gr_text.specs.LineText.{sited_text}
 use Rattle.gr_record.specs.Spelling.{IsHeader, IsRecord, header_spelling, event_spelling, events_spelling}
 use Rattle.gr_record.proofs.FoundPrefixes.{complete_behind}
-use Rattle.gr_lines.proofs.LineSites.{sited_read_is_text}
+use Rattle.gr_text.proofs.LineSites.{sited_read_is_text}
 use Rattle.gr_text.specs.declared.place.Place.{Place}
 use Rattle.gr_text.specs.declared.place.Place.TheVariants.{Outside, Inside}
 use Rattle.gr_text.specs.Lines.{lines_of}

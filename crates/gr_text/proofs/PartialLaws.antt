@@ -21,7 +21,7 @@ use Rattle.gr_record.specs.Laws.{AreBytes}
 use Rattle.gr_record.specs.Spelling.{events_spelling, header_spelling}
 use Rattle.gr_record.specs.WholeStreams.{front_header_at, front_records_at, stream_spelling, up_to}
 use Rattle.gr_record.proofs.FoundPrefixes.{events_sited, is_at_end, records_found}
-use Rattle.gr_lines.specs.declared.line.SitedLine.{SitedLine}
+use Rattle.gr_text.specs.declared.line.SitedLine.{SitedLine}
 use Rattle.gr_model.specs.Streams.{is_complete}
 use Rattle.gr_record.specs.Sites.{Sited, all_sited}
 use Rattle.gr_text.specs.declared.forming.Form.TheVariants.{Text}

@@ -18,7 +18,7 @@ use Rattle.gr_record.specs.Versions.{places, record_length}
 use Rattle.gr_record.proofs.Found.{read_is_spelled}
 use Rattle.gr_record.proofs.Loop.{next, short, too_many}
 use Rattle.gr_record.proofs.Places.{header_items}
-use Rattle.gr_lines.specs.declared.line.SitedLine.{SitedLine}
+use Rattle.gr_text.specs.declared.line.SitedLine.{SitedLine}
 use Rattle.gr_record.specs.declared.header.Version.{Version}
 use Rattle.gr_record.specs.Sites.{all_sited, sited}
 use Rattle.gr_text.specs.declared.forming.Form.{Form}

@@ -12,14 +12,14 @@ use Rattle.gr_record.proofs.Places.{each_in_range, header_items}
 use Rattle.gr_model.specs.declared.limits.TheConstants.{MOST_ITEMS_OF_A_GROUP, MOST_RECORDS}
 use Rattle.gr_model.specs.Events.{is_end}
 use Rattle.gr_model.specs.Streams.{is_complete}
-use Rattle.gr_lines.specs.declared.line.SitedLine.{SitedLine}
+use Rattle.gr_text.specs.declared.line.SitedLine.{SitedLine}
 use Rattle.gr_record.specs.PrefixLaws.{Runs}
-use Rattle.gr_lines.specs.LineLaws.{IsSaid}
-use Rattle.gr_lines.specs.LineText.{sited_text}
+use Rattle.gr_text.specs.LineLaws.{IsSaid}
+use Rattle.gr_text.specs.LineText.{sited_text}
 use Rattle.gr_record.specs.Spelling.{IsEvent}
 use Rattle.gr_record.proofs.FoundPrefixes.{complete_behind}
-use Rattle.gr_lines.proofs.LineBytes.{are_above, sited_above}
-use Rattle.gr_lines.proofs.LineSites.{sited_text_is_read}
+use Rattle.gr_text.proofs.LineBytes.{are_above, sited_above}
+use Rattle.gr_text.proofs.LineSites.{sited_text_is_read}
 use Rattle.gr_text.specs.declared.place.Place.TheVariants.{Outside, Inside}
 use Rattle.gr_text.specs.Lines.{lines_of}
 use Rattle.gr_text.specs.Texts.{header_line, record_line, whole_line, packed, said_from}

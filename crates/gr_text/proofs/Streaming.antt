@@ -4,8 +4,8 @@ use Rattle.std.specs.Prelude.{◌==◌}
 use Rattle.std.proofs.lemmas.Bool.{ltb-false}
 use Rattle.std.proofs.lemmas.List.{append-nil, get_or-append-add}
 use Rattle.std.specs.List.{flat_map}
-use Rattle.gr_input.specs.Faults.{Fails}
-use Rattle.gr_input.proofs.Outside.{fails_through}
+use Rattle.gr_record.specs.InputFaults.{Fails}
+use Rattle.gr_record.proofs.Outside.{fails_through}
 use Rattle.gr_model.specs.declared.event.Event.{Event}
 use Rattle.gr_model.specs.declared.limits.TheConstants.{MOST_RECORDS}
 use Rattle.gr_model.specs.Streams.{is_complete}

@@ -4,3 +4,6 @@ pub mod Dumps
 pub mod Writes
 pub mod Wholes
 pub mod Partial
+pub mod LineLaws
+pub mod LineReading
+pub mod LineText

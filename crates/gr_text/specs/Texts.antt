@@ -5,11 +5,11 @@ use Rattle.gr_model.specs.declared.limits.TheConstants.{MOST_RECORDS}
 use Rattle.gr_model.specs.Events.{is_end}
 use Rattle.gr_record.specs.declared.fault.Fault.{Fault}
 use Rattle.gr_record.specs.declared.fault.Fault.TheVariants as faults
-use Rattle.gr_lines.specs.declared.line.Line.{Line}
-use Rattle.gr_lines.specs.declared.line.Line.TheVariants as lines
-use Rattle.gr_lines.specs.declared.line.SitedLine.{SitedLine}
-use Rattle.gr_lines.specs.LineReading.{sited_said}
-use Rattle.gr_lines.specs.LineText.{sited_text}
+use Rattle.gr_text.specs.declared.line.Line.{Line}
+use Rattle.gr_text.specs.declared.line.Line.TheVariants as lines
+use Rattle.gr_text.specs.declared.line.SitedLine.{SitedLine}
+use Rattle.gr_text.specs.LineReading.{sited_said}
+use Rattle.gr_text.specs.LineText.{sited_text}
 use Rattle.gr_record.specs.Sites.{Sited}
 use Rattle.gr_record.specs.Spelling.{header_spelling, event_spelling}
 use Rattle.gr_record.specs.Versions.{places}

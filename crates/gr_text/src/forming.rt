@@ -2,8 +2,8 @@
 
 ghost use Rattle.std.specs.Prelude.{◌≡◌, ◌≤◌, ◌++◌, IfErr, IfOk, OnOk, length, option_map};
 ghost use Rattle.std.specs.List.{flat_map};
-ghost use Rattle.gr_input.specs.Faults.{Gives};
-ghost use Rattle.gr_lines.specs.LineText.{IsLine};
+ghost use Rattle.gr_record.specs.InputFaults.{Gives};
+ghost use Rattle.gr_text.specs.LineText.{IsLine};
 ghost use Rattle.gr_model.specs.Events.{IsEventOk};
 ghost use Rattle.gr_model.specs.declared.limits.TheConstants.{MOST_ITEMS_OF_A_GROUP, MOST_RECORDS};
 ghost use Rattle.gr_record.specs.Faults.{IsOfValues};
@@ -16,9 +16,9 @@ ghost use Rattle.gr_text.specs.Partial.{behind_end};
 ghost use Rattle.gr_text.specs.Texts.{header_line, whole_line};
 ghost use Rattle.gr_text.specs.Dumps.{raised, upgraded_header, formed_header, formed_event, formed_of, stream_at, with_stream};
 
+use crate::line::{Line, SitedLine};
+use crate::line_text::sited_line_text;
 use crate::packing::{push_header, push_record};
-use gr_lines::line::{Line, SitedLine};
-use gr_lines::line_text::sited_line_text;
 use gr_model::event::Event;
 use gr_model::limits::MOST_RECORDS;
 use gr_model::memory::Memory;

@@ -1,18 +1,18 @@
 //! From a text to the bytes of its streams.
 
 ghost use Rattle.std.specs.Prelude.{◌≡◌, ◌≤◌, ◌++◌, length, IfErr, OnOk};
-ghost use Rattle.gr_input.specs.Faults.{Gives};
+ghost use Rattle.gr_record.specs.InputFaults.{Gives};
 ghost use Rattle.gr_record.specs.Faults.{IsOfValues};
-ghost use Rattle.gr_lines.specs.LineLaws.{IsSaid};
+ghost use Rattle.gr_text.specs.LineLaws.{IsSaid};
 ghost use Rattle.gr_model.specs.Events.{IsEventOk};
 ghost use Rattle.gr_model.specs.declared.limits.TheConstants.{MOST_ITEMS_OF_A_GROUP};
 ghost use Rattle.gr_record.specs.Spelling.{IsHeader, header_spelling, event_spelling};
 ghost use Rattle.gr_record.specs.Versions.{places};
 ghost use Rattle.gr_text.specs.Texts.{line_bytes, packed, HasRoom};
 
+use crate::line::{Line, SitedLine};
 use crate::lines::split_line;
 use crate::place::{Place, take_line};
-use gr_lines::line::{Line, SitedLine};
 use gr_model::event::Event;
 use gr_model::memory::Memory;
 use gr_record::encoding::{encode_header, encode_sited, encode_sited2};

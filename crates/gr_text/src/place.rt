@@ -1,12 +1,12 @@
 //! Which line a text may have at a place.
 
 ghost use Rattle.std.specs.Prelude.{◌≡◌, ◌≢◌, IfOk, IfErr};
-ghost use Rattle.gr_lines.specs.LineLaws.{IsSitedSaid};
-ghost use Rattle.gr_lines.specs.LineReading.{sited_said};
+ghost use Rattle.gr_text.specs.LineLaws.{IsSitedSaid};
+ghost use Rattle.gr_text.specs.LineReading.{sited_said};
 ghost use Rattle.gr_text.specs.Texts.{HasRoom, version_at, record_at, line_at};
 
-use gr_lines::line::{Line, SitedLine};
-use gr_lines::parsing::parse_sited_line;
+use crate::line::{Line, SitedLine};
+use crate::parsing::parse_sited_line;
 use gr_model::event::Event;
 use gr_model::limits::MOST_RECORDS;
 use gr_record::fault::Fault;

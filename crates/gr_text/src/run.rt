@@ -2,7 +2,7 @@
 
 ghost use Rattle.std.specs.Prelude.{◌≡◌, ◌≢◌, IfErr, IfSome, OnOk};
 ghost use Rattle.std.specs.Io.KnownBytes.{Appends, Keeps};
-ghost use Rattle.gr_input.specs.Faults.{Fails, IsOutside};
+ghost use Rattle.gr_record.specs.InputFaults.{Fails, IsOutside};
 ghost use Rattle.gr_record.specs.declared.fault.Fault.TheVariants as faults;
 ghost use Rattle.gr_report.specs.Putting.{AppendsPrefix};
 ghost use Rattle.gr_text.specs.Texts.{packed};
@@ -13,8 +13,8 @@ ghost use Rattle.gr_text.specs.Writes.{Writes, WritesPrefix};
 use crate::forming::{Form, formed_bytes};
 use crate::packing::pack_text;
 use crate::partial::partial_text;
-use gr_input::read_all;
 use gr_record::fault::Fault;
+use gr_record::input::read_all;
 use gr_report::putting::{finish, put};
 use std::alloc::Allocator;
 use std::io::{Read, Write};

@@ -1,1 +1,3 @@
 pub mod Givens
+pub mod BatchLemmas
+pub mod SenderLemmas

@@ -1,7 +1,7 @@
 -- What of a sender stays as it sends, and is found in its receipt.
 use Rattle.std.specs.Prelude.{◌≡◌, ◌<◌, List, length}
 use Rattle.gr_route.specs.IntakeSeats.{Seat}
-use Rattle.gr_sender.specs.Senders.{Sending}
+use Rattle.gr_threads.specs.Senders.{Sending}
 use Rattle.gr_detector.specs.Runs.{AreReceiptsOf, IsOfRun, Run}
 
 -- it is of the same group and queue

@@ -9,7 +9,7 @@ use Rattle.gr_model.specs.Events.{end_of}
 use Rattle.gr_model.specs.Streams.{is_complete}
 use Rattle.gr_route.specs.Rooms.{Room}
 use Rattle.gr_route.specs.IntakeSeats.{Seat, Taker, popped_of}
-use Rattle.gr_sender.specs.Senders.{Sending}
+use Rattle.gr_threads.specs.Senders.{Sending}
 
 -- a plain write of a global word by item 0
 abbrev pub write_of : ℕ → Event

@@ -8,4 +8,3 @@ mod ones;
 mod runs;
 mod senders;
 mod tests;
-mod turns;

@@ -3,6 +3,5 @@
 mod growths;
 mod inputs;
 mod launches;
-mod outputs;
 mod runs;
 mod tests;

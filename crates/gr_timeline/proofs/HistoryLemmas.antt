@@ -14,15 +14,19 @@ use Rattle.gr_model.proofs.WordLemmas.{same_from_equal}
 use Rattle.gr_clocks.specs.ClockedAccess.{ClockedAccess, bare}
 use Rattle.gr_clocks.specs.Counts.{Counts}
 use Rattle.gr_closure.specs.Accesses.{IsAccess}
-use Rattle.gr_hits.specs.Accesses.{AreAccesses, of_none, of_access, of_other}
-use Rattle.gr_shadow.specs.Clashes.{event_of}
-use Rattle.gr_shadow.specs.Kept.{same_word}
+use Rattle.gr_closure.specs.AccessesAlong.{AreAccesses, of_none, of_access, of_other}
+use Rattle.gr_closure.proofs.Clashing.{whole_hits_are_races}
+use Rattle.gr_model.proofs.HitLaws.{IsHit-filter}
+use Rattle.gr_shadow.specs.Clashes.{IsHitIn, clashes, event_of}
+use Rattle.gr_shadow.specs.Kept.{Kept, same_word}
+use Rattle.gr_shadow.specs.StandsFor.{StandsFor, accesses_to}
 use Rattle.gr_shadow.proofs.KeepsLemmas.{Contains-first, Contains-rest}
 use Rattle.gr_explain.proofs.KeptLemmas.{event_there}
 use Rattle.gr_explain.proofs.Lists.{within}
-use Rattle.gr_accesses.specs.Accesses.{IsOn}
+use Rattle.gr_timeline.specs.Accesses.{IsOn}
 use Rattle.gr_timeline.specs.declared.entry.Entry.{Entry}
-use Rattle.gr_timeline.specs.Histories.{AreEntriesOf, IsCounted, IsHistory, Line, access_pair, entry_pair, events_of, is_counted, line_below, lines_below, lines_of}
+use Rattle.gr_timeline.specs.Racy.{IsRacyIn}
+use Rattle.gr_timeline.specs.Histories.{AreEntriesOf, IsCounted, IsHistory, IsKeptOf, Line, access_pair, entry_pair, events_of, is_counted, line_below, lines_below, lines_of}
 use Rattle.gr_timeline.specs.Selections as those
 use Rattle.gr_timeline.specs.Selections.{AreThose}
 use Rattle.gr_timeline.proofs.EntryLemmas.{events_below, those_counted}
@@ -34,22 +38,26 @@ is_on w x = same_word x.word w
 -- ---- one access more
 
 module _ {Z : Type 0} (w : Word) (accesses : List ClockedAccess) (y : ClockedAccess) (old new : List (Entry Z)) where
-  pub entry_added : (x : Entry Z) → new ≡ old ++ x ∷ [] → entry_pair x ≡ access_pair y → is_on w y ≡ true → AreEntriesOf w accesses old → AreEntriesOf w (accesses ++ y ∷ []) new
-  entry_added x pushed same on are =
+  pub entry_added : (x : Entry Z) (shadows shadowed : Kept) → new ≡ old ++ x ∷ [] → entry_pair x ≡ access_pair y → is_on w y ≡ true → StandsFor (accesses_to w accesses ++ y ∷ []) shadowed → IsKeptOf w accesses old shadows → IsKeptOf w (accesses ++ y ∷ []) new shadowed
+  entry_added x shadows shadowed pushed same on stands (are, _) =
       let last : filter (is_on w) (y ∷ []) ≡ y ∷ [] = ap (λ b. cond b (y ∷ []) []) on in
-      let more : filter (is_on w) (accesses ++ y ∷ []) ≡ filter (is_on w) accesses ++ y ∷ [] = filter-append (is_on w) accesses (y ∷ []) ∙ ap (λ l. filter (is_on w) accesses ++ l) last in
-      ap (map entry_pair) pushed
-      ∙ (map-append entry_pair old (x ∷ [])
-      ∙ (ap (λ l. l ++ entry_pair x ∷ []) are
-      ∙ (ap (λ p. map access_pair (filter (is_on w) accesses) ++ p ∷ []) same
-      ∙ (sym (map-append access_pair (filter (is_on w) accesses) (y ∷ []))
-      ∙ ap (map access_pair) (sym more)))))
+      let more : filter (is_on w) (accesses ++ y ∷ []) ≡ filter (is_on w) accesses ++ y ∷ [] = filter-append (is_on w) accesses (y ∷ []) ∙ ap (λ l. filter (is_on w) accesses ++ l) last in (
+        ap (map entry_pair) pushed
+            ∙ (map-append entry_pair old (x ∷ [])
+            ∙ (ap (λ l. l ++ entry_pair x ∷ []) are
+            ∙ (ap (λ p. map access_pair (filter (is_on w) accesses) ++ p ∷ []) same
+            ∙ (sym (map-append access_pair (filter (is_on w) accesses) (y ∷ []))
+            ∙ ap (map access_pair) (sym more))))),
+        subst (λ (xs : List ClockedAccess). StandsFor xs shadowed) (sym more) stands,
+      )
 
-  pub other_added : new ≡ old → is_on w y ≡ false → AreEntriesOf w accesses old → AreEntriesOf w (accesses ++ y ∷ []) new
-  other_added same off are =
+  pub other_added : (shadows : Kept) → new ≡ old → is_on w y ≡ false → IsKeptOf w accesses old shadows → IsKeptOf w (accesses ++ y ∷ []) new shadows
+  other_added shadows same off (are, stands) =
       let last : filter (is_on w) (y ∷ []) ≡ [] = ap (λ b. cond b (y ∷ []) []) off in
-      let more : filter (is_on w) (accesses ++ y ∷ []) ≡ filter (is_on w) accesses = filter-append (is_on w) accesses (y ∷ []) ∙ (ap (λ l. filter (is_on w) accesses ++ l) last ∙ append-nil (filter (is_on w) accesses)) in
-      ap (map entry_pair) same ∙ (are ∙ ap (map access_pair) (sym more))
+      let more : filter (is_on w) (accesses ++ y ∷ []) ≡ filter (is_on w) accesses = filter-append (is_on w) accesses (y ∷ []) ∙ (ap (λ l. filter (is_on w) accesses ++ l) last ∙ append-nil (filter (is_on w) accesses)) in (
+        ap (map entry_pair) same ∙ (are ∙ ap (map access_pair) (sym more)),
+        subst (λ (xs : List ClockedAccess). StandsFor xs shadows) (sym more) stands,
+      )
 
 -- ---- lists of pairs
 
@@ -182,3 +190,10 @@ module _ {Z : Type 0} (s : Streams) (w : Word) (entries : List (Entry Z)) (order
       behind = λ p l at. (line_behind p l at).1;
     };
   }
+
+  -- the word is hit in its accesses exactly where it is racy
+  pub hit_is_racy : IsHitIn (accesses_to w accesses) w ↔ IsRacyIn w s
+  hit_is_racy =
+      let own = IsHit-filter (λ x. x.word) clashes (λ v. same_word v w) accesses w (equal.laws-law.refl w) in
+      let races = whole_hits_are_races s order accesses w whole are in
+      (λ hit. races.0 (own.1 hit), λ racy. own.0 (races.1 racy))

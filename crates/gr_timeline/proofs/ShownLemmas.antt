@@ -14,10 +14,10 @@ use Rattle.gr_model.specs.Waits.{IsGrounded}
 use Rattle.gr_model.proofs.Descent.{lawful_is_grounded}
 use Rattle.gr_model.proofs.WordLemmas.{same_from_equal}
 use Rattle.gr_explain.specs.Events.{same_event}
-use Rattle.gr_accesses.specs.declared.details.Details.{Details}
-use Rattle.gr_accesses.specs.Accesses.{AreAccesses, IsOn}
-use Rattle.gr_accesses.specs.Held.{AreHeld}
-use Rattle.gr_accesses.proofs.HeldLemmas.{held_are_left}
+use Rattle.gr_timeline.specs.declared.details.Details.{Details}
+use Rattle.gr_timeline.specs.Accesses.{AreAccesses, IsOn}
+use Rattle.gr_timeline.specs.Held.{AreHeld}
+use Rattle.gr_timeline.proofs.HeldLemmas.{held_are_left}
 use Rattle.gr_timeline.specs.Histories.{IsHistory, Line, events_of}
 use Rattle.gr_timeline.proofs.SelectionLemmas.{those_have, those_hold, those_once, those_within}
 

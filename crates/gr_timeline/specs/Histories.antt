@@ -9,9 +9,10 @@ use Rattle.gr_model.specs.LawfulOrders.{IsWholeOrder}
 use Rattle.gr_model.specs.Streams.{Streams}
 use Rattle.gr_clocks.specs.ClockedAccess.{ClockedAccess}
 use Rattle.gr_clocks.specs.Counts.{Counts, count_of}
-use Rattle.gr_accesses.specs.Accesses.{IsOn}
+use Rattle.gr_timeline.specs.Accesses.{IsOn}
 use Rattle.gr_shadow.specs.Clashes.{event_of}
-use Rattle.gr_shadow.specs.Kept.{same_word}
+use Rattle.gr_shadow.specs.Kept.{Kept, same_word}
+use Rattle.gr_shadow.specs.StandsFor.{StandsFor, accesses_to}
 use Rattle.gr_timeline.specs.declared.entry.Entry.{Entry}
 use Rattle.gr_timeline.specs.Selections.{AreThose}
 
@@ -67,3 +68,7 @@ access_pair x = (event_of x, x.clock)
 -- entries are those of the accesses to the word, in their order
 abbrev pub AreEntriesOf : {Z : Type 0} → Word → List ClockedAccess → List (Entry Z) → Type 0
 AreEntriesOf w accesses entries = map entry_pair entries ≡ map access_pair (filter (λ x. same_word x.word w) accesses)
+
+-- they are, and shadows stand for these accesses
+abbrev pub IsKeptOf : {Z : Type 0} → Word → List ClockedAccess → List (Entry Z) → Kept → Type 0
+IsKeptOf w accesses entries shadows = AreEntriesOf w accesses entries × StandsFor (accesses_to w accesses) shadows

@@ -1,33 +1,46 @@
 //! The accesses to one word of a launch, in an order in which they can be handled.
 
-ghost use Rattle.std.specs.Prelude.{◌∷◌, ◌++◌, [], IfOk, List, OnOk};
+ghost use Rattle.std.specs.Prelude.{◌↔◌, ◌∷◌, ◌++◌, [], Contains, IfOk, IsTrue, List, OnOk};
 ghost use Rattle.gr_clocks.specs.ClockedAccess.{ClockedAccess, clocked};
-ghost use Rattle.gr_timeline.specs.Histories.{AreEntriesOf, IsHistory, lines_of};
+ghost use Rattle.gr_shadow.specs.Clashes.{IsHitIn};
+ghost use Rattle.gr_shadow.specs.StandsFor.{StandsFor};
+ghost use Rattle.gr_timeline.specs.Histories.{IsHistory, IsKeptOf, lines_of};
+ghost use Rattle.gr_timeline.specs.Racy.{IsRacyIn};
 
 use crate::entry::Entry;
 use gr_clocks::access::Access;
 use gr_model::event::{EventId, Word};
 use gr_model::memory::Memory;
 use gr_model::traces::Traces;
+use gr_shadow::shadows::Shadows;
 use gr_taking::keeper::Keeper;
-use gr_taking::taking::follow;
+use gr_taking::traces::follow;
 use std::alloc::Allocator;
 
-/// Keeps the accesses to a word.
+/// Keeps the accesses to a word, and its shadow.
 #[derive(Clone, Copy, Debug)]
 struct WordKeeper {
     word: Word,
 }
 
+/// What is kept of a word.
+#[derive(Drop)]
+struct KeptWord<A: Allocator> {
+    entries: Vec<Entry<A>, A>,
+    /// Shadows of this word alone.
+    shadows: Shadows<A>,
+}
+
 impl<A: Allocator + Copy> Keeper<A> for WordKeeper {
-    type Kept = Vec<Entry<A>, A>;
+    type Kept = KeptWord<A>;
 
-    ghost stands = { λ keeper accesses entries. AreEntriesOf keeper.word accesses entries.items };
+    ghost stands = { λ keeper accesses kept. IsKeptOf keeper.word accesses kept.entries.items kept.shadows };
 
-    fn add(&self, kept: &mut Vec<Entry<A>, A>, access: &Access<A>) -> Result<(), Memory>
-        ensures { OnOk result ((accesses : List ClockedAccess) → AreEntriesOf self.now.word accesses kept.old.items → AreEntriesOf self.now.word (accesses ++ clocked access.now ∷ []) kept.new.items) }
+    fn add(&self, kept: &mut KeptWord<A>, access: &Access<A>) -> Result<(), Memory>
+        ensures { OnOk result ((accesses : List ClockedAccess) → IsKeptOf self.now.word accesses kept.old.entries.items kept.old.shadows → IsKeptOf self.now.word (accesses ++ clocked access.now ∷ []) kept.new.entries.items kept.new.shadows) }
     {
         if access.word == self.word {
+            kept.shadows.apply(access)?;
             let event = EventId {
                 at: access.item,
                 index: access.index,
@@ -35,18 +48,36 @@ impl<A: Allocator + Copy> Keeper<A> for WordKeeper {
             let Ok(clock) = access.clock.copy() else {
                 return Err(Memory);
             };
-            kept.push(Entry { event, clock })?;
+            kept.entries.push(Entry { event, clock })?;
         }
         Ok(())
     }
 
-    fn close(&self, _kept: &mut Vec<Entry<A>, A>, _group: u16)
-        ensures { (accesses : List ClockedAccess) → AreEntriesOf self.now.word accesses _kept.old.items → AreEntriesOf self.now.word accesses _kept.new.items }
+    fn close(&self, _kept: &mut KeptWord<A>, _group: u16)
+        ensures { (accesses : List ClockedAccess) → IsKeptOf self.now.word accesses _kept.old.entries.items _kept.old.shadows → IsKeptOf self.now.word accesses _kept.new.entries.items _kept.new.shadows }
     {}
 }
 
+/// Whether a word is one of these.
+fn has(words: &[Word], word: Word) -> bool
+    ensures { IsTrue result ↔ Contains words.now word }
+{
+    words.contains(&word)
+}
+
+/// Whether a word is hit in the accesses that shadows stand for.
+///
+/// # Errors
+/// `Memory`: out of memory.
+fn is_hit<A: Allocator + Copy>(shadows: &Shadows<A>, word: Word) -> Result<bool, Memory>
+    ensures { (accesses : List ClockedAccess) → StandsFor accesses shadows.now → IfOk result (λ hit. IsTrue hit ↔ IsHitIn accesses word) }
+{
+    let words = shadows.racy()?;
+    Ok(has(&words, word))
+}
+
 /// The accesses to a word that are grounded, each once, in a lawful order of the launch, and each with those above it that
-/// happen before it.
+/// happen before it; and whether the word is racy.
 ///
 /// It handles the events of the launch once. Its time grows with the events, its memory with the accesses to the word and with the
 /// events that wait for others: which accesses happen before one is in its clock.
@@ -57,10 +88,15 @@ pub fn history_of<A: Allocator + Copy>(
     alloc: A,
     traces: &Traces<A>,
     word: Word,
-) -> Result<Vec<Entry<A>, A>, Memory>
-    ensures { IfOk result (λ entries. IsHistory traces.now word (lines_of entries.items)) }
+) -> Result<(Vec<Entry<A>, A>, bool), Memory>
+    ensures history { IfOk result (λ h. IsHistory traces.now word (lines_of h.0.items)) }
+    ensures racy { IfOk result (λ h. IsTrue h.1 ↔ IsRacyIn word traces.now) }
 {
-    let mut entries = Vec::new(alloc);
-    follow(alloc, traces, &WordKeeper { word }, &mut entries)?;
-    Ok(entries)
+    let mut kept = KeptWord {
+        entries: Vec::new(alloc),
+        shadows: Shadows::new(alloc),
+    };
+    follow(alloc, traces, &WordKeeper { word }, &mut kept)?;
+    let racy = is_hit(&kept.shadows, word)?;
+    Ok((kept.entries, racy))
 }

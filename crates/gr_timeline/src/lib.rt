@@ -2,7 +2,10 @@
 //! handled, each with those above it that happen before it; and how many accesses to it are held.
 #![tactic(auto)]
 
+pub mod accesses;
+mod counting;
+pub mod details;
 pub mod entry;
 pub mod history;
 pub mod standing;
-pub mod told;
+pub mod word_history;

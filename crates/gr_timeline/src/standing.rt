@@ -2,9 +2,9 @@
 
 use crate::entry::Entry;
 use gr_clocks::clock::Clock;
+use gr_model::class::{Class, exempt};
 use gr_model::event::{EventId, ItemId};
 use gr_model::memory::Memory;
-use gr_scopes::class::{Class, exempt};
 use indexmap::IndexMap;
 use std::alloc::{Allocator, Global};
 use std::hash::{BuildHasherDefault, FoldHasher};

@@ -16,8 +16,8 @@ use Rattle.gr_model.specs.Shapes.{HasItem}
 use Rattle.gr_clocks.specs.declared.access.Access.{Access}
 use Rattle.gr_closure.specs.Accesses.{IsAccess, IsAccessOf}
 use Rattle.gr_clocks.specs.ClockedAccess.{bare}
-use Rattle.gr_hits.specs.Accesses.{AreAccesses, in_flight_list}
-use Rattle.gr_hits.proofs.Adding.{bare_access, handled_adds, met_add_none, others_add_none}
+use Rattle.gr_closure.specs.AccessesAlong.{AreAccesses, in_flight_list}
+use Rattle.gr_closure.proofs.Adding.{bare_access, handled_adds, met_add_none, others_add_none}
 use Rattle.gr_order.specs.Sequences.{HandlesEvent, IsSequence, MeetsInstance, Sequence}
 use Rattle.gr_order.specs.Answers.{IsHandleFault, IsMeetFault}
 use Rattle.gr_order.specs.declared.go_error.GoError.{GoError}

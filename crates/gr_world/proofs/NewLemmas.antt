@@ -10,7 +10,7 @@ use Rattle.gr_model.specs.Configs.{IsConfig, Settings}
 use Rattle.gr_model.specs.Shapes.{IsShape}
 use Rattle.gr_model.specs.Streams.{ArePrefixes, events_of, list_of}
 use Rattle.gr_steps.proofs.Orders.{lawful_empty}
-use Rattle.gr_hits.specs.Accesses.{of_none}
+use Rattle.gr_closure.specs.AccessesAlong.{of_none}
 use Rattle.gr_lanes.specs.Takes.{nothing_taken}
 use Rattle.gr_world.specs.Queues.{Bounded, Work, empty_queue, no_work}
 use Rattle.gr_world.specs.Worlds.{IsWorld, World, intake_at, new_world, no_queue, work_at}

@@ -10,8 +10,8 @@ use Rattle.gr_model.proofs.Places.{slice_get-append}
 use Rattle.gr_model.proofs.RaceGrowth.{races_stay}
 use Rattle.gr_steps.proofs.EventRecords.{filter-there}
 use Rattle.gr_shadow.specs.Clashes.{ClockedAccess, IsHitIn, clashes}
-use Rattle.gr_hits.specs.Accesses.{in_flight_list}
-use Rattle.gr_hits.proofs.Clashing.{lawful_hits_are_races}
+use Rattle.gr_closure.specs.AccessesAlong.{in_flight_list}
+use Rattle.gr_closure.proofs.Clashing.{lawful_hits_are_races}
 use Rattle.gr_world.specs.Worlds.{IsPassedOn, IsWorld, World, accesses_for, work_at, worker_of}
 
 -- a word that is hit in the front of a list is hit in the list

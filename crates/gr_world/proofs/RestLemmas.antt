@@ -11,8 +11,8 @@ use Rattle.gr_model.proofs.HitLaws.{IsHit-filter}
 use Rattle.gr_model.specs.Reports.{AreRaces, Lists, WordBelow}
 use Rattle.gr_model.specs.Streams.{AreComplete, Streams, events_of, list_of}
 use Rattle.gr_steps.specs.Steps.{IsAtRest}
-use Rattle.gr_hits.specs.Accesses.{in_flight_list}
-use Rattle.gr_hits.proofs.Clashing.{lists_as, whole_hits_are_races}
+use Rattle.gr_closure.specs.AccessesAlong.{in_flight_list}
+use Rattle.gr_closure.proofs.Clashing.{lists_as, whole_hits_are_races}
 use Rattle.gr_order.specs.Sequences.{IsDone}
 use Rattle.gr_world.proofs.ReceivedHits.{hit_goes}
 use Rattle.gr_world.proofs.InFlightLemmas.{word_below}

@@ -12,7 +12,7 @@ use Rattle.gr_model.specs.Events.{IsEventOk}
 use Rattle.gr_model.specs.Streams.{IsPrefix, events_of, list_of, size_of}
 use Rattle.gr_model.proofs.Sending.{events_append, events_else, events_here}
 use Rattle.gr_model.proofs.StreamPrefixes.{next_ok, next_room, next_unended}
-use Rattle.gr_hits.proofs.Growing.{accesses_stay}
+use Rattle.gr_closure.proofs.Growing.{accesses_stay}
 use Rattle.gr_lanes.specs.Takes.{CanTake}
 use Rattle.gr_lanes.proofs.Growth.{record_grows}
 use Rattle.gr_order.specs.Sequences.{IsSequence, Sequence, taking}

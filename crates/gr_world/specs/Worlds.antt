@@ -11,7 +11,7 @@ use Rattle.gr_steps.specs.Steps.{IsAtRest}
 use Rattle.gr_lanes.specs.Takes.{nothing_taken, with_record}
 use Rattle.gr_order.specs.Sequences.{IsSequence, Sequence, nothing, taking}
 use Rattle.gr_shadow.specs.Clashes.{ClockedAccess}
-use Rattle.gr_hits.specs.Accesses.{AreAccesses, in_flight_list}
+use Rattle.gr_closure.specs.AccessesAlong.{AreAccesses, in_flight_list}
 use Rattle.gr_world.specs.Queues.{Bounded, Work, empty_queue, leaving, no_work, pushed, queueing, receiving}
 
 pub record World : Type 0 where

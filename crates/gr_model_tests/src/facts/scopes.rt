@@ -2,10 +2,10 @@
 
 ghost use Rattle.std.specs.Prelude.{◌≡◌, []};
 
+use gr_model::access::{conflicts, inclusive, pairs_with};
+use gr_model::class::{Class, class_of, exempt};
 use gr_model::event::{Event, Kind, Order, Scope, Space};
 use gr_model::names::Names;
-use gr_scopes::access::{conflicts, inclusive, pairs_with};
-use gr_scopes::class::{Class, class_of, exempt};
 
 /// An atomic access to word 4 of a memory.
 fn atomic(kind: Kind, space: Space) -> Event

@@ -7,10 +7,10 @@ ghost use Rattle.gr_clocks.specs.Counts.{count_of};
 
 use gr_clocks::access::Access;
 use gr_clocks::clock::{Clock, ClockError};
+use gr_model::class::Class;
 use gr_model::event::{ItemId, Word};
 use gr_model::memory::Memory;
 use gr_model::shape::Shape;
-use gr_scopes::class::Class;
 use gr_shadow::merge::merge;
 use gr_shadow::shadows::Shadows;
 use std::alloc::Allocator;

@@ -3,13 +3,13 @@
 ghost use Rattle.std.specs.Prelude.{Some, ◌∷◌, []};
 ghost use Rattle.gr_model.specs.Events.{IsEventOk};
 
-use gr_input::read_all;
 use gr_model::event::{Event, ItemId, Kind, Name, Order, Scope, Space, Word};
 use gr_model::names::Names;
 use gr_places::places::{PlaceLine, Placed, place_of};
 use gr_record::decoder::Decoder;
 use gr_record::encoding::{encode_event, encode_header};
 use gr_record::header::{Header, Version};
+use gr_record::input::read_all;
 use gr_record::reading::{naming, read_event, site_of};
 use gr_report::report::Report;
 use gr_report::rows::Rows;

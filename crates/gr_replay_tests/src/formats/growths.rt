@@ -1,9 +1,6 @@
 //! Each growth is refused in turn: the answer is then out of memory, with nothing written, or what is due.
 
 use crate::formats::works::{Case, TEXTS, cases, do_work};
-use gr_lines::line::Line;
-use gr_lines::line_text::line_text;
-use gr_lines::parsing::parse_line;
 use gr_model::event::{Event, event_ok};
 use gr_model::limits::MOST_ITEMS_OF_A_GROUP;
 use gr_model::memory::Memory;
@@ -12,6 +9,9 @@ use gr_record::encoding::encode_event;
 use gr_record::error::RecordError;
 use gr_record::fault::Fault;
 use gr_record::part::Part;
+use gr_text::line::Line;
+use gr_text::line_text::line_text;
+use gr_text::parsing::parse_line;
 use refusing::growths::refuse_each;
 use std::alloc::{Allocator, Global};
 use std::test::Fail;
@@ -30,8 +30,7 @@ fn is_done<A: Allocator + Copy>(alloc: A, ample: Global, case: &Case) -> Result<
 fn each_refused_growth_of_work_is_out_of_memory(rt: HostRuntime) -> Result<(), Fail> {
     let alloc = rt.alloc();
     for case in &cases(alloc, &TEXTS)? {
-        let least = if case.input.is_empty() { 0 } else { 2 };
-        let growths = refuse_each(alloc, least, |heap| is_done(heap, alloc, case));
+        let growths = refuse_each(alloc, 2, |heap| is_done(heap, alloc, case));
         assert!(rt; growths.is_ok(), "{:?}: {growths:?}", case.work);
     }
     Ok(())

@@ -86,7 +86,7 @@ fn a_report_is_written_or_a_prefix_of_it(rt: HostRuntime) -> Result<(), Fail> {
     Ok(())
 }
 
-static FAULTS: [(Fault, &str); 11] = [
+static FAULTS: [(Fault, &str); 8] = [
     (
         Fault::Stream(63, RecordError::TooManyRecords),
         "stream 63: too many records",
@@ -111,14 +111,8 @@ static FAULTS: [(Fault, &str); 11] = [
         Fault::Shape(ShapeError::TooManyItems),
         "shape: too many items",
     ),
-    (
-        Fault::LongStream(16_777_218),
-        "line 16777218: too many records",
-    ),
     (Fault::Memory, "out of memory"),
     (Fault::Threads, "no thread"),
-    (Fault::Read, "read fault"),
-    (Fault::Write, "write fault"),
 ];
 
 #[test]

@@ -44,7 +44,7 @@ pub(crate) struct Case {
 type Text = (&'static str, &'static str);
 
 /// A race, and texts with each kind of record.
-pub(crate) static TEXTS: [Text; 5] = [
+pub(crate) static TEXTS: [Text; 4] = [
     (
         "group 0 items 2 launch 7\n0 w g 16\n1 r g 16\nend\n",
         "group 0 items 2 launch 7 v2\n0 w g 16\n1 r g 16\nend\n",
@@ -65,7 +65,6 @@ pub(crate) static TEXTS: [Text; 5] = [
         "group 0 items 3 launch 7 v2\n2 ld g 20 dev acq < 0 0 0 < 0 1 0\nend\n",
         "group 0 items 3 launch 7 v2\n2 ld g 20 dev acq < 0 0 0 < 0 1 0\nend\n",
     ),
-    ("", ""),
 ];
 
 /// The bytes of the streams of a text.

@@ -1,27 +1,15 @@
 //! The calls of a world, each tried twice: where memory ran out, nothing is to have changed, and the second try is
 //! judged. A `None` is a call that changed something though memory ran out, or that was out of memory twice.
 
+use crate::calls::shape_of;
 use gr_model::config::Config;
 use gr_model::memory::Memory;
-use gr_model::shape::Shape;
 use gr_world::step::{Step, StepError};
 use gr_world::world::World;
 use std::alloc::Allocator;
 
 /// How many workers and intake queues a world has, and for how many values a queue has room.
 pub(crate) type Numbers = (u16, u16, u32);
-
-/// A shape of these sizes.
-pub(crate) fn shape_of<A: Allocator + Copy>(alloc: A, sizes: &[u16]) -> Result<Shape<A>, Memory> {
-    let mut copied = Vec::new(alloc);
-    for size in sizes {
-        copied.push(*size)?;
-    }
-    match Shape::new(copied) {
-        Ok(shape) => Ok(shape),
-        Err(_) => Err(Memory),
-    }
-}
 
 fn new_once<A: Allocator + Copy>(
     alloc: A,

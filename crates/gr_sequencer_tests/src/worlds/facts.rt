@@ -1,7 +1,7 @@
 //! What the contracts alone say, each of which a wrong body would answer otherwise. A fact tells whether it was reached.
 
+use crate::rows::{GLOBAL, WRITE, event_of};
 use crate::worlds::calls::new;
-use crate::worlds::records::WRITE_16;
 use gr_model::event::ItemId;
 use gr_model::memory::Memory;
 use gr_world::step::Step;
@@ -34,7 +34,7 @@ fn step_of_two_passes<A: Allocator + Copy>(world: &mut World<A>) -> bool {
 fn on_its_way(alloc: Global) -> Option<World> {
     let mut world = new(alloc, &[1], (1, 1, 2))?;
     for step in [
-        Step::Send(0, WRITE_16.event()?),
+        Step::Send(0, event_of(&(0, 0, WRITE, GLOBAL, 16, &[]))),
         Step::Close(0, false),
         Step::Take(0),
         Step::Take(0),

@@ -1,15 +1,10 @@
 //! The worked rows by schedules: whatever the workers, the queues, their places and the order in which groups send, the
-//! report is that of the whole lists. A step that is refused is tried again later.
+//! report is the row's. A step that is refused is tried again later.
 
-use crate::worlds::calls::{Numbers, new, shape_of, step};
-use crate::worlds::records::Record;
-use crate::worlds::rows::{Row, rows};
+use crate::rows::{ROWS, Row};
+use crate::worlds::calls::{Numbers, new, step};
 use crate::worlds::steps::{Way, of_sequencer, of_workers, sends_of};
 use crate::worlds::told::reported;
-use gr_model::event::Event;
-use gr_model::traces::Traces;
-use gr_replay::detect::detect;
-use gr_report::report::Report;
 use gr_world::step::{Step, StepError};
 use gr_world::world::World;
 use std::alloc::{AllocError, Global};
@@ -108,88 +103,33 @@ fn follow_row(
     follow(world, &mut schedule)
 }
 
-/// The list of a group that sends these records before its end.
-fn list_of(alloc: Global, records: &[Record]) -> Result<Vec<Event>, Fail> {
-    let mut list = Vec::new(alloc);
-    for record in records {
-        list.push(record.event().ok_or("a record")?)?;
-    }
-    list.push(Event::end(false))?;
-    Ok(list)
-}
-
-/// The whole lists of a row.
-fn traces_of(alloc: Global, row: &Row) -> Result<Traces, Fail> {
-    let mut lists = Vec::new(alloc);
-    for list in row.lists {
-        lists.push(list_of(alloc, list)?)?;
-    }
-    let shape = shape_of(alloc, row.sizes).ok().ok_or("a shape")?;
-    Ok(Traces::new(shape, lists).ok().ok_or("traces")?)
-}
-
-/// The report of a row's lists.
-fn due_of(alloc: Global, row: &Row) -> Result<Report, Fail> {
-    let traces = traces_of(alloc, row)?;
-    Ok(detect(alloc, &traces).ok().ok_or("a report")?)
-}
-
-/// Whether a world is at rest with this report.
-fn has_report(world: &World, due: &Report) -> bool {
-    world.at_rest() && world.report().is_ok_and(|report| report == *due)
-}
-
-/// Whether the schedule of a row leads a world to this report, which is the row's too.
-fn leads_to(
+/// Whether the schedule of a row leads a world to the row's report.
+fn leads_to_its_report(
     alloc: Global,
     world: &mut World,
     row: &Row,
     way: Way,
     numbers: Numbers,
-    due: &Report,
 ) -> bool {
-    follow_row(alloc, world, row, way, numbers).is_some()
-        && has_report(world, due)
-        && reported(world) == Some(row.told)
+    follow_row(alloc, world, row, way, numbers).is_some() && reported(world) == Some(row.3)
 }
 
-/// Whether the report of a row's world, however many workers and queues there are, is the row's, and this one.
-fn is_reported(
-    alloc: Global,
-    row: &Row,
-    way: Way,
-    numbers: Numbers,
-    due: &Report,
-) -> Result<bool, Fail> {
-    let mut world = new(alloc, row.sizes, numbers).ok_or("a world")?;
-    Ok(leads_to(alloc, &mut world, row, way, numbers, due))
-}
-
-/// Whether the report of a row's world, however many workers and queues there are, is the row's, and that of its lists.
-fn is_told(alloc: Global, row: &Row, way: Way, numbers: Numbers) -> Result<bool, Fail> {
-    let due = due_of(alloc, row)?;
-    is_reported(alloc, row, way, numbers, &due)
-}
-
-/// A schedule of a row.
-type Scheduled = (&'static str, Way, Numbers);
-
-/// The first schedule by which a row of these is told otherwise, if there is one.
-fn first_wrong_schedule(alloc: Global, rows: &[Row]) -> Result<Option<Scheduled>, Fail> {
-    for row in rows {
-        for numbers in ALL_NUMBERS {
-            for way in [Way::GreatestFirst, Way::TurnByTurn] {
-                if !is_told(alloc, row, way, numbers)? {
-                    return Ok(Some((row.name, way, numbers)));
-                }
-            }
-        }
+/// Whether the report of a row's world, however many workers and queues there are, is the row's.
+fn is_told(alloc: Global, row: &Row, way: Way, numbers: Numbers) -> bool {
+    match new(alloc, row.1, numbers) {
+        None => false,
+        Some(mut world) => leads_to_its_report(alloc, &mut world, row, way, numbers),
     }
-    Ok(None)
 }
 
 #[test]
-fn schedules_change_no_report(rt: HostRuntime) -> Result<(), Fail> {
-    assert_eq!(rt; first_wrong_schedule(rt.alloc(), &rows())?, None);
-    Ok(())
+fn schedules_change_no_report(rt: HostRuntime) {
+    for row in &ROWS {
+        for numbers in ALL_NUMBERS {
+            for way in [Way::AsListed, Way::GreatestFirst] {
+                let is_told = is_told(rt.alloc(), row, way, numbers);
+                assert!(rt; is_told, "{}: {way:?}, {numbers:?}", row.0);
+            }
+        }
+    }
 }

@@ -1,8 +1,8 @@
 //! Scripts: steps, each with what is answered to it.
 
+use crate::rows::{Record, Told, event_of};
 use crate::worlds::calls::{Numbers, new, step};
-use crate::worlds::records::Record;
-use crate::worlds::told::{Told, reported};
+use crate::worlds::told::reported;
 use gr_model::event::ItemId;
 use gr_world::step::{Step, StepError};
 use gr_world::world::World;
@@ -11,7 +11,7 @@ use std::alloc::Allocator;
 /// A step as the scripts have it: what is sent is a record of the tables.
 #[derive(Clone, Copy)]
 pub(crate) enum Tried {
-    Send(u16, Record),
+    Send(Record),
     Close(u16, bool),
     Take(u16),
     Handle(ItemId),
@@ -21,17 +21,17 @@ pub(crate) enum Tried {
 }
 
 impl Tried {
-    /// The step, or `None` where no acquire may have the names of what is sent.
-    fn step(self) -> Option<Step> {
-        Some(match self {
-            Tried::Send(group, record) => Step::Send(group, record.event()?),
+    /// The step.
+    fn step(self) -> Step {
+        match self {
+            Tried::Send(record) => Step::Send(record.0, event_of(&record)),
             Tried::Close(group, cut) => Step::Close(group, cut),
             Tried::Take(queue) => Step::Take(queue),
             Tried::Handle(item) => Step::Handle(item),
             Tried::Meet(group) => Step::Meet(group),
             Tried::Pass => Step::Pass,
             Tried::WorkTake(worker) => Step::WorkTake(worker),
-        })
+        }
     }
 }
 
@@ -56,16 +56,19 @@ pub(crate) struct Script {
 pub(crate) fn steps_of<A: Allocator>(alloc: A, script: &Script) -> Option<Vec<Step, A>> {
     let mut steps = Vec::new(alloc);
     for (tried, _) in script.lines {
-        steps.push(tried.step()?).ok()?;
+        steps.push(tried.step()).ok()?;
     }
     Some(steps)
 }
 
-/// The place of the first line whose step is answered otherwise, if there is one.
-fn first_wrong_line<A: Allocator + Copy>(world: &mut World<A>, lines: &[Line]) -> Option<usize> {
-    for (place, (tried, answer)) in lines.iter().enumerate() {
-        let told = tried.step().and_then(|tried| step(world, tried));
-        if told != Some(*answer) {
+/// The place of the first line whose step is answered otherwise, if there is one, or behind which a world is at rest or not
+/// where it is not to be: it is at rest behind the last line alone, if something is reported.
+fn first_wrong_line<A: Allocator + Copy>(world: &mut World<A>, script: &Script) -> Option<usize> {
+    let last = script.lines.len().saturating_sub(1);
+    for (place, (tried, answer)) in script.lines.iter().enumerate() {
+        let is_answered = step(world, tried.step()) == Some(*answer);
+        let rests = place == last && script.told.is_some();
+        if !is_answered || world.at_rest() != rests {
             return Some(place);
         }
     }
@@ -79,6 +82,6 @@ pub(crate) type Outcome = (Option<usize>, Option<Told>);
 /// How a script went, or `None` where there is no world.
 pub(crate) fn went<A: Allocator + Copy>(alloc: A, script: &Script) -> Option<Outcome> {
     let mut world = new(alloc, script.sizes, script.numbers)?;
-    let wrong = first_wrong_line(&mut world, script.lines);
+    let wrong = first_wrong_line(&mut world, script);
     Some((wrong, reported(&world)))
 }

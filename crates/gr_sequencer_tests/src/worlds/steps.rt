@@ -1,9 +1,8 @@
 //! The steps of a schedule: what senders send, and what sequencer and workers try again and again.
 
+use crate::rows::{Record, Row, event_of};
 use crate::worlds::calls::Numbers;
-use crate::worlds::records::Record;
-use crate::worlds::rows::Row;
-use gr_model::event::ItemId;
+use gr_model::event::{ItemId, Kind};
 use gr_world::step::Step;
 use std::alloc::{AllocError, Global};
 use std::collections::VecDeque;
@@ -11,72 +10,41 @@ use std::collections::VecDeque;
 /// In which order the groups send.
 #[derive(Clone, Copy, Debug, PartialEq, Eq)]
 pub(crate) enum Way {
+    /// As the row lists the records.
+    AsListed,
     /// All of the greatest group first, then all of the one before it.
     GreatestFirst,
-    /// A record of each group in turn.
-    TurnByTurn,
 }
 
 /// No row has more groups.
 const MOST_GROUPS: u16 = 2;
 
-/// No group of a row sends more, its end included.
-const MOST_RECORDS: usize = 10;
-
-/// Adds the step that sends what stands at this place of a group's list, behind which stands its end.
-fn add_send(
-    steps: &mut VecDeque<Step>,
-    group: u16,
-    list: &[Record],
-    place: usize,
-) -> Result<(), AllocError> {
-    if place == list.len() {
-        steps.push_back(Step::Close(group, false))?;
+/// The step that sends a record.
+fn send_of(record: &Record) -> Step {
+    match record.2 {
+        Kind::End { cut } => Step::Close(record.0, cut),
+        _ => Step::Send(record.0, event_of(record)),
     }
-    if let Some(event) = list.get(place).and_then(|record| record.event()) {
-        steps.push_back(Step::Send(group, event))?;
-    }
-    Ok(())
-}
-
-/// Adds the steps that send all of a group.
-fn add_all(steps: &mut VecDeque<Step>, group: u16, list: &[Record]) -> Result<(), AllocError> {
-    for place in 0..MOST_RECORDS {
-        add_send(steps, group, list, place)?;
-    }
-    Ok(())
-}
-
-/// Adds the steps that send what stands at this place of each group's list.
-fn add_turn(
-    steps: &mut VecDeque<Step>,
-    lists: &[&[Record]],
-    place: usize,
-) -> Result<(), AllocError> {
-    for group in 0..MOST_GROUPS {
-        if let Some(list) = lists.get(usize::from(group)) {
-            add_send(steps, group, list, place)?;
-        }
-    }
-    Ok(())
 }
 
 /// The steps that send the greatest group first.
-fn greatest_first(alloc: Global, row: &Row) -> Result<VecDeque<Step>, AllocError> {
+fn greatest_first(alloc: Global, records: &[Record]) -> Result<VecDeque<Step>, AllocError> {
     let mut steps = VecDeque::new(alloc);
     for group in (0..MOST_GROUPS).rev() {
-        if let Some(list) = row.lists.get(usize::from(group)) {
-            add_all(&mut steps, group, list)?;
+        for record in records {
+            if record.0 == group {
+                steps.push_back(send_of(record))?;
+            }
         }
     }
     Ok(steps)
 }
 
-/// The steps that send a record of each group in turn.
-fn turn_by_turn(alloc: Global, row: &Row) -> Result<VecDeque<Step>, AllocError> {
+/// The steps that send the records in their order.
+fn as_listed(alloc: Global, records: &[Record]) -> Result<VecDeque<Step>, AllocError> {
     let mut steps = VecDeque::new(alloc);
-    for place in 0..MOST_RECORDS {
-        add_turn(&mut steps, row.lists, place)?;
+    for record in records {
+        steps.push_back(send_of(record))?;
     }
     Ok(steps)
 }
@@ -84,8 +52,8 @@ fn turn_by_turn(alloc: Global, row: &Row) -> Result<VecDeque<Step>, AllocError> 
 /// The steps that send a row's records.
 pub(crate) fn sends_of(alloc: Global, row: &Row, way: Way) -> Result<VecDeque<Step>, AllocError> {
     match way {
-        Way::GreatestFirst => greatest_first(alloc, row),
-        Way::TurnByTurn => turn_by_turn(alloc, row),
+        Way::AsListed => as_listed(alloc, row.2),
+        Way::GreatestFirst => greatest_first(alloc, row.2),
     }
 }
 
@@ -102,7 +70,7 @@ fn add_group(steps: &mut Vec<Step>, group: u16, items: u16) -> Result<(), AllocE
 fn goes_of(alloc: Global, row: &Row) -> Result<Vec<Step>, AllocError> {
     let mut steps = Vec::new(alloc);
     for group in 0..MOST_GROUPS {
-        if let Some(items) = row.sizes.get(usize::from(group)) {
+        if let Some(items) = row.1.get(usize::from(group)) {
             add_group(&mut steps, group, *items)?;
         }
     }

@@ -6,7 +6,7 @@ use std::sync::atomic::{AtomicU64, Ordering};
 use std::thread::yield_now;
 
 /// How many turns a test waits at most, each of which yields.
-pub const TURNS: u32 = 10_000_000;
+const TURNS: u32 = 10_000_000;
 
 /// Waits until a counter is at least so great. Tells whether it came to that.
 pub fn came(counter: &AtomicU64, least: u64) -> bool {

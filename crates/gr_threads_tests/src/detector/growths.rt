@@ -6,15 +6,15 @@ ghost use Rattle.gr_threads_tests.specs.Senders.{IsReceipt, IsSender};
 
 use crate::detector::notes::Noted;
 use crate::detector::runs::{NotKept, add_both, two_of};
-use crate::detector::turns::send_both_in_turns;
+use crate::detector::senders::send_both;
 use gr_detector::error::{FinishError, StartError};
 use gr_detector::running::Running;
 use gr_detector::start::start;
 use gr_model::config::Config;
 use gr_model::shape::Shape;
 use gr_report::report::Report;
-use gr_sender::receipt::Receipt;
-use gr_sender::sender::Sender;
+use gr_threads::receipt::Receipt;
+use gr_threads::sender::Sender;
 use refusing::Refusing;
 use std::alloc::{Allocator, Global};
 use std::sync::{Arc, Wait};
@@ -31,7 +31,7 @@ pub enum Ended {
     NotStarted,
     /// Memory ran out in it.
     Memory,
-    /// A thread was missing, a sender was refused or found no room within its turns, or `finish` handed all back.
+    /// A thread was missing, a sender was refused, or `finish` handed all back.
     Wrongly,
 }
 
@@ -112,7 +112,7 @@ fn report_two<R: Threads, A: Allocator + Copy>(
 }
 
 /// Sends with the two senders of a run, on threads of their own. Gives their receipts, where they were not refused.
-fn send_two<R: Threads + Wait + Sync>(
+fn send_two<R: Threads + Wait + Clock + Sync>(
     rt: &R,
     running: &Running<Heap>,
     senders: Vec<Sender<Heap>, Heap>,
@@ -122,13 +122,13 @@ fn send_two<R: Threads + Wait + Sync>(
     ensures second { IfSome result.1 (IsReceipt running.now) }
 {
     match two_of(running, senders) {
-        Some((first, second)) => send_both_in_turns(rt, first, second),
+        Some((first, second)) => send_both(rt, first, second),
         None => (None, None),
     }
 }
 
 /// Runs the two senders of a run that was started, and gives the report. There is room for the receipts.
-fn end_two<R: Threads + Wait + Sync>(
+fn end_two<R: Threads + Wait + Clock + Sync>(
     rt: &R,
     running: Running<Heap>,
     senders: Vec<Sender<Heap>, Heap>,

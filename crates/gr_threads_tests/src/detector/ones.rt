@@ -6,7 +6,7 @@ use crate::detector::runs::{Plan, Told, begin_one, told_of_one};
 use crate::detector::senders::close;
 use gr_detector::Watch;
 use gr_detector::running::Running;
-use gr_sender::sender::Sender;
+use gr_threads::sender::Sender;
 use std::alloc::Global;
 use std::sync::{Arc, Wait};
 use std::test::Fail;

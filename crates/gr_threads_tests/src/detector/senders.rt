@@ -5,8 +5,8 @@ ghost use Rattle.gr_threads_tests.specs.Senders.{IsReceiptOf, IsSameSender};
 
 use gr_model::event::{Event, Kind, Space};
 use gr_model::names::Names;
-use gr_sender::receipt::Receipt;
-use gr_sender::sender::Sender;
+use gr_threads::receipt::Receipt;
+use gr_threads::sender::Sender;
 use std::alloc::Allocator;
 use std::sync::Wait;
 use std::thread::{Threads, join};

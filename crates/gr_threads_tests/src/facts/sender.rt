@@ -5,7 +5,7 @@ ghost use Rattle.std.specs.Prelude.{◌≡◌, [], IfOk};
 use crate::route::tests::senders::lone_sender;
 use crate::route::three_senders::write;
 use gr_model::event::Event;
-use gr_sender::sender::{SendError, Sender};
+use gr_threads::sender::{SendError, Sender};
 use std::sync::Wait;
 use std::test::*;
 
@@ -39,10 +39,10 @@ fn send_of_a_closed_sender<R: Wait>(rt: &R, sender: &mut Sender) -> Option<()> {
 
 #[test]
 fn a_sender(rt: HostRuntime) -> Result<(), Fail> {
-    let mut sender = lone_sender(rt.alloc(), 1, 1000)?;
+    let mut sender = lone_sender(rt.alloc())?;
     assert_eq!(rt; send_of_a_write(&rt, &mut sender), Some(()));
     assert_eq!(rt; close_as_cut(&rt, &mut sender), Some(()));
-    let mut other = lone_sender(rt.alloc(), 1, 1000)?;
+    let mut other = lone_sender(rt.alloc())?;
     assert_eq!(rt; other.close(&rt, false), Ok(()));
     assert_eq!(rt; send_of_a_closed_sender(&rt, &mut other), Some(()));
     Ok(())

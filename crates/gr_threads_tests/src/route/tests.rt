@@ -1,5 +1,5 @@
 //! Tests of the calls of queues and senders.
 
-pub(crate) mod queues;
+mod queues;
 mod runs;
 pub(crate) mod senders;

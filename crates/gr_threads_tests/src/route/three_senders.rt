@@ -14,7 +14,7 @@ use gr_model::limits::{MOST_GROUPS, MOST_PLACES, MOST_RECORDS};
 use gr_model::memory::Memory;
 use gr_model::names::Names;
 use gr_route::intake::{Intake, IntakeSeat, TakerSeat};
-use gr_sender::sender::{SendError, Sender};
+use gr_threads::sender::{SendError, Sender};
 use std::alloc::Global;
 use std::sync::{Arc, Wait};
 use std::thread::{Threads, join, yield_now};

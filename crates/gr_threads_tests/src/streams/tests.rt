@@ -2,5 +2,4 @@
 
 mod ends;
 mod growths;
-mod large;
 mod reports;

@@ -18,7 +18,7 @@ returns-in-Item-clause-none g c idle =
     let frontier = c.frontier-frontier.result.now in
     let first = c.frontier-frontier.ensures.first in
     let none = none_of c.waiting.result (c.is_none.ensures ∙ ap not idle) in
-    subst (λ (r : Ready). ¬ CanMake q r) (sym c.in-Item.is) (none_next q.taken q.handled c.lanes-taken.ensures.sequence.lawful frontier first (record { at = c.in-Item.item; index = count_of frontier c.in-Item.item }) refl (sym (c.waiting.ensures frontier first) ∙ none))
+    subst (λ (r : Ready). ¬ CanMake q r) (sym c.in-Item.is) (none_next q.taken q.handled c.sequence_holds.ensures.lawful frontier first (record { at = c.in-Item.item; index = count_of frontier c.in-Item.item }) refl (sym (c.waiting.ensures frontier first) ∙ none))
 
 pub returns-in-Item-clause-free : goal.returns-in-Item-clause-free
 returns-in-Item-clause-free g c idle d n at held =

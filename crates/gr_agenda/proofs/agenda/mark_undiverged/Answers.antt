@@ -7,5 +7,5 @@ pub returns-in-Some : goal.returns-in-Some
 returns-in-Some g c are =
     let q = c.args.order.now in
     let item = c.in-Item.item in
-    let undiverged = undiverged_if q c.lanes-taken.ensures.sequence item c.in-Some.instance c.in-Some.ensures (λ can. c.requires (subst (CanMake q) (sym c.in-Item.is) can)) in
+    let undiverged = undiverged_if q c.sequence_holds.ensures item c.in-Some.instance c.in-Some.ensures (λ can. c.requires (subst (CanMake q) (sym c.in-Item.is) can)) in
     undiverged_set q.taken c.args.undiverged.now.items item.group c.in-Some.instance c.tell_undiverged.new.undiverged.items are c.tell_undiverged.ensures undiverged

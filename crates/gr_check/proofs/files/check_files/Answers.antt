@@ -1,6 +1,6 @@
 use Rattle.std.proofs.Common.{inl, inr, subst}
 use Rattle.std.proofs.lemmas.Result.{IfErr-weaker, IfOk-weaker}
-use Rattle.gr_input.specs.Faults.{IsOutside}
+use Rattle.gr_record.specs.InputFaults.{IsOutside}
 use Rattle.gr_check.proofs.files.check_files.Goals as goal
 
 pub returns-clause-checked : goal.returns-clause-checked

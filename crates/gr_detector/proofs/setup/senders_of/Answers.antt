@@ -4,7 +4,7 @@ use Rattle.std.proofs.Math.Seq.{map-set_same}
 use Rattle.std.proofs.lemmas.List.{length-append, length-map}
 use Rattle.gr_model.specs.declared.limits.TheConstants.{MOST_GROUPS, MOST_RECORDS}
 use Rattle.gr_route.specs.IntakeSeats.{Taker}
-use Rattle.gr_sender.specs.Senders.{Sending}
+use Rattle.gr_threads.specs.Senders.{Sending}
 use Rattle.gr_sequencer_thread.specs.Feeds.{intakes_of}
 use Rattle.gr_detector.specs.Setups.{AreOpenBelow, AreSeatedBelow}
 use Rattle.gr_detector.proofs.SetupLemmas.{each_set, none_seated, open_more, queue_at, seat_more, seating}

@@ -1,6 +1,6 @@
 use Rattle.std.proofs.Common.{◌≡◌, ◌<◌, [], ◌++◌, ℕ, Contains, List, Some, None, true≢false, ap, sym, subst, ◌∙◌, length, refl, arith, drop, append_assoc}
 use Rattle.std.proofs.lemmas.List.{drop_at, length-append, length-map, length-take-le}
-use Rattle.gr_input.specs.Faults.{Fails}
+use Rattle.gr_record.specs.InputFaults.{Fails}
 use Rattle.gr_model.specs.declared.limits.TheConstants.{MOST_RECORDS}
 use Rattle.gr_record.specs.Faults.{stream_fault}
 use Rattle.gr_record.specs.declared.header.Header.{Header}

@@ -1,6 +1,6 @@
 use Rattle.std.proofs.Common.{◌≡◌, ℕ, ◌≤◌, ◌-◌, ◌∙◌, List, Option, Bor, ap, arith, drop, length, map, subst, sym}
 use Rattle.std.proofs.lemmas.Result.{err_from_is_err_and}
-use Rattle.gr_lines.specs.LineReading.{same}
+use Rattle.gr_text.specs.LineReading.{same}
 use Rattle.gr_places.proofs.IndexLemmas.{AreNumbersFrom, numbers_more, none_numbered}
 use Rattle.gr_places.specs.PlaceIndexes.{AreNumbers, number_in}
 use Rattle.gr_places.specs.declared.places.PlaceLine.{PlaceLine}

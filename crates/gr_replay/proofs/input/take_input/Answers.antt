@@ -1,9 +1,9 @@
 use Rattle.std.proofs.Common.{◌≡◌, ◌<◌, ◌++◌, [], ℕ, List, Ok, ap, sym, subst, ◌∙◌, length}
 use Rattle.std.proofs.lemmas.List.{append-nil}
 use Rattle.std.proofs.lemmas.Result.{err_from_is_err_and}
-use Rattle.gr_input.specs.Faults.{Fails}
-use Rattle.gr_input.proofs.Consuming.{Consumes-none, Consumes-then, Consumes-all}
-use Rattle.gr_input.proofs.Outside.{at_any, at_known, fails}
+use Rattle.gr_record.specs.InputFaults.{Fails}
+use Rattle.gr_record.proofs.Consuming.{Consumes-none, Consumes-then, Consumes-all}
+use Rattle.gr_record.proofs.Outside.{at_any, at_known, fails}
 use Rattle.gr_intake.specs.Intakes.{behind, come, unit_of}
 use Rattle.gr_intake.specs.Joined.{joined_of}
 use Rattle.gr_replay.proofs.Inputs.{StandsSoFar, all_read, at_consumed, header_is_next, if_err, if_ok, nothing_came, piece_more, piece_taken, values_are_of_reading}

@@ -5,7 +5,7 @@ use Rattle.std.proofs.lemmas.List.{map-append, map_push}
 use Rattle.std.proofs.lemmas.List.Elements.{All-push}
 use Rattle.std.proofs.lemmas.List.Quantifiers.{all_pairs_push}
 use Rattle.std.proofs.lemmas.Result.{err_from_is_err_and}
-use Rattle.gr_input.specs.Faults.{Fails}
+use Rattle.gr_record.specs.InputFaults.{Fails}
 use Rattle.gr_record.specs.declared.header.Header.{Header}
 use Rattle.gr_replay.specs.Each.{all_known}
 use Rattle.gr_streams.specs.Headers.{header_behind, headers_of}

@@ -5,7 +5,7 @@ use Rattle.std.proofs.lemmas.List.{length-append, length-map, map_push}
 use Rattle.std.proofs.lemmas.List.Elements.{All-push}
 use Rattle.gr_detector.specs.Runs.{IsOfRun}
 use Rattle.gr_record.specs.declared.header.Header.{Header}
-use Rattle.gr_sender.specs.Senders.{Sending}
+use Rattle.gr_threads.specs.Senders.{Sending}
 use Rattle.gr_streams.specs.Sources.{AreBegun, AreServed, Begun, HasSender, IsHeaded, IsReady, known_of}
 use Rattle.gr_streams.specs.declared.source.Source.{Source}
 use Rattle.gr_streams.proofs.JoinLemmas.{all_tail, contains_head, placed_next, served_next}

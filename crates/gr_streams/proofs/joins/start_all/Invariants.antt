@@ -1,7 +1,7 @@
 use Rattle.std.proofs.Common.{◌≡◌, ◌≤◌, ◌+◌, ◌++◌, All, Contains, length, map, vec_len, vec_capacity}
 use Rattle.std.specs.Vec.Iter.{into_iter_items, into_iter_len}
 use Rattle.gr_detector.specs.Runs.{Run}
-use Rattle.gr_sender.specs.Senders.{Sending}
+use Rattle.gr_threads.specs.Senders.{Sending}
 use Rattle.gr_streams.specs.Sources.{AreBegun, AreOfRun, AreSenders, AreServed, IsHeaded, known_of}
 use Rattle.gr_streams.proofs.joins.start_all.Given as goal
 

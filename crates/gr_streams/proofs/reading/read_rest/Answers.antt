@@ -1,7 +1,7 @@
 use Rattle.std.proofs.Common.{◌≡◌, ◌≢◌, ◌∙◌, ◌++◌, ℕ, List, Option, None, Some, Result, append_assoc, arith, subst, sym, take}
 use Rattle.std.specs.Prelude.{IfSome}
-use Rattle.gr_input.proofs.Consuming.{Consumes-end, Consumes-then}
-use Rattle.gr_input.proofs.Outside.{at_known}
+use Rattle.gr_record.proofs.Consuming.{Consumes-end, Consumes-then}
+use Rattle.gr_record.proofs.Outside.{at_known}
 use Rattle.gr_model.specs.declared.event.Event.{Event}
 use Rattle.gr_record.specs.declared.fault.Fault.{Fault}
 use Rattle.gr_record.specs.declared.fault.Fault.TheVariants as faults

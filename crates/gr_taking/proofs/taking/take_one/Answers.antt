@@ -4,7 +4,7 @@ use Rattle.gr_order.specs.Sequences.{Sequence, taking}
 use Rattle.gr_sequencer.specs.Answers.{IsStep}
 use Rattle.gr_taking.specs.Along.{accesses_of}
 use Rattle.gr_taking.proofs.StepLemmas.{accesses_step}
-use Rattle.gr_taking.proofs.TakenLists.{along_stays}
+use Rattle.gr_taking.proofs.TakenLemmas.{along_stays}
 use Rattle.gr_taking.proofs.taking.take_one.Goals as goal
 
 pub returns-in-Ok-None-clause-along : goal.returns-in-Ok-None-clause-along

@@ -1,6 +1,6 @@
 use Rattle.std.proofs.Common.{◌+◌, arith, sym, eqb-true}
 use Rattle.std.proofs.lemmas.Result.{err_from_is_err_and}
-use Rattle.gr_input.proofs.Outside.{fails}
+use Rattle.gr_record.proofs.Outside.{fails}
 use Rattle.gr_text.specs.Lines.{lines_of}
 use Rattle.gr_text.specs.Texts.{packed}
 use Rattle.gr_text.proofs.Splitting.{no_line}

@@ -1,6 +1,6 @@
 use Rattle.std.proofs.Common.{◌≡◌, Option, Some, None, ap, ◌∙◌}
-use Rattle.gr_lines.specs.LineLaws.{IsSitedSaid}
-use Rattle.gr_lines.specs.LineText.{sited_text}
+use Rattle.gr_text.specs.LineLaws.{IsSitedSaid}
+use Rattle.gr_text.specs.LineText.{sited_text}
 use Rattle.std.specs.Prelude.{IfSome}
 use Rattle.gr_text.specs.Texts.{line_at, version_at}
 use Rattle.gr_text.proofs.Saying.{parsed_is_said, taken_is_said, taken_has_room}

@@ -2,24 +2,14 @@
 
 use crate::detector::growths::{Ended, Heap, run_two};
 use crate::detector::notes::{Noted, Notes};
-use crate::detector::tests::two_senders::names_the_shared_words;
-use gr_report::report::Report;
+use crate::detector::tests::two_senders::is_of_two;
 use refusing::Refusing;
-use std::alloc::{Allocator, Global};
+use std::alloc::Global;
 use std::sync::atomic::Ordering;
 use std::sync::{Arc, Wait};
 use std::test::*;
 use std::thread::Threads;
 use std::time::Clock;
-
-/// Whether a report is that of the two senders.
-fn is_of_two<A: Allocator>(report: &Report<A>) -> bool {
-    (report.groups, report.items, report.records, report.held) == (2, 2, 201, 0)
-        && names_the_shared_words(report)
-        && report.divergences.as_slice().is_empty()
-        && report.unmatched.as_slice().is_empty()
-        && report.cut.as_slice().is_empty()
-}
 
 /// Whether an answer is the one that is due, where a growth was refused or none was.
 fn is_due(answer: Result<bool, Ended>, refused: bool) -> bool {

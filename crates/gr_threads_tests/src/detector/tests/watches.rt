@@ -6,7 +6,7 @@ use crate::detector::gates::{Apart, Races, Turns, came};
 use crate::detector::ones::{Sends, run_one};
 use crate::detector::senders::{plain, sends};
 use gr_model::event::Kind;
-use gr_sender::sender::Sender;
+use gr_threads::sender::Sender;
 use std::sync::atomic::{AtomicU64, Ordering};
 use std::sync::{Arc, Wait};
 use std::test::*;

@@ -6,13 +6,12 @@ ghost use Rattle.gr_route.specs.WorkRule.{is_stop, is_stopped};
 use crate::route::three_senders::write;
 use gr_clocks::access::Access;
 use gr_clocks::clock::Clock;
+use gr_model::class::Class;
 use gr_model::event::{Event, ItemId, Sent, Word};
-use gr_model::limits::FEW_GROUPS;
 use gr_model::memory::Memory;
 use gr_model::shape::Shape;
 use gr_route::intake::{Intake, IntakeSeat, TakerSeat};
 use gr_route::work::{GiverSeat, Work, WorkQueue, WorkerSeat};
-use gr_scopes::class::Class;
 use refusing::growths::refuse_each;
 use std::alloc::{Allocator, Global};
 use std::sync::Wait;
@@ -90,43 +89,6 @@ fn is_intake_right<R: Wait, A: Allocator + Copy>(rt: &R, alloc: A) -> Result<boo
 fn an_intake_queue_of_one_place(rt: HostRuntime) {
     let growths = refuse_each(rt.alloc(), 1, |heap| is_intake_right(&rt, heap));
     assert!(rt; growths.is_ok(), "the queue grows: {growths:?}");
-}
-
-/// A seat for each of 64 work-groups.
-fn split_all(alloc: Global, queue: &Intake, taker: &mut TakerSeat) -> Result<Vec<IntakeSeat>, Fail>
-    requires { taker.old.queue ≡ queue.now.queue }
-    ensures { OnOk result (taker.new.queue ≡ queue.now.queue) }
-{
-    let mut seats = Vec::new(alloc);
-    for group in 0..FEW_GROUPS as u16 {
-        let seat = queue.split(taker, group, 1).ok_or("a group's first split")?;
-        seats.push(seat)?;
-    }
-    Ok(seats)
-}
-
-/// How many seats the groups have of a queue, and whether a second one is refused.
-fn split_all_and_one(
-    alloc: Global,
-    queue: &Intake,
-    taker: &mut TakerSeat,
-) -> Result<(usize, bool), Fail>
-    requires { taker.old.queue ≡ queue.now.queue }
-{
-    let seats = split_all(alloc, queue, taker)?;
-    Ok((seats.len(), queue.split(taker, 5, 1).is_none()))
-}
-
-/// How many seats the groups have of a queue of one place, and whether a second one is refused.
-fn seats_of_one_place(alloc: Global) -> Result<(usize, bool), Fail> {
-    let (queue, mut taker) = Intake::new(alloc, 1)?;
-    split_all_and_one(alloc, &queue, &mut taker)
-}
-
-#[test]
-fn each_group_has_one_seat(rt: HostRuntime) -> Result<(), Fail> {
-    assert_eq!(rt; seats_of_one_place(rt.alloc())?, (64, true));
-    Ok(())
 }
 
 /// A plain write of a global word by the only work-item of a launch.

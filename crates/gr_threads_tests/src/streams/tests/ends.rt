@@ -2,11 +2,11 @@
 
 use crate::streams::inputs::Input;
 use crate::streams::launches::{RACE, packed, report_with};
-use crate::streams::outputs::Output;
 use crate::streams::runs::{Outcome, config_of, is_accepted, is_refused, run_inputs};
 use gr_model::shape::ShapeError;
 use gr_record::fault::Fault;
 use gr_streams::{NoWatch, run_streams};
+use refusing::failing::FailingWriter;
 use std::alloc::Global;
 use std::sync::{Arc, Wait};
 use std::test::*;
@@ -62,7 +62,7 @@ fn a_reader_that_fails_is_a_read_fault(rt: HostRuntime) -> Result<(), Fail> {
 fn fault_of<R: Threads + Wait + Clock + Copy + Send + 'static>(
     rt: R,
     alloc: Global,
-    output: &mut Output,
+    output: &mut FailingWriter,
 ) -> Result<Option<Fault>, Fail> {
     let (_, texts, _) = RACE;
     let inputs = vec![in alloc; Input::whole(packed(alloc, texts[0])?)]?;
@@ -78,14 +78,9 @@ fn fails_to_write<R: Threads + Wait + Clock + Copy + Send + 'static>(
     room: usize,
     report: &[u8],
 ) -> Result<bool, Fail> {
-    let mut output = Output {
-        taken: Vec::new(alloc),
-        room,
-        flushes: false,
-    };
+    let mut output = FailingWriter::within(alloc, report, room);
     let fault = fault_of(rt, alloc, &mut output)?;
-    let is_prefix = output.taken.len() == room && report.starts_with(&output.taken);
-    Ok(fault == Some(Fault::Write) && is_prefix)
+    Ok(fault == Some(Fault::Write) && output.has_front(report, room))
 }
 
 #[test]

@@ -1,7 +1,7 @@
 //! Each growth is refused in turn: the answer is then want of memory, or what is due.
 
 use crate::streams::growths::{Heap, run_on};
-use crate::streams::launches::{LAUNCHES, fifty_words, packed_all, report_with};
+use crate::streams::launches::{LAUNCHES, packed_all, report_with};
 use crate::streams::runs::Plan;
 use gr_record::fault::Fault;
 use refusing::Refusing;
@@ -64,13 +64,5 @@ fn each_refused_growth_is_want_of_memory(rt: HostRuntime) -> Result<(), Fail> {
     for &(name, texts, lines) in &LAUNCHES {
         assert!(rt; are_growths_told(rt, rt.alloc(), texts, lines)?, "{name}");
     }
-    Ok(())
-}
-
-#[test]
-fn each_refused_growth_of_fifty_races_is_want_of_memory(rt: HostRuntime) -> Result<(), Fail> {
-    let (streams, wanted) = fifty_words(rt.alloc())?;
-    let wrong = first_wrong_growth(rt, rt.alloc(), &streams, (2, 1, 1), &wanted)?;
-    assert_eq!(rt; wrong, None);
     Ok(())
 }

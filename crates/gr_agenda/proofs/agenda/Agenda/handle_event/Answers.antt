@@ -12,7 +12,7 @@ pub invariant_of-self : goal.invariant_of-self
 invariant_of-self g c =
     let q = c.self.inside.order in
     let e = c.args.event in
-    let is = c.lanes-taken.ensures.sequence in
+    let is = c.sequence_holds.ensures in
     let ready = subst {A = Sequence} (λ p. IsReady p.taken p.handled e) (sym c.self.view_is) c.requires in
     let lists = c.self.inside.waiting.items in (
       kept_handled q is c.self.inside.worklist c.put_group.new.worklist lists lists c.self.invariant.0
@@ -30,7 +30,7 @@ pub invariant_of-self-in-Some : goal.invariant_of-self-in-Some
 invariant_of-self-in-Some g c =
     let q = c.self.inside.order in
     let e = c.args.event in
-    let is = c.lanes-taken.ensures.sequence in
+    let is = c.sequence_holds.ensures in
     let ready = subst {A = Sequence} (λ p. IsReady p.taken p.handled e) (sym c.self.view_is) c.requires in (
       kept_handled q is c.self.inside.worklist c.wake.new.worklist c.self.inside.waiting.items c.wake.new.lists.items c.self.invariant.0
           (λ r has. c.wake.ensures.keeps r (c.put_group.ensures.keeps r (c.put.ensures.keeps r has)))

@@ -9,4 +9,4 @@ returns-in-Some g c next can =
     let q = c.self.inside.order in
     let i = c.args.item in
     let undiverged = c.self.invariant.1 i.group c.in-Some.instance (ap (λ l. slice_get l i.group) (sym c.deref.ensures.value) ∙ c.in-Some.ensures) in
-    undiverged_only q c.lanes-taken.ensures.sequence i c.in-Some.instance (c.is_next_barrier.ensures next) undiverged (subst {A = Sequence} (λ p. CanHandle p.taken p.handled i) (sym c.self.view_is) can)
+    undiverged_only q c.sequence_holds.ensures i c.in-Some.instance (c.is_next_barrier.ensures next) undiverged (subst {A = Sequence} (λ p. CanHandle p.taken p.handled i) (sym c.self.view_is) can)

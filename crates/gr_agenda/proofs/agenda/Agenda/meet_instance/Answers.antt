@@ -26,7 +26,7 @@ invariant_of-self g c =
     let can = subst {A = Sequence} (λ p. CanMeet p.taken p.handled c.args.group) (sym c.self.view_is) c.requires in
     let met = c.meet_instance.ensures.step can.0 can.1 can.2 in
     let size : c.items.result ≡ size_of q.taken c.args.group = c.items.ensures.size ∙ ap (λ (l : List ℕ). get_or l c.args.group 0) (c.shape.ensures.sizes ∙ ap (λ (s : Streams). s.sizes) (c.lanes.ensures.taken ∙ met.taken)) in (
-      kept_met q c.lanes-taken.ensures.sequence c.self.inside.worklist c.put_pending.new.worklist lists lists c.self.invariant.0
+      kept_met q c.sequence_holds.ensures c.self.inside.worklist c.put_pending.new.worklist lists lists c.self.invariant.0
           (λ r has. c.put_pending.ensures.keeps r (c.put.ensures.keeps r has))
           c.args.group can.0 c.meet_instance.new.self met
           (c.put_pending.ensures.keeps _ c.put.ensures.there)

@@ -11,5 +11,5 @@ returns-then-is_done-clause-ready g c =
     let same : c.self-2.inside.order ≡ q = c.self-2.view_is ∙ c.loop.invariant in
     let kept = subst {A = Sequence} (λ p. IsKept p c.self-2.inside.worklist c.self-2.inside.waiting.items) same c.self-2.invariant.0 in
     let none = c.is_done.ensures c.if-is_done.true in
-    rest_is_done q (subst {A = Sequence} IsSequence c.self.view_is c.lanes-taken.ensures.sequence)
+    rest_is_done q (subst {A = Sequence} IsSequence c.self.view_is c.sequence_holds.ensures)
     (record { handles = λ i can. none (Item i) (kept.ready (Item i) can); meets = λ n can. none (Group n) (kept.ready (Group n) can) })

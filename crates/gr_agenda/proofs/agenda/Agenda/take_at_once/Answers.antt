@@ -8,7 +8,7 @@ pub invariant_of-self : goal.invariant_of-self
 invariant_of-self g c =
     let q = c.self.inside.order in
     let go = subst {A = Sequence} (λ p. GoesAtOnce p c.args.group c.args.event) (sym c.self.view_is) c.requires.goes in
-    let is = c.lanes-taken.ensures.sequence in
+    let is = c.sequence_holds.ensures in
     let new = c.take_at_once.new.self in
     let lists = c.self.inside.waiting.items in (
       kept_at_once q is c.self.inside.worklist lists c.self.invariant.0 c.args.group c.args.event go new c.take_at_once.ensures.step c.take_at_once.ensures.sequence.prefixes,

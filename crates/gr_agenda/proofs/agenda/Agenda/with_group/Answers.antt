@@ -8,7 +8,7 @@ use Rattle.gr_agenda.proofs.agenda.Agenda.with_group.Goals as goal
 pub invariant_of-result : goal.invariant_of-result
 invariant_of-result g c =
     let q : Sequence = c.self.inside.order in
-    let sequence = c.lanes-taken.ensures.sequence in
+    let sequence = c.sequence_holds.ensures in
     let can : CanAdd q.taken c.args.group c.args.items = subst (λ (r : Sequence). CanAdd r.taken c.args.group c.args.items) (sym c.self.view_is) c.requires in
     subst (λ (r : Sequence). IsKept r c.self.inside.worklist c.in_ok-lists.lists.items × AreUndiverged r.taken c.self.inside.undiverged.items) (sym c.in_ok-order.ensures) (
       kept_wider (with_group q c.args.group c.args.items) c.self.inside.worklist c.self.inside.waiting.items c.in_ok-lists.lists.items

@@ -5,7 +5,7 @@ use Rattle.gr_held.proofs.judged.Judged.lanes.Goals as goal
 
 pub returns-clause-whole : goal.returns-clause-whole
 returns-clause-whole g c =
-    let q = c.self.inside.agenda in
+    let q = c.self.inside.sequencer in
     (q.handled, whole_order c.args.self.now q c.self.view_is c.self.invariant.0 c.order.ensures.sequence)
 
 pub returns-clause-grounded : goal.returns-clause-grounded

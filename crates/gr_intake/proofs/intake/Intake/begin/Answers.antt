@@ -5,7 +5,7 @@ use Rattle.gr_model.specs.Groups.{CanAdd}
 use Rattle.gr_order.specs.Sequences.{Sequence, with_group}
 use Rattle.gr_intake.specs.Intakes.{IsRead, come, come_of, read_behind}
 use Rattle.gr_intake.specs.Joined.{Flat}
-use Rattle.gr_backlog.specs.Waiting.{Coming}
+use Rattle.gr_intake.specs.Waiting.{Coming}
 use Rattle.gr_intake.proofs.Behind.{stream_begins}
 use Rattle.gr_intake.proofs.Comings.{any_come, apart_of, begins, between, may_come, none_come, none_goes_on, whole_stay}
 use Rattle.gr_intake.proofs.intake.Intake.begin.Goals as goal

@@ -4,7 +4,7 @@ use Rattle.std.specs.List.{list_any}
 use Rattle.std.proofs.lemmas.List.{length-map}
 use Rattle.gr_record.specs.declared.fault.Fault.TheVariants.{OtherLaunch, SameGroup}
 use Rattle.gr_intake.specs.Intakes.{come, come_of}
-use Rattle.gr_backlog.specs.Waiting.{Coming}
+use Rattle.gr_intake.specs.Waiting.{Coming}
 use Rattle.gr_intake.proofs.Behind.{other_launch_refused, same_group_refused}
 use Rattle.gr_model.specs.Shapes.{HasItem}
 use Rattle.gr_intake.proofs.Comings.{any_come, between, none_goes_on}

@@ -1,10 +1,10 @@
 use Rattle.std.proofs.Common.{◌≡◌, ◌∷◌, ◌++◌, [], ℕ, List, Bool, Option, Some, None, ap, sym, subst, ◌∙◌, length, arith, false}
 use Rattle.std.proofs.lemmas.List.{length-append}
 use Rattle.std.proofs.lemmas.Result.{err_from_is_err_and}
-use Rattle.gr_input.specs.Faults.{Fails}
+use Rattle.gr_record.specs.InputFaults.{Fails}
 use Rattle.gr_intake.specs.declared.open.Open.{Open}
 use Rattle.gr_intake.specs.Intakes.{IsRead, Moves, come, come_of, goes_on, read_behind, read_on}
-use Rattle.gr_backlog.specs.Waiting.{Coming}
+use Rattle.gr_intake.specs.Waiting.{Coming}
 use Rattle.gr_intake.proofs.intake.Intake.go_on.Goals as goal
 
 pub returns-in_err-ended-clause-fault : goal.returns-in_err-ended-clause-fault

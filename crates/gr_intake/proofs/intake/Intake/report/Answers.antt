@@ -1,9 +1,12 @@
-use Rattle.std.proofs.Common.{◌≡◌, ℕ, List, subst}
+use Rattle.std.proofs.Common.{◌≡◌, ℕ, List, subst, sym}
 use Rattle.gr_model.specs.Shapes.{IsShape}
+use Rattle.gr_record.specs.declared.header.Header.{Header}
+use Rattle.gr_taking.specs.Sources.{MayCome, come_from}
 use Rattle.gr_intake.specs.Intakes.{IsGap, come}
-use Rattle.gr_backlog.specs.Waiting.{Coming}
+use Rattle.gr_intake.specs.Waiting.{Coming}
 use Rattle.gr_intake.proofs.Judged.{gap_is_launch_fault, groups_between, launch_taken, memory_is_launch_fault}
 use Rattle.gr_intake.proofs.Faults.{memory_is_of_values}
+use Rattle.gr_intake.proofs.Sources.{come_as, streams_may_come}
 use Rattle.gr_intake.proofs.intake.Intake.report.Goals as goal
 
 pub returns-in-Some-clause-fault : goal.returns-in-Some-clause-fault
@@ -14,11 +17,19 @@ returns-in-Some-clause-fault g c =
     let gap = subst (λ (sizes : List ℕ). IsGap sizes c.in-Some.fault) c.shape.ensures.sizes c.in-Some.ensures in
     gap_is_launch_fault i.sequencer.taken i.streams.items read.sequence.prefixes.count groups read.streams c.in-Some.fault gap
 
-pub returns-in_err-take_waiting-clause-fault : goal.returns-in_err-take_waiting-clause-fault
-returns-in_err-take_waiting-clause-fault g c = memory_is_launch_fault (come c.args.self.now.sequencer.taken c.args.self.now.streams.items) c.from_residual.result c.from_residual.ensures.1
+pub take_all-requires-clause-may : goal.take_all-requires-clause-may
+take_all-requires-clause-may g c =
+    let i = c.args.self.now in
+    let read = c.requires.intake.0 in
+    let groups = groups_between i.sequencer.taken.sizes i.streams.items i.current c.requires.whole read.groups in
+    subst (λ (cs : List Coming). MayCome (λ (h : Header). h.group) i.sequencer.taken.sizes (come_from (λ (b : Coming). b.header) (λ (h : Header). h.group) (λ (b : Coming). b.waiting) i.sequencer.taken cs)) (sym c.as_mut_slice.ensures.value)
+    (streams_may_come i.sequencer.taken i.streams.items read.streams groups)
 
-pub returns-in_err-take_waiting-clause-values : goal.returns-in_err-take_waiting-clause-values
-returns-in_err-take_waiting-clause-values g c = memory_is_of_values c.from_residual.result c.from_residual.ensures.1
+pub returns-in_err-take_all-clause-fault : goal.returns-in_err-take_all-clause-fault
+returns-in_err-take_all-clause-fault g c = memory_is_launch_fault (come c.args.self.now.sequencer.taken c.args.self.now.streams.items) c.from_residual.result c.from_residual.ensures.1
+
+pub returns-in_err-take_all-clause-values : goal.returns-in_err-take_all-clause-values
+returns-in_err-take_all-clause-values g c = memory_is_of_values c.from_residual.result c.from_residual.ensures.1
 
 pub returns-in_err-report_of-clause-fault : goal.returns-in_err-report_of-clause-fault
 returns-in_err-report_of-clause-fault g c = memory_is_launch_fault (come c.args.self.now.sequencer.taken c.args.self.now.streams.items) c.from_residual-in_err-report_of.result c.from_residual-in_err-report_of.ensures.1
@@ -30,10 +41,11 @@ pub returns-clause-report : goal.returns-clause-report
 returns-clause-report g c =
     let i = c.args.self.now in
     let read = c.requires.intake.0 in
-    let now = c.take_waiting.new in
-    let all = c.in_ok-take_waiting.ensures in
+    let now = c.take_all.new in
+    let all = c.in_ok-take_all.ensures in
     let groups = groups_between i.sequencer.taken.sizes i.streams.items i.current c.requires.whole read.groups in
-    let same : come now.sequencer.taken now.streams ≡ come i.sequencer.taken i.streams.items = subst (λ (cs : List Coming). come now.sequencer.taken now.streams ≡ come i.sequencer.taken cs) c.as_mut_slice.ensures.value all.come in
+    let same : come now.sequencer.taken now.sources ≡ come i.sequencer.taken i.streams.items =
+    subst (λ (cs : List Coming). come now.sequencer.taken now.sources ≡ come i.sequencer.taken cs) c.as_mut_slice.ensures.value (come_as now.sequencer.taken i.sequencer.taken now.sources c.as_mut_slice.result.now all.come) in
     let shape : IsShape i.sequencer.taken.sizes = subst IsShape c.shape.ensures.sizes c.in_default.ensures in
-    let launch = launch_taken i.sequencer.taken now.sequencer.taken i.streams.items now.streams same all.sizes all.sequence.prefixes.count groups read.streams all.none shape in
+    let launch = launch_taken i.sequencer.taken now.sequencer.taken i.streams.items now.sources same all.sizes all.sequence.prefixes.count groups read.streams all.none shape in
     (now.sequencer.taken, launch.0, launch.1, c.in_ok-report_of.ensures)

@@ -1,5 +1,5 @@
 use Rattle.std.proofs.Common.{◌↔◌, Bool, IsTrue, subst, sym}
-use Rattle.gr_accesses.specs.Racy.{IsRacyIn}
+use Rattle.gr_timeline.specs.Racy.{IsRacyIn}
 use Rattle.gr_show.proofs.ShownLemmas.{race_said}
 use Rattle.gr_show.proofs.least_race.LeastRaceQuestion.found.Goals as goal
 

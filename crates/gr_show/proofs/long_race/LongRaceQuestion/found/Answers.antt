@@ -1,5 +1,5 @@
 use Rattle.std.proofs.Common.{◌↔◌, Bool, IsTrue, subst, sym}
-use Rattle.gr_accesses.specs.Racy.{IsRacyIn}
+use Rattle.gr_timeline.specs.Racy.{IsRacyIn}
 use Rattle.gr_places.specs.SideLines.{place_number}
 use Rattle.gr_races.proofs.AccountLemmas.{account_racy}
 use Rattle.gr_show.proofs.long_race.LongRaceQuestion.found.Goals as goal

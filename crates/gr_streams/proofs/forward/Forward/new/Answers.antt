@@ -1,7 +1,7 @@
 use Rattle.std.proofs.Common.{◌∙◌, [], arith, ap, map, subst, sym, false}
 use Rattle.gr_model.specs.declared.limits.TheConstants.{MOST_RECORDS}
 use Rattle.gr_record.specs.Decoding.{reading}
-use Rattle.gr_sender.specs.Senders.{Sending}
+use Rattle.gr_threads.specs.Senders.{Sending}
 use Rattle.gr_streams.specs.Sending.{AreSent, sent_as}
 use Rattle.gr_streams.proofs.SendingLemmas.{nothing_read}
 use Rattle.gr_streams.proofs.forward.Forward.new.Goals as goal

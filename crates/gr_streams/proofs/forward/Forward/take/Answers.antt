@@ -3,7 +3,7 @@ use Rattle.gr_model.specs.declared.event.Event.{Event}
 use Rattle.gr_model.specs.declared.limits.TheConstants.{MOST_RECORDS}
 use Rattle.gr_record.specs.Decoding.{GrowsAs, parts_of, reading}
 use Rattle.gr_record.specs.Laws.{AreBytes}
-use Rattle.gr_sender.specs.Senders.{Sending}
+use Rattle.gr_threads.specs.Senders.{Sending}
 use Rattle.gr_streams.specs.Sending.{AreSent, events_in}
 use Rattle.gr_streams.proofs.SendingLemmas.{bytes_append, piece_events}
 use Rattle.gr_streams.proofs.forward.Forward.take.Goals as goal

@@ -1,5 +1,5 @@
 use Rattle.std.proofs.Common.{◌∙◌, ap}
-use Rattle.gr_sender.specs.Senders.{Sending}
+use Rattle.gr_threads.specs.Senders.{Sending}
 use Rattle.gr_streams.specs.Sources.{Begun, begun_of, known_of}
 use Rattle.gr_streams.specs.declared.source.Source.{Source}
 use Rattle.gr_streams.proofs.thread.ReaderThread.start.Goals as goal

@@ -1,6 +1,0 @@
-pub mod ListLemmas
-pub mod CountLemmas
-pub mod RecordLemmas
-pub mod GroupLemmas
-pub mod HeldLemmas
-pub mod DetailLemmas

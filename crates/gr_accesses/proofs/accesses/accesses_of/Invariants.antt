@@ -1,5 +1,0 @@
-use Rattle.gr_accesses.proofs.GroupLemmas.{IsKnownBelow}
-use Rattle.gr_accesses.proofs.accesses.accesses_of.Given as goal
-
-abbrev pub invariant-loop-group : goal.invariant-loop-group
-invariant-loop-group g l = IsKnownBelow l.traces l.word l.group l.known.entries

@@ -1,6 +1,0 @@
-use Rattle.std.proofs.Common.{◌≡◌, drop, slice_get}
-use Rattle.gr_model.specs.Streams.{is_of, places_from}
-use Rattle.gr_accesses.proofs.details.record_number.Given as goal
-
-abbrev pub invariant-loop-place : goal.invariant-loop-place
-invariant-loop-place l = slice_get (places_from (is_of l.item) 0 l.list) l.index ≡ slice_get (places_from (is_of l.item) l.place (drop l.place l.list)) l.before

@@ -1,6 +1,0 @@
-pub mod Details
-pub mod Accesses
-pub mod Counting
-pub mod Gathering
-pub mod Held
-pub mod Racy

@@ -1,0 +1,72 @@
+-- The accesses along an order that has become longer.
+use Rattle.std.proofs.Common.{◌≡◌, ℕ, suc, true, List, [], ◌∷◌, ◌++◌, Some, None, is_some, slice_get, option_and_then, refl, sym, ap, ◌∙◌, subst, append-nil}
+use Rattle.gr_model.specs.declared.event.EventId.{EventId}
+use Rattle.gr_model.specs.declared.event.Kind.{Kind}
+use Rattle.gr_model.specs.declared.event.Kind.TheVariants.{Read, Write, Load, Store, Rmw, Barrier, End}
+use Rattle.gr_model.specs.declared.event.Word.{Word}
+use Rattle.gr_model.specs.Access.{event_word, word_if_access, word_in}
+use Rattle.gr_model.specs.Barriers.{StandsIn, mark_of_kind}
+use Rattle.gr_model.specs.Streams.{Streams, word_at}
+use Rattle.gr_clocks.specs.declared.access.Access.{Access}
+use Rattle.gr_steps.specs.Steps.{AreBarriers, Handles, Meets}
+use Rattle.gr_steps.proofs.BarrierPlaces.{barrier_there}
+use Rattle.gr_clocks.specs.ClockedAccess.{ClockedAccess, clocked, bare}
+use Rattle.gr_closure.specs.Accesses.{IsAccess}
+use Rattle.gr_closure.specs.AccessesAlong.{AreAccesses, of_none, of_access, of_other}
+
+-- an access tells the same without its allocator
+pub bare_access : {Z : Type 0} (s : Streams) (e : EventId) (a : Access Z) → IsAccess s e a → IsAccess s e (bare (clocked a))
+bare_access s e a of_e = record {
+  word = of_e.word;
+  item = of_e.item;
+  index = of_e.index;
+  event = of_e.event;
+  at_event = of_e.at_event;
+  class = of_e.class;
+  counts = of_e.counts;
+}
+
+-- the accesses along two orders, one after the other
+accesses_after : (s : Streams) (order more : List EventId) (accesses others : List ClockedAccess) → AreAccesses s order accesses → AreAccesses s more others → AreAccesses s (order ++ more) (accesses ++ others)
+accesses_after s _ more _ others of_none behind = behind
+accesses_after s _ more _ others (of_access {order = order} {accesses = accesses} of_e rest) behind = of_access of_e (accesses_after s order more accesses others rest behind)
+accesses_after s _ more _ others (of_other {order = order} {accesses = accesses} none rest) behind = of_other none (accesses_after s order more accesses others rest behind)
+
+-- events without words have none
+none_of : (s : Streams) (events : List EventId) → ((i : ℕ) (b : EventId) → slice_get events i ≡ Some b → word_at s b ≡ None) → AreAccesses s events []
+none_of s [] no_words = of_none
+none_of s (b ∷ events) no_words = of_other (no_words 0 b refl) (none_of s events (λ i d at. no_words (suc i) d at))
+
+kind_without_word : (k : Kind) (site : ℕ) (w : Word) → is_some (mark_of_kind k site) ≡ true → word_if_access k w ≡ None
+kind_without_word Read site w is = cc
+kind_without_word Write site w is = cc
+kind_without_word (Load scope order) site w is = cc
+kind_without_word (Store scope order) site w is = cc
+kind_without_word (Rmw scope order) site w is = cc
+kind_without_word (Barrier global local) site w is = refl
+kind_without_word (End cut) site w is = refl
+
+-- barriers have no words
+barriers_have_none : (s : Streams) (g k : ℕ) (b : EventId) → StandsIn s b g k → word_at s b ≡ None
+barriers_have_none s g k b stands =
+    let there = barrier_there s b g k stands in
+    ap (option_and_then (event_word b.at.group)) there.1 ∙ kind_without_word there.0.kind there.0.word (word_in there.0.space b.at.group there.0.word) there.2
+
+none_of_barriers : (s : Streams) (g k : ℕ) (barriers : List EventId) → AreBarriers s g k barriers → AreAccesses s barriers []
+none_of_barriers s g k barriers are = none_of s barriers (λ i b at. barriers_have_none s g k b (are.each i b at).1)
+
+-- ---- steps
+
+pub handled_adds : (s : Streams) (old new : List EventId) (e : EventId) (accesses : List ClockedAccess) (x : ClockedAccess) → Handles s old e new → AreAccesses s old accesses → IsAccess s e (bare x) → AreAccesses s new (accesses ++ x ∷ [])
+handled_adds s old new e accesses x step are of_e =
+    subst (λ (order : List EventId). AreAccesses s order (accesses ++ x ∷ [])) (sym step.order) (accesses_after s old (e ∷ []) accesses (x ∷ []) are (of_access of_e of_none))
+
+pub others_add_none : (s : Streams) (old new : List EventId) (e : EventId) (accesses : List ClockedAccess) → Handles s old e new → AreAccesses s old accesses → word_at s e ≡ None → AreAccesses s new accesses
+others_add_none s old new e accesses step are none =
+    subst (λ (order : List EventId). AreAccesses s order accesses) (sym step.order)
+    (subst (λ (xs : List ClockedAccess). AreAccesses s (old ++ e ∷ []) xs) (append-nil accesses) (accesses_after s old (e ∷ []) accesses [] are (of_other none of_none)))
+
+pub met_add_none : (s : Streams) (old new : List EventId) (g k : ℕ) (accesses : List ClockedAccess) → Meets s old g k new → AreAccesses s old accesses → AreAccesses s new accesses
+met_add_none s old new g k accesses step are =
+    subst (λ (order : List EventId). AreAccesses s order accesses) (sym step.order)
+    (subst (λ (xs : List ClockedAccess). AreAccesses s (old ++ step.barriers) xs) (append-nil accesses) (accesses_after s old step.barriers accesses [] are (none_of_barriers s g k step.barriers step.are)))

@@ -1,3 +1,0 @@
-mod Cutting
-mod Acquiring
-mod Diverging

@@ -1,5 +1,0 @@
-use Rattle.gr_findings.specs.Acquires.{AreUnmatchedBefore}
-use Rattle.gr_findings.proofs.acquires.add_group.Given as goal
-
-abbrev pub invariant-loop-item : goal.invariant-loop-item
-invariant-loop-item g l = AreUnmatchedBefore l.lanes.streams l.group l.item l.list.items

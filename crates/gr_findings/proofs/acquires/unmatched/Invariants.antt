@@ -1,5 +1,0 @@
-use Rattle.gr_findings.specs.Acquires.{AreUnmatchedBefore}
-use Rattle.gr_findings.proofs.acquires.unmatched.Given as goal
-
-abbrev pub invariant-loop-group : goal.invariant-loop-group
-invariant-loop-group g l = AreUnmatchedBefore l.lanes.streams l.group 0 l.list.items

@@ -1,5 +1,0 @@
-use Rattle.gr_findings.proofs.Cutting.{CutBelow}
-use Rattle.gr_findings.proofs.groups.cut.Given as goal
-
-abbrev pub invariant-loop-group : goal.invariant-loop-group
-invariant-loop-group g l = CutBelow l.lanes.streams l.group l.groups.items

@@ -1,5 +1,0 @@
-pub mod PairTests
-pub mod Clashing
-pub mod Adding
-pub mod Growing
-pub mod Pairing

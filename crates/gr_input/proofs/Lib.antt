@@ -1,2 +1,0 @@
-pub mod Consuming
-pub mod Outside

@@ -1,0 +1,51 @@
+use Rattle.std.proofs.Common.{◌≡◌, ◌≤◌, ◌∷◌, ◌++◌, [], List, ap, set, sym, subst, ◌∙◌, arith, rules}
+use Rattle.std.proofs.lemmas.List.{set-get_or}
+use Rattle.std.proofs.lemmas.Result.{err_from_is_err_and}
+use Rattle.gr_model.specs.declared.event.Event.{Event}
+use Rattle.gr_intake.specs.Waiting.{ArePieces, Coming}
+use Rattle.gr_intake.proofs.Backlogs.{coming, last_piece, piece_written, pieces_grow, waiting_grows, waiting_in}
+use Rattle.gr_intake.proofs.backlog.Backlog.push.Goals as goal
+
+pub returns-clause-ok : goal.returns-clause-ok
+returns-clause-ok g c =
+    let old = c.self.inside.pieces.items in
+    let pieces = c.last_with_room.new.pieces.items in
+    let last = c.in_ok-last.last in
+    let piece = c.index_mut.result.now in
+    let waits = c.in_ok-push.ensures.ok ∙ ap (λ (p : List Event). p ++ c.args.event.now ∷ []) c.index_mut.ensures.value in
+    ap (coming c.self.inside.header) (last_piece pieces last piece c.push.new.self c.args.event.now c.in_ok-last.ensures.place waits ∙ ap (λ (w : List Event). w ++ c.args.event.now ∷ []) (waiting_grows old pieces c.in_ok-last.ensures.grown))
+    ∙ ap (λ (v : Coming). coming v.header (v.waiting ++ c.args.event.now ∷ [])) c.self.view_is
+
+pub invariant_of-self-2 : goal.invariant_of-self-2
+invariant_of-self-2 g c =
+    let pieces = c.last_with_room.new.pieces.items in
+    let first = c.self.inside.first in
+    let less : c.min-self-inside.result ≤ first = search rules in
+    let before : c.min-self-inside.result ≤ c.in_ok-last.last = search rules in
+    piece_written pieces first c.in_ok-last.last c.min-self-inside.result c.push.new.self (pieces_grow c.self.inside.pieces.items pieces first c.self.invariant c.in_ok-last.ensures.grown) (omega (arith, c.in_ok-last.ensures.place)) less before
+
+-- where memory runs out the backlog is as it was
+
+pub invariant_of-self : goal.invariant_of-self
+invariant_of-self g c = subst (λ (ps : List (List Event)). ArePieces ps c.self.inside.first) (sym c.in_err-last.ensures.unchanged) c.self.invariant
+
+pub returns-in_err-last-clause-err : goal.returns-in_err-last-clause-err
+returns-in_err-last-clause-err g c =
+    let p = err_from_is_err_and c.from_residual.result c.from_residual.ensures.1 in
+    rw (p.1) (ap (λ (ps : List (List Event)). coming c.self.inside.header (waiting_in ps)) c.in_err-last.ensures.unchanged ∙ c.self.view_is)
+
+pub invariant_of-self-in_err-push : goal.invariant_of-self-in_err-push
+invariant_of-self-in_err-push g c =
+    let pieces = c.last_with_room.new.pieces.items in
+    let first = c.self.inside.first in
+    let less : c.min-self-inside.result ≤ first = search rules in
+    let before : c.min-self-inside.result ≤ c.in_ok-last.last = search rules in
+    piece_written pieces first c.in_ok-last.last c.min-self-inside.result c.push.new.self (pieces_grow c.self.inside.pieces.items pieces first c.self.invariant c.in_ok-last.ensures.grown) (omega (arith, c.in_ok-last.ensures.place)) less before
+
+pub returns-in_err-push-clause-err : goal.returns-in_err-push-clause-err
+returns-in_err-push-clause-err g c =
+    let old = c.self.inside.pieces.items in
+    let pieces = c.last_with_room.new.pieces.items in
+    let p = err_from_is_err_and c.from_residual-in_err-push.result c.from_residual-in_err-push.ensures.1 in
+    let unmoved : set pieces c.in_ok-last.last c.push.new.self ≡ pieces = ap (set pieces c.in_ok-last.last) (c.in_err-push.ensures.err ∙ c.index_mut.ensures.value) ∙ set-get_or pieces c.in_ok-last.last c.index_mut.result.now in
+    rw (p.1) (ap (coming c.self.inside.header) (ap (λ (ps : List (List Event)). waiting_in ps) unmoved ∙ waiting_grows old pieces c.in_ok-last.ensures.grown) ∙ c.self.view_is)

@@ -1,7 +1,0 @@
-use Rattle.std.proofs.Common.{◌≡◌, ◌++◌, take}
-use Rattle.std.specs.String.{string_bytes}
-use Rattle.gr_lines.specs.LineText.{later_text, names_words}
-use Rattle.gr_lines.proofs.line_text.push_names.Given as goal
-
-abbrev pub invariant-loop-name : goal.invariant-loop-name
-invariant-loop-name g l = string_bytes l.text ≡ string_bytes l.initial.text ++ later_text (names_words (take l.name-index l.names))

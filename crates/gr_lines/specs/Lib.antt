@@ -1,3 +1,0 @@
-pub mod LineLaws
-pub mod LineReading
-pub mod LineText

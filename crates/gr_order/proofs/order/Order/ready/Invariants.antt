@@ -1,6 +1,0 @@
-use Rattle.std.proofs.Common.{ℕ, ◌<◌}
-use Rattle.gr_order.specs.Sequences.{IsGroupAtRest}
-use Rattle.gr_order.proofs.order.Order.ready.Given as goal
-
-abbrev pub invariant-loop-group : goal.invariant-loop-group
-invariant-loop-group g l = (n : ℕ) → n < l.group → IsGroupAtRest l.self n

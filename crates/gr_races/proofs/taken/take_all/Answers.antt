@@ -1,0 +1,43 @@
+use Rattle.std.proofs.Common.{◌<◌, ◌≤◌, ◌∙◌, List, length, ap, sym, subst, arith}
+use Rattle.gr_model.specs.declared.event.Event.{Event}
+use Rattle.gr_model.specs.Streams.{ArePrefixes, IsAccepted, size_of}
+use Rattle.gr_lanes.specs.Remembered.{Remembered, forgotten_of}
+use Rattle.gr_races.proofs.TakenLists.{accepted_at, accepted_prefixes, all_are_taken, all_remembered, lanes_are_new, list_taken}
+use Rattle.gr_races.proofs.taken.take_all.Goals as goal
+
+pub loop-group-init : goal.loop-group-init
+loop-group-init g c = record {
+  taken = lanes_are_new c.args.traces.now c.in_ok-lanes.lanes.streams c.in_ok-copy.field-0 c.shape.ensures.accepted.count (c.in_ok-copy.ensures ∙ c.shape.ensures.sizes) c.in_ok-lanes.ensures.nothing;
+  forgotten = c.in_ok-lanes.ensures.whole.forgotten;
+}
+
+pub take_list-requires-clause-accepted : goal.take_list-requires-clause-accepted
+take_list-requires-clause-accepted g c =
+    let s = c.args.traces.now in
+    let there : c.loop-group.group < length s.sizes = omega (arith, ap length c.shape-2.ensures.sizes) in
+    subst (λ (list : List Event). IsAccepted (size_of c.loop-group.lanes.streams c.loop-group.group) list) (sym c.list.ensures.list)
+    (accepted_at s c.loop-group.group c.loop-group.lanes.streams c.shape.ensures.accepted there c.loop-group.invariant.taken)
+
+pub loop-group-preserved : goal.loop-group-preserved
+loop-group-preserved g c =
+    let s = c.args.traces.now in
+    let there : c.loop-group.group < length s.lists = omega (arith, ap length c.shape-2.ensures.sizes, c.shape.ensures.accepted.count) in
+    record {
+      taken = list_taken s c.loop-group.group c.loop-group.lanes.streams c.take_list.new.lanes.streams c.list.result.now there c.loop-group.invariant.taken c.list.ensures.list (ap (λ (r : Remembered). r.streams) c.in_ok-take_list.ensures);
+      forgotten = λ k. ap (λ (r : Remembered). forgotten_of r k) c.in_ok-take_list.ensures ∙ c.loop-group.invariant.forgotten k;
+    }
+
+pub returns-clause-streams : goal.returns-clause-streams
+returns-clause-streams g c =
+    let s = c.args.traces.now in
+    let all : length s.lists ≤ c.loop-group.group = omega (arith, ap length c.shape-2.ensures.sizes, c.shape.ensures.accepted.count) in
+    all_are_taken s c.loop-group.group c.loop-group.lanes.streams all c.loop-group.invariant.taken
+
+pub returns-clause-prefixes : goal.returns-clause-prefixes
+returns-clause-prefixes g c =
+    let s = c.args.traces.now in
+    let all : length s.lists ≤ c.loop-group.group = omega (arith, ap length c.shape-2.ensures.sizes, c.shape.ensures.accepted.count) in
+    subst ArePrefixes (sym (all_are_taken s c.loop-group.group c.loop-group.lanes.streams all c.loop-group.invariant.taken)) (accepted_prefixes s c.shape.ensures.accepted)
+
+pub returns-clause-whole : goal.returns-clause-whole
+returns-clause-whole g c = all_remembered c.loop-group.lanes c.loop-group.invariant.forgotten

@@ -1,5 +1,0 @@
-use Rattle.gr_scopes.proofs.ClassLemmas.{exemption_told}
-use Rattle.gr_scopes.proofs.laws.classes_tell_conflicts.Goals as goal
-
-pub returns-clause-exempt : goal.returns-clause-exempt
-returns-clause-exempt c = exemption_told

@@ -1,3 +1,0 @@
-pub mod Accesses
-pub mod Classes
-pub mod Laws

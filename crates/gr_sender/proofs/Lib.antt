@@ -1,2 +1,0 @@
-pub mod BatchLemmas
-pub mod SenderLemmas

@@ -1,5 +1,0 @@
-use Rattle.std.proofs.Common.{◌≡◌}
-use Rattle.gr_sender.proofs.batching.push_waiting.Given as goal
-
-abbrev pub invariant-loop : goal.invariant-loop
-invariant-loop g l = (l.sender ≡ l.initial.sender) × (l.batch ≡ l.initial.batch)

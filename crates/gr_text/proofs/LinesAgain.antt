@@ -1,0 +1,204 @@
+-- What has a line is read from it.
+use Rattle.std.proofs.Common.{◌≡◌, ℕ, ◌^◌, ◌<◌, ◌≤◌, Bool, true, false, List, [], ◌∷◌, ◌++◌, length, zero, suc, All, Option, Some, None, refl, ap, arith}
+use Rattle.std.specs.Prelude.{not, decimal, codes}
+use Rattle.std.proofs.lemmas.Bool.{lt-ltb, le-leb}
+use Rattle.gr_model.specs.declared.event.Space.{Space}
+use Rattle.gr_model.specs.declared.event.Space.TheVariants.{Global}
+use Rattle.gr_model.specs.declared.event.Scope.{Scope}
+use Rattle.gr_model.specs.declared.event.Order.{Order}
+use Rattle.gr_model.specs.declared.event.Kind.{Kind}
+use Rattle.gr_model.specs.declared.event.Kind.TheVariants.{Read, Write, Load, Store, Rmw, Barrier, End}
+use Rattle.gr_model.specs.declared.event.Name.{Name}
+use Rattle.gr_model.specs.declared.event.Event.{Event}
+use Rattle.gr_model.specs.Access.{is_acquire_kind}
+use Rattle.gr_model.specs.Events.{IsNamingOk, IsKindOk, end_of}
+use Rattle.gr_record.specs.declared.header.Header.{Header}
+use Rattle.gr_record.specs.declared.header.Version.{Version}
+use Rattle.gr_record.specs.declared.header.Version.TheVariants.{One, Two, Three, Four}
+use Rattle.gr_model.specs.NameLists.{IsNameInRange}
+use Rattle.gr_text.specs.declared.line.Line.TheVariants as lines
+use Rattle.gr_record.specs.Versions.{most_groups, most_items}
+use Rattle.gr_record.specs.Reading.{is_order_ok, is_naming_ok}
+use Rattle.gr_record.specs.Spelling.{IsHeader}
+use Rattle.gr_text.specs.LineText.{space_word, scope_word, order_word, flags_word, version_words, name_words, names_words, later_text, line_text}
+use Rattle.gr_text.specs.LineReading.{same, IsWord, first_of, header_said, version_said, name_said, names_said, kind_said, atomic_said, barrier_said, event_said, checked, ◌>>=◌, line_said}
+use Rattle.gr_text.specs.LineLaws.{TextIsRead}
+use Rattle.gr_text.proofs.LineNumbers.{same_self, number_back}
+use Rattle.gr_text.proofs.LineWords.{decimal_word, no_key, key_word, space_is_word, scope_is_word, order_is_word, flags_are_word, space_again, scope_again, order_again, flags_again, short_again, first_of_more, first_of_last}
+use Rattle.gr_record.proofs.Places.{header_group, header_items, items_within, naming_back, few_names, each_in_range}
+
+third_not_second : same (codes "v3") (codes "v2") ≡ false
+unfolding same
+third_not_second = refl
+
+fourth_not_earlier : (same (codes "v4") (codes "v2") ≡ false) × (same (codes "v4") (codes "v3") ≡ false)
+unfolding same
+fourth_not_earlier = (refl, refl)
+
+version_again : (v : Version) (word : List ℕ) → IsWord word → ((first_of (word ++ later_text (version_words v))).0 ≡ word) × (version_said (first_of (word ++ later_text (version_words v))).1 ≡ Some v)
+version_again One word is = let w = first_of_last word is in rw w (refl, refl)
+version_again Two word is = let w = first_of_more word (codes "v2") [] is in rw (w, same_self (codes "v2")) (refl, refl)
+version_again Three word is = let w = first_of_more word (codes "v3") [] is in rw (w, third_not_second, same_self (codes "v3")) (refl, refl)
+version_again Four word is = let w = first_of_more word (codes "v4") [] is in rw (w, fourth_not_earlier.0, fourth_not_earlier.1, same_self (codes "v4")) (refl, refl)
+
+header_again : (v : Version) (h : Header) → IsHeader h → line_said v (line_text (lines.Header h)) ≡ Some (lines.Header h)
+unfolding line_said header_said
+header_again v h ok =
+    let few : h.group < 65535 = header_group h ok in
+    let group : h.group < most_groups h.version = ok.group in
+    let some : 1 ≤ h.items = ok.some in
+    let small : h.items ≤ 1024 = header_items h ok in
+    let items : h.items ≤ most_items h.version = ok.items in
+    let launch : h.launch < 2 ^ 32 = ok.launch in
+    let end : List (List ℕ) = version_words h.version in
+    let w0 = first_of_more (codes "group") (decimal h.group) (codes "items" ∷ decimal h.items ∷ codes "launch" ∷ decimal h.launch ∷ end) (key_word (codes "group") refl) in
+    let w1 = first_of_more (decimal h.group) (codes "items") (decimal h.items ∷ codes "launch" ∷ decimal h.launch ∷ end) (decimal_word h.group (omega arith)) in
+    let w2 = first_of_more (codes "items") (decimal h.items) (codes "launch" ∷ decimal h.launch ∷ end) (key_word (codes "items") refl) in
+    let w3 = first_of_more (decimal h.items) (codes "launch") (decimal h.launch ∷ end) (decimal_word h.items (omega arith)) in
+    let w4 = first_of_more (codes "launch") (decimal h.launch) end (key_word (codes "launch") refl) in
+    let w5 = version_again h.version (decimal h.launch) (decimal_word h.launch launch) in
+    rw (w0, same_self (codes "group"), w1, w2, w3, w4, w5.1, w5.0, same_self (codes "items"), same_self (codes "launch"), short_again h.group (omega arith), short_again h.items (omega arith), number_back h.launch launch, lt-ltb h.group (most_groups h.version) group, le-leb 1 h.items some, le-leb h.items (most_items h.version) items) refl
+
+-- what stands behind a word, where other words follow
+abbrev tail_text : List (List ℕ) → Option (List ℕ)
+tail_text [] = None
+tail_text (w ∷ ws) = Some (w ++ later_text ws)
+
+word_before : (word : List ℕ) (ws : List (List ℕ)) → IsWord word → first_of (word ++ later_text ws) ≡ (word, tail_text ws)
+word_before word [] is = first_of_last word is
+word_before word (w ∷ ws) is = first_of_more word w ws is
+
+name_again : (n : Name) (ws : List (List ℕ)) → n.at.group < 65535 → n.at.item < 1024 → n.release < 2 ^ 32 → name_said (codes "<" ++ later_text (decimal n.at.group ∷ decimal n.at.item ∷ decimal n.release ∷ ws)) ≡ Some (n, tail_text ws)
+unfolding name_said
+name_again n ws group item release =
+    let w0 = first_of_more (codes "<") (decimal n.at.group) (decimal n.at.item ∷ decimal n.release ∷ ws) (key_word (codes "<") refl) in
+    let w1 = first_of_more (decimal n.at.group) (decimal n.at.item) (decimal n.release ∷ ws) (decimal_word n.at.group (omega arith)) in
+    let w2 = first_of_more (decimal n.at.item) (decimal n.release) ws (decimal_word n.at.item (omega arith)) in
+    let w3 = word_before (decimal n.release) ws (decimal_word n.release release) in
+    rw (w0, w1, w2, w3, same_self (codes "<"), short_again n.at.group (omega arith), short_again n.at.item (omega arith), number_back n.release release) refl
+
+names_again : (names : List Name) (most : ℕ) → length names ≤ most → All IsNameInRange names → names_said (tail_text (names_words names)) most ≡ Some names
+unfolding names_said
+names_again [] most few each = refl
+names_again (n ∷ names) zero few each = absurd (omega arith)
+names_again (n ∷ names) (suc most) few each =
+    let here = each 0 n (omega arith) in
+    let release : n.release < 16777216 = here.2 in
+    let one = name_again n (names_words names) here.0 here.1 (omega arith) in
+    let ih = names_again names most (omega arith) (λ k d lt. each (suc k) d (omega arith)) in
+    rw (one, ih) refl
+
+-- ---- the words behind the item
+
+not_both : (b : Bool) → b ≡ false → b ≡ true → ⊥
+not_both b p q = absurd cc
+
+none_named : (kind : Kind) (n : Name) (names : List Name) → IsNamingOk kind (n ∷ names) → is_acquire_kind kind ≡ false → ⊥
+none_named kind n names ok other = not_both _ other ok.0
+
+atomic_again : (key : List ℕ) (kind : Kind) (item : ℕ) (space : Space) (word : ℕ) (scope : Scope) (order : Order) (names : List Name) → kind_said key scope order ≡ Some kind → IsNamingOk kind names
+    → atomic_said key item space word (scope_word scope ++ later_text (order_word order ∷ names_words names)) ≡ Some (record { item = item; kind = kind; space = space; word = word; names = names })
+unfolding atomic_said
+atomic_again key kind item space word scope order names is ok =
+    let w0 = first_of_more (scope_word scope) (order_word order) (names_words names) (scope_is_word scope) in
+    let w1 = word_before (order_word order) (names_words names) (order_is_word order) in
+    let said = names_again names 4 (few_names kind names ok) (each_in_range kind names ok) in
+    rw (w0, w1, scope_again scope, order_again order, is, said, naming_back Four kind names ok (each_in_range kind names ok)) refl
+
+module _ (item word : ℕ) (space : Space) (fits : word < 2 ^ 32) where
+  abbrev place_words : List (List ℕ) → List (List ℕ)
+  place_words more = space_word space ∷ decimal word ∷ more
+
+  read_again : event_said item (codes "r" ++ later_text (place_words [])) ≡ Some (record { item = item; kind = Read; space = space; word = word; names = [] })
+  unfolding event_said same
+  read_again =
+      let w0 = first_of_more (codes "r") (space_word space) (decimal word ∷ []) (key_word (codes "r") refl) in
+      let w1 = first_of_more (space_word space) (decimal word) [] (space_is_word space) in
+      let w2 = first_of_last (decimal word) (decimal_word word fits) in
+      rw (w0, w1, w2, space_again space, number_back word fits) refl
+
+  write_again : event_said item (codes "w" ++ later_text (place_words [])) ≡ Some (record { item = item; kind = Write; space = space; word = word; names = [] })
+  unfolding event_said same
+  write_again =
+      let w0 = first_of_more (codes "w") (space_word space) (decimal word ∷ []) (key_word (codes "w") refl) in
+      let w1 = first_of_more (space_word space) (decimal word) [] (space_is_word space) in
+      let w2 = first_of_last (decimal word) (decimal_word word fits) in
+      rw (w0, w1, w2, space_again space, number_back word fits) refl
+
+  barrier_again : (global local : Bool) → event_said item (codes "bar" ++ later_text (decimal word ∷ flags_word global local ∷ [])) ≡ Some (record { item = item; kind = Barrier global local; space = Global; word = word; names = [] })
+  unfolding event_said barrier_said same
+  barrier_again global local =
+      let w0 = first_of_more (codes "bar") (decimal word) (flags_word global local ∷ []) (key_word (codes "bar") refl) in
+      let w1 = first_of_more (decimal word) (flags_word global local) [] (decimal_word word fits) in
+      let w2 = first_of_last (flags_word global local) (flags_are_word global local) in
+      rw (w0, w1, w2, number_back word fits, flags_again global local) refl
+
+  module _ (scope : Scope) (order : Order) (names : List Name) where
+    abbrev words_behind : List (List ℕ)
+    words_behind = scope_word scope ∷ order_word order ∷ names_words names
+
+    load_again : IsNamingOk (Load scope order) names → event_said item (codes "ld" ++ later_text (place_words words_behind)) ≡ Some (record { item = item; kind = Load scope order; space = space; word = word; names = names })
+    unfolding event_said kind_said same
+    load_again ok =
+        let w0 = first_of_more (codes "ld") (space_word space) (decimal word ∷ words_behind) (key_word (codes "ld") refl) in
+        let w1 = first_of_more (space_word space) (decimal word) words_behind (space_is_word space) in
+        let w2 = first_of_more (decimal word) (scope_word scope) (order_word order ∷ names_words names) (decimal_word word fits) in
+        rw (w0, w1, w2, space_again space, number_back word fits) (atomic_again (codes "ld") (Load scope order) item space word scope order names refl ok)
+
+    store_again : IsNamingOk (Store scope order) names → event_said item (codes "st" ++ later_text (place_words words_behind)) ≡ Some (record { item = item; kind = Store scope order; space = space; word = word; names = names })
+    unfolding event_said kind_said same
+    store_again ok =
+        let w0 = first_of_more (codes "st") (space_word space) (decimal word ∷ words_behind) (key_word (codes "st") refl) in
+        let w1 = first_of_more (space_word space) (decimal word) words_behind (space_is_word space) in
+        let w2 = first_of_more (decimal word) (scope_word scope) (order_word order ∷ names_words names) (decimal_word word fits) in
+        rw (w0, w1, w2, space_again space, number_back word fits) (atomic_again (codes "st") (Store scope order) item space word scope order names refl ok)
+
+    rmw_again : IsNamingOk (Rmw scope order) names → event_said item (codes "rmw" ++ later_text (place_words words_behind)) ≡ Some (record { item = item; kind = Rmw scope order; space = space; word = word; names = names })
+    unfolding event_said kind_said same
+    rmw_again ok =
+        let w0 = first_of_more (codes "rmw") (space_word space) (decimal word ∷ words_behind) (key_word (codes "rmw") refl) in
+        let w1 = first_of_more (space_word space) (decimal word) words_behind (space_is_word space) in
+        let w2 = first_of_more (decimal word) (scope_word scope) (order_word order ∷ names_words names) (decimal_word word fits) in
+        rw (w0, w1, w2, space_again space, number_back word fits) (atomic_again (codes "rmw") (Rmw scope order) item space word scope order names refl ok)
+
+-- ---- the whole line
+
+checked_again : (v : Version) (e : Event) → e.item < most_items v → is_order_ok e.kind ≡ true → is_naming_ok v e.kind e.names ≡ true → checked v e ≡ Some e
+checked_again v e lt order named = rw (lt-ltb e.item (most_items v) lt, order, named) refl
+
+few_items : (v : Version) → most_items v ≤ 1024
+few_items v = items_within v
+
+-- a line of a stream of one version
+module _ (v : Version) where
+  event_line : (e : Event) (key : List ℕ) (words : List (List ℕ)) → e.item < most_items v → is_order_ok e.kind ≡ true → is_naming_ok v e.kind e.names ≡ true → event_said e.item (key ++ later_text words) ≡ Some e
+      → line_said v (decimal e.item ++ later_text (key ∷ words)) ≡ Some (lines.Event e)
+  unfolding line_said
+  event_line e key words lt order named is =
+      let few = few_items v in
+      let w = first_of_more (decimal e.item) key words (decimal_word e.item (omega arith)) in
+      rw (w, no_key e.item (codes "group") (omega arith) refl, no_key e.item (codes "end") (omega arith) refl, short_again e.item (omega arith), is) (ap (λ (o : Option Event). o >>= λ x. Some (lines.Event x)) (checked_again v e lt order named))
+
+  end_again : (cut : Bool) → line_said v (line_text (lines.Event (end_of cut))) ≡ Some (lines.Event (end_of cut))
+  unfolding line_said same
+  end_again true = rw (first_of_more (codes "end") (codes "cut") [] (key_word (codes "end") refl)) refl
+  end_again false = rw (first_of_last (codes "end") (key_word (codes "end") refl)) refl
+
+  event_again : (item word : ℕ) (kind : Kind) (space : Space) (names : List Name) → item < most_items v → word < 2 ^ 32 → IsNamingOk kind names → is_naming_ok v kind names ≡ true → IsKindOk kind item space word
+      → line_said v (line_text (lines.Event (record { item = item; kind = kind; space = space; word = word; names = names }))) ≡ Some (lines.Event (record { item = item; kind = kind; space = space; word = word; names = names }))
+  event_again item word Read space [] lt fits naming named ok = event_line _ (codes "r") (space_word space ∷ decimal word ∷ []) lt refl named (read_again item word space fits)
+  event_again item word Read space (n ∷ names) lt fits naming named ok = absurd (none_named Read n names naming refl)
+  event_again item word Write space [] lt fits naming named ok = event_line _ (codes "w") (space_word space ∷ decimal word ∷ []) lt refl named (write_again item word space fits)
+  event_again item word Write space (n ∷ names) lt fits naming named ok = absurd (none_named Write n names naming refl)
+  event_again item word (Load scope order) space names lt fits naming named ok = event_line _ (codes "ld") (space_word space ∷ decimal word ∷ scope_word scope ∷ order_word order ∷ names_words names) lt (ap not ok) named (load_again item word space fits scope order names naming)
+  event_again item word (Store scope order) space names lt fits naming named ok = event_line _ (codes "st") (space_word space ∷ decimal word ∷ scope_word scope ∷ order_word order ∷ names_words names) lt (ap not ok) named (store_again item word space fits scope order names naming)
+  event_again item word (Rmw scope order) space names lt fits naming named ok = event_line _ (codes "rmw") (space_word space ∷ decimal word ∷ scope_word scope ∷ order_word order ∷ names_words names) lt refl named (rmw_again item word space fits scope order names naming)
+  event_again item word (Barrier global local) space [] lt fits naming named ok = rw ok (event_line _ (codes "bar") (decimal word ∷ flags_word global local ∷ []) lt refl named (barrier_again item word space fits global local))
+  event_again item word (Barrier global local) space (n ∷ names) lt fits naming named ok = absurd (none_named (Barrier global local) n names naming refl)
+  event_again item word (End true) space [] lt fits naming named ok = rw (ok.0, ok.1, ok.2) (end_again true)
+  event_again item word (End false) space [] lt fits naming named ok = rw (ok.0, ok.1, ok.2) (end_again false)
+  event_again item word (End cut) space (n ∷ names) lt fits naming named ok = absurd (none_named (End cut) n names naming refl)
+
+pub text_is_read : TextIsRead
+text_is_read v (lines.Header h) ok = header_again v h ok
+text_is_read v (lines.Event e) (ok, range) = event_again v e.item e.word e.kind e.space e.names ok.ok.0 ok.word ok.ok.1 (naming_back v e.kind e.names ok.ok.1 range) ok.ok.2

@@ -1,0 +1,37 @@
+use Rattle.std.proofs.Common.{◌≡◌, ℕ, ◌+◌, ◌-◌, ◌<◌, ◌≤◌, List, [], ◌∷◌, ◌++◌, length, take, Option, Some, None, sym, ap, ◌∙◌, arith}
+use Rattle.std.specs.Option.{option_map}
+use Rattle.std.proofs.lemmas.List.{take_more_set, length-set}
+use Rattle.gr_text.specs.LineReading.{names_said}
+use Rattle.gr_text.proofs.NamesRead.{over, too_many, no_name, one_more, names_before}
+use Rattle.gr_text.proofs.parsing.parse_names.Goals as goal
+
+pub returns-in_default-clause-names : goal.returns-in_default-clause-names
+returns-in_default-clause-names c =
+    let so_far = rw c.in_default.is at c.loop-place.invariant.1 in
+    over (take c.loop-place.place c.loop-place.names) c.loop-place.place _ so_far
+
+pub returns-in_err-name-clause-names : goal.returns-in_err-name-clause-names
+returns-in_err-name-clause-names c =
+    let so_far = rw c.in-Some.is at c.loop-place.invariant.1 in
+    let none = rw c.in_err-name.was at c.parse_name.ensures in
+    rw c.from_residual.ensures (no_name (take c.loop-place.place c.loop-place.names) c.loop-place.place _ _ c.loop-place-test.true so_far (sym none))
+
+pub loop-place-preserved : goal.loop-place-preserved
+loop-place-preserved c =
+    let so_far = rw c.in-Some.is at c.loop-place.invariant.1 in
+    let room : c.loop-place.place < length c.loop-place.names = omega (arith, c.loop-place-test.true, c.loop-place.invariant.0) in
+    rw (take_more_set c.loop-place.names c.loop-place.place c.in_ok-name.name room) (
+      length-set c.loop-place.names c.loop-place.place c.in_ok-name.name ∙ c.loop-place.invariant.0,
+      one_more (take c.loop-place.place c.loop-place.names) c.loop-place.place _ _ c.loop-place-test.true so_far c.in_ok-name.name _ (sym c.in_ok-name.ensures),
+    )
+
+pub returns-in-None-clause-names : goal.returns-in-None-clause-names
+returns-in-None-clause-names c =
+    let e : c.loop-place.place ≡ 4 = omega (arith, c.loop-place-test.false, c.loop-place.auto.place-end) in
+    let so_far = rw (c.in-None.is, e) at c.loop-place.invariant.1 in
+    over (take 4 c.loop-place.names) 4 _ so_far
+
+pub returns-in-Some-rest-clause-names : goal.returns-in-Some-rest-clause-names
+returns-in-Some-rest-clause-names c =
+    let so_far = rw c.in-Some-rest.is at c.loop-place.invariant.1 in
+    too_many (take c.loop-place.place c.loop-place.names) c.loop-place.place _ _ c.loop-place-test.false so_far

@@ -1,0 +1,391 @@
+//! Reading the line of a header and of a record.
+
+ghost use Rattle.std.specs.Prelude.{◌≡◌, ◌≢◌, ◌^◌, ◌<◌, ◌++◌, ℕ, List, Some, None, IfSome, MatchOption, All, decimal, ◌≤◌, take, []};
+ghost use Rattle.std.specs.Option.{option_map};
+ghost use Rattle.gr_text.specs.LineReading.{behind_space, space_said, scope_said, order_said, flags_said, header_made, header_said, version_said, name_said, names_said, kind_said, atomic_said, barrier_said, event_said, checked, line_said, unspaced, site_said, sited_said};
+ghost use Rattle.gr_text.specs.declared.line.Line.{Line};
+ghost use Rattle.gr_text.specs.declared.line.SitedLine.{SitedLine};
+ghost use Rattle.gr_text.specs.LineText.{line_text, sited_text};
+ghost use Rattle.gr_text.specs.LineLaws.{IsSaid, IsSitedSaid};
+ghost use Rattle.gr_record.specs.declared.header.Version.TheVariants.{Two};
+
+use crate::line::{Line, SitedLine};
+use crate::words::{is_word, parse_number, parse_short, split_at_mark, split_word};
+use gr_model::event::{Event, ItemId, Kind, Name, Order, Scope, Space};
+use gr_model::limits::MOST_NAMES;
+use gr_model::names::Names;
+use gr_record::header::{Header, Version};
+use gr_record::reading::{naming, order_fits};
+
+/// What stands in the places of an array of names that are not used.
+const UNUSED: Name = Name {
+    at: ItemId { group: 0, item: 0 },
+    release: 0,
+};
+
+#[tactic(auto, unfolding(crate::specs::LineReading::space_said))]
+fn parse_space(word: &[u8]) -> Option<Space>
+    ensures { result ≡ space_said word.now }
+{
+    if is_word(word, "g") {
+        Some(Space::Global)
+    } else if is_word(word, "l") {
+        Some(Space::Local)
+    } else {
+        None
+    }
+}
+
+#[tactic(auto, unfolding(crate::specs::LineReading::scope_said))]
+fn parse_scope(word: &[u8]) -> Option<Scope>
+    ensures { result ≡ scope_said word.now }
+{
+    if is_word(word, "grp") {
+        Some(Scope::Group)
+    } else if is_word(word, "dev") {
+        Some(Scope::Device)
+    } else {
+        None
+    }
+}
+
+#[tactic(auto, unfolding(crate::specs::LineReading::order_said))]
+fn parse_order(word: &[u8]) -> Option<Order>
+    ensures { result ≡ order_said word.now }
+{
+    if is_word(word, "rlx") {
+        Some(Order::Relaxed)
+    } else if is_word(word, "acq") {
+        Some(Order::Acquire)
+    } else if is_word(word, "rel") {
+        Some(Order::Release)
+    } else if is_word(word, "both") {
+        Some(Order::Both)
+    } else {
+        None
+    }
+}
+
+/// The memories that a barrier's flags name, the global one first.
+#[tactic(auto, unfolding(crate::specs::LineReading::flags_said))]
+fn parse_flags(word: &[u8]) -> Option<(bool, bool)>
+    ensures { result ≡ flags_said word.now }
+{
+    if is_word(word, "-") {
+        Some((false, false))
+    } else if is_word(word, "g") {
+        Some((true, false))
+    } else if is_word(word, "l") {
+        Some((false, true))
+    } else if is_word(word, "gl") {
+        Some((true, true))
+    } else {
+        None
+    }
+}
+
+/// The header of these numbers, if they are in range.
+fn make_header(version: Version, group: u16, items: u16, launch: u32) -> Option<Header>
+    ensures { result ≡ header_made version group items launch }
+{
+    if usize::from(group) < version.most_groups() && 1 <= items && items <= version.most_items() {
+        Some(Header {
+            version,
+            group,
+            items,
+            launch,
+        })
+    } else {
+        None
+    }
+}
+
+/// The version, of which this stands behind the launch in the line of a header.
+fn parse_version(bytes: Option<&[u8]>) -> Option<Version>
+    ensures { result ≡ version_said (option_map (λ rest. rest.now) bytes.entry) }
+{
+    match bytes {
+        None => Some(Version::One),
+        Some(word) if is_word(word, "v2") => Some(Version::Two),
+        Some(word) if is_word(word, "v3") => Some(Version::Three),
+        Some(word) if is_word(word, "v4") => Some(Version::Four),
+        Some(_) => None,
+    }
+}
+
+/// What stands behind `group` in the line of a header.
+#[tactic(auto, unfolding(crate::specs::LineReading::header_said))]
+fn parse_header(bytes: &[u8]) -> Option<Header>
+    ensures { result ≡ header_said bytes.now }
+{
+    let (group, rest) = split_word(bytes);
+    let (key, rest) = split_word(rest?);
+    let (items, rest) = split_word(rest?);
+    let (other_key, rest) = split_word(rest?);
+    let (launch, rest) = split_word(rest?);
+    let version = parse_version(rest)?;
+    if !is_word(key, "items") || !is_word(other_key, "launch") {
+        return None;
+    }
+    make_header(
+        version,
+        parse_short(group)?,
+        parse_short(items)?,
+        parse_number(launch)?,
+    )
+}
+
+/// The name at the start of the bytes, and what stands behind it.
+#[tactic(auto, unfolding(crate::specs::LineReading::name_said))]
+fn parse_name(bytes: &[u8]) -> Option<(Name, Option<&[u8]>)>
+    ensures { option_map (λ x. (x.0, option_map (λ rest. rest.now) x.1)) result ≡ name_said bytes.now }
+{
+    let (sign, rest) = split_word(bytes);
+    let (group, rest) = split_word(rest?);
+    let (item, rest) = split_word(rest?);
+    let (release, rest) = split_word(rest?);
+    if !is_word(sign, "<") {
+        return None;
+    }
+    let at = ItemId {
+        group: parse_short(group)?,
+        item: parse_short(item)?,
+    };
+    let release = parse_number(release)?;
+    Some((Name { at, release }, rest))
+}
+
+/// The names that stand behind an acquire's order, if anything stands there, and how many places of the array they are.
+fn parse_names(bytes: Option<&[u8]>) -> Option<([Name; MOST_NAMES], usize)>
+    ensures few { IfSome result (λ x. x.1 ≤ MOST_NAMES) }
+    ensures names { option_map (λ x. take x.1 x.0) result ≡ names_said (option_map (λ rest. rest.now) bytes.entry) MOST_NAMES }
+{
+    let mut names = [UNUSED; MOST_NAMES];
+    let mut rest = bytes;
+    for place in 0..MOST_NAMES {
+        let Some(bytes) = rest else {
+            return Some((names, place));
+        };
+        let (name, behind) = parse_name(bytes)?;
+        names[place] = name;
+        rest = behind;
+    }
+    match rest {
+        None => Some((names, MOST_NAMES)),
+        Some(_) => None,
+    }
+}
+
+#[tactic(auto, unfolding(crate::specs::LineReading::kind_said))]
+fn parse_kind(word: &[u8], scope: Scope, order: Order) -> Option<Kind>
+    ensures { result ≡ kind_said word.now scope order }
+{
+    if is_word(word, "ld") {
+        Some(Kind::Load(scope, order))
+    } else if is_word(word, "st") {
+        Some(Kind::Store(scope, order))
+    } else if is_word(word, "rmw") {
+        Some(Kind::Rmw(scope, order))
+    } else {
+        None
+    }
+}
+
+/// An atomic access, of which these bytes stand behind the word.
+#[tactic(auto, unfolding(crate::specs::LineReading::atomic_said))]
+fn parse_atomic(kind: &[u8], item: u16, space: Space, word: u32, bytes: &[u8]) -> Option<Event>
+    ensures { result ≡ atomic_said kind.now item space word bytes.now }
+{
+    let (scope, rest) = split_word(bytes);
+    let (order, rest) = split_word(rest?);
+    let scope = parse_scope(scope)?;
+    let order = parse_order(order)?;
+    let kind = parse_kind(kind, scope, order)?;
+    let (names, used) = parse_names(rest)?;
+    let names = naming(Version::Four, kind, &names[..used])?;
+    Some(Event {
+        item,
+        kind,
+        space,
+        word,
+        names,
+    })
+}
+
+#[tactic(auto, unfolding(crate::specs::LineReading::barrier_said))]
+fn parse_barrier(item: u16, site: &[u8], flags: &[u8]) -> Option<Event>
+    ensures { result ≡ barrier_said item site.now flags.now }
+{
+    let word = parse_number(site)?;
+    let (global, local) = parse_flags(flags)?;
+    Some(Event {
+        item,
+        kind: Kind::Barrier { global, local },
+        space: Space::Global,
+        word,
+        names: Names::none(),
+    })
+}
+
+/// A record that carries no name.
+fn plain(item: u16, kind: Kind, space: Space, word: u32) -> Event
+    ensures { result ≡ record { item = item; kind = kind; space = space; word = word; names = [] } }
+{
+    Event {
+        item,
+        kind,
+        space,
+        word,
+        names: Names::none(),
+    }
+}
+
+/// What stands behind the item in the line of a record.
+#[tactic(auto, unfolding(crate::specs::LineReading::event_said))]
+fn parse_event(item: u16, bytes: &[u8]) -> Option<Event>
+    ensures { result ≡ event_said item bytes.now }
+{
+    let (kind, rest) = split_word(bytes);
+    let (second, rest) = split_word(rest?);
+    let (third, rest) = split_word(rest?);
+    if is_word(kind, "bar") {
+        return if rest.is_some() {
+            None
+        } else {
+            parse_barrier(item, second, third)
+        };
+    }
+    let space = parse_space(second)?;
+    let word = parse_number(third)?;
+    if is_word(kind, "r") {
+        return if rest.is_some() {
+            None
+        } else {
+            Some(plain(item, Kind::Read, space, word))
+        };
+    }
+    if is_word(kind, "w") {
+        return if rest.is_some() {
+            None
+        } else {
+            Some(plain(item, Kind::Write, space, word))
+        };
+    }
+    parse_atomic(kind, item, space, word, rest?)
+}
+
+/// The event, if some stream of this version may have it.
+fn check(version: Version, event: Event) -> Option<Event>
+    ensures { result ≡ checked version event }
+{
+    if event.item < version.most_items()
+        && order_fits(event.kind)
+        && naming(version, event.kind, event.names.as_slice()).is_some()
+    {
+        Some(event)
+    } else {
+        None
+    }
+}
+
+/// What a line of a stream of this version says, word by word.
+#[tactic(auto, unfolding(crate::specs::LineReading::line_said))]
+fn read_line(version: Version, line: &[u8]) -> Option<Line>
+    ensures { result ≡ line_said version line.now }
+{
+    let (first, rest) = split_word(line);
+    if is_word(first, "group") {
+        return Some(Line::Header(parse_header(rest?)?));
+    }
+    if is_word(first, "end") {
+        return match rest {
+            None => Some(Line::Event(Event::end(false))),
+            Some(bytes) if is_word(bytes, "cut") => Some(Line::Event(Event::end(true))),
+            Some(_) => None,
+        };
+    }
+    let item = parse_short(first)?;
+    let event = parse_event(item, rest?)?;
+    Some(Line::Event(check(version, event)?))
+}
+
+/// The bytes before a space that ends them, if one does.
+#[tactic(auto, unfolding(crate::specs::LineReading::unspaced))]
+fn before_space(bytes: &[u8]) -> Option<&[u8]>
+    ensures { option_map (λ front. front.now) result ≡ unspaced bytes.now }
+{
+    if bytes.is_empty() {
+        return None;
+    }
+    let last = bytes.len() - 1;
+    if bytes[last] == b' ' {
+        Some(&bytes[..last])
+    } else {
+        None
+    }
+}
+
+/// The number of a site, which is not 0.
+#[tactic(auto, unfolding(crate::specs::LineReading::site_said))]
+fn parse_site(word: &[u8]) -> Option<u16>
+    ensures { result ≡ site_said word.now }
+{
+    let site = parse_short(word)?;
+    if site == 0 { None } else { Some(site) }
+}
+
+/// What a line of a stream of this version says, with the site at its end.
+#[tactic(auto, unfolding(crate::specs::LineReading::sited_said))]
+fn read_sited_line(version: Version, line: &[u8]) -> Option<SitedLine>
+    ensures { result ≡ sited_said version line.now }
+{
+    let (before, behind) = split_at_mark(line, b'@');
+    let Some(behind) = behind else {
+        let line = read_line(version, before)?;
+        return Some(SitedLine { line, site: 0 });
+    };
+    if !version.has_sites() {
+        return None;
+    }
+    let site = parse_site(behind)?;
+    match read_line(version, before_space(before)?)? {
+        Line::Header(_) => None,
+        Line::Event(event) => Some(SitedLine {
+            line: Line::Event(event),
+            site,
+        }),
+    }
+}
+
+/// What a line says, given without its line feed, or `None` if the text form of a stream of versions 1 and 2 has no such
+/// line (docs/FORMATS.md, "Text form").
+pub fn parse_line(line: &[u8]) -> Option<Line>
+    // What is read has this line.
+    ensures found { IfSome result (λ l. IsSaid Two l × (line.now ≡ line_text l)) }
+    // What has this line is read.
+    ensures only { (l : Line) → IsSaid Two l → line.now ≡ line_text l → result ≡ Some l }
+{
+    parse_line_of(Version::Two, line)
+}
+
+/// What a line says, given without its line feed, or `None` if the text form of a stream of this version has no such line
+/// (docs/FORMATS.md, "Text form"). A header is read whatever its own version is.
+pub fn parse_line_of(version: Version, line: &[u8]) -> Option<Line>
+    // What is read has this line.
+    ensures found { IfSome result (λ l. IsSaid version l × (line.now ≡ line_text l)) }
+    // What has this line is read.
+    ensures only { (l : Line) → IsSaid version l → line.now ≡ line_text l → result ≡ Some l }
+{
+    read_line(version, line)
+}
+
+/// What a line says with its site, given without its line feed, or `None` if the text form of a stream of this version has
+/// no such line (docs/FORMATS.md, "Text form"). A header is read whatever its own version is, and has no site.
+pub fn parse_sited_line(version: Version, line: &[u8]) -> Option<SitedLine>
+    // What is read has this line.
+    ensures found { IfSome result (λ l. IsSitedSaid version l × (line.now ≡ sited_text l)) }
+    // What has this line is read.
+    ensures only { (l : SitedLine) → IsSitedSaid version l → line.now ≡ sited_text l → result ≡ Some l }
+{
+    read_sited_line(version, line)
+}

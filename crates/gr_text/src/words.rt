@@ -1,0 +1,65 @@
+//! The words of a line.
+
+ghost use Rattle.std.specs.Prelude.{◌≡◌, MatchOption};
+ghost use Rattle.std.specs.Option.{option_map};
+ghost use Rattle.gr_text.specs.LineReading.{IsFirst, IsWithout, cut_at, first_of, number_of, same, short_of};
+
+use itoa::Buffer;
+
+/// Whether a word is this one.
+#[tactic(auto, unfolding(crate::specs::LineReading::same))]
+pub fn is_word(word: &[u8], expected: &str) -> bool
+    ensures { result ≡ same word.now expected.now }
+{
+    word == expected.as_bytes()
+}
+
+/// The number below 2^32 of which the word is the text.
+pub fn parse_number(word: &[u8]) -> Option<u32>
+    ensures { result ≡ number_of word.now }
+{
+    let number = str::from_utf8(word).ok()?.parse::<u32>().ok()?;
+    let mut buffer = Buffer::new();
+    if buffer.format(number).as_bytes() == word {
+        Some(number)
+    } else {
+        None
+    }
+}
+
+/// The number below 2^16 of which the word is the text.
+#[tactic(auto, unfolding(crate::specs::LineReading::short_of))]
+pub fn parse_short(word: &[u8]) -> Option<u16>
+    ensures { result ≡ short_of word.now }
+{
+    let number = parse_number(word)?;
+    if number < 65_536 {
+        Some(number as u16)
+    } else {
+        None
+    }
+}
+
+/// The place of the first byte that is this one.
+fn first_place(bytes: &[u8], mark: u8) -> Option<usize>
+    ensures { MatchOption result (IsWithout mark bytes.now) (λ at. IsFirst mark bytes.now at) }
+{
+    bytes.iter().position(|byte| *byte == mark)
+}
+
+/// What stands before the first byte that is this one, and what stands behind it, if there is one.
+pub(crate) fn split_at_mark(bytes: &[u8], mark: u8) -> (&[u8], Option<&[u8]>)
+    ensures { (result.0.now, option_map (λ rest. rest.now) result.1) ≡ cut_at mark bytes.now }
+{
+    match first_place(bytes, mark) {
+        None => (bytes, None),
+        Some(at) => (&bytes[..at], Some(&bytes[at + 1..])),
+    }
+}
+
+/// The first word, and what stands behind its space, if there is one.
+pub fn split_word(bytes: &[u8]) -> (&[u8], Option<&[u8]>)
+    ensures { (result.0.now, option_map (λ rest. rest.now) result.1) ≡ first_of bytes.now }
+{
+    split_at_mark(bytes, b' ')
+}

@@ -1,0 +1,5 @@
+use Rattle.std.proofs.Common.{◌≡◌}
+use Rattle.gr_threads.proofs.batching.push_waiting.Given as goal
+
+abbrev pub invariant-loop : goal.invariant-loop
+invariant-loop g l = (l.sender ≡ l.initial.sender) × (l.batch ≡ l.initial.batch)

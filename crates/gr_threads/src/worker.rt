@@ -1,0 +1,164 @@
+//! A worker, at its start and at its end.
+//!
+//! Invariant of its end: it popped the word that there are no more accesses, and its shadows, where memory never
+//! ran out, stand for all accesses that it popped.
+
+ghost use Rattle.std.specs.Prelude.{◌≡◌, ◌<◌, ◌++◌, ◌∷◌, [], true, false, IfOk, IfSome, List, MatchOption};
+ghost use Rattle.std.specs.Arc.{arc_value};
+ghost use Rattle.gr_clocks.specs.ClockedAccess.{ClockedAccess, clocked};
+ghost use Rattle.gr_model.specs.Reports.{Lists, WordBelow};
+ghost use Rattle.gr_shadow.specs.Clashes.{IsHitIn};
+ghost use Rattle.gr_shadow.specs.StandsFor.{StandsFor};
+ghost use Rattle.gr_route.specs.WorkRule.{is_stopped};
+ghost use Rattle.gr_threads.specs.Given.{accesses_in};
+
+use crate::idle::Idle;
+use crate::watch::Watch;
+use gr_clocks::access::Access;
+use gr_model::event::Word;
+use gr_model::memory::Memory;
+use gr_route::work::{GiverSeat, Work, WorkQueue, WorkerSeat};
+use gr_shadow::shadows::Shadows;
+use std::alloc::{Allocator, Global};
+use std::marker::Model;
+use std::sync::{Arc, Wait};
+use std::time::Clock;
+
+/// A worker that has popped nothing. Contracts see its seat.
+#[derive(Drop)]
+pub struct Worker<A: Allocator = Global> {
+    number: u16,
+    queue: Arc<WorkQueue<A>, A>,
+    seat: WorkerSeat<A>,
+}
+
+impl<A: Allocator> Model for Worker<A> {
+    ghost use Rattle.std.specs.Prelude.{◌≡◌, []};
+    ghost use Rattle.std.specs.Arc.{arc_value};
+    ghost use Rattle.gr_route.specs.WorkSeats.{Worker as WorkerLists};
+
+    ghost Value = { WorkerLists A };
+
+    ghost view = { λ w. w.seat };
+
+    ghost invariant = { λ w. (w.seat.queue ≡ (arc_value w.queue).queue) × (w.seat.popped ≡ []) };
+}
+
+/// A worker that has stopped. Contracts see its seat.
+#[derive(Drop)]
+pub struct WorkerEnd<A: Allocator = Global> {
+    queue: Arc<WorkQueue<A>, A>,
+    seat: WorkerSeat<A>,
+    // None where memory ran out.
+    shadows: Option<Shadows<A>>,
+}
+
+impl<A: Allocator> Model for WorkerEnd<A> {
+    ghost use Rattle.std.specs.Prelude.{◌≡◌, IfSome, IsTrue};
+    ghost use Rattle.std.specs.Arc.{arc_value};
+    ghost use Rattle.gr_route.specs.WorkRule.{is_stopped};
+    ghost use Rattle.gr_route.specs.WorkSeats.{Worker as WorkerLists};
+    ghost use Rattle.gr_shadow.specs.StandsFor.{StandsFor};
+    ghost use Rattle.gr_threads.specs.Given.{accesses_in};
+
+    ghost Value = { WorkerLists A };
+
+    ghost view = { λ w. w.seat };
+
+    ghost invariant = { λ w. (w.seat.queue ≡ (arc_value w.queue).queue) × IsTrue (is_stopped w.seat.popped) × IfSome w.shadows (StandsFor (accesses_in w.seat.popped)) };
+}
+
+impl<A: Allocator> Worker<A> {
+    /// The worker with a number, over the popping seat of its queue, which has popped nothing.
+    pub fn new(number: u16, queue: Arc<WorkQueue<A>, A>, seat: WorkerSeat<A>) -> Worker<A>
+        requires queue { seat.queue ≡ (arc_value queue).queue }
+        requires fresh { seat.popped ≡ [] }
+        ensures { result ≡ seat }
+    {
+        Worker {
+            number,
+            queue,
+            seat,
+        }
+    }
+}
+
+/// Gives shadows an access, if memory never ran out before. They are gone where it runs out now.
+fn shade<A: Allocator + Copy, W: Watch>(
+    shadows: Option<Shadows<A>>,
+    number: u16,
+    access: &Access<A>,
+    watch: &Arc<W, A>,
+) -> Option<Shadows<A>>
+    ensures { (accesses : List ClockedAccess) → IfSome shadows (StandsFor accesses) → IfSome result (StandsFor (accesses ++ clocked access.now ∷ [])) }
+{
+    let mut shadows = shadows?;
+    watch.at_access(number);
+    match shadows.apply(access) {
+        Ok(None) => Some(shadows),
+        Ok(Some(word)) => {
+            watch.at_race(number, &word);
+            Some(shadows)
+        }
+        Err(Memory) => None,
+    }
+}
+
+/// Applies the accesses that come through the worker's queue, until it is told to stop. Where memory runs out it goes on
+/// popping, and applies nothing more.
+pub fn work<R: Wait + Clock, A: Allocator + Copy, W: Watch>(
+    rt: &R,
+    alloc: A,
+    worker: Worker<A>,
+    watch: &Arc<W, A>,
+) -> WorkerEnd<A>
+    ensures { result.queue ≡ worker.queue }
+{
+    let Worker {
+        number,
+        queue,
+        mut seat,
+    } = worker;
+    let mut shadows = Some(Shadows::new(alloc));
+    let idle = Idle::new();
+    for _ in rt.forever() {
+        match queue.pop(rt, &mut seat) {
+            None => idle.wait(rt),
+            Some(Work::Access(access)) => {
+                idle.reset();
+                shadows = shade(shadows, number, &access, watch);
+            }
+            Some(Work::Stop) => {
+                return WorkerEnd {
+                    queue,
+                    seat,
+                    shadows,
+                };
+            }
+        }
+    }
+    unreachable!()
+}
+
+impl<A: Allocator + Copy> WorkerEnd<A> {
+    /// Takes the giver's seat back, and tells the words that are hit in the accesses that it gave, in ascending order, each
+    /// once.
+    ///
+    /// # Errors
+    /// `Memory`, also where memory ran out while the worker worked.
+    pub fn settle(self, giver: GiverSeat<A>) -> Result<Vec<Word, A>, Memory>
+        requires { giver.queue ≡ self.queue }
+        ensures { IfOk result (λ words. Lists WordBelow (IsHitIn (accesses_in giver.pushed)) words.items) }
+    {
+        let WorkerEnd {
+            queue,
+            mut seat,
+            shadows,
+        } = self;
+        queue.join_back(&mut seat, giver);
+        match shadows {
+            None => Err(Memory),
+            Some(shadows) => shadows.racy(),
+        }
+    }
+}

@@ -1,6 +1,0 @@
-use Rattle.std.proofs.Common.{◌≡◌}
-use Rattle.gr_threads_tests.specs.Senders.{IsSameSender}
-use Rattle.gr_threads_tests.proofs.detector.turns.send_all_in_turns.Given as goal
-
-abbrev pub invariant-loop-place : goal.invariant-loop-place
-invariant-loop-place g l = IsSameSender l.fn.sender l.sender

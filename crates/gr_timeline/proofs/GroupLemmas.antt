@@ -1,0 +1,94 @@
+-- What is known of the events of a group, and of those of all groups below a bound.
+use Rattle.std.proofs.Common.{◌≡◌, ℕ, ◌+◌, ◌<◌, ◌≤◌, List, [], ◌∷◌, ◌++◌, get_or, length, Option, Some, None, option_map, slice_get, take, refl, sym, ap, ◌∙◌, subst, ⊎_elim, arith, eq-or-lt_of_le}
+use Rattle.std.proofs.lemmas.Bool.{cases_lt}
+use Rattle.std.proofs.lemmas.List.{get_or_past, length-take-le, take_more}
+use Rattle.std.proofs.lemmas.Option.{slice_get_read}
+use Rattle.gr_model.specs.declared.event.Event.{Event}
+use Rattle.gr_model.specs.declared.event.EventId.{EventId}
+use Rattle.gr_model.specs.declared.event.Word.{Word}
+use Rattle.gr_model.specs.Streams.{IsAccepted, Streams, list_of}
+use Rattle.gr_timeline.specs.declared.counting.Count.{Count}
+use Rattle.gr_timeline.specs.declared.details.Details.{Details}
+use Rattle.gr_timeline.specs.Details.{details_of}
+use Rattle.gr_timeline.specs.Accesses.{AreAccesses, IsKnown, IsOn, details_at}
+use Rattle.gr_timeline.specs.Counting.{AreCounts, IsSmall, after_record, counted}
+use Rattle.gr_timeline.specs.Gathering.{AreKnownIn, AreOthersKept, IsKnownIn, KeepsRecord}
+use Rattle.gr_timeline.proofs.CountLemmas.{counted_small, counts_more}
+use Rattle.gr_timeline.proofs.RecordLemmas.{others_kept, record_known}
+
+-- nothing is known by no records
+pub none_known : (w : Word) (g : ℕ) (known : List (EventId × Details)) → ((e : EventId) → e.at.group ≡ g → details_at known e ≡ None) → AreKnownIn [] w g known
+none_known w g known none e group = subst (λ (o : Option Details). IsKnownIn [] w e o) (sym (none e group)) (λ on. let no : None ≡ Some w = on in cc)
+
+-- ---- the next record of a list
+
+module _ (items number : ℕ) (list : List Event) (x : Event) (accepted : IsAccepted items list) (lt : number < length list) (is : x ≡ get_or list number x) where
+  item_there : x.item < items
+  item_there = (accepted.good number x (slice_get_read list (length list) number x refl lt is)).0.0
+
+  first_length : length (take number list) ≡ number
+  first_length = length-take-le number list (omega (arith, lt))
+
+  with_next : take (number + 1) list ≡ take number list ++ x ∷ []
+  with_next = take_more list number x lt ∙ ap (λ (y : Event). take number list ++ y ∷ []) (sym is)
+
+  module _ (counts : List Count) (counted_first : AreCounts items (take number list) counts) where
+    pub item_within : x.item < length counts
+    item_within = omega (arith, item_there, counted_first.length_is)
+
+    pub count_small : (c : Count) → slice_get counts x.item ≡ Some c → IsSmall c
+    count_small c at =
+        let same : counted (take number list) x.item ≡ c = let both : Some (counted (take number list) x.item) ≡ Some c = sym (counted_first.each x.item item_there) ∙ at in cc in
+        subst IsSmall same (counted_small (take number list) x.item (omega (arith, lt, first_length, accepted.few)))
+
+    pub counts_next : (new : List Count) → length new ≡ length counts → ((i : ℕ) → slice_get new i ≡ option_map (after_record i x) (slice_get counts i)) → AreCounts items (take (number + 1) list) new
+    counts_next new same each = subst (λ (l : List Event). AreCounts items l new) (sym with_next) (counts_more items (take number list) x counts new same each counted_first)
+
+    module _ (w : Word) (g : ℕ) (c : Count) (at : slice_get counts x.item ≡ Some c) (old new : List (EventId × Details)) (keeps : KeepsRecord w g number x c old new) where
+      keeps_first : KeepsRecord w g (length (take number list)) x (counted (take number list) x.item) old new
+      keeps_first =
+          let same : c ≡ counted (take number list) x.item = let both : Some c ≡ Some (counted (take number list) x.item) = sym at ∙ counted_first.each x.item item_there in cc in
+          subst (λ (n : ℕ). KeepsRecord w g n x (counted (take number list) x.item) old new) (sym first_length)
+          (subst (λ (d : Count). KeepsRecord w g number x d old new) same keeps)
+
+      pub known_next : AreKnownIn (take number list) w g old → AreKnownIn (take (number + 1) list) w g new
+      known_next known = subst (λ (l : List Event). AreKnownIn l w g new) (sym with_next) (record_known (take number list) x w g old new keeps_first known)
+
+      pub others_next : (first : List (EventId × Details)) → AreOthersKept g first old → AreOthersKept g first new
+      others_next first others e other = others_kept (take number list) x w g old new keeps_first e other ∙ others e other
+
+-- ---- all groups
+
+-- of the groups below a bound all is known, and of others nothing
+pub record IsKnownBelow (s : Streams) (w : Word) (bound : ℕ) (known : List (EventId × Details)) : Type 0 where
+  pub before : (e : EventId) → e.at.group < bound → IsKnown s w e (details_at known e)
+  pub behind : (e : EventId) → bound ≤ e.at.group → details_at known e ≡ None
+
+pub none_below : (s : Streams) (w : Word) (known : List (EventId × Details)) → known ≡ [] → IsKnownBelow s w 0 known
+none_below s w known none = record { before = λ e lt. absurd (omega (arith, lt)); behind = λ e ge. ap (λ k. details_at k e) none }
+
+module _ (s : Streams) (w : Word) (g : ℕ) where
+  pub group_known : (list : List Event) (old new : List (EventId × Details)) → list ≡ list_of s g → AreKnownIn list w g new → AreOthersKept g old new → IsKnownBelow s w g old → IsKnownBelow s w (g + 1) new
+  group_known list old new is here others below = record {
+    before = λ e lt. ⊎_elim
+        (λ (same : e.at.group ≡ g). subst (λ (l : List Event). IsKnownIn l w e (details_at new e)) (is ∙ ap (list_of s) (sym same)) (here e same))
+        (λ (less : e.at.group < g). subst (λ (o : Option Details). IsKnown s w e o) (sym (others e (λ same. absurd (omega (arith, same, less))))) (below.before e less))
+        (eq-or-lt_of_le (let le : e.at.group ≤ g = omega (arith, lt) in le));
+    behind = λ e ge. others e (λ same. absurd (omega (arith, same, ge))) ∙ below.behind e (omega (arith, ge));
+  }
+
+-- where all groups are below the bound, all is known
+pub all_known : (s : Streams) (w : Word) (bound : ℕ) (known : List (EventId × Details)) → length s.lists ≤ bound → IsKnownBelow s w bound known → AreAccesses s w known
+all_known s w bound known all below e = ⊎_elim
+    (λ (lt : e.at.group < bound). below.before e lt)
+    (λ (ge : bound ≤ e.at.group).
+    let past : length s.lists ≤ e.at.group = omega (arith, all, ge) in
+    let gone : list_of s e.at.group ≡ [] = get_or_past s.lists e.at.group [] past in
+    subst (λ (l : List Event). IsKnownIn l w e (details_at known e)) (sym gone)
+    (subst (λ (o : Option Details). IsKnownIn [] w e o) (sym (below.behind e ge)) (λ on. let no : None ≡ Some w = on in cc)))
+    (cases_lt e.at.group bound)
+
+-- what is known of an access to the word is what is told of it
+pub known_is_told : (s : Streams) (w : Word) (e : EventId) (o : Option Details) → IsKnown s w e o → IsOn s w e → o ≡ details_of s e
+known_is_told s w e None off on = absurd (off on)
+known_is_told s w e (Some d) known on = sym known.1

@@ -1,0 +1,124 @@
+-- The accesses to a word that are held are those that are left of all where the grounded ones are taken away.
+use Rattle.std.proofs.Common.{◌≡◌, ◌≢◌, ◌↔◌, ℕ, ◌+◌, ◌<◌, ◌≤◌, ◌&&◌, not, Bool, true, false, List, filter, get_or, length, Option, Some, None, is_some, slice_get, refl, sym, ap, ◌∙◌, subst, ⊎_elim, arith, eq-or-lt_of_le, true≢false}
+use Rattle.std.specs.Bool.{Decides}
+use Rattle.std.specs.List.{AllPairs, IsDistinct}
+use Rattle.std.specs.Map.{keys_of}
+use Rattle.std.specs.Set.{IsDifference, IsIntersection, is_member}
+use Rattle.std.proofs.lemmas.Bool.{cases_lt}
+use Rattle.std.proofs.lemmas.List.{length-map}
+use Rattle.std.proofs.lemmas.List.Kept.{AllPairs-filter}
+use Rattle.std.proofs.lemmas.Map.Made.{AllPairs-from_IsDistinct, IsDistinct-from_AllPairs, is_member-filter, is_some-lookup, length-intersection_difference}
+use Rattle.std.proofs.lemmas.Map.Views.{Contains-from_any, list_any-from_Contains}
+use Rattle.std.proofs.lemmas.Option.{get_or_from_slice_get, slice_get-get_or, slice_get_within}
+use Rattle.gr_model.specs.declared.event.EventId.{EventId}
+use Rattle.gr_model.specs.declared.event.Word.{Word}
+use Rattle.gr_model.specs.contracts.event.EventIdEq.TheImpl.Laws as equal
+use Rattle.gr_model.specs.LawfulOrders.{IsAt, IsIn}
+use Rattle.gr_model.specs.Streams.{Streams}
+use Rattle.gr_model.specs.Waits.{IsGrounded}
+use Rattle.gr_model.proofs.Places.{Contains-at}
+use Rattle.gr_timeline.specs.declared.details.Details.{Details}
+use Rattle.gr_explain.specs.Events.{same_event}
+use Rattle.gr_explain.proofs.Sets.{event_from_equal}
+use Rattle.gr_timeline.specs.Accesses.{AreAccesses, IsKnown, IsOn, details_at}
+use Rattle.gr_timeline.specs.Held.{AreHeld}
+
+decides : (d e : EventId) → Decides (same_event d e) (d ≡ e)
+decides d e = (event_from_equal d e, λ same. subst (λ (x : EventId). same_event d x ≡ true) same (equal.laws-law.refl d))
+
+and_parts : (a b : Bool) → (a && b) ≡ true → (a ≡ true) × (b ≡ true)
+and_parts true b is = (refl, is)
+and_parts false b is = absurd (true≢false (sym is))
+
+and_false : (a : Bool) → (a && false) ≡ false
+and_false true = refl
+and_false false = refl
+
+not_true : (a : Bool) → not a ≡ true → a ≡ false
+not_true true is = absurd (true≢false (sym is))
+not_true false is = refl
+
+-- ---- lists of events, each once
+
+apart : (events : List EventId) → ((p q : ℕ) (e : EventId) → IsAt events p e → IsAt events q e → p ≡ q) → AllPairs (λ x y. x ≢ y) events
+apart events once i j d before there same =
+    let first : slice_get events i ≡ Some (get_or events i d) = slice_get-get_or events i d (omega (arith, before, there)) in
+    let second : slice_get events j ≡ Some (get_or events i d) = slice_get-get_or events j d there ∙ ap Some (sym same) in
+    absurd (omega (arith, before, once i j (get_or events i d) first second))
+
+not_before : (events : List EventId) → AllPairs (λ x y. x ≢ y) events → (p q : ℕ) (e : EventId) → IsAt events p e → IsAt events q e → ¬ (p < q)
+not_before events pairs p q e first second before =
+    pairs p q e before (slice_get_within events q e second) (get_or_from_slice_get events p e e first ∙ sym (get_or_from_slice_get events q e e second))
+
+each_once : (events : List EventId) → AllPairs (λ x y. x ≢ y) events → (p q : ℕ) (e : EventId) → IsAt events p e → IsAt events q e → p ≡ q
+each_once events pairs p q e first second = ⊎_elim
+    (λ (before : p < q). absurd (not_before events pairs p q e first second before))
+    (λ (ge : q ≤ p). ⊎_elim (λ (same : q ≡ p). sym same) (λ (after : q < p). absurd (not_before events pairs q p e second first after)) (eq-or-lt_of_le ge))
+    (cases_lt p q)
+
+member_in : (events : List EventId) (e : EventId) → is_member same_event events e ≡ true → IsIn events e
+member_in events e is = let there = Contains-from_any event_from_equal e events is in (there.0, Contains-at events e there)
+
+in_member : (events : List EventId) (e : EventId) → IsIn events e → is_member same_event events e ≡ true
+in_member events e is = list_any-from_Contains equal.laws-law e events (is.0, slice_get_within events is.0 e is.1, get_or_from_slice_get events is.0 e e is.1)
+
+-- ---- what is left
+
+module _ (s : Streams) (w : Word) (known : List (EventId × Details)) (distinct : IsDistinct same_event (keys_of known)) (are : AreAccesses s w known) where
+  key_on : (e : EventId) → is_member same_event (keys_of known) e ≡ true → IsOn s w e
+  key_on e is = by_cases (details_at known e) refl (are e)
+    where
+      by_cases : (o : Option Details) → details_at known e ≡ o → IsKnown s w e o → IsOn s w e
+      by_cases None none off = absurd (true≢false (sym (is_some-lookup (same_event e) known ∙ is) ∙ ap is_some none))
+      by_cases (Some d) some known = known.0
+
+  on_key : (e : EventId) → IsOn s w e → is_member same_event (keys_of known) e ≡ true
+  on_key e on = by_cases (details_at known e) refl (are e)
+    where
+      by_cases : (o : Option Details) → details_at known e ≡ o → IsKnown s w e o → is_member same_event (keys_of known) e ≡ true
+      by_cases None none off = absurd (off on)
+      by_cases (Some d) some known_e = sym (is_some-lookup (same_event e) known) ∙ ap is_some some
+
+  module _ (those : List EventId) (once : (p q : ℕ) (e : EventId) → IsAt those p e → IsAt those q e → p ≡ q) (grounded : (e : EventId) → IsIn those e ↔ (IsOn s w e × IsGrounded s e)) where
+    abbrev keys : List EventId
+    keys = keys_of known
+
+    abbrev is_left : EventId → Bool
+    is_left e = not (is_member same_event those e)
+
+    abbrev left : List EventId
+    left = filter is_left keys
+
+    shared : IsIntersection same_event keys those those
+    shared q = by_test (is_member same_event those q) refl
+      where
+        by_test : (b : Bool) → is_member same_event those q ≡ b → is_member same_event those q ≡ (is_member same_event keys q && is_member same_event those q)
+        by_test true is = sym (ap (λ a. a && is_member same_event those q) (on_key q ((grounded q).0 (member_in those q is)).0))
+        by_test false not_there = not_there ∙ sym (ap (λ m. is_member same_event keys q && m) not_there ∙ and_false (is_member same_event keys q))
+
+    rest : IsDifference same_event keys those left
+    rest q = is_member-filter equal.laws-law is_left q (λ x same. ap is_left (event_from_equal q x same)) keys
+
+    left_pairs : AllPairs (λ x y. x ≢ y) left
+    left_pairs = AllPairs-filter (λ x y. x ≢ y) is_left keys (AllPairs-from_IsDistinct decides keys distinct)
+
+    left_held : (e : EventId) → IsIn left e → IsOn s w e × ¬ IsGrounded s e
+    left_held e is =
+        let parts = and_parts (is_member same_event keys e) (is_left e) (sym (rest e) ∙ in_member left e is) in
+        let on = key_on e parts.0 in
+        (on, λ stands. true≢false (sym (in_member those e ((grounded e).1 (on, stands))) ∙ not_true (is_member same_event those e) parts.1))
+
+    held_left : (e : EventId) → IsOn s w e × ¬ IsGrounded s e → IsIn left e
+    held_left e held = by_test (is_member same_event those e) refl
+      where
+        by_test : (b : Bool) → is_member same_event those e ≡ b → IsIn left e
+        by_test true is = absurd (held.1 ((grounded e).0 (member_in those e is)).1)
+        by_test false is_not = member_in left e (rest e ∙ (ap (λ a. a && is_left e) (on_key e held.0) ∙ ap not is_not))
+
+    -- those that are left are held, and they and the grounded ones are all
+    pub held_are_left : (held : List EventId) × AreHeld s w held × (length those + length held ≡ length known)
+    held_are_left = (
+      left,
+      record { each = λ e. (left_held e, held_left e); once = each_once left left_pairs },
+      length-intersection_difference equal.laws-law keys those those left distinct (IsDistinct-from_AllPairs decides those (apart those once)) (IsDistinct-from_AllPairs decides left left_pairs) shared rest ∙ length-map known (λ x. x.0),
+    )

@@ -1,9 +1,0 @@
-use Rattle.std.proofs.Common.{◌↔◌, Contains, IsTrue, List, subst}
-use Rattle.gr_model.specs.declared.event.Word.{Word}
-use Rattle.gr_timeline.proofs.told.is_racy.Goals as goal
-
-pub returns : goal.returns
-returns g c =
-    let has = subst (λ (words : List Word). IsTrue c.has.result ↔ Contains words c.args.word) c.as_slice.ensures c.has.ensures in
-    let exact = c.in_ok-report.ensures.races.exact c.args.word in
-    (λ yes. exact.0 (has.0 yes), λ racy. has.1 (exact.1 racy))

@@ -1,0 +1,75 @@
+//! How many records of each item of a group, and how many barriers among them, were gone over.
+
+ghost use Rattle.std.specs.Prelude.{◌≡◌, ◌<◌, [], ℕ, IfOk, Some, length, option_map, slice_get};
+ghost use Rattle.gr_model.specs.Barriers as barriers;
+ghost use Rattle.gr_timeline.specs.declared.counting.Count.{Count as AnyCount};
+ghost use Rattle.gr_timeline.specs.Counting.{AreCounts, IsSmall, after_record, with_record};
+
+use gr_model::event::{Event, Kind};
+use gr_model::memory::Memory;
+use std::alloc::Allocator;
+
+/// What was gone over of one item.
+#[derive(Clone, Copy, Debug, PartialEq, Eq)]
+pub(crate) struct Count {
+    /// How many of its records.
+    pub(crate) records: u32,
+    /// How many of these are barriers.
+    pub(crate) barriers: usize,
+}
+
+/// Whether a record is a barrier.
+fn is_barrier(event: &Event) -> bool
+    ensures { result ≡ barriers.is_barrier event.now }
+{
+    matches!(
+        event.kind,
+        Kind::Barrier {
+            global: _,
+            local: _,
+        }
+    )
+}
+
+impl Count {
+    /// With one record more.
+    fn with_record(self, event: &Event) -> Count
+        requires { IsSmall self }
+        ensures { result ≡ with_record self event.now }
+    {
+        Count {
+            records: self.records + 1,
+            barriers: self.barriers + usize::from(is_barrier(event)),
+        }
+    }
+}
+
+/// The counts of so many items of which nothing was gone over.
+///
+/// # Errors
+/// `Memory`: out of memory.
+pub(crate) fn none_counted<A: Allocator + Copy>(
+    alloc: A,
+    items: u16,
+) -> Result<Vec<Count, A>, Memory>
+    ensures { IfOk result (λ counts. AreCounts items [] counts.items) }
+{
+    let none = Count {
+        records: 0,
+        barriers: 0,
+    };
+    Ok(vec![in alloc; none; items as usize]?)
+}
+
+/// Counts a record of a group, unless it is the end of its list.
+pub(crate) fn count_record<A: Allocator>(counts: &mut Vec<Count, A>, event: &Event)
+    requires item { event.now.item < length counts.old.items }
+    requires small { (c : AnyCount) → slice_get counts.old.items event.now.item ≡ Some c → IsSmall c }
+    ensures length { length counts.new.items ≡ length counts.old.items }
+    ensures each { (i : ℕ) → slice_get counts.new.items i ≡ option_map (after_record i event.now) (slice_get counts.old.items i) }
+{
+    if !event.kind.is_end() {
+        let place = event.item as usize;
+        counts[place] = counts[place].with_record(event);
+    }
+}

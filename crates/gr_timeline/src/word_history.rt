@@ -1,0 +1,54 @@
+//! What is told of one word of a launch.
+
+ghost use Rattle.std.specs.Prelude.{◌↔◌, IfOk, IsTrue};
+ghost use Rattle.gr_timeline.specs.Accesses.{AreAccesses};
+ghost use Rattle.gr_timeline.specs.Held.{IsHeldCount};
+ghost use Rattle.gr_timeline.specs.Racy.{IsRacyIn};
+ghost use Rattle.gr_timeline.specs.Histories.{IsHistory, lines_of};
+
+use crate::accesses::{Accesses, accesses_of};
+use crate::entry::Entry;
+use crate::history::history_of;
+use gr_model::event::Word;
+use gr_model::memory::Memory;
+use gr_model::traces::Traces;
+use std::alloc::{Allocator, Global};
+
+/// What is told of a word.
+#[derive(Drop)]
+pub struct HistoryAnswer<A: Allocator = Global> {
+    /// All accesses to it, with what is told of each.
+    pub known: Accesses<A>,
+    /// Its history.
+    pub entries: Vec<Entry<A>, A>,
+    /// How many accesses to it are held.
+    pub held: usize,
+    /// Whether it is racy.
+    pub racy: bool,
+}
+
+/// What is told of a word of a launch.
+///
+/// # Errors
+/// `Memory`: out of memory.
+pub fn word_history_of<A: Allocator + Copy>(
+    alloc: A,
+    traces: &Traces<A>,
+    word: Word,
+) -> Result<HistoryAnswer<A>, Memory>
+    ensures known { IfOk result (λ told. AreAccesses traces.now word told.known.entries) }
+    ensures history { IfOk result (λ told. IsHistory traces.now word (lines_of told.entries.items)) }
+    ensures held { IfOk result (λ told. IsHeldCount traces.now word told.held) }
+    ensures racy { IfOk result (λ told. IsTrue told.racy ↔ IsRacyIn word traces.now) }
+{
+    let known = accesses_of(alloc, traces, word)?;
+    let (entries, racy) = history_of(alloc, traces, word)?;
+    // those of the history are the ones that are not held
+    let held = known.len() - entries.len();
+    Ok(HistoryAnswer {
+        known,
+        entries,
+        held,
+        racy,
+    })
+}
