@@ -31,7 +31,7 @@ finished e is w there races hits receipts once told =
     let found : IsFound e.config e.sizes e.takers e.givers w = subst (λ (o : Option WholeReport). IfSome o (IsFound e.config e.sizes e.takers e.givers)) there is.found in
     let each : IsEachOnce (length found.sequence.taken.sizes) receipts = subst (λ (sizes : List ℕ). IsEachOnce (length sizes) receipts) (sym found.sizes_are) once in
     let sent : found.sequence.taken ≡ sent_by e.sizes receipts =
-    taken_is_sent e.config is.config found.sequence found.whole.good.sequence found.whole.over.complete e.takers is.queues found.whole.good.taken receipts each told
+    taken_is_sent e.config is.config found.sequence found.whole.sequence_is found.whole.complete e.takers is.queues found.whole.taken receipts each told
     ∙ ap (λ (sizes : List ℕ). sent_by sizes receipts) found.sizes_are in
     subst (λ (s : Streams). IsReportOf s (with_words w races)) sent
     (record {

@@ -1,5 +1,5 @@
 -- The words that are hit in what some worker was given, and that they are the races.
-use Rattle.std.proofs.Common.{◌≡◌, ◌⊎◌, ◌↔◌, ◌==◌, ℕ, ◌<◌, ◌≤◌, true, false, List, [], ◌∷◌, ◌++◌, length, get_or, None, Result, Ok, Err, refl, sym, ap, ◌∙◌, subst, inl, inr, ⊎_elim, arith, append-nil, eq-eqb}
+use Rattle.std.proofs.Common.{◌≡◌, ◌⊎◌, ◌↔◌, ◌==◌, ℕ, ◌<◌, ◌≤◌, true, false, List, [], ◌∷◌, ◌++◌, length, get_or, Result, Ok, Err, refl, sym, ap, ◌∙◌, subst, inl, inr, ⊎_elim, arith, append-nil, eq-eqb}
 use Rattle.std.specs.Prelude.{Contains, IfOk}
 use Rattle.std.proofs.lemmas.Bool.{cases_lt}
 use Rattle.std.proofs.lemmas.List.{get_or_append_left, get_or_push, length-append, length-map}
@@ -14,7 +14,7 @@ use Rattle.gr_route.specs.IntakeSeats.{Taker}
 use Rattle.gr_route.specs.WorkSeats.{Giver}
 use Rattle.gr_shadow.specs.Clashes.{ClockedAccess, IsHitIn, clashes}
 use Rattle.gr_threads.specs.Given.{accesses_in}
-use Rattle.gr_sequencer_thread.specs.Feeds.{IsFeedWhole, accesses_for, given_of}
+use Rattle.gr_sequencer_thread.specs.Feeds.{IsWhole, accesses_for, given_of}
 use Rattle.gr_sequencer_thread.proofs.StepLemmas.{worker_below}
 use Rattle.gr_detector.specs.Settling.{IsHitAmong}
 
@@ -61,21 +61,21 @@ hit_goes workers k v accesses (p, q, x, y, before, first, second, clash) =
     let there = filter-there (λ z. worker_number z.word workers == k) accesses p x first in
     ap (λ u. worker_number u workers == k) (sym clash.first) ∙ there.2
 
-module _ {A : Type 0} (config : Settings) (is : IsConfig config) (seq : Sequence) (takers : List Taker) (givers : List (Giver A)) (worker_count : length givers ≡ config.workers) (whole : IsFeedWhole (record { config = config; sequence = seq; takers = takers; givers = givers; in_flight = None; failed = false })) where
+module _ {A : Type 0} (config : Settings) (is : IsConfig config) (seq : Sequence) (takers : List Taker) (givers : List (Giver A)) (worker_count : length givers ≡ config.workers) (whole : IsWhole config seq takers givers) where
   -- what a worker was given are the accesses to its words
-  given_is : (k : ℕ) → k < config.workers → get_or (given_of givers) k [] ≡ accesses_for config.workers k whole.good.passed.accesses
-  given_is k lt = sym (whole.good.passed.each k lt ∙ append-nil (get_or (given_of givers) k []))
+  given_is : (k : ℕ) → k < config.workers → get_or (given_of givers) k [] ≡ accesses_for config.workers k whole.passed.0
+  given_is k lt = sym (whole.passed.2 k lt ∙ append-nil (get_or (given_of givers) k []))
 
-  hit_here : (v : Word) (k : ℕ) → k < config.workers → (worker_number v config.workers == k) ≡ true → IsHitIn whole.good.passed.accesses v ↔ IsHitIn (get_or (given_of givers) k []) v
-  hit_here v k lt mine = subst (λ (l : List ClockedAccess). IsHitIn whole.good.passed.accesses v ↔ IsHitIn l v) (sym (given_is k lt))
-      (IsHit-filter (λ (x : ClockedAccess). x.word) clashes (λ u. worker_number u config.workers == k) whole.good.passed.accesses v mine)
+  hit_here : (v : Word) (k : ℕ) → k < config.workers → (worker_number v config.workers == k) ≡ true → IsHitIn whole.passed.0 v ↔ IsHitIn (get_or (given_of givers) k []) v
+  hit_here v k lt mine = subst (λ (l : List ClockedAccess). IsHitIn whole.passed.0 v ↔ IsHitIn l v) (sym (given_is k lt))
+      (IsHit-filter (λ (x : ClockedAccess). x.word) clashes (λ u. worker_number u config.workers == k) whole.passed.0 v mine)
 
-  hit_among : (v : Word) → IsHitAmong (given_of givers) v ↔ IsHitIn whole.good.passed.accesses v
+  hit_among : (v : Word) → IsHitAmong (given_of givers) v ↔ IsHitIn whole.passed.0 v
   hit_among v = (
     λ hit.
         let within = hit.1 in
         let lt : hit.0 < config.workers = omega (arith, within, worker_count, length-map givers (λ (g : Giver A). accesses_in g.pushed)) in
-        let mine = hit_goes config.workers hit.0 v whole.good.passed.accesses (subst (λ (l : List ClockedAccess). IsHitIn l v) (given_is hit.0 lt) hit.2) in
+        let mine = hit_goes config.workers hit.0 v whole.passed.0 (subst (λ (l : List ClockedAccess). IsHitIn l v) (given_is hit.0 lt) hit.2) in
         (hit_here v hit.0 lt mine).1 hit.2,
     λ hit.
         let k = worker_number v config.workers in
@@ -85,5 +85,5 @@ module _ {A : Type 0} (config : Settings) (is : IsConfig config) (seq : Sequence
 
   pub races_are : (words : List Word) → Lists WordBelow (IsHitAmong (given_of givers)) words → AreRaces seq.taken words
   races_are words lists = lists_as words lists (λ v.
-      let both = whole_hits_are_races seq.taken seq.handled whole.good.passed.accesses v (record { lawful = whole.good.sequence.lawful; whole = λ e grounded. (whole.over.done.grounded e).1 grounded }) whole.good.passed.along in
+      let both = whole_hits_are_races seq.taken seq.handled whole.passed.0 v (record { lawful = whole.sequence_is.lawful; whole = λ e grounded. (whole.done.grounded e).1 grounded }) whole.passed.1 in
       (λ hit. both.0 ((hit_among v).0 hit), λ racy. (hit_among v).1 (both.1 racy)))

@@ -37,10 +37,10 @@ module _ (config : Settings) (is : IsConfig config) (seq : Sequence) (sequence :
   pops_count : length (pops_of takers) ≡ config.queues
   pops_count = length-map takers (λ (t : Taker). t.popped) ∙ queues
 
-  popped_is : (g : ℕ) → list_of seq.taken g ≡ popped_at (pops_of takers) g
-  popped_is g =
+  popped_is : (g : ℕ) → g < length seq.taken.sizes → list_of seq.taken g ≡ popped_at (pops_of takers) g
+  popped_is g there =
       let below = mod-lt g (let some = is.queues.0 in let pos : 0 < config.queues = omega (arith, some) in pos) in
-      popped_here takers (g % config.queues) g (omega (arith, below, queues)) (list_of seq.taken g) (taken g)
+      popped_here takers (g % config.queues) g (omega (arith, below, queues)) (list_of seq.taken g) (λ d. taken g d there)
       ∙ ap (λ n. events_of g (get_or (pops_of takers) (g % n) [])) (sym pops_count)
 
   pub taken_is_sent : (receipts : List Seat) → IsEachOnce (length seq.taken.sizes) receipts → ArePopped (pops_of takers) receipts → seq.taken ≡ sent_by seq.taken.sizes receipts
@@ -50,8 +50,8 @@ module _ (config : Settings) (is : IsConfig config) (seq : Sequence) (sequence :
       (sequence.prefixes.count ∙ sym (length-map-range_with_len (λ g. sent_of g receipts) 0 n))
       (λ g lt.
       let there : g < n = omega (arith, lt, sequence.prefixes.count) in
-      popped_is g
-      ∙ (sent_is (pops_of takers) g receipts (subst (λ (l : List Event). IsTrue (is_complete l)) (popped_is g) (complete g there)) told (once g there)
+      popped_is g there
+      ∙ (sent_is (pops_of takers) g receipts (subst (λ (l : List Event). IsTrue (is_complete l)) (popped_is g there) (complete g there)) told (once g there)
       ∙ sym (get_or-map-range_with_len (λ h. sent_of h receipts) 0 n g g [] there (omega arith)))) in
       λ k. record { sizes = seq.taken.sizes; lists = lists k }
 

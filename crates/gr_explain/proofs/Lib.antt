@@ -14,3 +14,4 @@ pub mod AlikeLemmas
 pub mod TagPairLemmas
 pub mod TagRaceLemmas
 pub mod WordPairLemmas
+pub mod Keeping

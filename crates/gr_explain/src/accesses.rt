@@ -4,6 +4,8 @@ ghost use Rattle.std.specs.Prelude.{◌≡◌, ◌∷◌, ◌++◌, [], All, IfO
 ghost use Rattle.gr_model.specs.declared.race.Race.{Race as AnyRace};
 ghost use Rattle.gr_clocks.specs.ClockedAccess.{ClockedAccess, clocked};
 ghost use Rattle.gr_explain.specs.Accesses.{AreBothKept, AreKept, AreThoseOf, AreWanted};
+ghost use Rattle.std.specs.Option.{option_map};
+ghost use Rattle.gr_closure.specs.AccessesAlong.{in_flight_list};
 
 use crate::seen::event_of;
 use gr_clocks::access::Access;
@@ -50,25 +52,6 @@ fn events_of<A: Allocator + Copy>(alloc: A, races: &[Race]) -> Result<Events<A>,
     Ok(events)
 }
 
-/// The same access once more.
-///
-/// # Errors
-/// `Memory`: out of memory.
-fn copy_of<A: Allocator + Copy>(access: &Access<A>) -> Result<Access<A>, Memory>
-    ensures { IfOk result (λ a. a ≡ access.now) }
-{
-    let Ok(clock) = access.clock.copy() else {
-        return Err(Memory);
-    };
-    Ok(Access {
-        word: access.word,
-        item: access.item,
-        index: access.index,
-        class: access.class,
-        clock,
-    })
-}
-
 /// Keeps the accesses of the events that are wanted.
 #[derive(Drop)]
 struct WantedKeeper<'a, A: Allocator> {
@@ -80,12 +63,15 @@ impl<A: Allocator + Copy> Keeper<A> for WantedKeeper<'_, A> {
 
     ghost stands = { λ keeper accesses kept. AreThoseOf keeper.wanted.now.keys accesses kept.entries };
 
-    fn add(&self, kept: &mut Accesses<A>, access: &Access<A>) -> Result<(), Memory>
-        ensures { OnOk result ((accesses : List ClockedAccess) → AreThoseOf self.now.wanted.now.keys accesses kept.old.entries → AreThoseOf self.now.wanted.now.keys (accesses ++ clocked access.now ∷ []) kept.new.entries) }
+    fn add(&self, kept: &mut Accesses<A>, access: &mut Option<Access<A>>) -> Result<(), Memory>
+        ensures { OnOk result ((accesses : List ClockedAccess) → AreThoseOf self.now.wanted.now.keys accesses kept.old.entries → AreThoseOf self.now.wanted.now.keys (accesses ++ in_flight_list (option_map clocked access.old)) kept.new.entries) }
     {
-        let event = event_of(access);
+        let Some(access) = access.take() else {
+            return Ok(());
+        };
+        let event = event_of(&access);
         if self.wanted.contains(&event) {
-            kept.insert(event, copy_of(access)?)?;
+            kept.insert(event, access)?;
         }
         Ok(())
     }

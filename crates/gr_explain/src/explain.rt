@@ -6,6 +6,8 @@ ghost use Rattle.gr_model.specs.Waits.{IsGrounded};
 ghost use Rattle.gr_clocks.specs.ClockedAccess.{ClockedAccess, clocked};
 ghost use Rattle.gr_explain.specs.LeastRaces.{IsLeastRace};
 ghost use Rattle.gr_explain.specs.Search.{StandsFor};
+ghost use Rattle.std.specs.Option.{option_map};
+ghost use Rattle.gr_closure.specs.AccessesAlong.{in_flight_list};
 
 use crate::search::Search;
 use gr_clocks::access::Access;
@@ -15,6 +17,23 @@ use gr_model::traces::Traces;
 use gr_taking::keeper::Keeper;
 use gr_taking::traces::follow;
 use std::alloc::Allocator;
+
+/// Adds an access, if it is to the word.
+///
+/// # Errors
+/// `Memory`: out of memory.
+pub(crate) fn add_to<A: Allocator + Copy>(
+    search: &mut Search<A>,
+    word: Word,
+    access: &Access<A>,
+) -> Result<(), Memory>
+    ensures { OnOk result ((accesses : List ClockedAccess) → StandsFor word accesses search.old → StandsFor word (accesses ++ clocked access.now ∷ []) search.new) }
+{
+    if access.word == word {
+        search.add(access)?;
+    }
+    Ok(())
+}
 
 /// Keeps the accesses to a word, and the least pair of them that races.
 #[derive(Clone, Copy, Debug)]
@@ -27,13 +46,13 @@ impl<A: Allocator + Copy> Keeper<A> for WordKeeper {
 
     ghost stands = { λ keeper accesses search. StandsFor keeper.word accesses search };
 
-    fn add(&self, kept: &mut Search<A>, access: &Access<A>) -> Result<(), Memory>
-        ensures { OnOk result ((accesses : List ClockedAccess) → StandsFor self.now.word accesses kept.old → StandsFor self.now.word (accesses ++ clocked access.now ∷ []) kept.new) }
+    fn add(&self, kept: &mut Search<A>, access: &mut Option<Access<A>>) -> Result<(), Memory>
+        ensures { OnOk result ((accesses : List ClockedAccess) → StandsFor self.now.word accesses kept.old → StandsFor self.now.word (accesses ++ in_flight_list (option_map clocked access.old)) kept.new) }
     {
-        if access.word == self.word {
-            kept.add(access)?;
-        }
-        Ok(())
+        let Some(access) = access else {
+            return Ok(());
+        };
+        add_to(kept, self.word, access)
     }
 
     fn close(&self, _kept: &mut Search<A>, _group: u16)

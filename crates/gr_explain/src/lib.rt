@@ -14,5 +14,6 @@ pub mod records;
 mod search;
 mod seen;
 mod tag_pairs;
+pub mod tagged;
 pub mod tags;
 pub mod word_pairs;

@@ -9,6 +9,8 @@ ghost use Rattle.gr_clocks.specs.ClockedAccess.{ClockedAccess, clocked};
 ghost use Rattle.gr_shadow.specs.Kept.{same_word};
 ghost use Rattle.gr_explain.specs.TagRaces.{AreTagRaces};
 ghost use Rattle.gr_explain.specs.WordPairs.{StandForWords, races_at, races_of};
+ghost use Rattle.std.specs.Option.{option_map};
+ghost use Rattle.gr_closure.specs.AccessesAlong.{in_flight_list};
 
 use crate::seen::event_of;
 use crate::tag_pairs::TagPairs;
@@ -25,13 +27,16 @@ use std::alloc::Allocator;
 use std::hash::{BuildHasherDefault, FoldHasher};
 
 /// Of each of some words the pairs of tags that race on it.
-type WordPairs<A> = IndexMap<Word, TagPairs<A>, BuildHasherDefault<FoldHasher>, A>;
+pub(crate) type WordPairs<A> = IndexMap<Word, TagPairs<A>, BuildHasherDefault<FoldHasher>, A>;
 
 /// No accesses to these words.
 ///
 /// # Errors
 /// `Memory`: out of memory.
-fn pairs_of_words<A: Allocator + Copy>(alloc: A, words: &[Word]) -> Result<WordPairs<A>, Memory>
+pub(crate) fn pairs_of_words<A: Allocator + Copy>(
+    alloc: A,
+    words: &[Word],
+) -> Result<WordPairs<A>, Memory>
     ensures { IfOk result (λ pairs. (tag_of : AnyEvent → ℕ) → StandForWords tag_of words.now [] pairs.entries) }
 {
     let mut pairs = IndexMap::new(alloc);
@@ -45,7 +50,7 @@ fn pairs_of_words<A: Allocator + Copy>(alloc: A, words: &[Word]) -> Result<WordP
 ///
 /// # Errors
 /// `Memory`: out of memory.
-fn add_access<A: Allocator + Copy, T: Tags>(
+pub(crate) fn add_access<A: Allocator + Copy, T: Tags>(
     pairs: &mut WordPairs<A>,
     tags: &T,
     access: &Access<A>,
@@ -70,9 +75,12 @@ impl<A: Allocator + Copy, T: Tags> Keeper<A> for WordsKeeper<'_, T> {
 
     ghost stands = { λ keeper accesses pairs. StandForWords (T.tag_of keeper.tags.now) keeper.words.now accesses pairs.entries };
 
-    fn add(&self, kept: &mut WordPairs<A>, access: &Access<A>) -> Result<(), Memory>
-        ensures { OnOk result ((accesses : List ClockedAccess) → StandForWords (T.tag_of self.now.tags.now) self.now.words.now accesses kept.old.entries → StandForWords (T.tag_of self.now.tags.now) self.now.words.now (accesses ++ clocked access.now ∷ []) kept.new.entries) }
+    fn add(&self, kept: &mut WordPairs<A>, access: &mut Option<Access<A>>) -> Result<(), Memory>
+        ensures { OnOk result ((accesses : List ClockedAccess) → StandForWords (T.tag_of self.now.tags.now) self.now.words.now accesses kept.old.entries → StandForWords (T.tag_of self.now.tags.now) self.now.words.now (accesses ++ in_flight_list (option_map clocked access.old)) kept.new.entries) }
     {
+        let Some(access) = access else {
+            return Ok(());
+        };
         add_access(kept, self.tags, access)
     }
 
@@ -105,7 +113,7 @@ fn list_word<A: Allocator>(
 ///
 /// # Errors
 /// `Memory`: out of memory.
-fn list_words<A: Allocator + Copy>(
+pub(crate) fn list_words<A: Allocator + Copy>(
     alloc: A,
     pairs: &WordPairs<A>,
     words: &[Word],

@@ -2,7 +2,7 @@
 use Rattle.std.proofs.Common.{◌≡◌, ◌<◌, ℕ, List, [], ◌∷◌, length, map, get_or, Contains, refl, sym, ap, ◌∙◌, subst, arith}
 use Rattle.std.proofs.lemmas.List.{get_or-map, length-map}
 use Rattle.gr_model.specs.declared.event.Event.{Event}
-use Rattle.gr_model.specs.Streams.{Streams, IsAccepted}
+use Rattle.gr_model.specs.Streams.{Streams, IsAccepted, IsPrefix}
 use Rattle.gr_record.specs.declared.header.Header.{Header}
 use Rattle.gr_intake.specs.Intakes.{AreGroupsOf, come, come_of, headers_of}
 use Rattle.gr_intake.specs.Joined.{Flat}
@@ -59,9 +59,9 @@ module _ (s : Streams) (cs : List Coming) (are : AreStreams (come s cs)) (groups
   pub streams_may_come : MayCome group s.sizes (pairs s cs)
   streams_may_come = record {
     there = λ k p lt. (groups.there (get_or (pairs s cs) k p).0 (has_header k p lt)).0;
-    accepted = λ k p lt.
+    prefixes = λ k p lt.
         let here : IsAccepted (flat (get_or (pairs s cs) k p)).header.items (flat (get_or (pairs s cs) k p)).events = subst (λ (f : Flat). IsAccepted f.header.items f.events) (sym (pair_at k p lt)) (are.accepted k (flat p) (in_come k lt)) in
-        subst (λ (n : ℕ). IsAccepted n (get_or (pairs s cs) k p).1) (sym (groups.there (get_or (pairs s cs) k p).0 (has_header k p lt)).1) here;
+        subst (λ (n : ℕ). IsPrefix n (get_or (pairs s cs) k p).1) (sym (groups.there (get_or (pairs s cs) k p).0 (has_header k p lt)).1) (record { few = here.few; good = here.good });
     differ = λ i j p lt in_list. λ same.
         let before : i < length (pairs s cs) = omega (arith, lt, in_list) in
         are.groups i j (flat p) lt (in_come j in_list) (ap (λ (f : Flat). f.header.group) (sym (pair_at i p before)) ∙ (same ∙ ap (λ (f : Flat). f.header.group) (pair_at j p in_list)));

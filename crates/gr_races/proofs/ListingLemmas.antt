@@ -1,7 +1,7 @@
 -- Races with their kinds, one after another.
-use Rattle.std.proofs.Common.{◌≡◌, ◌≤◌, ◌<◌, ◌+◌, ℕ, List, [], ◌∷◌, ◌++◌, Option, None, Some, Ok, ap, append_assoc, arith, codes, drop, get_or, length, map, refl, slice_get, sym, ◌∙◌}
-use Rattle.std.specs.List.{cons_option, flat_map}
-use Rattle.std.proofs.lemmas.List.{append-nil, at_drop_all, at_drop_more, take-map}
+use Rattle.std.proofs.Common.{◌≡◌, ◌≤◌, ◌<◌, ◌+◌, ℕ, List, [], ◌∷◌, ◌++◌, Option, None, Some, ap, append_assoc, arith, drop, get_or, length, refl, slice_get, sym, ◌∙◌}
+use Rattle.std.specs.List.{cons_option}
+use Rattle.std.proofs.lemmas.List.{append-nil, at_drop_all, at_drop_more}
 use Rattle.gr_model.specs.declared.race.Race.{Race}
 use Rattle.gr_model.specs.Streams.{Streams}
 use Rattle.gr_places.specs.declared.places.Placed.{Placed}

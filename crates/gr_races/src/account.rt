@@ -1,28 +1,31 @@
 //! The least racing pair of a word, what its accesses are, what stands between them, the cause of their race, and the word's other
 //! races.
 
-ghost use Rattle.std.specs.Prelude.{◌≡◌, ℕ, IfOk, Option, option_map};
+ghost use Rattle.std.specs.Prelude.{◌≡◌, ◌∷◌, [], ℕ, IfOk, Option, option_map};
 ghost use Rattle.gr_model.specs.declared.event.Word.{Word as AnyWord};
 ghost use Rattle.gr_model.specs.Streams.{IsEvent};
 ghost use Rattle.gr_races.specs.Causes.{IsCause};
 ghost use Rattle.gr_explain.specs.LeastRaces.{IsLeastRace};
+ghost use Rattle.gr_explain.specs.TagRaces.{AreTagRaces};
 ghost use Rattle.gr_places.specs.declared.places.Placed.{Placed as AnyPlaced};
 ghost use Rattle.gr_places.specs.PlaceIndexes.{number_at};
 ghost use Rattle.gr_places.specs.SideLines.{place_number};
 ghost use Rattle.gr_places.specs.Sides.{sides_said};
 ghost use Rattle.gr_races.specs.Accounts as spec;
+ghost use Rattle.gr_races.specs.Kinds.{tag_at};
 ghost use Rattle.gr_races.specs.Accounts.{AreOthers, IsAccount, IsAccountOf, account_said};
 
 use crate::between::{Between, between_of};
 use crate::cause::{Cause, cause_of};
 use crate::kinds::KindedRace;
 use crate::listing::ordered_rows;
-use crate::place_tags::{PlaceTags, tag_races};
-use gr_explain::explain::explain;
+use crate::place_tags::PlaceTags;
 use gr_explain::records::Records;
+use gr_explain::tagged::explain_by_tags;
 use gr_explain::tags::Tags;
 use gr_model::event::{EventId, Word};
 use gr_model::memory::Memory;
+use gr_model::race::Race;
 use gr_model::traces::Traces;
 use gr_places::index::PlaceIndex;
 use gr_places::sides::Sides;
@@ -69,23 +72,20 @@ fn others_of<A: Allocator>(
     Ok(others)
 }
 
-/// A race for each two tags that race on a word but for those of two events.
+/// Of races for each two tags that race on a word those that are not of two events' tags, with their kinds.
 ///
 /// # Errors
 /// `Memory`: out of memory.
 fn other_races<A: Allocator + Copy>(
     alloc: A,
-    traces: &Traces<A>,
     tags: &PlaceTags<'_, A>,
-    word: Word,
+    races: &[Race],
     first: EventId,
     second: EventId,
 ) -> Result<Vec<KindedRace, A>, Memory>
-    requires same { tags.now.records.now ≡ traces.now }
-    ensures { IfOk result (λ others. AreOthers traces.now (number_at tags.now.index.now) word first second others.items) }
+    ensures { IfOk result (λ others. (w : AnyWord) → AreTagRaces tags.now.records.now (tag_at tags.now.records.now (number_at tags.now.index.now)) (w ∷ []) races.now → AreOthers tags.now.records.now (number_at tags.now.index.now) w first second others.items) }
 {
-    let races = tag_races(alloc, traces, tags.records, tags.index, &[word])?;
-    let rows = ordered_rows(alloc, tags.records, tags.index, &races, &[])?;
+    let rows = ordered_rows(alloc, tags.records, tags.index, races, &[])?;
     others_of(alloc, &rows, tags.tag(first), tags.tag(second))
 }
 
@@ -119,29 +119,27 @@ fn account_with<A: Allocator + Copy>(
     })
 }
 
-/// What is told of the least racing pair of a word.
+/// What is told of the least racing pair of a word, on which these race for each two tags.
 ///
 /// # Errors
 /// `Memory`: out of memory.
 fn account_of_pair<A: Allocator + Copy>(
     alloc: A,
     traces: &Traces<A>,
-    index: &PlaceIndex<'_, A>,
+    tags: &PlaceTags<'_, A>,
     word: Word,
+    races: &[Race],
     first: EventId,
     second: EventId,
 ) -> Result<Account<A>, Memory>
-    requires { IsLeastRace traces.now word (first, second) }
-    ensures { IfOk result (λ account. IsAccount traces.now (number_at index.now) word (account_said account)) }
+    requires same { tags.now.records.now ≡ traces.now }
+    requires least { IsLeastRace traces.now word (first, second) }
+    requires races { AreTagRaces traces.now (tag_at tags.now.records.now (number_at tags.now.index.now)) (word ∷ []) races.now }
+    ensures { IfOk result (λ account. IsAccount traces.now (number_at tags.now.index.now) word (account_said account)) }
 {
     let cause = cause_of(alloc, traces, word, first, second)?;
-    let records = Records::of(alloc, traces)?;
-    let tags = PlaceTags {
-        records: &records,
-        index,
-    };
-    let others = other_races(alloc, traces, &tags, word, first, second)?;
-    account_with(alloc, traces, &records, first, second, cause, others)
+    let others = other_races(alloc, tags, races, first, second)?;
+    account_with(alloc, traces, tags.records, first, second, cause, others)
 }
 
 /// What is told of the least racing pair of a word, where this index has the places, or `None` where the word is not racy.
@@ -156,10 +154,16 @@ fn account_by<A: Allocator + Copy>(
 ) -> Result<Option<Account<A>>, Memory>
     ensures { IfOk result (λ account. IsAccountOf traces.now (number_at index.now) word (option_map account_said account)) }
 {
-    match explain(alloc, traces, word)? {
+    let records = Records::of(alloc, traces)?;
+    let tags = PlaceTags {
+        records: &records,
+        index,
+    };
+    let (least, races) = explain_by_tags(alloc, traces, word, &tags)?;
+    match least {
         None => Ok(None),
         Some((first, second)) => {
-            let account = account_of_pair(alloc, traces, index, word, first, second)?;
+            let account = account_of_pair(alloc, traces, &tags, word, &races, first, second)?;
             Ok(Some(account))
         }
     }

@@ -1,20 +1,23 @@
 -- Where the sequencer's thread begins.
-use Rattle.std.proofs.Common.{◌≡◌, ℕ, ◌<◌, ◌≤◌, ◌%◌, List, [], ◌∷◌, ◌++◌, length, get_or, map, None, false, sym, ap, ◌∙◌, subst, ⊎_elim, arith}
+use Rattle.std.proofs.Common.{◌≡◌, ℕ, ◌<◌, ◌≤◌, ◌%◌, List, [], ◌∷◌, length, get_or, map, false, sym, ap, ◌∙◌, subst, ⊎_elim, arith, append-nil}
 use Rattle.std.proofs.Math.ListN.{get_or-eq_default}
 use Rattle.std.proofs.Math.Nat.{mod-lt}
 use Rattle.std.proofs.lemmas.Bool.{cases_lt}
 use Rattle.std.proofs.lemmas.List.{get_or-map, length-map}
 use Rattle.gr_model.specs.declared.event.Event.{Event}
 use Rattle.gr_model.specs.Configs.{IsConfig, Settings}
-use Rattle.gr_model.specs.Streams.{events_of}
+use Rattle.gr_model.specs.Streams.{IsPrefix, events_of, list_of, size_of}
+use Rattle.gr_model.proofs.StreamPrefixes.{prefix_nil}
+use Rattle.gr_clocks.specs.ClockedAccess.{ClockedAccess}
 use Rattle.gr_closure.specs.AccessesAlong.{AreAccesses, of_none}
 use Rattle.gr_order.specs.Sequences.{IsSequence, Sequence, nothing}
-use Rattle.gr_route.specs.IntakeSeats.{Taker}
+use Rattle.gr_route.specs.IntakeSeats.{Taker, popped_of}
 use Rattle.gr_route.specs.WorkRule.{is_stopped}
 use Rattle.gr_route.specs.WorkSeats.{Giver}
-use Rattle.gr_shadow.specs.Clashes.{ClockedAccess}
+use Rattle.gr_taking.specs.Sources.{ListedRecords}
 use Rattle.gr_threads.specs.Given.{accesses_in}
-use Rattle.gr_sequencer_thread.specs.Feeds.{AreOpen, ArePassedOn, AreTaken, IsFresh, IsGood, given_of}
+use Rattle.gr_sequencer_thread.specs.Feeds.{AreNoBacklogs, AreOpen, ArePassedOn, ArePopped, IsFresh, IsGood, given_of}
+use Rattle.gr_sequencer_thread.proofs.TakeLemmas.{come_at, come_one}
 
 abbrev pub no_events : ℕ → List Event
 no_events n = []
@@ -25,29 +28,41 @@ nothing_at sizes g = ⊎_elim
     (λ (ge : length sizes ≤ g). get_or-eq_default (map no_events sizes) [] (let len = length-map sizes no_events in omega (arith, ge, len)))
     (cases_lt g (length sizes))
 
-module _ {A : Type 0} (config : Settings) (is : IsConfig config) (seq : Sequence) (sequence : IsSequence seq) (from : seq ≡ nothing seq.taken.sizes) (takers : List Taker) (givers : List (Giver A)) (fresh : IsFresh config seq.taken.sizes takers givers) where
-  fresh_taken : AreTaken config seq.taken takers
-  fresh_taken g d =
-      ap (λ (s : Sequence). get_or s.taken.lists g []) from
-      ∙ (nothing_at seq.taken.sizes g
-      ∙ sym (ap (events_of g) (fresh.popped (g % config.queues) d (mod-lt g (let some = is.queues.0 in omega (arith, some))))))
+module _ {A : Type 0} (config : Settings) (is : IsConfig config) (sizes : List ℕ) (seq : Sequence) (sequence : IsSequence seq) (from : seq ≡ nothing sizes) (coming : List ListedRecords) (none : AreNoBacklogs sizes coming) (takers : List Taker) (givers : List (Giver A)) (fresh : IsFresh config sizes takers givers) where
+  same : seq.taken.sizes ≡ sizes
+  same = ap (λ (s : Sequence). s.taken.sizes) from
 
-  fresh_passed : ArePassedOn config seq (given_of givers) None
-  fresh_passed = record {
-    accesses = [];
-    along = subst (λ (s : Sequence). AreAccesses seq.taken s.handled []) (sym from) of_none;
-    each = λ k lt. sym (each k lt);
+  none_taken : (g : ℕ) → list_of seq.taken g ≡ []
+  none_taken g = ap (λ (s : Sequence). get_or s.taken.lists g []) from ∙ nothing_at sizes g
+
+  none_popped : (g : ℕ) (d : Taker) → popped_of (get_or takers (g % config.queues) d) g ≡ []
+  none_popped g d = ap (events_of g) (fresh.popped (g % config.queues) d (mod-lt g (let some = is.queues.0 in omega (arith, some))))
+
+  fresh_popped : ArePopped config seq.taken coming takers
+  fresh_popped = record {
+    count = none.count ∙ ap length (sym same);
+    each = λ g f d lt.
+        let b : ListedRecords = record { group = g; records = [] } in
+        let within : g < length coming = omega (arith, lt, none.count, ap length same) in
+        come_at seq.taken coming g f b within
+        ∙ (ap (come_one seq.taken) (none.each g b within)
+        ∙ ap (λ (l : List Event). (g, l)) (append-nil (list_of seq.taken g) ∙ (none_taken g ∙ sym (none_popped g d))));
+    prefixes = λ g d lt. subst (IsPrefix (size_of seq.taken g)) (sym (none_popped g d)) (prefix_nil (size_of seq.taken g));
   }
-    where
-      none_given : (k : ℕ) (gs : List (Giver A)) → ((j : ℕ) (d : Giver A) → j < length gs → (get_or gs j d).pushed ≡ []) → k < length gs → get_or (given_of gs) k [] ≡ []
-      none_given k [] none lt = absurd (omega (arith, lt))
-      none_given k (g ∷ gs) none lt = get_or-map (λ (u : Giver A). accesses_in u.pushed) (g ∷ gs) k g [] lt ∙ ap accesses_in (none k g lt)
 
-      each : (k : ℕ) → k < config.workers → get_or (given_of givers) k [] ++ [] ≡ []
-      each k lt = ap (λ (l : List ClockedAccess). l ++ []) (none_given k givers (λ j d below. fresh.pushed j d (omega (arith, below, fresh.worker_count))) (omega (arith, lt, fresh.worker_count)))
+  none_given : (k : ℕ) (gs : List (Giver A)) → ((j : ℕ) (d : Giver A) → j < length gs → (get_or gs j d).pushed ≡ []) → k < length gs → get_or (given_of gs) k [] ≡ []
+  none_given k [] empty lt = absurd (omega (arith, lt))
+  none_given k (g ∷ gs) empty lt = get_or-map (λ (u : Giver A). accesses_in u.pushed) (g ∷ gs) k g [] lt ∙ ap accesses_in (empty k g lt)
 
-  pub fresh_good : IsGood (record { config = config; sequence = seq; takers = takers; givers = givers; in_flight = None; failed = false })
-  fresh_good = record { sequence = sequence; taken = fresh_taken; passed = fresh_passed }
+  fresh_passed : ArePassedOn config seq (given_of givers) []
+  fresh_passed = (
+    [],
+    subst (λ (s : Sequence). AreAccesses seq.taken s.handled []) (sym from) of_none,
+    λ k lt. sym (append-nil (get_or (given_of givers) k []) ∙ none_given k givers (λ j d below. fresh.pushed j d (omega (arith, below, fresh.worker_count))) (omega (arith, lt, fresh.worker_count))),
+  )
+
+  pub fresh_good : (on_way : List ClockedAccess) → on_way ≡ [] → IsGood (record { config = config; sizes = sizes; sequence = seq; takers = takers; givers = givers; coming = coming; on_way = on_way; failed = false })
+  fresh_good on_way empty = record { same = same; sequence = sequence; popped = fresh_popped; passed = subst (ArePassedOn config seq (given_of givers)) (sym empty) fresh_passed }
 
   pub fresh_unstopped : AreOpen givers
   fresh_unstopped k d lt = ap is_stopped (fresh.pushed k d (omega (arith, lt, fresh.worker_count)))

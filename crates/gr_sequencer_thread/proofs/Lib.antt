@@ -1,5 +1,5 @@
 pub mod OutletLemmas
 pub mod TakeLemmas
 pub mod StepLemmas
-pub mod BeginLemmas
 pub mod SameRuns
+pub mod BeginLemmas

@@ -1,57 +1,52 @@
--- What was popped may be taken, and what was taken is then again what was popped.
-use Rattle.std.proofs.Common.{◌≡◌, ◌≢◌, ◌==◌, ℕ, ◌<◌, ◌≤◌, ◌%◌, List, [], ◌∷◌, ◌++◌, length, get_or, set, cond, Option, refl, sym, ap, ◌∙◌, subst, ⊎_elim, arith, append-nil, eq-eqb, ne_eqb, true≢false}
+-- What was popped may come, and what was taken of it is in the end all that was popped.
+use Rattle.std.proofs.Common.{◌≡◌, ◌≢◌, ◌==◌, ℕ, ◌<◌, ◌≤◌, ◌%◌, List, [], ◌∷◌, ◌++◌, length, get_or, set, cond, refl, sym, ap, ◌∙◌, subst, ⊎_elim, arith, append_assoc, append-nil, eq-eqb, ne_eqb}
 use Rattle.std.proofs.Math.ListN.{get_or-eq_default}
 use Rattle.std.proofs.lemmas.Bool.{cases_eq, cases_lt}
-use Rattle.std.proofs.lemmas.List.{get_or-set_other, get_or-set_same, get_or_default}
+use Rattle.std.proofs.lemmas.List.{get_or-map, get_or-set_other, get_or-set_same, get_or_default, length-map, length-set}
+use Rattle.std.specs.List.{All}
 use Rattle.gr_model.specs.declared.event.Event.{Event}
 use Rattle.gr_model.specs.declared.event.Sent.{Sent}
-use Rattle.gr_model.specs.declared.limits.TheConstants.{MOST_RECORDS}
 use Rattle.gr_model.specs.Configs.{Settings}
-use Rattle.gr_model.specs.Streams.{Streams, is_complete, list_of}
+use Rattle.gr_model.specs.Streams.{IsPrefix, Streams, list_of, size_of}
 use Rattle.gr_model.proofs.Sending.{events_append, events_else, events_here}
-use Rattle.gr_closure.proofs.Growing.{accesses_stay}
-use Rattle.gr_lanes.specs.Takes.{with_record}
-use Rattle.gr_lanes.proofs.Growth.{record_grows}
-use Rattle.gr_order.specs.Sequences.{IsSequence, Sequence, taking}
+use Rattle.gr_model.proofs.StreamPrefixes.{prefix_push}
 use Rattle.gr_route.specs.IntakeSeats.{IsNextPopped, Taker, popped_of}
-use Rattle.gr_shadow.specs.Clashes.{ClockedAccess}
-use Rattle.gr_sequencer_thread.specs.Feeds.{ArePassedOn, AreSeated, AreTaken, MayTake}
+use Rattle.gr_taking.specs.Sources.{ListedRecords, MayCome, come_of}
+use Rattle.gr_sequencer_thread.specs.Feeds.{ArePopped, AreSeated, AreTaken, come_in}
 
 -- the seat after one event more was popped
 abbrev pub popping : Taker → Sent → Taker
 popping t s = record { queue = t.queue; popped = t.popped ++ s ∷ []; sizes = t.sizes; joined = t.joined }
 
+-- the backlog with one event more
+abbrev pub behind : ListedRecords → Event → ListedRecords
+behind b e = record { group = b.group; records = b.records ++ e ∷ [] }
+
+-- of a group, what was taken of it with what is to be taken
+abbrev pub come_one : Streams → ListedRecords → ℕ × List Event
+come_one taken b = come_of (λ c. c.group) (λ g. g) (λ c. c.records) taken b
+
+pub come_at : (taken : Streams) (coming : List ListedRecords) (g : ℕ) (f : ℕ × List Event) (b : ListedRecords) → g < length coming → get_or (come_in taken coming) g f ≡ come_one taken (get_or coming g b)
+come_at taken coming g f b lt = get_or-map (come_one taken) coming g b f lt
+
+-- ---- an event is popped
+
 module _ (config : Settings) (sizes : List ℕ) (takers : List Taker) (seated : AreSeated config sizes takers) (q : ℕ) (t : Taker) (at : t ≡ get_or takers q t) (there : q < config.queues) (queues : length takers ≡ config.queues) (s : Sent) (next : IsNextPopped t s) where
   seat_size : get_or t.sizes s.group 0 ≡ cond (s.group % config.queues == q) (get_or sizes s.group 0) 0
   seat_size = ap (λ (u : Taker). get_or u.sizes s.group 0) at ∙ seated q s.group t there
 
-  pub queue_is : s.group % config.queues ≡ q
+  queue_is : s.group % config.queues ≡ q
   queue_is = ⊎_elim (λ same. same)
       (λ apart. absurd (next.seated (seat_size ∙ ap (λ b. cond b (get_or sizes s.group 0) 0) (ne_eqb (s.group % config.queues) q apart))))
       (cases_eq (s.group % config.queues) q)
 
-  pub size_is : get_or t.sizes s.group 0 ≡ get_or sizes s.group 0
+  size_is : get_or t.sizes s.group 0 ≡ get_or sizes s.group 0
   size_is = seat_size ∙ ap (λ b. cond b (get_or sizes s.group 0) 0) (eq-eqb (s.group % config.queues) q queue_is)
 
   pub group_there : s.group < length sizes
   group_there = ⊎_elim (λ lt. lt)
       (λ (ge : length sizes ≤ s.group). absurd (next.seated (size_is ∙ get_or-eq_default sizes 0 ge)))
       (cases_lt s.group (length sizes))
-
-  -- what was taken of the group is what was popped of it
-  pub list_is : (taken : Streams) → AreTaken config taken takers → list_of taken s.group ≡ popped_of t s.group
-  list_is taken are = are s.group t ∙ (ap (λ n. popped_of (get_or takers n t) s.group) queue_is ∙ ap (λ (u : Taker). popped_of u s.group) (sym at))
-
-  pub may_take : (seq : Sequence) → seq.taken.sizes ≡ sizes → AreTaken config seq.taken takers → MayTake seq s
-  may_take seq same are = record {
-    can = record {
-      group = subst (λ (l : List ℕ). s.group < length l) (sym same) group_there;
-      before_end = λ whole. absurd (true≢false (sym whole ∙ (ap is_complete (list_is seq.taken are) ∙ next.unended)));
-      item = subst (λ n. s.event.item < n) (size_is ∙ ap (λ (l : List ℕ). get_or l s.group 0) (sym same)) next.good.0;
-    };
-    good = (next.good.1, next.good.2);
-    room = subst (λ (l : List Event). length l < MOST_RECORDS) (sym (list_is seq.taken are)) next.room;
-  }
 
   seat_here : (d : Taker) → get_or (set takers q (popping t s)) q d ≡ popping t s
   seat_here d = get_or-set_same takers q (popping t s) d (omega (arith, there, queues))
@@ -65,28 +60,77 @@ module _ (config : Settings) (sizes : List ℕ) (takers : List Taker) (seated : 
   popped_else : (h : ℕ) → h ≢ s.group → popped_of (popping t s) h ≡ popped_of t h
   popped_else h apart = events_append h t.popped (s ∷ []) ∙ (ap (λ (l : List Event). popped_of t h ++ l) (events_else h s (λ e. apart (sym e))) ∙ append-nil (popped_of t h))
 
-  pub still_taken : (taken : Streams) → length sizes ≤ length taken.lists → AreTaken config taken takers → AreTaken config (with_record taken s.group s.event) (set takers q (popping t s))
-  still_taken taken count are h d = ⊎_elim
-      (λ (same : h ≡ s.group). subst (λ n. list_of (with_record taken s.group s.event) n ≡ popped_of (get_or (set takers q (popping t s)) (n % config.queues) d) n) (sym same)
-      (get_or-set_same taken.lists s.group (list_of taken s.group ++ s.event ∷ []) [] (let lt = group_there in omega (arith, lt, count))
-      ∙ (ap (λ (l : List Event). l ++ s.event ∷ []) (list_is taken are)
-      ∙ (sym popped_here
-      ∙ (sym (ap (λ (u : Taker). popped_of u s.group) (seat_here d))
-      ∙ ap (λ n. popped_of (get_or (set takers q (popping t s)) n d) s.group) (sym queue_is))))))
-      (λ apart. get_or-set_other taken.lists s.group h (list_of taken s.group ++ s.event ∷ []) [] apart
-      ∙ (are h d ∙ others h d apart))
-      (cases_eq h s.group)
-    where
-      others : (h : ℕ) (d : Taker) → h ≢ s.group → popped_of (get_or takers (h % config.queues) d) h ≡ popped_of (get_or (set takers q (popping t s)) (h % config.queues) d) h
-      others h d apart = ⊎_elim
-          (λ (same : h % config.queues ≡ q).
-          ap (λ n. popped_of (get_or takers n d) h) same
-          ∙ (ap (λ (u : Taker). popped_of u h) (get_or_default takers q d t (omega (arith, there, queues)) ∙ sym at)
-          ∙ (sym (popped_else h apart)
-          ∙ (sym (ap (λ (u : Taker). popped_of u h) (seat_here d))
-          ∙ ap (λ n. popped_of (get_or (set takers q (popping t s)) n d) h) (sym same)))))
-          (λ other. ap (λ (u : Taker). popped_of u h) (sym (seat_else (h % config.queues) d other)))
-          (cases_eq (h % config.queues) q)
+  -- what was popped of the event's group
+  own_before : (d : Taker) → popped_of (get_or takers (s.group % config.queues) d) s.group ≡ popped_of t s.group
+  own_before d = ap (λ n. popped_of (get_or takers n d) s.group) queue_is ∙ ap (λ (u : Taker). popped_of u s.group) (get_or_default takers q d t (omega (arith, there, queues)) ∙ sym at)
+
+  own_after : (d : Taker) → popped_of (get_or (set takers q (popping t s)) (s.group % config.queues) d) s.group ≡ popped_of t s.group ++ s.event ∷ []
+  own_after d = ap (λ n. popped_of (get_or (set takers q (popping t s)) n d) s.group) queue_is ∙ (ap (λ (u : Taker). popped_of u s.group) (seat_here d) ∙ popped_here)
+
+  -- and of other groups
+  others : (h : ℕ) (d : Taker) → h ≢ s.group → popped_of (get_or takers (h % config.queues) d) h ≡ popped_of (get_or (set takers q (popping t s)) (h % config.queues) d) h
+  others h d apart = ⊎_elim
+      (λ (same : h % config.queues ≡ q).
+      ap (λ n. popped_of (get_or takers n d) h) same
+      ∙ (ap (λ (u : Taker). popped_of u h) (get_or_default takers q d t (omega (arith, there, queues)) ∙ sym at)
+      ∙ (sym (popped_else h apart)
+      ∙ (sym (ap (λ (u : Taker). popped_of u h) (seat_here d))
+      ∙ ap (λ n. popped_of (get_or (set takers q (popping t s)) n d) h) (sym same)))))
+      (λ other. ap (λ (u : Taker). popped_of u h) (sym (seat_else (h % config.queues) d other)))
+      (cases_eq (h % config.queues) q)
+
+  -- the event joins those that are to be taken
+  module _ (taken : Streams) (same : taken.sizes ≡ sizes) (coming : List ListedRecords) (are : ArePopped config taken coming takers) (b : ListedRecords) (mine : b ≡ get_or coming s.group b) where
+    there_now : s.group < length coming
+    there_now = omega (arith, are.count, ap length same, group_there)
+
+    abbrev joined : List ListedRecords
+    joined = set coming s.group (behind b s.event)
+
+    came : (d : Taker) → come_one taken b ≡ (s.group, popped_of t s.group)
+    came d =
+        let f = come_one taken b in
+        ap (come_one taken) mine
+        ∙ (sym (come_at taken coming s.group f b there_now)
+        ∙ (are.each s.group f d (omega (arith, there_now, are.count)) ∙ ap (λ (l : List Event). (s.group, l)) (own_before d)))
+
+    here : (f : ℕ × List Event) (d : Taker) → get_or (come_in taken joined) s.group f ≡ (s.group, popped_of (get_or (set takers q (popping t s)) (s.group % config.queues) d) s.group)
+    here f d =
+        come_at taken joined s.group f b (omega (arith, there_now, length-set coming s.group (behind b s.event)))
+        ∙ (ap (come_one taken) (get_or-set_same coming s.group (behind b s.event) b there_now)
+        ∙ (ap (λ (l : List Event). (b.group, l)) (sym (append_assoc (list_of taken b.group) b.records (s.event ∷ [])))
+        ∙ (ap (λ (x : ℕ × List Event). (x.0, x.1 ++ s.event ∷ [])) (came d)
+        ∙ ap (λ (l : List Event). (s.group, l)) (sym (own_after d)))))
+
+    elsewhere : (g : ℕ) (f : ℕ × List Event) (d : Taker) → g < length taken.sizes → g ≢ s.group → get_or (come_in taken joined) g f ≡ (g, popped_of (get_or (set takers q (popping t s)) (g % config.queues) d) g)
+    elsewhere g f d lt apart =
+        come_at taken joined g f b (omega (arith, lt, are.count, length-set coming s.group (behind b s.event)))
+        ∙ (ap (come_one taken) (get_or-set_other coming s.group g (behind b s.event) b apart)
+        ∙ (sym (come_at taken coming g f b (omega (arith, lt, are.count)))
+        ∙ (are.each g f d lt ∙ ap (λ (l : List Event). (g, l)) (others g d apart))))
+
+    own_size : get_or t.sizes s.group 0 ≡ size_of taken s.group
+    own_size = size_is ∙ ap (λ (l : List ℕ). get_or l s.group 0) (sym same)
+
+    own_prefix : (d : Taker) → IsPrefix (size_of taken s.group) (popped_of (get_or (set takers q (popping t s)) (s.group % config.queues) d) s.group)
+    own_prefix d =
+        let before : IsPrefix (get_or t.sizes s.group 0) (popped_of t s.group) =
+        subst (λ n. IsPrefix n (popped_of t s.group)) (sym own_size) (subst (IsPrefix (size_of taken s.group)) (own_before d) (are.prefixes s.group d (omega (arith, there_now, are.count)))) in
+        subst (IsPrefix (size_of taken s.group)) (sym (own_after d))
+        (subst (λ n. IsPrefix n (popped_of t s.group ++ s.event ∷ [])) own_size (prefix_push (get_or t.sizes s.group 0) (popped_of t s.group) s.event before next.good next.unended next.room))
+
+    pub still_popped : ArePopped config taken joined (set takers q (popping t s))
+    still_popped = record {
+      count = length-set coming s.group (behind b s.event) ∙ are.count;
+      each = λ g f d lt. ⊎_elim
+          (λ (own : g ≡ s.group). subst (λ n. get_or (come_in taken joined) n f ≡ (n, popped_of (get_or (set takers q (popping t s)) (n % config.queues) d) n)) (sym own) (here f d))
+          (λ apart. elsewhere g f d lt apart)
+          (cases_eq g s.group);
+      prefixes = λ g d lt. ⊎_elim
+          (λ (own : g ≡ s.group). subst (λ n. IsPrefix (size_of taken n) (popped_of (get_or (set takers q (popping t s)) (n % config.queues) d) n)) (sym own) (own_prefix d))
+          (λ apart. subst (IsPrefix (size_of taken g)) (others g d apart) (are.prefixes g d lt))
+          (cases_eq g s.group);
+    }
 
   pub still_seated : AreSeated config sizes (set takers q (popping t s))
   still_seated p g d lt = ⊎_elim
@@ -98,10 +142,50 @@ module _ (config : Settings) (sizes : List ℕ) (takers : List Taker) (seated : 
       (λ apart. ap (λ (u : Taker). get_or u.sizes g 0) (seat_else p d apart) ∙ seated p g d lt)
       (cases_eq p q)
 
-  -- the accesses along the handled order stay
-  pub taken_passed : (seq : Sequence) → IsSequence seq → seq.taken.sizes ≡ sizes → AreTaken config seq.taken takers → (given : List (List ClockedAccess)) (in_flight : Option ClockedAccess) → ArePassedOn config seq given in_flight → ArePassedOn config (taking seq s.group s.event) given in_flight
-  taken_passed seq sequence same are given in_flight passed = record {
-    accesses = passed.accesses;
-    along = accesses_stay seq.taken (with_record seq.taken s.group s.event) (record_grows seq.taken s.group s.event sequence.prefixes (may_take seq same are).can) seq.handled passed.accesses sequence.lawful passed.along;
-    each = passed.each;
+-- ---- the groups take turns
+
+module _ (config : Settings) (taken : Streams) (coming : List ListedRecords) (takers : List Taker) (are : ArePopped config taken coming takers) where
+  in_sizes : (g : ℕ) → g < length (come_in taken coming) → g < length taken.sizes
+  in_sizes g lt = omega (arith, lt, length-map coming (come_one taken), are.count)
+
+  -- what was popped of a group may come
+  may_come : Taker → MayCome (λ g. g) taken.sizes (come_in taken coming)
+  may_come d = record {
+    there = λ g f lt. subst (λ (x : ℕ × List Event). x.0 < length taken.sizes) (sym (are.each g f d (in_sizes g lt))) (in_sizes g lt);
+    prefixes = λ g f lt. subst (λ (x : ℕ × List Event). IsPrefix (size_of taken x.0) x.1) (sym (are.each g f d (in_sizes g lt))) (are.prefixes g d (in_sizes g lt));
+    differ = λ i j f lt there. λ same.
+        let first = ap (λ (x : ℕ × List Event). x.0) (are.each i f d (in_sizes i (omega (arith, lt, there)))) in
+        let second = ap (λ (x : ℕ × List Event). x.0) (are.each j f d (in_sizes j there)) in
+        absurd (omega (arith, lt, sym first ∙ (same ∙ second)));
   }
+
+  pub may_come_now : length takers ≡ config.queues → 0 < config.queues → MayCome (λ g. g) taken.sizes (come_in taken coming)
+  may_come_now queues some = may_come (a_taker takers (omega (arith, queues, some)))
+    where
+      a_taker : (ts : List Taker) → 0 < length ts → Taker
+      a_taker [] none = absurd (omega (arith, none))
+      a_taker (t ∷ ts) there = t
+
+  -- some of it was taken
+  pub popped_moves : (new : Streams) (left : List ListedRecords) → come_in new left ≡ come_in taken coming → new.sizes ≡ taken.sizes → ArePopped config new left takers
+  popped_moves new left same sizes =
+      let as_many : length left ≡ length coming = sym (length-map left (come_one new)) ∙ (ap length same ∙ length-map coming (come_one taken)) in
+      record {
+        count = as_many ∙ (are.count ∙ ap length (sym sizes));
+        each = λ g f d lt. ap (λ (l : List (ℕ × List Event)). get_or l g f) same ∙ are.each g f d (omega (arith, lt, ap length sizes));
+        prefixes = λ g d lt. subst (λ (l : List ℕ). IsPrefix (get_or l g 0) (popped_of (get_or takers (g % config.queues) d) g)) (sym sizes) (are.prefixes g d (omega (arith, lt, ap length sizes)));
+      }
+
+  -- all of it was taken
+  pub all_taken : All (λ b. b.records ≡ []) coming → AreTaken config taken takers
+  all_taken none g d lt = taken_at (get_or coming g (record { group = 0; records = [] })) (none g (record { group = 0; records = [] }) within)
+      (sym (come_at taken coming g (0, []) (record { group = 0; records = [] }) within) ∙ are.each g (0, []) d lt)
+    where
+      within : g < length coming
+      within = omega (arith, lt, are.count)
+
+      taken_at : (b : ListedRecords) → b.records ≡ [] → come_one taken b ≡ (g, popped_of (get_or takers (g % config.queues) d) g) → list_of taken g ≡ popped_of (get_or takers (g % config.queues) d) g
+      taken_at b empty is =
+          ap (list_of taken) (sym (ap (λ (x : ℕ × List Event). x.0) is))
+          ∙ (sym (ap (λ (l : List Event). list_of taken b.group ++ l) empty ∙ append-nil (list_of taken b.group))
+          ∙ ap (λ (x : ℕ × List Event). x.1) is)

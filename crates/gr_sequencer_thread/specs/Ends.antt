@@ -1,13 +1,13 @@
 -- What the sequencer's thread begins with, and what it leaves.
 -- Source: docs/QUEUES.md, "The work queue", and docs/MODEL.md, "The world".
-use Rattle.std.specs.Prelude.{◌≡◌, ℕ, false, List, length, Option, None, IfSome}
+use Rattle.std.specs.Prelude.{◌≡◌, ℕ, List, length, Option, IfSome}
 use Rattle.atomic_table.specs.Seated.{TableId}
 use Rattle.gr_model.specs.Configs.{IsConfig, Settings}
 use Rattle.gr_model.specs.Reports.{IsReportButRaces, WholeReport}
 use Rattle.gr_order.specs.Sequences.{Sequence}
 use Rattle.gr_route.specs.IntakeSeats.{Taker}
 use Rattle.gr_route.specs.WorkSeats.{Giver}
-use Rattle.gr_sequencer_thread.specs.Feeds.{AreStopped, Feed, IsFeedWhole, intakes_of, works_of}
+use Rattle.gr_sequencer_thread.specs.Feeds.{AreStopped, Feed, IsWhole, intakes_of, works_of}
 
 -- how a run is set up, the items of each work-group, its intake queues and its workers' queues
 pub record Line : Type 0 where
@@ -35,7 +35,7 @@ abbrev pub begin_line : {A : Type 0} → Begin A → Line
 begin_line b = record { config = b.config; sizes = b.sizes; intakes = intakes_of b.takers; works = works_of b.givers }
 
 abbrev pub feed_line : {A : Type 0} → Feed A → Line
-feed_line f = record { config = f.config; sizes = f.sequence.taken.sizes; intakes = intakes_of f.takers; works = works_of f.givers }
+feed_line f = record { config = f.config; sizes = f.sizes; intakes = intakes_of f.takers; works = works_of f.givers }
 
 abbrev pub end_line : {A : Type 0} → End A → Line
 end_line e = record { config = e.config; sizes = e.sizes; intakes = intakes_of e.takers; works = works_of e.givers }
@@ -44,7 +44,7 @@ end_line e = record { config = e.config; sizes = e.sizes; intakes = intakes_of e
 pub record IsFound {A : Type 0} (config : Settings) (sizes : List ℕ) (takers : List Taker) (givers : List (Giver A)) (report : WholeReport) : Type 0 where
   pub sequence : Sequence
   pub sizes_are : sequence.taken.sizes ≡ sizes
-  pub whole : IsFeedWhole (record { config = config; sequence = sequence; takers = takers; givers = givers; in_flight = None; failed = false })
+  pub whole : IsWhole config sequence takers givers
   pub report_is : IsReportButRaces sequence.taken report
 
 pub record IsEnd {A : Type 0} (e : End A) : Type 0 where

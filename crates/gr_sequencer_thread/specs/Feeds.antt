@@ -1,29 +1,41 @@
 -- What the sequencer's thread has, and what is so of it at every moment and at its end.
 -- Source: docs/QUEUES.md, "The work queue", and docs/MODEL.md, "The world".
-use Rattle.std.specs.Prelude.{◌≡◌, ◌==◌, ◌<◌, ◌%◌, ℕ, Bool, false, List, [], ◌++◌, length, map, filter, slice_index, slice_index_or, Option, None, IsFalse, IsTrue, if◌then◌else◌}
+use Rattle.std.specs.Prelude.{◌≡◌, ◌==◌, ◌<◌, ◌%◌, ℕ, All, Bool, false, List, [], ◌∷◌, ◌++◌, length, map, filter, slice_index, slice_index_or, Option, None, Some, IsFalse, IsTrue, if◌then◌else◌}
 use Rattle.atomic_table.specs.Seated.{TableId}
-use Rattle.gr_model.specs.declared.event.Sent.{Sent}
-use Rattle.gr_model.specs.declared.limits.TheConstants.{MOST_RECORDS}
+use Rattle.gr_model.specs.declared.event.Event.{Event}
 use Rattle.gr_model.specs.Configs.{IsConfig, Settings, worker_number}
-use Rattle.gr_model.specs.Streams.{AreComplete, Streams, list_of}
-use Rattle.gr_closure.specs.AccessesAlong.{AreAccesses, in_flight_list}
-use Rattle.gr_lanes.specs.Takes.{CanTake, IsEventButItem}
-use Rattle.gr_order.specs.Sequences.{IsDone, IsSequence, Sequence, taking}
+use Rattle.gr_model.specs.Streams.{AreComplete, IsPrefix, Streams, list_of, size_of}
+use Rattle.gr_clocks.specs.declared.access.Access.{Access}
+use Rattle.gr_clocks.specs.ClockedAccess.{ClockedAccess, clocked}
+use Rattle.gr_order.specs.Sequences.{IsDone, IsSequence, Sequence}
 use Rattle.gr_route.specs.declared.work.Work.{Work}
 use Rattle.gr_route.specs.IntakeSeats.{Taker, popped_of}
 use Rattle.gr_route.specs.WorkRule.{is_stopped}
 use Rattle.gr_route.specs.WorkSeats.{Giver}
-use Rattle.gr_shadow.specs.Clashes.{ClockedAccess}
+use Rattle.gr_taking.specs.Along.{IsAlong}
+use Rattle.gr_taking.specs.Sources.{ListedRecords, come_from}
 use Rattle.gr_threads.specs.Given.{accesses_in}
 
--- how the run is set up; what was taken, and what of it was handled, in which order; the seats that pop, by queue; the seats that push, by worker; the access that was handled and pushed to no worker yet; whether memory ran out
+-- how the run is set up, and the items of each work-group; what was taken, and what of it was handled, in which order; the seats that pop, by queue; the seats that push, by worker; the events that were popped and are to be taken, by group; the accesses that were handled and pushed to no worker yet; whether memory ran out
 pub record Feed (A : Type 0) : Type 0 where
   pub config : Settings
+  pub sizes : List ℕ
   pub sequence : Sequence
   pub takers : List Taker
   pub givers : List (Giver A)
-  pub in_flight : Option ClockedAccess
+  pub coming : List ListedRecords
+  pub on_way : List ClockedAccess
   pub failed : Bool
+
+-- a backlog for each group, and no event in it
+pub record AreNoBacklogs (sizes : List ℕ) (coming : List ListedRecords) : Type 0 where
+  pub count : length coming ≡ length sizes
+  pub each : (g : ℕ) (d : ListedRecords) → g < length coming → slice_index_or coming g d ≡ record { group = g; records = [] }
+
+-- the accesses on their way: one that was refused before the others
+abbrev pub accesses_on_way : {A : Type 0} → Option (Access A) → List (Access A) → List ClockedAccess
+accesses_on_way None waiting = map clocked waiting
+accesses_on_way (Some x) waiting = clocked x ∷ map clocked waiting
 
 -- which queues the seats are of
 abbrev pub intakes_of : List Taker → List TableId
@@ -66,39 +78,41 @@ AreStopped {A} givers = (k : ℕ) (d : Giver A) → k < length givers → IsTrue
 
 -- what was taken of each group is what was popped of it
 abbrev pub AreTaken : Settings → Streams → List Taker → Type 0
-AreTaken config taken takers = (g : ℕ) (d : Taker) → list_of taken g ≡ popped_of (slice_index_or takers (g % config.queues) d) g
+AreTaken config taken takers = (g : ℕ) (d : Taker) → g < length taken.sizes → list_of taken g ≡ popped_of (slice_index_or takers (g % config.queues) d) g
 
--- what each worker was given, and what is on its way to it, are the accesses along the handled order that go to it
-pub record ArePassedOn (config : Settings) (sequence : Sequence) (given : List (List ClockedAccess)) (in_flight : Option ClockedAccess) : Type 0 where
-  pub accesses : List ClockedAccess
-  pub along : AreAccesses sequence.taken sequence.handled accesses
-  pub each : (k : ℕ) → k < config.workers → accesses_for config.workers k accesses ≡ slice_index_or given k [] ++ accesses_for config.workers k (in_flight_list in_flight)
+-- of each group, what was taken of it with what is to be taken
+abbrev pub come_in : Streams → List ListedRecords → List (ℕ × List Event)
+come_in taken coming = come_from (λ b. b.group) (λ g. g) (λ b. b.records) taken coming
+
+-- this is what was popped of it, which may have come of it
+pub record ArePopped (config : Settings) (taken : Streams) (coming : List ListedRecords) (takers : List Taker) : Type 0 where
+  pub count : length coming ≡ length taken.sizes
+  pub each : (g : ℕ) (f : ℕ × List Event) (d : Taker) → g < length taken.sizes → slice_index_or (come_in taken coming) g f ≡ (g, popped_of (slice_index_or takers (g % config.queues) d) g)
+  pub prefixes : (g : ℕ) (d : Taker) → g < length taken.sizes → IsPrefix (size_of taken g) (popped_of (slice_index_or takers (g % config.queues) d) g)
+
+-- of these accesses each of so many workers was given those that go to it, but for those that are on their way
+abbrev pub AreSplit : ℕ → List (List ClockedAccess) → List ClockedAccess → List ClockedAccess → Type 0
+AreSplit workers given accesses on_way = (k : ℕ) → k < workers → accesses_for workers k accesses ≡ slice_index_or given k [] ++ accesses_for workers k on_way
+
+-- what the workers were given, and what is on its way to them, are the accesses along the handled order
+abbrev pub ArePassedOn : Settings → Sequence → List (List ClockedAccess) → List ClockedAccess → Type 0
+ArePassedOn config sequence given on_way = IsAlong (AreSplit config.workers given) sequence on_way
 
 -- memory never ran out
 pub record IsGood {A : Type 0} (f : Feed A) : Type 0 where
+  pub same : f.sequence.taken.sizes ≡ f.sizes
   pub sequence : IsSequence f.sequence
-  pub taken : AreTaken f.config f.sequence.taken f.takers
-  pub passed : ArePassedOn f.config f.sequence (given_of f.givers) f.in_flight
+  pub popped : ArePopped f.config f.sequence.taken f.coming f.takers
+  pub passed : ArePassedOn f.config f.sequence (given_of f.givers) f.on_way
 
 pub record IsFeed {A : Type 0} (f : Feed A) : Type 0 where
   pub config : IsConfig f.config
   pub queues : length f.takers ≡ f.config.queues
   pub worker_count : length f.givers ≡ f.config.workers
-  pub seated : AreSeated f.config f.sequence.taken.sizes f.takers
+  pub backlogs : length f.coming ≡ length f.sizes
+  pub seated : AreSeated f.config f.sizes f.takers
   pub unstopped : AreOpen f.givers
   pub good : f.failed ≡ false → IsGood f
-
--- an event may be taken by a sequencer
-pub record MayTake (q : Sequence) (s : Sent) : Type 0 where
-  pub can : CanTake q.taken s.group s.event
-  pub good : IsEventButItem s.event
-  pub room : length (list_of q.taken s.group) < MOST_RECORDS
-
--- a sequencer has taken an event; what is on its way is as before, or the access of this event, which was handled too
-pub record IsNoted (old : Sequence) (before : Option ClockedAccess) (s : Sent) (new : Sequence) (after : Option ClockedAccess) : Type 0 where
-  pub taken : new.taken ≡ (taking old s.group s.event).taken
-  pub sequence : IsSequence new
-  pub passed : (config : Settings) (given : List (List ClockedAccess)) → ArePassedOn config (taking old s.group s.event) given before → ArePassedOn config new given after
 
 -- ---- where it begins
 
@@ -115,19 +129,23 @@ pub record IsFresh {A : Type 0} (config : Settings) (sizes : List ℕ) (takers :
 -- the seats are of the same queues, and the run is set up as before
 pub record IsSameRun {A : Type 0} (old new : Feed A) : Type 0 where
   pub config : new.config ≡ old.config
-  pub sizes : new.sequence.taken.sizes ≡ old.sequence.taken.sizes
+  pub sizes : new.sizes ≡ old.sizes
   pub intakes : intakes_of new.takers ≡ intakes_of old.takers
   pub works : works_of new.givers ≡ works_of old.givers
 
 -- ---- where it ends
 
--- every group's end was taken, no step is left, and nothing is on its way
+-- every group's end was taken, no step is left, and nothing is to be taken or on its way
 pub record IsOver {A : Type 0} (f : Feed A) : Type 0 where
   pub complete : AreComplete f.sequence.taken
   pub done : IsDone f.sequence
-  pub in_flight : f.in_flight ≡ None
+  pub taken : All (λ b. b.records ≡ []) f.coming
+  pub passed : f.on_way ≡ []
 
--- memory never ran out, and all was taken, handled and passed on
-pub record IsFeedWhole {A : Type 0} (f : Feed A) : Type 0 where
-  pub good : IsGood f
-  pub over : IsOver f
+-- all that was popped was taken, handled and passed on
+pub record IsWhole {A : Type 0} (config : Settings) (sequence : Sequence) (takers : List Taker) (givers : List (Giver A)) : Type 0 where
+  pub sequence_is : IsSequence sequence
+  pub complete : AreComplete sequence.taken
+  pub done : IsDone sequence
+  pub taken : AreTaken config sequence.taken takers
+  pub passed : ArePassedOn config sequence (given_of givers) []

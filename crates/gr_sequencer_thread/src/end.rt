@@ -100,7 +100,7 @@ pub(crate) fn findings<A: Allocator + Copy>(
     sequencer: &Sequencer<A>,
     failed: bool,
 ) -> Option<Report<A>>
-    requires shape { sequencer.now.taken.sizes ≡ shape.now }
+    requires shape { failed ≡ false → sequencer.now.taken.sizes ≡ shape.now }
     requires rest { failed ≡ false → IsAtRest sequencer.now.taken sequencer.now.handled }
     ensures failed { OnSome result (failed ≡ false) }
     ensures report { IfSome result (λ report. IsReportButRaces sequencer.now.taken (whole_of report)) }

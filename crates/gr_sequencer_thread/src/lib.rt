@@ -2,9 +2,11 @@
 //! workers.
 #![tactic(auto)]
 
+mod backlog;
 pub mod begin;
 pub mod end;
 mod feed;
 pub mod inlet;
+mod on_way;
 pub mod outlet;
 pub mod thread;

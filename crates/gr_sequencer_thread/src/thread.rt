@@ -1,9 +1,11 @@
 //! The sequencer's thread, from its start to its join.
 
-ghost use Rattle.std.specs.Prelude.{◌≡◌, IfSome};
+ghost use Rattle.std.specs.Prelude.{◌≡◌, IfOk, IfSome};
 ghost use Rattle.gr_sequencer_thread.specs.Ends.{begin_line, end_line, feed_line};
-ghost use Rattle.gr_sequencer_thread.specs.Feeds.{intakes_of};
+ghost use Rattle.gr_order.specs.Sequences.{nothing};
+ghost use Rattle.gr_sequencer_thread.specs.Feeds.{AreNoBacklogs, intakes_of};
 
+use crate::backlog::{Backlog, backlogs_of};
 use crate::begin::Begin;
 use crate::end::SequencerEnd;
 use crate::feed::{Feed, left_open};
@@ -29,24 +31,23 @@ use std::time::Clock;
 fn run<R: Wait + Clock, A: Allocator + Copy, W: Watch>(
     rt: &R,
     alloc: A,
-    shape: Shape<A>,
     feed: Feed<A>,
     watch: &Arc<W, A>,
 ) -> SequencerEnd<A>
-    requires { feed.sequence.taken.sizes ≡ shape }
     ensures { end_line result ≡ feed_line feed }
 {
     let mut feed = feed;
     let idle = Idle::new();
     for _ in rt.forever() {
-        let taken = feed.drain_all(rt, watch);
-        let advanced = feed.advance_all(rt);
-        if taken || advanced {
+        let popped = feed.drain_all(rt, watch);
+        let taken = feed.take_turns(popped);
+        let passed = feed.pass_all(rt);
+        if popped || taken || passed {
             idle.reset();
             continue;
         }
         if feed.is_over() {
-            return feed.stop(rt, alloc, shape);
+            return feed.stop(rt, alloc);
         }
         feed.flush(rt);
         idle.wait(rt);
@@ -93,6 +94,21 @@ fn pop_all<R: Wait + Clock, A: Allocator, W: Watch>(
     unreachable!()
 }
 
+/// A sequencer and backlogs for a launch of this shape, of which nothing has come.
+///
+/// # Errors
+/// `Memory`: out of memory.
+fn fresh<A: Allocator + Copy>(
+    alloc: A,
+    shape: &Shape<A>,
+) -> Result<(Sequencer<A>, Vec<Backlog<A>, A>), Memory>
+    ensures sequencer { IfOk result (λ pair. pair.0 ≡ nothing shape.now) }
+    ensures backlogs { IfOk result (λ pair. AreNoBacklogs shape.now pair.1.items) }
+{
+    let sequencer = Sequencer::new(alloc, shape.copy()?)?;
+    Ok((sequencer, backlogs_of(alloc, shape)?))
+}
+
 /// The whole of the thread.
 fn sequence<R: Wait + Clock, A: Allocator + Copy, W: Watch>(
     rt: &R,
@@ -108,15 +124,10 @@ fn sequence<R: Wait + Clock, A: Allocator + Copy, W: Watch>(
         mut inlets,
         mut outlets,
     } = begin;
-    let sequencer = match shape.copy() {
-        Ok(copy) => Sequencer::new(alloc, copy),
-        Err(error) => Err(error),
-    };
-    match sequencer {
-        Ok(sequencer) => {
-            let groups = shape.groups();
-            let feed = Feed::new(config, sequencer, inlets, outlets, groups);
-            run(rt, alloc, shape, feed, watch)
+    match fresh(alloc, &shape) {
+        Ok((sequencer, backlogs)) => {
+            let feed = Feed::new(alloc, config, shape, sequencer, backlogs, inlets, outlets);
+            run(rt, alloc, feed, watch)
         }
         Err(Memory) => {
             // The numbers of a configuration are in range.

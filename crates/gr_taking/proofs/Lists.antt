@@ -3,7 +3,7 @@ use Rattle.std.proofs.Common.{◌≡◌, ◌<◌, ℕ, List, [], ◌++◌, lengt
 use Rattle.std.specs.Prelude.{All}
 use Rattle.std.proofs.lemmas.List.{ext_get_or, get_or-map, length-map}
 use Rattle.gr_model.specs.declared.event.Event.{Event}
-use Rattle.gr_model.specs.Streams.{Streams, AreAccepted, IsAccepted, list_of, size_of}
+use Rattle.gr_model.specs.Streams.{Streams, AreAccepted, IsPrefix, list_of, size_of}
 use Rattle.gr_order.specs.Sequences.{Sequence, nothing}
 use Rattle.gr_taking.specs.Sources.{AreListsOf, ListedRecords, MayCome, come_from, come_of}
 use Rattle.gr_taking.proofs.TakenLemmas.{empty_at}
@@ -50,8 +50,10 @@ module _ (s : Streams) (accepted : AreAccepted s) (xs : List ListedRecords) (are
     pub lists_may_come : MayCome itself q.taken.sizes (come q.taken xs)
     lists_may_come = record {
       there = λ g f lt. subst (λ (x : ℕ × List Event). x.0 < length q.taken.sizes) (sym (first_at g f (in_lists g lt))) (omega (arith, in_lists g lt, are.count, ap length first_sizes));
-      accepted = λ g f lt. subst (λ (x : ℕ × List Event). IsAccepted (size_of q.taken x.0) x.1) (sym (first_at g f (in_lists g lt)))
-          (subst (λ (n : List ℕ). IsAccepted (get_or n g 0) (list_of s g)) (sym first_sizes) (accepted.each g (omega (arith, in_lists g lt, are.count))));
+      prefixes = λ g f lt.
+          let list = accepted.each g (omega (arith, in_lists g lt, are.count)) in
+          let prefix : IsPrefix (get_or q.taken.sizes g 0) (list_of s g) = subst (λ (n : List ℕ). IsPrefix (get_or n g 0) (list_of s g)) (sym first_sizes) (record { few = list.few; good = list.good }) in
+          subst (λ (x : ℕ × List Event). IsPrefix (size_of q.taken x.0) x.1) (sym (first_at g f (in_lists g lt))) prefix;
       differ = λ i j f lt there. λ same.
           let first = ap (λ (x : ℕ × List Event). x.0) (first_at i f (omega (arith, lt, in_lists j there))) in
           let second = ap (λ (x : ℕ × List Event). x.0) (first_at j f (in_lists j there)) in

@@ -6,7 +6,7 @@ use Rattle.std.proofs.lemmas.Bool.{cases_eq, cases_lt}
 use Rattle.std.proofs.lemmas.List.{ext_get_or, get_or-map, get_or-set_other, get_or-set_same, length-append, length-map, length-set}
 use Rattle.std.proofs.lemmas.List.Sums.{sum_by-set}
 use Rattle.gr_model.specs.declared.event.Event.{Event}
-use Rattle.gr_model.specs.Streams.{Streams, IsAccepted, list_of, size_of}
+use Rattle.gr_model.specs.Streams.{Streams, IsPrefix, list_of, size_of}
 use Rattle.gr_taking.specs.Sources.{AreTakenFrom, MayCome, MayTake, come_from, come_of}
 
 module _ {X Y : Type 0} (header : X → Y) (group : Y → ℕ) (coming : X → List Event) where
@@ -35,10 +35,10 @@ module _ {X Y : Type 0} (header : X → Y) (group : Y → ℕ) (coming : X → L
     stream_may count =
         let f = come_one t stream in
         let there = may.there k f (omega (arith, within, length-map xs (come_one t))) in
-        let accepted = may.accepted k f (omega (arith, within, length-map xs (come_one t))) in
+        let prefix = may.prefixes k f (omega (arith, within, length-map xs (come_one t))) in
         record {
           there = omega (arith, count, subst (λ (x : Y × List Event). group x.0 < length t.sizes) (come_at k f within) there);
-          accepted = subst (λ (x : Y × List Event). IsAccepted (size_of t (group x.0)) x.1) (come_at k f within) accepted;
+          prefix = subst (λ (x : Y × List Event). IsPrefix (size_of t (group x.0)) x.1) (come_at k f within) prefix;
         }
 
     -- streams at two places are of two groups

@@ -1,13 +1,11 @@
 -- The first of the records that are to come of a group may be taken, and was.
-use Rattle.std.proofs.Common.{◌≡◌, ℕ, ◌<◌, ◌≤◌, ⊎_elim, List, [], ◌∷◌, ◌++◌, Some, length, set, slice_get, IsTrue, refl, sym, ap, ◌∙◌, subst, append_assoc, append-nil, set-set, get_or-set_same, arith}
-use Rattle.std.proofs.Math.Seq.{get_or-append_seam}
+use Rattle.std.proofs.Common.{◌≡◌, ℕ, ◌<◌, ◌≤◌, ⊎_elim, List, [], ◌∷◌, ◌++◌, length, set, refl, sym, ap, ◌∙◌, subst, append_assoc, append-nil, set-set, get_or-set_same, arith, true≢false}
 use Rattle.std.proofs.lemmas.Bool.{cases_lt}
 use Rattle.std.proofs.lemmas.List.{length-append, length-set, set-get_or, get_or_past}
-use Rattle.std.proofs.lemmas.Option.{slice_get-get_or}
 use Rattle.gr_model.specs.declared.event.Event.{Event}
 use Rattle.gr_model.specs.declared.limits.TheConstants.{MOST_RECORDS}
-use Rattle.gr_model.specs.Streams.{Streams, IsAccepted, is_complete, list_of, size_of}
-use Rattle.gr_model.proofs.StreamPrefixes.{prefix_whole}
+use Rattle.gr_model.specs.Streams.{Streams, IsPrefix, list_of, size_of}
+use Rattle.gr_model.proofs.StreamPrefixes.{next_ok, next_room, next_unended}
 use Rattle.gr_lanes.specs.Takes.{CanTake, IsEventButItem, with_record}
 use Rattle.gr_taking.specs.Sources.{AreTakenFrom, MayTake}
 use Rattle.gr_taking.specs.Taken.{with_list}
@@ -42,41 +40,8 @@ still_may s t g old rest may from =
     let sizes : size_of s g ≡ size_of t g = sym (ap (λ (x : Streams). size_of x g) from.2) in
     record {
       there = omega (arith, may.there, ap (λ (x : Streams). length x.lists) from.2, length-set s.lists g (list_of s g ++ from.0));
-      accepted = subst (λ (n : ℕ). IsAccepted n (list_of t g ++ rest)) sizes (subst (IsAccepted (size_of s g)) same may.accepted);
+      prefix = subst (λ (n : ℕ). IsPrefix n (list_of t g ++ rest)) sizes (subst (IsPrefix (size_of s g)) same may.prefix);
     }
-
--- the first of the records to come may be taken
-module _ (s : Streams) (g : ℕ) (e : Event) (rest : List Event) (accepted : IsAccepted (size_of s g) (list_of s g ++ e ∷ rest)) where
-  abbrev place : ℕ
-  place = length (list_of s g)
-
-  within : place < length (list_of s g ++ e ∷ rest)
-  within = omega (arith, length-append (list_of s g) (e ∷ rest))
-
-  here : slice_get (list_of s g ++ e ∷ rest) place ≡ Some e
-  here = slice_get-get_or (list_of s g ++ e ∷ rest) place e within ∙ ap Some (get_or-append_seam (list_of s g) e rest e)
-
-  item : e.item < size_of s g
-  item = (accepted.good place e here).0.0
-
-  unended : IsTrue (is_complete (list_of s g)) → ⊥
-  unended ended =
-      let rest_is = prefix_whole (size_of s g) (list_of s g) (e ∷ rest) (record { few = accepted.few; good = accepted.good }) ended in
-      let none : length (e ∷ rest) ≡ 0 = ap length rest_is in
-      omega (arith, none)
-
-  can_take_first : CanTake s g e
-  can_take_first = record {
-    group = ⊎_elim (λ (is : g < length s.sizes). is) (λ (past : length s.sizes ≤ g). absurd (let none : size_of s g ≡ 0 = get_or_past s.sizes g 0 past in omega (arith, item, none))) (cases_lt g (length s.sizes));
-    before_end = unended;
-    item = item;
-  }
-
-  good_first : IsEventButItem e
-  good_first = let good = accepted.good place e here in (good.0.1, good.0.2)
-
-  room_for_first : place < MOST_RECORDS
-  room_for_first = omega (arith, within, accepted.few)
 
 -- of a group some records were taken, and then e is the next, before the rest; n is the group
 module _ (s t : Streams) (g n : ℕ) (old here rest : List Event) (e : Event) (same : n ≡ g) (may : MayTake s g old) (from : AreTakenFrom s g old t here) (is : here ≡ e ∷ rest) where
@@ -96,12 +61,16 @@ module _ (s t : Streams) (g n : ℕ) (old here rest : List Event) (e : Event) (s
 
   -- it may be taken
   pub next_can : CanTake t n e
-  next_can = can_take_first t n e rest next_may.accepted
+  next_can = record {
+    group = ⊎_elim (λ (is : n < length t.sizes). is) (λ (past : length t.sizes ≤ n). absurd (let none : size_of t n ≡ 0 = get_or_past t.sizes n 0 past in let item = (next_ok (size_of t n) (list_of t n) e rest next_may.prefix).0 in omega (arith, item, none))) (cases_lt n (length t.sizes));
+    before_end = λ ended. absurd (true≢false (sym ended ∙ next_unended (size_of t n) (list_of t n) e rest next_may.prefix));
+    item = (next_ok (size_of t n) (list_of t n) e rest next_may.prefix).0;
+  }
 
   -- it has no fault
   pub next_good : IsEventButItem e
-  next_good = good_first t n e rest next_may.accepted
+  next_good = let good = next_ok (size_of t n) (list_of t n) e rest next_may.prefix in (good.1, good.2)
 
   -- there is room for it
-  pub next_room : length (list_of t n) < MOST_RECORDS
-  next_room = room_for_first t n e rest next_may.accepted
+  pub room_for_next : length (list_of t n) < MOST_RECORDS
+  room_for_next = next_room (size_of t n) (list_of t n) e rest next_may.prefix

@@ -1,7 +1,7 @@
 -- Streams of which records are to come, and a sequencer that takes some of them.
 use Rattle.std.specs.Prelude.{◌≡◌, ◌≢◌, ℕ, ◌<◌, Bool, List, [], ◌++◌, All, AllPairs, IsFalse, IsTrue, length, map, slice_index, slice_index_or}
 use Rattle.gr_model.specs.declared.event.Event.{Event}
-use Rattle.gr_model.specs.Streams.{Streams, IsAccepted, list_of, size_of}
+use Rattle.gr_model.specs.Streams.{Streams, IsPrefix, list_of, size_of}
 use Rattle.gr_taking.specs.Taken.{with_list}
 
 -- records of a group that are to come
@@ -19,7 +19,7 @@ pub record AreListsOf (s : Streams) (sources : List ListedRecords) : Type 0 wher
 -- a group that is there may have what was taken of it and is to come
 pub record MayTake (s : Streams) (g : ℕ) (coming : List Event) : Type 0 where
   pub there : g < length s.lists
-  pub accepted : IsAccepted (size_of s g) (list_of s g ++ coming)
+  pub prefix : IsPrefix (size_of s g) (list_of s g ++ coming)
 
 -- the first of a group's records to come were taken: those after them are still to come
 abbrev pub AreTakenFrom : Streams → ℕ → List Event → Streams → List Event → Type 0
@@ -43,5 +43,5 @@ come_from header group coming taken xs = map (come_of header group coming taken)
 -- streams of groups that differ and are there, each of which may have its records
 pub record MayCome {Y : Type 0} (group : Y → ℕ) (sizes : List ℕ) (streams : List (Y × List Event)) : Type 0 where
   pub there : All (λ f. group f.0 < length sizes) streams
-  pub accepted : All (λ f. IsAccepted (slice_index sizes (group f.0)) f.1) streams
+  pub prefixes : All (λ f. IsPrefix (slice_index sizes (group f.0)) f.1) streams
   pub differ : AllPairs (λ f g. group f.0 ≢ group g.0) streams

@@ -26,9 +26,12 @@ pub(crate) fn give<A: Allocator, K: Keeper<A>>(
     match step {
         Handled::One {
             event: _,
-            access: Some(access),
-        } => keeper.add(kept, &access),
-        _ => Ok(()),
+            mut access,
+        } => keeper.add(kept, &mut access),
+        Handled::Meet {
+            group: _,
+            instance: _,
+        } => Ok(()),
     }
 }
 

@@ -1,7 +1,9 @@
 //! What is kept of the accesses of a launch.
 
-ghost use Rattle.std.specs.Prelude.{◌++◌, ◌∷◌, [], List, OnOk};
+ghost use Rattle.std.specs.Prelude.{◌++◌, List, OnOk};
+ghost use Rattle.std.specs.Option.{option_map};
 ghost use Rattle.gr_clocks.specs.ClockedAccess.{ClockedAccess, clocked};
+ghost use Rattle.gr_closure.specs.AccessesAlong.{in_flight_list};
 ghost use Rattle.gr_shadow.specs.Launches.{StandsForLaunch};
 
 use gr_clocks::access::Access;
@@ -17,12 +19,12 @@ pub trait Keeper<A: Allocator> {
     // this is kept of these accesses
     ghost stands: { Self → List ClockedAccess → Self.Kept → Type 0 };
 
-    /// Adds an access, which comes after all others.
+    /// Adds the access of an event, if it has one: it comes after all others. It may be taken out.
     ///
     /// # Errors
     /// `Memory`: out of memory.
-    fn add(&self, kept: &mut Self::Kept, access: &Access<A>) -> Result<(), Memory>
-        ensures { OnOk result ((accesses : List ClockedAccess) → stands self.now accesses kept.old → stands self.now (accesses ++ clocked access.now ∷ []) kept.new) };
+    fn add(&self, kept: &mut Self::Kept, access: &mut Option<Access<A>>) -> Result<(), Memory>
+        ensures { OnOk result ((accesses : List ClockedAccess) → stands self.now accesses kept.old → stands self.now (accesses ++ in_flight_list (option_map clocked access.old)) kept.new) };
 
     /// A group has ended: no access to its local words comes any more.
     fn close(&self, kept: &mut Self::Kept, group: u16)
@@ -38,7 +40,7 @@ impl<A: Allocator> Keeper<A> for NoKeeper {
 
     ghost stands = { λ keeper accesses kept. Unit {0} };
 
-    fn add(&self, kept: &mut (), access: &Access<A>) -> Result<(), Memory>
+    fn add(&self, kept: &mut (), access: &mut Option<Access<A>>) -> Result<(), Memory>
         ensures { OnOk result ((accesses : List ClockedAccess) → Unit {0} → Unit {0}) }
     {
         Ok(())
@@ -59,10 +61,12 @@ impl<A: Allocator + Copy> Keeper<A> for ShadowKeeper {
     ghost stands = { λ keeper accesses shadows. StandsForLaunch accesses shadows };
 
     #[inline(always)]
-    fn add(&self, kept: &mut LaunchShadows<A>, access: &Access<A>) -> Result<(), Memory>
-        ensures { OnOk result ((accesses : List ClockedAccess) → StandsForLaunch accesses kept.old → StandsForLaunch (accesses ++ clocked access.now ∷ []) kept.new) }
+    fn add(&self, kept: &mut LaunchShadows<A>, access: &mut Option<Access<A>>) -> Result<(), Memory>
+        ensures { OnOk result ((accesses : List ClockedAccess) → StandsForLaunch accesses kept.old → StandsForLaunch (accesses ++ in_flight_list (option_map clocked access.old)) kept.new) }
     {
-        kept.apply(access)?;
+        if let Some(access) = access {
+            kept.apply(access)?;
+        }
         Ok(())
     }
 

@@ -79,7 +79,7 @@ fn take_turn<A: Allocator + Copy, K: Keeper<A>, S: Source>(
 ///
 /// # Errors
 /// `Memory`: out of memory.
-fn take_round<A: Allocator + Copy, K: Keeper<A>, S: Source>(
+pub fn take_round<A: Allocator + Copy, K: Keeper<A>, S: Source>(
     sequencer: &mut Sequencer<A>,
     keeper: &K,
     kept: &mut K::Kept,

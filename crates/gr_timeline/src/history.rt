@@ -6,6 +6,8 @@ ghost use Rattle.gr_shadow.specs.Clashes.{IsHitIn};
 ghost use Rattle.gr_shadow.specs.StandsFor.{StandsFor};
 ghost use Rattle.gr_timeline.specs.Histories.{IsHistory, IsKeptOf, lines_of};
 ghost use Rattle.gr_timeline.specs.Racy.{IsRacyIn};
+ghost use Rattle.std.specs.Option.{option_map};
+ghost use Rattle.gr_closure.specs.AccessesAlong.{in_flight_list};
 
 use crate::entry::Entry;
 use gr_clocks::access::Access;
@@ -36,19 +38,22 @@ impl<A: Allocator + Copy> Keeper<A> for WordKeeper {
 
     ghost stands = { λ keeper accesses kept. IsKeptOf keeper.word accesses kept.entries.items kept.shadows };
 
-    fn add(&self, kept: &mut KeptWord<A>, access: &Access<A>) -> Result<(), Memory>
-        ensures { OnOk result ((accesses : List ClockedAccess) → IsKeptOf self.now.word accesses kept.old.entries.items kept.old.shadows → IsKeptOf self.now.word (accesses ++ clocked access.now ∷ []) kept.new.entries.items kept.new.shadows) }
+    fn add(&self, kept: &mut KeptWord<A>, access: &mut Option<Access<A>>) -> Result<(), Memory>
+        ensures { OnOk result ((accesses : List ClockedAccess) → IsKeptOf self.now.word accesses kept.old.entries.items kept.old.shadows → IsKeptOf self.now.word (accesses ++ in_flight_list (option_map clocked access.old)) kept.new.entries.items kept.new.shadows) }
     {
+        let Some(access) = access.take() else {
+            return Ok(());
+        };
         if access.word == self.word {
-            kept.shadows.apply(access)?;
+            kept.shadows.apply(&access)?;
             let event = EventId {
                 at: access.item,
                 index: access.index,
             };
-            let Ok(clock) = access.clock.copy() else {
-                return Err(Memory);
-            };
-            kept.entries.push(Entry { event, clock })?;
+            kept.entries.push(Entry {
+                event,
+                clock: access.clock,
+            })?;
         }
         Ok(())
     }

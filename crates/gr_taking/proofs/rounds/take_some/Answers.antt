@@ -1,5 +1,5 @@
 use Rattle.std.proofs.Common.{◌∙◌, refl, sym, true≢false}
-use Rattle.gr_taking.proofs.Turns.{fewer_come, next_can, next_good, next_room, next_taken, none_taken_from}
+use Rattle.gr_taking.proofs.Turns.{fewer_come, next_can, next_good, room_for_next, next_taken, none_taken_from}
 use Rattle.gr_taking.proofs.rounds.take_some.Goals as goal
 
 pub loop-init : goal.loop-init
@@ -24,7 +24,7 @@ take_record-requires-clause-good g c =
 
 pub take_record-requires-clause-room : goal.take_record-requires-clause-room
 take_record-requires-clause-room g c =
-    next_room c.args.sequencer.now.taken c.loop.sequencer.taken (g.S.Source.group_of (g.S.Source.header c.args.source.now)) c.group-group.result (g.S.Source.coming c.args.source.now) (g.S.Source.coming c.loop.source) (g.S.Source.coming c.next.new.self) c.in-Some.event
+    room_for_next c.args.sequencer.now.taken c.loop.sequencer.taken (g.S.Source.group_of (g.S.Source.header c.args.source.now)) c.group-group.result (g.S.Source.coming c.args.source.now) (g.S.Source.coming c.loop.source) (g.S.Source.coming c.next.new.self) c.in-Some.event
     c.group-group.ensures c.requires.may c.loop.invariant.from c.in-Some.ensures.next
 
 pub loop-preserved : goal.loop-preserved

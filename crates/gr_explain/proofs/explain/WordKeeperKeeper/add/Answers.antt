@@ -1,18 +1,11 @@
-use Rattle.std.proofs.Common.{◌≡◌, ◌≢◌, inl, inr, refl, rules}
-use Rattle.gr_clocks.specs.ClockedAccess.{clocked}
-use Rattle.gr_explain.proofs.SearchLemmas.{access_added}
+use Rattle.std.proofs.Common.{refl}
+use Rattle.std.proofs.lemmas.Result.{on_ok_weaker}
+use Rattle.gr_explain.specs.Search.{StandsFor}
+use Rattle.gr_explain.proofs.Keeping.{none_added, one_added}
 use Rattle.gr_explain.proofs.explain.WordKeeperKeeper.add.Goals as goal
 
-pub returns-in_ok-add : goal.returns-in_ok-add
-returns-in_ok-add g c =
-    let w = c.args.self.now.word in
-    let y = clocked c.args.access.now in
-    let same : y.word ≡ w = search rules in
-    access_added w y c.args.kept.now c.add.new.self (inl (same, c.in_ok-add.ensures))
+pub returns-in_default : goal.returns-in_default
+returns-in_default g c = none_added (StandsFor c.args.self.now.word) c.args.kept.now c.args.kept.now c.args.access.now c.in_default.is refl
 
-pub returns-else-eq : goal.returns-else-eq
-returns-else-eq g c =
-    let w = c.args.self.now.word in
-    let y = clocked c.args.access.now in
-    let other : y.word ≢ w = search rules in
-    access_added w y c.args.kept.now c.args.kept.now (inr (other, refl))
+pub returns : goal.returns
+returns g c = on_ok_weaker c.add_to.result (one_added (StandsFor c.args.self.now.word) c.args.kept.now c.add_to.new.search c.args.access.now c.in-Some.access c.in-Some.is) c.add_to.ensures

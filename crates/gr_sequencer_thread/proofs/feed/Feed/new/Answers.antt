@@ -6,7 +6,8 @@ invariant_of-result g c = record {
   config = c.queues.ensures.config;
   queues = c.requires.fresh.queues;
   worker_count = c.requires.fresh.worker_count;
+  backlogs = c.requires.backlogs.count;
   seated = c.requires.fresh.seated;
-  unstopped = fresh_unstopped c.args.config c.queues.ensures.config c.args.sequencer c.at_end.ensures.sequence c.requires.sequencer c.args.inlets.items c.args.outlets.items c.requires.fresh;
-  good = λ f. fresh_good c.args.config c.queues.ensures.config c.args.sequencer c.at_end.ensures.sequence c.requires.sequencer c.args.inlets.items c.args.outlets.items c.requires.fresh;
+  unstopped = fresh_unstopped c.args.config c.queues.ensures.config c.args.shape c.args.sequencer c.at_end.ensures.sequence c.requires.sequencer c.args.backlogs.items c.requires.backlogs c.args.inlets.items c.args.outlets.items c.requires.fresh;
+  good = λ f. fresh_good c.args.config c.queues.ensures.config c.args.shape c.args.sequencer c.at_end.ensures.sequence c.requires.sequencer c.args.backlogs.items c.requires.backlogs c.args.inlets.items c.args.outlets.items c.requires.fresh c.new.result c.new.ensures;
 }

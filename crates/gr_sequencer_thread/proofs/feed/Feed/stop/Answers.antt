@@ -1,8 +1,9 @@
-use Rattle.std.proofs.Common.{◌≡◌, ◌∙◌, List, Option, None, Some, false, refl, ap, sym, subst, length}
+use Rattle.std.proofs.Common.{◌≡◌, ◌∙◌, List, [], Option, None, Some, false, ap, sym, subst, length}
+use Rattle.std.specs.List.{All}
 use Rattle.std.specs.Option.{option_map}
 use Rattle.std.specs.Prelude.{IfSome, OnSome}
 use Rattle.std.proofs.lemmas.List.{length-map}
-use Rattle.gr_clocks.specs.ClockedAccess.{ClockedAccess, clocked}
+use Rattle.gr_clocks.specs.ClockedAccess.{ClockedAccess}
 use Rattle.gr_model.specs.Reports.{IsReportButRaces, WholeReport}
 use Rattle.gr_model.specs.Streams.{AreComplete}
 use Rattle.gr_order.specs.Sequences.{IsDone}
@@ -11,8 +12,9 @@ use Rattle.gr_report.specs.declared.report.Report.{Report}
 use Rattle.gr_report.specs.Whole.{whole_of}
 use Rattle.gr_route.specs.WorkSeats.{Giver}
 use Rattle.gr_sequencer_thread.specs.Ends.{End, IsEnd, IsFound, end_line, feed_line}
-use Rattle.gr_sequencer_thread.specs.Feeds.{AreOpen, ArePassedOn, Feed, IsOver, IsFeedWhole, given_of, intakes_of, works_of}
+use Rattle.gr_sequencer_thread.specs.Feeds.{AreOpen, ArePassedOn, Feed, IsOver, IsWhole, given_of, intakes_of, works_of}
 use Rattle.gr_sequencer_thread.proofs.SameRuns.{whole_back}
+use Rattle.gr_sequencer_thread.proofs.TakeLemmas.{all_taken}
 use Rattle.gr_sequencer_thread.proofs.feed.Feed.stop.Goals as goal
 
 found_is : {Z : Type 0} (o : Option (Report Z)) (F : Type 0) (Q P : WholeReport → Type 0) → OnSome o F → IfSome o (λ r. Q (whole_of r)) → (F → (w : WholeReport) → Q w → P w) → IfSome (option_map whole_of o) P
@@ -22,6 +24,7 @@ found_is (Some r) F Q P f q h = h f (whole_of r) q
 pub of-requires : goal.of-requires
 of-requires g c =
     let config = c.self.inside.config in
+    let sizes = c.self.inside.shape in
     let seq = c.self.inside.sequencer in
     let takers = c.self.inside.inlets.items in
     let was = c.self.inside.outlets.items in
@@ -31,44 +34,38 @@ of-requires g c =
     let given : given_of now ≡ given_of was = c.stop_all.ensures.given ∙ ap given_of slice in
     let count : length now ≡ length was = sym (length-map now (λ (u : Giver g.row.A.Denot). u.queue)) ∙ (ap length queues ∙ length-map was (λ (u : Giver g.row.A.Denot). u.queue)) in
     let len : length was ≡ c.self.inside.outlets.len = sym (ap length slice) ∙ c.deref_mut.ensures.len in
-    let sizes : seq.taken.sizes ≡ c.args.shape = ap (λ (u : Feed g.row.A.Denot). u.sequence.taken.sizes) c.self.view_is ∙ c.requires.shape in
-    let whole : c.self.inside.failed ≡ false → IsFeedWhole (record { config = config; sequence = seq; takers = takers; givers = now; in_flight = None; failed = false }) = λ f.
+    let whole : c.self.inside.failed ≡ false → IsWhole config seq takers now = λ f.
     let good = c.self.invariant.good f in
-    let over : IsOver c.args.self = c.requires.over (sym (ap (λ (u : Feed g.row.A.Denot). u.failed) c.self.view_is) ∙ f) in
-    let in_flight : option_map clocked c.self.inside.in_flight ≡ None = ap (λ (u : Feed g.row.A.Denot). u.in_flight) c.self.view_is ∙ over.in_flight in
+    let over : IsOver c.args.self = c.requires (sym (ap (λ (u : Feed g.row.A.Denot). u.failed) c.self.view_is) ∙ f) in
+    let on_way : c.self.inside.on_way ≡ [] = ap (λ (u : Feed g.row.A.Denot). u.on_way) c.self.view_is ∙ over.passed in
     record {
-      good = record {
-        sequence = good.sequence;
-        taken = good.taken;
-        passed = subst (λ (gs : List (List ClockedAccess)). ArePassedOn config seq gs None) (sym given) (subst (ArePassedOn config seq (given_of was)) in_flight good.passed);
-      };
-      over = record {
-        complete = subst (λ (u : Feed g.row.A.Denot). AreComplete u.sequence.taken) (sym c.self.view_is) over.complete;
-        done = subst (λ (u : Feed g.row.A.Denot). IsDone u.sequence) (sym c.self.view_is) over.done;
-        in_flight = refl;
-      };
+      sequence_is = good.sequence;
+      complete = subst (λ (u : Feed g.row.A.Denot). AreComplete u.sequence.taken) (sym c.self.view_is) over.complete;
+      done = subst (λ (u : Feed g.row.A.Denot). IsDone u.sequence) (sym c.self.view_is) over.done;
+      taken = all_taken config seq.taken c.self.inside.backlogs.items takers good.popped (subst (λ (u : Feed g.row.A.Denot). All (λ b. b.records ≡ []) u.coming) (sym c.self.view_is) over.taken);
+      passed = subst (λ (gs : List (List ClockedAccess)). ArePassedOn config seq gs []) (sym given) (subst (ArePassedOn config seq (given_of was)) on_way good.passed);
     } in
-    subst (λ (gs : List (Giver g.row.A.Denot)). IsEnd (record { config = config; sizes = c.args.shape; takers = takers; givers = gs; report = option_map whole_of c.findings-report.result }))
+    subst (λ (gs : List (Giver g.row.A.Denot)). IsEnd (record { config = config; sizes = sizes; takers = takers; givers = gs; report = option_map whole_of c.findings-report.result }))
     (sym (whole_back c.self.inside.outlets.len was now len count))
     (record {
       config = c.self.invariant.config;
       queues = c.self.invariant.queues;
       worker_count = count ∙ c.self.invariant.worker_count;
       stopped = c.stop_all.ensures.stopped;
-      found = found_is c.findings-report.result (c.self.inside.failed ≡ false) (IsReportButRaces seq.taken) (IsFound config c.args.shape takers now) c.findings-report.ensures.failed c.findings-report.ensures.report
-          (λ f w is. record { sequence = seq; sizes_are = sizes; whole = whole f; report_is = is });
+      found = found_is c.findings-report.result (c.self.inside.failed ≡ false) (IsReportButRaces seq.taken) (IsFound config sizes takers now) c.findings-report.ensures.failed c.findings-report.ensures.report
+          (λ f w is. record { sequence = seq; sizes_are = (c.self.invariant.good f).same; whole = whole f; report_is = is });
     })
 
 pub stop_all-requires : goal.stop_all-requires
 stop_all-requires g c = subst (λ (gs : List (Giver g.row.A.Denot)). AreOpen gs) (sym c.deref_mut.ensures.value) c.self.invariant.unstopped
 
 pub findings-report-requires-clause-shape : goal.findings-report-requires-clause-shape
-findings-report-requires-clause-shape g c = ap (λ (u : Feed g.row.A.Denot). u.sequence.taken.sizes) c.self.view_is ∙ c.requires.shape
+findings-report-requires-clause-shape g c = λ f. (c.self.invariant.good f).same
 
 pub findings-report-requires-clause-rest : goal.findings-report-requires-clause-rest
 findings-report-requires-clause-rest g c = λ f.
     subst (λ (u : Feed g.row.A.Denot). IsAtRest u.sequence.taken u.sequence.handled) (sym c.self.view_is)
-    (c.requires.over (sym (ap (λ (u : Feed g.row.A.Denot). u.failed) c.self.view_is) ∙ f)).done.rest
+    (c.requires (sym (ap (λ (u : Feed g.row.A.Denot). u.failed) c.self.view_is) ∙ f)).done.rest
 
 pub returns : goal.returns
 returns g c =
@@ -79,7 +76,6 @@ returns g c =
     let count : length now ≡ length was = sym (length-map now (λ (u : Giver g.row.A.Denot). u.queue)) ∙ (ap length queues ∙ length-map was (λ (u : Giver g.row.A.Denot). u.queue)) in
     let len : length was ≡ c.self.inside.outlets.len = sym (ap length slice) ∙ c.deref_mut.ensures.len in
     let works = ap works_of (whole_back c.self.inside.outlets.len was now len count) ∙ queues in
-    let sizes = sym (ap (λ (u : Feed g.row.A.Denot). u.sequence.taken.sizes) c.self.view_is ∙ c.requires.shape) in
     ap (λ (e : End g.row.A.Denot). end_line e) c.of.ensures
-    ∙ ((λ i. record { config = c.self.inside.config; sizes = sizes i; intakes = intakes_of c.self.inside.inlets.items; works = works i })
+    ∙ ((λ i. record { config = c.self.inside.config; sizes = c.self.inside.shape; intakes = intakes_of c.self.inside.inlets.items; works = works i })
     ∙ ap (λ (u : Feed g.row.A.Denot). feed_line u) c.self.view_is)

@@ -1,0 +1,71 @@
+use Rattle.std.proofs.Common.{◌≡◌, ◌∙◌, List, ap, sym, subst, length, arith, true, true≢false}
+use Rattle.gr_taking.specs.Along.{IsAlong}
+use Rattle.gr_taking.specs.Sources.{ListedRecords, MayCome}
+use Rattle.gr_sequencer_thread.specs.Feeds.{AreSplit, Feed, IsFeed, come_in, given_of, intakes_of, works_of}
+use Rattle.gr_sequencer_thread.proofs.SameRuns.{whole_back}
+use Rattle.gr_sequencer_thread.proofs.TakeLemmas.{may_come_now, popped_moves}
+use Rattle.gr_sequencer_thread.proofs.feed.Feed.take_turns.Goals as goal
+
+pub take_round-requires-clause-may : goal.take_round-requires-clause-may
+take_round-requires-clause-may g c =
+    let taken = c.self.inside.sequencer.taken in
+    let good = c.self.invariant.good c.if-self.false in
+    subst (λ (l : List ListedRecords). MayCome (λ n. n) taken.sizes (come_in taken l)) (sym c.as_mut_slice.ensures.value)
+    (may_come_now c.self.inside.config taken c.self.inside.backlogs.items c.self.inside.inlets.items good.popped c.self.invariant.queues (let some = c.self.invariant.config.queues.0 in omega (arith, some)))
+
+pub take_round-requires-clause-along : goal.take_round-requires-clause-along
+take_round-requires-clause-along g c =
+    subst (λ o. IsAlong (AreSplit c.self.inside.config.workers (given_of o.items)) c.self.inside.sequencer c.self.inside.on_way) (sym c.of.ensures) (c.self.invariant.good c.if-self.false).passed
+
+pub invariant_of-self : goal.invariant_of-self
+invariant_of-self g c =
+    let good = c.self.invariant.good c.if-self.false in
+    let told = c.in-Ok.ensures in
+    let was = c.self.inside.backlogs.items in
+    let now = c.take_round.new.sources in
+    let count : length now ≡ length was = c.take_round.auto.sources ∙ ap length c.as_mut_slice.ensures.value in
+    let len : length was ≡ c.self.inside.backlogs.len = sym (ap length c.as_mut_slice.ensures.value) ∙ c.as_mut_slice.ensures.len in
+    let popped = popped_moves c.self.inside.config c.self.inside.sequencer.taken was c.self.inside.inlets.items good.popped c.take_round.new.sequencer.taken now
+    (told.come ∙ ap (come_in c.self.inside.sequencer.taken) c.as_mut_slice.ensures.value) told.sizes in
+    subst (λ (l : List ListedRecords). IsFeed {A = g.row.A.Denot} (record { config = c.self.inside.config; sizes = c.self.inside.shape; sequence = c.take_round.new.sequencer; takers = c.self.inside.inlets.items; givers = c.self.inside.outlets.items; coming = l; on_way = c.take_round.new.kept; failed = c.self.inside.failed }))
+    (sym (whole_back c.self.inside.backlogs.len was now len count))
+    (record {
+      config = c.self.invariant.config;
+      queues = c.self.invariant.queues;
+      worker_count = c.self.invariant.worker_count;
+      backlogs = count ∙ c.self.invariant.backlogs;
+      seated = c.self.invariant.seated;
+      unstopped = c.self.invariant.unstopped;
+      good = λ f. record {
+        same = told.sizes ∙ good.same;
+        sequence = told.sequence;
+        popped = popped;
+        passed = subst (λ o. IsAlong (AreSplit c.self.inside.config.workers (given_of o.items)) c.take_round.new.sequencer c.take_round.new.kept) c.of.ensures told.along;
+      };
+    })
+
+pub invariant_of-self-in-Err : goal.invariant_of-self-in-Err
+invariant_of-self-in-Err g c =
+    let was = c.self.inside.backlogs.items in
+    let now = c.take_round.new.sources in
+    let count : length now ≡ length was = c.take_round.auto.sources ∙ ap length c.as_mut_slice.ensures.value in
+    let len : length was ≡ c.self.inside.backlogs.len = sym (ap length c.as_mut_slice.ensures.value) ∙ c.as_mut_slice.ensures.len in
+    subst (λ (l : List ListedRecords). IsFeed {A = g.row.A.Denot} (record { config = c.self.inside.config; sizes = c.self.inside.shape; sequence = c.take_round.new.sequencer; takers = c.self.inside.inlets.items; givers = c.self.inside.outlets.items; coming = l; on_way = c.take_round.new.kept; failed = true }))
+    (sym (whole_back c.self.inside.backlogs.len was now len count))
+    (record {
+      config = c.self.invariant.config;
+      queues = c.self.invariant.queues;
+      worker_count = c.self.invariant.worker_count;
+      backlogs = count ∙ c.self.invariant.backlogs;
+      seated = c.self.invariant.seated;
+      unstopped = c.self.invariant.unstopped;
+      good = λ f. absurd (true≢false f);
+    })
+
+pub returns : goal.returns
+returns g c = record {
+  config = ap (λ (f : Feed g.row.A.Denot). f.config) c.self.view_is;
+  sizes = ap (λ (f : Feed g.row.A.Denot). f.sizes) c.self.view_is;
+  intakes = ap (λ (f : Feed g.row.A.Denot). intakes_of f.takers) c.self.view_is;
+  works = ap (λ (f : Feed g.row.A.Denot). works_of f.givers) c.self.view_is;
+}
