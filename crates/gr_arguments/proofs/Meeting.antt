@@ -52,12 +52,12 @@ names_met (Dump true) = refl
 names_met Upgrade = refl
 
 pub names_ask : NamesAsk
-names_ask (Replay false) = record { taken = names_taken (Replay false); asks = rw (names_met (Replay false)) (refl, refl) }
-names_ask (Replay true) = record { taken = names_taken (Replay true); asks = rw (names_met (Replay true)) (refl, refl) }
-names_ask Pack = record { taken = names_taken Pack; asks = rw (names_met Pack) refl }
-names_ask (Dump false) = record { taken = names_taken (Dump false); asks = rw (names_met (Dump false)) (refl, refl) }
-names_ask (Dump true) = record { taken = names_taken (Dump true); asks = rw (names_met (Dump true)) (refl, refl) }
-names_ask Upgrade = record { taken = names_taken Upgrade; asks = rw (names_met Upgrade) refl }
+names_ask (Replay false) = record { taken = names_taken (Replay false); asks = rw (names_met (Replay false)) (record { command = refl; values = refl }) }
+names_ask (Replay true) = record { taken = names_taken (Replay true); asks = rw (names_met (Replay true)) (record { command = refl; values = refl }) }
+names_ask Pack = record { taken = names_taken Pack; asks = rw (names_met Pack) (record { command = refl; values = tt }) }
+names_ask (Dump false) = record { taken = names_taken (Dump false); asks = rw (names_met (Dump false)) (record { command = refl; values = refl }) }
+names_ask (Dump true) = record { taken = names_taken (Dump true); asks = rw (names_met (Dump true)) (record { command = refl; values = refl }) }
+names_ask Upgrade = record { taken = names_taken Upgrade; asks = rw (names_met Upgrade) (record { command = refl; values = tt }) }
 
 none_taken : faults [] ≡ []
 unfolding clap_on_literals faults
@@ -68,7 +68,7 @@ unfolding clap_on_literals command_of
 none_met = refl
 
 pub no_word_asks : NoWordAsks
-no_word_asks = record { taken = none_taken; asks = rw none_met (refl, refl) }
+no_word_asks = record { taken = none_taken; asks = rw none_met (record { command = refl; values = refl }) }
 
 -- ---- a parse
 

@@ -1,10 +1,10 @@
 -- Words that begin with no hyphen, in the walk over the words of a command line.
-use Rattle.std.proofs.Common.{◌≡◌, ◌∙◌, ℕ, Bool, true, false, List, [], ◌∷◌, ◌++◌, Option, Some, None, Ok, Err, refl, sym, ap, ap₂, append_assoc, append-nil, codes, arith, subst}
+use Rattle.std.proofs.Common.{◌≡◌, ◌∙◌, ℕ, Bool, true, false, List, [], ◌∷◌, ◌++◌, Option, Some, None, refl, sym, ap, ap₂, append_assoc, append-nil, codes, arith, subst}
 use Rattle.std.specs.Prelude.{◌==◌, fold, is_some}
 use Rattle.clap.proofs.OnLiterals.{clap_on_literals}
 use Rattle.clap.specs.Kinds.{Kinds, or_else}
 use Rattle.clap.specs.Simple.{App, Shape, built, entered, names_of, subcommand_of, built_leaf, inherited}
-use Rattle.clap.specs.Walk.{Held, Names, Row, Rule, Step, Text, Walk, finished, idle, positional, settled, value, walk, walk_from, nothing_held, walked, rows_after, word_met, after_step}
+use Rattle.clap.specs.Walk.{Held, Names, Row, Rule, Step, Text, Walk, finished, idle, positional, settled, first_of, value, walk, walk_from, nothing_held, walked, rows_after, word_met, after_step}
 use Rattle.clap.specs.Faults.{check_fault, defaults_fault, entered_fault, fault_of, level_fault, settle_fault, step_fault, turn_fault, walk_fault, word_fault}
 use Rattle.clap.specs.declared.parser.matches.ValueSource.TheVariants.{CommandLine, DefaultValue}
 use Rattle.clap.specs.declared.builder.value_parser.ValueParser.TheVariants.{String}
@@ -14,12 +14,11 @@ use Rattle.std.proofs.lemmas.Bool.Decides.{Decides-eqb}
 use Rattle.std.proofs.lemmas.Str.Parse.{digit_from_value}
 use Rattle.gr_model.specs.declared.event.Word.{Word}
 use Rattle.gr_model.specs.declared.event.Word.TheVariants.{Global, Local}
-use Rattle.gr_arguments.specs.declared.request.ExplainMisuse.TheVariants.{NoWord}
+use Rattle.gr_arguments.specs.declared.request.Misuse.TheVariants.{NoWordToExplain}
 use Rattle.gr_arguments.specs.Naming.{IsNumber, Names as NamesWord}
-use Rattle.gr_arguments.specs.Asked.{Asked, AsksTo, IsAskedBy, in_long, in_short}
-use Rattle.gr_arguments.specs.Asked as asked
+use Rattle.gr_arguments.specs.Asked.{Asked, AsksTo, IsAskedBy, IsInquiry, NamesWord as NamesAWord, ask, refuse}
 use Rattle.gr_arguments.specs.Commands.{command_of, explaining, faults, gpurace, name_met, values_met}
-use Rattle.gr_arguments.specs.Plain.{ArePlain, IsPlain, LongWordsAsk, PlainWordsAsk, PlainWordsMisname}
+use Rattle.gr_arguments.specs.Plain.{about_word, ArePlain, IsPlain, LongWordsAsk, PlainWordsAsk, PlainWordsMisname}
 use Rattle.gr_arguments.proofs.Asking.{unnamed}
 
 -- ---- one word
@@ -322,19 +321,26 @@ plain_words_ask_by long space number file files space_plain number_plain plain a
       asks = subst (λ (c : Option (Text × List Row)). IsAskedBy (name_met c) (values_met c) a) (sym met) asks;
     }
 
-pub plain_words_ask : PlainWordsAsk
-plain_words_ask space number file files w named plain =
+-- those in which a word is named
+words_ask : (long : Bool) (space number file : Text) (files : List Text) (w : Word) → NamesWord space number w → ArePlain (file ∷ files) → AsksTo (ask (about_word long w (file ∷ files))) (explain ∷ flag_words long ++ space ∷ number ∷ file ∷ files)
+words_ask long space number file files w named plain =
     let texts = words_are_plain space number w named in
-    plain_words_ask_by false space number file files texts.0 texts.1 plain (asked.explain (Ok (record { form = in_short; json = false; word = w; files = file ∷ files })))
-    (refl, record { form = (refl, refl, refl); as_json = refl; named = record { space = space; number = number; at_space = refl; at_number = refl; names = named }; at_files = refl })
+    plain_words_ask_by long space number file files texts.0 texts.1 plain (ask (about_word long w (file ∷ files))) (record { command = refl; values = asks long texts.0 texts.1 })
+  where
+    names : (rows : List Row) → first_of (codes "SPACE") rows ≡ Some space → first_of (codes "WORD") rows ≡ Some number → NamesAWord rows w
+    names rows at_space at_number = record { space = space; number = number; at_space = at_space; at_number = at_number; names = named }
+
+    asks : (long : Bool) (space_plain : IsPlain space) (number_plain : IsPlain number) → IsInquiry (all_rows space number space_plain number_plain long (file ∷ files)) (about_word long w (file ∷ files))
+    asks true p q = record { query = (refl, names _ refl refl); places = refl; buffers = refl; as_json = refl; at_files = refl }
+    asks false p q = record { query = ((refl, refl, refl), names _ refl refl); places = refl; buffers = refl; as_json = refl; at_files = refl }
+
+pub plain_words_ask : PlainWordsAsk
+plain_words_ask = words_ask false
 
 pub long_words_ask : LongWordsAsk
-long_words_ask space number file files w named plain =
-    let texts = words_are_plain space number w named in
-    plain_words_ask_by true space number file files texts.0 texts.1 plain (asked.explain (Ok (record { form = in_long None None; json = false; word = w; files = file ∷ files })))
-    (refl, record { form = (refl, refl, refl); as_json = refl; named = record { space = space; number = number; at_space = refl; at_number = refl; names = named }; at_files = refl })
+long_words_ask = words_ask true
 
 pub plain_words_misname : PlainWordsMisname
 plain_words_misname space number file files none plain =
-    plain_words_ask_by false space number file files plain.0 plain.1.0 plain.1.1 (asked.explain (Err NoWord))
-    (refl, ((in_short, (refl, refl, refl)), unnamed (all_rows space number plain.0 plain.1.0 false (file ∷ files)) space number refl refl none))
+    plain_words_ask_by false space number file files plain.0 plain.1.0 plain.1.1 (refuse NoWordToExplain)
+    (record { command = refl; values = ((false, (refl, refl, refl)), unnamed (all_rows space number plain.0 plain.1.0 false (file ∷ files)) space number refl refl none) })

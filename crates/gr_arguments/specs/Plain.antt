@@ -1,11 +1,12 @@
 -- Which words ask for what, where no word is an option.
-use Rattle.std.specs.Prelude.{◌≡◌, ◌==◌, false, true, List, [], ◌∷◌, None, Ok, Err, ⊤, codes}
+use Rattle.std.specs.Prelude.{◌≡◌, ◌==◌, Bool, false, true, List, [], ◌∷◌, None, ⊤, codes}
 use Rattle.clap.specs.Walk.{Text}
 use Rattle.gr_model.specs.declared.event.Word.{Word}
-use Rattle.gr_arguments.specs.declared.request.ExplainMisuse.TheVariants.{NoWord}
+use Rattle.gr_arguments.specs.declared.request.Misuse.TheVariants.{NoWordToExplain}
+use Rattle.gr_arguments.specs.declared.request.Query.TheVariants.{Explain}
 use Rattle.gr_arguments.specs.declared.request.Task.{Task}
 use Rattle.gr_arguments.specs.declared.request.Task.TheVariants.{Dump, Replay}
-use Rattle.gr_arguments.specs.Asked.{Asked, AsksTo, explain, in_long, in_short, perform}
+use Rattle.gr_arguments.specs.Asked.{Asked, AsksTo, Inquiry, ask, perform, refuse}
 use Rattle.gr_arguments.specs.Commands.{name_of}
 use Rattle.gr_arguments.specs.Naming.{Names}
 
@@ -36,14 +37,18 @@ abbrev pub ArePlain : List Text → Type 0
 ArePlain [] = ⊤
 ArePlain (word ∷ words) = IsPlain word × ArePlain words
 
+-- a query about a word, without side files, as text
+abbrev pub about_word : Bool → Word → List Text → Inquiry
+about_word long w files = record { query = Explain long w; places = None; buffers = None; json = false; files = files }
+
 -- a word that is named is asked for by the words `explain SPACE WORD FILE..`
 abbrev pub PlainWordsAsk : Type 0
-PlainWordsAsk = (space number file : Text) (files : List Text) (w : Word) → Names space number w → ArePlain (file ∷ files) → AsksTo (explain (Ok (record { form = in_short; json = false; word = w; files = file ∷ files }))) (codes "explain" ∷ space ∷ number ∷ file ∷ files)
+PlainWordsAsk = (space number file : Text) (files : List Text) (w : Word) → Names space number w → ArePlain (file ∷ files) → AsksTo (ask (about_word false w (file ∷ files))) (codes "explain" ∷ space ∷ number ∷ file ∷ files)
 
 -- and by the words `explain --long SPACE WORD FILE..`, in the long form, without side files
 abbrev pub LongWordsAsk : Type 0
-LongWordsAsk = (space number file : Text) (files : List Text) (w : Word) → Names space number w → ArePlain (file ∷ files) → AsksTo (explain (Ok (record { form = in_long None None; json = false; word = w; files = file ∷ files }))) (codes "explain" ∷ codes "--long" ∷ space ∷ number ∷ file ∷ files)
+LongWordsAsk = (space number file : Text) (files : List Text) (w : Word) → Names space number w → ArePlain (file ∷ files) → AsksTo (ask (about_word true w (file ∷ files))) (codes "explain" ∷ codes "--long" ∷ space ∷ number ∷ file ∷ files)
 
 -- and where the space and the number name none, for none
 abbrev pub PlainWordsMisname : Type 0
-PlainWordsMisname = (space number file : Text) (files : List Text) → ((w : Word) → ¬ Names space number w) → ArePlain (space ∷ number ∷ file ∷ files) → AsksTo (explain (Err NoWord)) (codes "explain" ∷ space ∷ number ∷ file ∷ files)
+PlainWordsMisname = (space number file : Text) (files : List Text) → ((w : Word) → ¬ Names space number w) → ArePlain (space ∷ number ∷ file ∷ files) → AsksTo (refuse NoWordToExplain) (codes "explain" ∷ space ∷ number ∷ file ∷ files)

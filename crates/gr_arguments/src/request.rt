@@ -1,16 +1,13 @@
 //! Requests: what the words of a command line ask for.
 
-ghost use Rattle.std.specs.Prelude.{◌≡◌, IfOk, map};
+ghost use Rattle.std.specs.Prelude.{IfOk, map};
 ghost use Rattle.clap.specs.Walk.{rows_of};
 ghost use Rattle.clap.specs.Words.{FailsBy, found_of, subcommand_rows_of};
 ghost use Rattle.gr_arguments.specs.Asked.{AsksTo, IsAskedBy, asked_of};
 ghost use Rattle.gr_arguments.specs.Commands.{faults, meant, name_met, values_met};
-ghost use Rattle.gr_arguments.specs.Names.{text_of};
 
 use crate::command::command;
-use crate::values::{
-    check_of, dump_of, explain_of, history_of, races_of, replay_of, run_of, why_held_of,
-};
+use crate::values::{ask, asks_for, explain_of, history_of, races_of, run_of, why_held_of};
 use clap::{ArgMatches, Error};
 use gr_model::config::Config;
 use gr_model::event::{EventId, Word};
@@ -30,104 +27,54 @@ pub enum Task {
     Upgrade,
 }
 
-/// In which form a word is to be told.
-#[derive(Clone, Copy, Debug)]
-pub enum Form<'a> {
-    /// Its least racing pair alone.
-    Short,
-    /// Also what the two accesses are, what stands between them and the cause of their race, with what side files say.
-    Long {
-        /// The name of the file of places.
-        places: Option<&'a str>,
-        /// The name of the file of buffers.
-        buffers: Option<&'a str>,
-    },
+/// What a command asks about the launch whose streams are in files.
+#[derive(Clone, Copy)]
+pub enum Query {
+    /// The least racing pair of a word; `long`: also what the two accesses are, what stands between them and the cause of
+    /// their race.
+    Explain { long: bool, word: Word },
+    /// The races by their kinds: of how many kinds at most, of all if there is no number; and whether with their causes.
+    Races { most: Option<u32>, causes: bool },
+    /// All accesses to a word.
+    History { word: Word },
+    /// The report, by a run in threads: with how many workers and queues, and how many places a queue has.
+    Run { config: Config },
+    /// Which record of which file is at fault, or how many records of each kind there are.
+    Check,
+    /// Why an event is held.
+    WhyHeld { event: EventId },
 }
 
-/// Why words that were taken are no arguments of `explain`.
-#[derive(Clone, Copy, Debug, PartialEq, Eq)]
-pub enum ExplainMisuse {
-    /// They name side files, and do not ask for the long form.
-    SidesAlone,
-    /// They name no word of memory.
-    NoWord,
-}
-
-/// The arguments of `explain`: a word of a launch, whose streams are in these files, one each, and in which form it is told.
+/// The arguments of a command on files.
 #[derive(Drop)]
-pub struct ExplainArguments<'a> {
-    /// The form.
-    pub form: Form<'a>,
-    /// Whether it is to be told as JSON.
-    pub json: bool,
-    /// The word.
-    pub word: Word,
-    /// The names of the files.
-    pub files: Vec<&'a str>,
-}
-
-/// The arguments of `races`: a launch, whose streams are in these files, one each, and what is told of its races.
-#[derive(Drop)]
-pub struct RacesArguments<'a> {
-    /// Of how many kinds to tell at most; of all if there is no number.
-    pub most: Option<u32>,
-    /// The name of the file of places.
+pub struct Arguments<'a> {
+    /// What it asks.
+    pub query: Query,
+    /// The name of the file of places, if there is one.
     pub places: Option<&'a str>,
-    /// The name of the file of buffers.
+    /// The name of the file of buffers, if there is one.
     pub buffers: Option<&'a str>,
-    /// Whether the causes of the races are to be told too.
-    pub causes: bool,
-    /// Whether they are to be told as JSON.
-    pub json: bool,
-    /// The names of the files of the streams.
-    pub files: Vec<&'a str>,
-}
-
-/// The arguments of `history`: a word of a launch, whose streams are in these files, one each, and the side files that tell of
-/// its accesses.
-#[derive(Drop)]
-pub struct HistoryArguments<'a> {
-    /// The name of the file of places.
-    pub places: Option<&'a str>,
-    /// The name of the file of buffers.
-    pub buffers: Option<&'a str>,
-    /// Whether they are to be told as JSON.
-    pub json: bool,
-    /// The word.
-    pub word: Word,
-    /// The names of the files of the streams.
-    pub files: Vec<&'a str>,
-}
-
-/// The arguments of `check`: files that may be those of a launch's streams, one each.
-#[derive(Drop)]
-pub struct CheckArguments<'a> {
-    /// Whether what is found is to be JSON.
-    pub json: bool,
-    /// The names of the files.
-    pub files: Vec<&'a str>,
-}
-
-/// The arguments of `run`: how a launch is run in threads, whose streams are in these files, one each.
-#[derive(Drop)]
-pub struct RunArguments<'a> {
-    /// Workers, queues, and the places of a queue.
-    pub config: Config,
-    /// Whether the report is to be JSON.
-    pub json: bool,
-    /// The names of the files.
-    pub files: Vec<&'a str>,
-}
-
-/// The arguments of `why-held`: an event of a launch, whose streams are in these files, one each.
-#[derive(Drop)]
-pub struct WhyHeldArguments<'a> {
     /// Whether the answer is to be JSON.
     pub json: bool,
-    /// The event.
-    pub event: EventId,
-    /// The names of the files.
+    /// The names of the files of the streams, one each.
     pub files: Vec<&'a str>,
+}
+
+/// Why words that were taken ask for nothing.
+#[derive(Clone, Copy, Debug, PartialEq, Eq)]
+pub enum Misuse {
+    /// Those of `explain` name side files, and do not ask for the long form.
+    SidesAlone,
+    /// Those of `explain` name no word of memory.
+    NoWordToExplain,
+    /// Of `races`: how many kinds is no number.
+    NoCount,
+    /// Those of `history` name no word of memory.
+    NoWordOfHistory,
+    /// Those of `run` set up none.
+    NoSetUp,
+    /// Those of `why-held` name no event.
+    NoEvent,
 }
 
 /// What the words of a command line ask for.
@@ -135,72 +82,37 @@ pub struct WhyHeldArguments<'a> {
 pub enum Request<'a> {
     /// A task over standard input.
     Perform(Task),
-    /// The least racing pair of a word; or why the words name none.
-    Explain(Result<ExplainArguments<'a>, ExplainMisuse>),
-    /// The races of a launch by their kinds; `None` where how many is no number.
-    Races(Option<RacesArguments<'a>>),
-    /// All accesses to a word; `None` where the words name no word of memory.
-    History(Option<HistoryArguments<'a>>),
-    /// The report of a launch, by a run in threads; `None` where the words set up none.
-    Run(Option<RunArguments<'a>>),
-    /// Which record of which of these files is at fault, or how many records of each kind there are.
-    Check(CheckArguments<'a>),
-    /// Why an event is held; `None` where the words name no event.
-    WhyHeld(Option<WhyHeldArguments<'a>>),
+    /// A query about a launch whose streams are in files.
+    Ask(Arguments<'a>),
+    /// Nothing.
+    Refuse(Misuse),
 }
 
-/// A command of the program.
-#[derive(Clone, Copy)]
-enum Name {
-    Replay,
-    Pack,
-    Dump,
-    Upgrade,
-    Explain,
-    Races,
-    History,
-    Run,
-    Check,
-    WhyHeld,
-}
-
-/// The command of this name. A name that is none of the program's is `replay`.
-fn name_meant(name: &str) -> Name
-    ensures { text_of result ≡ meant name.now }
-{
-    match name {
-        "pack" => Name::Pack,
-        "dump" => Name::Dump,
-        "upgrade" => Name::Upgrade,
-        "explain" => Name::Explain,
-        "races" => Name::Races,
-        "history" => Name::History,
-        "run" => Name::Run,
-        "check" => Name::Check,
-        "why-held" => Name::WhyHeld,
-        _ => Name::Replay,
-    }
-}
-
-/// What a command asks for with these values.
+/// What the command of this name asks for with these values. A name that is none of the program's is `replay`.
 fn request_by<'a>(
     alloc: Global,
-    name: Name,
+    name: &str,
     values: &ArgMatches<'a>,
 ) -> Result<Request<'a>, AllocError>
-    ensures { IfOk result (λ r. IsAskedBy (text_of name) (rows_of (found_of values.now)) (asked_of r)) }
+    ensures { IfOk result (λ r. IsAskedBy (meant name.now) (rows_of (found_of values.now)) (asked_of r)) }
 {
     match name {
-        Name::Replay => Ok(Request::Perform(replay_of(values))),
-        Name::Pack => Ok(Request::Perform(Task::Pack)),
-        Name::Dump => Ok(Request::Perform(dump_of(values))),
-        Name::Upgrade => Ok(Request::Perform(Task::Upgrade)),
-        Name::Explain => Ok(Request::Explain(explain_of(alloc, values)?)),
-        Name::Races => Ok(Request::Races(races_of(alloc, values)?)),
-        Name::History => Ok(Request::History(history_of(alloc, values)?)),
-        Name::Run => Ok(Request::Run(run_of(alloc, values)?)),
-        Name::Check => Ok(Request::Check(check_of(alloc, values)?)),
-        Name::WhyHeld => Ok(Request::WhyHeld(why_held_of(alloc, values)?)),
+        "pack" => Ok(Request::Perform(Task::Pack)),
+        "dump" => {
+            let partial = asks_for(values, "partial");
+            Ok(Request::Perform(Task::Dump { partial }))
+        }
+        "upgrade" => Ok(Request::Perform(Task::Upgrade)),
+        "explain" => ask(alloc, explain_of(values), values),
+        "races" => ask(alloc, races_of(values), values),
+        "history" => ask(alloc, history_of(values), values),
+        "run" => ask(alloc, run_of(values), values),
+        "check" => ask(alloc, Ok(Query::Check), values),
+        "why-held" => ask(alloc, why_held_of(values), values),
+        _ => {
+            let json = asks_for(values, "json");
+            Ok(Request::Perform(Task::Replay { json }))
+        }
     }
 }
 
@@ -210,7 +122,7 @@ fn request_in<'a>(alloc: Global, matches: &ArgMatches<'a>) -> Result<Request<'a>
 {
     match matches.subcommand() {
         None => Ok(Request::Perform(Task::Replay { json: false })),
-        Some((name, values)) => request_by(alloc, name_meant(name), values),
+        Some((name, values)) => request_by(alloc, name, values),
     }
 }
 

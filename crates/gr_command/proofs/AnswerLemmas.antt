@@ -5,8 +5,10 @@ use Rattle.std.specs.Io.KnownBytes.{Appends, Keeps}
 use Rattle.clap.specs.Words.{IsAmong, Kinds}
 use Rattle.clap.specs.declared.error.kind.ErrorKind.{ErrorKind}
 use Rattle.clap.specs.declared.error.kind.ErrorKind.TheVariants.{OutOfMemory}
-use Rattle.gr_arguments.specs.Asked.{Asked, check, explain, history, perform, races, run, why_held}
+use Rattle.gr_arguments.specs.Asked.{Asked, Inquiry, ask, perform, refuse}
 use Rattle.gr_arguments.specs.Commands.{AreHelp, AreWrong, IsHelp, IsWrongUsage}
+use Rattle.gr_arguments.specs.declared.request.Query.{Query}
+use Rattle.gr_arguments.specs.declared.request.Query.TheVariants as query
 use Rattle.gr_arguments.specs.declared.request.Task.{Task}
 use Rattle.gr_arguments.specs.declared.request.Task.TheVariants.{Replay, Pack, Dump, Upgrade}
 use Rattle.gr_model.specs.Reports.{WholeReport}
@@ -25,7 +27,7 @@ use Rattle.gr_text.specs.Texts.{packed}
 use Rattle.gr_text.specs.Dumps.{dumped, upgraded}
 use Rattle.gr_text.specs.Partial.{text_before_fault}
 use Rattle.gr_text.specs.Writes.{Writes}
-use Rattle.gr_command.specs.Answers.{IsAnswerOf, IsDone, IsFaultTold, IsPartialDump, IsUsageTold, WritesReportPrefix}
+use Rattle.gr_command.specs.Answers.{IsAnswerOf, IsAnswerTo, IsDone, IsFaultTold, IsPartialDump, IsUsageTold, WritesReportPrefix}
 use Rattle.gr_command.specs.Statuses.{fault_status, sides_fault_status}
 use Rattle.gr_command.specs.Outcomes.{IsOutcome, IsTold}
 use Rattle.gr_command.specs.declared.status.TheConstants.{NOTHING, USAGE, WANTING, FAILED}
@@ -90,22 +92,16 @@ module _ {T X : Type 0} (remaining : T → Option (List ℕ)) (Gives : List ℕ 
   no_memory_with_sides : IsTold sides_fault_line sides_fault_status (Run Write) old new old_errors new_errors status (Run Memory)
   no_memory_with_sides = record { line = told.line; ends = told.ends; untouched = λ h. told.untouched (λ e. cc) }
 
-  no_memory_to_read : IsUsageTold old new status
-  no_memory_to_read = (inr told.ends, told.untouched (λ e. cc))
+  no_memory_to_answer : (a : Inquiry) (q : Query) → IsAnswerTo remaining Gives old new old_errors new_errors status a q
+  no_memory_to_answer a (query.Run config) = inr (Memory, record { why = inl (inl refl); told = told; prefix = λ h. absurd cc })
+  no_memory_to_answer a query.Check = inr (Memory, record { why = inl (inl refl); told = told; prefix = λ h. absurd cc })
+  no_memory_to_answer a (query.Explain false w) = inr (Run Memory, record { why = inl (inl refl); told = no_memory_with_sides; prefix = λ h. absurd (memory_is_no_writing h) })
+  no_memory_to_answer a q = inr (Run Memory, record { why = inl (inl refl); told = no_memory_with_sides; prefix = λ h. absurd (memory_is_no_writing h) })
 
   pub no_memory_to_do : (a : Asked) → IsDone remaining Gives input old new old_errors new_errors status a
   no_memory_to_do (perform t) = no_memory_to_perform t
-  no_memory_to_do (explain (Ok a)) = inr (Run Memory, record { why = inl (inl refl); told = no_memory_with_sides; prefix = λ h. absurd (memory_is_no_writing h) })
-  no_memory_to_do (races (Some a)) = inr (Run Memory, record { why = inl (inl refl); told = no_memory_with_sides; prefix = λ h. absurd (memory_is_no_writing h) })
-  no_memory_to_do (history (Some a)) = inr (Run Memory, record { why = inl (inl refl); told = no_memory_with_sides; prefix = λ h. absurd (memory_is_no_writing h) })
-  no_memory_to_do (run (Some a)) = inr (Memory, record { why = inl (inl refl); told = told; prefix = λ h. absurd cc })
-  no_memory_to_do (check a) = inr (Memory, record { why = inl (inl refl); told = told; prefix = λ h. absurd cc })
-  no_memory_to_do (why_held (Some a)) = inr (Run Memory, record { why = inl (inl refl); told = no_memory_with_sides; prefix = λ h. absurd (memory_is_no_writing h) })
-  no_memory_to_do (explain (Err why)) = no_memory_to_read
-  no_memory_to_do (races None) = no_memory_to_read
-  no_memory_to_do (history None) = no_memory_to_read
-  no_memory_to_do (run None) = no_memory_to_read
-  no_memory_to_do (why_held None) = no_memory_to_read
+  no_memory_to_do (ask a) = no_memory_to_answer a a.query
+  no_memory_to_do (refuse why) = (inr told.ends, told.untouched (λ e. cc))
 
 -- ---- a run whose report is JSON
 

@@ -1,11 +1,13 @@
 -- What a run of the program leaves behind: on standard output, on standard error, and its status.
 -- Source: docs/OUTPUT.md, "The report", "Lines of faults" and "Statuses".
-use Rattle.std.specs.Prelude.{◌≡◌, ◌≢◌, ◌⊎◌, ℕ, Bool, false, true, List, Option, None, Some, Result, Ok, Err, IfSome, ⊤}
+use Rattle.std.specs.Prelude.{◌≡◌, ◌≢◌, ◌⊎◌, ℕ, Bool, false, true, List, Option, Result, IfSome, ⊤}
 use Rattle.std.specs.Io.KnownBytes.{Appends, Keeps}
-use Rattle.gr_model.specs.declared.event.Word.{Word}
 use Rattle.gr_model.specs.Reports.{WholeReport}
 use Rattle.gr_model.specs.Streams.{Streams}
-use Rattle.gr_arguments.specs.Asked.{Asked, AskedCheck, AskedEvent, AskedForm, AskedHistory, AskedRaces, AskedRun, AskedWord, check, explain, history, in_long, in_short, perform, races, run, why_held}
+use Rattle.gr_arguments.specs.Asked.{Asked, Inquiry, ask, perform, refuse}
+use Rattle.gr_arguments.specs.declared.request.Query.{Query}
+use Rattle.gr_arguments.specs.declared.request.Query.TheVariants.{Check, Explain, History, Races, WhyHeld}
+use Rattle.gr_arguments.specs.declared.request.Query.TheVariants as query
 use Rattle.gr_arguments.specs.declared.request.Task.{Task}
 use Rattle.gr_arguments.specs.declared.request.Task.TheVariants.{Replay, Pack, Dump, Upgrade}
 use Rattle.gr_record.specs.declared.fault.Fault.{Fault}
@@ -108,19 +110,9 @@ in_form false IsJson IsText = IsText
 abbrev pub in_both : Bool → (SidesSaid → Streams → List ℕ → Type 0) → SidesSaid → Streams → List ℕ → Type 0
 in_both json IsText = in_form json IsText IsText
 
--- what is told of a word of a launch: the line of its least racing pair; as JSON, and in the long form, a rendering
-abbrev pub IsWordTextOf : AskedForm → Bool → Word → SidesSaid → Streams → List ℕ → Type 0
-IsWordTextOf in_short json w = in_form json (λ said s. Renders (IsExplanation s w)) (λ said. IsLine w)
-IsWordTextOf (in_long places buffers) json w = in_both json (λ said s. Renders (IsAccountOf s (place_number said.places) w))
-
 -- the names of the side files
-abbrev pub sides_of : Option (List ℕ) → Option (List ℕ) → Pair (List ℕ)
-sides_of places buffers = record { places = places; buffers = buffers }
-
--- those of a form
-abbrev pub sides_asked : AskedForm → Pair (List ℕ)
-sides_asked in_short = sides_of None None
-sides_asked (in_long places buffers) = sides_of places buffers
+abbrev pub sides_of : Inquiry → Pair (List ℕ)
+sides_of a = record { places = a.places; buffers = a.buffers }
 
 -- the report of a run in threads over the files of these names
 module _ {T X : Type 0} (remaining : T → Option (List ℕ)) (Gives : List ℕ → Result T X → Type 0) (names : List (List ℕ)) where
@@ -138,52 +130,48 @@ module _ {T X : Type 0} (remaining : T → Option (List ℕ)) (Gives : List ℕ 
       HoldsOfFiles remaining Gives names (λ known. IfSome known (λ inputs. (r : WholeReport) × IsExactOfEach inputs r × WritesReportPrefix json r old new))
 
 module _ {T X : Type 0} (remaining : T → Option (List ℕ)) (Gives : List ℕ → Result T X → Type 0) (old new : Option (List ℕ)) where
-  -- a rendering of what comes of the check is written whole, and it is said whether the files are accepted
-  abbrev pub IsCheckedOfFiles : AskedCheck → Bool → Type 0
-  IsCheckedOfFiles a accepted = HoldsOfFiles remaining Gives a.files (λ known. (c : CheckedSaid) × IsCheckedAsKnown a.files known c × (accepted ≡ is_accepted c) × (text : List ℕ) × Appends old new text)
+  -- a rendering of what comes of the check of the files of these names is written whole, and it is said whether they are accepted
+  abbrev pub IsCheckedOfFiles : List (List ℕ) → Bool → Type 0
+  IsCheckedOfFiles names accepted = HoldsOfFiles remaining Gives names (λ known. (c : CheckedSaid) × IsCheckedAsKnown names known c × (accepted ≡ is_accepted c) × (text : List ℕ) × Appends old new text)
 
   -- a prefix of the rendering was written
-  abbrev pub ChecksPrefixOfFiles : AskedCheck → Type 0
-  ChecksPrefixOfFiles a = HoldsOfFiles remaining Gives a.files (λ known. (c : CheckedSaid) × IsCheckedAsKnown a.files known c × (text : List ℕ) × AppendsPrefix old new text)
+  abbrev pub ChecksPrefixOfFiles : List (List ℕ) → Type 0
+  ChecksPrefixOfFiles names = HoldsOfFiles remaining Gives names (λ known. (c : CheckedSaid) × IsCheckedAsKnown names known c × (text : List ℕ) × AppendsPrefix old new text)
 
-  module _ (old_errors new_errors : Option (List ℕ)) (status : ℕ) where
-    -- a text that answers a question, with side files of these names and streams in files of these names, is written whole, and the
-    -- status says whether what the question looks for is found; or why there is none
-    abbrev pub IsAnswered : Pair (List ℕ) → List (List ℕ) → (SidesSaid → Streams → List ℕ → Type 0) → (Streams → Type 0) → Type 0
-    IsAnswered sides files IsTextOf IsFoundIn =
+  -- what is left behind of an inquiry
+  module _ (old_errors new_errors : Option (List ℕ)) (status : ℕ) (a : Inquiry) where
+    -- a text that answers it, with its side files and the streams in its files, is written whole, and the status says whether what
+    -- is looked for is found; or why there is none
+    abbrev pub IsAnswered : (SidesSaid → Streams → List ℕ → Type 0) → (Streams → Type 0) → Type 0
+    IsAnswered IsTextOf IsFoundIn =
         IsOutcome sides_fault_line sides_fault_status (Run Write) old new old_errors new_errors status
-        (λ found. HoldsOfAllFiles remaining Gives sides files (λ known said. IsShown (IsTextOf said) IsFoundIn known found old new))
-        (λ found ended. ended ≡ race_status found) (IsSidesFault remaining Gives sides files)
-        (HoldsOfAllFiles remaining Gives sides files (λ known said. ShowsPrefix (IsTextOf said) known old new))
-
-    -- what is told of the word, and whether it is racy; or why nothing is
-    abbrev pub IsExplainOutcome : AskedWord → Type 0
-    IsExplainOutcome a = IsAnswered (sides_asked a.form) a.files (IsWordTextOf a.form a.json a.word) (IsRacyIn a.word)
-
-    -- the text of the races, and whether there is one; or why there is none
-    abbrev pub IsRacesOutcome : AskedRaces → Type 0
-    IsRacesOutcome a = IsAnswered (sides_of a.places a.buffers) a.files (in_both a.json (λ said s. Renders (AreRaces said a.causes s))) HasRace
+        (λ found. HoldsOfAllFiles remaining Gives (sides_of a) a.files (λ known said. IsShown (IsTextOf said) IsFoundIn known found old new))
+        (λ found ended. ended ≡ race_status found) (IsSidesFault remaining Gives (sides_of a) a.files)
+        (HoldsOfAllFiles remaining Gives (sides_of a) a.files (λ known said. ShowsPrefix (IsTextOf said) known old new))
 
     -- the text of a check, and whether the files are accepted; or why there is none
-    abbrev pub IsCheckOutcome : AskedCheck → Type 0
-    IsCheckOutcome a =
+    abbrev pub IsCheckOutcome : Type 0
+    IsCheckOutcome =
         IsOutcome fault_line fault_status Write old new old_errors new_errors status
-        (IsCheckedOfFiles a) (λ accepted ended. ended ≡ check_status accepted) (IsCheckFileFault remaining Gives a.files) (ChecksPrefixOfFiles a)
-
-    -- all accesses to a word, and whether it is racy; or why there are none
-    abbrev pub IsHistoryOutcome : AskedHistory → Type 0
-    IsHistoryOutcome a = IsAnswered (sides_of a.places a.buffers) a.files (in_both a.json (λ said s. Renders (IsToldOf s a.word))) (IsRacyIn a.word)
-
-    -- why an event is held, and whether it is; or why nothing is told
-    abbrev pub IsWhyHeldOutcome : AskedEvent → Type 0
-    IsWhyHeldOutcome a = IsAnswered (sides_of None None) a.files (in_both a.json (λ said s. Renders (IsWhy s a.event))) (IsHeldIn a.event)
+        (IsCheckedOfFiles a.files) (λ accepted ended. ended ≡ check_status accepted) (IsCheckFileFault remaining Gives a.files) (ChecksPrefixOfFiles a.files)
 
     -- the report of a run in threads, and its whole text or JSON; or why there is none
-    abbrev pub IsRunAnswer : AskedRun → Type 0
-    IsRunAnswer a =
+    abbrev pub IsRunAnswer : Type 0
+    IsRunAnswer =
         IsOutcome fault_line fault_status Write old new old_errors new_errors status
         (λ r. IsReportOfFiles remaining Gives a.files r × WritesReport a.json r old new) IsReportStatus
         (IsFaultOfFiles remaining Gives a.files) (WritesPrefixOfFiles remaining Gives a.files a.json old new)
+
+    -- of a word the line of its least racing pair, or a rendering as JSON and in the long form, and whether it is racy; a rendering
+    -- of the races, and whether there is one; of all accesses to a word, and whether it is racy; of why an event is held, and whether it is
+    abbrev pub IsAnswerTo : Query → Type 0
+    IsAnswerTo (Explain false w) = IsAnswered (in_form a.json (λ said s. Renders (IsExplanation s w)) (λ said. IsLine w)) (IsRacyIn w)
+    IsAnswerTo (Explain true w) = IsAnswered (in_both a.json (λ said s. Renders (IsAccountOf s (place_number said.places) w))) (IsRacyIn w)
+    IsAnswerTo (Races most causes) = IsAnswered (in_both a.json (λ said s. Renders (AreRaces said causes s))) HasRace
+    IsAnswerTo (History w) = IsAnswered (in_both a.json (λ said s. Renders (IsToldOf s w))) (IsRacyIn w)
+    IsAnswerTo (query.Run config) = IsRunAnswer
+    IsAnswerTo Check = IsCheckOutcome
+    IsAnswerTo (WhyHeld e) = IsAnswered (in_both a.json (λ said s. Renders (IsWhy s e))) (IsHeldIn e)
 
 -- ---- whatever words ask for
 
@@ -195,14 +183,5 @@ IsUsageTold old new status = ((status ≡ USAGE) ⊎ (status ≡ WANTING)) × Ke
 module _ {T X : Type 0} (remaining : T → Option (List ℕ)) (Gives : List ℕ → Result T X → Type 0) (input old new old_errors new_errors : Option (List ℕ)) (status : ℕ) where
   abbrev pub IsDone : Asked → Type 0
   IsDone (perform t) = IsAnswerOf input old new old_errors new_errors status t
-  IsDone (explain (Ok a)) = IsExplainOutcome remaining Gives old new old_errors new_errors status a
-  IsDone (races (Some a)) = IsRacesOutcome remaining Gives old new old_errors new_errors status a
-  IsDone (history (Some a)) = IsHistoryOutcome remaining Gives old new old_errors new_errors status a
-  IsDone (run (Some a)) = IsRunAnswer remaining Gives old new old_errors new_errors status a
-  IsDone (check a) = IsCheckOutcome remaining Gives old new old_errors new_errors status a
-  IsDone (why_held (Some a)) = IsWhyHeldOutcome remaining Gives old new old_errors new_errors status a
-  IsDone (explain (Err why)) = IsUsageTold old new status
-  IsDone (races None) = IsUsageTold old new status
-  IsDone (history None) = IsUsageTold old new status
-  IsDone (run None) = IsUsageTold old new status
-  IsDone (why_held None) = IsUsageTold old new status
+  IsDone (ask a) = IsAnswerTo remaining Gives old new old_errors new_errors status a a.query
+  IsDone (refuse why) = IsUsageTold old new status

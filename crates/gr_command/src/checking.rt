@@ -5,10 +5,9 @@ ghost use Rattle.std.specs.Fn.{FnReturnsAt};
 ghost use Rattle.std.specs.Io.KnownBytes.{Keeps};
 ghost use Rattle.gr_record.specs.declared.fault.Fault.TheVariants as faults;
 ghost use Rattle.gr_check.specs.Checked.{IsCheckFileFault};
-ghost use Rattle.gr_arguments.specs.Asked.{check_of};
 ghost use Rattle.gr_command.specs.Answers.{ChecksPrefixOfFiles, IsCheckedOfFiles};
 
-use gr_arguments::request::CheckArguments;
+use gr_arguments::request::Arguments;
 use gr_check::check_files;
 use gr_check::checking::Checked;
 use gr_json::check::check_json;
@@ -39,15 +38,15 @@ fn text_of(alloc: Global, checked: &Checked<'_>, json: bool) -> Result<Vec<u8>, 
 /// writer fails, which then has a prefix of the text.
 pub fn write_check<T: Read + Drop, O: Fn(&str) -> io::Result<T>, W: Write>(
     alloc: Global,
-    arguments: &CheckArguments<'_>,
+    arguments: &Arguments<'_>,
     opener: O,
     writer: &mut W,
 ) -> Result<bool, Fault>
     requires { O.IsAlwaysCallable opener }
-    ensures checked { IfOk result (λ accepted. IsCheckedOfFiles T.remaining (FnReturnsAt O.Fn opener) (W.contents writer.old) (W.contents writer.new) (check_of arguments.now) accepted) }
+    ensures checked { IfOk result (λ accepted. IsCheckedOfFiles T.remaining (FnReturnsAt O.Fn opener) (W.contents writer.old) (W.contents writer.new) (map (λ s. s.now) arguments.now.files.items) accepted) }
     ensures fault { IfErr result (λ f. IsCheckFileFault T.remaining (FnReturnsAt O.Fn opener) (map (λ s. s.now) arguments.now.files.items) f) }
     ensures untouched { IfErr result (λ f. f ≢ faults.Write → Keeps (W.contents writer.old) (W.contents writer.new)) }
-    ensures prefix { IfErr result (λ f. f ≡ faults.Write → ChecksPrefixOfFiles T.remaining (FnReturnsAt O.Fn opener) (W.contents writer.old) (W.contents writer.new) (check_of arguments.now)) }
+    ensures prefix { IfErr result (λ f. f ≡ faults.Write → ChecksPrefixOfFiles T.remaining (FnReturnsAt O.Fn opener) (W.contents writer.old) (W.contents writer.new) (map (λ s. s.now) arguments.now.files.items)) }
 {
     let checked = check_files(alloc, arguments.files.as_slice(), opener)?;
     let Ok(text) = text_of(alloc, &checked, arguments.json) else {

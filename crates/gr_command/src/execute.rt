@@ -7,11 +7,10 @@ ghost use Rattle.clap.specs.Words.{kind_of};
 ghost use Rattle.gr_report.specs.FaultText.{fault_line};
 ghost use Rattle.gr_report.specs.Putting.{AppendsPrefix};
 ghost use Rattle.gr_report.specs.Whole.{whole_of};
-ghost use Rattle.gr_places.specs.Opening.{side_names};
 ghost use Rattle.gr_places.specs.FaultText.{sides_fault_line};
-ghost use Rattle.gr_arguments.specs.Asked.{Asked, AsksTo, asked_of, check_of, event_of, form_of, history_of, races_of, run_of, word_of};
+ghost use Rattle.gr_arguments.specs.Asked.{Asked, AsksTo, asked_of, inquiry_of};
 ghost use Rattle.gr_arguments.specs.Commands.{AreHelp, AreWrong, IsHelp, IsWrongUsage, faults};
-ghost use Rattle.gr_command.specs.Answers.{IsAnswerOf, IsAnswered, IsCheckOutcome, IsDone, IsExplainOutcome, IsFaultTold, IsHistoryOutcome, IsRacesOutcome, IsRunAnswer, IsWhyHeldOutcome, in_form, sides_asked};
+ghost use Rattle.gr_command.specs.Answers.{IsAnswerOf, IsAnswerTo, IsAnswered, IsDone, IsFaultTold, in_form};
 ghost use Rattle.gr_command.specs.Statuses.{check_status, fault_status, race_status, sides_fault_status, IsReportStatus};
 
 use crate::checking::write_check;
@@ -22,10 +21,7 @@ use crate::status::{
 };
 use clap::Error;
 use clap::error::ErrorKind;
-use gr_arguments::request::{
-    CheckArguments, ExplainArguments, ExplainMisuse, Form, HistoryArguments, RacesArguments,
-    Request, RunArguments, Task, WhyHeldArguments,
-};
+use gr_arguments::request::{Arguments, Misuse, Query, Request, Task};
 use gr_arguments::request_of;
 use gr_places::files::SideNames;
 use gr_places::sides_fault::{SidesFault, write_sides_fault};
@@ -187,8 +183,7 @@ fn conclude_telling<E: Write>(outcome: Result<bool, SidesFault>, errors: &mut E)
 fn tell<Q, T, O, W, E>(
     alloc: Global,
     question: &Q,
-    sides: &SideNames<'_>,
-    files: &[&str],
+    arguments: &Arguments<'_>,
     opener: O,
     writer: &mut W,
     errors: &mut E,
@@ -200,19 +195,22 @@ where
     W: Write,
     E: Write,
     requires { O.IsAlwaysCallable opener }
-    ensures { IsAnswered T.remaining (FnReturnsAt O.Fn opener) (W.contents writer.old) (W.contents writer.new) (E.contents errors.old) (E.contents errors.new) result (side_names sides.now) (map (λ s. s.now) files.now) (Q.is_text question.now) (Q.is_found question.now) }
+    ensures { IsAnswered T.remaining (FnReturnsAt O.Fn opener) (W.contents writer.old) (W.contents writer.new) (E.contents errors.old) (E.contents errors.new) result (inquiry_of arguments.now) (Q.is_text question.now) (Q.is_found question.now) }
 {
-    let outcome = tell_files(alloc, question, sides, files, opener, writer);
+    let sides = SideNames {
+        places: arguments.places,
+        buffers: arguments.buffers,
+    };
+    let files = arguments.files.as_slice();
+    let outcome = tell_files(alloc, question, &sides, files, opener, writer);
     conclude_telling(outcome, errors)
 }
 
 /// Writes the answer to a question as text or as JSON, and gives the exit status.
 fn tell_in<Q, T, O, W, E>(
-    json: bool,
     alloc: Global,
     question: Q,
-    sides: &SideNames<'_>,
-    files: &[&str],
+    arguments: &Arguments<'_>,
     opener: O,
     writer: &mut W,
     errors: &mut E,
@@ -224,131 +222,16 @@ where
     W: Write,
     E: Write,
     requires { O.IsAlwaysCallable opener }
-    ensures { IsAnswered T.remaining (FnReturnsAt O.Fn opener) (W.contents writer.old) (W.contents writer.new) (E.contents errors.old) (E.contents errors.new) result (side_names sides.now) (map (λ s. s.now) files.now) (in_form json (Q.is_json question) (Q.is_text question)) (Q.is_found question) }
+    ensures { IsAnswered T.remaining (FnReturnsAt O.Fn opener) (W.contents writer.old) (W.contents writer.new) (E.contents errors.old) (E.contents errors.new) result (inquiry_of arguments.now) (in_form arguments.now.json (Q.is_json question) (Q.is_text question)) (Q.is_found question) }
 {
-    if json {
-        tell(
-            alloc,
-            &InJson(question),
-            sides,
-            files,
-            opener,
-            writer,
-            errors,
-        )
+    if arguments.json {
+        tell(alloc, &InJson(question), arguments, opener, writer, errors)
     } else {
-        tell(alloc, &question, sides, files, opener, writer, errors)
+        tell(alloc, &question, arguments, opener, writer, errors)
     }
 }
 
-/// The side files that a form of `explain` has.
-fn sides_of<'a>(form: Form<'a>) -> SideNames<'a>
-    ensures { side_names result ≡ sides_asked (form_of form.entry) }
-{
-    match form {
-        Form::Short => SideNames {
-            places: None,
-            buffers: None,
-        },
-        Form::Long { places, buffers } => SideNames { places, buffers },
-    }
-}
-
-/// Tells of the least racing pair of a word of the launch whose streams are in files, and gives the exit status.
-fn explain<T: Read + Drop, O: Fn(&str) -> io::Result<T>, W: Write, E: Write>(
-    alloc: Global,
-    arguments: &ExplainArguments<'_>,
-    opener: O,
-    writer: &mut W,
-    errors: &mut E,
-) -> u8
-    requires { O.IsAlwaysCallable opener }
-    ensures { IsExplainOutcome T.remaining (FnReturnsAt O.Fn opener) (W.contents writer.old) (W.contents writer.new) (E.contents errors.old) (E.contents errors.new) result (word_of arguments.now) }
-{
-    let sides = sides_of(arguments.form);
-    let files = arguments.files.as_slice();
-    let (word, json) = (arguments.word, arguments.json);
-    match arguments.form {
-        Form::Short => {
-            let question = LeastRace { word };
-            tell_in(json, alloc, question, &sides, files, opener, writer, errors)
-        }
-        Form::Long { .. } => {
-            let question = LongRace { word };
-            tell_in(json, alloc, question, &sides, files, opener, writer, errors)
-        }
-    }
-}
-
-/// Tells of the races of the launch whose streams are in files, and gives the exit status.
-fn races<T: Read + Drop, O: Fn(&str) -> io::Result<T>, W: Write, E: Write>(
-    alloc: Global,
-    arguments: &RacesArguments<'_>,
-    opener: O,
-    writer: &mut W,
-    errors: &mut E,
-) -> u8
-    requires { O.IsAlwaysCallable opener }
-    ensures { IsRacesOutcome T.remaining (FnReturnsAt O.Fn opener) (W.contents writer.old) (W.contents writer.new) (E.contents errors.old) (E.contents errors.new) result (races_of arguments.now) }
-{
-    let sides = SideNames {
-        places: arguments.places,
-        buffers: arguments.buffers,
-    };
-    let files = arguments.files.as_slice();
-    let question = Races {
-        most: arguments.most,
-        causes: arguments.causes,
-    };
-    let json = arguments.json;
-    tell_in(json, alloc, question, &sides, files, opener, writer, errors)
-}
-
-/// Tells why an event of the launch whose streams are in files is held, and gives the exit status.
-fn why_held<T: Read + Drop, O: Fn(&str) -> io::Result<T>, W: Write, E: Write>(
-    alloc: Global,
-    arguments: &WhyHeldArguments<'_>,
-    opener: O,
-    writer: &mut W,
-    errors: &mut E,
-) -> u8
-    requires { O.IsAlwaysCallable opener }
-    ensures { IsWhyHeldOutcome T.remaining (FnReturnsAt O.Fn opener) (W.contents writer.old) (W.contents writer.new) (E.contents errors.old) (E.contents errors.new) result (event_of arguments.now) }
-{
-    let sides = SideNames {
-        places: None,
-        buffers: None,
-    };
-    let question = HeldEvent {
-        event: arguments.event,
-    };
-    let (json, files) = (arguments.json, arguments.files.as_slice());
-    tell_in(json, alloc, question, &sides, files, opener, writer, errors)
-}
-
-/// Tells of all accesses to a word of the launch whose streams are in files, and gives the exit status.
-fn history<T: Read + Drop, O: Fn(&str) -> io::Result<T>, W: Write, E: Write>(
-    alloc: Global,
-    arguments: &HistoryArguments<'_>,
-    opener: O,
-    writer: &mut W,
-    errors: &mut E,
-) -> u8
-    requires { O.IsAlwaysCallable opener }
-    ensures { IsHistoryOutcome T.remaining (FnReturnsAt O.Fn opener) (W.contents writer.old) (W.contents writer.new) (E.contents errors.old) (E.contents errors.new) result (history_of arguments.now) }
-{
-    let sides = SideNames {
-        places: arguments.places,
-        buffers: arguments.buffers,
-    };
-    let question = WordHistory {
-        word: arguments.word,
-    };
-    let (json, files) = (arguments.json, arguments.files.as_slice());
-    tell_in(json, alloc, question, &sides, files, opener, writer, errors)
-}
-
-/// Tells of a check that failed, and gives the status of what came of it.
+/// Reports a check that failed, and gives the status of what came of it.
 fn conclude_check<E: Write>(outcome: Result<bool, Fault>, errors: &mut E) -> u8
     ensures accepted { IfOk outcome (λ accepted. result ≡ check_status accepted) }
     ensures silent { OnOk outcome (Keeps (E.contents errors.old) (E.contents errors.new)) }
@@ -361,25 +244,11 @@ fn conclude_check<E: Write>(outcome: Result<bool, Fault>, errors: &mut E) -> u8
     }
 }
 
-/// Checks files, and gives the exit status.
-fn check<T: Read + Drop, O: Fn(&str) -> io::Result<T>, W: Write, E: Write>(
-    alloc: Global,
-    arguments: &CheckArguments<'_>,
-    opener: O,
-    writer: &mut W,
-    errors: &mut E,
-) -> u8
-    requires { O.IsAlwaysCallable opener }
-    ensures { IsCheckOutcome T.remaining (FnReturnsAt O.Fn opener) (W.contents writer.old) (W.contents writer.new) (E.contents errors.old) (E.contents errors.new) result (check_of arguments.now) }
-{
-    conclude_check(write_check(alloc, arguments, opener, writer), errors)
-}
-
-/// Runs the launch whose streams are in files, and gives the exit status.
-fn run<H, T, O, W, E>(
+/// Answers what is asked about the launch whose streams are in files, and gives the exit status.
+fn ask<H, T, O, W, E>(
     rt: H,
     alloc: Global,
-    arguments: &RunArguments<'_>,
+    arguments: &Arguments<'_>,
     opener: O,
     writer: &mut W,
     errors: &mut E,
@@ -391,16 +260,49 @@ where
     W: Write,
     E: Write,
     requires { O.IsAlwaysCallable opener }
-    ensures { IsRunAnswer T.remaining (FnReturnsAt O.Fn opener) (W.contents writer.old) (W.contents writer.new) (E.contents errors.old) (E.contents errors.new) result (run_of arguments.now) }
+    ensures { IsAnswerTo T.remaining (FnReturnsAt O.Fn opener) (W.contents writer.old) (W.contents writer.new) (E.contents errors.old) (E.contents errors.new) result (inquiry_of arguments.now) arguments.now.query }
 {
-    conclude(run_files(rt, alloc, arguments, opener, writer), errors)
+    match arguments.query {
+        Query::Explain { long, word } => {
+            if long {
+                tell_in(alloc, LongRace { word }, arguments, opener, writer, errors)
+            } else {
+                tell_in(alloc, LeastRace { word }, arguments, opener, writer, errors)
+            }
+        }
+        Query::Races { most, causes } => {
+            let question = Races { most, causes };
+            tell_in(alloc, question, arguments, opener, writer, errors)
+        }
+        Query::History { word } => {
+            let question = WordHistory { word };
+            tell_in(alloc, question, arguments, opener, writer, errors)
+        }
+        Query::Run { config } => {
+            let outcome = run_files(rt, alloc, config, arguments, opener, writer);
+            conclude(outcome, errors)
+        }
+        Query::Check => conclude_check(write_check(alloc, arguments, opener, writer), errors),
+        Query::WhyHeld { event } => {
+            let question = HeldEvent { event };
+            tell_in(alloc, question, arguments, opener, writer, errors)
+        }
+    }
 }
 
-/// Tells that the words of a command are wrong, though they were taken.
-fn explain_misuse<E: Write>(why: &[u8], errors: &mut E) -> u8
+/// Says on standard error that the words of a command are wrong, though they were taken.
+fn refuse<E: Write>(why: Misuse, errors: &mut E) -> u8
     ensures { result ≡ USAGE }
 {
-    let _ = errors.write_all(why);
+    let text = match why {
+        Misuse::SidesAlone => SIDES_ALONE,
+        Misuse::NoWordToExplain => MISNAMED,
+        Misuse::NoCount => MISCOUNTED,
+        Misuse::NoWordOfHistory => UNNAMED,
+        Misuse::NoSetUp => MISCONFIGURED,
+        Misuse::NoEvent => NO_EVENT,
+    };
+    let _ = errors.write_all(text);
     USAGE
 }
 
@@ -427,18 +329,8 @@ where
 {
     match request {
         Request::Perform(task) => perform(alloc, task, reader, writer, errors),
-        Request::Explain(Ok(arguments)) => explain(alloc, &arguments, opener, writer, errors),
-        Request::Races(Some(arguments)) => races(alloc, &arguments, opener, writer, errors),
-        Request::History(Some(arguments)) => history(alloc, &arguments, opener, writer, errors),
-        Request::WhyHeld(Some(arguments)) => why_held(alloc, &arguments, opener, writer, errors),
-        Request::Run(Some(arguments)) => run(rt, alloc, &arguments, opener, writer, errors),
-        Request::Check(arguments) => check(alloc, &arguments, opener, writer, errors),
-        Request::Explain(Err(ExplainMisuse::SidesAlone)) => explain_misuse(SIDES_ALONE, errors),
-        Request::Explain(Err(ExplainMisuse::NoWord)) => explain_misuse(MISNAMED, errors),
-        Request::Races(None) => explain_misuse(MISCOUNTED, errors),
-        Request::History(None) => explain_misuse(UNNAMED, errors),
-        Request::Run(None) => explain_misuse(MISCONFIGURED, errors),
-        Request::WhyHeld(None) => explain_misuse(NO_EVENT, errors),
+        Request::Ask(arguments) => ask(rt, alloc, &arguments, opener, writer, errors),
+        Request::Refuse(why) => refuse(why, errors),
     }
 }
 

@@ -9,8 +9,9 @@ ghost use Rattle.gr_replay.specs.Replays.{IsExact, IsReplayFault};
 ghost use Rattle.gr_report.specs.Whole.{whole_of};
 ghost use Rattle.gr_command.specs.Answers.{IsFaultOfFiles, IsReportOfFiles, WritesPrefixOfFiles, WritesReport, WritesReportPrefix};
 
-use gr_arguments::request::RunArguments;
+use gr_arguments::request::Arguments;
 use gr_json::report::report_json;
+use gr_model::config::Config;
 use gr_places::opening::open_all;
 use gr_record::fault::Fault;
 use gr_replay::read_report;
@@ -62,15 +63,16 @@ pub fn replay_json<R: Read, W: Write>(
     Ok(report)
 }
 
-/// Opens the files, reads the streams of a launch, one from each, in threads, and writes the text of its report,
-/// or its JSON, and nothing else.
+/// Opens the files, reads the streams of a launch, one from each, in threads that are set up so, and writes the text of its
+/// report, or its JSON, and nothing else.
 ///
 /// # Errors
 /// Those of `open_all`, before anything is read; then those of `run_streams`.
 pub fn run_files<H, T, O, W>(
     rt: H,
     alloc: Global,
-    arguments: &RunArguments<'_>,
+    config: Config,
+    arguments: &Arguments<'_>,
     opener: O,
     writer: &mut W,
 ) -> Result<Report, Fault>
@@ -91,9 +93,9 @@ where
         return Err(Fault::Memory);
     };
     if !arguments.json {
-        return run_streams(rt, alloc, files, arguments.config, watch, writer);
+        return run_streams(rt, alloc, files, config, watch, writer);
     }
-    let report = detect_streams(rt, alloc, files, arguments.config, watch)?;
+    let report = detect_streams(rt, alloc, files, config, watch)?;
     write_json(alloc, &report, writer)?;
     Ok(report)
 }

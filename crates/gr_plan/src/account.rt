@@ -22,31 +22,13 @@ const PIECE_LENGTH: usize = 65_536;
 /// How many streams are told apart, at most: one more than a launch may have.
 const MOST_STREAMS: usize = MOST_GROUPS + 1;
 
-/// How records are looked at.
-#[derive(Clone, Copy, PartialEq, Eq)]
-pub enum Look {
-    /// By their first byte alone.
-    Quick,
-    /// As whole records in the stream of this number, from 0, and up to its end; those before by their first byte.
-    Whole(u64),
-}
-
-/// What stands at the front of bytes.
-#[derive(Clone, Copy)]
-enum Front {
-    /// Fewer bytes than a header or a record has.
-    Little,
-    /// What is no header, or a record that is refused.
-    Refused,
-    /// A header.
-    Begins(Header),
-    /// A record of so many bytes, which is an end or none.
-    Record(usize, bool),
-}
-
-/// What was read of a series of bytes that has streams, one after another.
+/// What was read of a series of bytes that has streams, one after another. Records are looked at by their first byte alone.
 #[derive(Drop)]
 pub struct Account {
+    /// Whether each record is looked at as a whole one.
+    judges: bool,
+    /// The stream of this number, from 0, is the last one, and its records are looked at as whole ones.
+    pub last: Option<u64>,
     /// Where each stream begins that was met.
     pub starts: Vec<u64>,
     /// How many records of the stream at hand were passed.
@@ -56,92 +38,66 @@ pub struct Account {
     /// How many bytes were passed.
     pub passed: u64,
     /// Whether what stands next is not of a stream.
-    pub is_stopped: bool,
-    /// Whether that is the end of the stream that was looked at.
+    is_stopped: bool,
+    /// Whether that is the end of the last stream.
     pub is_at_end: bool,
-    /// Who sees the headers and records that are passed.
-    pub seen: Seen,
-    /// Whether each record is looked at as a whole one.
-    judges: bool,
     header: Option<Header>,
     /// The bytes at hand.
-    pub bytes: Vec<u8>,
+    bytes: Vec<u8>,
 }
 
 /// Whether the bytes begin as a header does.
 pub fn begins_stream(bytes: &[u8]) -> bool {
-    match bytes.strip_prefix(b"GRT".as_slice()) {
-        Some([version, ..]) => b'1' <= *version && *version <= b'4',
-        Some([]) | None => false,
-    }
+    matches!(bytes, [b'G', b'R', b'T', b'1'..=b'4', ..])
 }
 
-/// The header at the front of bytes.
-fn header_at(bytes: &[u8]) -> Front {
-    match read_front_header(bytes) {
-        Ok((header, _)) => Front::Begins(header),
-        Err(RecordError::Truncated) => Front::Little,
-        Err(_) => Front::Refused,
-    }
-}
-
-/// The record at the front of bytes, in the stream of this header.
-fn record_at(header: Header, bytes: &[u8], is_whole: bool) -> Front {
-    let length = header.version.record_length();
-    let Some(record) = bytes.get(..length) else {
-        return Front::Little;
-    };
-    if is_whole && read_event(header, record).is_err() {
-        return Front::Refused;
-    }
-    match record.first() {
-        None => Front::Little,
-        Some(kind) if *kind > END => Front::Refused,
-        Some(kind) => Front::Record(length, *kind == END),
-    }
+/// Whether bytes begin with a header; what is missing of it is taken for right.
+fn is_header(bytes: &[u8]) -> bool {
+    begins_stream(bytes)
+        && matches!(
+            read_front_header(bytes),
+            Ok(_) | Err(RecordError::Truncated)
+        )
 }
 
 impl Account {
-    /// The account of bytes of which none was read. Where it judges, records are looked at as whole ones, whatever the look.
+    /// The account of bytes of which none was read.
     pub fn new(alloc: Global, judges: bool) -> Account {
         Account {
+            judges,
+            last: None,
             starts: Vec::new(alloc),
             records: 0,
             all_records: 0,
             passed: 0,
             is_stopped: false,
             is_at_end: false,
-            seen: Seen::default(),
-            judges,
             header: None,
             bytes: Vec::new(alloc),
         }
     }
 
-    /// Takes bytes that were read, passes what was taken before, and tells how many records were passed.
-    ///
-    /// # Errors
-    /// `Memory`: out of memory.
+    /// Takes bytes that were read, passes what was taken before, and gives how many records were passed.
     pub fn take(&mut self, piece: &[u8]) -> Result<u64, Memory> {
         let before = self.all_records;
-        self.pass(Look::Quick)?;
+        self.pass(&mut Seen::default())?;
         if !self.is_stopped {
             self.bytes.extend_from_slice(piece)?;
         }
         Ok(self.all_records.saturating_sub(before))
     }
 
-    /// Takes and passes the bytes of a reader, up to its end or to what is not of a stream.
+    /// Takes and passes the bytes of a reader, up to its end or to what is not of a stream, and shows what is passed.
     ///
     /// # Errors
     /// `Read` where the reader fails; `Memory`.
-    pub fn read<R: Read>(&mut self, reader: &mut R, look: Look) -> Result<(), Fault> {
+    pub fn read<R: Read>(&mut self, reader: &mut R, seen: &mut Seen) -> Result<(), Fault> {
         let mut piece = [0u8; PIECE_LENGTH];
         for _ in 0..u64::MAX {
             match reader.read(&mut piece) {
                 Err(error) => return Err(fault_of(&error)),
                 Ok(0) => break,
-                Ok(n) => self.add(&piece[..n], look)?,
+                Ok(n) => self.add(&piece[..n], seen)?,
             }
             if self.is_stopped {
                 break;
@@ -151,19 +107,16 @@ impl Account {
     }
 
     /// Takes and passes bytes.
-    fn add(&mut self, piece: &[u8], look: Look) -> Result<(), Memory> {
+    fn add(&mut self, piece: &[u8], seen: &mut Seen) -> Result<(), Memory> {
         self.bytes.extend_from_slice(piece)?;
-        self.pass(look)
+        self.pass(seen)
     }
 
-    /// Passes the headers and records that are whole.
-    ///
-    /// # Errors
-    /// `Memory`: out of memory.
-    pub fn pass(&mut self, look: Look) -> Result<(), Memory> {
+    /// Passes the headers and records that are whole, and shows them.
+    pub fn pass(&mut self, seen: &mut Seen) -> Result<(), Memory> {
         let mut at: usize = 0;
         for _ in 0..self.bytes.len() {
-            let n = self.pass_front(at, look)?;
+            let n = self.pass_front(at, seen)?;
             if n == 0 {
                 break;
             }
@@ -174,26 +127,17 @@ impl Account {
         Ok(())
     }
 
-    /// Whether the look ends with the stream at hand.
-    fn ends_here(&self, look: Look) -> bool {
-        match look {
-            Look::Quick => false,
-            Look::Whole(stream) => self.starts.len() as u64 > stream,
+    /// Whether the stream at hand is the last one.
+    fn is_at_last(&self) -> bool {
+        match self.last {
+            None => false,
+            Some(last) => self.starts.len() as u64 > last,
         }
     }
 
     /// The bytes at hand from this place on.
     fn rest(&self, at: usize) -> &[u8] {
         self.bytes.get(at..).unwrap_or(&[])
-    }
-
-    /// What stands at this place of the bytes at hand.
-    fn front(&self, at: usize, look: Look) -> Front {
-        let rest = self.rest(at);
-        match self.header {
-            None => header_at(rest),
-            Some(header) => record_at(header, rest, self.judges || self.ends_here(look)),
-        }
     }
 
     /// Notes that a stream begins here, once.
@@ -205,55 +149,74 @@ impl Account {
         Ok(())
     }
 
-    /// Passes the header or the record at this place of the bytes at hand, and tells how long it is: 0 where none is passed.
-    fn pass_front(&mut self, at: usize, look: Look) -> Result<usize, Memory> {
-        if self.header.is_none() && begins_stream(self.rest(at)) {
-            self.note_start()?;
-        }
-        let n = match self.front(at, look) {
-            Front::Little => 0,
-            Front::Refused => {
-                self.is_stopped = true;
-                0
-            }
-            Front::Begins(header) => {
-                self.header = Some(header);
-                self.records = 0;
-                self.seen.begin(&header)?;
-                HEADER_LENGTH
-            }
-            Front::Record(_, true) if self.ends_here(look) => {
-                self.is_stopped = true;
-                self.is_at_end = true;
-                0
-            }
-            Front::Record(length, is_end) => {
-                self.count(at, length, is_end)?;
-                length
-            }
+    /// Passes the header or the record at this place of the bytes at hand, and gives how long it is: 0 where none is passed.
+    fn pass_front(&mut self, at: usize, seen: &mut Seen) -> Result<usize, Memory> {
+        let passed = match self.header {
+            None => self.pass_header(at, seen),
+            Some(header) => self.pass_record(at, &header, seen),
         };
-        self.passed = self.passed.saturating_add(n as u64);
-        Ok(n)
+        match passed {
+            Ok(n) => {
+                self.passed = self.passed.saturating_add(n as u64);
+                Ok(n)
+            }
+            Err(RecordError::Memory) => Err(Memory),
+            Err(error) => {
+                self.is_stopped = error != RecordError::Truncated;
+                Ok(0)
+            }
+        }
     }
 
-    /// Counts the record at this place of the bytes at hand, and shows it if it is no end.
-    fn count(&mut self, at: usize, length: usize, is_end: bool) -> Result<(), Memory> {
+    /// Passes the header at this place of the bytes at hand, and gives how long it is.
+    fn pass_header(&mut self, at: usize, seen: &mut Seen) -> Result<usize, RecordError> {
+        if begins_stream(self.rest(at)) {
+            self.note_start()?;
+        }
+        let (header, _) = read_front_header(self.rest(at))?;
+        self.header = Some(header);
+        self.records = 0;
+        seen.begin(&header)?;
+        Ok(HEADER_LENGTH)
+    }
+
+    /// Passes the record of a stream of this header at this place of the bytes at hand, and gives how long it is.
+    fn pass_record(
+        &mut self,
+        at: usize,
+        header: &Header,
+        seen: &mut Seen,
+    ) -> Result<usize, RecordError> {
+        let length = header.version.record_length();
+        let is_at_last = self.is_at_last();
+        let Some(record) = self.rest(at).get(..length) else {
+            return Err(RecordError::Truncated);
+        };
+        if self.judges || is_at_last {
+            read_event(*header, record)?;
+        }
+        match record.first() {
+            Some(&END) if is_at_last => {
+                self.is_at_end = true;
+                return Err(RecordError::AfterEnd);
+            }
+            Some(&END) => self.header = None,
+            Some(kind) if *kind > END => return Err(RecordError::BadKind),
+            Some(_) | None => seen.pass(header, record)?,
+        }
         self.records = self.records.saturating_add(1);
         self.all_records = self.all_records.saturating_add(1);
-        if is_end {
-            self.header = None;
-            return Ok(());
-        }
-        let record = self.bytes.get(at..at.saturating_add(length));
-        match (&self.header, record) {
-            (Some(header), Some(record)) => self.seen.pass(header, record),
-            _ => Ok(()),
-        }
+        Ok(length)
     }
 
     /// Whether a header stands next, and no record.
     pub fn is_at_header(&self) -> bool {
         self.header.is_none()
+    }
+
+    /// Whether a header stands next, and the text of one stands there.
+    pub fn is_text(&self) -> bool {
+        self.is_at_header() && self.bytes.starts_with(b"group ")
     }
 
     /// Whether a header begins in the record that stands next.
@@ -269,13 +232,4 @@ impl Account {
         }
         false
     }
-}
-
-/// Whether bytes begin with a header; what is missing of it is taken for right.
-fn is_header(bytes: &[u8]) -> bool {
-    begins_stream(bytes)
-        && match read_front_header(bytes) {
-            Ok(_) | Err(RecordError::Truncated) => true,
-            Err(_) => false,
-        }
 }

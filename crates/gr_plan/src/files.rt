@@ -1,7 +1,8 @@
 //! The streams of the files that are given on the command line: a file may have several, a folder has a file for each, and `-`
 //! is standard input.
 
-use crate::account::{Account, Look};
+use crate::account::Account;
+use crate::line::Line;
 use crate::seen::Seen;
 use crate::sited::Sited;
 use crate::source::Piece;
@@ -12,13 +13,12 @@ use gr_record::input::read_all;
 use std::alloc::Global;
 use std::fs::{self, File};
 use std::io::{self, ErrorKind, Read};
-use std::mem;
 
 /// How the files of streams end, in a folder.
 const STREAM_ENDING: &str = ".gpurace";
 
 /// What a name stands for.
-#[derive(Clone, Copy, Debug, PartialEq, Eq)]
+#[derive(Clone, Copy, PartialEq, Eq)]
 pub enum Kind {
     /// Standard input.
     Input,
@@ -45,30 +45,8 @@ pub fn kind_of(rt: HostRuntime, name: &str) -> Kind {
     }
 }
 
-/// The files of streams, one each, for those that are given.
-#[derive(Drop)]
-pub struct Files {
-    rt: HostRuntime,
-    /// The names, in their order.
-    pub names: Vec<String>,
-    /// What those open that are no path of a whole file.
-    pub table: Table,
-    /// Whether they are others than those that are given.
-    pub is_changed: bool,
-    /// The file of places: that which is given, or the first one of a folder, or its sites.
-    pub places: Option<String>,
-    /// The file of buffers: that which is given, or the first one of a folder.
-    pub buffers: Option<String>,
-    /// Pipes are read as they come, and so have one stream each; else all of a pipe is read at first.
-    pub may_wait: bool,
-    /// The places of a folder are wanted.
-    pub wants_places: bool,
-    /// Who sees the headers and records.
-    pub seen: Seen,
-}
-
 /// The fault of reading.
-pub(crate) fn fault_of(error: &io::Error) -> Fault {
+pub fn fault_of(error: &io::Error) -> Fault {
     if error.kind() == ErrorKind::OutOfMemory {
         Fault::Memory
     } else {
@@ -77,14 +55,94 @@ pub(crate) fn fault_of(error: &io::Error) -> Fault {
 }
 
 /// A text of its own.
-pub(crate) fn copy_of(alloc: Global, text: &str) -> Result<String, Memory> {
+pub fn copy_of(alloc: Global, text: &str) -> Result<String, Memory> {
     Ok(String::from_str(alloc, text)?)
+}
+
+/// Texts of their own.
+pub fn copies_of(alloc: Global, texts: &[&str]) -> Result<Vec<String>, Memory> {
+    let copies = texts.iter().map(|text| String::from_str(alloc, text));
+    Ok(copies.try_collect::<Vec<String>>(alloc)?)
 }
 
 /// A path below a folder.
 fn path_below(alloc: Global, folder: &str, name: &str) -> Result<String, Memory> {
     let between = if folder.ends_with('/') { "" } else { "/" };
     Ok(format!(in alloc; "{folder}{between}{name}")?)
+}
+
+/// All bytes of a file.
+pub fn read_file(rt: HostRuntime, path: &str) -> Result<Vec<u8>, Fault> {
+    let mut file = File::open(&rt, path).map_err(|error| fault_of(&error))?;
+    read_all(rt.alloc(), &mut file)
+}
+
+/// The paths of the files of streams in a folder, sorted; none where the folder can't be read.
+pub fn paths_of_streams(rt: HostRuntime, folder: &str) -> Result<Vec<String>, Memory> {
+    let alloc = rt.alloc();
+    let mut paths = Vec::new(alloc);
+    let entries = match fs::read_dir(&rt, folder) {
+        Ok(entries) => entries,
+        Err(error) if error.kind() == ErrorKind::OutOfMemory => return Err(Memory),
+        Err(_) => return Ok(paths),
+    };
+    for entry in entries {
+        match entry {
+            Ok(entry) if entry.file_name().ends_with(STREAM_ENDING) => {
+                paths.push(path_below(alloc, folder, entry.file_name())?)?;
+            }
+            Err(error) if error.kind() == ErrorKind::OutOfMemory => return Err(Memory),
+            Ok(_) | Err(_) => {}
+        }
+    }
+    paths.sort()?;
+    Ok(paths)
+}
+
+/// The path of a side file of a folder, if it is there.
+fn side_file(rt: HostRuntime, folder: &str, name: &str) -> Result<Option<String>, Memory> {
+    let path = path_below(rt.alloc(), folder, name)?;
+    let is_there = kind_of(rt, path.as_str()) == Kind::File;
+    Ok(is_there.then_some(path))
+}
+
+/// The file of buffers of a command on these files: that which is given, or the first one of a folder.
+pub fn buffers_of(
+    rt: HostRuntime,
+    line: &Line<'_>,
+    names: &[&str],
+) -> Result<Option<String>, Memory> {
+    if let Some(path) = line.value_of("--buffers") {
+        return Ok(Some(copy_of(rt.alloc(), path)?));
+    }
+    for name in names {
+        if kind_of(rt, name) == Kind::Folder
+            && let Some(path) = side_file(rt, name, "buffers")?
+        {
+            return Ok(Some(path));
+        }
+    }
+    Ok(None)
+}
+
+/// The files of streams, one each, for those that are given.
+#[derive(Drop)]
+pub struct Files {
+    rt: HostRuntime,
+    /// The names, in their order.
+    pub names: Vec<String>,
+    /// What those open that are no path of a whole file.
+    pub table: Table,
+    /// The file of places: that which is given, or the first one of a folder, or its sites.
+    pub places: Option<String>,
+    /// The file of buffers: that which is given, or the first one of a folder.
+    pub buffers: Option<String>,
+    /// Pipes are read as they come, and so have one stream each; else all of a pipe is read at first.
+    may_wait: bool,
+    /// The command takes side files.
+    pub takes_sides: bool,
+    /// Who sees the headers and records.
+    pub seen: Seen,
 }
 
 impl Files {
@@ -94,20 +152,43 @@ impl Files {
             rt,
             names: Vec::new(rt.alloc()),
             table: Table::new(rt.alloc()),
-            is_changed: false,
             places: None,
             buffers: None,
             may_wait: false,
-            wants_places: false,
+            takes_sides: false,
             seen: Seen::default(),
         }
     }
 
+    /// Adds the streams of the files of a command, and its side files. Where a file is missing all names stay as they are, so that
+    /// it is reported as ever.
+    pub fn add_all(&mut self, line: &Line<'_>, names: &[&str]) -> Result<(), Fault> {
+        self.may_wait = line.command == "run";
+        self.takes_sides = line.takes_sides();
+        self.places = self.value_of(line, "--places")?;
+        self.buffers = self.value_of(line, "--buffers")?;
+        let rt = self.rt;
+        let is_whole = names.iter().all(|name| kind_of(rt, name) != Kind::Missing);
+        for name in names {
+            if is_whole {
+                self.add(name)?;
+            } else {
+                self.add_name(name)?;
+            }
+        }
+        Ok(())
+    }
+
+    /// The value of an option, if it is there.
+    fn value_of(&self, line: &Line<'_>, option: &str) -> Result<Option<String>, Memory> {
+        let value = line.value_of(option);
+        value
+            .map(|value| copy_of(self.rt.alloc(), value))
+            .transpose()
+    }
+
     /// Adds the streams of what is given by this name.
-    ///
-    /// # Errors
-    /// `Read` where standard input or a pipe can't be read; `Memory`.
-    pub fn add(&mut self, name: &str) -> Result<(), Fault> {
+    fn add(&mut self, name: &str) -> Result<(), Fault> {
         let rt = self.rt;
         match kind_of(rt, name) {
             Kind::Input => self.add_bytes(name, &mut rt.stdin()),
@@ -124,27 +205,20 @@ impl Files {
     /// Where the streams begin that a reader has, one after another.
     fn starts_of<R: Read>(&mut self, reader: &mut R) -> Result<Vec<u64>, Fault> {
         let mut account = Account::new(self.rt.alloc(), false);
-        account.seen = mem::take(&mut self.seen);
-        let outcome = account.read(reader, Look::Quick);
-        self.seen = mem::take(&mut account.seen);
-        outcome?;
+        account.read(reader, &mut self.seen)?;
         Ok(account.starts)
     }
 
     /// Adds a name as it is.
-    ///
-    /// # Errors
-    /// `Memory`: out of memory.
-    pub fn add_name(&mut self, name: &str) -> Result<(), Memory> {
+    fn add_name(&mut self, name: &str) -> Result<(), Memory> {
         self.names.push(copy_of(self.rt.alloc(), name)?)?;
         Ok(())
     }
 
     /// Adds a name, and what it opens.
-    fn add_piece(&mut self, name: String, piece: Piece) -> Result<(), Memory> {
-        self.add_name(name.as_str())?;
-        self.is_changed = true;
-        self.table.add(name, piece)
+    fn add_piece(&mut self, name: &str, piece: Piece) -> Result<(), Memory> {
+        self.add_name(name)?;
+        self.table.add(self.rt.alloc(), name, piece)
     }
 
     /// Adds the streams that begin at these bytes of what is given by a name.
@@ -153,7 +227,7 @@ impl Files {
             let end = starts.get(number.saturating_add(1)).copied();
             let part = whole.part(*start, end.unwrap_or(u64::MAX))?;
             let name = format!(in self.rt.alloc(); "{name}@{start}")?;
-            self.add_piece(name, part)?;
+            self.add_piece(name.as_str(), part)?;
         }
         Ok(())
     }
@@ -162,11 +236,10 @@ impl Files {
     fn add_bytes<R: Read>(&mut self, name: &str, reader: &mut R) -> Result<(), Fault> {
         let alloc = self.rt.alloc();
         let bytes = read_all(alloc, reader)?;
-        let mut rest = bytes.as_slice();
-        let starts = self.starts_of(&mut rest)?;
+        let starts = self.starts_of(&mut bytes.as_slice())?;
         let whole = Piece::of_bytes(alloc, bytes)?;
         if starts.len() < 2 {
-            return Ok(self.add_piece(copy_of(alloc, name)?, whole)?);
+            return Ok(self.add_piece(name, whole)?);
         }
         Ok(self.add_parts(name, &whole, starts.as_slice())?)
     }
@@ -187,84 +260,40 @@ impl Files {
         }
     }
 
-    /// The path of a side file of a folder, if it is there.
-    fn side_file(&self, folder: &str, name: &str) -> Result<Option<String>, Memory> {
-        let path = path_below(self.rt.alloc(), folder, name)?;
-        let is_there = kind_of(self.rt, path.as_str()) == Kind::File;
-        Ok(if is_there { Some(path) } else { None })
-    }
-
     /// Adds the streams of the files of a folder, and its side files. A folder without streams stays a name.
     fn add_folder(&mut self, folder: &str) -> Result<(), Fault> {
         let paths = paths_of_streams(self.rt, folder)?;
         if paths.is_empty() {
             return Ok(self.add_name(folder)?);
         }
-        if self.places.is_none() {
-            self.places = self.side_file(folder, "places")?;
-        }
-        if self.buffers.is_none() {
-            self.buffers = self.side_file(folder, "buffers")?;
-        }
-        self.is_changed = true;
-        if self.wants_places && self.places.is_none() {
-            self.places = self.side_file(folder, "sites")?;
-            if let Some(sites) = &self.places {
-                let text = read_file(self.rt, sites.as_str())?;
-                self.seen.sited = Some(Sited::new(self.rt.alloc(), text)?);
-            }
-        }
+        self.add_sides(folder)?;
         for path in &paths {
             self.add_file(path.as_str())?;
         }
-        Ok(self.add_places()?)
-    }
-
-    /// Adds the places that a file of sites gives, if there is one, by the name of that file.
-    fn add_places(&mut self) -> Result<(), Memory> {
-        let alloc = self.rt.alloc();
-        match (self.seen.sited.take(), &self.places) {
-            (Some(sited), Some(sites)) => {
-                let name = copy_of(alloc, sites.as_str())?;
-                self.table.add(name, Piece::of_bytes(alloc, sited.places)?)
-            }
-            _ => Ok(()),
+        if let (Some(sited), Some(sites)) = (self.seen.sited.take(), &self.places) {
+            let alloc = self.rt.alloc();
+            let places = Piece::of_bytes(alloc, sited.places)?;
+            self.table.add(alloc, sites.as_str(), places)?;
         }
+        Ok(())
     }
-}
 
-/// All bytes of a file.
-///
-/// # Errors
-/// `Read` where it can't be read; `Memory`.
-pub(crate) fn read_file(rt: HostRuntime, path: &str) -> Result<Vec<u8>, Fault> {
-    match File::open(&rt, path) {
-        Err(error) => Err(fault_of(&error)),
-        Ok(mut file) => read_all(rt.alloc(), &mut file),
-    }
-}
-
-/// The paths of the files of streams in a folder, sorted; none where the folder can't be read.
-///
-/// # Errors
-/// `Memory`: out of memory.
-pub fn paths_of_streams(rt: HostRuntime, folder: &str) -> Result<Vec<String>, Memory> {
-    let alloc = rt.alloc();
-    let mut paths = Vec::new(alloc);
-    let entries = match fs::read_dir(&rt, folder) {
-        Ok(entries) => entries,
-        Err(error) if error.kind() == ErrorKind::OutOfMemory => return Err(Memory),
-        Err(_) => return Ok(paths),
-    };
-    for entry in entries {
-        match entry {
-            Ok(entry) if entry.file_name().ends_with(STREAM_ENDING) => {
-                paths.push(path_below(alloc, folder, entry.file_name())?)?;
-            }
-            Err(error) if error.kind() == ErrorKind::OutOfMemory => return Err(Memory),
-            Ok(_) | Err(_) => {}
+    /// Adds the side files of a folder, if there were none.
+    fn add_sides(&mut self, folder: &str) -> Result<(), Fault> {
+        let rt = self.rt;
+        if self.places.is_none() {
+            self.places = side_file(rt, folder, "places")?;
         }
+        if self.buffers.is_none() {
+            self.buffers = side_file(rt, folder, "buffers")?;
+        }
+        if self.takes_sides && self.places.is_none() {
+            self.places = side_file(rt, folder, "sites")?;
+            if let Some(sites) = &self.places {
+                let text = read_file(rt, sites.as_str())?;
+                self.seen.sited = Some(Sited::new(rt.alloc(), text)?);
+            }
+        }
+        Ok(())
     }
-    paths.sort()?;
-    Ok(paths)
 }

@@ -26,10 +26,7 @@ impl Held {
 
     /// What is held back, if it is text.
     pub fn text(&self) -> &str {
-        match str::from_utf8(self.held.as_slice()) {
-            Ok(text) => text,
-            Err(_) => "",
-        }
+        str::from_utf8(self.held.as_slice()).unwrap_or("")
     }
 
     /// Passes on what is held back.

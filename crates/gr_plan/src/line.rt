@@ -4,7 +4,7 @@ use gr_model::memory::Memory;
 use std::alloc::Global;
 
 /// What a command does with the files that it is given.
-#[derive(Clone, Copy, Debug, PartialEq, Eq)]
+#[derive(Clone, Copy)]
 pub enum Taking {
     /// It reads them one after another, as standard input.
     Joined,
@@ -19,8 +19,8 @@ pub struct Line<'a> {
     pub command: &'a str,
     /// What it does with its files.
     pub taking: Taking,
-    /// Its options, each with its value behind it.
-    pub options: Vec<&'a str>,
+    /// Its options, each with its value after it.
+    options: Vec<&'a str>,
     /// All other words: files, and what stands before them.
     pub values: Vec<&'a str>,
 }
@@ -41,74 +41,73 @@ pub fn is_option(word: &str) -> bool {
     word.len() > 1 && word.starts_with('-')
 }
 
-/// Whether the word behind this option is its value.
+/// Whether the word after this option is its value.
 fn takes_value(option: &str) -> bool {
-    match option {
-        "--places" | "--buffers" | "--most" | "--workers" | "--queues" | "--capacity" => true,
-        _ => false,
-    }
+    matches!(
+        option,
+        "--places" | "--buffers" | "--most" | "--workers" | "--queues" | "--capacity"
+    )
 }
 
 impl<'a> Line<'a> {
-    /// The line of a command, behind which these words stand.
-    ///
-    /// # Errors
-    /// `Memory`: out of memory.
+    /// The line of a command, after which these words stand.
     pub fn of(
         alloc: Global,
         command: &'a str,
         taking: Taking,
         words: &'a [String],
     ) -> Result<Line<'a>, Memory> {
-        let mut line = Line {
-            command,
-            taking,
-            options: Vec::new(alloc),
-            values: Vec::new(alloc),
-        };
-        let (mut is_value, mut is_behind_options) = (false, false);
+        let (mut options, mut values) = (Vec::new(alloc), Vec::new(alloc));
+        let (mut is_value, mut is_after_options) = (false, false);
         for word in words {
             let word = word.as_str();
-            if is_value {
-                is_value = false;
-                line.options.push(word)?;
-            } else if is_behind_options || !is_option(word) {
-                line.values.push(word)?;
-            } else if word == "--" {
-                is_behind_options = true;
+            if !is_value && (is_after_options || !is_option(word)) {
+                values.push(word)?;
+            } else if !is_value && word == "--" {
+                is_after_options = true;
             } else {
-                is_value = takes_value(word);
-                line.options.push(word)?;
+                is_value = !is_value && takes_value(word);
+                options.push(word)?;
             }
         }
-        Ok(line)
+        Ok(Line {
+            command,
+            taking,
+            options,
+            values,
+        })
     }
 
-    /// Whether an option is there.
-    pub fn has(&self, option: &str) -> bool {
-        self.options.iter().any(|word| *word == option)
+    /// The command and its options.
+    pub fn head(&self, alloc: Global) -> Result<Vec<&'a str>, Memory> {
+        let mut words = Vec::new(alloc);
+        words.push(self.command)?;
+        words.extend_from_slice(self.options.as_slice())?;
+        Ok(words)
+    }
+
+    /// Whether the command takes side files.
+    pub fn takes_sides(&self) -> bool {
+        match self.command {
+            "races" | "history" => true,
+            "explain" => self.options.iter().any(|word| *word == "--long"),
+            _ => false,
+        }
     }
 
     /// The value of an option, if it is there.
     pub fn value_of(&self, option: &str) -> Option<&'a str> {
-        let mut is_next = false;
-        for word in &self.options {
-            if is_next {
-                return Some(*word);
-            }
+        let mut words = self.options.iter();
+        while let Some(word) = words.next() {
             if *word == option {
-                is_next = true;
+                return words.next().copied();
             }
-            if let Some(value) = value_within(word, option) {
+            if let Some((name, value)) = word.split_once('=')
+                && name == option
+            {
                 return Some(value);
             }
         }
         None
     }
-}
-
-/// The value in a word `OPTION=VALUE`.
-fn value_within<'a>(word: &'a str, option: &str) -> Option<&'a str> {
-    let (name, value) = word.split_once('=')?;
-    if name == option { Some(value) } else { None }
 }

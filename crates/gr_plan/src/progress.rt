@@ -1,13 +1,13 @@
-//! How far the reading of an input is, told on standard error where that is a terminal.
+//! How far the reading of an input is, reported on standard error where that is a terminal.
 
 use std::io::{self, Write};
 use std::sync::atomic::{AtomicU64, Ordering};
 use std::time::{Clock, Duration};
 
-/// How many milliseconds pass before anything is told.
+/// How many milliseconds pass before anything is reported.
 const FIRST_TOLD: u64 = 500;
 
-/// How many milliseconds pass between two that are told.
+/// How many milliseconds pass between two reports.
 const BETWEEN: u64 = 200;
 
 /// What goes to the start of a line, and clears it.
@@ -22,7 +22,7 @@ pub struct Progress {
     total: Option<u64>,
     bytes: AtomicU64,
     records: AtomicU64,
-    /// The millisecond at which it is told next.
+    /// The millisecond at which it is reported next.
     next: AtomicU64,
 }
 
@@ -39,7 +39,7 @@ impl Progress {
         }
     }
 
-    /// Counts bytes and records that were read, and tells how far the reading is from time to time.
+    /// Counts bytes and records that were read, and reports how far the reading is from time to time.
     pub fn add(&self, bytes: u64, records: u64) {
         self.bytes.fetch_add(bytes, Ordering::SeqCst);
         self.records.fetch_add(records, Ordering::SeqCst);
@@ -56,19 +56,15 @@ impl Progress {
         let _ = self.tell(passed);
     }
 
-    /// Tells how far the reading is, as many milliseconds after its begin.
+    /// Reports how far the reading is, as many milliseconds after its begin.
     fn tell(&self, passed: u64) -> io::Result<()> {
         let bytes = self.bytes.load(Ordering::SeqCst);
         let records = self.records.load(Ordering::SeqCst);
-        let rate = records
-            .saturating_mul(1000)
-            .checked_div(passed)
-            .unwrap_or(0);
+        let rate = records.saturating_mul(1000).checked_div(passed);
+        let rate = rate.unwrap_or(0);
         let alloc = self.rt.alloc();
-        let part = match self
-            .total
-            .and_then(|total| bytes.saturating_mul(100).checked_div(total))
-        {
+        let hundred = bytes.saturating_mul(100);
+        let part = match self.total.and_then(|total| hundred.checked_div(total)) {
             None => String::new(alloc),
             Some(part) => format!(in alloc; ", {part} %")?,
         };
@@ -77,7 +73,7 @@ impl Progress {
         self.rt.stderr().write_all(text.as_bytes())
     }
 
-    /// Clears what was told.
+    /// Clears what was reported.
     pub fn clear(&self) {
         if self.next.load(Ordering::SeqCst) != FIRST_TOLD {
             let _ = self.rt.stderr().write_all(CLEAR);

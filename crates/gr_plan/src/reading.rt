@@ -4,21 +4,12 @@ use crate::account::Account;
 use crate::progress::Progress;
 use crate::source::Source;
 use gr_model::memory::Memory;
-use std::alloc::Global;
+use std::fs::File;
 use std::io::{self, Read};
 use std::sync::Arc;
 
-/// Where a file of the input begins.
-#[derive(Clone, Copy)]
-struct Begin {
-    /// The place of the file.
-    file: usize,
-    /// The byte.
-    byte: u64,
-}
-
-/// What is kept of an input, to tell where a fault of it is.
-#[derive(Clone, Copy, Debug, PartialEq, Eq)]
+/// What is kept of an input, to report where a fault of it is.
+#[derive(Clone, Copy, PartialEq, Eq)]
 pub enum Keeping {
     /// The text.
     Text,
@@ -31,45 +22,67 @@ pub enum Keeping {
 /// The input, with an account of what was read of it.
 #[derive(Drop)]
 pub struct Reading {
+    /// The names of the files, if it is not standard input.
+    pub names: Vec<String>,
+    /// What is read of them; nothing where one can't be opened.
     sources: Vec<Source>,
     /// The place of the file that is read.
     at: usize,
     /// How many bytes were read.
     read: u64,
-    /// Where those files begin that were read from.
-    begins: Vec<Begin>,
+    /// The places of the files that were read from, and the bytes at which they begin.
+    begins: Vec<(usize, u64)>,
     /// What was read, as streams; none where it is a text, or where memory ran out.
     pub account: Option<Account>,
     /// All bytes that were read, where they are a text.
     pub text: Option<Vec<u8>>,
-    /// Who tells how far the reading is.
+    /// Who reports how far the reading is.
     pub progress: Option<Arc<Progress>>,
 }
 
+/// What is read of these files, or of standard input where they are none; nothing where one can't be opened.
+fn sources_of(rt: HostRuntime, names: &[String]) -> Result<Vec<Source>, Memory> {
+    let mut sources = Vec::new(rt.alloc());
+    if names.is_empty() {
+        sources.push(Source::Input(rt.stdin()))?;
+    }
+    for name in names {
+        if name.as_str() == "-" {
+            sources.push(Source::Input(rt.stdin()))?;
+        } else if let Ok(file) = File::open(&rt, name.as_str()) {
+            sources.push(Source::Whole(file))?;
+        } else {
+            return Ok(Vec::new(rt.alloc()));
+        }
+    }
+    Ok(sources)
+}
+
 impl Reading {
-    /// The input that these files have, one after another.
-    pub fn new(alloc: Global, sources: Vec<Source>, keeping: Keeping) -> Reading {
-        let (account, text) = match keeping {
-            Keeping::Text => (None, Some(Vec::new(alloc))),
-            Keeping::Last => (Some(Account::new(alloc, false)), None),
-            Keeping::Fault => (Some(Account::new(alloc, true)), None),
-        };
-        Reading {
+    /// The input that these files have, one after another, or standard input where they are none.
+    ///
+    /// # Errors
+    /// `Memory`: out of memory.
+    pub fn new(rt: HostRuntime, names: Vec<String>, keeping: Keeping) -> Result<Reading, Memory> {
+        let alloc = rt.alloc();
+        let sources = sources_of(rt, names.as_slice())?;
+        let is_text = keeping == Keeping::Text;
+        Ok(Reading {
+            names,
             sources,
             at: 0,
             read: 0,
             begins: Vec::new(alloc),
-            account,
-            text,
+            account: (!is_text).then_some(Account::new(alloc, keeping == Keeping::Fault)),
+            text: is_text.then_some(Vec::new(alloc)),
             progress: None,
-        }
+        })
     }
 
-    /// Keeps what is to be told of bytes that were read.
+    /// Keeps what is to be reported of bytes that were read.
     fn note(&mut self, piece: &[u8]) -> Result<(), Memory> {
-        let (file, byte) = (self.at, self.read);
-        if self.begins.last().map(|begin| begin.file) != Some(file) {
-            self.begins.push(Begin { file, byte })?;
+        if self.begins.last().map(|(file, _)| *file) != Some(self.at) {
+            self.begins.push((self.at, self.read))?;
         }
         self.read = self.read.saturating_add(piece.len() as u64);
         let records = match &mut self.account {
@@ -85,15 +98,11 @@ impl Reading {
         Ok(())
     }
 
-    /// The place of the file that has this byte of the input.
-    pub fn file_at(&self, byte: u64) -> Option<usize> {
-        let mut found = None;
-        for begin in &self.begins {
-            if begin.byte <= byte {
-                found = Some(begin.file);
-            }
-        }
-        found
+    /// The name of the file that has this byte of the input.
+    pub fn name_at(&self, byte: u64) -> Option<&str> {
+        let mut begins = self.begins.iter().rev();
+        let (file, _) = begins.find(|(_, begin)| *begin <= byte)?;
+        Some(self.names.get(*file)?.as_str())
     }
 }
 
@@ -101,6 +110,9 @@ impl Read for Reading {
     fn read(&mut self, buf: &mut [u8]) -> io::Result<usize> {
         if buf.is_empty() {
             return Ok(0);
+        }
+        if self.sources.is_empty() {
+            return Err(io::Error::from(io::ErrorKind::NotFound));
         }
         for _ in self.at..self.sources.len() {
             let Some(source) = self.sources.get_mut(self.at) else {

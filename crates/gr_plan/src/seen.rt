@@ -17,9 +17,6 @@ pub struct Seen {
 
 impl Seen {
     /// Passes the header of a stream.
-    ///
-    /// # Errors
-    /// `Memory`: out of memory.
     pub fn begin(&mut self, header: &Header) -> Result<(), Memory> {
         if let Some(sought) = &mut self.sought {
             sought.begin(header.group);
@@ -31,14 +28,9 @@ impl Seen {
     }
 
     /// Passes a record of the stream of this header, which is no end.
-    ///
-    /// # Errors
-    /// `Memory`: out of memory.
     pub fn pass(&mut self, header: &Header, record: &[u8]) -> Result<(), Memory> {
-        if self.sited.is_none() && self.sought.is_none() {
-            return Ok(());
-        }
-        if record.len() != header.version.record_length() {
+        let is_seen = self.sited.is_some() || self.sought.is_some();
+        if !is_seen || record.len() != header.version.record_length() {
             return Ok(());
         }
         let Ok(event) = read_event(*header, record) else {

@@ -41,11 +41,11 @@ fn lines_of(alloc: Global, text: &[u8]) -> Result<Vec<(usize, usize)>, Memory> {
     Ok(lines)
 }
 
-/// The site that a record tells; 0 where it tells none.
+/// The site that a record gives; 0 where it gives none.
 fn site_of(record: &[u8]) -> usize {
-    match (record.get(SITE), record.get(SITE.saturating_add(1))) {
-        (Some(low), Some(high)) => usize::from(u16::from_le_bytes([*low, *high])),
-        _ => 0,
+    match record.get(SITE..) {
+        Some([low, high, ..]) => usize::from(u16::from_le_bytes([*low, *high])),
+        Some(_) | None => 0,
     }
 }
 
@@ -58,9 +58,6 @@ fn push_number(text: &mut Vec<u8>, number: u32) -> Result<(), Memory> {
 
 impl Sited {
     /// Of a folder whose file of sites has this text. No record has passed.
-    ///
-    /// # Errors
-    /// `Memory`: out of memory.
     pub fn new(alloc: Global, sites: Vec<u8>) -> Result<Sited, Memory> {
         Ok(Sited {
             lines: lines_of(alloc, sites.as_slice())?,
@@ -72,40 +69,32 @@ impl Sited {
     }
 
     /// Begins the stream of this header.
-    ///
-    /// # Errors
-    /// `Memory`: out of memory.
     pub fn begin(&mut self, header: &Header) -> Result<(), Memory> {
         self.passed.clear();
         self.passed.resize(usize::from(header.items), 0)?;
         Ok(())
     }
 
-    /// Adds the line of a group's record, which says this event, if it tells its site.
-    ///
-    /// # Errors
-    /// `Memory`: out of memory.
+    /// Adds the line of a group's record, which says this event, if it gives its site.
     pub fn pass(&mut self, group: u16, event: &Event, record: &[u8]) -> Result<(), Memory> {
         let index = self.next_index(event.item);
-        match (self.place_of(site_of(record)), event.kind) {
-            (None, _) => Ok(()),
-            (Some(place), Kind::Barrier { .. }) => self.add_barrier(event.word, place),
-            (Some(place), _) => {
-                self.add_line(&[u32::from(group), u32::from(event.item), index], place)
-            }
+        let Some(place) = self.place_of(site_of(record)) else {
+            return Ok(());
+        };
+        match event.kind {
+            Kind::Barrier { .. } => self.add_barrier(event.word, place),
+            _ => self.add_line(&[u32::from(group), u32::from(event.item), index], place),
         }
     }
 
     /// The index of an item's next record.
     fn next_index(&mut self, item: u16) -> u32 {
-        match self.passed.get_mut(usize::from(item)) {
-            None => 0,
-            Some(passed) => {
-                let index = *passed;
-                *passed = index.saturating_add(1);
-                index
-            }
-        }
+        let Some(passed) = self.passed.get_mut(usize::from(item)) else {
+            return 0;
+        };
+        let index = *passed;
+        *passed = index.saturating_add(1);
+        index
     }
 
     /// Where the place of a site stands among the sites.
@@ -128,9 +117,8 @@ impl Sited {
             push_number(&mut self.places, *number)?;
         }
         let (start, end) = place;
-        if let Some(place) = self.sites.get(start..end) {
-            self.places.extend_from_slice(place)?;
-        }
+        let place = self.sites.get(start..end).unwrap_or(&[]);
+        self.places.extend_from_slice(place)?;
         self.places.push(b'\n')?;
         Ok(())
     }

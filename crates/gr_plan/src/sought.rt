@@ -5,7 +5,7 @@ use gr_model::event::{Event, Word, word_of};
 use std::io::{self, Write};
 
 /// A word that is asked for, and what of it was met.
-#[derive(Clone, Copy, Debug)]
+#[derive(Clone, Copy)]
 pub struct Sought {
     word: Word,
     is_accessed: bool,
@@ -15,9 +15,8 @@ pub struct Sought {
 impl Sought {
     /// The word that the command line names so. Nothing of it was met.
     pub fn new(space: &str, number: &str) -> Option<Sought> {
-        let word = word_named(space, number)?;
         Some(Sought {
-            word,
+            word: word_named(space, number)?,
             is_accessed: false,
             has_group: false,
         })
@@ -38,7 +37,7 @@ impl Sought {
         }
     }
 
-    /// Tells that there is no such word, where that is so.
+    /// Reports that there is no such word, where that is so.
     ///
     /// # Errors
     /// Those of the writer.
@@ -48,12 +47,10 @@ impl Sought {
                 writeln!(errors, "gpurace: the launch has no group {group}")
             }
             _ if self.is_accessed => Ok(()),
-            Word::Global(word) => {
-                writeln!(
-                    errors,
-                    "gpurace: no record accesses word {word} of global memory"
-                )
-            }
+            Word::Global(word) => writeln!(
+                errors,
+                "gpurace: no record accesses word {word} of global memory"
+            ),
             Word::Local(group, word) => writeln!(
                 errors,
                 "gpurace: no record accesses word {word} of group {group}'s local memory"

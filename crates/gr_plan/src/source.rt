@@ -8,10 +8,8 @@ use std::sync::Arc;
 
 /// How many bytes the file of a path has.
 pub fn file_size(rt: HostRuntime, path: &str) -> Option<u64> {
-    match fs::metadata(&rt, path) {
-        Ok(metadata) if metadata.is_file() => Some(metadata.len()),
-        Ok(_) | Err(_) => None,
-    }
+    let metadata = fs::metadata(&rt, path).ok()?;
+    metadata.is_file().then_some(metadata.len())
 }
 
 /// What has the bytes of a piece.
@@ -42,9 +40,6 @@ impl Piece {
     }
 
     /// Bytes that were read before.
-    ///
-    /// # Errors
-    /// `Memory`: out of memory.
     pub fn of_bytes(alloc: Global, bytes: Vec<u8>) -> Result<Piece, Memory> {
         Ok(Piece {
             at: 0,
@@ -54,9 +49,6 @@ impl Piece {
     }
 
     /// Of what has the bytes, those from `at` up to `end`, or to the end of the piece.
-    ///
-    /// # Errors
-    /// `AllocError`: out of memory.
     pub fn part(&self, at: u64, end: u64) -> Result<Piece, AllocError> {
         let bytes = match &self.bytes {
             Bytes::File(rt, path) => Bytes::File(*rt, path.clone()?),
@@ -67,9 +59,6 @@ impl Piece {
     }
 
     /// The same bytes, to be read.
-    ///
-    /// # Errors
-    /// Those of the file; `OutOfMemory`.
     pub fn open(&self) -> io::Result<Piece> {
         if let Bytes::File(rt, path) = &self.bytes {
             File::open(rt, path.as_str())?;
@@ -91,23 +80,19 @@ impl Read for Piece {
     fn read(&mut self, buf: &mut [u8]) -> io::Result<usize> {
         let left = self.end.saturating_sub(self.at);
         let most = buf.len().min(usize::try_from(left).unwrap_or(usize::MAX));
-        match &self.bytes {
+        let n = match &self.bytes {
             Bytes::File(rt, path) => {
                 let mut file = File::open(rt, path.as_str())?;
                 file.seek(SeekFrom::Start(self.at))?;
-                let n = file.read(&mut buf[..most])?;
-                self.at = self.at.saturating_add(n as u64);
-                Ok(n)
+                file.read(&mut buf[..most])?
             }
             Bytes::Kept(bytes) => {
-                let Some(mut rest) = bytes.get(self.at as usize..) else {
-                    return Ok(0);
-                };
-                let n = rest.read(&mut buf[..most])?;
-                self.at = self.at.saturating_add(n as u64);
-                Ok(n)
+                let mut rest = bytes.get(self.at as usize..).unwrap_or(&[]);
+                rest.read(&mut buf[..most])?
             }
-        }
+        };
+        self.at = self.at.saturating_add(n as u64);
+        Ok(n)
     }
 }
 
@@ -120,8 +105,6 @@ pub enum Source {
     Piece(Piece),
     /// Standard input.
     Input(Stdin),
-    /// What can't be opened.
-    Missing,
 }
 
 impl Read for Source {
@@ -130,7 +113,6 @@ impl Read for Source {
             Source::Whole(file) => file.read(buf),
             Source::Piece(piece) => piece.read(buf),
             Source::Input(input) => input.read(buf),
-            Source::Missing => Err(io::Error::from(io::ErrorKind::NotFound)),
         }
     }
 }

@@ -1,5 +1,6 @@
 //! What the names of a command line's files open.
 
+use crate::files::copy_of;
 use crate::progress::Progress;
 use crate::source::{Piece, Source, file_size};
 use crate::watched::Watched;
@@ -15,13 +16,13 @@ use std::sync::Arc;
 #[derive(Drop)]
 pub struct Table {
     pieces: IndexMap<String, Piece, BuildHasherDefault<FoldHasher>>,
-    /// Who tells how far the reading is.
+    /// Who reports how far the reading is.
     pub progress: Option<Arc<Progress>>,
 }
 
 impl Table {
     /// No names.
-    pub fn new(alloc: Global) -> Table {
+    pub(crate) fn new(alloc: Global) -> Table {
         Table {
             pieces: IndexMap::new(alloc),
             progress: None,
@@ -29,46 +30,37 @@ impl Table {
     }
 
     /// Adds a name. A name that is there already stays what it is.
-    ///
-    /// # Errors
-    /// `Memory`: out of memory.
-    pub fn add(&mut self, name: String, piece: Piece) -> Result<(), Memory> {
-        if !self.has(name.as_str()) {
-            self.pieces.insert(name, piece)?;
+    pub(crate) fn add(&mut self, alloc: Global, name: &str, piece: Piece) -> Result<(), Memory> {
+        if !self.has(name) {
+            self.pieces.insert(copy_of(alloc, name)?, piece)?;
         }
         Ok(())
     }
 
     /// Whether the table has a name.
-    pub fn has(&self, name: &str) -> bool {
+    pub(crate) fn has(&self, name: &str) -> bool {
         self.pieces.get(name).is_some()
     }
 
-    /// Who tells how far the reading is, once more.
+    /// Who reports how far the reading is, once more.
     ///
     /// # Errors
     /// `Memory`: out of memory.
     pub fn another_progress(&self) -> Result<Option<Arc<Progress>>, Memory> {
-        match &self.progress {
-            None => Ok(None),
-            Some(progress) => Ok(Some(Arc::try_clone(progress)?)),
-        }
+        Ok(self.progress.clone()?)
     }
 
-    /// Opens a name, and has it told how far the reading is.
+    /// Opens a name, and has it reported how far the reading is.
     ///
     /// # Errors
     /// Those of the file.
     pub fn open_watched(&self, rt: HostRuntime, name: &str) -> io::Result<Watched> {
         let source = self.open(rt, name)?;
-        match self.another_progress() {
-            Ok(progress) => Ok(Watched::new(source, progress)),
-            Err(Memory) => Err(io::Error::from(io::ErrorKind::OutOfMemory)),
-        }
+        Ok(Watched::new(source, self.progress.clone()?))
     }
 
     /// How many bytes a name opens, where that is known.
-    pub fn size_of(&self, rt: HostRuntime, name: &str) -> Option<u64> {
+    pub(crate) fn size_of(&self, rt: HostRuntime, name: &str) -> Option<u64> {
         match self.pieces.get(name) {
             None => file_size(rt, name),
             Some(piece) => piece.size(),
@@ -76,10 +68,7 @@ impl Table {
     }
 
     /// Opens a name: what the table has of it, or else the file of this path.
-    ///
-    /// # Errors
-    /// Those of the file.
-    pub fn open(&self, rt: HostRuntime, name: &str) -> io::Result<Source> {
+    pub(crate) fn open(&self, rt: HostRuntime, name: &str) -> io::Result<Source> {
         match self.pieces.get(name) {
             None => Ok(Source::Whole(File::open(&rt, name)?)),
             Some(piece) => Ok(Source::Piece(piece.open()?)),

@@ -7,20 +7,15 @@ use gr_text::lines::split_line;
 use gr_text::parsing::parse_sited_line;
 use gr_text::words::{is_word, parse_number, parse_short, split_word};
 use std::io::{self, Write};
+use std::ops::Range;
 
 /// How many bytes of a word are shown, at most.
 const MOST_SHOWN: usize = 64;
 
-/// What a record does, by its second word.
-#[derive(Clone, Copy)]
-enum Verb {
-    Plain,
-    Load,
-    Store,
-    Rmw,
-}
+/// Words of which one is due, as they are shown.
+type Words = &'static [&'static str];
 
-/// What is due at a word.
+/// What is due at a word; at those of an access, with the orders that it may have.
 #[derive(Clone, Copy)]
 enum Due {
     Group,
@@ -32,10 +27,10 @@ enum Due {
     Version,
     Item(u16),
     Verb,
-    Space(Verb),
-    Word(Verb),
-    Scope(Verb),
-    Order(Verb),
+    Space(Words),
+    Word(Words),
+    Scope(Words),
+    Order(Words),
     Name(usize),
     NameGroup(usize),
     NameItem(usize),
@@ -63,23 +58,22 @@ struct BadWord<'a> {
 fn line_at(text: &[u8], number: u64) -> Option<(&[u8], Option<Header>)> {
     let mut header = None;
     let mut rest = text;
-    for _ in 1..number {
+    for at in 1..=number {
         if rest.is_empty() {
-            return None;
+            break;
         }
         let (line, after) = split_line(rest);
-        header = header_behind(header, line);
+        if at == number {
+            return Some((line, header));
+        }
+        header = header_after(header, line);
         rest = after;
     }
-    if rest.is_empty() {
-        return None;
-    }
-    let (line, _) = split_line(rest);
-    Some((line, header))
+    None
 }
 
-/// The header of the stream that is at hand behind a line.
-fn header_behind(header: Option<Header>, line: &[u8]) -> Option<Header> {
+/// The header of the stream that is at hand after a line.
+fn header_after(header: Option<Header>, line: &[u8]) -> Option<Header> {
     // a line of a stream of any version is one of version 4
     let Some(sited) = parse_sited_line(Version::Four, line) else {
         return header;
@@ -91,136 +85,128 @@ fn header_behind(header: Option<Header>, line: &[u8]) -> Option<Header> {
     }
 }
 
-/// Whether a word is a number below a limit.
-fn is_below(word: &[u8], limit: usize) -> bool {
-    match parse_number(word) {
-        None => false,
-        Some(number) => (number as usize) < limit,
-    }
-}
-
 /// Whether a word is one of these.
 fn is_among(word: &[u8], words: &[&str]) -> bool {
     words.iter().any(|it| is_word(word, it))
 }
 
-impl Verb {
-    /// What the record of this second word does.
-    fn of(word: &[u8]) -> Verb {
-        if is_word(word, "ld") {
-            Verb::Load
-        } else if is_word(word, "st") {
-            Verb::Store
-        } else if is_word(word, "rmw") {
-            Verb::Rmw
-        } else {
-            Verb::Plain
-        }
-    }
-
-    /// The orders that a record may have.
-    fn orders(self) -> &'static [&'static str] {
-        match self {
-            Verb::Plain => &[],
-            Verb::Load => &["rlx", "acq"],
-            Verb::Store => &["rlx", "rel"],
-            Verb::Rmw => &["rlx", "acq", "rel", "both"],
-        }
+/// The orders that an access of this verb may have.
+fn orders_of(verb: &[u8]) -> Words {
+    match verb {
+        b"ld" => &["rlx", "acq"],
+        b"st" => &["rlx", "rel"],
+        b"rmw" => &["rlx", "acq", "rel", "both"],
+        _ => &[],
     }
 }
 
 /// The version that the line of a header says at its end.
 fn version_said(line: &[u8]) -> Version {
-    if line.ends_with(b" v4") {
-        Version::Four
-    } else if line.ends_with(b" v3") {
-        Version::Three
-    } else if line.ends_with(b" v2") {
-        Version::Two
-    } else {
-        Version::One
+    match line {
+        [.., b' ', b'v', b'4'] => Version::Four,
+        [.., b' ', b'v', b'3'] => Version::Three,
+        [.., b' ', b'v', b'2'] => Version::Two,
+        _ => Version::One,
     }
 }
 
 /// Whether a word is the site of a record.
 fn is_site(word: &[u8]) -> bool {
-    match word.split_first() {
-        Some((b'@', number)) => parse_short(number).is_some() && !is_word(number, "0"),
-        Some(_) | None => false,
+    match word {
+        [b'@', number @ ..] => parse_short(number).is_some_and(|site| site > 0),
+        _ => false,
     }
 }
 
-/// Whether a word is one that is due in a stream of this version, and no site.
-fn is_right(word: &[u8], due: Due, version: Version) -> bool {
-    match due {
-        Due::Group => is_word(word, "group"),
-        Due::Items => is_word(word, "items"),
-        Due::ItemsNumber => {
-            !is_word(word, "0") && is_below(word, version.most_items() as usize + 1)
+impl Due {
+    /// The words of which one is due.
+    fn words(self) -> Words {
+        match self {
+            Due::Group => &["group"],
+            Due::Items => &["items"],
+            Due::Launch => &["launch"],
+            Due::Version => &["v2", "v3", "v4"],
+            Due::Item(_) => &["end"],
+            Due::Verb => &["r", "w", "ld", "st", "rmw", "bar"],
+            Due::Space(_) => &["g", "l"],
+            Due::Scope(_) => &["grp", "dev"],
+            Due::Order(orders) => orders,
+            Due::Name(1..) => &["<"],
+            Due::Flags => &["-", "g", "l", "gl"],
+            Due::Cut => &["cut"],
+            _ => &[],
         }
-        Due::Launch => is_word(word, "launch"),
-        Due::Version => is_among(word, &["v2", "v3", "v4"]),
-        Due::Item(items) => is_word(word, "end") || is_below(word, items as usize),
-        Due::Verb => is_among(word, &["r", "w", "ld", "st", "rmw", "bar"]),
-        Due::Space(_) => is_among(word, &["g", "l"]),
-        Due::Scope(_) => is_among(word, &["grp", "dev"]),
-        Due::Order(verb) => is_among(word, verb.orders()),
-        Due::Flags => is_among(word, &["-", "g", "l", "gl"]),
-        Due::Cut => is_word(word, "cut"),
-        Due::LaunchNumber | Due::Word(_) | Due::Site => parse_number(word).is_some(),
-        Due::GroupNumber | Due::NameGroup(_) => is_below(word, version.most_groups()),
-        Due::Name(left) => left > 0 && is_word(word, "<"),
-        Due::NameItem(_) => is_below(word, version.most_items() as usize),
-        Due::NameNumber(_) => is_below(word, MOST_RECORDS),
-        Due::Last | Due::Nothing => false,
     }
-}
 
-/// What is due behind a word that is right.
-fn next(word: &[u8], due: Due, version: Version) -> Due {
-    match due {
-        Due::Group => Due::GroupNumber,
-        Due::GroupNumber => Due::Items,
-        Due::Items => Due::ItemsNumber,
-        Due::ItemsNumber => Due::Launch,
-        Due::Launch => Due::LaunchNumber,
-        Due::LaunchNumber => Due::Version,
-        Due::Item(_) if is_word(word, "end") => Due::Cut,
-        Due::Item(_) => Due::Verb,
-        Due::Verb if is_word(word, "bar") => Due::Site,
-        Due::Verb => Due::Space(Verb::of(word)),
-        Due::Space(verb) => Due::Word(verb),
-        Due::Word(Verb::Plain) => Due::Last,
-        Due::Word(verb) => Due::Scope(verb),
-        Due::Scope(verb) => Due::Order(verb),
-        Due::Order(_) if is_among(word, &["acq", "both"]) => Due::Name(version.places()),
-        Due::Name(left) => Due::NameGroup(left),
-        Due::NameGroup(left) => Due::NameItem(left),
-        Due::NameItem(left) => Due::NameNumber(left),
-        Due::NameNumber(left) => Due::Name(left.saturating_sub(1)),
-        Due::Site => Due::Flags,
-        Due::Order(_) | Due::Flags | Due::Cut => Due::Last,
-        Due::Version | Due::Last | Due::Nothing => Due::Nothing,
-    }
-}
-
-/// What is due behind a word, in a stream of this version; none where the word is at fault.
-fn behind(word: &[u8], due: Due, version: Version) -> Option<Due> {
-    match due {
-        Due::Name(_) | Due::Cut | Due::Last if version.has_sites() && is_site(word) => {
-            Some(Due::Nothing)
+    /// What a number that is due is of, and from where up to below where it is due, in a stream of this version.
+    fn number(self, version: Version) -> Option<(&'static str, Range<usize>)> {
+        let items = version.most_items() as usize;
+        match self {
+            Due::GroupNumber | Due::NameGroup(_) => Some(("a group", 0..version.most_groups())),
+            Due::ItemsNumber => Some(("a number", 1..items + 1)),
+            Due::LaunchNumber | Due::Word(_) | Due::Site => Some(("a number", 0..1 << 32)),
+            Due::Item(items) => Some(("an item", 0..items as usize)),
+            Due::NameItem(_) => Some(("an item", 0..items)),
+            Due::NameNumber(_) => Some(("a release", 0..MOST_RECORDS)),
+            _ => None,
         }
-        _ if is_right(word, due, version) => Some(next(word, due, version)),
-        _ => None,
     }
-}
 
-/// Whether a line may end where this is due.
-fn may_end(due: Due) -> bool {
-    matches!(
-        due,
-        Due::Version | Due::Name(_) | Due::Cut | Due::Last | Due::Nothing
-    )
+    /// Whether a line may end here.
+    fn may_end(self) -> bool {
+        matches!(self, Due::Version | Due::Nothing) || self.may_be_site()
+    }
+
+    /// Whether a site may stand here in a stream that has sites.
+    fn may_be_site(self) -> bool {
+        matches!(self, Due::Name(_) | Due::Cut | Due::Last)
+    }
+
+    /// Whether a word is one that is due in a stream of this version, and no site.
+    fn is_met(self, word: &[u8], version: Version) -> bool {
+        let is_number = match (self.number(version), parse_number(word)) {
+            (Some((_, range)), Some(number)) => range.contains(&(number as usize)),
+            (_, _) => false,
+        };
+        is_number || is_among(word, self.words())
+    }
+
+    /// What is due after a word that is right.
+    fn next(self, word: &[u8], version: Version) -> Due {
+        match self {
+            Due::Group => Due::GroupNumber,
+            Due::GroupNumber => Due::Items,
+            Due::Items => Due::ItemsNumber,
+            Due::ItemsNumber => Due::Launch,
+            Due::Launch => Due::LaunchNumber,
+            Due::LaunchNumber => Due::Version,
+            Due::Item(_) if is_word(word, "end") => Due::Cut,
+            Due::Item(_) => Due::Verb,
+            Due::Verb if is_word(word, "bar") => Due::Site,
+            Due::Verb => Due::Space(orders_of(word)),
+            Due::Space(orders) => Due::Word(orders),
+            Due::Word([]) => Due::Last,
+            Due::Word(orders) => Due::Scope(orders),
+            Due::Scope(orders) => Due::Order(orders),
+            Due::Order(_) if is_among(word, &["acq", "both"]) => Due::Name(version.places()),
+            Due::Name(left) => Due::NameGroup(left),
+            Due::NameGroup(left) => Due::NameItem(left),
+            Due::NameItem(left) => Due::NameNumber(left),
+            Due::NameNumber(left) => Due::Name(left.saturating_sub(1)),
+            Due::Site => Due::Flags,
+            Due::Order(_) | Due::Flags | Due::Cut => Due::Last,
+            Due::Version | Due::Last | Due::Nothing => Due::Nothing,
+        }
+    }
+
+    /// What is due after a word, in a stream of this version; none where the word is at fault.
+    fn after(self, word: &[u8], version: Version) -> Option<Due> {
+        if self.may_be_site() && version.has_sites() && is_site(word) {
+            return Some(Due::Nothing);
+        }
+        self.is_met(word, version)
+            .then_some(self.next(word, version))
+    }
 }
 
 /// The first word at fault of a line of a stream of this version; none where each word is one that its place needs.
@@ -230,16 +216,12 @@ fn bad_word(line: &[u8], first: Due, version: Version) -> Option<BadWord<'_>> {
     for number in 1..u64::MAX {
         let Some(bytes) = rest else {
             let word = None;
-            return if may_end(due) {
-                None
-            } else {
-                Some(BadWord { number, word, due })
-            };
+            return (!due.may_end()).then_some(BadWord { number, word, due });
         };
         let (word, after) = split_word(bytes);
-        let Some(next) = behind(word, due, version) else {
+        let Some(next) = due.after(word, version) else {
             let is_empty = number == 1 && bytes.is_empty();
-            let word = if is_empty { None } else { Some(word) };
+            let word = (!is_empty).then_some(word);
             return Some(BadWord { number, word, due });
         };
         due = next;
@@ -248,56 +230,63 @@ fn bad_word(line: &[u8], first: Due, version: Version) -> Option<BadWord<'_>> {
     None
 }
 
+/// Writes the words of which one is due, or the site or the end of the line that is due in a stream of this version.
+fn put_words<W: Write>(writer: &mut W, due: Due, version: Version) -> io::Result<()> {
+    let words = due.words();
+    let may_end = due.may_end();
+    for (at, word) in words.iter().enumerate() {
+        let is_last = at.saturating_add(1) == words.len() && !may_end;
+        let between = match at {
+            0 => "",
+            _ if is_last => " or ",
+            _ => ", ",
+        };
+        write!(writer, "{between}{word}")?;
+    }
+    let has_site = due.may_be_site() && version.has_sites();
+    match (words, may_end) {
+        (_, false) => Ok(()),
+        ([], true) if has_site => write!(writer, "@ and a site, or the end of the line"),
+        ([], true) => write!(writer, "the end of the line"),
+        (_, true) if has_site => write!(writer, ", @ and a site, or the end of the line"),
+        (_, true) => write!(writer, " or the end of the line"),
+    }
+}
+
 /// Writes what is due in a stream of this version.
 fn put_due<W: Write>(writer: &mut W, due: Due, version: Version) -> io::Result<()> {
-    let has_sites = version.has_sites();
-    match due {
-        Due::Group => write!(writer, "the header of a stream, which begins with group"),
-        Due::GroupNumber | Due::NameGroup(_) => {
-            write!(writer, "a group below {}", version.most_groups())
-        }
-        Due::Items => write!(writer, "items"),
-        Due::ItemsNumber => write!(writer, "a number from 1 to {}", version.most_items()),
-        Due::Launch => write!(writer, "launch"),
-        Due::LaunchNumber | Due::Word(_) | Due::Site => {
-            write!(writer, "a number below 4294967296")
-        }
-        Due::Version => write!(writer, "v2, v3, v4 or the end of the line"),
-        Due::Item(items) => write!(writer, "an item below {items}, or end"),
-        Due::Verb => write!(writer, "r, w, ld, st, rmw or bar"),
-        Due::Space(_) => write!(writer, "g or l"),
-        Due::Scope(_) => write!(writer, "grp or dev"),
-        Due::Order(Verb::Load) => write!(writer, "rlx or acq"),
-        Due::Order(Verb::Store) => write!(writer, "rlx or rel"),
-        Due::Order(_) => write!(writer, "rlx, acq, rel or both"),
-        Due::Flags => write!(writer, "-, g, l or gl"),
-        Due::NameItem(_) => write!(writer, "an item below {}", version.most_items()),
-        Due::NameNumber(_) => write!(writer, "a release below {MOST_RECORDS}"),
-        Due::Name(0) | Due::Last if has_sites => {
-            write!(writer, "@ and a site, or the end of the line")
-        }
-        Due::Name(0) | Due::Last | Due::Nothing => write!(writer, "the end of the line"),
-        Due::Name(_) if has_sites => write!(writer, "<, @ and a site, or the end of the line"),
-        Due::Name(_) => write!(writer, "< or the end of the line"),
-        Due::Cut if has_sites => write!(writer, "cut, @ and a site, or the end of the line"),
-        Due::Cut => write!(writer, "cut or the end of the line"),
+    match (due, due.number(version)) {
+        (Due::Group, _) => write!(writer, "the header of a stream, which begins with group"),
+        (Due::ItemsNumber, _) => write!(writer, "a number from 1 to {}", version.most_items()),
+        (Due::Item(items), _) => write!(writer, "an item below {items}, or end"),
+        (_, Some((what, range))) => write!(writer, "{what} below {}", range.end),
+        (_, None) => put_words(writer, due, version),
     }
 }
 
 /// Writes the bytes of a word, the first of them where they are many; what is no ASCII that can be seen is a question mark.
 fn put_shown<W: Write>(writer: &mut W, word: &[u8]) -> io::Result<()> {
     for byte in word.iter().take(MOST_SHOWN) {
-        let shown = if byte.is_ascii_graphic() { *byte } else { b'?' };
-        writer.write_all(&[shown])?;
+        writer.write_all(&[if byte.is_ascii_graphic() { *byte } else { b'?' }])?;
     }
     Ok(())
 }
 
+/// Writes which word is at fault, and what is due in its place.
+fn put_bad_word<W: Write>(writer: &mut W, bad: &BadWord<'_>, version: Version) -> io::Result<()> {
+    write!(writer, ", word {}: ", bad.number)?;
+    match bad.word {
+        None => write!(writer, "the line ends")?,
+        Some([]) => write!(writer, "there is none, but a space")?,
+        Some(word) => put_shown(writer, word)?,
+    }
+    write!(writer, "; due is ")?;
+    put_due(writer, bad.due, version)?;
+    writeln!(writer, "")
+}
+
 /// Writes which word of the line of this number, from 1, of a text is at fault, and what is due in its place. All lines before it
 /// are right.
-///
-/// # Errors
-/// Those of the writer.
 pub fn tell_word<W: Write>(writer: &mut W, text: &[u8], line_number: u64) -> io::Result<()> {
     let Some((line, header)) = line_at(text, line_number) else {
         return Ok(());
@@ -307,19 +296,11 @@ pub fn tell_word<W: Write>(writer: &mut W, text: &[u8], line_number: u64) -> io:
         Some(header) => (Due::Item(header.items), header.version),
     };
     write!(writer, "gpurace: line {line_number}")?;
-    let Some(BadWord { number, word, due }) = bad_word(line, due, version) else {
-        return writeln!(
+    match bad_word(line, due, version) {
+        Some(bad) => put_bad_word(writer, &bad, version),
+        None => writeln!(
             writer,
             ": its names do not ascend by group, item and number"
-        );
-    };
-    write!(writer, ", word {number}: ")?;
-    match word {
-        None => write!(writer, "the line ends")?,
-        Some([]) => write!(writer, "there is none, but a space")?,
-        Some(word) => put_shown(writer, word)?,
+        ),
     }
-    write!(writer, "; due is ")?;
-    put_due(writer, due, version)?;
-    writeln!(writer, "")
 }

@@ -1,4 +1,4 @@
-//! What is read and written under the eyes of who tells the progress.
+//! What is read and written under the eyes of who reports the progress.
 
 use crate::progress::Progress;
 use crate::source::Source;
@@ -7,7 +7,7 @@ use gr_record::layout::HEADER_LENGTH;
 use std::io::{self, Read, Write};
 use std::sync::Arc;
 
-/// What is read where a name is opened, of which it is told how far the reading is.
+/// What is read where a name is opened, of which it is reported how far the reading is.
 #[derive(Drop)]
 pub struct Watched {
     source: Source,
@@ -18,14 +18,13 @@ pub struct Watched {
 
 /// How many records as many bytes of a stream of this version have.
 fn records_in(version: Version, bytes: u64) -> u64 {
-    let records = bytes.saturating_sub(HEADER_LENGTH as u64);
-    records
-        .checked_div(version.record_length() as u64)
-        .unwrap_or(0)
+    let bytes = bytes.saturating_sub(HEADER_LENGTH as u64);
+    let records = bytes.checked_div(version.record_length() as u64);
+    records.unwrap_or(0)
 }
 
 impl Watched {
-    /// What is read, with who tells how far.
+    /// What is read, with who reports how far.
     pub fn new(source: Source, progress: Option<Arc<Progress>>) -> Watched {
         Watched {
             source,
@@ -59,7 +58,7 @@ impl Read for Watched {
     }
 }
 
-/// A writer before whose first bytes it is cleared what was told of the progress.
+/// A writer before whose first bytes what was reported of the progress is cleared.
 #[derive(Drop)]
 pub struct Cleared<W: Drop> {
     writer: W,

@@ -7,6 +7,7 @@ use Rattle.gr_command.proofs.execute.tell.Goals as goal
 
 pub returns : goal.returns
 returns g c =
-    outcome_of sides_fault_line sides_fault_status (Run Write) _ _ _ _ _ _ _ _ _ (λ found. found) c.tell_files-outcome.result
+    rw (← c.as_slice-files.ensures.value)
+    (outcome_of sides_fault_line sides_fault_status (Run Write) _ _ _ _ _ _ _ _ _ (λ found. found) c.tell_files-outcome.result
     c.tell_files-outcome.ensures.shown c.tell_files-outcome.ensures.fault c.tell_files-outcome.ensures.untouched c.tell_files-outcome.ensures.prefix
-    c.conclude_telling.ensures.race c.conclude_telling.ensures.silent c.conclude_telling.ensures.fault c.conclude_telling.ensures.told
+    c.conclude_telling.ensures.race c.conclude_telling.ensures.silent c.conclude_telling.ensures.fault c.conclude_telling.ensures.told)
