@@ -9,7 +9,7 @@ from testing.launches import BUFFERS, PLACES, SIDES, info, put_launch
 
 from gpurace_record.findings import Finding, Reader, join
 from gpurace_record.folders import info_of
-from gpurace_record.judging import judged, replay
+from gpurace_record.judging import first_of, judged, replay
 from gpurace_record.sides import Run
 
 INFO = info("sums", 7, 2)
@@ -272,6 +272,26 @@ race on global word 5
     a plain read beside atomics: make it an atomic load
 """)
 
+    def test_items_that_count(self):
+        """Each reads the word and writes it next; then one writes another word."""
+        atomic = f"{GLOBAL}; or make each item's read and write of the word one atomic operation"
+        for word, messages in ((5, [atomic, atomic]), (6, [GLOBAL])):
+            launch = self.judged([f"group 0 items 2 launch 7\n0 r g 5\n0 w g 5\n1 r g 5\n1 w g {word}\nend\n"], {})
+            self.assertEqual([it.message for it in launch.findings], messages)
+
+    def test_the_first_lines_of_a_report(self):
+        lines = [f"race global {number}" for number in range(5)]
+        self.assertEqual(first_of(lines[:1]), "race global 0")
+        self.assertEqual(first_of(lines), "race global 0; race global 1; race global 2 and 2 more")
+
+    def test_a_stream_that_is_not_whole(self):
+        """What is wrong and where is one line."""
+        with tempfile.TemporaryDirectory() as folder:
+            path = pathlib.Path(folder) / "group0.gpurace"
+            path.write_bytes(b"GRT1")
+            wrong = f"gpurace: stream 0: truncated; {path}: stream 0, at its header"
+            self.assertEqual(replay(os.environ["GPURACE"], [str(path)]), (2, [], wrong))
+
     def test_divergent_barriers_come_first(self):
         streams = ["group 0 items 3 launch 7 v2\n0 bar 1 l\n1 bar 2 l\n0 w g 1\n1 w g 0\n0 bar 1 l\n1 bar 2 l\n0 r g 0\nend\n"]
         self.assert_told(streams, {**SIDES, "places": "1 kernel.cl:3:1\n2 kernel.cl:5:1\n"}, "found", """\
@@ -287,6 +307,11 @@ race on input[0]
     unknown place: read by group 0, item 0
     the barrier at kernel.cl:3:1 between the two is divergent, and orders nothing
 """)
+
+    def test_more_divergent_barriers_than_are_looked_at(self):
+        launch = self.judged([f"group {group} items 2 launch 7 v3\n0 bar 1 l\nend\n" for group in range(102)], {})
+        self.assertEqual([it.title for it in launch.findings],
+                         ["divergent barrier, number 0 of group 0, and 99 more alike (100 of 102 were looked at)"])
 
     def test_streams_in_one_file(self):
         streams = ["group 1 items 2 launch 7\n0 bar 3 l\n1 w g 1\nend\n" "group 2 items 1 launch 7\nend\n"

@@ -31,6 +31,7 @@ class Pair(NamedTuple):
     barriers: List[Barrier]
     release: Optional[At]  # behind the first access
     acquire: Optional[At]  # before the second one
+    are_updates: bool = False  # both items read the word and write it next, as `++` does
 
 
 def sentence(name: str, said: str, pair: Pair) -> str:
@@ -61,10 +62,12 @@ def of_divergence(said: str, pair: Pair) -> str:
 
 
 def of_nothing(said: str, pair: Pair) -> str:
-    """Nothing orders the two: one of them may be plain beside an atomic, and a hand-over may be there that does not meet."""
+    """Nothing orders the two: one may be plain beside atomics, a hand-over may not meet, or both items may update the word."""
     for one, other in ((pair.first, pair.second), (pair.second, pair.first)):
         if one.what not in ATOMICS and other.what in ATOMICS:
             return f"a plain {one.what} beside atomics: make it an atomic {'load' if one.what == 'read' else 'store'}"
     if not pair.is_one_group and pair.release and pair.acquire and pair.release.place and pair.acquire.place:
         return f"{said}; the release at {pair.release.place} and the acquire at {pair.acquire.place} do not meet"
+    if pair.are_updates:
+        return f"{said}; or make each item's read and write of the word one atomic operation"
     return ""

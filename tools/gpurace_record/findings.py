@@ -291,7 +291,15 @@ class Reader:
         hands = [self.hand_over(first, second), self.hand_over(second, first)]  # the order of the two says nothing of time
         release, acquire = next((both for both in hands if all(both)), hands[0])
         return causes.Pair(said["space"], said["one_group"], one, other, self.barriers_between(first, second) if said["one_group"] else [],
-                           release, acquire)
+                           release, acquire, self.is_update(first) and self.is_update(second))
+
+    def is_update(self, event: Dict[str, Any]) -> bool:
+        """Whether the event is one of a plain read of a word and the write to it that the item does next."""
+        group, item = self.groups[event["group"]], event["item"]
+        own = group.step(item, event["index"])
+        other = {"read": (1, "write"), "write": (-1, "read")}.get(own.kind)
+        return other is not None and any((step.at - own.at, step.kind) == other and (step.space, step.word) == (own.space, own.word)
+                                         for step in group.steps[item])
 
     def hand_over(self, one: Dict[str, Any], other: Dict[str, Any]) -> Tuple[Optional[causes.At], Optional[causes.At]]:
         """The release of an event's item behind it, and the acquire of another event's item before that one, where there are such."""
@@ -343,7 +351,9 @@ class Reader:
 
     def divergence(self, cause: str, is_cut: bool, came: Tuple, instances: List[Tuple[int, int]], following: int) -> Finding:
         (group, instance), others = instances[0], len(instances) - 1
+        seen = sum(number in self.groups for number, _ in self.divergent)
         more = f", and {others} more alike" if others else ""
+        more += f" ({seen} of {len(self.divergent)} were looked at)" if seen < len(self.divergent) else ""
         who = self.shape.group_told(group)
         message = DIVERGENT[cause] + (", or theirs is among the records that were lost" if is_cut else "")
         message += f"; {following} race{'s follow' if following > 1 else ' follows'} from it" if following else ""

@@ -15,7 +15,7 @@ from .sides import Texts, PLACE
 FOUND, INCOMPLETE = 1, 2
 MOST_PLACES = 3  # of one kind that are told
 KINDS = ("divergence", "out-of-bounds", "race", "unmatched")  # of findings, in the order in which they are told
-NOT_ALL_KEPT = "its first records are told of, since it has more than are kept; --keep DIR keeps all"
+NOT_ALL_KEPT = "its first records are told of, and all are counted, since it has more than are kept; --keep DIR has all told of"
 
 
 def count(number: int, what: str) -> str:
@@ -63,7 +63,7 @@ class Launch:
 def replay(program: str, streams: List[str]) -> Tuple[int, List[str], str]:
     """The status of gpurace's report on these files, its lines, and what is wrong."""
     ran = subprocess.run([program, "replay", *streams], stdin=subprocess.DEVNULL, capture_output=True, start_new_session=True)
-    return ran.returncode, ran.stdout.decode().splitlines(), ran.stderr.decode(errors="replace").strip()
+    return ran.returncode, ran.stdout.decode().splitlines(), ran.stderr.decode(errors="replace").strip().replace("\ngpurace: ", "; ")
 
 
 def judged(program: str, folder: str, piped: Optional[Piped] = None) -> Launch:
@@ -124,7 +124,7 @@ def judge(program: str, launch: Launch, info: Info, piped: Optional[Piped]) -> N
     launch.size, launch.records = size_of(info, report)
     found = Reader(program, launch.folder, info, report).findings() if status == FOUND else []
     if status == FOUND and not found:  # no record of it is in files
-        found = [Finding("race", launch.kernel, "; ".join(report[2:2 + MOST_PLACES]))]
+        found = [Finding("race", launch.kernel, first_of(report[2:-1]))]
     launch.reasons += reasons_of(info, report)
     launch.notes += notes_of(info)
     is_doubtful = any(reason.name in ("fences", "hand-overs", "orders") for reason in launch.reasons)
@@ -132,6 +132,12 @@ def judge(program: str, launch: Launch, info: Info, piped: Optional[Piped]) -> N
         finding.is_doubtful = finding.is_doubtful or (finding.kind == "race" and is_doubtful)
     launch.findings = sorted([*found, *out_of_bounds(info, launch.folder)], key=lambda it: KINDS.index(it.kind))
     launch.texts = texts_of(launch)
+
+
+def first_of(lines: List[str]) -> str:
+    """The first lines of a report, and how many more there are."""
+    more = len(lines) - MOST_PLACES
+    return "; ".join(lines[:MOST_PLACES]) + (f" and {more} more" if more > 0 else "")
 
 
 def size_of(info: Info, report: List[str]) -> Tuple[str, int]:

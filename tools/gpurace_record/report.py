@@ -12,6 +12,8 @@ from .sources import Sources
 
 NAME = "gpurace-judge" if os.path.basename(sys.argv[0]) == "gpurace-judge" else "gpurace-record"  # who says it
 NEW = "new"
+NO_LAUNCH = {"gpurace-judge": "no launch was recorded there: no folder has an info.txt, or a file whose name ends in .gpurace",
+             "gpurace-record": "no launch was recorded: the program launched no kernel, or none of that name or number"}
 MOST_SHOWN = 20    # findings of an outcome
 MOST_ALIKE = 3     # reasons of one name, and kernels of a reason, that are told
 HEADS = {"found": "FOUND", "doubtful": "doubtful", "incomplete": "nothing found in what was recorded", "nothing": "nothing found",
@@ -108,7 +110,7 @@ class Report:
             for reason in own:
                 found.setdefault((reason.name, reason.text), Reason(reason.name, reason.text)).kernels.append(launch.kernel)
         launched = bool(self.launches or self.unrecorded)
-        none = [] if launched else [Reason("no-launch", "no launch was recorded: the program launched no kernel, or none of that name or number")]
+        none = [] if launched else [Reason("no-launch", NO_LAUNCH[NAME])]
         return [*self.run_reasons, *none, *self.unrecorded, *found.values()]
 
     @staticmethod
