@@ -47,8 +47,14 @@ Exit status:
   4  memory ran out, or a thread could not be started
   5  reading or writing failed";
 
+const USAGE: &str = "\
+gpurace [--json] [FILE]...
+       gpurace <COMMAND> ...";
+
 const REPLAY: &str =
-    "Reports on the trace in files, as in `replay FILE..`, or on standard input; done without a command too";
+    "Reports on the trace in files, or on standard input; done without a command too";
+
+const REPLAY_USAGE: &str = "gpurace replay [OPTIONS] [FILE]...";
 
 const AFTER_REPLAY: &str = "\
 Example:
@@ -59,7 +65,9 @@ Example:
   end races 1 diverge 0 unmatched 0 held 0";
 
 const PACK: &str =
-    "Writes the bytes of the trace whose text is in a file, or on standard input, as in `pack < TEXT > FILE`";
+    "Writes the bytes of the trace whose text is in files, or on standard input, as in `pack TEXT > FILE`";
+
+const PACK_USAGE: &str = "gpurace pack [FILE]...";
 
 const AFTER_PACK: &str = "\
 Example, with a text of two work-items, of which item 0 writes word 16 of global memory and item 1 reads it:
@@ -69,11 +77,12 @@ Example, with a text of two work-items, of which item 0 writes word 16 of global
   1 r g 16
   end";
 
-const DUMP: &str =
-    "Writes the text of the trace in files, as in `dump FILE..`, or on standard input";
+const DUMP: &str = "Writes the text of the trace in files, or on standard input";
+
+const DUMP_USAGE: &str = "gpurace dump [OPTIONS] [FILE]...";
 
 const LONG_DUMP: &str = "\
-Writes the text of the trace in files, as in `dump FILE..`, or on standard input, a line for each header and each record.
+Writes the text of the trace in files, or on standard input, a line for each header and each record.
 
 Of a trace that is refused nothing is written; with --partial the lines of all headers and records that stand before the fault
 are. The status is that of the fault either way, and standard error says where and why.";
@@ -88,13 +97,27 @@ Example:
 const PARTIAL: &str = "Writes of a trace that is refused what stands before the fault";
 
 const UPGRADE: &str =
-    "Writes the trace in files, or on standard input, as streams of version 2, as in `upgrade < OLD > NEW`";
+    "Writes the trace in files, or on standard input, with version 2 in place of version 1, as in `upgrade OLD > NEW`";
+
+const UPGRADE_USAGE: &str = "gpurace upgrade [FILE]...";
+
+const LONG_UPGRADE: &str = "\
+Writes the trace in files, or on standard input: each stream of version 1 as one of version 2, and all others as they are.
+
+In version 1 an acquire names one release at most, in version 2 up to four. The trace says the same as before, and its report is the
+same. Of a trace that is refused nothing is written.";
 
 const AFTER_UPGRADE: &str = "\
 Example:
-  gpurace upgrade < old.gpurace > new.gpurace";
+  gpurace upgrade old.gpurace > new.gpurace
+  gpurace dump new.gpurace | head -n 1
+  group 0 items 2 launch 7 v2";
 
 const EXPLAIN: &str = "Tells of one word which two accesses race on it";
+
+const EXPLAIN_USAGE: &str = "\
+gpurace explain [OPTIONS] <SPACE> <WORD> <FILE>...
+       gpurace explain [OPTIONS] <NAME[INDEX]> <FILE>...";
 
 const LONG_EXPLAIN: &str = "\
 Tells of one word which two accesses race on it, or that it has no race.
@@ -156,6 +179,8 @@ const FILES: &str =
 
 const RACES: &str = "Tells of all races, kind by kind, with two accesses that race";
 
+const RACES_USAGE: &str = "gpurace races [OPTIONS] <FILE>...";
+
 const LONG_RACES: &str = "\
 Tells of all words that have a race, kind by kind: which words they are, and of the first of them two accesses that race.
 
@@ -201,6 +226,8 @@ const CAUSES: &str = "Tells also the cause of each race that is shown";
 
 const RUN: &str = "Reports on the trace in files, by several threads";
 
+const RUN_USAGE: &str = "gpurace run [OPTIONS] <FILE>...";
+
 const LONG_RUN: &str = "\
 Reports on the trace in files, by several threads: what is written and the status are those of replay on the same streams.
 
@@ -224,6 +251,8 @@ const CAPACITY: &str =
 
 const CHECK: &str = "Tells which record of a trace is at fault, and what would be right";
 
+const CHECK_USAGE: &str = "gpurace check [OPTIONS] <FILE>...";
+
 const LONG_CHECK: &str = "\
 Tells which record of which file is at fault, what is wrong with it and what would be right; or, of a trace that is taken, how
 many groups, items and records of each kind it has. It looks for no race.";
@@ -238,6 +267,8 @@ Example:
   right: bytes 4 and 5 are the work-item by its place in the group, from 0; often it is the global number that was written";
 
 const WHY_HELD: &str = "Tells why an event is held";
+
+const WHY_HELD_USAGE: &str = "gpurace why-held [OPTIONS] <GROUP> <ITEM> <INDEX> <FILE>...";
 
 const LONG_WHY_HELD: &str = "\
 Tells why an event is held, and so not judged: what it waits for, what that waits for, and so on, to an acquire that names a
@@ -255,6 +286,10 @@ Example:
   held 0 0 0 absent 0 3 0";
 
 const HISTORY: &str = "Tells of one word all accesses, and which are ordered behind which";
+
+const HISTORY_USAGE: &str = "\
+gpurace history [OPTIONS] <SPACE> <WORD> <FILE>...
+       gpurace history [OPTIONS] <NAME[INDEX]> <FILE>...";
 
 const LONG_HISTORY: &str = "\
 Tells of one word all accesses to it, in an order in which they may have happened, and behind which of those above it each is
@@ -300,6 +335,7 @@ enum Parameter {
 #[derive(Clone, Copy)]
 struct Page {
     name: &'static str,
+    usage: &'static str,
     about: &'static str,
     long_about: Option<&'static str>,
     example: &'static str,
@@ -310,6 +346,7 @@ struct Page {
 const PAGES: [Page; 10] = [
     Page {
         name: "replay",
+        usage: REPLAY_USAGE,
         about: REPLAY,
         long_about: None,
         example: AFTER_REPLAY,
@@ -317,6 +354,7 @@ const PAGES: [Page; 10] = [
     },
     Page {
         name: "pack",
+        usage: PACK_USAGE,
         about: PACK,
         long_about: None,
         example: AFTER_PACK,
@@ -324,6 +362,7 @@ const PAGES: [Page; 10] = [
     },
     Page {
         name: "dump",
+        usage: DUMP_USAGE,
         about: DUMP,
         long_about: Some(LONG_DUMP),
         example: AFTER_DUMP,
@@ -331,13 +370,15 @@ const PAGES: [Page; 10] = [
     },
     Page {
         name: "upgrade",
+        usage: UPGRADE_USAGE,
         about: UPGRADE,
-        long_about: None,
+        long_about: Some(LONG_UPGRADE),
         example: AFTER_UPGRADE,
         parameters: &[],
     },
     Page {
         name: "explain",
+        usage: EXPLAIN_USAGE,
         about: EXPLAIN,
         long_about: Some(LONG_EXPLAIN),
         example: AFTER_EXPLAIN,
@@ -353,6 +394,7 @@ const PAGES: [Page; 10] = [
     },
     Page {
         name: "races",
+        usage: RACES_USAGE,
         about: RACES,
         long_about: Some(LONG_RACES),
         example: AFTER_RACES,
@@ -367,6 +409,7 @@ const PAGES: [Page; 10] = [
     },
     Page {
         name: "history",
+        usage: HISTORY_USAGE,
         about: HISTORY,
         long_about: Some(LONG_HISTORY),
         example: AFTER_HISTORY,
@@ -381,6 +424,7 @@ const PAGES: [Page; 10] = [
     },
     Page {
         name: "run",
+        usage: RUN_USAGE,
         about: RUN,
         long_about: Some(LONG_RUN),
         example: AFTER_RUN,
@@ -394,6 +438,7 @@ const PAGES: [Page; 10] = [
     },
     Page {
         name: "check",
+        usage: CHECK_USAGE,
         about: CHECK,
         long_about: Some(LONG_CHECK),
         example: AFTER_CHECK,
@@ -401,6 +446,7 @@ const PAGES: [Page; 10] = [
     },
     Page {
         name: "why-held",
+        usage: WHY_HELD_USAGE,
         about: WHY_HELD,
         long_about: Some(LONG_WHY_HELD),
         example: AFTER_WHY_HELD,
@@ -458,6 +504,7 @@ fn command_of<'a>(alloc: Global, page: &Page) -> Result<Command<'a>, AllocError>
     ensures alone { IfOk result (λ c. (fields_of c).has_globals ≡ false) }
 {
     let command = Command::new(alloc, page.name)
+        .override_usage(page.usage)
         .about(page.about)
         .after_help(page.example);
     match page.long_about {
@@ -488,6 +535,7 @@ pub(crate) fn command<'a>(alloc: Global) -> Result<Command<'a>, AllocError>
         .bin_name("gpurace")?
         .no_binary_name(true)
         .version("0.2.0")
+        .override_usage(USAGE)
         .about(ABOUT)
         .long_about(LONG_ABOUT)
         .after_help(AFTER_HELP);

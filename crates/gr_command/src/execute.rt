@@ -47,12 +47,14 @@ use std::time::Clock;
 const MISNAMED: &[u8] = b"\
 error: SPACE and WORD name no word of memory: SPACE is g, or l with a group from 0 to 65534 as in l3, and WORD is a number \
 below 4294967296 in decimal digits\n\n\
-Usage: gpurace explain [OPTIONS] <SPACE> <WORD> <FILE>...\n\n\
+Usage: gpurace explain [OPTIONS] <SPACE> <WORD> <FILE>...\n       \
+gpurace explain [OPTIONS] <NAME[INDEX]> <FILE>...\n\n\
 For more information, try '--help'.\n";
 
 const SIDES_ALONE: &[u8] = b"\
 error: --places and --buffers go with --long\n\n\
-Usage: gpurace explain [OPTIONS] <SPACE> <WORD> <FILE>...\n\n\
+Usage: gpurace explain [OPTIONS] <SPACE> <WORD> <FILE>...\n       \
+gpurace explain [OPTIONS] <NAME[INDEX]> <FILE>...\n\n\
 For more information, try '--help'.\n";
 
 const MISCOUNTED: &[u8] = b"\
@@ -63,7 +65,8 @@ For more information, try '--help'.\n";
 const UNNAMED: &[u8] = b"\
 error: SPACE and WORD name no word of memory: SPACE is g, or l with a group from 0 to 65534 as in l3, and WORD is a number \
 below 4294967296 in decimal digits\n\n\
-Usage: gpurace history [OPTIONS] <SPACE> <WORD> <FILE>...\n\n\
+Usage: gpurace history [OPTIONS] <SPACE> <WORD> <FILE>...\n       \
+gpurace history [OPTIONS] <NAME[INDEX]> <FILE>...\n\n\
 For more information, try '--help'.\n";
 
 const MISCONFIGURED: &[u8] = b"\

@@ -19,6 +19,6 @@ pub returns : goal.returns
 unfolding with_commands
 returns c =
     let named : app_of c.in_ok-bin_name.field-0 ≡ new_app (codes "gpurace") = rw c.in_ok-bin_name.ensures.0 c.new.ensures.app in
-    let above_is : app_of c.after_help-command.result ≡ record { top = alone; subs = [] } = rw (c.after_help-command.ensures, c.long_about.ensures, c.about.ensures, c.version.ensures, c.no_binary_name.ensures) (ap (λ (a : App). record { top = record a.top { no_binary_name = true; has_version = true }; subs = a.subs }) named) in
+    let above_is : app_of c.after_help-command.result ≡ record { top = alone; subs = [] } = rw (c.after_help-command.ensures, c.long_about.ensures, c.about.ensures, c.override_usage.ensures, c.version.ensures, c.no_binary_name.ensures) (ap (λ (a : App). record { top = record a.top { no_binary_name = true; has_version = true }; subs = a.subs }) named) in
     let pages = pages_in c in
     IfOk-weaker c.with_pages.result _ _ (λ command added. added ∙ ap (λ (a : App). with_commands a pages) above_is) c.with_pages.ensures
