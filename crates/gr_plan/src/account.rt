@@ -214,6 +214,11 @@ impl Account {
         self.header.is_none()
     }
 
+    /// Whether the bytes end inside a stream.
+    pub fn is_torn(&self) -> bool {
+        !self.is_stopped && (self.header.is_some() || !self.bytes.is_empty())
+    }
+
     /// Whether a header stands next, and the text of one stands there.
     pub fn is_text(&self) -> bool {
         self.is_at_header() && self.bytes.starts_with(b"group ")

@@ -143,6 +143,8 @@ pub struct Files {
     pub takes_sides: bool,
     /// Who sees the headers and records.
     pub seen: Seen,
+    /// The first file that ends inside a stream, of those that were looked into.
+    pub torn: Option<String>,
 }
 
 impl Files {
@@ -157,6 +159,7 @@ impl Files {
             may_wait: false,
             takes_sides: false,
             seen: Seen::default(),
+            torn: None,
         }
     }
 
@@ -202,10 +205,13 @@ impl Files {
         }
     }
 
-    /// Where the streams begin that a reader has, one after another.
-    fn starts_of<R: Read>(&mut self, reader: &mut R) -> Result<Vec<u64>, Fault> {
+    /// Where the streams begin that a reader of what is given by a name has, one after another.
+    fn starts_of<R: Read>(&mut self, name: &str, reader: &mut R) -> Result<Vec<u64>, Fault> {
         let mut account = Account::new(self.rt.alloc(), false);
         account.read(reader, &mut self.seen)?;
+        if self.torn.is_none() && account.is_torn() {
+            self.torn = Some(copy_of(self.rt.alloc(), name)?);
+        }
         Ok(account.starts)
     }
 
@@ -236,7 +242,7 @@ impl Files {
     fn add_bytes<R: Read>(&mut self, name: &str, reader: &mut R) -> Result<(), Fault> {
         let alloc = self.rt.alloc();
         let bytes = read_all(alloc, reader)?;
-        let starts = self.starts_of(&mut bytes.as_slice())?;
+        let starts = self.starts_of(name, &mut bytes.as_slice())?;
         let whole = Piece::of_bytes(alloc, bytes)?;
         if starts.len() < 2 {
             return Ok(self.add_piece(name, whole)?);
@@ -250,7 +256,7 @@ impl Files {
         let Ok(mut file) = File::open(&rt, path) else {
             return Ok(self.add_name(path)?);
         };
-        match self.starts_of(&mut file) {
+        match self.starts_of(path, &mut file) {
             Ok(starts) if starts.len() > 1 => {
                 let whole = Piece::of_file(rt, copy_of(rt.alloc(), path)?);
                 Ok(self.add_parts(path, &whole, starts.as_slice())?)

@@ -29,6 +29,7 @@ pub fn tell(rt: HostRuntime, plan: &mut Plan, command: &str, errors: &mut Held) 
     }
     let is_header = OF_HEADER.iter().any(|end| line.ends_with(end));
     let is_bad_line = line.ends_with(": bad line\n");
+    let is_missing = line.starts_with("gpurace: group ") && line.ends_with(" missing\n");
     let stream = number_in(line, "gpurace: stream ");
     let number = number_in(line, "gpurace: line ");
     errors.pass()?;
@@ -38,6 +39,7 @@ pub fn tell(rt: HostRuntime, plan: &mut Plan, command: &str, errors: &mut Held) 
         }
         (Some(stream), _) => tell_file(errors, rt, plan, Subject { stream, is_header }),
         (None, Some(number)) if is_bad_line => tell_line(errors, plan, number),
+        (None, _) if is_missing => tell_torn(errors, plan),
         (None, _) => Ok(()),
     }
 }
@@ -187,6 +189,17 @@ fn tell_file<W: Write>(to: &mut W, rt: HostRuntime, plan: &Plan, of: Subject) ->
     match account_again(rt, plan, name) {
         None => writeln!(to, "gpurace: {name}: stream {}", of.stream),
         Some(account) => put(to, of, Some(name), &account),
+    }
+}
+
+/// Reports which file ends inside a stream, where a group is missing: it may have been behind that.
+fn tell_torn<W: Write>(to: &mut W, plan: &Plan) -> io::Result<()> {
+    match &plan.files.torn {
+        None => Ok(()),
+        Some(name) => writeln!(
+            to,
+            "gpurace: {name}: its last stream is truncated, and streams behind it may be lost"
+        ),
     }
 }
 
