@@ -41,6 +41,12 @@ pub fn is_option(word: &str) -> bool {
     word.len() > 1 && word.starts_with('-')
 }
 
+/// Whether a word may be meant as a command: it has small letters and hyphens alone.
+pub fn may_be_command(word: &str) -> bool {
+    let mut bytes = word.as_bytes().iter();
+    bytes.all(|byte| matches!(byte, b'a'..=b'z' | b'-'))
+}
+
 /// Whether the word after this option is its value.
 fn takes_value(option: &str) -> bool {
     matches!(

@@ -1,7 +1,7 @@
 //! What is done about the words of a command line: the words that `gr_command` is given, its input, and what names open.
 
 use crate::files::{Files, Kind, buffers_of, copies_of, copy_of, kind_of, paths_of_streams};
-use crate::line::{Line, Taking, is_option, taking_of};
+use crate::line::{Line, Taking, is_option, may_be_command, taking_of};
 use crate::named::{Naming, naming_in, word_in};
 use crate::progress::Progress;
 use crate::reading::{Keeping, Reading};
@@ -125,10 +125,8 @@ impl Plan {
         };
         let names = names_given(rt, line.values.as_slice(), keeping)?;
         self.reading = Reading::new(rt, names, keeping)?;
-        if !line.values.is_empty() {
-            let words = line.head(rt.alloc())?;
-            self.words = Some(copies_of(rt.alloc(), words.as_slice())?);
-        }
+        let words = line.head(rt.alloc())?;
+        self.words = Some(copies_of(rt.alloc(), words.as_slice())?);
         Ok(())
     }
 
@@ -164,8 +162,7 @@ impl Plan {
     }
 }
 
-/// The line of a command, or that of `replay` where the first word is no command and names what is there; `None` where the
-/// words are neither.
+/// The line of a command, or that of `replay` where words without a command ask for a report; `None` where they are neither.
 fn line_of<'a>(rt: HostRuntime, words: &'a [String]) -> Result<Option<Line<'a>>, Memory> {
     let Some((first, after)) = words.split_first() else {
         return Ok(None);
@@ -173,12 +170,28 @@ fn line_of<'a>(rt: HostRuntime, words: &'a [String]) -> Result<Option<Line<'a>>,
     let first = first.as_str();
     let line = match taking_of(first) {
         Some(taking) => Line::of(rt.alloc(), first, taking, after)?,
-        None if is_option(first) || first == "help" || kind_of(rt, first) == Kind::Missing => {
-            return Ok(None);
+        None if asks_for_report(rt, words) => {
+            Line::of(rt.alloc(), "replay", Taking::Joined, words)?
         }
-        None => Line::of(rt.alloc(), "replay", Taking::Joined, words)?,
+        None => return Ok(None),
     };
     Ok(Some(line))
+}
+
+/// Whether words without a command ask for a report: the first that is not the option of `replay`, if there is one, names a file.
+fn asks_for_report(rt: HostRuntime, words: &[String]) -> bool {
+    match words.iter().find(|word| word.as_str() != "--json") {
+        None => true,
+        Some(word) => is_file(rt, word.as_str()),
+    }
+}
+
+/// Whether a word in a command's place names a file: one that is there, or that is missing and can't be a mistyped command.
+fn is_file(rt: HostRuntime, word: &str) -> bool {
+    if is_option(word) || word == "help" || taking_of(word).is_some() {
+        return false;
+    }
+    !may_be_command(word) || kind_of(rt, word) != Kind::Missing
 }
 
 /// The files that names stand for.
