@@ -77,8 +77,8 @@ pub fn read_file(rt: HostRuntime, path: &str) -> Result<Vec<u8>, Fault> {
     read_all(rt.alloc(), &mut file)
 }
 
-/// The paths of the files of streams in a folder, sorted; none where the folder can't be read.
-pub fn paths_of_streams(rt: HostRuntime, folder: &str) -> Result<Vec<String>, Memory> {
+/// The paths of what is in a folder and has a name with this ending, sorted; none where the folder can't be read.
+fn paths_in(rt: HostRuntime, folder: &str, ending: &str) -> Result<Vec<String>, Memory> {
     let alloc = rt.alloc();
     let mut paths = Vec::new(alloc);
     let entries = match fs::read_dir(&rt, folder) {
@@ -88,7 +88,7 @@ pub fn paths_of_streams(rt: HostRuntime, folder: &str) -> Result<Vec<String>, Me
     };
     for entry in entries {
         match entry {
-            Ok(entry) if entry.file_name().ends_with(STREAM_ENDING) => {
+            Ok(entry) if entry.file_name().ends_with(ending) => {
                 paths.push(path_below(alloc, folder, entry.file_name())?)?;
             }
             Err(error) if error.kind() == ErrorKind::OutOfMemory => return Err(Memory),
@@ -97,6 +97,21 @@ pub fn paths_of_streams(rt: HostRuntime, folder: &str) -> Result<Vec<String>, Me
     }
     paths.sort()?;
     Ok(paths)
+}
+
+/// The paths of the files of streams in a folder, sorted; none where the folder can't be read.
+pub fn paths_of_streams(rt: HostRuntime, folder: &str) -> Result<Vec<String>, Memory> {
+    paths_in(rt, folder, STREAM_ENDING)
+}
+
+/// The first folder in a folder that has files of streams, if there is one: the folder of a launch among others.
+pub fn launch_in(rt: HostRuntime, folder: &str) -> Result<Option<String>, Memory> {
+    for path in paths_in(rt, folder, "")? {
+        if !paths_of_streams(rt, path.as_str())?.is_empty() {
+            return Ok(Some(path));
+        }
+    }
+    Ok(None)
 }
 
 /// The path of a side file of a folder, if it is there.

@@ -1,7 +1,7 @@
 //! What is told beside the line of a fault: which file it speaks of, and where in it.
 
 use crate::account::{Account, begins_stream};
-use crate::files::{Kind, kind_of};
+use crate::files::{Kind, kind_of, launch_in};
 use crate::held::Held;
 use crate::plan::Plan;
 use crate::seen::Seen;
@@ -101,6 +101,20 @@ fn without_code(text: &str) -> &str {
     }
 }
 
+/// Reports that a folder has no stream, and whether it holds the folders of launches.
+fn tell_folder<W: Write>(rt: HostRuntime, name: &str, to: &mut W) -> io::Result<()> {
+    match launch_in(rt, name) {
+        Ok(Some(launch)) => writeln!(
+            to,
+            "gpurace: {name}: this folder holds launches; give one of them, such as {launch}"
+        ),
+        Ok(None) | Err(_) => writeln!(
+            to,
+            "gpurace: {name}: no stream in this folder: no file whose name ends in .gpurace"
+        ),
+    }
+}
+
 /// Reports which file can't be read, and why.
 fn tell_unread(rt: HostRuntime, plan: &Plan, command: &str, errors: &mut Held) -> io::Result<()> {
     let Some((name, error)) = unread(rt, plan) else {
@@ -112,10 +126,7 @@ fn tell_unread(rt: HostRuntime, plan: &Plan, command: &str, errors: &mut Held) -
     }
     let is_side = is_name(&plan.files.places, name) || is_name(&plan.files.buffers, name);
     if error.kind() == ErrorKind::IsADirectory && !is_side {
-        return writeln!(
-            errors,
-            "gpurace: {name}: no stream in this folder: no file whose name ends in .gpurace"
-        );
+        return tell_folder(rt, name, errors);
     }
     let text = format!(in rt.alloc(); "{error}")?;
     let message = without_code(text.as_str());
