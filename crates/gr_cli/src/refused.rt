@@ -3,7 +3,7 @@
 use gr_command::execute::fail;
 use gr_command::status::{USAGE, status_of_sides_fault};
 use gr_places::sides_fault::{SidesFault, write_sides_fault};
-use gr_plan::plan::Refusal;
+use gr_plan::plan::{Refusal, Unnamed};
 use std::io::Write;
 
 /// Tells why nothing is done, and gives the exit status. That standard error fails is passed over.
@@ -23,10 +23,18 @@ pub fn refuse<E: Write>(refusal: &Refusal, errors: &mut E) -> u8 {
             );
             USAGE
         }
-        Refusal::NoWord(name, buffers) => {
+        Refusal::Launches(folder, launch) => {
             let _ = writeln!(
                 errors,
-                "error: no word is {name}, by the file of buffers {buffers}"
+                "error: {folder} holds launches; give one of them, such as {launch}"
+            );
+            USAGE
+        }
+        Refusal::NoWord(unnamed) => {
+            let Unnamed { name, buffers, why } = unnamed;
+            let _ = writeln!(
+                errors,
+                "error: no word is {name}, by the file of buffers {buffers}: {why}"
             );
             USAGE
         }

@@ -17,4 +17,5 @@ mod source;
 pub mod table;
 mod text_fault;
 pub mod told;
+mod unnamed;
 pub mod watched;

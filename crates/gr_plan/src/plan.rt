@@ -1,8 +1,10 @@
 //! What is done about the words of a command line: the words that `gr_command` is given, its input, and what names open.
 
-use crate::files::{Files, Kind, buffers_of, copies_of, copy_of, kind_of, paths_of_streams};
+use crate::files::{
+    Files, Kind, buffers_of, copies_of, copy_of, kind_of, launch_in, paths_of_streams,
+};
 use crate::line::{Line, Taking, is_option, may_be_command, taking_of};
-use crate::named::{Naming, naming_in, word_in};
+use crate::named::{Naming, bare_in, check_bare, naming_in, word_in};
 use crate::progress::Progress;
 use crate::reading::{Keeping, Reading};
 use crate::sought::Sought;
@@ -37,8 +39,21 @@ pub enum Refusal {
     BadBuffers(u64),
     /// A word is given by this name, and no file of buffers.
     NoBuffers(String),
-    /// By this file of buffers no word has this name.
-    NoWord(String, String),
+    /// A word is given by its name, and this folder holds folders of launches, such as this one.
+    Launches(String, String),
+    /// No word has the name that is asked for.
+    NoWord(Unnamed),
+}
+
+/// A name that no word has.
+#[derive(Debug, Drop)]
+pub struct Unnamed {
+    /// The name, behind the memory that the word is to be of, if that is given.
+    pub name: String,
+    /// The file of buffers that has no such name.
+    pub buffers: String,
+    /// What the file has instead.
+    pub why: String,
 }
 
 impl From<Memory> for Refusal {
@@ -110,7 +125,11 @@ impl Plan {
             return self.take_named(rt, &line, &naming);
         }
         if !is_taken(rt.alloc(), words)? {
-            return Ok(());
+            return if leading == 2 {
+                check_names(rt, &line)
+            } else {
+                Ok(())
+            };
         }
         let (before, names) = values.split_at(leading.min(values.len()));
         Ok(self.take_each(rt, &line, before, names)?)
@@ -154,7 +173,7 @@ impl Plan {
         naming: &Naming<'_>,
     ) -> Result<(), Refusal> {
         let Some(buffers) = buffers_of(rt, line, naming.files)? else {
-            return Err(Refusal::NoBuffers(copy_of(rt.alloc(), naming.name)?));
+            return Err(without_buffers(rt, naming)?);
         };
         let word = word_in(rt, naming, buffers.as_str())?;
         let (space, number) = spelling_of(rt.alloc(), word)?;
@@ -192,6 +211,28 @@ fn is_file(rt: HostRuntime, word: &str) -> bool {
         return false;
     }
     !may_be_command(word) || kind_of(rt, word) != Kind::Missing
+}
+
+/// Why a word is not found by its name where there is no file of buffers.
+fn without_buffers(rt: HostRuntime, naming: &Naming<'_>) -> Result<Refusal, Memory> {
+    let alloc = rt.alloc();
+    for folder in naming.files {
+        if let Some(launch) = launch_in(rt, folder)? {
+            return Ok(Refusal::Launches(copy_of(alloc, folder)?, launch));
+        }
+    }
+    Ok(Refusal::NoBuffers(copy_of(alloc, naming.name)?))
+}
+
+/// Refuses words that have the name of a buffer in place of that of a word.
+fn check_names(rt: HostRuntime, line: &Line<'_>) -> Result<(), Refusal> {
+    let Some(naming) = bare_in(rt, line.values.as_slice()) else {
+        return Ok(());
+    };
+    match buffers_of(rt, line, naming.files)? {
+        None => Ok(()),
+        Some(buffers) => check_bare(rt, &naming, buffers.as_str()),
+    }
 }
 
 /// The files that names stand for.
