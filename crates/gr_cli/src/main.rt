@@ -99,8 +99,8 @@ where
         progress.clear();
     }
     let _ = tell(rt, &mut plan, first_of(words), &mut errors);
-    if let (0, Some(sought)) = (status, &plan.files.seen.sought) {
-        let _ = sought.tell(&mut errors);
+    if status == 0 {
+        let _ = plan.tell_word(&mut errors);
     }
     status
 }

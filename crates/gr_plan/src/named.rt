@@ -2,7 +2,7 @@
 
 use crate::files::{Kind, copy_of, kind_of, read_file};
 use crate::plan::{Refusal, Unnamed};
-use crate::unnamed::why_unnamed;
+use crate::unnamed::{note_of, why_unnamed};
 use gr_model::event::Word;
 use gr_model::memory::Memory;
 use gr_places::buffers::{BufferLine, read_buffers};
@@ -106,17 +106,24 @@ fn refusal_of(
     }))
 }
 
-/// The word that a name says, by the lines of a file of buffers.
+/// The word that a name says, by the lines of a file of buffers, and what is told of the name, if it is in several memories.
 ///
 /// # Errors
 /// `NoWord` where no word has the name; `BadBuffers`, or `Run` with `Read` or `Memory`, where the file is not known.
-pub fn word_in(rt: HostRuntime, naming: &Naming<'_>, buffers: &str) -> Result<Word, Refusal> {
+pub fn word_in(
+    rt: HostRuntime,
+    naming: &Naming<'_>,
+    buffers: &str,
+) -> Result<(Word, Option<String>), Refusal> {
     let alloc = rt.alloc();
     let bytes = read_file(rt, buffers)?;
     let lines = lines_in(alloc, bytes.as_slice())?;
     let of_space = lines_of(alloc, lines.as_slice(), naming.space)?;
     match word_said(of_space.as_slice(), naming.name) {
-        Some(word) => Ok(word),
+        Some(word) => {
+            let note = note_of(alloc, of_space.as_slice(), naming.name, word)?;
+            Ok((word, note))
+        }
         None => Err(refusal_of(alloc, naming, buffers, lines.as_slice())?),
     }
 }

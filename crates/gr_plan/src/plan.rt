@@ -16,7 +16,7 @@ use gr_model::event::Word;
 use gr_model::memory::Memory;
 use gr_record::fault::Fault;
 use std::alloc::Global;
-use std::io::IsTerminal;
+use std::io::{self, IsTerminal, Write};
 use std::sync::Arc;
 
 /// What is done about the words of a command line.
@@ -28,6 +28,8 @@ pub struct Plan {
     pub reading: Reading,
     /// The files that have a stream each.
     pub files: Files,
+    /// What is told of the name by which a word is given, if it is in several memories.
+    note: Option<String>,
 }
 
 /// Why nothing is done.
@@ -77,6 +79,7 @@ pub fn plan_of(rt: HostRuntime, words: &[String]) -> Result<Plan, Refusal> {
         words: None,
         reading: Reading::new(rt, Vec::new(rt.alloc()), Keeping::Last)?,
         files: Files::new(rt),
+        note: None,
     };
     plan.take_words(rt, words)?;
     Ok(plan)
@@ -94,6 +97,21 @@ impl Plan {
             self.files.table.progress = Some(progress);
         }
         Ok(())
+    }
+
+    /// Reports of the word that is asked for what an answer without a race does not say: that nothing accesses it, and that its name
+    /// is in several memories.
+    ///
+    /// # Errors
+    /// Those of the writer.
+    pub fn tell_word<W: Write>(&self, errors: &mut W) -> io::Result<()> {
+        if let Some(sought) = &self.files.seen.sought {
+            sought.tell(errors)?;
+        }
+        match &self.note {
+            None => Ok(()),
+            Some(note) => writeln!(errors, "gpurace: {note}"),
+        }
     }
 
     /// How many bytes are read, where that is known.
@@ -175,7 +193,8 @@ impl Plan {
         let Some(buffers) = buffers_of(rt, line, naming.files)? else {
             return Err(without_buffers(rt, naming)?);
         };
-        let word = word_in(rt, naming, buffers.as_str())?;
+        let (word, note) = word_in(rt, naming, buffers.as_str())?;
+        self.note = note;
         let (space, number) = spelling_of(rt.alloc(), word)?;
         Ok(self.take_each(rt, line, &[space.as_str(), number.as_str()], naming.files)?)
     }

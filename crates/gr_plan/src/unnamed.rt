@@ -1,4 +1,5 @@
-//! Why no word of memory has a name that is asked for, as `partial[10]`: what the lines of a file of buffers have instead.
+//! What is told of a name, as `partial[10]`, that no word of memory has, or words of several memories, by the lines of a file of
+//! buffers.
 
 use crate::named::{Naming, lines_of};
 use gr_model::event::Word;
@@ -116,6 +117,28 @@ fn why_in(
     let (Word::Global(number) | Word::Local(_, number)) = word;
     let Element { name, index } = element;
     Ok(format!(in alloc; "word {space} {number} is {name}[{index}]")?)
+}
+
+/// What is told of the name of a word where other memories have a buffer of the name, too.
+///
+/// # Errors
+/// `Memory`: out of memory.
+pub fn note_of(
+    alloc: Global,
+    lines: &[BufferLine<'_>],
+    name: &str,
+    word: Word,
+) -> Result<Option<String>, Memory> {
+    let (buffer, _) = parts_of(name);
+    let mut named = Vec::from_slice(alloc, lines)?;
+    named.retain(|line| line.name == buffer);
+    let spaces = list_of(alloc, named.as_slice(), Part::Memory)?;
+    let space = space_of(alloc, word)?;
+    if spaces == space {
+        return Ok(None);
+    }
+    let note = format!(in alloc; "this is {name} of {space}; {buffer} is in {spaces}")?;
+    Ok(Some(note))
 }
 
 /// Why no word has a name, by the lines of a file of buffers.
