@@ -1,7 +1,7 @@
 //! What is told where nothing is done about the words of a command line.
 
 use gr_command::execute::fail;
-use gr_command::status::{USAGE, status_of_sides_fault};
+use gr_command::status::{FAILED, USAGE, status_of_sides_fault};
 use gr_places::sides_fault::{SidesFault, write_sides_fault};
 use gr_plan::plan::{Refusal, Unnamed};
 use std::io::Write;
@@ -22,6 +22,10 @@ pub fn refuse<E: Write>(refusal: &Refusal, errors: &mut E) -> u8 {
                 or --buffers FILE"
             );
             USAGE
+        }
+        Refusal::NoFile(reason) => {
+            let _ = writeln!(errors, "gpurace: {reason}");
+            FAILED
         }
         Refusal::Launches(folder, launch) => {
             let _ = writeln!(

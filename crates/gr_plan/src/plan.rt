@@ -9,6 +9,7 @@ use crate::progress::Progress;
 use crate::reading::{Keeping, Reading};
 use crate::sought::Sought;
 use crate::source::file_size;
+use crate::told::reason_of;
 use clap::error::ErrorKind;
 use gr_arguments::request::Request;
 use gr_arguments::request_of;
@@ -16,6 +17,7 @@ use gr_model::event::Word;
 use gr_model::memory::Memory;
 use gr_record::fault::Fault;
 use std::alloc::Global;
+use std::fs;
 use std::io::{self, IsTerminal, Write};
 use std::sync::Arc;
 
@@ -41,6 +43,8 @@ pub enum Refusal {
     BadBuffers(u64),
     /// A word is given by this name, and no file of buffers.
     NoBuffers(String),
+    /// A word is given by its name, and a file can't be opened: which, and why.
+    NoFile(String),
     /// A word is given by its name, and this folder holds folders of launches, such as this one.
     Launches(String, String),
     /// No word has the name that is asked for.
@@ -235,9 +239,14 @@ fn is_file(rt: HostRuntime, word: &str) -> bool {
 /// Why a word is not found by its name where there is no file of buffers.
 fn without_buffers(rt: HostRuntime, naming: &Naming<'_>) -> Result<Refusal, Memory> {
     let alloc = rt.alloc();
-    for folder in naming.files {
-        if let Some(launch) = launch_in(rt, folder)? {
-            return Ok(Refusal::Launches(copy_of(alloc, folder)?, launch));
+    for name in naming.files {
+        if kind_of(rt, name) == Kind::Missing
+            && let Err(error) = fs::metadata(&rt, name)
+        {
+            return Ok(Refusal::NoFile(reason_of(alloc, name, &error)?));
+        }
+        if let Some(launch) = launch_in(rt, name)? {
+            return Ok(Refusal::Launches(copy_of(alloc, name)?, launch));
         }
     }
     Ok(Refusal::NoBuffers(copy_of(alloc, naming.name)?))

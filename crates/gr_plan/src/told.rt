@@ -7,6 +7,7 @@ use crate::plan::Plan;
 use crate::seen::Seen;
 use crate::text_fault::tell_word;
 use gr_record::fault::Fault;
+use std::alloc::{AllocError, Global};
 use std::fs::File;
 use std::io::{self, ErrorKind, Read, Write};
 
@@ -101,6 +102,13 @@ fn without_code(text: &str) -> &str {
     }
 }
 
+/// The name of a file, and why it can't be opened or read.
+pub fn reason_of(alloc: Global, name: &str, error: &io::Error) -> Result<String, AllocError> {
+    let text = format!(in alloc; "{error}")?;
+    let message = without_code(text.as_str());
+    format!(in alloc; "{name}: {message}")
+}
+
 /// Reports that a folder has no stream, and whether it holds the folders of launches.
 fn tell_folder<W: Write>(rt: HostRuntime, name: &str, to: &mut W) -> io::Result<()> {
     match launch_in(rt, name) {
@@ -128,9 +136,8 @@ fn tell_unread(rt: HostRuntime, plan: &Plan, command: &str, errors: &mut Held) -
     if error.kind() == ErrorKind::IsADirectory && !is_side {
         return tell_folder(rt, name, errors);
     }
-    let text = format!(in rt.alloc(); "{error}")?;
-    let message = without_code(text.as_str());
-    writeln!(errors, "gpurace: {name}: {message}")
+    let reason = reason_of(rt.alloc(), name, &error)?;
+    writeln!(errors, "gpurace: {reason}")
 }
 
 /// What the line of a stream's fault speaks of.
