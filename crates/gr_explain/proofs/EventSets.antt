@@ -1,19 +1,19 @@
 -- A set of events where both events of a pair are added.
-use Rattle.std.proofs.Common.{◌≡◌, ℕ, ◌+◌, ◌<◌, All, true, cond, List, get_or, inl, inr, length, refl, take}
+use Rattle.std.proofs.Common.{arith, ◌≡◌, ℕ, ◌+◌, ◌<◌, All, true, cond, List, get_or, length, take}
 use Rattle.std.proofs.lemmas.List.Elements.{All-more, All-weaker}
 use Rattle.std.specs.List.{list_any}
 use Rattle.gr_model.specs.declared.event.EventId.{EventId}
 use Rattle.gr_model.specs.declared.race.Race.{Race}
 use Rattle.gr_explain.specs.Events.{Has, same_event}
-use Rattle.gr_explain.proofs.Sets.{added_has, event_from_equal, event_itself}
+use Rattle.gr_explain.proofs.Sets.{event_itself}
 use Rattle.gr_explain.specs.Accesses.{AreWanted}
 
 module _ (old new : List EventId) (e : EventId) (update : (d : EventId) → list_any (same_event d) new ≡ cond (same_event e d) true (list_any (same_event d) old)) where
   has_new : Has new e
-  has_new = added_has same_event event_from_equal event_itself old new e update e (inl refl)
+  has_new = grind (arith, update e, event_itself)
 
   has_still : (d : EventId) → Has old d → Has new d
-  has_still d has = added_has same_event event_from_equal event_itself old new e update d (inr has)
+  has_still d has = grind (arith, update d)
 
 -- where both events of a pair are added
 module _ (old mid new : List EventId) (r : Race) (one : (d : EventId) → list_any (same_event d) mid ≡ cond (same_event r.first d) true (list_any (same_event d) old)) (two : (d : EventId) → list_any (same_event d) new ≡ cond (same_event r.second d) true (list_any (same_event d) mid)) where

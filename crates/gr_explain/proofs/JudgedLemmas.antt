@@ -26,8 +26,3 @@ module _ {Z : Type 0} (s : Streams) (w : Word) (e f : EventId) (a b : Access Z) 
     clash_is_hit s w e f (clocked a) (clocked b) (bare_access s e a of_e) (bare_access s f b of_f) (record { may_race = race.may_race; not_before = race.not_before }),
     clash_is_hit s w f e (clocked b) (clocked a) (bare_access s f b of_f) (bare_access s e a of_e) (record { may_race = may_race_swaps race.may_race; not_before = race.not_after }),
   )
-
--- an access of which nothing is kept is held
-pub held_where_none : {Z : Type 0} (s : Streams) (e : EventId) (o : Option (Access Z)) → o ≡ None → IsAccessing s e → IsKept s e o → ¬ IsGrounded s e
-held_where_none s e (Some a) none access kept = λ grounded. let no : Some a ≡ None = none in cc
-held_where_none s e None none access kept = λ grounded. let no : Some access.0 ≡ None = sym access.1 ∙ kept grounded in cc

@@ -64,7 +64,7 @@ module _ (s : Streams) where
   event_there _ _ x (of_other {e = e} {order = order} {accesses = accesses} none rest) there = let h = event_there order accesses x rest there in ((suc h.0.0, h.0.1), h.1)
 
   -- an event of the order has its access, unless it has no word
-  access_there : (order : List EventId) (accesses : List ClockedAccess) (p : ℕ) (d : EventId) → AreAccesses s order accesses → slice_get order p ≡ Some d → (word_at s d ≡ None) ⊎ ((x : ClockedAccess) × Contains accesses x × (event_of x ≡ d))
+  pub access_there : (order : List EventId) (accesses : List ClockedAccess) (p : ℕ) (d : EventId) → AreAccesses s order accesses → slice_get order p ≡ Some d → (word_at s d ≡ None) ⊎ ((x : ClockedAccess) × Contains accesses x × (event_of x ≡ d))
   access_there _ _ p d of_none at = let no : None ≡ Some d = at in cc
   access_there _ _ zero d (of_access {e = e} {x = x} {order = order} {accesses = accesses} of_e rest) at =
       let h : Some e ≡ Some d = at in

@@ -8,6 +8,7 @@ pub mod KeptLemmas
 pub mod JudgedLemmas
 pub mod SeenLemmas
 pub mod Lists
+pub mod ClashLemmas
 pub mod SearchLemmas
 pub mod RacePairs
 pub mod AlikeLemmas

@@ -1,34 +1,32 @@
--- A list with one more at its end, or at its front.
-use Rattle.std.proofs.Common.{◌≡◌, ◌⊎◌, Contains, ℕ, zero, suc, ◌<◌, List, [], ◌∷◌, ◌++◌, length, Some, None, slice_get, refl, ap, inl, inr, ⊎_elim, arith}
-use Rattle.std.proofs.lemmas.List.Elements.{Contains-append_cases}
+-- Lists with one more at their end or at their front, or with one changed, and mapped lists.
+use Rattle.std.proofs.Common.{◌≡◌, ◌⊎◌, Contains, ℕ, zero, suc, ◌<◌, List, [], ◌∷◌, ◌++◌, length, get_or, map, slice_set, Some, slice_get, inl, inr, ⊎_elim, arith}
+use Rattle.std.proofs.lemmas.Bool.{cases_eq}
+use Rattle.std.proofs.lemmas.Grind.{common_steps}
+use Rattle.std.proofs.lemmas.List.{get_or-map, get_or-set_other}
+use Rattle.std.proofs.lemmas.Option.{gets}
 
 pub last_cases : {X : Type 0} (xs : List X) (x : X) (p : ℕ) (y : X) → slice_get (xs ++ x ∷ []) p ≡ Some y → ((p < length xs) × (slice_get xs p ≡ Some y)) ⊎ ((p ≡ length xs) × (y ≡ x))
-last_cases [] x zero y at = let h : Some x ≡ Some y = at in let same : y ≡ x = cc in inr (refl, same)
-last_cases [] x (suc p) y at = let no : None ≡ Some y = at in cc
-last_cases (z ∷ xs) x zero y at = inl (omega arith, at)
-last_cases (z ∷ xs) x (suc p) y at = ⊎_elim
-    (λ (inside : (p < length xs) × (slice_get xs p ≡ Some y)). inl (omega (arith, inside.0), inside.1))
-    (λ (last : (p ≡ length xs) × (y ≡ x)). inr (ap suc last.0, last.1))
-    (last_cases xs x p y at)
-
-pub still_at : {X : Type 0} (xs : List X) (x : X) (p : ℕ) (y : X) → slice_get xs p ≡ Some y → slice_get (xs ++ x ∷ []) p ≡ Some y
-still_at [] x p y at = let no : None ≡ Some y = at in cc
-still_at (z ∷ xs) x zero y at = at
-still_at (z ∷ xs) x (suc p) y at = still_at xs x p y at
+last_cases xs x p y at = grind (arith, common_steps, gets)
 
 pub at_last : {X : Type 0} (xs : List X) (x : X) → slice_get (xs ++ x ∷ []) (length xs) ≡ Some x
-at_last [] x = refl
-at_last (z ∷ xs) x = at_last xs x
-
-pub within : {X : Type 0} (xs : List X) (p : ℕ) (y : X) → slice_get xs p ≡ Some y → p < length xs
-within [] p y at = let no : None ≡ Some y = at in cc
-within (z ∷ xs) zero y at = omega arith
-within (z ∷ xs) (suc p) y at = let rest = within xs p y at in omega (arith, rest)
+at_last xs x = grind (arith, common_steps, gets)
 
 -- what a list with one more at its front has is that one, or in the rest
 pub first_or_rest : {X : Type 0} (x : X) (xs : List X) (z : X) → Contains (x ∷ xs) z → (x ≡ z) ⊎ Contains xs z
-first_or_rest x xs z there = ⊎_elim (λ (one : Contains (x ∷ []) z). inl (only x z one)) (λ (rest : Contains xs z). inr rest) (Contains-append_cases (x ∷ []) xs z there)
-  where
-    only : {X : Type 0} (x z : X) → Contains (x ∷ []) z → x ≡ z
-    only x z (zero, lt, is) = is
-    only x z (suc k, lt, is) = absurd (omega (arith, lt))
+first_or_rest x xs z (zero, lt, is) = inl is
+first_or_rest x xs z (suc k, lt, is) = inr (k, omega (arith, lt), is)
+
+pub set_has : {X : Type 0} (xs : List X) (p : ℕ) (x : X) → p < length xs → Contains (slice_set xs p x) x
+set_has xs p x lt = (p, grind (arith, common_steps), grind (arith, common_steps))
+
+pub set_was : {X : Type 0} (xs : List X) (p : ℕ) (x z : X) → Contains (slice_set xs p x) z → (x ≡ z) ⊎ Contains xs z
+set_was xs p x z (k, lt, is) = grind (arith, common_steps)
+
+pub set_still : {X : Type 0} (xs : List X) (p : ℕ) (x d z : X) → Contains xs z → (get_or xs p d ≡ z) ⊎ Contains (slice_set xs p x) z
+set_still xs p x d z (k, lt, is) = ⊎_elim
+    (λ (same : k ≡ p). inl (grind (arith, common_steps)))
+    (λ other. inr (k, grind (arith, common_steps), grind (arith, common_steps, get_or-set_other)))
+    (cases_eq k p)
+
+pub mapped_there : {X Y : Type 0} (f : X → Y) (xs : List X) (x : X) → Contains xs x → Contains (map f xs) (f x)
+mapped_there f xs x (k, lt, is) = (k, grind (arith, common_steps), grind (arith, common_steps, get_or-map))

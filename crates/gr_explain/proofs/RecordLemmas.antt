@@ -6,7 +6,7 @@ use Rattle.std.specs.Option.{option_copied}
 use Rattle.std.proofs.Math.Seq.{get_or-append_seam}
 use Rattle.std.proofs.lemmas.Bool.Decides.{Decides-eqb}
 use Rattle.std.proofs.lemmas.Bool.{and_parts, cases_lt, eqb-true}
-use Rattle.std.proofs.lemmas.Option.{slice_get-get_or}
+use Rattle.std.proofs.lemmas.Option.{slice_get-get_or, slice_get_past}
 use Rattle.std.proofs.lemmas.List.{get_or_append_left, get_or_past, get_or-set_other, get_or-set_same, length-append, length-take-le, take_more}
 use Rattle.gr_model.specs.declared.event.Event.{Event}
 use Rattle.gr_model.specs.declared.event.EventId.{EventId}
@@ -131,12 +131,7 @@ indices_more s g old index first is = record {
 
 -- what is read of a list at a place
 pub read_is : {X : Type 0} (list : List X) (p : ℕ) (o : Option (Bor X)) → MatchOption o (length list ≤ p) (λ x. (p < length list) × HoldsAt (λ y. x.now ≡ y) list p) → option_copied o ≡ slice_get list p
-read_is list p None past = sym (none_past list p past)
-  where
-    none_past : {X : Type 0} (list : List X) (p : ℕ) → length list ≤ p → slice_get list p ≡ None
-    none_past [] p past = refl
-    none_past (x ∷ list) zero past = absurd (omega (arith, past))
-    none_past (x ∷ list) (suc p) past = none_past list p (omega (arith, past))
+read_is list p None past = sym (slice_get_past list p past)
 read_is list p (Some x) read = ap Some (read.1 x.now) ∙ sym (slice_get-get_or list p x.now read.0)
 
 -- ---- the event that a place is

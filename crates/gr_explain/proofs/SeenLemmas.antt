@@ -1,8 +1,6 @@
 -- The pairs of a later access with the accesses of some items.
-use Rattle.std.proofs.Common.{◌≡◌, ◌≢◌, ◌⊎◌, ◌≤◌, Bool, true, false, ◌||◌, IsTrue, List, [], ◌∷◌, ◌++◌, Option, Some, None, refl, sym, ap, ◌∙◌, subst, inl, inr, ⊎_elim, arith, true≢false}
-use Rattle.std.specs.Prelude.{not}
+use Rattle.std.proofs.Common.{◌≡◌, ◌≢◌, ◌⊎◌, ◌≤◌, IsTrue, List, [], ◌∷◌, ◌++◌, Option, Some, None, refl, sym, ap, ◌∙◌, subst, inl, inr, ⊎_elim, arith, true≢false}
 use Rattle.std.specs.BTreeMap.{is_at}
-use Rattle.std.proofs.lemmas.Bool.{and_parts}
 use Rattle.std.proofs.lemmas.Bool.Decides.{nat_tests}
 use Rattle.std.proofs.lemmas.List.Folds.{list_any-append}
 use Rattle.std.proofs.lemmas.Map.Keys.{sorted_head, sorted_tail}
@@ -19,7 +17,6 @@ use Rattle.gr_clocks.proofs.RowLemmas.{same_item_self, same_items}
 use Rattle.gr_shadow.specs.Clashes.{ClockedAccess, event_of}
 use Rattle.gr_explain.specs.LeastRaces.{IsLeastOf, PairBelow}
 use Rattle.gr_explain.specs.Seen.{HaveItems, IsClashing, IsFirstOf, IsItemBelow, IsPairWith, IsPassed, SeenList}
-use Rattle.gr_explain.proofs.PairOrder.{below_trans, one_way}
 
 -- ---- items
 
@@ -30,25 +27,11 @@ HasItem items i = IsTrue (list_any (is_at ((item_order.cmp-value).it i)) items)
 item_ties : (i j : ItemId) → is_at ((item_order.cmp-value).it i) j ≡ same_item i j
 item_ties i j = grind (arith, nat_tests)
 
-either_true : (a b : Bool) → (a || (b || false)) ≡ true → (a ≡ true) ⊎ (b ≡ true)
-either_true true b h = inl refl
-either_true false true h = inr refl
-either_true false false h = absurd (true≢false (sym h))
-
-true_either : (a b : Bool) → (a ≡ true) ⊎ (b ≡ true) → (a || (b || false)) ≡ true
-true_either true b h = refl
-true_either false true h = refl
-true_either false false h = ⊎_elim (λ t. t) (λ t. t) h
-
 has_more : (items : List ItemId) (i j : ItemId) → HasItem (items ++ i ∷ []) j → HasItem items j ⊎ (j ≡ i)
-has_more items i j h =
-    ⊎_elim (λ was. inl was) (λ is. inr (same_items j i (sym (item_ties j i) ∙ is)))
-    (either_true (list_any (is_at ((item_order.cmp-value).it j)) items) (is_at ((item_order.cmp-value).it j) i) (sym (list_any-append (is_at ((item_order.cmp-value).it j)) items (i ∷ [])) ∙ h))
+has_more items i j h = grind (arith, list_any-append, item_ties, same_items)
 
 more_has : (items : List ItemId) (i j : ItemId) → HasItem items j ⊎ (j ≡ i) → HasItem (items ++ i ∷ []) j
-more_has items i j h =
-    list_any-append (is_at ((item_order.cmp-value).it j)) items (i ∷ []) ∙ true_either (list_any (is_at ((item_order.cmp-value).it j)) items) (is_at ((item_order.cmp-value).it j) i)
-    (⊎_elim (λ was. inl was) (λ (same : j ≡ i). inr (item_ties j i ∙ subst (λ k. same_item j k ≡ true) same (same_item_self j))) h)
+more_has items i j h = grind (arith, list_any-append, item_ties, same_item_self)
 
 -- ---- pairs
 
@@ -57,45 +40,17 @@ pub record IsPairOn (seen : SeenList) (y : ClockedAccess) (items : List ItemId) 
   pub pair_with : IsPairWith seen y pair
   pub item : HasItem items pair_with.earlier.at
 
--- of no items there is none
-pub none_on_none : (seen : SeenList) (y : ClockedAccess) (pair : Pair) → ¬ IsPairOn seen y [] pair
-none_on_none seen y pair on = true≢false (sym on.item)
-
 -- an access clashes with none of its own item
 pub clashing_apart : (seen : SeenList) (y : ClockedAccess) (e : EventId) → IsClashing seen y e → e.at ≢ y.item
-clashing_apart seen y e h same =
-    let parts = and_parts (not (same_item e.at y.item)) _ h.clash in
-    true≢false (sym parts.0 ∙ ap not (subst (λ i. same_item e.at i ≡ true) same (same_item_self e.at)))
+clashing_apart seen y e h same = grind (arith, h.clash, same_item_self)
 
 -- an event is not below an earlier one of its item
 not_below_earlier : (d e : EventId) → e.at ≡ d.at → d.index ≤ e.index → ¬ EventBelow e d
-not_below_earlier d e same le (inl less) = let group : e.at.group ≡ d.at.group = ap (λ i. i.group) same in omega (arith, group, less)
-not_below_earlier d e same le (inr (group, inl less)) = let item : e.at.item ≡ d.at.item = ap (λ i. i.item) same in omega (arith, item, less)
-not_below_earlier d e same le (inr (group, inr (item, less))) = omega (arith, less, le)
+not_below_earlier d e same le h = grind arith
 
 -- so the pair of a later event with the earlier one is the lesser
 pub not_below_first : (d e f : EventId) (pair least : Pair) → e.at ≡ d.at → d.index ≤ e.index → f.at ≢ d.at → IsTurned e f pair → EventBelow pair.0 pair.1 → IsTurned d f least → EventBelow least.0 least.1 → ¬ PairBelow pair least
-not_below_first d e f pair least same le apart turned up turned_least up_least = by_turns turned turned_least
-  where
-    by_turns : IsTurned e f pair → IsTurned d f least → ¬ PairBelow pair least
-    by_turns (inl a) (inl b) below = ⊎_elim
-        (λ (h : EventBelow pair.0 least.0). not_below_earlier d e same le (subst (λ x. EventBelow x d) (ap (λ (p : Pair). p.0) a) (subst (λ x. EventBelow pair.0 x) (ap (λ (p : Pair). p.0) b) h)))
-        (λ (h : (pair.0 ≡ least.0) × EventBelow pair.1 least.1). one_way f f (subst (λ x. EventBelow x f) (ap (λ (p : Pair). p.1) a) (subst (λ x. EventBelow pair.1 x) (ap (λ (p : Pair). p.1) b) h.1)) (subst (λ x. EventBelow x f) (ap (λ (p : Pair). p.1) a) (subst (λ x. EventBelow pair.1 x) (ap (λ (p : Pair). p.1) b) h.1)))
-        below
-    by_turns (inr a) (inr b) below = ⊎_elim
-        (λ (h : EventBelow pair.0 least.0). one_way f f (subst (λ x. EventBelow x f) (ap (λ (p : Pair). p.0) a) (subst (λ x. EventBelow pair.0 x) (ap (λ (p : Pair). p.0) b) h)) (subst (λ x. EventBelow x f) (ap (λ (p : Pair). p.0) a) (subst (λ x. EventBelow pair.0 x) (ap (λ (p : Pair). p.0) b) h)))
-        (λ (h : (pair.0 ≡ least.0) × EventBelow pair.1 least.1). not_below_earlier d e same le (subst (λ x. EventBelow x d) (ap (λ (p : Pair). p.1) a) (subst (λ x. EventBelow pair.1 x) (ap (λ (p : Pair). p.1) b) h.1)))
-        below
-    by_turns (inl a) (inr b) below =
-        let up_e : EventBelow e f = subst (λ (p : Pair). EventBelow p.0 p.1) a up in
-        let up_f : EventBelow f d = subst (λ (p : Pair). EventBelow p.0 p.1) b up_least in
-        not_below_earlier d e same le (below_trans e f d up_e up_f)
-    by_turns (inr a) (inl b) below =
-        let up_d : EventBelow d f = subst (λ (p : Pair). EventBelow p.0 p.1) b up_least in
-        ⊎_elim
-        (λ (h : EventBelow pair.0 least.0). one_way d f up_d (subst (λ x. EventBelow x d) (ap (λ (p : Pair). p.0) a) (subst (λ x. EventBelow pair.0 x) (ap (λ (p : Pair). p.0) b) h)))
-        (λ (h : (pair.0 ≡ least.0) × EventBelow pair.1 least.1). apart (ap (λ (x : EventId). x.at) (sym (ap (λ (p : Pair). p.0) a) ∙ (h.0 ∙ ap (λ (p : Pair). p.0) b))))
-        below
+not_below_first d e f pair least same le apart turned up turned_least up_least below = grind arith
 
 -- ---- one item more
 
@@ -139,47 +94,23 @@ item_below_from_less i j less = grind (arith, nat_tests)
 
 above_all : (i : ItemId) (items : List ItemId) (j : ItemId) → AllByRecursion (λ k. (item_order.cmp-value).it i k ≡ Less) items → HasItem items j → IsItemBelow i j
 above_all i [] j all has = absurd (true≢false (sym has))
-above_all i (k ∷ items) j all has = by_test (is_at ((item_order.cmp-value).it j) k) refl (λ rest. above_all i items j all.1 rest)
-  where
-    by_test : (b : Bool) → is_at ((item_order.cmp-value).it j) k ≡ b → (HasItem items j → IsItemBelow i j) → IsItemBelow i j
-    by_test true t later = subst (λ (x : ItemId). IsItemBelow i x) (sym (same_items j k (sym (item_ties j k) ∙ t))) (item_below_from_less i k all.0)
-    by_test false f later = later (sym (ap (λ b. b || list_any (is_at ((item_order.cmp-value).it j)) items) f) ∙ has)
+above_all i (k ∷ items) j all has = grind (arith, item_ties, same_items, item_below_from_less, above_all i items j all.1)
 
 -- of items in their order, one is before an item, or it, or above it
 later_item : (before : List ItemId) (i : ItemId) (items : List ItemId) (j : ItemId) → IsStrictlySortedBy (item_order.cmp-value).it (before ++ i ∷ items) → HasItem (before ++ i ∷ items) j → HasItem before j ⊎ ((j ≡ i) ⊎ IsItemBelow i j)
-later_item [] i items j sorted has = by_test (is_at ((item_order.cmp-value).it j) i) refl
-  where
-    by_test : (b : Bool) → is_at ((item_order.cmp-value).it j) i ≡ b → HasItem [] j ⊎ ((j ≡ i) ⊎ IsItemBelow i j)
-    by_test true t = inr (inl (same_items j i (sym (item_ties j i) ∙ t)))
-    by_test false f = inr (inr (above_all i items j (sorted_head (item_order.cmp-value).it i items sorted) (sym (ap (λ b. b || list_any (is_at ((item_order.cmp-value).it j)) items) f) ∙ has)))
-later_item (k ∷ before) i items j sorted has =
-    by_test (is_at ((item_order.cmp-value).it j) k) refl (λ rest. later_item before i items j (sorted_tail (item_order.cmp-value).it k (before ++ i ∷ items) sorted) rest)
-  where
-    by_test : (b : Bool) → is_at ((item_order.cmp-value).it j) k ≡ b → (HasItem (before ++ i ∷ items) j → HasItem before j ⊎ ((j ≡ i) ⊎ IsItemBelow i j)) → HasItem (k ∷ before) j ⊎ ((j ≡ i) ⊎ IsItemBelow i j)
-    by_test true t later = inl (ap (λ b. b || list_any (is_at ((item_order.cmp-value).it j)) before) t)
-    by_test false f later = ⊎_elim
-        (λ was. inl (ap (λ b. b || list_any (is_at ((item_order.cmp-value).it j)) before) f ∙ was))
-        (λ other. inr other)
-        (later (sym (ap (λ b. b || list_any (is_at ((item_order.cmp-value).it j)) (before ++ i ∷ items)) f) ∙ has))
+later_item [] i items j sorted has = grind (arith, item_ties, same_items, above_all i items j (sorted_head (item_order.cmp-value).it i items sorted))
+later_item (k ∷ before) i items j sorted has = grind (arith, later_item before i items j (sorted_tail (item_order.cmp-value).it k (before ++ i ∷ items) sorted))
 
 -- an item that is below an item is below one that is it or above it
 still_below : (h i j : ItemId) → IsItemBelow h i → (j ≡ i) ⊎ IsItemBelow i j → IsItemBelow h j
-still_below h i j below (inl same) = subst (λ (x : ItemId). IsItemBelow h x) (sym same) below
-still_below h i j (inl a) (inr (inl b)) = inl (omega arith)
-still_below h i j (inl a) (inr (inr b)) = let group = b.0 in inl (omega arith)
-still_below h i j (inr a) (inr (inl b)) = let group = a.0 in inl (omega arith)
-still_below h i j (inr a) (inr (inr b)) = let first = a.0 in let second = b.0 in let low = a.1 in let high = b.1 in inr (first ∙ second, omega arith)
+still_below h i j below later = grind arith
 
 event_below_item : (e f : EventId) → IsItemBelow e.at f.at → EventBelow e f
-event_below_item e f (inl group) = inl group
-event_below_item e f (inr h) = inr (h.0, inl h.1)
+event_below_item e f h = grind arith
 
 -- a pair of two events above the first of the least pair is not below that
 pub pair_not_below : (e f : EventId) (pair least : Pair) → IsTurned e f pair → EventBelow least.0 e → EventBelow least.0 f → ¬ PairBelow pair least
-pair_not_below e f pair least (inl a) above_e above_f (inl h) = one_way least.0 e above_e (subst (λ x. EventBelow x least.0) (ap (λ (p : Pair). p.0) a) h)
-pair_not_below e f pair least (inl a) above_e above_f (inr h) = one_way e e (subst (λ x. EventBelow x e) (sym (h.0) ∙ ap (λ (p : Pair). p.0) a) above_e) (subst (λ x. EventBelow x e) (sym (h.0) ∙ ap (λ (p : Pair). p.0) a) above_e)
-pair_not_below e f pair least (inr a) above_e above_f (inl h) = one_way least.0 f above_f (subst (λ x. EventBelow x least.0) (ap (λ (p : Pair). p.0) a) h)
-pair_not_below e f pair least (inr a) above_e above_f (inr h) = one_way f f (subst (λ x. EventBelow x f) (sym (h.0) ∙ ap (λ (p : Pair). p.0) a) above_f) (subst (λ x. EventBelow x f) (sym (h.0) ∙ ap (λ (p : Pair). p.0) a) above_f)
+pair_not_below e f pair least turned above_e above_f below = grind arith
 
 -- so the least pair of those with the items before an item is the least of all
 module _ (seen : SeenList) (y : ClockedAccess) (before : List ItemId) (i : ItemId) (items : List ItemId) (have : HaveItems (before ++ i ∷ items) seen.events) (sorted : IsStrictlySortedBy (item_order.cmp-value).it (before ++ i ∷ items)) (old : Option Pair) where

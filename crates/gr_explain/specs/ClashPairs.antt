@@ -1,6 +1,6 @@
 -- The accesses to a word in a list, and the pairs of them that clash.
 -- Source: docs/MODEL.md, "Hits".
-use Rattle.std.specs.Prelude.{◌≡◌, ℕ, List, Some, slice_get}
+use Rattle.std.specs.Prelude.{◌≡◌, Contains, List}
 use Rattle.gr_model.specs.declared.event.EventId.{EventId}
 use Rattle.gr_model.specs.declared.event.Word.{Word}
 use Rattle.gr_model.specs.RacePairs.{IsTurned, Pair}
@@ -10,9 +10,8 @@ use Rattle.gr_shadow.specs.Clashes.{ClockedAccess, IsClashIn, event_of}
 
 -- an event of a class is that of an access to the word
 pub record IsOfList (w : Word) (accesses : List ClockedAccess) (e : EventId) (c : Class) : Type 0 where
-  pub place : ℕ
   pub access : ClockedAccess
-  pub at : slice_get accesses place ≡ Some access
+  pub there : Contains accesses access
   pub word : access.word ≡ w
   pub event : event_of access ≡ e
   pub class : access.class ≡ c

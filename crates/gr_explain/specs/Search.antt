@@ -1,6 +1,6 @@
 -- The accesses to a word that stand for a list of accesses, and the least pair of them that clashes.
 -- Source: docs/MODEL.md, "Hits".
-use Rattle.std.specs.Prelude.{◌≡◌, ◌⊎◌, ◌↔◌, ℕ, List, [], ◌∷◌, ◌++◌, Some, slice_get}
+use Rattle.std.specs.Prelude.{◌≡◌, ◌⊎◌, ◌↔◌, Contains, List, [], ◌∷◌, ◌++◌}
 use Rattle.gr_model.specs.declared.event.EventId.{EventId}
 use Rattle.gr_model.specs.declared.event.Word.{Word}
 use Rattle.gr_model.specs.RacePairs.{Pair}
@@ -13,9 +13,8 @@ use Rattle.gr_explain.specs.declared.search.Search.{Search}
 
 -- an event of a class is one of these
 pub record IsSeen (classes : List SeenList) (e : EventId) (c : Class) : Type 0 where
-  pub place : ℕ
   pub list : SeenList
-  pub at : slice_get classes place ≡ Some list
+  pub there : Contains classes list
   pub class : list.class ≡ c
   pub among : IsAmong list.events e
 
@@ -25,9 +24,8 @@ IsSeenMore old event class new = (e : EventId) (c : Class) → IsSeen new e c �
 
 -- the pair of a later access with one with which it clashes
 pub record IsPairOf (classes : List SeenList) (y : ClockedAccess) (pair : Pair) : Type 0 where
-  pub place : ℕ
   pub list : SeenList
-  pub at : slice_get classes place ≡ Some list
+  pub there : Contains classes list
   pub pair_with : IsPairWith list y pair
 
 -- what came of these accesses is known, and the least pair of them that clashes

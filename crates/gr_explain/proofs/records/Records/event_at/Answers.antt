@@ -1,4 +1,4 @@
-use Rattle.std.proofs.Common.{◌∙◌, ◌≡◌, ◌<◌, ◌≤◌, ℕ, [], List, Some, None, ap, arith, get_or, length, slice_get, sym}
+use Rattle.std.proofs.Common.{◌∙◌, ◌<◌, ◌≤◌, [], List, ap, arith, length, slice_get, sym}
 use Rattle.gr_model.specs.declared.event.Event.{Event}
 use Rattle.gr_explain.proofs.RecordLemmas.{found_at_place, none_without_group, none_without_place, read_is}
 use Rattle.gr_explain.proofs.records.Records.event_at.Goals as goal

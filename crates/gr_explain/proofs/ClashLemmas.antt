@@ -1,0 +1,79 @@
+-- The accesses to a word in a list and those of them that clash, where one more comes.
+use Rattle.std.proofs.Common.{◌≡◌, ◌⊎◌, ◌<◌, true, List, [], ◌∷◌, ◌++◌, length, Some, slice_get, refl, sym, ap, ◌∙◌, subst, inl, inr, ⊎_elim, arith}
+use Rattle.std.proofs.lemmas.List.{length-append}
+use Rattle.std.proofs.lemmas.List.Elements.{Contains-append_left, Contains-push, Contains-push_cases}
+use Rattle.std.proofs.lemmas.Option.{get_or_from_slice_get, slice_get_within}
+use Rattle.gr_model.specs.declared.class.Class.{Class}
+use Rattle.gr_model.specs.declared.event.EventId.{EventId}
+use Rattle.gr_model.specs.declared.event.Word.{Word}
+use Rattle.gr_model.specs.RacePairs.{Pair}
+use Rattle.gr_model.proofs.Places.{Contains-at, slice_get-append}
+use Rattle.gr_shadow.specs.Clashes.{ClockedAccess, IsClashIn, clashes, clashes_with, event_of}
+use Rattle.gr_explain.specs.ClashPairs.{IsClashPair, IsOfList}
+use Rattle.gr_explain.proofs.Lists.{at_last, last_cases}
+
+module _ (w : Word) (accesses : List ClockedAccess) (y : ClockedAccess) where
+  pub still_of : (e : EventId) (c : Class) → IsOfList w accesses e c → IsOfList w (accesses ++ y ∷ []) e c
+  still_of e c of = record { access = of.access; there = Contains-append_left accesses (y ∷ []) of.access of.there; word = of.word; event = of.event; class = of.class }
+
+  -- what is of the list with one more was of it, or is that one
+  pub of_cases : (e : EventId) (c : Class) → IsOfList w (accesses ++ y ∷ []) e c → IsOfList w accesses e c ⊎ ((y.word ≡ w) × (event_of y ≡ e) × (y.class ≡ c))
+  of_cases e c of = ⊎_elim
+      (λ was. inl (record { access = of.access; there = was; word = of.word; event = of.event; class = of.class }))
+      (λ (last : y ≡ of.access). inr (ap (λ (x : ClockedAccess). x.word) last ∙ of.word, ap event_of last ∙ of.event, ap (λ (x : ClockedAccess). x.class) last ∙ of.class))
+      (Contains-push_cases accesses y of.access of.there)
+
+  pub still_clash : (e f : EventId) → IsClashIn accesses w e f → IsClashIn (accesses ++ y ∷ []) w e f
+  still_clash e f h = (h.0, h.1, h.2, h.3, h.4, slice_get-append accesses (y ∷ []) h.0 h.2 h.5, slice_get-append accesses (y ∷ []) h.1 h.3 h.6, h.7)
+
+  pub still_pair : (pair : Pair) → IsClashPair w accesses pair → IsClashPair w (accesses ++ y ∷ []) pair
+  still_pair pair is = record { earlier = is.earlier; later = is.later; clash = still_clash is.earlier is.later is.clash; turned = is.turned; below = is.below }
+
+  -- an access to the word clashes with that of an earlier event
+  pub record IsNewClash (e f : EventId) : Type 0 where
+    pub class : Class
+    pub of : IsOfList w accesses e class
+    pub word : y.word ≡ w
+    pub event : event_of y ≡ f
+    pub clash : clashes_with e.at e.index class y ≡ true
+
+  -- a clash in the list with one more was one, or is one of that access
+  pub clash_was : (e f : EventId) → IsClashIn (accesses ++ y ∷ []) w e f → IsClashIn accesses w e f ⊎ IsNewClash e f
+  clash_was e f (p, q, x, z, lt, at_p, at_q, h) = ⊎_elim
+      (λ (earlier : (p < length accesses) × (slice_get accesses p ≡ Some x)). ⊎_elim
+      (λ (later : (q < length accesses) × (slice_get accesses q ≡ Some z)). inl (p, q, x, z, lt, earlier.1, later.1, h))
+      (λ (last : (q ≡ length accesses) × (z ≡ y)). inr (record {
+        class = x.class;
+        of = record { access = x; there = (p, earlier.0, get_or_from_slice_get accesses p x x earlier.1); word = h.clash.first; event = h.earlier; class = refl };
+        word = ap (λ (a : ClockedAccess). a.word) (sym last.1) ∙ h.clash.second;
+        event = ap event_of (sym last.1) ∙ h.later;
+        clash = subst (λ (d : EventId). clashes_with d.at d.index x.class y ≡ true) h.earlier (subst (λ (a : ClockedAccess). clashes x a ≡ true) last.1 h.clash.clashes);
+      }))
+      (last_cases accesses y q z at_q))
+      (λ (last : (p ≡ length accesses) × (x ≡ y)). absurd (omega (arith, lt, last.0, slice_get_within (accesses ++ y ∷ []) q z at_q, length-append accesses (y ∷ []))))
+      (last_cases accesses y p x at_p)
+
+module _ (accesses : List ClockedAccess) (y : ClockedAccess) (e : EventId) (c : Class) where
+  pub new_is_of : event_of y ≡ e → y.class ≡ c → IsOfList y.word (accesses ++ y ∷ []) e c
+  new_is_of event class = record { access = y; there = Contains-push accesses y; word = refl; event = event; class = class }
+
+  -- an access clashes with that of an event in the list
+  pub clash_added : IsOfList y.word accesses e c → clashes_with e.at e.index c y ≡ true → IsClashIn (accesses ++ y ∷ []) y.word e (event_of y)
+  clash_added of clash = (
+    of.there.0,
+    length accesses,
+    of.access,
+    y,
+    of.there.1,
+    slice_get-append accesses (y ∷ []) of.there.0 of.access (Contains-at accesses of.access of.there),
+    at_last accesses y,
+    record {
+      clash = record {
+        first = of.word;
+        second = refl;
+        clashes = subst (λ (k : Class). clashes_with of.access.item of.access.index k y ≡ true) (sym of.class) (subst (λ (d : EventId). clashes_with d.at d.index c y ≡ true) (sym of.event) clash);
+      };
+      earlier = of.event;
+      later = refl;
+    },
+  )
