@@ -1,29 +1,24 @@
 -- The counts of items with one record more.
-use Rattle.std.proofs.Common.{◌≡◌, ℕ, ◌+◌, ◌<◌, Bool, true, false, cond, List, [], ◌∷◌, ◌++◌, length, filter, if◌then◌else◌, Some, option_map, slice_get, refl, sym, ap, ◌∙◌, arith, append-nil, length-append}
+use Rattle.std.proofs.Common.{◌≡◌, ℕ, ◌+◌, ◌<◌, Bool, true, false, List, [], ◌∷◌, ◌++◌, length, filter, if◌then◌else◌, Some, option_map, slice_get, refl, sym, ap, ◌∙◌, arith}
 use Rattle.std.proofs.lemmas.List.Elements.{filter-append}
+use Rattle.std.proofs.lemmas.Grind.{common_steps}
+use Rattle.std.proofs.lemmas.List.{length_push}
+use Rattle.gr_model.proofs.ListsOfRecords.{length-filter_le}
 use Rattle.gr_model.specs.declared.event.Event.{Event}
 use Rattle.gr_model.specs.declared.limits.TheConstants.{MOST_RECORDS}
 use Rattle.gr_model.specs.Barriers.{is_barrier}
 use Rattle.gr_model.specs.Streams.{is_of}
 use Rattle.gr_timeline.specs.declared.counting.Count.{Count}
 use Rattle.gr_timeline.specs.Counting.{AreCounts, IsSmall, after_record, counted, with_record}
-use Rattle.gr_timeline.proofs.ListLemmas.{length-kept, trace_here, trace_other}
-
-pushed_length : {X : Type 0} (xs : List X) (x : X) → length (xs ++ x ∷ []) ≡ length xs + 1
-pushed_length xs x = length-append xs (x ∷ [])
+use Rattle.gr_timeline.proofs.ListLemmas.{trace_here, trace_other}
 
 barriers_pushed : (trace : List Event) (x : Event) → length (filter is_barrier (trace ++ x ∷ [])) ≡ length (filter is_barrier trace) + (if is_barrier x then 1 else 0)
-barriers_pushed trace x =
-    ap length (filter-append is_barrier trace (x ∷ []))
-    ∙ elim (is_barrier x) as (λ b. length (filter is_barrier trace ++ cond b (x ∷ []) []) ≡ length (filter is_barrier trace) + (if b then 1 else 0)) [
-      | true ↦ pushed_length (filter is_barrier trace) x
-      | false ↦ ap length (append-nil (filter is_barrier trace)) ∙ omega arith
-    ]
+barriers_pushed trace x = grind (arith, common_steps, filter-append)
 
 module _ (list : List Event) (x : Event) (i : ℕ) where
   counted_here : is_of i x ≡ true → with_record (counted list i) x ≡ counted (list ++ x ∷ []) i
   counted_here mine =
-      let records = ap length (trace_here list x i mine) ∙ pushed_length (filter (is_of i) list) x in
+      let records = ap length (trace_here list x i mine) ∙ length_push (filter (is_of i) list) x in
       let barriers = ap (λ (trace : List Event). length (filter is_barrier trace)) (trace_here list x i mine) ∙ barriers_pushed (filter (is_of i) list) x in
       sym (λ k. record { records = records k; barriers = barriers k })
 
@@ -48,6 +43,6 @@ counts_more items list x old new same each counts = record {
 -- counts of a list that is no longer than another are small
 pub counted_small : (list : List Event) (i : ℕ) → length list < MOST_RECORDS → IsSmall (counted list i)
 counted_small list i few =
-    let records = length-kept (is_of i) list in
-    let barriers = length-kept is_barrier (filter (is_of i) list) in
+    let records = length-filter_le (is_of i) list in
+    let barriers = length-filter_le is_barrier (filter (is_of i) list) in
     (omega (arith, records, few), omega (arith, records, barriers, few))

@@ -1,5 +1,5 @@
 -- What is known of the events of a group, and of those of all groups below a bound.
-use Rattle.std.proofs.Common.{◌≡◌, ℕ, ◌+◌, ◌<◌, ◌≤◌, List, [], ◌∷◌, ◌++◌, get_or, length, Option, Some, None, option_map, slice_get, take, refl, sym, ap, ◌∙◌, subst, ⊎_elim, arith, eq-or-lt_of_le}
+use Rattle.std.proofs.Common.{◌≡◌, ℕ, ◌+◌, ◌<◌, ◌≤◌, List, [], ◌∷◌, ◌++◌, get_or, length, Option, Some, None, option_map, slice_get, take, refl, sym, ap, ◌∙◌, subst, ⊎_elim, arith}
 use Rattle.std.proofs.lemmas.Bool.{cases_lt}
 use Rattle.std.proofs.lemmas.List.{get_or_past, length-take-le, take_more}
 use Rattle.std.proofs.lemmas.Option.{slice_get_read}
@@ -9,16 +9,11 @@ use Rattle.gr_model.specs.declared.event.Word.{Word}
 use Rattle.gr_model.specs.Streams.{IsAccepted, Streams, list_of}
 use Rattle.gr_timeline.specs.declared.counting.Count.{Count}
 use Rattle.gr_timeline.specs.declared.details.Details.{Details}
-use Rattle.gr_timeline.specs.Details.{details_of}
-use Rattle.gr_timeline.specs.Accesses.{AreAccesses, IsKnown, IsOn, details_at}
+use Rattle.gr_timeline.specs.Accesses.{AreAccesses, IsKnown, details_at}
 use Rattle.gr_timeline.specs.Counting.{AreCounts, IsSmall, after_record, counted}
 use Rattle.gr_timeline.specs.Gathering.{AreKnownIn, AreOthersKept, IsKnownIn, KeepsRecord}
 use Rattle.gr_timeline.proofs.CountLemmas.{counted_small, counts_more}
 use Rattle.gr_timeline.proofs.RecordLemmas.{others_kept, record_known}
-
--- nothing is known by no records
-pub none_known : (w : Word) (g : ℕ) (known : List (EventId × Details)) → ((e : EventId) → e.at.group ≡ g → details_at known e ≡ None) → AreKnownIn [] w g known
-none_known w g known none e group = subst (λ (o : Option Details). IsKnownIn [] w e o) (sym (none e group)) (λ on. let no : None ≡ Some w = on in cc)
 
 -- ---- the next record of a list
 
@@ -67,16 +62,6 @@ pub record IsKnownBelow (s : Streams) (w : Word) (bound : ℕ) (known : List (Ev
 pub none_below : (s : Streams) (w : Word) (known : List (EventId × Details)) → known ≡ [] → IsKnownBelow s w 0 known
 none_below s w known none = record { before = λ e lt. absurd (omega (arith, lt)); behind = λ e ge. ap (λ k. details_at k e) none }
 
-module _ (s : Streams) (w : Word) (g : ℕ) where
-  pub group_known : (list : List Event) (old new : List (EventId × Details)) → list ≡ list_of s g → AreKnownIn list w g new → AreOthersKept g old new → IsKnownBelow s w g old → IsKnownBelow s w (g + 1) new
-  group_known list old new is here others below = record {
-    before = λ e lt. ⊎_elim
-        (λ (same : e.at.group ≡ g). subst (λ (l : List Event). IsKnownIn l w e (details_at new e)) (is ∙ ap (list_of s) (sym same)) (here e same))
-        (λ (less : e.at.group < g). subst (λ (o : Option Details). IsKnown s w e o) (sym (others e (λ same. absurd (omega (arith, same, less))))) (below.before e less))
-        (eq-or-lt_of_le (let le : e.at.group ≤ g = omega (arith, lt) in le));
-    behind = λ e ge. others e (λ same. absurd (omega (arith, same, ge))) ∙ below.behind e (omega (arith, ge));
-  }
-
 -- where all groups are below the bound, all is known
 pub all_known : (s : Streams) (w : Word) (bound : ℕ) (known : List (EventId × Details)) → length s.lists ≤ bound → IsKnownBelow s w bound known → AreAccesses s w known
 all_known s w bound known all below e = ⊎_elim
@@ -87,8 +72,3 @@ all_known s w bound known all below e = ⊎_elim
     subst (λ (l : List Event). IsKnownIn l w e (details_at known e)) (sym gone)
     (subst (λ (o : Option Details). IsKnownIn [] w e o) (sym (below.behind e ge)) (λ on. let no : None ≡ Some w = on in cc)))
     (cases_lt e.at.group bound)
-
--- what is known of an access to the word is what is told of it
-pub known_is_told : (s : Streams) (w : Word) (e : EventId) (o : Option Details) → IsKnown s w e o → IsOn s w e → o ≡ details_of s e
-known_is_told s w e None off on = absurd (off on)
-known_is_told s w e (Some d) known on = sym known.1

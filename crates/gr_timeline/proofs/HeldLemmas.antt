@@ -1,10 +1,10 @@
 -- The accesses to a word that are held are those that are left of all where the grounded ones are taken away.
-use Rattle.std.proofs.Common.{◌≡◌, ◌≢◌, ◌↔◌, ℕ, ◌+◌, ◌<◌, ◌≤◌, ◌&&◌, not, Bool, true, false, List, filter, get_or, length, Option, Some, None, is_some, slice_get, refl, sym, ap, ◌∙◌, subst, ⊎_elim, arith, eq-or-lt_of_le, true≢false}
+use Rattle.std.proofs.Common.{◌≡◌, ◌≢◌, ◌↔◌, ℕ, ◌+◌, ◌<◌, ◌&&◌, not, Bool, true, false, List, filter, get_or, length, Option, Some, None, is_some, slice_get, refl, sym, ap, ◌∙◌, subst, ⊎_elim, arith, true≢false}
 use Rattle.std.specs.Bool.{Decides}
 use Rattle.std.specs.List.{AllPairs, IsDistinct}
 use Rattle.std.specs.Map.{keys_of}
 use Rattle.std.specs.Set.{IsDifference, IsIntersection, is_member}
-use Rattle.std.proofs.lemmas.Bool.{cases_lt}
+use Rattle.std.proofs.lemmas.Bool.{and_parts, and_right, cases_order, not-true}
 use Rattle.std.proofs.lemmas.List.{length-map}
 use Rattle.std.proofs.lemmas.List.Kept.{AllPairs-filter}
 use Rattle.std.proofs.lemmas.Map.Made.{AllPairs-from_IsDistinct, IsDistinct-from_AllPairs, is_member-filter, is_some-lookup, length-intersection_difference}
@@ -26,18 +26,6 @@ use Rattle.gr_timeline.specs.Held.{AreHeld}
 decides : (d e : EventId) → Decides (same_event d e) (d ≡ e)
 decides d e = (event_from_equal d e, λ same. subst (λ (x : EventId). same_event d x ≡ true) same (equal.laws-law.refl d))
 
-and_parts : (a b : Bool) → (a && b) ≡ true → (a ≡ true) × (b ≡ true)
-and_parts true b is = (refl, is)
-and_parts false b is = absurd (true≢false (sym is))
-
-and_false : (a : Bool) → (a && false) ≡ false
-and_false true = refl
-and_false false = refl
-
-not_true : (a : Bool) → not a ≡ true → a ≡ false
-not_true true is = absurd (true≢false (sym is))
-not_true false is = refl
-
 -- ---- lists of events, each once
 
 apart : (events : List EventId) → ((p q : ℕ) (e : EventId) → IsAt events p e → IsAt events q e → p ≡ q) → AllPairs (λ x y. x ≢ y) events
@@ -52,9 +40,9 @@ not_before events pairs p q e first second before =
 
 each_once : (events : List EventId) → AllPairs (λ x y. x ≢ y) events → (p q : ℕ) (e : EventId) → IsAt events p e → IsAt events q e → p ≡ q
 each_once events pairs p q e first second = ⊎_elim
-    (λ (before : p < q). absurd (not_before events pairs p q e first second before))
-    (λ (ge : q ≤ p). ⊎_elim (λ (same : q ≡ p). sym same) (λ (after : q < p). absurd (not_before events pairs q p e second first after)) (eq-or-lt_of_le ge))
-    (cases_lt p q)
+    (λ (same : p ≡ q). same)
+    (⊎_elim (λ before. absurd (not_before events pairs p q e first second before)) (λ after. absurd (not_before events pairs q p e second first after)))
+    (cases_order p q)
 
 member_in : (events : List EventId) (e : EventId) → is_member same_event events e ≡ true → IsIn events e
 member_in events e is = let there = Contains-from_any event_from_equal e events is in (there.0, Contains-at events e there)
@@ -94,7 +82,7 @@ module _ (s : Streams) (w : Word) (known : List (EventId × Details)) (distinct 
       where
         by_test : (b : Bool) → is_member same_event those q ≡ b → is_member same_event those q ≡ (is_member same_event keys q && is_member same_event those q)
         by_test true is = sym (ap (λ a. a && is_member same_event those q) (on_key q ((grounded q).0 (member_in those q is)).0))
-        by_test false not_there = not_there ∙ sym (ap (λ m. is_member same_event keys q && m) not_there ∙ and_false (is_member same_event keys q))
+        by_test false not_there = not_there ∙ sym (ap (λ m. is_member same_event keys q && m) not_there ∙ and_right (is_member same_event keys q) false refl)
 
     rest : IsDifference same_event keys those left
     rest q = is_member-filter equal.laws-law is_left q (λ x same. ap is_left (event_from_equal q x same)) keys
@@ -106,7 +94,7 @@ module _ (s : Streams) (w : Word) (known : List (EventId × Details)) (distinct 
     left_held e is =
         let parts = and_parts (is_member same_event keys e) (is_left e) (sym (rest e) ∙ in_member left e is) in
         let on = key_on e parts.0 in
-        (on, λ stands. true≢false (sym (in_member those e ((grounded e).1 (on, stands))) ∙ not_true (is_member same_event those e) parts.1))
+        (on, λ stands. true≢false (sym (in_member those e ((grounded e).1 (on, stands))) ∙ not-true (is_member same_event those e) parts.1))
 
     held_left : (e : EventId) → IsOn s w e × ¬ IsGrounded s e → IsIn left e
     held_left e held = by_test (is_member same_event those e) refl

@@ -1,7 +1,9 @@
 -- The history of a word, of the accesses along a lawful order of all grounded events.
 use Rattle.std.proofs.Common.{◌≡◌, ◌≢◌, ◌↔◌, ◌<◌, ℕ, zero, suc, Bool, true, false, cond, Contains, List, [], ◌∷◌, ◌++◌, Some, None, append-nil, append_assoc, filter, length, map, slice_get, take, refl, sym, ap, ◌∙◌, subst, inr, ⊎_elim, arith, true≢false}
 use Rattle.std.proofs.lemmas.List.{length-map, length-take-le, map-append}
-use Rattle.std.proofs.lemmas.List.Elements.{filter-append}
+use Rattle.std.proofs.lemmas.Grind.{common_steps}
+use Rattle.std.proofs.lemmas.Option.{get_or_from_slice_get, gets, slice_get_within}
+use Rattle.std.proofs.lemmas.List.Elements.{All-contains, All-contains_itself, All-filter, filter-append, filter_passes}
 use Rattle.gr_model.specs.declared.event.EventId.{EventId}
 use Rattle.gr_model.specs.declared.event.Word.{Word}
 use Rattle.gr_model.specs.contracts.event.WordEq.TheImpl.Laws as equal
@@ -20,9 +22,7 @@ use Rattle.gr_model.proofs.HitLaws.{IsHit-filter}
 use Rattle.gr_shadow.specs.Clashes.{IsHitIn, clashes, event_of}
 use Rattle.gr_shadow.specs.Kept.{Kept, same_word}
 use Rattle.gr_shadow.specs.StandsFor.{StandsFor, accesses_to}
-use Rattle.gr_shadow.proofs.KeepsLemmas.{Contains-first, Contains-rest}
 use Rattle.gr_explain.proofs.KeptLemmas.{event_there}
-use Rattle.gr_explain.proofs.Lists.{within}
 use Rattle.gr_timeline.specs.Accesses.{IsOn}
 use Rattle.gr_timeline.specs.declared.entry.Entry.{Entry}
 use Rattle.gr_timeline.specs.Racy.{IsRacyIn}
@@ -72,19 +72,15 @@ mapped_at f (x ∷ xs) zero y at = let h : Some (f x) ≡ Some y = at in let sam
 mapped_at f (x ∷ xs) (suc p) y at = mapped_at f xs p y at
 
 map_at : {X Y : Type 0} (f : X → Y) (xs : List X) (p : ℕ) (x : X) → slice_get xs p ≡ Some x → slice_get (map f xs) p ≡ Some (f x)
-map_at f [] p x at = let no : None ≡ Some x = at in cc
-map_at f (z ∷ xs) zero x at = let h : Some z ≡ Some x = at in let same : z ≡ x = cc in ap (λ v. Some (f v)) same
-map_at f (z ∷ xs) (suc p) x at = map_at f xs p x at
-
-passed_first : {X : Type 0} (test : X → Bool) (z : X) (xs : List X) (x : X) (b : Bool) → test z ≡ b → (p : ℕ) → slice_get (cond b (z ∷ filter test xs) (filter test xs)) p ≡ Some x → ((n : ℕ) → slice_get (filter test xs) n ≡ Some x → Contains xs x × (test x ≡ true)) → Contains (z ∷ xs) x × (test x ≡ true)
-passed_first test z xs x true t zero at later = let h : Some z ≡ Some x = at in let same : z ≡ x = cc in (subst (Contains (z ∷ xs)) same (Contains-first z xs), subst (λ v. test v ≡ true) same t)
-passed_first test z xs x true t (suc p) at later = let rest = later p at in (Contains-rest z xs x rest.0, rest.1)
-passed_first test z xs x false f p at later = let rest = later p at in (Contains-rest z xs x rest.0, rest.1)
+map_at f xs p x at = grind (arith, common_steps, gets)
 
 -- what passes a test is in the list
 passed_at : {X : Type 0} (test : X → Bool) (xs : List X) (p : ℕ) (x : X) → slice_get (filter test xs) p ≡ Some x → Contains xs x × (test x ≡ true)
-passed_at test [] p x at = let no : None ≡ Some x = at in cc
-passed_at test (z ∷ xs) p x at = passed_first test z xs x (test z) refl p at (λ n there. passed_at test xs n x there)
+passed_at test xs p x at =
+    let there : Contains (filter test xs) x = (p, slice_get_within (filter test xs) p x at, get_or_from_slice_get (filter test xs) p x x at) in (
+      All-contains (Contains xs) (filter test xs) x (All-filter test (Contains xs) xs (All-contains_itself xs)) there,
+      All-contains (λ y. test y ≡ true) (filter test xs) x (filter_passes test xs) there,
+    )
 
 -- a line is that of the entry there, below those before it
 line_at : {Z : Type 0} (above : List EventId) (entries : List (Entry Z)) (p : ℕ) (l : Line) → slice_get (lines_below above entries) p ≡ Some l → (x : Entry Z) × (slice_get entries p ≡ Some x) × (l ≡ line_below (above ++ take p (map (λ y. y.event) entries)) x)
@@ -128,11 +124,7 @@ counted_is_before s w e x of_e word d other = (
 
 -- what the first elements of a list have at a place
 taken_at : {X : Type 0} (xs : List X) (n i : ℕ) (x : X) → slice_get (take n xs) i ≡ Some x → (i < n) × (slice_get xs i ≡ Some x)
-taken_at [] zero i x at = let no : None ≡ Some x = at in cc
-taken_at [] (suc n) i x at = let no : None ≡ Some x = at in cc
-taken_at (z ∷ xs) zero i x at = let no : None ≡ Some x = at in cc
-taken_at (z ∷ xs) (suc n) zero x at = (omega arith, at)
-taken_at (z ∷ xs) (suc n) (suc i) x at = let rest = taken_at xs n i x at in (omega (arith, rest.0), rest.1)
+taken_at xs n i x at = grind (arith, common_steps, gets)
 
 module _ {Z : Type 0} (s : Streams) (w : Word) (entries : List (Entry Z)) (order : List EventId) (whole : IsWholeOrder s order) (accesses : List ClockedAccess) (are : AreAccesses s order accesses) (stands : AreEntriesOf w accesses entries) where
   abbrev events : List EventId
@@ -166,7 +158,7 @@ module _ {Z : Type 0} (s : Streams) (w : Word) (entries : List (Entry Z)) (order
   line_behind p l at =
       let h = line_at [] entries p l at in
       let x = h.0 in
-      let lt : p < length events = omega (arith, within entries p x h.1, length-map entries (λ y. y.event)) in
+      let lt : p < length events = omega (arith, slice_get_within entries p x h.1, length-map entries (λ y. y.event)) in
       let counts = above_counted x (entry_access p x h.1) (map_at (λ y. y.event) entries p x h.1) in
       let before = those_where (IsCounted x.clock) (λ d. HappensBefore s (memory_of w) d x.event) (take p events) (filter (is_counted x.clock) (take p events)) counts (those_counted x.clock (take p events)) in
       subst (λ (m : Line). (m.above ≡ p) × AreThose (λ d. HappensBefore s (memory_of w) d m.event) (take p (events_of (lines_of entries))) m.behind) (sym h.2) (

@@ -1,13 +1,13 @@
 -- What the list of a group tells of its events, with one record more.
 use Rattle.std.proofs.Common.{◌≡◌, ◌≢◌, ℕ, ◌<◌, ◌≤◌, ◌==◌, ◌&&◌, not, Bool, true, false, cond, List, [], ◌∷◌, ◌++◌, length, length-append, filter, Option, Some, None, option_and_then, slice_get, take, refl, sym, ap, ◌∙◌, subst, ⊎_elim, arith, eq-or-lt_of_le, eqb-true, true≢false}
 use Rattle.std.proofs.Math.Seq.{take-append_seam}
-use Rattle.std.proofs.lemmas.Bool.{and_parts, cases_lt, eq-eqb}
+use Rattle.std.proofs.lemmas.Bool.{and_parts, cases_lt, eq-eqb, false_from_ne_true}
 use Rattle.std.proofs.lemmas.List.{take-append-le}
 use Rattle.std.proofs.lemmas.Option.{slice_get_past}
 use Rattle.gr_model.specs.declared.event.Event.{Event}
 use Rattle.gr_model.specs.declared.event.EventId.{EventId}
 use Rattle.gr_model.specs.declared.event.Kind.{Kind}
-use Rattle.gr_model.specs.declared.event.Kind.TheVariants.{Read, Write, Load, Store, Rmw, Barrier, End}
+use Rattle.gr_model.specs.declared.event.Kind.TheVariants.{End}
 use Rattle.gr_model.specs.declared.event.Word.{Word}
 use Rattle.gr_model.specs.Access.{event_word, word_if_access}
 use Rattle.gr_model.specs.Barriers.{is_barrier}
@@ -16,20 +16,16 @@ use Rattle.gr_model.specs.Streams.{is_of, places_from}
 use Rattle.gr_timeline.specs.declared.details.Details.{Details}
 use Rattle.gr_timeline.specs.Accesses.{details_at}
 use Rattle.gr_explain.specs.Events.{same_event}
+use Rattle.gr_explain.proofs.Lists.{at_last}
 use Rattle.gr_explain.proofs.Sets.{event_from_equal, event_itself}
 use Rattle.gr_timeline.specs.Counting.{counted}
 use Rattle.gr_timeline.specs.Gathering.{AreKnownIn, IsKnownIn, KeepsRecord, event_in, event_of, number_in, phase_in, told_from, told_in, word_history_of, word_in}
-use Rattle.gr_timeline.proofs.ListLemmas.{length-places, places_here, places_other, slice_front, slice_seam, trace_here, trace_other}
+use Rattle.gr_timeline.proofs.ListLemmas.{length-places, places_here, places_other, slice_front, trace_here, trace_other}
 
 -- a record that accesses a word is one of its item
 access_is_of : (k : Kind) (w v : Word) → word_if_access k w ≡ Some v → is_end_kind k ≡ false
-access_is_of Read w v is = refl
-access_is_of Write w v is = refl
-access_is_of (Load scope order) w v is = refl
-access_is_of (Store scope order) w v is = refl
-access_is_of (Rmw scope order) w v is = refl
-access_is_of (Barrier global local) w v is = refl
-access_is_of (End cut) w v is = let no : None ≡ Some v = is in cc
+access_is_of (End cut) w v is = cc
+access_is_of k w v is = refl
 
 -- what a longer list tells of an event is what a shorter one does
 still_known : (list longer : List Event) (w : Word) (e : EventId) (o p : Option Details) → event_in longer e ≡ event_in list e → told_in longer e ≡ told_in list e → p ≡ o → IsKnownIn list w e o → IsKnownIn longer w e p
@@ -48,11 +44,7 @@ unknown list longer w e None none off known = off
 unknown list longer w e (Some d) none off known = let no : None ≡ Some w = sym none ∙ known.0 in cc
 
 differ : (d e : EventId) → d ≢ e → same_event d e ≡ false
-differ d e other = by_test (same_event d e) refl
-  where
-    by_test : (b : Bool) → same_event d e ≡ b → same_event d e ≡ false
-    by_test true t = absurd (other (event_from_equal d e t))
-    by_test false f = f
+differ d e other = false_from_ne_true (same_event d e) (λ t. other (event_from_equal d e t))
 
 is_of_true : (i : ℕ) (x : Event) → x.item ≡ i → is_end x ≡ false → is_of i x ≡ true
 is_of_true i x item no_end = ap (λ b. b && not (is_end x)) (eq-eqb x.item i item) ∙ ap (λ b. true && not b) no_end
@@ -132,9 +124,9 @@ module _ (list : List Event) (x : Event) (w : Word) (g : ℕ) (old new : List (E
       known_here here =
           let index : length (filter (is_of x.item) list) ≡ e.index = next_index ∙ sym here in
           let same : next ≡ e = λ k. record { at = record { group = sym group k; item = item k }; index = index k } in
-          let event : event_in longer e ≡ Some x = ap (λ t. slice_get t e.index) (trace_here list x e.at.item mine) ∙ (ap (slice_get (trace ++ x ∷ [])) here ∙ slice_seam trace x) in
+          let event : event_in longer e ≡ Some x = ap (λ t. slice_get t e.index) (trace_here list x e.at.item mine) ∙ (ap (slice_get (trace ++ x ∷ [])) here ∙ at_last trace x) in
           let numbered : e.index ≡ length places = here ∙ sym (length-places (is_of e.at.item) 0 list) in
-          let number : number_in longer e ≡ Some (length list) = ap (λ t. slice_get t e.index) (places_here list x e.at.item mine) ∙ (ap (slice_get (places ++ length list ∷ [])) numbered ∙ slice_seam places (length list)) in
+          let number : number_in longer e ≡ Some (length list) = ap (λ t. slice_get t e.index) (places_here list x e.at.item mine) ∙ (ap (slice_get (places ++ length list ∷ [])) numbered ∙ at_last places (length list)) in
           let first : take e.index (trace ++ x ∷ []) ≡ trace = ap (λ n. take n (trace ++ x ∷ [])) here ∙ take-append_seam trace (x ∷ []) in
           let phase : phase_in longer e ≡ length (filter is_barrier (filter (is_of x.item) list)) =
           ap (λ t. length (filter is_barrier (take e.index t))) (trace_here list x e.at.item mine) ∙ (ap (λ t. length (filter is_barrier t)) first ∙ ap (λ i. length (filter is_barrier (filter (is_of i) list))) (sym item)) in

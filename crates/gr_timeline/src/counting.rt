@@ -1,11 +1,11 @@
 //! How many records of each item of a group, and how many barriers among them, were gone over.
 
 ghost use Rattle.std.specs.Prelude.{◌≡◌, ◌<◌, [], ℕ, IfOk, Some, length, option_map, slice_get};
-ghost use Rattle.gr_model.specs.Barriers as barriers;
 ghost use Rattle.gr_timeline.specs.declared.counting.Count.{Count as AnyCount};
 ghost use Rattle.gr_timeline.specs.Counting.{AreCounts, IsSmall, after_record, with_record};
 
-use gr_model::event::{Event, Kind};
+use gr_lanes::kinds::is_barrier;
+use gr_model::event::Event;
 use gr_model::memory::Memory;
 use std::alloc::Allocator;
 
@@ -16,19 +16,6 @@ pub(crate) struct Count {
     pub(crate) records: u32,
     /// How many of these are barriers.
     pub(crate) barriers: usize,
-}
-
-/// Whether a record is a barrier.
-fn is_barrier(event: &Event) -> bool
-    ensures { result ≡ barriers.is_barrier event.now }
-{
-    matches!(
-        event.kind,
-        Kind::Barrier {
-            global: _,
-            local: _,
-        }
-    )
 }
 
 impl Count {
