@@ -1,11 +1,12 @@
 -- Each race of a launch has a kind, and it is said whether there is one.
-use Rattle.std.proofs.Common.{◌≡◌, ◌↔◌, ◌+◌, ⊎_elim, subst, cond, zero, suc, ◌<◌, ◌||◌, ◌&&◌, ℕ, Bool, true, false, List, [], ◌∷◌, ◌++◌, Option, Some, Contains, IsTrue, All, None, nat_eq, option_and_then, ap, arith, length, map, refl, sym, ◌∙◌, true≢false}
+use Rattle.std.proofs.Common.{◌≡◌, ◌↔◌, ◌+◌, ⊎_elim, subst, cond, zero, suc, ◌<◌, ◌&&◌, ℕ, Bool, true, false, List, [], ◌∷◌, ◌++◌, Option, Some, Contains, IsTrue, All, None, nat_eq, option_and_then, ap, arith, length, map, refl, sym, ◌∙◌, true≢false}
 use Rattle.std.specs.Prelude.{AllPairs, if◌then◌else◌, filter, nat_lt, not, option_map}
 use Rattle.std.specs.List.{cons_option, list_any}
 use Rattle.std.specs.Option.{option_eq, option_map_or}
 use Rattle.std.proofs.Math.Bool.{beq}
-use Rattle.std.proofs.lemmas.Bool.{and_parts, eqb-true, false_from_ne_true, lt-ltb, ltb-true}
-use Rattle.std.proofs.lemmas.List.Elements.{All-cons, All-contains, All-nil, Contains-append_cases, Contains-append_left, Contains-append_right, Contains-push}
+use Rattle.std.proofs.lemmas.Bool.Decides.{nat_tests}
+use Rattle.std.proofs.lemmas.Bool.{and_parts, cond_both, eqb-true, false_from_ne_true, lt-ltb, ltb-true}
+use Rattle.std.proofs.lemmas.List.Elements.{All-cons, All-contains, All-contains_itself, All-filter, All-nil, Contains-append_cases, Contains-append_left, Contains-append_right, Contains-push}
 use Rattle.std.proofs.lemmas.List.Folds.{list_any-append, list_any_at}
 use Rattle.std.proofs.lemmas.List.Quantifiers.{all_pairs_push}
 use Rattle.gr_races.specs.declared.cause.Cause.{Cause}
@@ -19,7 +20,7 @@ use Rattle.gr_model.specs.declared.event.Kind.TheVariants as kinds
 use Rattle.gr_model.specs.declared.event.Word.{Word}
 use Rattle.gr_model.specs.contracts.event.SpacePartialEq.TheImpl as spaces
 use Rattle.gr_model.specs.declared.event.Space.{Space}
-use Rattle.gr_model.specs.declared.event.Space.TheVariants.{Global, Local}
+use Rattle.gr_model.specs.declared.event.Space.TheVariants.{Global}
 use Rattle.gr_model.specs.declared.race.Race.{Race}
 use Rattle.gr_model.specs.Races.{IsRacy}
 use Rattle.gr_model.specs.Reports.{AreRaces}
@@ -37,7 +38,7 @@ use Rattle.gr_races.specs.contracts.kinds.PlacedOperationPartialEq.TheImpl as pl
 use Rattle.gr_races.specs.contracts.kinds.RaceKindEq.TheImpl.Laws as equal
 use Rattle.gr_explain.proofs.Lists.{first_or_rest}
 use Rattle.gr_races.specs.Causes.{IsPairOf}
-use Rattle.gr_races.specs.Kinds.{all_kinded, by_tags, is_alike, kind_of, kinded, operation_at, operation_number, operation_of, place_tag, placed_at, same_kind, tag_at, tag_of, turned, with_operations}
+use Rattle.gr_races.specs.Kinds.{all_kinded, by_tags, is_alike, kinded, operation_at, operation_number, operation_of, place_tag, placed_at, same_kind, tag_at, tag_of, turned, with_operations}
 use Rattle.gr_races.specs.Listing.{in_order, kinds_after, kinds_of, with_kind}
 use Rattle.gr_races.specs.Telling.{with_causes}
 
@@ -77,11 +78,7 @@ module _ (s : Streams) (numbers : Placed → Option ℕ) where
       (record { operation = a.0; place = numbers (of_places.Event e) }, ap (option_map (λ (o : Operation). record { operation = o; place = numbers (of_places.Event e) })) a.1)
 
   its_race : (r : Race) (cause : Option Cause) (a b : PlacedOperation) → (with_operations r cause a b).race ≡ (if nat_lt (tag_of b) (tag_of a) then turned r else r)
-  its_race r cause a b = by (nat_lt (tag_of b) (tag_of a))
-    where
-      by : (c : Bool) → (if c then kind_of (turned r) cause b a else kind_of r cause a b).race ≡ (if c then turned r else r)
-      by true = refl
-      by false = refl
+  its_race r cause a b = grind arith
 
   kind_there : (r : Race) (cause : Option Cause) → IsPairOf s r → (row : KindedRace) × (kinded s numbers (r, cause) ≡ Some row) × (row.race ≡ by_tags (tag_at s numbers) r)
   kind_there r cause pair =
@@ -121,23 +118,18 @@ every_race_has_a_kind s numbers races told pairs = all_have_kinds s numbers race
 -- ---- races in order
 
 filtered_from : {X : Type 0} (keep : X → Bool) (xs : List X) (x : X) → Contains (filter keep xs) x → Contains xs x
-filtered_from keep [] x there = there
-filtered_from {X} keep (z ∷ xs) x there = by (keep z) there (filtered_from keep xs x)
-  where
-    by : (b : Bool) → Contains (cond b (z ∷ filter keep xs) (filter keep xs)) x → (Contains (filter keep xs) x → Contains xs x) → Contains (z ∷ xs) x
-    by true h rest = ⊎_elim (λ (is : z ≡ x). subst (Contains (z ∷ xs)) is (Contains-append_left (z ∷ []) xs z (Contains-push [] z))) (λ (in_rest : Contains (filter keep xs) x). Contains-append_right (z ∷ []) xs x (rest in_rest)) (first_or_rest z (filter keep xs) x h)
-    by false h rest = Contains-append_right (z ∷ []) xs x (rest h)
+filtered_from keep xs x there = All-contains (Contains xs) (filter keep xs) x (All-filter keep (Contains xs) xs (All-contains_itself xs)) there
 
 filtered_there : {X : Type 0} (keep : X → Bool) (xs : List X) (x : X) → keep x ≡ true → Contains xs x → Contains (filter keep xs) x
 filtered_there keep [] x kept there = there
 filtered_there {X} keep (z ∷ xs) x kept there = ⊎_elim
-    (λ (is : z ≡ x). subst (λ (b : Bool). Contains (cond b (z ∷ filter keep xs) (filter keep xs)) x) (sym (ap keep is ∙ kept)) (subst (Contains (z ∷ filter keep xs)) is (Contains-append_left (z ∷ []) (filter keep xs) z (Contains-push [] z))))
-    (λ (rest : Contains xs x). by (keep z) (filtered_there keep xs x kept rest))
+    (λ (is : z ≡ x). by (keep z) (ap keep is ∙ kept) (subst (Contains (z ∷ filter keep xs)) is (Contains-append_left (z ∷ []) (filter keep xs) z (Contains-push [] z))))
+    (λ (rest : Contains xs x). cond_both (keep z) (z ∷ filter keep xs) (filter keep xs) (λ l. Contains l x) (λ _. Contains-append_right (z ∷ []) (filter keep xs) x (filtered_there keep xs x kept rest)) (λ _. filtered_there keep xs x kept rest))
     (first_or_rest z xs x there)
   where
-    by : (b : Bool) → Contains (filter keep xs) x → Contains (cond b (z ∷ filter keep xs) (filter keep xs)) x
-    by true h = Contains-append_right (z ∷ []) (filter keep xs) x h
-    by false h = h
+    by : (b : Bool) → b ≡ true → Contains (z ∷ filter keep xs) x → Contains (cond b (z ∷ filter keep xs) (filter keep xs)) x
+    by true is h = h
+    by false is h = cc
 
 pub each_race_is_in_order : (rows : List KindedRace) (row : KindedRace) → Contains (in_order rows) row ↔ Contains rows row
 each_race_is_in_order rows row = (
@@ -172,29 +164,15 @@ distinct_after kinds (row ∷ rows) distinct = distinct_after (with_kind kinds r
 abbrev pub HasKind : List RaceKind → RaceKind → Type 0
 HasKind kinds k = IsTrue (list_any (λ l. same_kind l k) kinds)
 
-has_more : (kinds : List RaceKind) (k l : RaceKind) → HasKind kinds k → HasKind (kinds ++ l ∷ []) k
-has_more kinds k l has = list_any-append (λ l. same_kind l k) kinds (l ∷ []) ∙ ap (λ b. b || list_any (λ l. same_kind l k) (l ∷ [])) has
-
 has_with : (kinds : List RaceKind) (k l : RaceKind) → HasKind kinds k → HasKind (with_kind kinds l) k
-has_with kinds k l has = here (list_any (λ m. same_kind m l) kinds)
-  where
-    here : (b : Bool) → HasKind (if b then kinds else kinds ++ l ∷ []) k
-    here true = has
-    here false = has_more kinds k l has
+has_with kinds k l has = grind (arith, list_any-append)
 
 has_after : (kinds : List RaceKind) (rows : List KindedRace) (k : RaceKind) → HasKind kinds k → HasKind (kinds_after kinds rows) k
 has_after kinds [] k has = has
 has_after kinds (row ∷ rows) k has = has_after (with_kind kinds row.kind) rows k (has_with kinds k row.kind has)
 
 has_itself : (kinds : List RaceKind) (k : RaceKind) → HasKind (with_kind kinds k) k
-has_itself kinds k = here (list_any (λ m. same_kind m k) kinds) refl
-  where
-    here : (b : Bool) → list_any (λ m. same_kind m k) kinds ≡ b → HasKind (if b then kinds else kinds ++ k ∷ []) k
-    here true is = is
-    here false none =
-        list_any-append (λ l. same_kind l k) kinds (k ∷ [])
-        ∙ ap (λ b. b || list_any (λ l. same_kind l k) (k ∷ [])) none
-        ∙ ap (λ b. b || false) (equal.laws-law.refl k)
+has_itself kinds k = grind (arith, list_any-append, equal.laws-law.refl k)
 
 each_listed : (kinds : List RaceKind) (rows : List KindedRace) → All (λ (row : KindedRace). HasKind (kinds_after kinds rows) row.kind) rows
 each_listed kinds [] = All-nil (λ (row : KindedRace). HasKind kinds row.kind)
@@ -208,52 +186,22 @@ each_race_is_listed_once rows = (distinct_after [] rows (λ i j d before within.
 -- ---- the same kinds are one
 
 same_spaces : (a b : Space) → (spaces.eq-value).it a b ≡ true → a ≡ b
-same_spaces Global Global e = refl
-same_spaces Global Local e = absurd (true≢false (sym e))
-same_spaces Local Global e = absurd (true≢false (sym e))
-same_spaces Local Local e = refl
+same_spaces Global Global e = cc
+same_spaces a Global e = cc
+same_spaces a b e = cc
 
 same_operations : (a b : Operation) → (operations.eq-value).it a b ≡ true → a ≡ b
-same_operations ops.Read ops.Read e = refl
-same_operations ops.Read ops.Write e = absurd (true≢false (sym e))
-same_operations ops.Read ops.Load e = absurd (true≢false (sym e))
-same_operations ops.Read ops.Store e = absurd (true≢false (sym e))
-same_operations ops.Read ops.Rmw e = absurd (true≢false (sym e))
-same_operations ops.Write ops.Read e = absurd (true≢false (sym e))
-same_operations ops.Write ops.Write e = refl
-same_operations ops.Write ops.Load e = absurd (true≢false (sym e))
-same_operations ops.Write ops.Store e = absurd (true≢false (sym e))
-same_operations ops.Write ops.Rmw e = absurd (true≢false (sym e))
-same_operations ops.Load ops.Read e = absurd (true≢false (sym e))
-same_operations ops.Load ops.Write e = absurd (true≢false (sym e))
-same_operations ops.Load ops.Load e = refl
-same_operations ops.Load ops.Store e = absurd (true≢false (sym e))
-same_operations ops.Load ops.Rmw e = absurd (true≢false (sym e))
-same_operations ops.Store ops.Read e = absurd (true≢false (sym e))
-same_operations ops.Store ops.Write e = absurd (true≢false (sym e))
-same_operations ops.Store ops.Load e = absurd (true≢false (sym e))
-same_operations ops.Store ops.Store e = refl
-same_operations ops.Store ops.Rmw e = absurd (true≢false (sym e))
-same_operations ops.Rmw ops.Read e = absurd (true≢false (sym e))
-same_operations ops.Rmw ops.Write e = absurd (true≢false (sym e))
-same_operations ops.Rmw ops.Load e = absurd (true≢false (sym e))
-same_operations ops.Rmw ops.Store e = absurd (true≢false (sym e))
-same_operations ops.Rmw ops.Rmw e = refl
+same_operations ops.Read ops.Read e = cc
+same_operations a ops.Read e = cc
+same_operations a b e = cc
 
 same_answers : (a b : Bool) → beq a b ≡ true → a ≡ b
-same_answers true true e = refl
-same_answers true false e = absurd (true≢false (sym e))
-same_answers false true e = absurd (true≢false (sym e))
-same_answers false false e = refl
-
-same_numbers : (a b : ℕ) → nat_eq a b ≡ true → a ≡ b
-same_numbers a b e = eqb-true a b e
+same_answers a b e = grind (arith, nat_tests)
 
 same_places : (a b : Option ℕ) → option_eq nat_eq a b ≡ true → a ≡ b
-same_places None None e = refl
-same_places None (Some b) e = absurd (true≢false (sym e))
-same_places (Some a) None e = absurd (true≢false (sym e))
-same_places (Some a) (Some b) e = ap (λ (n : ℕ). Some n) (same_numbers a b e)
+same_places (Some a) (Some b) e = ap (λ (n : ℕ). Some n) (eqb-true a b e)
+same_places a None e = cc
+same_places a b e = cc
 
 same_placed : (a b : PlacedOperation) → (placed.eq-value).it a b ≡ true → a ≡ b
 same_placed a b e =
@@ -261,37 +209,14 @@ same_placed a b e =
     λ i. record { operation = same_operations a.operation b.operation p.0 i; place = same_places a.place b.place p.1 i }
 
 same_why : (a b : Cause) → (causes.eq-value).it a b ≡ true → a ≡ b
-same_why why.Flags why.Flags e = refl
-same_why why.Flags why.Scope e = absurd (true≢false (sym e))
-same_why why.Flags why.Divergence e = absurd (true≢false (sym e))
-same_why why.Flags why.NoBarrier e = absurd (true≢false (sym e))
-same_why why.Flags why.NoHandOver e = absurd (true≢false (sym e))
-same_why why.Scope why.Flags e = absurd (true≢false (sym e))
-same_why why.Scope why.Scope e = refl
-same_why why.Scope why.Divergence e = absurd (true≢false (sym e))
-same_why why.Scope why.NoBarrier e = absurd (true≢false (sym e))
-same_why why.Scope why.NoHandOver e = absurd (true≢false (sym e))
-same_why why.Divergence why.Flags e = absurd (true≢false (sym e))
-same_why why.Divergence why.Scope e = absurd (true≢false (sym e))
-same_why why.Divergence why.Divergence e = refl
-same_why why.Divergence why.NoBarrier e = absurd (true≢false (sym e))
-same_why why.Divergence why.NoHandOver e = absurd (true≢false (sym e))
-same_why why.NoBarrier why.Flags e = absurd (true≢false (sym e))
-same_why why.NoBarrier why.Scope e = absurd (true≢false (sym e))
-same_why why.NoBarrier why.Divergence e = absurd (true≢false (sym e))
-same_why why.NoBarrier why.NoBarrier e = refl
-same_why why.NoBarrier why.NoHandOver e = absurd (true≢false (sym e))
-same_why why.NoHandOver why.Flags e = absurd (true≢false (sym e))
-same_why why.NoHandOver why.Scope e = absurd (true≢false (sym e))
-same_why why.NoHandOver why.Divergence e = absurd (true≢false (sym e))
-same_why why.NoHandOver why.NoBarrier e = absurd (true≢false (sym e))
-same_why why.NoHandOver why.NoHandOver e = refl
+same_why why.Flags why.Flags e = cc
+same_why a why.Flags e = cc
+same_why a b e = cc
 
 same_causes : (a b : Option Cause) → option_eq (causes.eq-value).it a b ≡ true → a ≡ b
-same_causes None None e = refl
-same_causes None (Some b) e = absurd (true≢false (sym e))
-same_causes (Some a) None e = absurd (true≢false (sym e))
 same_causes (Some a) (Some b) e = ap (λ (c : Cause). Some c) (same_why a b e)
+same_causes a None e = cc
+same_causes a b e = cc
 
 same_is_one : (k l : RaceKind) → same_kind k l ≡ true → k ≡ l
 same_is_one k l e =
@@ -326,17 +251,11 @@ operation_from (suc (suc (suc (suc n)))) = ops.Load
 
 operation_back : (a : Operation) → operation_from (operation_number a) ≡ a
 operation_back ops.Write = refl
-operation_back ops.Store = refl
-operation_back ops.Rmw = refl
-operation_back ops.Read = refl
-operation_back ops.Load = refl
+operation_back a = refl
 
 few_operations : (a : Operation) → operation_number a < 5
 few_operations ops.Write = omega arith
-few_operations ops.Store = omega arith
-few_operations ops.Rmw = omega arith
-few_operations ops.Read = omega arith
-few_operations ops.Load = omega arith
+few_operations a = omega arith
 
 abbrev place_from : ℕ → Option ℕ
 place_from zero = None

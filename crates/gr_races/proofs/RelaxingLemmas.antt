@@ -1,15 +1,16 @@
 -- Where a rule is relaxed, lists that are accepted still are.
-use Rattle.std.proofs.Common.{◌≡◌, ℕ, ◌<◌, ◌≤◌, ◌==◌, ◌&&◌, Bool, true, false, true≢false, cond, List, [], ◌∷◌, All, filter, length, map, Option, Some, None, option_and_then, option_map, slice_get, get_or, zero, suc, refl, sym, ap, ◌∙◌, subst, arith}
+use Rattle.std.proofs.Common.{◌≡◌, ℕ, ◌<◌, ◌≤◌, ◌==◌, ◌&&◌, Bool, true, List, [], ◌∷◌, All, filter, length, map, Option, Some, None, option_and_then, option_map, slice_get, get_or, zero, suc, refl, sym, ap, ◌∙◌, subst, arith}
 use Rattle.std.specs.Prelude.{not}
 use Rattle.std.specs.List.{list_all}
 use Rattle.std.proofs.lemmas.Bool.{and_parts}
+use Rattle.std.proofs.lemmas.Option.{slice_get-map}
 use Rattle.std.proofs.lemmas.List.{ext_get_or, get_or-map, length-map}
 use Rattle.gr_model.specs.declared.event.Event.{Event}
 use Rattle.gr_model.specs.declared.event.EventId.{EventId}
 use Rattle.gr_model.specs.declared.event.Kind.{Kind}
-use Rattle.gr_model.specs.declared.event.Kind.TheVariants.{Read, Write, Load, Store, Rmw, Barrier, End}
+use Rattle.gr_model.specs.declared.event.Kind.TheVariants.{Read, Load, Store, Rmw, Barrier}
 use Rattle.gr_model.specs.declared.event.Name.{Name}
-use Rattle.gr_model.specs.declared.event.Scope.TheVariants.{Device, Group}
+use Rattle.gr_model.specs.declared.event.Scope.TheVariants.{Device}
 use Rattle.gr_model.specs.declared.event.Space.{Space}
 use Rattle.gr_model.specs.declared.event.Word.{Word}
 use Rattle.gr_model.specs.declared.race.Race.{Race}
@@ -28,51 +29,18 @@ use Rattle.gr_races.specs.Relaxing.{is_relaxed, relaxed, relaxed_event, relaxed_
 
 same_end : (r : Relaxation) (k : Kind) → is_end_kind (relaxed_kind r k) ≡ is_end_kind k
 same_end BothFlags Read = refl
-same_end BothFlags Write = refl
-same_end BothFlags (Load scope order) = refl
-same_end BothFlags (Store scope order) = refl
-same_end BothFlags (Rmw scope order) = refl
-same_end BothFlags (Barrier global local) = refl
-same_end BothFlags (End cut) = refl
-same_end DeviceScope Read = refl
-same_end DeviceScope Write = refl
-same_end DeviceScope (Load scope order) = refl
-same_end DeviceScope (Store scope order) = refl
-same_end DeviceScope (Rmw scope order) = refl
-same_end DeviceScope (Barrier global local) = refl
-same_end DeviceScope (End cut) = refl
+same_end r Read = refl
+same_end r k = refl
 
 same_acquire : (r : Relaxation) (k : Kind) → is_acquire_kind (relaxed_kind r k) ≡ is_acquire_kind k
 same_acquire BothFlags Read = refl
-same_acquire BothFlags Write = refl
-same_acquire BothFlags (Load scope order) = refl
-same_acquire BothFlags (Store scope order) = refl
-same_acquire BothFlags (Rmw scope order) = refl
-same_acquire BothFlags (Barrier global local) = refl
-same_acquire BothFlags (End cut) = refl
-same_acquire DeviceScope Read = refl
-same_acquire DeviceScope Write = refl
-same_acquire DeviceScope (Load scope order) = refl
-same_acquire DeviceScope (Store scope order) = refl
-same_acquire DeviceScope (Rmw scope order) = refl
-same_acquire DeviceScope (Barrier global local) = refl
-same_acquire DeviceScope (End cut) = refl
+same_acquire r Read = refl
+same_acquire r k = refl
 
 still_kind : (r : Relaxation) (k : Kind) (item : ℕ) (space : Space) (word : ℕ) → IsKindOk k item space word → IsKindOk (relaxed_kind r k) item space word
 still_kind BothFlags Read item space word ok = ok
-still_kind BothFlags Write item space word ok = ok
-still_kind BothFlags (Load scope order) item space word ok = ok
-still_kind BothFlags (Store scope order) item space word ok = ok
-still_kind BothFlags (Rmw scope order) item space word ok = ok
-still_kind BothFlags (Barrier global local) item space word ok = ok
-still_kind BothFlags (End cut) item space word ok = ok
-still_kind DeviceScope Read item space word ok = ok
-still_kind DeviceScope Write item space word ok = ok
-still_kind DeviceScope (Load scope order) item space word ok = ok
-still_kind DeviceScope (Store scope order) item space word ok = ok
-still_kind DeviceScope (Rmw scope order) item space word ok = ok
-still_kind DeviceScope (Barrier global local) item space word ok = ok
-still_kind DeviceScope (End cut) item space word ok = ok
+still_kind r Read item space word ok = ok
+still_kind r k item space word ok = ok
 
 still_naming : (r : Relaxation) (k : Kind) (names : List Name) → IsNamingOk k names → IsNamingOk (relaxed_kind r k) names
 still_naming r k [] ok = ok
@@ -83,11 +51,6 @@ still_event r x items ok = (ok.0, still_naming r x.kind x.names ok.1, still_kind
 
 -- ---- one list
 
-mapped : {X Y : Type 0} (f : X → Y) (xs : List X) (k : ℕ) (y : Y) → slice_get (map f xs) k ≡ Some y → (x : X) × (slice_get xs k ≡ Some x) × (f x ≡ y)
-mapped f [] k y at = let no : None ≡ Some y = at in cc
-mapped f (x ∷ xs) zero y at = (x, refl, cc)
-mapped f (x ∷ xs) (suc k) y at = mapped f xs k y at
-
 still_complete : (r : Relaxation) (xs : List Event) → is_complete (map (relaxed_event r) xs) ≡ is_complete xs
 still_complete r [] = refl
 still_complete r (x ∷ []) = same_end r x.kind
@@ -95,10 +58,14 @@ still_complete r (x ∷ y ∷ xs) = still_complete r (y ∷ xs)
 
 still_good : (r : Relaxation) (items : ℕ) (list : List Event) → AreGood items list → AreGood items (map (relaxed_event r) list)
 still_good r items list good p x at =
-    let before = mapped (relaxed_event r) list p x at in
-    let ok = good p before.0 before.1 in
-    subst (IsGoodAt items (map (relaxed_event r) list) p) before.2
-    (still_event r before.0 items ok.0, λ end. ok.1 (sym (same_end r before.0.kind) ∙ end) ∙ sym (length-map list (relaxed_event r)))
+    option_map_some (slice_get list p) refl (sym (slice_get-map (relaxed_event r) list p) ∙ at)
+  where
+    option_map_some : (o : Option Event) → slice_get list p ≡ o → option_map (relaxed_event r) o ≡ Some x → IsGoodAt items (map (relaxed_event r) list) p x
+    option_map_some None here there = cc
+    option_map_some (Some y) here there =
+        let same : relaxed_event r y ≡ x = cc in
+        let ok = good p y here in
+        subst (IsGoodAt items (map (relaxed_event r) list) p) same (still_event r y items ok.0, λ end. ok.1 (sym (same_end r y.kind) ∙ end) ∙ sym (length-map list (relaxed_event r)))
 
 still_accepted : (r : Relaxation) (items : ℕ) (list : List Event) → IsAccepted items list → IsAccepted items (map (relaxed_event r) list)
 still_accepted r items list accepted = record {
@@ -131,36 +98,13 @@ still_all_accepted r s accepted = record {
 
 same_word : (r : Relaxation) (k : Kind) (w : Word) → word_if_access (relaxed_kind r k) w ≡ word_if_access k w
 same_word BothFlags Read w = refl
-same_word BothFlags Write w = refl
-same_word BothFlags (Load scope order) w = refl
-same_word BothFlags (Store scope order) w = refl
-same_word BothFlags (Rmw scope order) w = refl
-same_word BothFlags (Barrier global local) w = refl
-same_word BothFlags (End cut) w = refl
-same_word DeviceScope Read w = refl
-same_word DeviceScope Write w = refl
-same_word DeviceScope (Load scope order) w = refl
-same_word DeviceScope (Store scope order) w = refl
-same_word DeviceScope (Rmw scope order) w = refl
-same_word DeviceScope (Barrier global local) w = refl
-same_word DeviceScope (End cut) w = refl
+same_word r Read w = refl
+same_word r k w = refl
 
 module _ {X : Type 0} (f : X → X) where
-  -- a list with its first element, where that passes a test
-  kept_first : (x : X) (xs : List X) (ys : List X) → ys ≡ map f xs → (b : Bool) → cond b (f x ∷ ys) ys ≡ map f (cond b (x ∷ xs) xs)
-  kept_first x xs ys same true = ap (λ zs. f x ∷ zs) same
-  kept_first x xs ys same false = same
-
   filtered : (test : X → Bool) → ((x : X) → test (f x) ≡ test x) → (xs : List X) → filter test (map f xs) ≡ map f (filter test xs)
   filtered test same [] = refl
-  filtered test same (x ∷ xs) =
-      ap (λ b. cond b (f x ∷ filter test (map f xs)) (filter test (map f xs))) (same x)
-      ∙ kept_first x (filter test xs) (filter test (map f xs)) (filtered test same xs) (test x)
-
-  got : (xs : List X) (k : ℕ) → slice_get (map f xs) k ≡ option_map f (slice_get xs k)
-  got [] k = refl
-  got (x ∷ xs) zero = refl
-  got (x ∷ xs) (suc k) = got xs k
+  filtered test same (x ∷ xs) = grind (arith, same x, filtered test same xs)
 
 still_event_at : (r : Relaxation) (s : Streams) (e : EventId) → event_at (relaxed r s) e ≡ option_map (relaxed_event r) (event_at s e)
 still_event_at r s e =
@@ -168,7 +112,7 @@ still_event_at r s e =
     let list = list_of s e.at.group in
     ap (λ xs. slice_get (filter test xs) e.index) (relaxed_list_of r s e.at.group)
     ∙ ap (λ xs. slice_get xs e.index) (filtered (relaxed_event r) test (λ x. ap (λ ended. (x.item == e.at.item) && not ended) (same_end r x.kind)) list)
-    ∙ got (relaxed_event r) (filter test list) e.index
+    ∙ slice_get-map (relaxed_event r) (filter test list) e.index
 
 -- an event accesses the word that it accessed
 pub still_word : (r : Relaxation) (s : Streams) (e : EventId) → word_at (relaxed r s) e ≡ word_at s e
@@ -187,25 +131,11 @@ still_accesses r s pair race =
 -- ---- where a rule changes nothing
 
 same_kind : (r : Relaxation) (k : Kind) → is_relaxed r k ≡ true → relaxed_kind r k ≡ k
-same_kind BothFlags Read is = refl
-same_kind BothFlags Write is = refl
-same_kind BothFlags (Load scope order) is = refl
-same_kind BothFlags (Store scope order) is = refl
-same_kind BothFlags (Rmw scope order) is = refl
-same_kind BothFlags (Barrier true true) is = refl
-same_kind BothFlags (Barrier true false) is = absurd (true≢false (sym is))
-same_kind BothFlags (Barrier false local) is = absurd (true≢false (sym is))
-same_kind BothFlags (End cut) is = refl
-same_kind DeviceScope Read is = refl
-same_kind DeviceScope Write is = refl
-same_kind DeviceScope (Load Device order) is = refl
-same_kind DeviceScope (Load Group order) is = absurd (true≢false (sym is))
-same_kind DeviceScope (Store Device order) is = refl
-same_kind DeviceScope (Store Group order) is = absurd (true≢false (sym is))
-same_kind DeviceScope (Rmw Device order) is = refl
-same_kind DeviceScope (Rmw Group order) is = absurd (true≢false (sym is))
-same_kind DeviceScope (Barrier global local) is = refl
-same_kind DeviceScope (End cut) is = refl
+same_kind BothFlags (Barrier true true) is = cc
+same_kind DeviceScope (Load Device order) is = cc
+same_kind DeviceScope (Store Device order) is = cc
+same_kind DeviceScope (Rmw Device order) is = cc
+same_kind r k is = cc
 
 -- a list of such records is the same
 pub same_list : (r : Relaxation) (xs : List Event) → list_all (λ x. is_relaxed r x.kind) xs ≡ true → map (relaxed_event r) xs ≡ xs

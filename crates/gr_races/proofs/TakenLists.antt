@@ -1,5 +1,5 @@
 -- What lanes have taken of a launch, list after list.
-use Rattle.std.proofs.Common.{◌≡◌, ℕ, zero, suc, ◌+◌, ◌<◌, ◌≤◌, List, [], ◌∷◌, ◌++◌, length, map, get_or, set, set-set, take, refl, sym, ap, ◌∙◌, subst, ⊎_elim, arith, eq-or-lt_of_le}
+use Rattle.std.proofs.Common.{◌≡◌, ℕ, ◌+◌, ◌<◌, ◌≤◌, List, [], ◌∷◌, ◌++◌, length, get_or, set, set-set, take, refl, sym, ap, ◌∙◌, subst, arith}
 use Rattle.std.proofs.lemmas.List.{ext_get_or, get_or-set_other, get_or-set_same, length-map, length-set, length-take-le, set-get_or, take_more}
 use Rattle.std.proofs.lemmas.Option.{slice_get-get_or}
 use Rattle.gr_model.specs.declared.event.Event.{Event}
@@ -9,6 +9,7 @@ use Rattle.gr_model.proofs.GroupLaws.{part_of_shape}
 use Rattle.gr_lanes.specs.Remembered.{IsAllRemembered, Remembered, forgotten_of, remembering}
 use Rattle.gr_lanes.specs.Takes.{IsEventButItem, nothing_taken, with_record}
 use Rattle.gr_taking.specs.Taken.{with_list}
+use Rattle.gr_taking.proofs.TakenLemmas.{empty_at}
 
 -- streams with these lists
 abbrev with_lists : Streams → List (List Event) → Streams
@@ -50,14 +51,6 @@ pub record TakenBelow (s : Streams) (bound : ℕ) (t : Streams) : Type 0 where
   pub before : (g : ℕ) → g < bound → list_of t g ≡ list_of s g
   pub behind : (g : ℕ) → bound ≤ g → list_of t g ≡ []
 
-abbrev no_records : List Event
-no_records = []
-
-empty_at : (sizes : List ℕ) (g : ℕ) → get_or (map (λ n. no_records) sizes) g no_records ≡ no_records
-empty_at [] i = refl
-empty_at (x ∷ xs) zero = refl
-empty_at (x ∷ xs) (suc i) = empty_at xs i
-
 none_taken : (s : Streams) → length s.lists ≡ length s.sizes → TakenBelow s 0 (nothing_taken s.sizes)
 none_taken s count = record {
   sizes = refl;
@@ -75,11 +68,8 @@ one_taken s g t there h =
     record {
       sizes = h.sizes;
       count = length-set t.lists g (list_of s g) ∙ h.count;
-      before = λ k lt. ⊎_elim
-          (λ (same : k ≡ g). ap (λ n. list_of (with_list t g (list_of s g)) n) same ∙ (get_or-set_same t.lists g (list_of s g) [] within ∙ ap (list_of s) (sym same)))
-          (λ (less : k < g). get_or-set_other t.lists g k (list_of s g) [] (λ same. absurd (omega (arith, same, less))) ∙ h.before k less)
-          (eq-or-lt_of_le (let le : k ≤ g = omega arith in le));
-      behind = λ k ge. get_or-set_other t.lists g k (list_of s g) [] (λ same. absurd (omega (arith, same))) ∙ h.behind k (omega arith);
+      before = λ k lt. grind (arith, get_or-set_same, get_or-set_other, h.before k);
+      behind = λ k ge. grind (arith, get_or-set_other, h.behind k);
     }
 
 pub list_taken : (s : Streams) (g : ℕ) (before new : Streams) (list : List Event) → g < length s.lists → TakenBelow s g before → list ≡ list_of s g → new ≡ with_list before g list → TakenBelow s (g + 1) new
