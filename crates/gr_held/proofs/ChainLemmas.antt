@@ -1,14 +1,14 @@
 -- Chains that grow by a link.
-use Rattle.std.proofs.Common.{◌≡◌, ℕ, zero, suc, ◌+◌, ◌<◌, List, [], ◌∷◌, ◌++◌, length, Option, None, Some, option_map, slice_get, refl, sym, ap, ◌∙◌, subst, ⊎_elim, arith}
-use Rattle.std.proofs.lemmas.Option.{slice_get_within}
+use Rattle.std.proofs.Common.{◌≡◌, ℕ, zero, suc, ◌+◌, ◌<◌, List, [], ◌∷◌, ◌++◌, length, Option, Some, slice_get, refl, subst, ⊎_elim, arith}
+use Rattle.std.proofs.lemmas.Option.{gets}
 use Rattle.gr_model.specs.declared.event.EventId.{EventId}
 use Rattle.gr_model.specs.Streams.{Streams}
 use Rattle.gr_model.proofs.Places.{slice_get-append}
 use Rattle.gr_steps.proofs.Orders.{split_last}
 use Rattle.gr_held.specs.declared.reason.Link.{Link}
 use Rattle.gr_held.specs.declared.reason.Reason.{Reason}
-use Rattle.gr_held.specs.declared.reason.Reason.TheVariants.{Behind, Release, Barrier, Absent, OtherWord, Circle}
-use Rattle.gr_held.specs.Chains.{IsCause, IsChainTo, IsReason, Lead, event_of, leads_to}
+use Rattle.gr_held.specs.declared.reason.Reason.TheVariants.{Circle}
+use Rattle.gr_held.specs.Chains.{IsChainTo, IsReason, Lead, event_of, leads_to}
 use Rattle.gr_held.specs.Waiting.{IsHeldEvent}
 
 -- a link for an event
@@ -17,43 +17,21 @@ link_of e r = record { event = e; reason = r }
 
 -- the events of links stay where more follow
 pub event_stays : (links more : List Link) (k : ℕ) (e : EventId) → event_of links k ≡ Some e → event_of (links ++ more) k ≡ Some e
-event_stays links more k e at = elim (slice_get links k) as (λ o. (slice_get links k ≡ o) → event_of (links ++ more) k ≡ Some e) [
-  | None ↦ λ none. let clash : None ≡ Some e = sym (ap (option_map (λ l. l.event)) none) ∙ at in cc
-  | Some l ↦ λ is. ap (option_map (λ l. l.event)) (slice_get-append links more k l is) ∙ (sym (ap (option_map (λ l. l.event)) is) ∙ at)
-] refl
+event_stays links more k e at = grind (arith, gets, slice_get-append)
 
 -- a link that has an event is there
 pub event_within : (links : List Link) (k : ℕ) (e : EventId) → event_of links k ≡ Some e → k < length links
-event_within links k e at = elim (slice_get links k) as (λ o. (slice_get links k ≡ o) → k < length links) [
-  | None ↦ λ none. let clash : None ≡ Some e = sym (ap (option_map (λ l. l.event)) none) ∙ at in cc
-  | Some l ↦ λ is. slice_get_within links k l is
-] refl
+event_within links k e at = grind (arith, gets)
 
 module _ (s : Streams) where
   -- and so do their reasons
   pub reason_stays : (links more : List Link) (p : ℕ) (e : EventId) (r : Reason) → IsReason s links p e r → IsReason s (links ++ more) p e r
-  reason_stays links more p e (Behind d) is = is
-  reason_stays links more p e (Release d) is = is
-  reason_stays links more p e (Barrier d) is = is
-  reason_stays links more p e (Absent n) is = is
-  reason_stays links more p e (OtherWord n) is = is
   reason_stays links more p e (Circle k) is = (is.0, event_stays links more k e is.1)
-
-  -- a cause is a reason in every chain
-  pub cause_is_reason : (links : List Link) (p : ℕ) (e : EventId) (r : Reason) → IsCause s e r → IsReason s links p e r
-  cause_is_reason links p e (Behind d) is = is
-  cause_is_reason links p e (Release d) is = is
-  cause_is_reason links p e (Barrier d) is = is
-  cause_is_reason links p e (Absent n) is = is
-  cause_is_reason links p e (OtherWord n) is = is
-  cause_is_reason links p e (Circle k) is = let none : k < 0 = is.0 in absurd (omega arith)
+  reason_stays links more p e r is = is
 
   lead_more : (from : Option EventId) (links : List Link) (e : EventId) (r : Reason) → Lead from links (Some e) → Lead from (links ++ link_of e r ∷ []) (leads_to r)
   lead_more from [] e r leads = (leads, refl)
   lead_more from (l ∷ links) e r leads = (leads.0, lead_more (leads_to l.reason) links e r leads.1)
-
-  pub chain_starts : (e : EventId) → IsChainTo s e [] (Some e)
-  chain_starts e = record { leads = refl; held = λ p l at. cc; reason = λ p l at. cc }
 
   -- a chain that leads to a held event, and a link of it
   pub chain_more : (e d : EventId) (links : List Link) (r : Reason) → IsHeldEvent s d → IsReason s links (length links) d r → IsChainTo s e links (Some d) → IsChainTo s e (links ++ link_of d r ∷ []) (leads_to r)

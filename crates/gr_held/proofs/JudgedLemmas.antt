@@ -1,6 +1,8 @@
 -- Where all that can be handled was handled, the events that are grounded are the first ones of their items.
-use Rattle.std.proofs.Common.{◌≡◌, ◌↔◌, ℕ, zero, suc, ◌+◌, ◌-◌, ◌<◌, ◌≤◌, List, [], ◌∷◌, drop, slice_get, refl, sym, ap, ◌∙◌, subst, ⊎_elim, arith}
+use Rattle.std.proofs.Common.{◌≡◌, ◌↔◌, ℕ, ◌+◌, ◌-◌, ◌<◌, ◌≤◌, List, drop, slice_get, refl, sym, ap, ◌∙◌, subst, ⊎_elim, arith}
 use Rattle.std.proofs.lemmas.Bool.{cases_lt}
+use Rattle.std.proofs.lemmas.Grind.{common_steps}
+use Rattle.std.proofs.lemmas.Option.{gets}
 use Rattle.gr_model.specs.declared.event.Event.{Event}
 use Rattle.gr_model.specs.declared.event.EventId.{EventId}
 use Rattle.gr_model.specs.declared.event.ItemId.{ItemId}
@@ -16,9 +18,7 @@ use Rattle.gr_lanes.specs.Remembered.{IsEventRemembered, Remembered, forgotten_o
 use Rattle.gr_held.specs.Waiting.{ForgetsGrounded, IsStuck}
 
 slice_get-drop : {X : Type 0} (n : ℕ) (xs : List X) (k : ℕ) → slice_get (drop n xs) k ≡ slice_get xs (n + k)
-slice_get-drop zero xs k = ap (slice_get xs) (let n : k ≡ 0 + k = omega arith in n)
-slice_get-drop (suc n) [] k = refl
-slice_get-drop (suc n) (x ∷ xs) k = slice_get-drop n xs k ∙ ap (slice_get (x ∷ xs)) (let m : suc (n + k) ≡ suc n + k = omega arith in m)
+slice_get-drop n xs k = grind (arith, common_steps, gets)
 
 module _ (s : Streams) (q : Sequence) (is : q.taken ≡ s) (done : IsDone q) where
   handled_grounded : (e : EventId) → IsIn q.handled e ↔ IsGrounded s e

@@ -1,7 +1,9 @@
 -- The items that a walk has visited.
-use Rattle.std.proofs.Common.{◌≡◌, ◌↔◌, Bool, false, IsTrue, true≢false, ℕ, suc, ◌-◌, ◌<◌, ◌≤◌, List, [], ◌∷◌, ◌++◌, length, Option, None, Some, refl, sym, ap, ◌∙◌, subst, ⊎_elim, arith, eq-or-lt_of_le}
+use Rattle.std.proofs.Common.{◌≡◌, ◌↔◌, Bool, false, IsTrue, true≢false, ℕ, suc, ◌-◌, ◌<◌, List, [], ◌∷◌, ◌++◌, length, Option, None, Some, refl, sym, ap, ◌∙◌, ⊎_elim, arith}
 use Rattle.std.specs.Prelude.{IfSome}
-use Rattle.std.proofs.lemmas.Bool.{cases_eq, cases_lt}
+use Rattle.std.proofs.lemmas.Bool.{cases_eq}
+use Rattle.std.proofs.lemmas.Grind.{common_steps}
+use Rattle.std.proofs.lemmas.Option.{gets}
 use Rattle.gr_model.specs.declared.event.EventId.{EventId}
 use Rattle.gr_model.specs.declared.event.ItemId.{ItemId}
 use Rattle.gr_model.specs.Shapes.{HasItem}
@@ -21,14 +23,7 @@ use Rattle.gr_held.proofs.ChainLemmas.{event_stays}
 module _ (s : Streams) where
   -- an item has one first held event
   one_first : (d e : EventId) → IsFirstHeld s d → IsFirstHeld s e → d.at ≡ e.at → d ≡ e
-  one_first d e a b at =
-      ⊎_elim
-      (λ (lt : d.index < e.index). absurd (a.held (b.passed d at lt)))
-      (λ (ge : e.index ≤ d.index). ⊎_elim
-      (λ (same : e.index ≡ d.index). same_event d e at (sym same))
-      (λ (lt : e.index < d.index). absurd (b.held (a.passed e (sym at) lt)))
-      (eq-or-lt_of_le ge))
-      (cases_lt d.index e.index)
+  one_first d e a b at = grind (arith, same_event d e at, a.held, b.held, a.passed e, b.passed d)
 
   -- the event at which the walk was before stands in a link
   pub linked : (links : List Link) (e : EventId) → IsFirstHeld s e → IsLinked s links e.at → (k : ℕ) × (event_of links k ≡ Some e)
@@ -44,8 +39,7 @@ module _ (s : Streams) where
   none_visited visited sizes same zero = record { shape = zero.shape ∙ same; each = λ i some. absurd (let none = zero.zero i in omega (arith, some, none)) }
 
   last_event : (links : List Link) (e : EventId) (r : Reason) → event_of (links ++ (record { event = e; reason = r }) ∷ []) (length links) ≡ Some e
-  last_event [] e r = refl
-  last_event (l ∷ links) e r = last_event links e r
+  last_event links e r = grind (arith, common_steps, gets)
 
   module _ (e : EventId) (held : IsHeldEvent s e) (first : IsFirstHeld s e) (links : List Link) (before after : Counts) (are : AreVisited s links before) (tick : IsTick before e.at after) where
     pub one_visited : (r : Reason) → AreVisited s (links ++ (record { event = e; reason = r }) ∷ []) after
@@ -76,10 +70,3 @@ if_some_all Q (Some x) q = q
 abbrev pub steps_left : Counts → List ℕ → Option EventId → ℕ
 steps_left visited sizes None = 0
 steps_left visited sizes (Some e) = suc (unvisited visited sizes)
-
-pub fewer_steps : (before after : Counts) (sizes : List ℕ) (e : EventId) (o next : Option EventId) → o ≡ Some e → IfSome next (λ d. unvisited after sizes < unvisited before sizes) → steps_left after sizes next < steps_left before sizes o
-fewer_steps before after sizes e o next is fewer = subst (λ (p : Option EventId). steps_left after sizes next < steps_left before sizes p) (sym is) (by_next next fewer)
-  where
-    by_next : (next : Option EventId) → IfSome next (λ d. unvisited after sizes < unvisited before sizes) → steps_left after sizes next < suc (unvisited before sizes)
-    by_next None fewer = omega arith
-    by_next (Some d) fewer = omega (arith, fewer)
