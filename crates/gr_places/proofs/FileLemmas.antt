@@ -1,5 +1,5 @@
 -- What is told of files that are open, or why nothing is.
-use Rattle.std.proofs.Common.{◌≡◌, ◌⊎◌, ℕ, ◌<◌, Bool, true, false, List, [], ◌∷◌, ◌++◌, Option, None, Some, Result, Ok, Err, inl, inr, map, length, ◌∙◌, ap, subst, sym, arith, true≢false}
+use Rattle.std.proofs.Common.{◌≡◌, ℕ, ◌<◌, true, List, [], ◌∷◌, ◌++◌, Option, None, Some, Result, Ok, Err, inl, inr, map, length, subst, sym, arith, true≢false}
 use Rattle.std.specs.Option.{is_some}
 use Rattle.std.specs.Prelude.{IfSome, option_map}
 use Rattle.gr_record.proofs.Outside.{at_known}
@@ -12,9 +12,6 @@ use Rattle.gr_places.specs.declared.sides_fault.SidesFault.TheVariants.{Buffers,
 use Rattle.gr_places.specs.Opening.{AreAllOpened, HoldsOfAllFiles, IsSidesFault, Pair, RefusesBuffers, RefusesPlaces, Say, known_of, listed}
 use Rattle.gr_places.specs.Sides.{SidesSaid}
 use Rattle.gr_places.specs.Files.{AreOpened, IsOpeningFault, IsShowFault}
-
-pub same_fault : (f h : Fault) → Run f ≡ Run h → f ≡ h
-same_fault f h is = cc
 
 module _ {T E : Type 0} (remaining : T → Option (List ℕ)) (Gives : List ℕ → Result T E → Type 0) (named : Pair (List ℕ)) (names : List (List ℕ)) (sides : Pair T) (files : List T) (opened : AreAllOpened Gives named names sides files) where
   pub unread : (f : Fault) → IsOutside f → IsSidesFault remaining Gives named names (Run f)

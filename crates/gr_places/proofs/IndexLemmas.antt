@@ -1,14 +1,14 @@
 -- The index of lines, one line before another.
-use Rattle.std.proofs.Common.{◌≡◌, ◌<◌, ◌+◌, ℕ, Bool, true, false, cond, ◌≤◌, List, [], arith, subst, ◌∷◌, Option, Some, None, Bor, ap, drop, get_or, length, map, refl, sym, ◌∙◌}
+use Rattle.std.proofs.Common.{◌≡◌, ◌<◌, ◌+◌, ℕ, Bool, cond, List, [], arith, ◌∷◌, Option, Some, Bor, ap, drop, get_or, length, map, refl, sym, ◌∙◌}
 use Rattle.std.specs.List.{position_from}
 use Rattle.std.proofs.lemmas.List.{at_drop_more, drop_all}
-use Rattle.std.specs.Option.{option_and_then, option_map}
+use Rattle.std.specs.Option.{option_map}
 use Rattle.gr_text.specs.LineReading.{same}
 use Rattle.gr_places.specs.declared.places.Placed.{Placed}
 use Rattle.gr_places.specs.declared.places.Placed.TheVariants.{Event, Site}
 use Rattle.gr_places.specs.declared.places.PlaceLine.{PlaceLine}
-use Rattle.gr_places.specs.PlaceIndexes.{AreNumbers, AreTexts, Indexed, Indexes, indexed, number_at, number_in, place_at, same_key, text_in}
-use Rattle.gr_places.specs.SideLines.{PlaceSaid, place_line, place_number, place_of, same_placed, text_number}
+use Rattle.gr_places.specs.PlaceIndexes.{AreTexts, number_in, same_key, text_in}
+use Rattle.gr_places.specs.SideLines.{PlaceSaid, place_line, place_of, same_placed}
 
 -- the numbers that are kept are those of the texts of lines, the first of which is line n
 abbrev pub AreNumbersFrom : ℕ → List (Bor (List ℕ) × ℕ) → List PlaceSaid → Type 0
@@ -25,11 +25,7 @@ same_keys (Site s) (Event f) = refl
 -- ---- one line before those that are kept
 
 text_over : (line : PlaceSaid) (text : Bor (List ℕ)) (rest : Option (Bor (List ℕ))) (lines : List PlaceSaid) (p : Placed) → line.text ≡ text.now → option_map (λ (t : Bor (List ℕ)). t.now) rest ≡ place_of lines p → option_map (λ (t : Bor (List ℕ)). t.now) (cond (same_key line.of p) (Some text) rest) ≡ place_of (line ∷ lines) p
-text_over line text rest lines p of more = rw (same_keys line.of p) (here (same_placed line.of p) refl)
-  where
-    here : (b : Bool) → same_placed line.of p ≡ b → option_map (λ (t : Bor (List ℕ)). t.now) (cond b (Some text) rest) ≡ place_of (line ∷ lines) p
-    here true e = rw e (ap (λ (t : List ℕ). Some t) (sym of))
-    here false e = rw e more
+text_over line text rest lines p of more = grind (arith, same_keys line.of p)
 
 module _ (lines : List PlaceLine) (i left : ℕ) (d : PlaceLine) (lt : i < length lines) (next : i + 1 ≡ left) where
   pub texts_more : (old new : List (Placed × Bor (List ℕ))) → ((p : Placed) → text_in new p ≡ cond (same_key (get_or lines i d).of p) (Some (get_or lines i d).text) (text_in old p)) → AreTexts old (map place_line (drop left lines)) → AreTexts new (map place_line (drop i lines))
@@ -59,15 +55,3 @@ none_said texts lines none p = ap (λ (ts : List (Placed × Bor (List ℕ))). op
 
 pub none_numbered : (numbers : List (Bor (List ℕ) × ℕ)) (lines : List PlaceLine) → numbers ≡ [] → AreNumbersFrom (length lines) numbers (map place_line (drop (length lines) lines))
 none_numbered numbers lines none t = ap (λ (ns : List (Bor (List ℕ) × ℕ)). number_in ns t) none ∙ ap (λ (ls : List PlaceLine). position_from (λ (l : PlaceSaid). same l.text t.now) (length lines) (map place_line ls)) (sym (none_left lines))
-
--- ---- the index of all lines
-
-pub indexes_from : (texts : List (Placed × Bor (List ℕ))) (numbers : List (Bor (List ℕ) × ℕ)) (lines : List PlaceSaid) → AreTexts texts lines → AreNumbers numbers lines → Indexes (indexed texts numbers) lines
-indexes_from texts numbers lines are_texts are_numbers = record {
-  places = are_texts;
-  numbers = λ p. here (text_in texts p) p (are_texts p);
-}
-  where
-    here : (o : Option (Bor (List ℕ))) (p : Placed) → option_map (λ (t : Bor (List ℕ)). t.now) o ≡ place_of lines p → option_and_then (number_in numbers) o ≡ place_number lines p
-    here None p is = ap (option_and_then (text_number lines)) is
-    here (Some text) p is = are_numbers text ∙ ap (option_and_then (text_number lines)) is

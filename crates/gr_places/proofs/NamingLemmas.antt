@@ -1,13 +1,15 @@
 -- Texts as NAME[INDEX], and the words of buffers that they say.
-use Rattle.std.proofs.Common.{◌≡◌, ◌≢◌, ℕ, suc, ◌+◌, ◌-◌, ◌^◌, ◌<◌, ◌≤◌, Bool, true, false, cond, List, [], ◌∷◌, ◌++◌, Option, Some, None, refl, sym, ap, subst, ◌∙◌, length, arith, nat_eq, take, drop, get_or, map, MatchOption}
-use Rattle.std.specs.Prelude.{◌&&◌, decimal, nat_le, nat_lt}
+use Rattle.std.proofs.Common.{◌≡◌, ◌≢◌, ℕ, suc, ◌-◌, ◌^◌, ◌<◌, ◌≤◌, Bool, true, false, cond, List, [], ◌∷◌, ◌++◌, Option, Some, None, refl, sym, ap, subst, ◌∙◌, length, arith, nat_eq, take, drop, get_or, map, MatchOption}
+use Rattle.std.specs.Prelude.{decimal}
 use Rattle.std.specs.List.{find}
 use Rattle.std.specs.Option.{is_some, option_map, option_and_then}
 use Rattle.std.specs.Cmp.Lexicographic.{pointwise, same_text, other_text}
-use Rattle.std.proofs.lemmas.Bool.{and_parts, eq-eqb, eqb-true, le-leb, leb-true, lt-ltb, ltb-true}
+use Rattle.std.proofs.lemmas.Bool.Decides.{nat_tests}
+use Rattle.std.proofs.lemmas.Option.{MatchOption-at_none, MatchOption-at_some}
+use Rattle.std.proofs.lemmas.Bool.{and_parts, cond_both, eq-eqb, eqb-true}
 use Rattle.std.proofs.lemmas.List.{append_cancel_left, append_cancel_right, drop_at, length-append, take-append-drop, take_at}
 use Rattle.gr_text.specs.LineReading as reading
-use Rattle.gr_text.proofs.LineNumbers.{chosen, number_back, number_found, same_is, same_self}
+use Rattle.gr_text.proofs.LineNumbers.{number_back, number_found, same_is, same_self}
 use Rattle.gr_model.specs.declared.event.Word.{Word}
 use Rattle.gr_model.specs.declared.event.Word.TheVariants.{Global, Local}
 use Rattle.gr_places.specs.declared.buffers.BufferLine.{BufferLine}
@@ -23,12 +25,10 @@ match_more A B P Q None f g m = f m
 match_more A B P Q (Some x) f g m = g x m
 
 pub when_none : {X : Type 0} (A : Type 0) (P : X → Type 0) (o : Option X) → o ≡ None → MatchOption o A P → A
-when_none A P None e m = m
-when_none A P (Some x) e m = absurd cc
+when_none A P o = MatchOption-at_none A P
 
 pub when_some : {X : Type 0} (A : Type 0) (P : X → Type 0) (o : Option X) (x : X) → o ≡ Some x → MatchOption o A P → P x
-when_some A P None x e m = absurd cc
-when_some A P (Some y) x e m = let same : y ≡ x = cc in subst P same m
+when_some A P o x = MatchOption-at_some A P x
 
 pub is_none : {X : Type 0} (A : Type 0) (P : X → Type 0) (o : Option X) → o ≡ None → A → MatchOption o A P
 is_none A P None e a = a
@@ -97,27 +97,13 @@ one_index name text k j kl jl a b =
 -- ---- a word and its place in a line
 
 within_found : (f words n k : ℕ) → index_within f words n ≡ Some k → (f ≤ n) × (n - f < words) × (n - f ≡ k)
-within_found f words n k e =
-    let c = chosen (nat_le f n && nat_lt (n - f) words) (n - f) k e in
-    let p = and_parts (nat_le f n) (nat_lt (n - f) words) c.0 in
-    (leb-true f n p.0, ltb-true (n - f) words p.1, c.1)
+within_found f words n k e = grind (arith, nat_tests)
 
 number_made : (f words n k : ℕ) → index_within f words n ≡ Some k → n < 2 ^ 32 → number_at f words k ≡ Some n
-number_made f words n k e lt =
-    let w = within_found f words n k e in
-    let at = w.0 in let among = w.1 in let is = w.2 in
-    let sum : f + k ≡ n = omega (arith, at, is) in
-    rw (lt-ltb k words (omega (arith, among, is)), lt-ltb (f + k) (2 ^ 32) (omega (arith, sum, lt))) (ap (λ (m : ℕ). Some m) sum)
+number_made f words n k e lt = grind (arith, nat_tests)
 
 index_made : (f words k n : ℕ) → number_at f words k ≡ Some n → (index_within f words n ≡ Some k) × (n < 2 ^ 32)
-index_made f words k n e =
-    let c = chosen (nat_lt k words && nat_lt (f + k) (2 ^ 32)) (f + k) n e in
-    let p = and_parts (nat_lt k words) (nat_lt (f + k) (2 ^ 32)) c.0 in
-    let among : k < words = ltb-true k words p.0 in
-    let small : f + k < 2 ^ 32 = ltb-true (f + k) (2 ^ 32) p.1 in
-    let is : f + k ≡ n = c.1 in
-    let back : n - f ≡ k = omega (arith, is) in
-    (rw (le-leb f n (omega (arith, is)), lt-ltb (n - f) words (omega (arith, among, back))) (ap (λ (m : ℕ). Some m) back), omega (arith, small, is))
+index_made f words k n e = grind (arith, nat_tests)
 
 word_made : (first : Word) (words k : ℕ) (w : Word) → index_from first words w ≡ Some k → number_of w < 2 ^ 32 → word_from first words k ≡ Some w
 word_made (Global f) words k (Global n) e lt = ap (option_map Global) (number_made f words n k e lt)
@@ -182,11 +168,10 @@ element_same (Some it) name k e =
 -- a line that is found is one of them, and passes
 found_line : (test : BufferLine → Bool) (lines : List BufferLine) (b : BufferLine) → find test lines ≡ Some b → (j : ℕ) × (j < length lines) × ((d : BufferLine) → get_or lines j d ≡ b) × (test b ≡ true)
 found_line test [] b e = absurd cc
-found_line test (l ∷ lines) b e = here (test l) refl e (found_line test lines b)
-  where
-    here : (t : Bool) → test l ≡ t → cond t (Some l) (find test lines) ≡ Some b → (find test lines ≡ Some b → (j : ℕ) × (j < length lines) × ((d : BufferLine) → get_or lines j d ≡ b) × (test b ≡ true)) → (j : ℕ) × (j < length (l ∷ lines)) × ((d : BufferLine) → get_or (l ∷ lines) j d ≡ b) × (test b ≡ true)
-    here true is f again = let same : l ≡ b = cc in (0, omega arith, (λ d. same), subst (λ (it : BufferLine). test it ≡ true) same is)
-    here false is f again = let more = again f in let lt = more.1 in (suc more.0, omega (arith, lt), (λ d. more.2 d), more.3)
+found_line test (l ∷ lines) b e = cond_both (test l) (Some l) (find test lines) (λ o. o ≡ Some b → (j : ℕ) × (j < length (l ∷ lines)) × ((d : BufferLine) → get_or (l ∷ lines) j d ≡ b) × (test b ≡ true))
+    (λ is at. let same : l ≡ b = cc in (0, omega arith, (λ d. same), subst (λ (it : BufferLine). test it ≡ true) same is))
+    (λ is at. let more = found_line test lines b at in let lt = more.1 in (suc more.0, omega (arith, lt), more.2, more.3))
+    e
 
 -- ---- how an index is read
 
@@ -224,10 +209,6 @@ this_word lines line text k v o t at found same =
     record { index = k; at_index = i.0; is_element = sym found ∙ same_element o line.name k same; is_text = t; small = i.1 }
 
 -- ---- the word of all lines
-
-pub said_whole : (lines : List BufferSaid) (line : BufferSaid) (text : List ℕ) (w : Word) → IsSaidIn lines line text w → IsSaid lines text w
-said_whole lines line text w s =
-    record { said = record { name = line.name; index = s.index }; is_element = s.is_element; is_text = s.is_text; small = s.small }
 
 and_then_some : {X Y : Type 0} (f : X → Option Y) (o : Option X) (y : Y) → option_and_then f o ≡ Some y → (x : X) × (o ≡ Some x) × (f x ≡ Some y)
 and_then_some f None y e = absurd cc

@@ -1,5 +1,5 @@
 -- What the lines of a file say, as a loop reads them, and what is found in them.
-use Rattle.std.proofs.Common.{◌≡◌, ℕ, ◌+◌, Bool, true, false, List, [], ◌∷◌, ◌++◌, Option, Some, None, Result, Ok, Err, refl, sym, ap, map, ◌∙◌, append_assoc, length, arith}
+use Rattle.std.proofs.Common.{◌≡◌, ℕ, ◌+◌, Bool, List, [], ◌∷◌, ◌++◌, Option, Some, None, Result, Ok, Err, refl, sym, ap, map, ◌∙◌, append_assoc, length, arith}
 use Rattle.std.specs.List.{find}
 use Rattle.std.specs.Option.{is_some, option_and_then, option_map}
 use Rattle.std.specs.Result.{MatchResult, result_ok}
@@ -17,10 +17,6 @@ use Rattle.gr_places.specs.SideLines.{BufferSaid, ElementSaid, PlaceSaid, buffer
 abbrev pub behind : {X : Type 0} → List X → Result (List X) ℕ → Result (List X) ℕ
 behind done (Ok xs) = Ok (done ++ xs)
 behind done (Err f) = Err f
-
-pub behind_nothing : {X : Type 0} (rest : Result (List X) ℕ) → behind [] rest ≡ rest
-behind_nothing (Ok xs) = refl
-behind_nothing (Err f) = refl
 
 pub behind_more : {X : Type 0} (done : List X) (n : ℕ) (x : X) (rest : Result (List X) ℕ) → behind done (said_next n (Some x) rest) ≡ behind (done ++ x ∷ []) rest
 behind_more done n x (Ok xs) = ap (λ (ys : List _). Ok ys) (sym (append_assoc done (x ∷ []) xs))
@@ -41,11 +37,7 @@ module _ {X : Type 0} (said : List ℕ → Option X) (done : List X) (n : ℕ) (
 -- the first that passes, seen through a view
 pub find_viewed : {X Y : Type 0} (view : X → Y) (test : Y → Bool) (xs : List X) → find test (map view xs) ≡ option_map view (find (λ x. test (view x)) xs)
 find_viewed view test [] = refl
-find_viewed view test (x ∷ xs) = here (test (view x)) refl (find_viewed view test xs)
-  where
-    here : (b : Bool) → test (view x) ≡ b → find test (map view xs) ≡ option_map view (find (λ x. test (view x)) xs) → find test (map view (x ∷ xs)) ≡ option_map view (find (λ x. test (view x)) (x ∷ xs))
-    here true e more = rw e refl
-    here false e more = rw e more
+find_viewed view test (x ∷ xs) = grind (arith, find_viewed view test xs)
 
 -- ---- the text at the end of a line
 

@@ -1,6 +1,6 @@
 -- What side files say of a word and of an event.
 -- Source: docs/FORMATS.md, "Side files".
-use Rattle.std.specs.Prelude.{List, [], map}
+use Rattle.std.specs.Prelude.{List, map}
 use Rattle.gr_places.specs.SideLines as lines
 use Rattle.gr_places.specs.declared.sides.Sides.{Sides}
 
@@ -11,7 +11,3 @@ pub record SidesSaid : Type 0 where
 
 abbrev pub sides_said : Sides → SidesSaid
 sides_said s = record { places = map lines.place_line s.places.now; buffers = map lines.buffer_line s.buffers.now }
-
--- nothing is said
-abbrev pub nothing_said : SidesSaid
-nothing_said = record { places = []; buffers = [] }

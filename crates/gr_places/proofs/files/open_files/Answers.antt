@@ -1,5 +1,5 @@
 -- Each file that is open has its name.
-use Rattle.std.proofs.Common.{◌≡◌, ◌∙◌, ap, append_assoc, map, subst, sym}
+use Rattle.std.proofs.Common.{◌∙◌, ap, append_assoc, map, sym}
 use Rattle.std.proofs.lemmas.Result.{err_from_is_err_and}
 use Rattle.std.specs.Fn.{FnReturnsAt}
 use Rattle.std.specs.Prelude.{◌++◌, option_map}

@@ -1,10 +1,8 @@
-use Rattle.std.proofs.Common.{◌≡◌, ℕ, ◌≤◌, ◌-◌, ◌∙◌, List, Option, Bor, ap, arith, drop, length, map, subst, sym}
+use Rattle.std.proofs.Common.{◌≡◌, ℕ, ◌-◌, arith, drop, map, subst}
 use Rattle.std.proofs.lemmas.Result.{err_from_is_err_and}
 use Rattle.gr_text.specs.LineReading.{same}
 use Rattle.gr_places.proofs.IndexLemmas.{AreNumbersFrom, numbers_more, none_numbered}
-use Rattle.gr_places.specs.PlaceIndexes.{AreNumbers, number_in}
-use Rattle.gr_places.specs.declared.places.PlaceLine.{PlaceLine}
-use Rattle.gr_places.specs.SideLines.{PlaceSaid, place_line, place_of}
+use Rattle.gr_places.specs.SideLines.{place_line}
 use Rattle.gr_places.proofs.index.numbers_of.Goals as goal
 
 pub loop-left-preserved : goal.loop-left-preserved

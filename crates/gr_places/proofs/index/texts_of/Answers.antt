@@ -1,9 +1,8 @@
-use Rattle.std.proofs.Common.{◌≡◌, ℕ, ◌≤◌, ◌-◌, ◌∙◌, List, Option, Bor, ap, arith, drop, length, map, subst, sym}
+use Rattle.std.proofs.Common.{◌≡◌, ℕ, ◌-◌, arith, drop, map, subst}
 use Rattle.std.proofs.lemmas.Result.{err_from_is_err_and}
 use Rattle.gr_places.proofs.IndexLemmas.{texts_more, none_said}
-use Rattle.gr_places.specs.PlaceIndexes.{AreTexts, text_in}
-use Rattle.gr_places.specs.declared.places.PlaceLine.{PlaceLine}
-use Rattle.gr_places.specs.SideLines.{PlaceSaid, place_line, place_of}
+use Rattle.gr_places.specs.PlaceIndexes.{AreTexts}
+use Rattle.gr_places.specs.SideLines.{place_line}
 use Rattle.gr_places.proofs.index.texts_of.Goals as goal
 
 pub loop-left-preserved : goal.loop-left-preserved
