@@ -4,7 +4,7 @@ use Rattle.std.specs.Prelude.{◌==◌, not, ◌&&◌, HoldsAt, MatchOption}
 use Rattle.std.specs.Borrow.{Bor}
 use Rattle.std.specs.Option.{option_copied}
 use Rattle.std.proofs.Math.Seq.{get_or-append_seam}
-use Rattle.std.proofs.lemmas.Bool.Decides.{Decides-eqb}
+use Rattle.std.proofs.lemmas.Bool.Decides.{nat_tests}
 use Rattle.std.proofs.lemmas.Bool.{and_parts, cases_lt, eqb-true}
 use Rattle.std.proofs.lemmas.Option.{slice_get-get_or, slice_get_past}
 use Rattle.std.proofs.lemmas.List.{get_or_append_left, get_or_past, get_or-set_other, get_or-set_same, length-append, length-take-le, take_more}
@@ -87,14 +87,7 @@ none_of_others items item list k good past = by_case (slice_get (filter (is_of i
 
 -- a place is added to those of one item
 pub place_added : (old new : List (List ℕ)) (k place : ℕ) (x : Event) → x.item ≡ k → is_end x ≡ false → k < length old → new ≡ set old k (get_or old k [] ++ place ∷ []) → (i : ℕ) → get_or new i [] ≡ cond (is_of i x) (get_or old i [] ++ place ∷ []) (get_or old i [])
-place_added old new k place x item on lt is i = ap (λ (l : List (List ℕ)). get_or l i []) is ∙ by_test (x.item == i) refl
-  where
-    by_test : (b : Bool) → (x.item == i) ≡ b → get_or (set old k (get_or old k [] ++ place ∷ [])) i [] ≡ cond (b && not (is_end x)) (get_or old i [] ++ place ∷ []) (get_or old i [])
-    by_test true t =
-        let same : k ≡ i = sym item ∙ eqb-true x.item i t in
-        subst (λ n. get_or (set old k (get_or old k [] ++ place ∷ [])) n [] ≡ cond (not (is_end x)) (get_or old n [] ++ place ∷ []) (get_or old n [])) same
-        (get_or-set_same old k (get_or old k [] ++ place ∷ []) [] lt ∙ sym (ap (λ b. cond (not b) (get_or old k [] ++ place ∷ []) (get_or old k [])) on))
-    by_test false f = get_or-set_other old k i (get_or old k [] ++ place ∷ []) [] (λ same. true≢false (sym ((Decides-eqb x.item i).1 (item ∙ sym same)) ∙ f))
+place_added old new k place x item on lt is i = grind (arith, nat_tests, get_or-set_same, get_or-set_other, ap (λ (l : List (List ℕ)). get_or l i []) is)
 
 -- ---- one record more
 

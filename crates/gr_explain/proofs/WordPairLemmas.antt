@@ -1,5 +1,5 @@
 -- The pairs of tags that race on each of some words, where one more access comes.
-use Rattle.std.proofs.Common.{◌≡◌, ◌≢◌, ℕ, ◌+◌, ◌<◌, Bool, true, false, cond, Contains, List, [], ◌∷◌, ◌++◌, Some, None, get_or, length, take, refl, sym, ap, ◌∙◌, subst, ⊎_elim, true≢false}
+use Rattle.std.proofs.Common.{◌≡◌, ◌≢◌, ℕ, ◌+◌, ◌<◌, Bool, true, false, cond, Contains, List, [], ◌∷◌, ◌++◌, Some, None, get_or, length, take, refl, sym, ap, ◌∙◌, subst, ⊎_elim, arith}
 use Rattle.std.specs.Map.{lookup}
 use Rattle.std.proofs.lemmas.List.{take_more}
 use Rattle.std.proofs.lemmas.List.Elements.{Contains-push_cases}
@@ -15,28 +15,21 @@ use Rattle.gr_explain.specs.declared.tag_pairs.TagPairs.{TagPairs}
 use Rattle.gr_explain.proofs.TagPairLemmas.{other_stands_for_tags}
 
 apart : (v w : Word) → same_word v w ≡ false → v ≢ w
-apart v w f same = true≢false (sym (subst (λ (x : Word). same_word v x ≡ true) same (equal.laws-law.refl v)) ∙ f)
+apart v w f same = grind (arith, equal.laws-law.refl v)
 
 module _ {Z : Type 0} where
   -- what an update leaves in a map
   abbrev pub HasUpdate : List (Word × TagPairs Z) → Word → TagPairs Z → List (Word × TagPairs Z) → Type 0
   HasUpdate old v p new = (w : Word) → lookup (same_word w) new ≡ cond (same_word v w) (Some p) (lookup (same_word w) old)
 
-  module _ (old new : List (Word × TagPairs Z)) (v : Word) (p : TagPairs Z) (update : HasUpdate old v p new) where
-    here : (w : Word) → same_word v w ≡ true → lookup (same_word w) new ≡ Some p
-    here w t = update w ∙ ap (λ b. cond b (Some p) (lookup (same_word w) old)) t
-
-    there : (w : Word) → same_word v w ≡ false → lookup (same_word w) new ≡ lookup (same_word w) old
-    there w f = update w ∙ ap (λ b. cond b (Some p) (lookup (same_word w) old)) f
-
   -- one word more, of which no access came
   pub word_more : (tag_of : EventId → ℕ) (words : List Word) (k : ℕ) (v : Word) (old new : List (Word × TagPairs Z)) (p : TagPairs Z) → k < length words → HasUpdate old (get_or words k v) p new → ((w : Word) → StandsForTags tag_of w [] p) → StandForWords tag_of (take k words) [] old → StandForWords tag_of (take (k + 1) words) [] new
   word_more tag_of words k v old new p lt update none stand w in_more = by_test (same_word (get_or words k v) w) refl
     where
       by_test : (b : Bool) → same_word (get_or words k v) w ≡ b → HasPairs tag_of [] new w
-      by_test true t = record { pairs = p; at = here old new (get_or words k v) p update w t; stands = none w }
+      by_test true t = record { pairs = p; at = grind (arith, update w); stands = none w }
       by_test false f = ⊎_elim
-          (λ (was : Contains (take k words) w). let h = stand w was in record { pairs = h.pairs; at = there old new (get_or words k v) p update w f ∙ h.at; stands = h.stands })
+          (λ (was : Contains (take k words) w). let h = stand w was in record { pairs = h.pairs; at = grind (arith, update w, h.at); stands = h.stands })
           (λ (last : get_or words k v ≡ w). absurd (apart (get_or words k v) w f last))
           (Contains-push_cases (take k words) (get_or words k v) w (subst (λ (l : List Word). Contains l w) (take_more words k v lt) in_more))
 
@@ -54,8 +47,8 @@ module _ {Z : Type 0} where
             let one : Some h.pairs ≡ Some p = sym h.at ∙ (ap (λ (v : Word). lookup (same_word v) old) (sym same) ∙ found) in
             let is : h.pairs ≡ p = cc in
             let before : StandsForTags tag_of y.word accesses p = subst (λ (x : TagPairs Z). StandsForTags tag_of y.word accesses x) is (subst (λ (v : Word). StandsForTags tag_of v accesses h.pairs) (sym same) h.stands) in
-            record { pairs = q; at = here old new y.word q update w t; stands = subst (λ (v : Word). StandsForTags tag_of v (accesses ++ y ∷ []) q) same (added tag_of accesses refl before) }
-        by_test false f = record { pairs = h.pairs; at = there old new y.word q update w f ∙ h.at; stands = other_stands_for_tags tag_of w accesses y (apart y.word w f) h.pairs h.stands }
+            record { pairs = q; at = grind (arith, update w); stands = subst (λ (v : Word). StandsForTags tag_of v (accesses ++ y ∷ []) q) same (added tag_of accesses refl before) }
+        by_test false f = record { pairs = h.pairs; at = grind (arith, update w, h.at); stands = other_stands_for_tags tag_of w accesses y (apart y.word w f) h.pairs h.stands }
 
     -- an access to another one
     pub no_word_added : (old new : List (Word × TagPairs Z)) → lookup (same_word y.word) old ≡ None → new ≡ old → StandForWords tag_of words accesses old → StandForWords tag_of words (accesses ++ y ∷ []) new
