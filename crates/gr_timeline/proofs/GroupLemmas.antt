@@ -1,17 +1,16 @@
 -- What is known of the events of a group, and of those of all groups below a bound.
-use Rattle.std.proofs.Common.{◌≡◌, ℕ, ◌+◌, ◌<◌, ◌≤◌, List, [], ◌∷◌, ◌++◌, get_or, length, Option, Some, None, option_map, slice_get, take, refl, sym, ap, ◌∙◌, subst, ⊎_elim, arith}
-use Rattle.std.proofs.lemmas.Bool.{cases_lt}
-use Rattle.std.proofs.lemmas.List.{get_or_past, length-take-le, take_more}
+use Rattle.std.proofs.Common.{◌≡◌, ℕ, ◌+◌, ◌<◌, ◌≤◌, List, [], ◌∷◌, ◌++◌, get_or, length, Some, None, option_map, slice_get, take, refl, sym, ap, ◌∙◌, subst, arith}
+use Rattle.std.proofs.lemmas.List.{length-take-le, take_more}
 use Rattle.std.proofs.lemmas.Option.{slice_get_read}
 use Rattle.gr_model.specs.declared.event.Event.{Event}
 use Rattle.gr_model.specs.declared.event.EventId.{EventId}
 use Rattle.gr_model.specs.declared.event.Word.{Word}
-use Rattle.gr_model.specs.Streams.{IsAccepted, Streams, list_of}
+use Rattle.gr_model.specs.Streams.{IsAccepted, Streams}
 use Rattle.gr_timeline.specs.declared.counting.Count.{Count}
 use Rattle.gr_timeline.specs.declared.details.Details.{Details}
-use Rattle.gr_timeline.specs.Accesses.{AreAccesses, IsKnown, details_at}
+use Rattle.gr_timeline.specs.Accesses.{IsKnown, details_at}
 use Rattle.gr_timeline.specs.Counting.{AreCounts, IsSmall, after_record, counted}
-use Rattle.gr_timeline.specs.Gathering.{AreKnownIn, AreOthersKept, IsKnownIn, KeepsRecord}
+use Rattle.gr_timeline.specs.Gathering.{AreKnownIn, AreOthersKept, KeepsRecord}
 use Rattle.gr_timeline.proofs.CountLemmas.{counted_small, counts_more}
 use Rattle.gr_timeline.proofs.RecordLemmas.{others_kept, record_known}
 
@@ -58,17 +57,3 @@ module _ (items number : ℕ) (list : List Event) (x : Event) (accepted : IsAcce
 pub record IsKnownBelow (s : Streams) (w : Word) (bound : ℕ) (known : List (EventId × Details)) : Type 0 where
   pub before : (e : EventId) → e.at.group < bound → IsKnown s w e (details_at known e)
   pub behind : (e : EventId) → bound ≤ e.at.group → details_at known e ≡ None
-
-pub none_below : (s : Streams) (w : Word) (known : List (EventId × Details)) → known ≡ [] → IsKnownBelow s w 0 known
-none_below s w known none = record { before = λ e lt. absurd (omega (arith, lt)); behind = λ e ge. ap (λ k. details_at k e) none }
-
--- where all groups are below the bound, all is known
-pub all_known : (s : Streams) (w : Word) (bound : ℕ) (known : List (EventId × Details)) → length s.lists ≤ bound → IsKnownBelow s w bound known → AreAccesses s w known
-all_known s w bound known all below e = ⊎_elim
-    (λ (lt : e.at.group < bound). below.before e lt)
-    (λ (ge : bound ≤ e.at.group).
-    let past : length s.lists ≤ e.at.group = omega (arith, all, ge) in
-    let gone : list_of s e.at.group ≡ [] = get_or_past s.lists e.at.group [] past in
-    subst (λ (l : List Event). IsKnownIn l w e (details_at known e)) (sym gone)
-    (subst (λ (o : Option Details). IsKnownIn [] w e o) (sym (below.behind e ge)) (λ on. let no : None ≡ Some w = on in cc)))
-    (cases_lt e.at.group bound)

@@ -51,14 +51,6 @@ module _ {Z : Type 0} (w : Word) (accesses : List ClockedAccess) (y : ClockedAcc
         subst (λ (xs : List ClockedAccess). StandsFor xs shadowed) (sym more) stands,
       )
 
-  pub other_added : (shadows : Kept) → new ≡ old → is_on w y ≡ false → IsKeptOf w accesses old shadows → IsKeptOf w (accesses ++ y ∷ []) new shadows
-  other_added shadows same off (are, stands) =
-      let last : filter (is_on w) (y ∷ []) ≡ [] = ap (λ b. cond b (y ∷ []) []) off in
-      let more : filter (is_on w) (accesses ++ y ∷ []) ≡ filter (is_on w) accesses = filter-append (is_on w) accesses (y ∷ []) ∙ (ap (λ l. filter (is_on w) accesses ++ l) last ∙ append-nil (filter (is_on w) accesses)) in (
-        ap (map entry_pair) same ∙ (are ∙ ap (map access_pair) (sym more)),
-        subst (λ (xs : List ClockedAccess). StandsFor xs shadows) (sym more) stands,
-      )
-
 -- ---- lists of pairs
 
 firsts : {X Y Z : Type 0} (f : Y → X × Z) (ys : List Y) → map (λ p. p.0) (map f ys) ≡ map (λ y. (f y).0) ys

@@ -1,18 +1,14 @@
 -- What is shown of a history.
-use Rattle.std.proofs.Common.{◌≡◌, ◌↔◌, ◌∙◌, ◌+◌, Bool, length, true, Contains, List, ap, sym}
-use Rattle.std.specs.List.{IsDistinct, list_any}
+use Rattle.std.proofs.Common.{◌≡◌, ◌↔◌, ◌∙◌, ◌+◌, length, List, ap, sym}
+use Rattle.std.specs.List.{IsDistinct}
 use Rattle.std.specs.Map.{keys_of}
 use Rattle.std.proofs.lemmas.List.{length-map}
-use Rattle.std.proofs.lemmas.Map.Views.{Contains-from_any, list_any-from_Contains}
 use Rattle.gr_model.specs.declared.event.EventId.{EventId}
 use Rattle.gr_model.specs.declared.event.Word.{Word}
-use Rattle.gr_model.specs.contracts.event.WordEq.TheImpl.Laws as equal
-use Rattle.gr_model.specs.contracts.event.WordPartialEq.TheImpl as equality
 use Rattle.gr_model.specs.LawfulOrders.{IsIn}
 use Rattle.gr_model.specs.Streams.{Streams}
 use Rattle.gr_model.specs.Waits.{IsGrounded}
 use Rattle.gr_model.proofs.Descent.{lawful_is_grounded}
-use Rattle.gr_model.proofs.WordLemmas.{same_from_equal}
 use Rattle.gr_explain.specs.Events.{same_event}
 use Rattle.gr_timeline.specs.declared.details.Details.{Details}
 use Rattle.gr_timeline.specs.Accesses.{AreAccesses, IsOn}
@@ -39,14 +35,3 @@ module _ (s : Streams) (w : Word) (lines : List Line) (history : IsHistory s w l
       let once = those_once (IsOn s w) history.order (events_of lines) history.along.events history.whole.lawful.once in
       let left = held_are_left s w known distinct are (events_of lines) once grounded_there in
       (left.0, left.1, ap (λ n. n + length left.0) (sym (length-map lines (λ l. l.event))) ∙ left.2)
-
--- a word is among those of a list just where a test of each finds it
-module _ (words : List Word) (w : Word) where
-  turned : list_any (λ v. (equality.eq-value).it v w) words ≡ list_any ((equality.eq-value).it w) words
-  turned = ap (λ (test : Word → Bool). list_any test words) (λ i v. equal.laws-law.symm v w i)
-
-  pub found_is_there : list_any (λ v. (equality.eq-value).it v w) words ≡ true ↔ Contains words w
-  found_is_there = (
-    λ found. Contains-from_any same_from_equal w words (sym turned ∙ found),
-    λ there. turned ∙ list_any-from_Contains equal.laws-law w words there,
-  )

@@ -1,11 +1,6 @@
-use Rattle.std.proofs.Common.{ap, map}
 use Rattle.gr_shadow.specs.StandsFor.{accesses_to}
-use Rattle.gr_timeline.specs.Histories.{entry_pair}
 use Rattle.gr_timeline.proofs.HistoryLemmas.{history_of_whole, hit_is_racy}
 use Rattle.gr_timeline.proofs.history.history_of.Goals as goal
-
-pub follow-requires : goal.follow-requires
-follow-requires g c = (ap (map entry_pair) c.new.ensures.items, c.new-2.ensures)
 
 pub returns-clause-history : goal.returns-clause-history
 returns-clause-history g c =
