@@ -14,8 +14,8 @@ use Rattle.gr_windows.specs.Windows.{AreWaiting, Table, window_of}
 use Rattle.gr_order.specs.Sequences.{IsDone, IsSequence, Sequence}
 use Rattle.gr_order.specs.States.{AreBelowFrontier}
 use Rattle.gr_order.specs.Forgetting.{ForgetsHandled}
-use Rattle.gr_lanes.specs.Remembered.{IsEventRemembered, Remembered, forgotten_of}
-use Rattle.gr_held.specs.Waiting.{ForgetsGrounded, IsStuck}
+use Rattle.gr_lanes.specs.Remembered.{Remembered}
+use Rattle.gr_held.specs.Waiting.{ForgetsGrounded}
 
 slice_get-drop : {X : Type 0} (n : ℕ) (xs : List X) (k : ℕ) → slice_get (drop n xs) k ≡ slice_get xs (n + k)
 slice_get-drop n xs k = grind (arith, common_steps, gets)
@@ -52,12 +52,3 @@ module _ (s : Streams) (q : Sequence) (is : q.taken ≡ s) (done : IsDone q) whe
 pub forgets_grounded : (s : Streams) (q : Sequence) → q.taken ≡ s → IsDone q → (r : Remembered) → r.streams ≡ s → ForgetsHandled r q.handled → ForgetsGrounded r
 forgets_grounded s q is done r same forgets e k at below =
     subst (λ (t : Streams). IsGrounded t e) (is ∙ sym same) ((done.grounded e).0 (forgets.handled e k at below))
-
-pub held_remembered : (r : Remembered) → ForgetsGrounded r → (e : EventId) → ¬ IsGrounded r.streams e → IsEventRemembered r e
-held_remembered r grounded e held k at = ⊎_elim
-    (λ (below : k < forgotten_of r e.at.group). absurd (held (grounded e k at below)))
-    (λ (le : forgotten_of r e.at.group ≤ k). le)
-    (cases_lt k (forgotten_of r e.at.group))
-
-pub stuck_remembered : (r : Remembered) → ForgetsGrounded r → (g k : ℕ) → IsStuck r.streams g k → forgotten_of r g ≤ k
-stuck_remembered r grounded g k (e, stands, held) = subst (λ h. forgotten_of r h ≤ k) stands.group (held_remembered r grounded e held k stands.place)

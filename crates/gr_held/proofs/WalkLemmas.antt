@@ -9,7 +9,7 @@ use Rattle.gr_model.specs.declared.event.ItemId.{ItemId}
 use Rattle.gr_model.specs.Shapes.{HasItem}
 use Rattle.gr_model.specs.Streams.{ArePrefixes, Streams}
 use Rattle.gr_model.proofs.Cuts.{same_event}
-use Rattle.gr_clocks.specs.Counts.{Counts, IsTick, IsZero, count_of}
+use Rattle.gr_clocks.specs.Counts.{Counts, IsTick, count_of}
 use Rattle.gr_order.proofs.StateLemmas.{item_cases, tick_here, tick_there}
 use Rattle.gr_order.proofs.SumLemmas.{item_more}
 use Rattle.gr_steps.proofs.EventRecords.{group_of_event, item_of_event}
@@ -34,9 +34,6 @@ module _ (s : Streams) where
 
   pub visited_stays : (links more : List Link) (visited : Counts) → AreVisited s links visited → AreVisited s (links ++ more) visited
   visited_stays links more visited are = record { shape = are.shape; each = λ i some. linked_stays links more i (are.each i some) }
-
-  pub none_visited : (visited : Counts) (sizes : List ℕ) → sizes ≡ s.sizes → IsZero sizes visited → AreVisited s [] visited
-  none_visited visited sizes same zero = record { shape = zero.shape ∙ same; each = λ i some. absurd (let none = zero.zero i in omega (arith, some, none)) }
 
   last_event : (links : List Link) (e : EventId) (r : Reason) → event_of (links ++ (record { event = e; reason = r }) ∷ []) (length links) ≡ Some e
   last_event links e r = grind (arith, common_steps, gets)

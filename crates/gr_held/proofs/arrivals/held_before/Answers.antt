@@ -1,7 +1,4 @@
-use Rattle.gr_model.specs.Streams.{Streams}
-use Rattle.gr_held.specs.Waiting.{IsStuck}
-use Rattle.gr_held.proofs.JudgedLemmas.{stuck_remembered}
-use Rattle.std.proofs.Common.{subst, ◌∙◌, arith, refl, sym, true≢false}
+use Rattle.std.proofs.Common.{◌∙◌, arith, refl, sym, true≢false}
 use Rattle.gr_held.proofs.arrivals.held_before.Goals as goal
 
 pub returns-else-is_grounded : goal.returns-else-is_grounded
@@ -14,8 +11,3 @@ returns-else-is_grounded g c =
       previous = record { item = refl; next = omega (arith, some) };
       held = λ grounded. true≢false (sym (c.is_grounded.ensures.1 grounded) ∙ c.if-is_grounded.false);
     }
-
-pub barrier_at-requires : goal.barrier_at-requires
-barrier_at-requires g c p at =
-    let stuck = subst (λ (s : Streams). IsStuck s c.args.item.group c.args.number) (sym c.lanes.ensures.taken) c.requires.stuck in
-    stuck_remembered c.lanes.result.now c.lanes.ensures.grounded c.args.item.group c.args.number stuck

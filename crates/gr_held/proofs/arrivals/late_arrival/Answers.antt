@@ -1,7 +1,4 @@
-use Rattle.std.proofs.Common.{refl, subst, sym}
-use Rattle.gr_model.specs.Streams.{Streams}
-use Rattle.gr_model.specs.Waits.{IsGrounded}
-use Rattle.gr_held.proofs.JudgedLemmas.{held_remembered}
+use Rattle.std.proofs.Common.{refl}
 use Rattle.gr_steps.proofs.EventRecords.{item_of_event}
 use Rattle.gr_held.proofs.HeldLemmas.{late_by}
 use Rattle.gr_held.proofs.arrivals.late_arrival.Goals as goal
@@ -11,10 +8,6 @@ returns g c =
     let s = c.args.judged.now in
     let place = rw (c.in_ok-number.was, c.lanes.ensures.taken) at c.barrier_number.ensures in
     late_by s c.args.event c.in_ok-number.number c.late_in.result (record { group = refl; item = item_of_event s c.lanes.ensures.prefixes c.args.event c.requires.event.0 c.requires.event.1; place = place }) c.late_in.ensures
-
-pub barrier_number-requires : goal.barrier_number-requires
-barrier_number-requires g c k at =
-    held_remembered c.lanes.result.now c.lanes.ensures.grounded c.args.event (subst (λ (s : Streams). ¬ IsGrounded s c.args.event) (sym c.lanes.ensures.taken) c.requires.held) k at
 
 pub late_in-requires-clause-stuck : goal.late_in-requires-clause-stuck
 late_in-requires-clause-stuck g c =
