@@ -1,5 +1,5 @@
 -- Each race of a launch has a kind, and it is said whether there is one.
-use Rattle.std.proofs.Common.{◌≡◌, ◌↔◌, ◌+◌, ⊎_elim, subst, cond, zero, suc, ◌<◌, ◌&&◌, ℕ, Bool, true, false, List, [], ◌∷◌, ◌++◌, Option, Some, Contains, IsTrue, All, None, nat_eq, option_and_then, ap, arith, length, map, refl, sym, ◌∙◌, true≢false}
+use Rattle.std.proofs.Common.{◌≡◌, ◌↔◌, ⊎_elim, subst, cond, ◌<◌, ◌&&◌, ℕ, Bool, true, false, List, [], ◌∷◌, ◌++◌, Option, Some, Contains, IsTrue, All, None, nat_eq, option_and_then, ap, arith, length, map, refl, sym, ◌∙◌, true≢false}
 use Rattle.std.specs.Prelude.{AllPairs, if◌then◌else◌, filter, nat_lt, not, option_map}
 use Rattle.std.specs.List.{cons_option, list_any}
 use Rattle.std.specs.Option.{option_eq, option_map_or}
@@ -38,7 +38,7 @@ use Rattle.gr_races.specs.contracts.kinds.PlacedOperationPartialEq.TheImpl as pl
 use Rattle.gr_races.specs.contracts.kinds.RaceKindEq.TheImpl.Laws as equal
 use Rattle.gr_explain.proofs.Lists.{first_or_rest}
 use Rattle.gr_races.specs.Causes.{IsPairOf}
-use Rattle.gr_races.specs.Kinds.{all_kinded, by_tags, is_alike, kinded, operation_at, operation_number, operation_of, place_tag, placed_at, same_kind, tag_at, tag_of, turned, with_operations}
+use Rattle.gr_races.specs.Kinds.{all_kinded, by_tags, is_alike, kinded, operation_at, operation_of, placed_at, same_kind, tag_at, tag_of, turned, with_operations}
 use Rattle.gr_races.specs.Listing.{in_order, kinds_after, kinds_of, with_kind}
 use Rattle.gr_races.specs.Telling.{with_causes}
 
@@ -239,38 +239,3 @@ same_is_one k l e =
 
 pub the_same_kinds_are_one : (k l : RaceKind) → IsTrue (same_kind k l) ↔ (k ≡ l)
 the_same_kinds_are_one k l = (same_is_one k l, λ is. sym (ap (same_kind k) is) ∙ equal.laws-law.refl k)
-
--- ---- the same tags are one
-
-abbrev operation_from : ℕ → Operation
-operation_from zero = ops.Write
-operation_from (suc zero) = ops.Store
-operation_from (suc (suc zero)) = ops.Rmw
-operation_from (suc (suc (suc zero))) = ops.Read
-operation_from (suc (suc (suc (suc n)))) = ops.Load
-
-operation_back : (a : Operation) → operation_from (operation_number a) ≡ a
-operation_back ops.Write = refl
-operation_back a = refl
-
-few_operations : (a : Operation) → operation_number a < 5
-few_operations ops.Write = omega arith
-few_operations a = omega arith
-
-abbrev place_from : ℕ → Option ℕ
-place_from zero = None
-place_from (suc n) = Some n
-
-place_back : (p : Option ℕ) → place_from (place_tag p) ≡ p
-place_back None = refl
-place_back (Some n) = let next : n + 1 ≡ suc n = omega arith in ap place_from next
-
-pub same_tags_are_one : (p q : PlacedOperation) → tag_of p ≡ tag_of q → p ≡ q
-same_tags_are_one p q same =
-    let a = few_operations p.operation in
-    let b = few_operations q.operation in
-    let place : place_tag p.place ≡ place_tag q.place = omega (arith, same, a, b) in
-    let operation : operation_number p.operation ≡ operation_number q.operation = omega (arith, same, a, b) in
-    let of_place : p.place ≡ q.place = sym (place_back p.place) ∙ (ap place_from place ∙ place_back q.place) in
-    let of_operation : p.operation ≡ q.operation = sym (operation_back p.operation) ∙ (ap operation_from operation ∙ operation_back q.operation) in
-    λ i. record { operation = of_operation i; place = of_place i }

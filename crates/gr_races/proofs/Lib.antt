@@ -1,6 +1,5 @@
 pub mod KindLemmas
 pub mod ListingLemmas
-pub mod RunLemmas
 pub mod TellingLemmas
 pub mod RelaxingLemmas
 pub mod PartingLemmas

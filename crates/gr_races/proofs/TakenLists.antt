@@ -1,12 +1,12 @@
 -- What lanes have taken of a launch, list after list.
 use Rattle.std.proofs.Common.{◌≡◌, ℕ, ◌+◌, ◌<◌, ◌≤◌, List, [], ◌∷◌, ◌++◌, length, get_or, set, set-set, take, refl, sym, ap, ◌∙◌, subst, arith}
-use Rattle.std.proofs.lemmas.List.{ext_get_or, get_or-set_other, get_or-set_same, length-map, length-set, length-take-le, set-get_or, take_more}
+use Rattle.std.proofs.lemmas.List.{ext_get_or, get_or-set_other, get_or-set_same, length-map, length-set, length-take-le, take_more}
 use Rattle.std.proofs.lemmas.Option.{slice_get-get_or}
 use Rattle.gr_model.specs.declared.event.Event.{Event}
 use Rattle.gr_model.specs.declared.limits.TheConstants.{MOST_RECORDS}
 use Rattle.gr_model.specs.Streams.{Streams, AreAccepted, ArePrefixes, IsAccepted, list_of, size_of}
 use Rattle.gr_model.proofs.GroupLaws.{part_of_shape}
-use Rattle.gr_lanes.specs.Remembered.{IsAllRemembered, Remembered, forgotten_of, remembering}
+use Rattle.gr_lanes.specs.Remembered.{Remembered, remembering}
 use Rattle.gr_lanes.specs.Takes.{IsEventButItem, nothing_taken, with_record}
 use Rattle.gr_taking.specs.Taken.{with_list}
 use Rattle.gr_taking.proofs.TakenLemmas.{empty_at}
@@ -20,9 +20,6 @@ with_lists s lists = record { sizes = s.sizes; lists = lists }
 pub good_at : (items i : ℕ) (list : List Event) (d : Event) → IsAccepted items list → i < length list → IsEventButItem (get_or list i d)
 good_at items i list d accepted lt = let good = accepted.good i (get_or list i d) (slice_get-get_or list i d lt) in (good.0.1, good.0.2)
 
-none_yet : (s : Streams) (g : ℕ) → list_of s g ≡ [] → s ≡ with_list s g []
-none_yet s g none = ap (with_lists s) (sym (set-get_or s.lists g []) ∙ ap (set s.lists g) none)
-
 one_more : (s : Streams) (g i : ℕ) (list : List Event) (d : Event) → g < length s.lists → i < length list → with_record (with_list s g (take i list)) g (get_or list i d) ≡ with_list s g (take (i + 1) list)
 one_more s g i list d there lt =
     ap (with_lists s)
@@ -34,10 +31,6 @@ pub room_for_next : (s before : Streams) (g i : ℕ) (list : List Event) → g <
 room_for_next s before g i list there accepted lt so_far =
     let same : list_of before g ≡ take i list = ap (λ (t : Streams). list_of t g) so_far ∙ get_or-set_same s.lists g (take i list) [] there in
     omega (arith, ap length same, length-take-le i list (omega arith), accepted.few)
-
--- no record yet, and one more
-pub no_record_yet : (r : Remembered) (g : ℕ) → list_of r.streams g ≡ [] → r ≡ remembering r (with_list r.streams g [])
-no_record_yet r g none = ap (remembering r) (none_yet r.streams g none)
 
 pub record_taken : (r before new : Remembered) (g i : ℕ) (list : List Event) (d : Event) → g < length r.streams.lists → i < length list → before ≡ remembering r (with_list r.streams g (take i list)) → new ≡ remembering before (with_record before.streams g (get_or list i d)) → new ≡ remembering r (with_list r.streams g (take (i + 1) list))
 record_taken r before new g i list d there lt so_far is = is ∙ (ap (λ (b : Remembered). remembering b (with_record b.streams g (get_or list i d))) so_far ∙ ap (remembering r) (one_more r.streams g i list d there lt))
@@ -83,10 +76,6 @@ all_are_taken s bound t all h =
 -- the list of the next group is one that may be taken
 pub accepted_at : (s : Streams) (g : ℕ) (t : Streams) → AreAccepted s → g < length s.sizes → TakenBelow s g t → IsAccepted (size_of t g) (list_of s g)
 accepted_at s g t accepted there h = subst (λ (sizes : List ℕ). IsAccepted (get_or sizes g 0) (list_of s g)) (sym h.sizes) (accepted.each g there)
-
--- where nothing is forgotten, all is remembered
-pub all_remembered : (r : Remembered) → ((g : ℕ) → forgotten_of r g ≡ 0) → IsAllRemembered r
-all_remembered r none i k p at = omega (arith, none i.group)
 
 -- lists that are accepted are prefixes
 pub accepted_prefixes : (s : Streams) → AreAccepted s → ArePrefixes s

@@ -1,15 +1,11 @@
 use Rattle.std.proofs.Common.{arith}
-use Rattle.std.proofs.lemmas.List.Elements.{All-get_or}
-use Rattle.gr_races.specs.Causes.{IsCauseOf, IsPairOf}
+use Rattle.gr_races.specs.Causes.{IsCauseOf}
 use Rattle.gr_races.specs.Relaxing.{relaxed}
 use Rattle.gr_races.specs.declared.relaxing.Relaxation.TheVariants.{BothFlags, DeviceScope}
 use Rattle.gr_explain.specs.Judged.{IsJudged}
 use Rattle.gr_explain.proofs.AnswerLemmas.{answers_count, answers_next}
 use Rattle.gr_races.proofs.CauseLemmas.{judged_at}
 use Rattle.gr_races.proofs.cause.causes_from.Goals as goal
-
-pub cause_from-requires-clause-pair : goal.cause_from-requires-clause-pair
-cause_from-requires-clause-pair g c = All-get_or (IsPairOf c.args.lanes.now.streams) c.args.races.now c.loop-place.place _ c.loop-place-test.true c.requires.pairs
 
 pub loop-place-preserved : goal.loop-place-preserved
 loop-place-preserved g c =

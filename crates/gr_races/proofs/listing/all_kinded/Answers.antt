@@ -6,10 +6,6 @@ use Rattle.gr_races.specs.Telling.{with_causes}
 use Rattle.gr_races.proofs.ListingLemmas.{row_kept_as, rows_are_all}
 use Rattle.gr_races.proofs.listing.all_kinded.Goals as goal
 
-pub loop-place-init : goal.loop-place-init
-loop-place-init g c =
-    sym (ap (λ (rows : List KindedRace). rows ++ all_kinded c.args.records.now (number_at c.args.index.now) (with_causes c.args.races.now c.args.causes.now)) c.new-rows.ensures.items)
-
 pub loop-place-preserved : goal.loop-place-preserved
 loop-place-preserved g c =
     let s = c.args.records.now in

@@ -6,9 +6,6 @@ use Rattle.gr_races.specs.Relaxing.{relaxed_event}
 use Rattle.gr_races.proofs.RelaxingLemmas.{same_launch, same_list}
 use Rattle.gr_races.proofs.relaxing.changes_nothing.Goals as goal
 
-pub loop-group-init : goal.loop-group-init
-loop-group-init g c = λ k lt. absurd (omega (arith, lt))
-
 pub loop-group-preserved : goal.loop-group-preserved
 loop-group-preserved g c = λ k lt. elim (cases_eq k c.loop-group.group) [
   | inl here ↦

@@ -2,7 +2,7 @@ use Rattle.std.proofs.Common.{◌<◌, ◌≤◌, ◌∙◌, List, length, ap, s
 use Rattle.gr_model.specs.declared.event.Event.{Event}
 use Rattle.gr_model.specs.Streams.{ArePrefixes, IsAccepted, size_of}
 use Rattle.gr_lanes.specs.Remembered.{Remembered, forgotten_of}
-use Rattle.gr_races.proofs.TakenLists.{accepted_at, accepted_prefixes, all_are_taken, all_remembered, lanes_are_new, list_taken}
+use Rattle.gr_races.proofs.TakenLists.{accepted_at, accepted_prefixes, all_are_taken, lanes_are_new, list_taken}
 use Rattle.gr_races.proofs.taken.take_all.Goals as goal
 
 pub loop-group-init : goal.loop-group-init
@@ -38,6 +38,3 @@ returns-clause-prefixes g c =
     let s = c.args.traces.now in
     let all : length s.lists ≤ c.loop-group.group = omega (arith, ap length c.shape-2.ensures.sizes, c.shape.ensures.accepted.count) in
     subst ArePrefixes (sym (all_are_taken s c.loop-group.group c.loop-group.lanes.streams all c.loop-group.invariant.taken)) (accepted_prefixes s c.shape.ensures.accepted)
-
-pub returns-clause-whole : goal.returns-clause-whole
-returns-clause-whole g c = all_remembered c.loop-group.lanes c.loop-group.invariant.forgotten

@@ -1,20 +1,13 @@
 use Rattle.std.proofs.Common.{ap, sym, subst, ◌∙◌}
 use Rattle.gr_model.specs.Streams.{size_of}
-use Rattle.gr_lanes.specs.Remembered.{Remembered, remembering}
+use Rattle.gr_lanes.specs.Remembered.{remembering}
 use Rattle.gr_lanes.specs.Takes.{IsEventButItem, with_record}
-use Rattle.gr_races.proofs.TakenLists.{good_at, no_record_yet, record_taken, room_for_next}
+use Rattle.gr_races.proofs.TakenLists.{good_at, record_taken}
 use Rattle.gr_races.proofs.taken.take_list.Goals as goal
-
-pub loop-event-init : goal.loop-event-init
-loop-event-init g c = no_record_yet c.args.lanes.now c.args.group c.requires.nothing
 
 pub take-requires-clause-good : goal.take-requires-clause-good
 take-requires-clause-good g c =
     subst IsEventButItem (sym c.event-item.is) (good_at (size_of c.args.lanes.now.streams c.args.group) c.loop-event.event-index c.args.list.now c.event-item.result c.requires.accepted c.loop-event-test.true)
-
-pub take-requires-clause-room : goal.take-requires-clause-room
-take-requires-clause-room g c =
-    room_for_next c.args.lanes.now.streams c.loop-event.lanes.streams c.args.group c.loop-event.event-index c.args.list.now c.requires.there c.requires.accepted c.loop-event-test.true (ap (λ (r : Remembered). r.streams) c.loop-event.invariant)
 
 pub loop-event-preserved : goal.loop-event-preserved
 loop-event-preserved g c =
