@@ -5,13 +5,9 @@ use Rattle.std.specs.List.{list_any}
 use Rattle.gr_model.specs.declared.event.EventId.{EventId}
 use Rattle.gr_model.specs.declared.race.Race.{Race}
 use Rattle.gr_explain.specs.Events.{Has, same_event}
-use Rattle.gr_explain.proofs.Sets.{event_itself}
 use Rattle.gr_explain.specs.Accesses.{AreWanted}
 
 module _ (old new : List EventId) (e : EventId) (update : (d : EventId) → list_any (same_event d) new ≡ cond (same_event e d) true (list_any (same_event d) old)) where
-  has_new : Has new e
-  has_new = grind (arith, update e, event_itself)
-
   has_still : (d : EventId) → Has old d → Has new d
   has_still d has = grind (arith, update d)
 
@@ -22,9 +18,6 @@ module _ (old mid new : List EventId) (r : Race) (one : (d : EventId) → list_a
     first = has_still mid new r.second two q.first (has_still old mid r.first one q.first wanted.first);
     second = has_still mid new r.second two q.second (has_still old mid r.first one q.second wanted.second);
   }
-
-  pub wanted_now : AreWanted new r
-  wanted_now = record { first = has_still mid new r.second two r.first (has_new old mid r.first one); second = has_new mid new r.second two }
 
 pub all_wanted : (old new : List EventId) (races : List Race) (i : ℕ) (r : Race) → i < length races → ((q : Race) → AreWanted old q → AreWanted new q) → AreWanted new (get_or races i r) → All (AreWanted old) (take i races) → All (AreWanted new) (take (i + 1) races)
 all_wanted old new races i r lt still now so_far = All-more (AreWanted new) races i r lt (All-weaker (AreWanted old) (AreWanted new) still (take i races) so_far) now

@@ -1,18 +1,15 @@
 -- Two accesses race where each clashes with the other.
-use Rattle.std.proofs.Common.{◌≡◌, Option, Some, None, sym, ◌∙◌}
 use Rattle.gr_model.specs.declared.event.EventId.{EventId}
 use Rattle.gr_model.specs.declared.event.Word.{Word}
 use Rattle.gr_model.specs.Races.{IsRace}
 use Rattle.gr_model.specs.Streams.{Streams}
-use Rattle.gr_model.specs.Waits.{IsGrounded}
 use Rattle.gr_model.proofs.HitsAreRaces.{may_race_swaps}
 use Rattle.gr_clocks.specs.declared.access.Access.{Access}
 use Rattle.gr_clocks.specs.ClockedAccess.{clocked}
 use Rattle.gr_closure.specs.Accesses.{IsAccess}
 use Rattle.gr_closure.proofs.Adding.{bare_access}
 use Rattle.gr_closure.proofs.PairTests.{clash_is_hit, hit_is_clash}
-use Rattle.gr_explain.specs.Accesses.{IsKept}
-use Rattle.gr_explain.specs.Judged.{ClashOn, IsAccessing}
+use Rattle.gr_explain.specs.Judged.{ClashOn}
 
 module _ {Z : Type 0} (s : Streams) (w : Word) (e f : EventId) (a b : Access Z) (of_e : IsAccess s e a) (of_f : IsAccess s f b) where
   pub clashes_are_race : ClashOn w (clocked a) (clocked b) × ClashOn w (clocked b) (clocked a) → IsRace s w e f

@@ -1,6 +1,6 @@
 -- Where the records of each item are, and the events that they are.
-use Rattle.std.proofs.Common.{◌≡◌, ◌+◌, ◌<◌, ◌≤◌, ℕ, zero, suc, Bool, true, false, cond, List, [], ◌∷◌, ◌++◌, Option, Some, None, append-nil, arith, ap, eq-or-lt_of_le, filter, get_or, length, refl, set, slice_get, sym, take, true≢false, ◌∙◌, ◌⊎◌, subst, inl, inr, ⊎_elim}
-use Rattle.std.specs.Prelude.{◌==◌, not, ◌&&◌, HoldsAt, MatchOption}
+use Rattle.std.proofs.Common.{◌≡◌, ◌+◌, ◌<◌, ◌≤◌, ℕ, zero, suc, Bool, true, false, cond, List, [], ◌∷◌, ◌++◌, Option, Some, None, append-nil, arith, ap, eq-or-lt_of_le, filter, get_or, length, refl, set, slice_get, sym, take, ◌∙◌, ◌⊎◌, subst, inl, inr, ⊎_elim}
+use Rattle.std.specs.Prelude.{◌==◌, not, HoldsAt, MatchOption}
 use Rattle.std.specs.Borrow.{Bor}
 use Rattle.std.specs.Option.{option_copied}
 use Rattle.std.proofs.Math.Seq.{get_or-append_seam}
@@ -132,9 +132,6 @@ read_is list p (Some x) read = ap Some (read.1 x.now) ∙ sym (slice_get-get_or 
 module _ (s : Streams) (indices : List (List (List ℕ))) (are : AreIndicesOf s indices) (e : EventId) where
   abbrev own : List Event
   own = list_of s e.at.group
-
-  pub none_without_group : length indices ≤ e.at.group → event_at s e ≡ None
-  none_without_group past = ap (λ (list : List Event). slice_get (filter (is_of e.at.item) list) e.index) (get_or_past s.lists e.at.group [] (omega (arith, past, are.accepted.count, are.all.count)))
 
   module _ (index : List (List ℕ)) (lt : e.at.group < length indices) (is : get_or indices e.at.group [] ≡ index) where
     there : e.at.group < length s.sizes

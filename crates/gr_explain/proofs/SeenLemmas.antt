@@ -44,10 +44,6 @@ pub record IsPairOn (seen : SeenList) (y : ClockedAccess) (items : List ItemId) 
 pub clashing_apart : (seen : SeenList) (y : ClockedAccess) (e : EventId) → IsClashing seen y e → e.at ≢ y.item
 clashing_apart seen y e h same = grind (arith, h.clash, same_item_self)
 
--- an event is not below an earlier one of its item
-not_below_earlier : (d e : EventId) → e.at ≡ d.at → d.index ≤ e.index → ¬ EventBelow e d
-not_below_earlier d e same le h = grind arith
-
 -- so the pair of a later event with the earlier one is the lesser
 pub not_below_first : (d e f : EventId) (pair least : Pair) → e.at ≡ d.at → d.index ≤ e.index → f.at ≢ d.at → IsTurned e f pair → EventBelow pair.0 pair.1 → IsTurned d f least → EventBelow least.0 least.1 → ¬ PairBelow pair least
 not_below_first d e f pair least same le apart turned up turned_least up_least below = grind arith

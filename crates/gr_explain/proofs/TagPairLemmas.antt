@@ -36,18 +36,6 @@ only_one x z (suc k, lt, is) = absurd (omega (arith, lt))
 -- ---- the races of a later access
 
 module _ (y : ClockedAccess) (tag : ℕ) where
-  pub finds_start : (found : List TaggedRace) → Finds y tag [] found found
-  finds_start found = record { kept = λ a b h. h; each = λ t there. inl there; whole = λ l e there event clash. absurd (omega (arith, there.1)); others = λ h. h }
-
-  -- where the two tags have a race
-  pub finds_had : (l : AlikeEvents) (found : List TaggedRace) → has_tags found l.tag tag ≡ true → Finds y tag (l ∷ []) found found
-  finds_had l found had = record {
-    kept = λ a b h. h;
-    each = λ t there. inl there;
-    whole = λ m e there event clash. subst (λ (k : AlikeEvents). IsTrue (has_tags found k.tag tag)) (only_one l m there) had;
-    others = λ h. h;
-  }
-
   -- where it clashes with none
   pub finds_none : (l : AlikeEvents) (found : List TaggedRace) → find (event_clashes l.class y) l.events ≡ None → Finds y tag (l ∷ []) found found
   finds_none l found none = record {
@@ -153,15 +141,6 @@ keeps_push lists after tag y of_tag of_class keeps =
     (λ l there. inr (Contains-append_left lists (after ∷ []) l there))
 
 -- ---- one more access
-
-pub none_stands : {Z : Type 0} (tag_of : EventId → ℕ) (w : Word) (pairs : TagPairs Z) → pairs.lists.items ≡ [] → pairs.found.items ≡ [] → StandsForTags tag_of w [] pairs
-none_stands tag_of w pairs no_lists no_races = record {
-  each = λ t c e kept. absurd (let there : Contains [] kept.list = subst (λ (l : List AlikeEvents). Contains l kept.list) no_lists kept.there in omega (arith, there.1));
-  some = λ t c e of. absurd (omega (arith, of.access.there.1));
-  sound = λ t there. absurd (let none : Contains [] t = subst (λ (l : List TaggedRace). Contains l t) no_races there in omega (arith, none.1));
-  whole = λ e f clash. absurd (let no : None ≡ Some clash.2 = clash.5 in cc);
-  others = λ i j d before within. absurd (let lt : j < 0 = subst (λ (l : List TaggedRace). j < length l) no_races within in omega (arith, lt));
-}
 
 module _ (w : Word) (accesses : List ClockedAccess) (y : ClockedAccess) (tag_of : EventId → ℕ) where
   still_tagged : (t : TaggedRace) → IsTaggedClash tag_of w accesses t → IsTaggedClash tag_of w (accesses ++ y ∷ []) t

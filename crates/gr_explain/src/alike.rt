@@ -118,7 +118,7 @@ impl<A: Allocator> Alike<A> {
 }
 
 /// Whether a later access to a word clashes with an event of a class.
-fn clashes<A: Allocator>(class: Class, event: EventId, access: &Access<A>) -> bool
+pub(crate) fn clashes<A: Allocator>(class: Class, event: EventId, access: &Access<A>) -> bool
     ensures { result ≡ event_clashes class (clocked access.now) event }
 {
     event.at != access.item

@@ -8,8 +8,9 @@ ghost use Rattle.gr_explain.specs.Accesses.{AreBothKept};
 ghost use Rattle.gr_explain.specs.Judged.{AreAccesses, AreJudgements, ClashOn, IsJudged};
 
 use crate::accesses::{Accesses, accesses_of_pairs};
+use crate::alike::clashes as event_clashes;
+use crate::seen::event_of;
 use gr_clocks::access::Access;
-use gr_model::class::exempt;
 use gr_model::event::Word;
 use gr_model::memory::Memory;
 use gr_model::race::Race;
@@ -31,14 +32,7 @@ pub enum Judgement {
 fn clashes<A: Allocator>(earlier: &Access<A>, later: &Access<A>) -> bool
     ensures { result ≡ shadow.clashes (clocked earlier.now) (clocked later.now) }
 {
-    earlier.item != later.item
-        && !exempt(
-            earlier.class,
-            earlier.item.group,
-            later.class,
-            later.item.group,
-        )
-        && !later.clock.covers(earlier.item, earlier.index)
+    event_clashes(earlier.class, event_of(earlier), later)
 }
 
 /// Whether two accesses are of a word and each clashes with the other: neither counts the other.

@@ -1,14 +1,8 @@
-use Rattle.std.proofs.Common.{◌≡◌, ◌∙◌, false, true, sym}
+use Rattle.std.proofs.Common.{◌≡◌, ◌∙◌, false, sym}
 use Rattle.gr_clocks.specs.ClockedAccess.{clocked}
 use Rattle.gr_explain.specs.TagPairs.{IsFound, has_tags}
-use Rattle.gr_explain.proofs.TagPairLemmas.{finds_had, finds_none, finds_one}
+use Rattle.gr_explain.proofs.TagPairLemmas.{finds_none, finds_one}
 use Rattle.gr_explain.proofs.tag_pairs.find_among.Goals as goal
-
-pub returns-then-has_tags : goal.returns-then-has_tags
-returns-then-has_tags g c =
-    let l = c.args.alike.now in
-    let had : has_tags c.args.found.now.items l.tag c.args.tag ≡ true = rw (← c.deref.ensures.value, ← c.tag.ensures) (sym c.has_tags.ensures ∙ c.if-has_tags.true) in
-    finds_had (clocked c.args.access.now) c.args.tag l c.args.found.now.items had
 
 pub returns-in-None : goal.returns-in-None
 returns-in-None g c =

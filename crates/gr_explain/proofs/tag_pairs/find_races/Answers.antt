@@ -1,13 +1,10 @@
 use Rattle.std.proofs.Common.{List, [], ◌∷◌, subst, sym, take}
-use Rattle.std.proofs.lemmas.List.{take_all, take_more}
+use Rattle.std.proofs.lemmas.List.{take_more}
 use Rattle.gr_clocks.specs.ClockedAccess.{clocked}
 use Rattle.gr_explain.specs.Alike.{AlikeEvents}
 use Rattle.gr_explain.specs.TagPairs.{Finds}
-use Rattle.gr_explain.proofs.TagPairLemmas.{finds_more, finds_start}
+use Rattle.gr_explain.proofs.TagPairLemmas.{finds_more}
 use Rattle.gr_explain.proofs.tag_pairs.find_races.Goals as goal
-
-pub loop-alike-init : goal.loop-alike-init
-loop-alike-init g c = finds_start (clocked c.args.access.now) c.args.tag c.args.found.now.items
 
 pub loop-alike-preserved : goal.loop-alike-preserved
 loop-alike-preserved g c =
@@ -17,8 +14,3 @@ loop-alike-preserved g c =
     let one = subst (λ (l : AlikeEvents). Finds y c.args.tag (l ∷ []) c.loop-alike.found.items c.find_among.new.found.items) c.alike-item.is c.in_ok-find_among.ensures in
     subst (λ (l : List AlikeEvents). Finds y c.args.tag l c.args.found.now.items c.find_among.new.found.items) (sym (take_more lists i c.alike-item.result c.loop-alike-test.true))
     (finds_more y c.args.tag (take i lists) _ c.args.found.now.items c.loop-alike.found.items c.find_among.new.found.items c.loop-alike.invariant one)
-
-pub returns : goal.returns
-returns g c =
-    subst (λ (l : List AlikeEvents). Finds (clocked c.args.access.now) c.args.tag l c.args.found.now.items c.loop-alike.found.items)
-    (take_all c.loop-alike.alike-index c.args.lists.now c.loop-alike-test.false) c.loop-alike.invariant

@@ -27,8 +27,3 @@ returns-in_ok-push-in-None g c =
     let events = subst (λ (l : AlikeEvents). KeepsEvents after.events (l.events ++ event_of y ∷ [])) c.new-alike.ensures c.in_ok-add-in-None.ensures.events in
     subst (λ (l : List AlikeEvents). KeepsMore c.args.lists.now.items c.args.tag y l) (sym c.in_ok-push-in-None.ensures.items)
     (keeps_push c.args.lists.now.items after c.args.tag y tag class events)
-
-pub add-requires : goal.add-requires
-add-requires g c =
-    let at = subst (λ (l : List AlikeEvents). IsOfKindAt c.args.tag c.args.access.now.class l c.in-Some.place) c.deref.ensures.value c.in-Some.ensures in
-    subst (IsOfKind c.args.tag c.args.access.now.class) (sym c.index_mut.ensures.value) (at.kind c.index_mut.result.now)

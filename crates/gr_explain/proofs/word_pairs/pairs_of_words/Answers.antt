@@ -1,12 +1,9 @@
-use Rattle.std.proofs.Common.{List, [], arith, subst}
+use Rattle.std.proofs.Common.{List, [], subst}
 use Rattle.std.proofs.lemmas.List.{take_all}
 use Rattle.gr_model.specs.declared.event.Word.{Word}
 use Rattle.gr_explain.specs.WordPairs.{StandForWords}
 use Rattle.gr_explain.proofs.WordPairLemmas.{word_more}
 use Rattle.gr_explain.proofs.word_pairs.pairs_of_words.Goals as goal
-
-pub loop-word-init : goal.loop-word-init
-loop-word-init g c tag_of w there = absurd (omega (arith, there.1))
 
 pub loop-word-preserved : goal.loop-word-preserved
 loop-word-preserved g c tag_of =

@@ -4,9 +4,6 @@ use Rattle.gr_explain.specs.WordPairs.{races_at}
 use Rattle.gr_explain.proofs.TagRaceLemmas.{tag_races}
 use Rattle.gr_explain.proofs.word_pairs.races_by_tags.Goals as goal
 
-pub follow-requires : goal.follow-requires
-follow-requires g c = c.in_ok-pairs.ensures (g.T.Tags.tag_of c.args.tags.now)
-
 pub returns : goal.returns
 returns g c =
     let s = c.args.traces.now in

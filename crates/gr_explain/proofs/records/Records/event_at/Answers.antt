@@ -1,14 +1,7 @@
-use Rattle.std.proofs.Common.{◌∙◌, ◌<◌, ◌≤◌, [], List, ap, arith, length, slice_get, sym}
+use Rattle.std.proofs.Common.{◌∙◌, ◌<◌, [], List, ap, arith, length, slice_get, sym}
 use Rattle.gr_model.specs.declared.event.Event.{Event}
-use Rattle.gr_explain.proofs.RecordLemmas.{found_at_place, none_without_group, none_without_place, read_is}
+use Rattle.gr_explain.proofs.RecordLemmas.{found_at_place, none_without_place, read_is}
 use Rattle.gr_explain.proofs.records.Records.event_at.Goals as goal
-
-pub returns-in_err-index : goal.returns-in_err-index
-returns-in_err-index g c =
-    let e = c.args.event in
-    let indices = c.self.inside.indices.items in
-    let past : length indices ≤ e.at.group = omega (arith, c.in_err-index.ensures.lookup.3, c.from.ensures, ap length c.deref.ensures.value) in
-    rw (← c.self.view_is) (c.from_residual.ensures ∙ sym (none_without_group c.self.inside.traces.now indices c.self.invariant e past))
 
 pub returns-in_err-place : goal.returns-in_err-place
 returns-in_err-place g c =

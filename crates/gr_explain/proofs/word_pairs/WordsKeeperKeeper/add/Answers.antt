@@ -1,12 +1,7 @@
-use Rattle.std.proofs.Common.{refl}
 use Rattle.std.proofs.lemmas.Result.{on_ok_weaker}
 use Rattle.gr_explain.specs.WordPairs.{StandForWords}
-use Rattle.gr_explain.proofs.Keeping.{none_added, one_added}
+use Rattle.gr_explain.proofs.Keeping.{one_added}
 use Rattle.gr_explain.proofs.word_pairs.WordsKeeperKeeper.add.Goals as goal
-
-pub returns-in_default : goal.returns-in_default
-returns-in_default g c =
-    none_added (StandForWords (g.T.Tags.tag_of c.args.self.now.tags.now) c.args.self.now.words.now) c.args.kept.now.entries c.args.kept.now.entries c.args.access.now c.in_default.is refl
 
 pub returns : goal.returns
 returns g c =
