@@ -1,7 +1,7 @@
 -- The index of lines, one line before another.
-use Rattle.std.proofs.Common.{◌≡◌, ◌<◌, ◌+◌, ℕ, Bool, cond, List, [], arith, ◌∷◌, Option, Some, Bor, ap, drop, get_or, length, map, refl, sym, ◌∙◌}
+use Rattle.std.proofs.Common.{◌≡◌, ◌<◌, ◌+◌, ℕ, Bool, cond, List, arith, ◌∷◌, Option, Some, Bor, ap, drop, get_or, length, map, refl, sym, ◌∙◌}
 use Rattle.std.specs.List.{position_from}
-use Rattle.std.proofs.lemmas.List.{at_drop_more, drop_all}
+use Rattle.std.proofs.lemmas.List.{at_drop_more}
 use Rattle.std.specs.Option.{option_map}
 use Rattle.gr_text.specs.LineReading.{same}
 use Rattle.gr_places.specs.declared.places.Placed.{Placed}
@@ -43,15 +43,3 @@ module _ (lines : List PlaceLine) (i left : ℕ) (d : PlaceLine) (lt : i < lengt
       ∙ ap (cond (same line.text.now t.now) (Some i)) (kept t)
       ∙ ap (λ (n : ℕ). cond (same line.text.now t.now) (Some i) (position_from test n (map place_line (drop n lines)))) (sym next)
       ∙ sym (at_drop_more (λ (ls : List PlaceLine). position_from test i (map place_line ls)) lines i d lt)
-
--- ---- none yet
-
-module _ (lines : List PlaceLine) where
-  none_left : drop (length lines) lines ≡ []
-  none_left = drop_all (length lines) lines (omega arith)
-
-pub none_said : (texts : List (Placed × Bor (List ℕ))) (lines : List PlaceLine) → texts ≡ [] → AreTexts texts (map place_line (drop (length lines) lines))
-none_said texts lines none p = ap (λ (ts : List (Placed × Bor (List ℕ))). option_map (λ (t : Bor (List ℕ)). t.now) (text_in ts p)) none ∙ ap (λ (ls : List PlaceLine). place_of (map place_line ls) p) (sym (none_left lines))
-
-pub none_numbered : (numbers : List (Bor (List ℕ) × ℕ)) (lines : List PlaceLine) → numbers ≡ [] → AreNumbersFrom (length lines) numbers (map place_line (drop (length lines) lines))
-none_numbered numbers lines none t = ap (λ (ns : List (Bor (List ℕ) × ℕ)). number_in ns t) none ∙ ap (λ (ls : List PlaceLine). position_from (λ (l : PlaceSaid). same l.text t.now) (length lines) (map place_line ls)) (sym (none_left lines))
