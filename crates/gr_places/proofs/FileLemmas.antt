@@ -1,7 +1,6 @@
 -- What is told of files that are open, or why nothing is.
-use Rattle.std.proofs.Common.{◌≡◌, ℕ, ◌<◌, true, List, [], ◌∷◌, ◌++◌, Option, None, Some, Result, Ok, Err, inl, inr, map, length, subst, sym, arith, true≢false}
-use Rattle.std.specs.Option.{is_some}
-use Rattle.std.specs.Prelude.{IfSome, option_map}
+use Rattle.std.proofs.Common.{◌≡◌, ℕ, List, Option, Result, Ok, Err, inl, inr, map}
+use Rattle.std.specs.Prelude.{IfSome}
 use Rattle.gr_record.proofs.Outside.{at_known}
 use Rattle.gr_record.specs.InputFaults.{IsOutside}
 use Rattle.gr_places.specs.SideLines.{BufferSaid, PlaceSaid, buffers_in, places_in}
@@ -9,9 +8,9 @@ use Rattle.gr_record.specs.declared.fault.Fault.{Fault}
 use Rattle.gr_replay.specs.Each.{all_known}
 use Rattle.gr_places.specs.declared.sides_fault.SidesFault.{SidesFault}
 use Rattle.gr_places.specs.declared.sides_fault.SidesFault.TheVariants.{Buffers, Places, Run}
-use Rattle.gr_places.specs.Opening.{AreAllOpened, HoldsOfAllFiles, IsSidesFault, Pair, RefusesBuffers, RefusesPlaces, Say, known_of, listed}
+use Rattle.gr_places.specs.Opening.{AreAllOpened, HoldsOfAllFiles, IsSidesFault, Pair, RefusesBuffers, RefusesPlaces, Say, known_of}
 use Rattle.gr_places.specs.Sides.{SidesSaid}
-use Rattle.gr_places.specs.Files.{AreOpened, IsOpeningFault, IsShowFault}
+use Rattle.gr_places.specs.Files.{IsShowFault}
 
 module _ {T E : Type 0} (remaining : T → Option (List ℕ)) (Gives : List ℕ → Result T E → Type 0) (named : Pair (List ℕ)) (names : List (List ℕ)) (sides : Pair T) (files : List T) (opened : AreAllOpened Gives named names sides files) where
   pub unread : (f : Fault) → IsOutside f → IsSidesFault remaining Gives named names (Run f)
@@ -51,25 +50,3 @@ module _ {T E : Type 0} (remaining : T → Option (List ℕ)) (Gives : List ℕ 
 
     pub holds_of_all : (Holds : Option (List (List ℕ)) → SidesSaid → Type 0) → Holds (all_known (map remaining files)) all_said → HoldsOfAllFiles remaining Gives named names Holds
     holds_of_all Holds shown = record { sides = sides; files = files; opened = opened; said = all_said; say = say; shown = shown }
-
--- the files of the first names, where there are some, and the others
-module _ {T E : Type 0} (Gives : List ℕ → Result T E → Type 0) {X : Type 0} (name : X → List ℕ) where
-  pub first_opened : (named : Option X) (rest : List (List ℕ)) (got : Option T) (files left : List T) → is_some got ≡ is_some named → files ≡ listed got ++ left → AreOpened Gives (listed (option_map name named) ++ rest) files
-      → AreOpened Gives (listed (option_map name named)) (listed got) × AreOpened Gives rest left
-  first_opened None rest None files left same is opened = (tt, subst (AreOpened Gives rest) is opened)
-  first_opened (Some n) rest (Some f) files left same is opened = let all = subst (AreOpened Gives (name n ∷ rest)) is opened in ((all.0, tt), all.1)
-  first_opened None rest (Some f) files left same is opened = absurd (true≢false same)
-  first_opened (Some n) rest None files left same is opened = absurd (true≢false (sym same))
-
-  pub has_first : (named : Option X) (rest : List (List ℕ)) (files : List T) → is_some named ≡ true → AreOpened Gives (listed (option_map name named) ++ rest) files → 0 < length files
-  has_first None rest files wanted opened = absurd (true≢false (sym wanted))
-  has_first (Some n) rest [] wanted opened = absurd opened
-  has_first (Some n) rest (f ∷ files) wanted opened = omega arith
-
--- the same, by the same names
-module _ {T E : Type 0} (Gives : List ℕ → Result T E → Type 0) {names names' : List (List ℕ)} (same : names ≡ names') where
-  pub opened_at : (files : List T) → AreOpened Gives names files → AreOpened Gives names' files
-  opened_at files opened = subst (λ ns. AreOpened Gives ns files) same opened
-
-  pub unopened_at : (f : Fault) → IsOpeningFault Gives names f → IsOpeningFault Gives names' f
-  unopened_at f fault = subst (λ ns. IsOpeningFault Gives ns f) same fault
