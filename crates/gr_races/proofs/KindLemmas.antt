@@ -1,16 +1,15 @@
 -- Each race of a launch has a kind, and it is said whether there is one.
-use Rattle.std.proofs.Common.{◌≡◌, ◌↔◌, ⊎_elim, subst, cond, ◌<◌, ◌&&◌, ℕ, Bool, true, false, List, [], ◌∷◌, ◌++◌, Option, Some, Contains, IsTrue, All, None, nat_eq, option_and_then, ap, arith, length, map, refl, sym, ◌∙◌, true≢false}
+use Rattle.std.proofs.Common.{◌≡◌, ◌↔◌, ⊎_elim, subst, cond, ◌<◌, ◌&&◌, ℕ, Bool, true, false, List, [], ◌∷◌, ◌++◌, Option, Some, Contains, IsTrue, All, None, option_and_then, ap, arith, length, map, refl, sym, ◌∙◌, true≢false}
 use Rattle.std.specs.Prelude.{AllPairs, if◌then◌else◌, filter, nat_lt, not, option_map}
 use Rattle.std.specs.List.{cons_option, list_any}
 use Rattle.std.specs.Option.{option_eq, option_map_or}
 use Rattle.std.proofs.Math.Bool.{beq}
 use Rattle.std.proofs.lemmas.Bool.Decides.{nat_tests}
-use Rattle.std.proofs.lemmas.Bool.{and_parts, cond_both, eqb-true, false_from_ne_true, lt-ltb, ltb-true}
+use Rattle.std.proofs.lemmas.Bool.{and_parts, cond_both, false_from_ne_true, lt-ltb, ltb-true}
 use Rattle.std.proofs.lemmas.List.Elements.{All-cons, All-contains, All-contains_itself, All-filter, All-nil, Contains-append_cases, Contains-append_left, Contains-append_right, Contains-push}
 use Rattle.std.proofs.lemmas.List.Folds.{list_any-append, list_any_at}
 use Rattle.std.proofs.lemmas.List.Quantifiers.{all_pairs_push}
 use Rattle.gr_races.specs.declared.cause.Cause.{Cause}
-use Rattle.gr_races.specs.declared.cause.Cause.TheVariants as why
 use Rattle.gr_races.specs.contracts.cause.CausePartialEq.TheImpl as causes
 use Rattle.gr_model.specs.Access.{event_word, word_if_access, word_in}
 use Rattle.gr_model.specs.declared.event.Event.{Event}
@@ -20,7 +19,6 @@ use Rattle.gr_model.specs.declared.event.Kind.TheVariants as kinds
 use Rattle.gr_model.specs.declared.event.Word.{Word}
 use Rattle.gr_model.specs.contracts.event.SpacePartialEq.TheImpl as spaces
 use Rattle.gr_model.specs.declared.event.Space.{Space}
-use Rattle.gr_model.specs.declared.event.Space.TheVariants.{Global}
 use Rattle.gr_model.specs.declared.race.Race.{Race}
 use Rattle.gr_model.specs.Races.{IsRacy}
 use Rattle.gr_model.specs.Reports.{AreRaces}
@@ -30,10 +28,8 @@ use Rattle.gr_places.specs.declared.places.Placed.{Placed}
 use Rattle.gr_places.specs.declared.places.Placed.TheVariants as of_places
 use Rattle.gr_races.specs.declared.kinds.KindedRace.{KindedRace}
 use Rattle.gr_races.specs.declared.kinds.Operation.{Operation}
-use Rattle.gr_races.specs.declared.kinds.Operation.TheVariants as ops
 use Rattle.gr_races.specs.declared.kinds.PlacedOperation.{PlacedOperation}
 use Rattle.gr_races.specs.declared.kinds.RaceKind.{RaceKind}
-use Rattle.gr_races.specs.contracts.kinds.OperationPartialEq.TheImpl as operations
 use Rattle.gr_races.specs.contracts.kinds.PlacedOperationPartialEq.TheImpl as placed
 use Rattle.gr_races.specs.contracts.kinds.RaceKindEq.TheImpl.Laws as equal
 use Rattle.gr_explain.proofs.Lists.{first_or_rest}
@@ -186,37 +182,19 @@ each_race_is_listed_once rows = (distinct_after [] rows (λ i j d before within.
 -- ---- the same kinds are one
 
 same_spaces : (a b : Space) → (spaces.eq-value).it a b ≡ true → a ≡ b
-same_spaces Global Global e = cc
-same_spaces a Global e = cc
-same_spaces a b e = cc
-
-same_operations : (a b : Operation) → (operations.eq-value).it a b ≡ true → a ≡ b
-same_operations ops.Read ops.Read e = cc
-same_operations a ops.Read e = cc
-same_operations a b e = cc
+same_spaces a b e = grind arith
 
 same_answers : (a b : Bool) → beq a b ≡ true → a ≡ b
 same_answers a b e = grind (arith, nat_tests)
 
-same_places : (a b : Option ℕ) → option_eq nat_eq a b ≡ true → a ≡ b
-same_places (Some a) (Some b) e = ap (λ (n : ℕ). Some n) (eqb-true a b e)
-same_places a None e = cc
-same_places a b e = cc
-
 same_placed : (a b : PlacedOperation) → (placed.eq-value).it a b ≡ true → a ≡ b
-same_placed a b e =
-    let p = and_parts ((operations.eq-value).it a.operation b.operation) (option_eq nat_eq a.place b.place) e in
-    λ i. record { operation = same_operations a.operation b.operation p.0 i; place = same_places a.place b.place p.1 i }
+same_placed a b e = grind (arith, nat_tests)
 
 same_why : (a b : Cause) → (causes.eq-value).it a b ≡ true → a ≡ b
-same_why why.Flags why.Flags e = cc
-same_why a why.Flags e = cc
-same_why a b e = cc
+same_why a b e = grind arith
 
 same_causes : (a b : Option Cause) → option_eq (causes.eq-value).it a b ≡ true → a ≡ b
-same_causes (Some a) (Some b) e = ap (λ (c : Cause). Some c) (same_why a b e)
-same_causes a None e = cc
-same_causes a b e = cc
+same_causes a b e = grind (arith, same_why)
 
 same_is_one : (k l : RaceKind) → same_kind k l ≡ true → k ≡ l
 same_is_one k l e =

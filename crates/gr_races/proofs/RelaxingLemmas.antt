@@ -8,9 +8,8 @@ use Rattle.std.proofs.lemmas.List.{ext_get_or, get_or-map, length-map}
 use Rattle.gr_model.specs.declared.event.Event.{Event}
 use Rattle.gr_model.specs.declared.event.EventId.{EventId}
 use Rattle.gr_model.specs.declared.event.Kind.{Kind}
-use Rattle.gr_model.specs.declared.event.Kind.TheVariants.{Read, Load, Store, Rmw, Barrier}
+use Rattle.gr_model.specs.declared.event.Kind.TheVariants.{Read}
 use Rattle.gr_model.specs.declared.event.Name.{Name}
-use Rattle.gr_model.specs.declared.event.Scope.TheVariants.{Device}
 use Rattle.gr_model.specs.declared.event.Space.{Space}
 use Rattle.gr_model.specs.declared.event.Word.{Word}
 use Rattle.gr_model.specs.declared.race.Race.{Race}
@@ -19,7 +18,7 @@ use Rattle.gr_model.specs.Access.{event_word, is_acquire_kind, word_if_access, w
 use Rattle.gr_model.specs.Events.{IsEventOk, IsKindOk, IsNamingOk, is_end_kind}
 use Rattle.gr_model.specs.Streams.{AreAccepted, AreGood, IsAccepted, IsGoodAt, Streams, event_at, is_complete, is_of, list_of, size_of, word_at}
 use Rattle.gr_races.specs.declared.relaxing.Relaxation.{Relaxation}
-use Rattle.gr_races.specs.declared.relaxing.Relaxation.TheVariants.{BothFlags, DeviceScope}
+use Rattle.gr_races.specs.declared.relaxing.Relaxation.TheVariants.{BothFlags}
 use Rattle.gr_explain.specs.declared.judging.Judgement.TheVariants.{Race as AsRace}
 use Rattle.gr_explain.specs.Judged.{AreAccesses, AreJudgements, IsJudged}
 use Rattle.gr_races.specs.Causes.{IsPairOf}
@@ -28,14 +27,10 @@ use Rattle.gr_races.specs.Relaxing.{is_relaxed, relaxed, relaxed_event, relaxed_
 -- ---- one record
 
 same_end : (r : Relaxation) (k : Kind) → is_end_kind (relaxed_kind r k) ≡ is_end_kind k
-same_end BothFlags Read = refl
-same_end r Read = refl
-same_end r k = refl
+same_end r k = grind arith
 
 same_acquire : (r : Relaxation) (k : Kind) → is_acquire_kind (relaxed_kind r k) ≡ is_acquire_kind k
-same_acquire BothFlags Read = refl
-same_acquire r Read = refl
-same_acquire r k = refl
+same_acquire r k = grind arith
 
 still_kind : (r : Relaxation) (k : Kind) (item : ℕ) (space : Space) (word : ℕ) → IsKindOk k item space word → IsKindOk (relaxed_kind r k) item space word
 still_kind BothFlags Read item space word ok = ok
@@ -97,9 +92,7 @@ still_all_accepted r s accepted = record {
 -- ---- what an event accesses
 
 same_word : (r : Relaxation) (k : Kind) (w : Word) → word_if_access (relaxed_kind r k) w ≡ word_if_access k w
-same_word BothFlags Read w = refl
-same_word r Read w = refl
-same_word r k w = refl
+same_word r k w = grind arith
 
 module _ {X : Type 0} (f : X → X) where
   filtered : (test : X → Bool) → ((x : X) → test (f x) ≡ test x) → (xs : List X) → filter test (map f xs) ≡ map f (filter test xs)
@@ -131,11 +124,7 @@ still_accesses r s pair race =
 -- ---- where a rule changes nothing
 
 same_kind : (r : Relaxation) (k : Kind) → is_relaxed r k ≡ true → relaxed_kind r k ≡ k
-same_kind BothFlags (Barrier true true) is = cc
-same_kind DeviceScope (Load Device order) is = cc
-same_kind DeviceScope (Store Device order) is = cc
-same_kind DeviceScope (Rmw Device order) is = cc
-same_kind r k is = cc
+same_kind r k is = grind arith
 
 -- a list of such records is the same
 pub same_list : (r : Relaxation) (xs : List Event) → list_all (λ x. is_relaxed r x.kind) xs ≡ true → map (relaxed_event r) xs ≡ xs
