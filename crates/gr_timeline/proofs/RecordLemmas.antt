@@ -7,7 +7,6 @@ use Rattle.std.proofs.lemmas.Option.{slice_get_past}
 use Rattle.gr_model.specs.declared.event.Event.{Event}
 use Rattle.gr_model.specs.declared.event.EventId.{EventId}
 use Rattle.gr_model.specs.declared.event.Kind.{Kind}
-use Rattle.gr_model.specs.declared.event.Kind.TheVariants.{End}
 use Rattle.gr_model.specs.declared.event.Word.{Word}
 use Rattle.gr_model.specs.Access.{event_word, word_if_access}
 use Rattle.gr_model.specs.Barriers.{is_barrier}
@@ -24,8 +23,7 @@ use Rattle.gr_timeline.proofs.ListLemmas.{length-places, places_here, places_oth
 
 -- a record that accesses a word is one of its item
 access_is_of : (k : Kind) (w v : Word) → word_if_access k w ≡ Some v → is_end_kind k ≡ false
-access_is_of (End cut) w v is = cc
-access_is_of k w v is = refl
+access_is_of k w v is = grind arith
 
 -- what a longer list tells of an event is what a shorter one does
 still_known : (list longer : List Event) (w : Word) (e : EventId) (o p : Option Details) → event_in longer e ≡ event_in list e → told_in longer e ≡ told_in list e → p ≡ o → IsKnownIn list w e o → IsKnownIn longer w e p
