@@ -9,7 +9,6 @@ use Rattle.gr_model.specs.declared.event.EventId.{EventId}
 use Rattle.gr_model.specs.declared.event.ItemId.{ItemId}
 use Rattle.gr_model.specs.contracts.event.ItemIdPartialEq.TheImpl as equality
 use Rattle.gr_model.specs.declared.class.Class.{Class}
-use Rattle.gr_model.specs.declared.class.Class.TheVariants.{PlainRead}
 use Rattle.gr_model.specs.Classes.{exempt}
 use Rattle.gr_clocks.proofs.RowLemmas.{same_items}
 use Rattle.gr_shadow.specs.Clashes.{ClockedAccess}
@@ -21,9 +20,7 @@ use Rattle.gr_explain.specs.Alike.{IsInPlaceOf, KeepsEvents, entry_event, event_
 
 -- two classes whose accesses are exempt though they are of two groups are exempt in any
 exempt_apart : (c d : Class) (g h : ℕ) → exempt c 0 d 1 ≡ true → exempt c g d h ≡ true
-exempt_apart PlainRead PlainRead g h is = cc
-exempt_apart c PlainRead g h is = cc
-exempt_apart c d g h is = cc
+exempt_apart c d g h is = grind arith
 
 no_clash : (c : Class) (y : ClockedAccess) (e : EventId) → exempt c 0 y.class 1 ≡ true → event_clashes c y e ≡ false
 no_clash c y e is = grind (arith, exempt_apart c y.class e.at.group y.item.group is)
