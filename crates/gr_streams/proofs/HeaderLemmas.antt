@@ -12,6 +12,9 @@ use Rattle.gr_record.specs.declared.fault.Fault.{Fault}
 use Rattle.gr_record.specs.declared.fault.Fault.TheVariants as faults
 use Rattle.gr_record.specs.declared.layout.TheConstants.{HEADER_LENGTH}
 use Rattle.gr_record.specs.Faults.{stream_fault}
+use Rattle.gr_record.specs.Laws.{AreBytes}
+use Rattle.gr_record.specs.Spelling.{IsHeader}
+use Rattle.gr_record.proofs.Found.{read_header_is_spelled}
 use Rattle.gr_record.specs.Reading as reading_spec
 use Rattle.gr_record.specs.Reading.{header_at}
 use Rattle.gr_record.specs.declared.header.Version.{Version}
@@ -141,3 +144,7 @@ headed_at h prefix (is, all) =
     by_header : (r : Result Header RecordError) → header_at prefix ≡ r → record_spec.◌>>=◌ {Y = Header × List ℕ} r (λ x. Ok (x, drop HEADER_LENGTH prefix)) ≡ Ok (h, []) → header_at prefix ≡ Ok h
     by_header (Err e) k read = absurd cc
     by_header (Ok x) k read = k ∙ ap (λ (y : Header × List ℕ). Ok y.0) (same_found (x, drop HEADER_LENGTH prefix) (h, []) read)
+
+-- a header that was read may stand in a stream
+pub is_header : (h : Header) (prefix : List ℕ) → AreBytes prefix → IsHeaded h prefix → IsHeader h
+is_header h prefix fits headed = (read_header_is_spelled h prefix fits (omega (arith, headed.1)) (headed_at h prefix headed)).1

@@ -1,4 +1,5 @@
 pub mod HeaderLemmas
+pub mod SeenLemmas
 pub mod HeadingLemmas
 pub mod SendingLemmas
 pub mod AcceptedLemmas

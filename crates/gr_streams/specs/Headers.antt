@@ -1,11 +1,13 @@
 -- The headers of streams that come from an input each, before any record is read, and the launch that headers are of.
 -- Source: docs/FORMATS.md, "Several streams".
-use Rattle.std.specs.Prelude.{◌≡◌, ◌≢◌, ℕ, not, ◌==◌, if◌then◌else◌, List, [], ◌∷◌, ◌++◌, length, map, AllPairs, Result, Ok, Err}
+use Rattle.std.specs.Prelude.{◌≡◌, ◌≢◌, ℕ, not, ◌==◌, if◌then◌else◌, List, [], ◌∷◌, ◌++◌, length, map, All, AllPairs, Result, Ok, Err}
 use Rattle.std.specs.List.{list_any}
 use Rattle.gr_record.specs.declared.header.Header.{Header}
 use Rattle.gr_record.specs.declared.fault.Fault.{Fault}
 use Rattle.gr_record.specs.declared.fault.Fault.TheVariants as faults
+use Rattle.gr_record.specs.Spelling.{IsHeader}
 use Rattle.gr_record.specs.WholeStreams.{front_header_at}
+use Rattle.gr_intake.specs.Intakes.{AreGroupsOf}
 use Rattle.gr_intake.specs.Launch.{IsLaunchOf}
 use Rattle.gr_intake.specs.Joined.{Flat, ◌>>=◌, at_place}
 use Rattle.gr_model.specs.declared.event.Event.{Event}
@@ -50,3 +52,9 @@ abbrev pub streams_with : List Header → List (List Event) → List Flat
 streams_with [] lists = []
 streams_with (h ∷ hs) [] = []
 streams_with (h ∷ hs) (events ∷ lists) = record { header = h; events = events } ∷ streams_with hs lists
+
+-- headers of one launch, and the sizes of their groups
+pub record AreSeen (sizes : List ℕ) (hs : List Header) : Type 0 where
+  pub groups : AreGroupsOf sizes hs
+  pub each : All IsHeader hs
+  pub launch : AllPairs (λ g h. g.launch ≡ h.launch) hs

@@ -2,13 +2,14 @@
 
 ghost use Rattle.std.specs.Prelude.{◌≡◌, ◌≢◌, ◌++◌, ◌∷◌, [], All, IfErr, IfOk, IfSome, Ok, OnOk, map};
 ghost use Rattle.gr_record.specs.InputFaults.{Fails};
-ghost use Rattle.gr_record.specs.declared.fault.Fault.TheVariants as faults;
 ghost use Rattle.gr_record.specs.Faults.{IsOfReading};
 ghost use Rattle.gr_replay.specs.Each.{all_known};
 ghost use Rattle.gr_streams.specs.Headers.{AreApart, headers_of};
 ghost use Rattle.gr_streams.specs.Sources.{AreKnown, IsHeaded, known_of};
 
+use crate::seen::Seen;
 use crate::source::{Source, open};
+use gr_model::memory::Memory;
 use gr_record::fault::Fault;
 use gr_record::header::Header;
 use std::alloc::Allocator;
@@ -37,30 +38,24 @@ pub(crate) fn read_headers<A: Allocator + Copy, T: Read + Drop>(
     ensures exact { IfErr result (λ f. IfSome (all_known (map T.remaining readers.items)) (λ inputs. Fails f (headers_of inputs))) }
     ensures fault { IfErr result IsOfReading }
 {
-    let mut headers = Vec::new(alloc);
+    let mut seen = Seen::new(alloc);
     let mut sources = Vec::new(alloc);
     for reader in readers {
-        let source = open(reader, headers.as_slice())?;
-        keep(&mut headers, &mut sources, source)?;
+        let source = open(reader, &seen)?;
+        seen = seen.with_header(source.header)?;
+        keep(&mut sources, source)?;
     }
+    let headers = seen.into_headers();
     Ok(Headed { headers, sources })
 }
 
-/// Keeps one more source, and its header.
+/// Keeps one more source.
 fn keep<A: Allocator, T: Drop>(
-    headers: &mut Vec<Header, A>,
     sources: &mut Vec<Source<T>, A>,
     source: Source<T>,
-) -> Result<(), Fault>
-    ensures headers { OnOk result (headers.new.items ≡ headers.old.items ++ source.header ∷ []) }
-    ensures sources { OnOk result (sources.new.items ≡ sources.old.items ++ source ∷ []) }
-    ensures memory { IfErr result (λ f. f ≡ faults.Memory) }
+) -> Result<(), Memory>
+    ensures { OnOk result (sources.new.items ≡ sources.old.items ++ source ∷ []) }
 {
-    if headers.push(source.header).is_err() {
-        return Err(Fault::Memory);
-    }
-    match sources.push(source) {
-        Ok(()) => Ok(()),
-        Err(_) => Err(Fault::Memory),
-    }
+    sources.push(source)?;
+    Ok(())
 }

@@ -6,6 +6,7 @@ mod headers;
 mod joins;
 mod reading;
 mod run;
+mod seen;
 mod shape;
 mod source;
 mod thread;

@@ -1,20 +1,22 @@
 //! A reader, once the header of its stream was read.
 
-ghost use Rattle.std.specs.Prelude.{◌≡◌, ◌≢◌, ◌==◌, ◌<◌, ◌≤◌, not, length, All, IfErr, IfOk, IfSome, Ok, Some};
-ghost use Rattle.std.specs.List.{list_any};
+ghost use Rattle.std.specs.Prelude.{◌≡◌, ◌≢◌, ◌<◌, ◌≤◌, length, All, IfErr, IfOk, IfSome, Ok, Some};
 ghost use Rattle.std.specs.Io.KnownBytes.{Consumes, IsAtEnd};
 ghost use Rattle.gr_record.specs.InputFaults.{Fails, Gives};
 ghost use Rattle.gr_record.specs.declared.fault.Fault.TheVariants as faults;
 ghost use Rattle.gr_record.specs.declared.layout.TheConstants.{HEADER_LENGTH};
 ghost use Rattle.gr_record.specs.Faults.{IsOfReading};
+ghost use Rattle.gr_record.specs.Spelling.{IsHeader};
 ghost use Rattle.gr_streams.specs.Headers.{header_behind};
 ghost use Rattle.gr_streams.specs.Sources.{IsHeaded, known_of};
 
+use crate::seen::Seen;
 use arrayvec::ArrayVec;
 use gr_record::fault::Fault;
 use gr_record::header::Header;
 use gr_record::layout::HEADER_LENGTH;
 use gr_record::stream::read_front_header;
+use std::alloc::Allocator;
 use std::io::Read;
 
 /// A reader, once the header of its stream was read.
@@ -51,41 +53,29 @@ fn read_prefix<T: Read>(reader: &mut T) -> Result<ArrayVec<u8, HEADER_LENGTH>, F
     Ok(prefix)
 }
 
-/// Whether one of the headers is of this group.
-fn has_group(seen: &[Header], group: u16) -> bool
-    ensures { result ≡ list_any (λ s. s.group == group) seen.now }
-{
-    seen.iter().any(|header| header.group == group)
-}
-
-/// Whether one of the headers is of another launch.
-fn has_other_launch(seen: &[Header], launch: u32) -> bool
-    ensures { result ≡ list_any (λ s. not (s.launch == launch)) seen.now }
-{
-    seen.iter().any(|header| header.launch != launch)
-}
-
 /// The header at the front of the bytes, behind these headers.
 /// Requires: there are no more bytes than a header has.
 ///
 /// # Errors
 /// The header's fault; `SameGroup`; `OtherLaunch`.
-fn header_behind(seen: &[Header], prefix: &[u8]) -> Result<Header, Fault>
+fn header_behind<A: Allocator>(seen: &Seen<A>, prefix: &[u8]) -> Result<Header, Fault>
     requires { length prefix.now ≤ HEADER_LENGTH }
     ensures exact { Gives (λ h. h) result (header_behind seen.now prefix.now) }
+    ensures good { IfOk result IsHeader }
     ensures apart { IfOk result (λ h. All (λ s. s.group ≢ h.group) seen.now) }
+    ensures launch { IfOk result (λ h. All (λ s. s.launch ≡ h.launch) seen.now) }
     ensures headed { IfOk result (λ h. IsHeaded h prefix.now) }
     ensures fault { IfErr result IsOfReading }
 {
-    let place = seen.len() as u64;
+    let place = seen.count();
     let (header, _rest) = match read_front_header(prefix) {
         Ok(found) => found,
         Err(error) => return Err(Fault::of_stream(place, error)),
     };
-    if has_group(seen, header.group) {
+    if seen.has_group(header.group) {
         return Err(Fault::SameGroup(place));
     }
-    if has_other_launch(seen, header.launch) {
+    if seen.has_other_launch(header.launch) {
         return Err(Fault::OtherLaunch(place));
     }
     Ok(header)
@@ -95,10 +85,15 @@ fn header_behind(seen: &[Header], prefix: &[u8]) -> Result<Header, Fault>
 ///
 /// # Errors
 /// The header's fault; `SameGroup`; `OtherLaunch`; `Read`, where the reader fails.
-pub(crate) fn open<T: Read + Drop>(reader: T, seen: &[Header]) -> Result<Source<T>, Fault>
+pub(crate) fn open<T: Read + Drop, A: Allocator>(
+    reader: T,
+    seen: &Seen<A>,
+) -> Result<Source<T>, Fault>
     ensures known { IfOk result (λ s. IfSome (T.remaining reader) (λ bytes. known_of T.remaining s ≡ Some bytes)) }
     ensures header { IfOk result (λ s. IfSome (T.remaining reader) (λ bytes. header_behind seen.now bytes ≡ Ok s.header)) }
+    ensures good { IfOk result (λ s. IsHeader s.header) }
     ensures apart { IfOk result (λ s. All (λ h. h.group ≢ s.header.group) seen.now) }
+    ensures launch { IfOk result (λ s. All (λ h. h.launch ≡ s.header.launch) seen.now) }
     ensures headed { IfOk result (λ s. IsHeaded s.header s.prefix.items) }
     ensures exact { IfErr result (λ f. IfSome (T.remaining reader) (λ bytes. Fails f (header_behind seen.now bytes))) }
     ensures fault { IfErr result IsOfReading }

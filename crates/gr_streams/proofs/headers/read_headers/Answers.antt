@@ -27,7 +27,7 @@ same_some x y e = cc
 
 pub loop-reader-init : goal.loop-reader-init
 loop-reader-init g c =
-    rw (c.new-headers.ensures.items, c.new-sources.ensures.items) (record {
+    rw (c.new-seen.ensures, c.new-sources.ensures.items) (record {
       left = search rules;
       apart = λ i j d before within. absurd (omega arith);
       sources = refl;
@@ -46,27 +46,24 @@ returns-in_err-source-clause-exact g c =
     let items : into_iter_items c.loop-reader.reader-iterator ≡ c.in-Some.reader ∷ left = search rules in
     let all : c.args.readers.items ≡ c.loop-reader.yielded ++ c.in-Some.reader ∷ left = sym inv.left ∙ ap (λ l. c.loop-reader.yielded ++ l) items in
     let known : map rem c.args.readers.items ≡ map rem c.loop-reader.yielded ++ rem c.in-Some.reader ∷ map rem left = ap (map rem) all ∙ map-append rem c.loop-reader.yielded (c.in-Some.reader ∷ left) in
-    let exact = rw c.as_slice.ensures.value at c.in_err-source.ensures.exact in
     rw (p.1, p.2, known)
     (known_so_far (map rem c.loop-reader.yielded) (map rem left) (rem c.in-Some.reader)
-    (λ inputs. headers_of inputs ≡ Ok c.loop-reader.headers.items)
-    (λ bytes. Fails f (header_behind c.loop-reader.headers.items bytes))
+    (λ inputs. headers_of inputs ≡ Ok c.loop-reader.seen)
+    (λ bytes. Fails f (header_behind c.loop-reader.seen bytes))
     (λ inputs. Fails f (headers_of inputs))
-    inv.headers exact (λ xs b ys _ read fails. header_refused xs c.loop-reader.headers.items read b ys f fails))
+    inv.headers c.in_err-source.ensures.exact (λ xs b ys _ read fails. header_refused xs c.loop-reader.seen read b ys f fails))
 
 pub loop-reader-preserved : goal.loop-reader-preserved
 loop-reader-preserved g c =
     let inv = c.loop-reader.invariant in
     let rem = g.T.Read.remaining in
     let s = c.in_ok-source.source in
-    let hs = c.loop-reader.headers.items in
+    let hs = c.loop-reader.seen in
     let left = into_iter_items c.next.new.self in
     let items : into_iter_items c.loop-reader.reader-iterator ≡ c.in-Some.reader ∷ left = search rules in
-    let header = rw c.as_slice.ensures.value at c.in_ok-source.ensures.header in
-    let apart = rw c.as_slice.ensures.value at c.in_ok-source.ensures.apart in
-    rw (c.in_ok-keep.ensures.headers, c.in_ok-keep.ensures.sources) (record {
+    rw (c.in_ok-seen.ensures, c.in_ok-keep.ensures) (record {
       left = append_assoc c.loop-reader.yielded (c.in-Some.reader ∷ []) left ∙ (ap (λ l. c.loop-reader.yielded ++ l) (sym items) ∙ inv.left);
-      apart = all_pairs_push (λ (g h : Header). g.group ≢ h.group) hs s.header inv.apart (λ k d lt. apart k d lt);
+      apart = all_pairs_push (λ (g h : Header). g.group ≢ h.group) hs s.header inv.apart c.in_ok-source.ensures.apart;
       sources = map_push (λ (x : Source _). x.header) c.loop-reader.sources.items s ∙ ap (λ l. l ++ s.header ∷ []) inv.sources;
       known = rw (map_push rem c.loop-reader.yielded c.in-Some.reader, map_push (known_of rem) c.loop-reader.sources.items s) (one_more_known (map rem c.loop-reader.yielded) (map (known_of rem) c.loop-reader.sources.items) (rem c.in-Some.reader) (known_of rem s) inv.known c.in_ok-source.ensures.known);
       headed = All-push (λ (x : Source _). IsHeaded x.header x.prefix.items) c.loop-reader.sources.items s inv.headed c.in_ok-source.ensures.headed;
@@ -75,7 +72,9 @@ loop-reader-preserved g c =
           (λ inputs. headers_of inputs ≡ Ok hs)
           (λ bytes. header_behind hs bytes ≡ Ok s.header)
           (λ inputs. headers_of inputs ≡ Ok (hs ++ s.header ∷ []))
-          inv.headers header (λ xs b ys none read is. subst (λ (l : List (List ℕ)). headers_of (xs ++ b ∷ l) ≡ Ok (hs ++ s.header ∷ [])) (same_some [] ys none) (one_more_header xs hs read b s.header is)));
+          inv.headers c.in_ok-source.ensures.header (λ xs b ys none read is.
+          let behind = λ (l : List (List ℕ)). headers_of (xs ++ b ∷ l) ≡ Ok (hs ++ s.header ∷ []) in
+          subst behind (same_some [] ys none) (one_more_header xs hs read b s.header is)));
     })
 
 pub loop-reader-smaller : goal.loop-reader-smaller
@@ -91,13 +90,15 @@ pub returns-clause-headers : goal.returns-clause-headers
 returns-clause-headers g c =
     let left = c.loop-reader.reader-iterator in
     let all = all_yielded c.loop-reader.yielded (into_iter_items left) c.args.readers.items c.loop-reader.invariant.left (sym left.rest.ok.0 ∙ c.in-None.ensures.steps.0) in
-    subst (λ (l : List g.row.T.Denot). IfSome (all_known (map g.T.Read.remaining l)) (λ inputs. headers_of inputs ≡ Ok c.loop-reader.headers.items)) all c.loop-reader.invariant.headers
+    let read = λ (inputs : List (List ℕ)). headers_of inputs ≡ Ok c.loop-reader.seen in
+    let whole = λ (l : List g.row.T.Denot). IfSome (all_known (map g.T.Read.remaining l)) read in
+    rw c.into_headers-headers.ensures (subst whole all c.loop-reader.invariant.headers)
 
 pub returns-clause-apart : goal.returns-clause-apart
-returns-clause-apart g c = c.loop-reader.invariant.apart
+returns-clause-apart g c = rw c.into_headers-headers.ensures c.loop-reader.invariant.apart
 
 pub returns-clause-sources : goal.returns-clause-sources
-returns-clause-sources g c = c.loop-reader.invariant.sources
+returns-clause-sources g c = rw c.into_headers-headers.ensures c.loop-reader.invariant.sources
 
 pub returns-clause-known : goal.returns-clause-known
 returns-clause-known g c =

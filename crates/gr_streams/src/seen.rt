@@ -1,0 +1,96 @@
+//! The headers that were read, and what a further one is compared with, without a look at each of them.
+
+ghost use Rattle.std.specs.Prelude.{◌≡◌, ◌≢◌, ◌==◌, ◌++◌, ◌∷◌, [], not, length, All, IfOk};
+ghost use Rattle.std.specs.List.{list_any};
+ghost use Rattle.gr_record.specs.Spelling.{IsHeader};
+
+use gr_model::event::ItemId;
+use gr_model::growing::GrowingShape;
+use gr_model::memory::Memory;
+use gr_record::header::Header;
+use std::alloc::{Allocator, Global};
+use std::marker::Model;
+
+/// Headers of one launch and of different groups, and the sizes of these. Contracts see the headers.
+#[derive(Drop)]
+pub(crate) struct Seen<A: Allocator = Global> {
+    headers: Vec<Header, A>,
+    groups: GrowingShape<A>,
+}
+
+impl<A: Allocator> Model for Seen<A> {
+    ghost use Rattle.std.specs.Prelude.{List};
+    ghost use Rattle.gr_record.specs.declared.header.Header.{Header as AnyHeader};
+    ghost use Rattle.gr_streams.specs.Headers.{AreSeen};
+
+    ghost Value = { List AnyHeader };
+
+    ghost view = { λ s. s.headers.items };
+
+    ghost invariant = { λ s. AreSeen s.groups s.headers.items };
+}
+
+impl<A: Allocator> Seen<A> {
+    /// Before any header was read. It takes no memory.
+    pub(crate) fn new(alloc: A) -> Seen<A>
+    where
+        A: Copy,
+        ensures { result ≡ [] }
+    {
+        Seen {
+            headers: Vec::new(alloc),
+            groups: GrowingShape::new(alloc),
+        }
+    }
+
+    /// How many headers were read.
+    pub(crate) fn count(&self) -> u64
+        ensures { result ≡ length self.now }
+    {
+        self.headers.len() as u64
+    }
+
+    /// Whether one of the headers is of this group.
+    pub(crate) fn has_group(&self, group: u16) -> bool
+        ensures { result ≡ list_any (λ s. s.group == group) self.now }
+    {
+        self.groups.has(ItemId { group, item: 0 })
+    }
+
+    /// Whether one of the headers is of another launch.
+    pub(crate) fn has_other_launch(&self, launch: u32) -> bool
+        ensures { result ≡ list_any (λ s. not (s.launch == launch)) self.now }
+    {
+        match self.headers.first() {
+            None => false,
+            Some(header) => header.launch != launch,
+        }
+    }
+
+    /// These headers, and one more.
+    /// Requires: it is of another group than each of them, and of the same launch.
+    ///
+    /// # Errors
+    /// `Memory`: out of memory.
+    pub(crate) fn with_header(self, header: Header) -> Result<Seen<A>, Memory>
+        requires header { IsHeader header }
+        requires group { All (λ s. s.group ≢ header.group) self }
+        requires launch { All (λ s. s.launch ≡ header.launch) self }
+        ensures { IfOk result (λ s. s ≡ self ++ header ∷ []) }
+    {
+        let Seen {
+            mut headers,
+            groups,
+        } = self;
+        headers.push(header)?;
+        let groups = groups.with_group(header.group, header.items)?;
+        Ok(Seen { headers, groups })
+    }
+
+    /// The headers, in the order in which they were read.
+    pub(crate) fn into_headers(self) -> Vec<Header, A>
+        ensures { result.items ≡ self }
+    {
+        self.headers
+    }
+}
