@@ -1,10 +1,10 @@
 -- The senders and the receipts of streams, one stream after the other.
-use Rattle.std.proofs.Common.{◌≡◌, ◌≢◌, ℕ, suc, ◌+◌, ◌-◌, ◌<◌, List, [], ◌∷◌, ◌++◌, length, map, get_or, Contains, Option, Some, Result, Ok, Err, refl, sym, ap, ◌∙◌, subst, arith, inl, inr, eq-or-lt_of_le, ⊎_elim}
+use Rattle.std.proofs.Common.{◌≡◌, ◌≢◌, ℕ, suc, ◌+◌, ◌<◌, List, [], ◌∷◌, ◌++◌, length, map, get_or, set, Contains, Option, None, Some}
+use Rattle.std.proofs.Common.{Result, Ok, Err, refl, sym, ap, ◌∙◌, subst, arith, inl, inr}
 use Rattle.std.specs.Prelude.{All}
-use Rattle.std.proofs.lemmas.Bool.{cases_lt}
+use Rattle.std.proofs.lemmas.Bool.{cases_eq, cases_lt}
 use Rattle.std.proofs.Math.Seq.{get_or-append_seam}
-use Rattle.std.proofs.lemmas.List.{get_or_append_left, length-append}
-use Rattle.std.proofs.lemmas.Option.{slice_get-get_or, get_or_from_slice_get}
+use Rattle.std.proofs.lemmas.List.{get_or-set_other, get_or-set_same, get_or_append_left, get_or_past, length-append}
 use Rattle.gr_model.specs.declared.event.Event.{Event}
 use Rattle.gr_record.specs.declared.fault.Fault.{Fault}
 use Rattle.gr_record.specs.declared.header.Header.{Header}
@@ -14,40 +14,23 @@ use Rattle.gr_streams.specs.Headers.{AreApart}
 use Rattle.gr_streams.specs.Records.{and_one, events_at, lists_behind, lists_of}
 use Rattle.gr_streams.specs.Sources.{ArePlaced, AreServed, Begun, HasSender}
 
--- ---- a sender is taken from the others
+-- ---- a sender is taken from its place
 
--- the last has come into its place
-module _ (old new : List Sending) (n i : ℕ) (long : n ≡ length old) (moved : (d : Sending) → i + 1 < n → get_or new i d ≡ get_or old (n - 1) d) (same : (k : ℕ) (d : Sending) → k ≢ i → k + 1 < n → get_or new k d ≡ get_or old k d) (count : length new + 1 ≡ length old) (lt : i < length old) where
-  pub fewer : (s : Sending) → Contains new s → Contains old s
-  fewer s (k, there, is) =
-      elim (cases_lt k i) [
-        | inl before ↦ (k, omega arith, sym (same k s (λ e. omega (arith, e, before)) (omega arith)) ∙ is)
-        | inr from ↦
-            ⊎_elim
-            (λ (here : i ≡ k). (n - 1, omega arith, sym (moved s (omega arith)) ∙ (ap (λ m. get_or new m s) here ∙ is)))
-            (λ (behind : i < k). (k, omega arith, sym (same k s (λ e. omega (arith, e, behind)) (omega arith)) ∙ is))
-            (eq-or-lt_of_le from)
-      ]
+pub has_place : (senders : List (Option Sending)) (g : ℕ) → HasSender senders g → g < length senders
+has_place senders g (s, at) =
+    elim (cases_lt g (length senders)) [
+      | inl lt ↦ lt
+      | inr past ↦ let none = get_or_past senders g None past in absurd cc
+    ]
 
-  pub others : (taken : Sending) (group : ℕ) → taken ≡ get_or old i taken → taken.group ≡ group → (g : ℕ) → g ≢ group → HasSender old g → HasSender new g
-  others taken group at of g other (s, (k, there, is), group_is) =
-      elim (cases_lt k i) [
-        | inl before ↦ (s, (k, omega arith, same k s (λ e. omega (arith, e, before)) (omega arith) ∙ is), group_is)
-        | inr from ↦
-            ⊎_elim
-            (λ (here : i ≡ k).
-            let s_is : s ≡ get_or old i s = sym is ∙ ap (λ m. get_or old m s) (sym here) in
-            let one : get_or old i s ≡ get_or old i taken = get_or_from_slice_get old i (get_or old i taken) s (slice_get-get_or old i taken lt) in
-            absurd (other (sym group_is ∙ (ap (λ (x : Sending). x.group) (s_is ∙ (one ∙ sym at)) ∙ of))))
-            (λ (behind : i < k).
-            elim (cases_lt (k + 1) n) [
-              | inl inside ↦ (s, (k, omega arith, same k s (λ e. omega (arith, e, behind)) inside ∙ is), group_is)
-              | inr last ↦
-                  let end : n - 1 ≡ k = omega (arith, last, there, long) in
-                  (s, (i, omega arith, moved s (omega arith) ∙ (ap (λ m. get_or old m s) end ∙ is)), group_is)
-            ])
-            (eq-or-lt_of_le from)
-      ]
+-- those that are left were there
+pub was_there : (senders : List (Option Sending)) (group : ℕ) → group < length senders → (g : ℕ) (s : Sending)
+    → get_or (set senders group None) g None ≡ Some s → get_or senders g None ≡ Some s
+was_there senders group lt g s at =
+    elim (cases_eq g group) [
+      | inl here ↦ let none = get_or-set_same senders group None None lt in absurd cc
+      | inr other ↦ sym (get_or-set_other senders group g None None other) ∙ at
+    ]
 
 -- ---- the headers that are left
 
@@ -60,15 +43,20 @@ apart_tail h hs apart i j d before within = apart (suc i) (suc j) d (omega arith
 pub contains_tail : {X : Type 0} (x y : X) (xs : List X) → Contains xs y → Contains (x ∷ xs) y
 contains_tail x y xs (k, lt, is) = (suc k, omega arith, is)
 
-pub served_next : (h : Header) (hs : List Header) (old new : List Sending) → AreServed (h ∷ hs) old → ((g : ℕ) → g ≢ h.group → HasSender old g → HasSender new g) → ((s : Sending) → Contains new s → Contains old s) → AreServed hs new
-served_next h hs old new served others fewer = record {
-  apart = apart_tail h hs served.apart;
-  there = λ x in_hs. others x.group (apart_head h hs served.apart x in_hs) (served.there x (contains_tail h x hs in_hs));
-  ready = λ x s in_hs in_new. served.ready x s (contains_tail h x hs in_hs) (fewer s in_new);
-}
-
 pub contains_head : {X : Type 0} (x : X) (xs : List X) → Contains (x ∷ xs) x
 contains_head x xs = (0, omega arith, refl)
+
+pub served_next : (h : Header) (hs : List Header) (senders : List (Option Sending))
+    → AreServed (h ∷ hs) senders → AreServed hs (set senders h.group None)
+served_next h hs senders served =
+    let lt = has_place senders h.group (served.there h (contains_head h hs)) in
+    record {
+      apart = apart_tail h hs served.apart;
+      there = λ x in_hs.
+          let has = served.there x (contains_tail h x hs in_hs) in
+          (has.0, get_or-set_other senders h.group x.group None None (apart_head h hs served.apart x in_hs) ∙ has.1);
+      ready = λ x s in_hs at. served.ready x s (contains_tail h x hs in_hs) (was_there senders h.group lt x.group s at);
+    }
 
 pub all_tail : {X : Type 0} (P : X → Type 0) (x : X) (xs : List X) → All P (x ∷ xs) → All P xs
 all_tail P x xs all k d lt = all (suc k) d (omega arith)

@@ -1,12 +1,14 @@
 -- The launch of streams that were sent.
-use Rattle.std.proofs.Common.{◌≡◌, ◌≢◌, ℕ, zero, suc, ◌<◌, cond, List, [], ◌∷◌, length, map, get_or, Contains, Option, None, Some, slice_get, slice_index, refl, sym, ap, ◌∙◌, subst, arith, eq-eqb, ne_eqb}
+use Rattle.std.proofs.Common.{◌≡◌, ◌≢◌, ℕ, zero, suc, ◌<◌, cond, List, [], ◌∷◌, length, map, get_or, Contains, Option, None, Some}
+use Rattle.std.proofs.Common.{slice_get, refl, sym, ap, ◌∙◌, subst, arith, eq-eqb, inl, inr, ne_eqb}
 use Rattle.std.specs.Prelude.{All, option_map}
 use Rattle.std.specs.List.{range_with_len}
-use Rattle.std.proofs.lemmas.List.{get_or-map, length-map}
+use Rattle.std.proofs.lemmas.Bool.{cases_lt}
+use Rattle.std.proofs.lemmas.List.{get_or-map, get_or_past, length-map}
 use Rattle.std.proofs.lemmas.List.FromFn.{get_or-map-range_with_len, length-map-range_with_len}
 use Rattle.std.proofs.lemmas.Option.{slice_get-get_or, get_or_from_slice_get}
 use Rattle.atomic_table.specs.Seated.{TableId}
-use Rattle.gr_detector.specs.Runs.{AreReceiptsOf, AreSendersOf, IsOfRun, Run, sent_by, sent_of}
+use Rattle.gr_detector.specs.Runs.{AreReceiptsOf, AreSendersOf, IsOfRun, IsSenderOf, Run, sent_by, sent_of}
 use Rattle.gr_model.specs.declared.event.Event.{Event}
 use Rattle.gr_record.specs.declared.header.Header.{Header}
 use Rattle.gr_replay.specs.Each.{all_known}
@@ -16,7 +18,7 @@ use Rattle.gr_route.specs.IntakeSeats.{Seat}
 use Rattle.gr_threads.specs.Senders.{Sending}
 use Rattle.gr_steps.proofs.Orders.{there_is}
 use Rattle.gr_streams.specs.Headers.{AreApart, AreHeadersOf, bare, bares, streams_with}
-use Rattle.gr_streams.specs.Sources.{AreKnown, AreOfRun, AreReceiptsFor, AreSenders, AreServed, Begun, IsReady}
+use Rattle.gr_streams.specs.Sources.{AreKnown, AreOfRun, AreReceiptsFor, AreSenders, AreServed, Begun}
 use Rattle.gr_streams.proofs.JoinLemmas.{all_tail, apart_head, apart_tail, contains_tail}
 
 -- ---- senders
@@ -30,32 +32,42 @@ inside (y ∷ xs) (suc k) x e = let lt = inside xs k x e in omega (arith, lt)
 bare_in : (hs : List Header) (h : Header) → Contains hs h → Contains (bares hs) (bare h)
 bare_in hs h (k, lt, is) = (k, omega (arith, lt, length-map hs bare), get_or-map bare hs k h (bare h) lt ∙ ap bare is)
 
-module _ (run : Run) (senders : List Sending) (are : AreSendersOf run senders) where
-  pub of_run : AreSenders run senders
-  of_run s (k, lt, is) =
-      let one = subst (λ (x : Sending). IsOfRun run k x.queue.queue × (x.group ≡ k)) is (let o = are.each k s (omega (arith, lt, are.count)) in (o.of_run, o.group)) in
-      subst (λ n. IsOfRun run n s.queue.queue) (sym one.1) one.0
+abbrev sender : Sending → Option Sending
+sender s = Some s
 
-  pub served : (hs : List Header) → AreApart hs → AreHeadersOf hs run.sizes → AreServed hs senders
+abbrev pub places : List Sending → List (Option Sending)
+places senders = map sender senders
+
+module _ (run : Run) (senders : List Sending) (are : AreSendersOf run senders) where
+  at_place : (g : ℕ) (s : Sending) → get_or (places senders) g None ≡ Some s → IsSenderOf run g s
+  at_place g s at =
+      elim (cases_lt g (length senders)) [
+        | inl lt ↦
+            let there : sender (get_or senders g s) ≡ Some s = sym (get_or-map sender senders g s None lt) ∙ at in
+            let is : get_or senders g s ≡ s = cc in
+            subst (IsSenderOf run g) is (are.each g s (omega (arith, lt, are.count)))
+        | inr past ↦ let none = get_or_past (places senders) g None (omega (arith, past, length-map senders sender)) in absurd cc
+      ]
+
+  pub of_run : AreSenders run (places senders)
+  of_run g s at = let is = at_place g s at in subst (λ n. IsOfRun run n s.queue.queue) (sym is.group) is.of_run
+
+  pub served : (hs : List Header) → AreApart hs → AreHeadersOf hs run.sizes → AreServed hs (places senders)
   served hs apart launch = record {
     apart = apart;
     there = λ h in_hs.
         let lt : h.group < length senders = omega (arith, inside run.sizes h.group h.items (size h in_hs), are.count) in
         let at = there_is senders h.group lt in
         let here = get_or_from_slice_get senders h.group at.0 at.0 at.1 in
-        (at.0, (h.group, lt, here), subst (λ (x : Sending). x.group ≡ h.group) here (are.each h.group at.0 (omega (arith, lt, are.count))).group);
-    ready = λ h s in_hs in_senders same. ready h s in_hs in_senders same;
+        (at.0, get_or-map sender senders h.group at.0 None lt ∙ ap sender here);
+    ready = λ h s in_hs at.
+        let is = at_place h.group s at in
+        let items = is.items ∙ get_or_from_slice_get run.sizes h.group h.items 0 (size h in_hs) in
+        record { group = is.group; items = items; records = is.records; sent = is.sent };
   }
     where
       size : (h : Header) → Contains hs h → slice_get run.sizes h.group ≡ Some h.items
       size h in_hs = subst (λ (l : List ℕ). slice_get l h.group ≡ Some h.items) launch.2 (launch.1.each (bare h) (bare_in hs h in_hs)).0
-
-      ready : (h : Header) (s : Sending) → Contains hs h → Contains senders s → s.group ≡ h.group → IsReady h s
-      ready h s in_hs (k, lt, is) same =
-          let o = are.each k s (omega (arith, lt, are.count)) in
-          let at : k ≡ h.group = sym o.group ∙ (ap (λ (x : Sending). x.group) is ∙ same) in
-          let items : (get_or senders k s).items ≡ h.items = o.items ∙ (ap (slice_index run.sizes) at ∙ get_or_from_slice_get run.sizes h.group h.items 0 (size h in_hs)) in
-          subst (IsReady h) is (record { items = items; records = o.records; sent = o.sent })
 
 -- ---- receipts
 

@@ -1,6 +1,7 @@
 -- Readers whose headers were read, and what reading them leaves.
 -- Source: docs/QUEUES.md, "Streams that are read while they are sent".
-use Rattle.std.specs.Prelude.{◌≡◌, ◌≢◌, ℕ, ◌<◌, List, [], ◌∷◌, length, map, slice_index_or, All, Contains, Option, Some, IfSome, Ok, ⊤}
+use Rattle.std.specs.Prelude.{◌≡◌, ◌≢◌, ℕ, ◌<◌, List, [], ◌∷◌, length, map, slice_index_or, All, Contains}
+use Rattle.std.specs.Prelude.{Option, Some, None, IfSome, Ok, ⊤}
 use Rattle.std.specs.Io.KnownBytes.{prepend_known}
 use Rattle.gr_model.specs.declared.limits.TheConstants.{MOST_RECORDS}
 use Rattle.gr_record.specs.declared.header.Header.{Header}
@@ -60,25 +61,26 @@ IsStateOf remaining p Joining = ⊥
 
 -- ---- the streams of a run
 
--- one of the senders is of this group
-abbrev pub HasSender : List Sending → ℕ → Type 0
-HasSender senders g = (s : Sending) × Contains senders s × (s.group ≡ g)
+-- the sender of this group is at its place
+abbrev pub HasSender : List (Option Sending) → ℕ → Type 0
+HasSender senders g = (s : Sending) × (slice_index_or senders g None ≡ Some s)
 
 -- an open sender for the stream of this header, which has sent nothing, and may send a stream of any length
 pub record IsReady (h : Header) (s : Sending) : Type 0 where
+  pub group : s.group ≡ h.group
   pub items : s.items ≡ h.items
   pub records : s.records ≡ MOST_RECORDS
   pub sent : s.sent ≡ []
 
 -- each header's group has a sender
-pub record AreServed (hs : List Header) (senders : List Sending) : Type 0 where
+pub record AreServed (hs : List Header) (senders : List (Option Sending)) : Type 0 where
   pub apart : AreApart hs
   pub there : (h : Header) → Contains hs h → HasSender senders h.group
-  pub ready : (h : Header) (s : Sending) → Contains hs h → Contains senders s → s.group ≡ h.group → IsReady h s
+  pub ready : (h : Header) (s : Sending) → Contains hs h → slice_index_or senders h.group None ≡ Some s → IsReady h s
 
 -- senders of a run
-abbrev pub AreSenders : Run → List Sending → Type 0
-AreSenders run senders = (s : Sending) → Contains senders s → IsOfRun run s.group s.queue.queue
+abbrev pub AreSenders : Run → List (Option Sending) → Type 0
+AreSenders run senders = (g : ℕ) (s : Sending) → slice_index_or senders g None ≡ Some s → IsOfRun run s.group s.queue.queue
 
 -- streams of a run
 abbrev pub AreOfRun : Run → List Begun → Type 0

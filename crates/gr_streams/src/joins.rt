@@ -1,11 +1,11 @@
 //! The readers' threads, from their start to their join.
 
-ghost use Rattle.std.specs.Prelude.{◌≡◌, ◌≢◌, ◌<◌, ◌≤◌, ◌++◌, ◌∷◌, [], ℕ, List, All, Contains, IfOk, IfSome, Result, length, map, vec_capacity, vec_len};
+ghost use Rattle.std.specs.Prelude.{◌≡◌, ◌≢◌, ◌<◌, ◌≤◌, ◌++◌, ◌∷◌, [], ℕ, List, All, None, Some};
+ghost use Rattle.std.specs.Prelude.{IfOk, IfSome, Result, length, map, slice_index_or, slice_set, vec_capacity, vec_len};
 ghost use Rattle.gr_model.specs.declared.event.Event.{Event as AnyEvent};
 ghost use Rattle.gr_record.specs.declared.fault.Fault.{Fault as AnyFault};
 ghost use Rattle.gr_record.specs.declared.fault.Fault.TheVariants as faults;
 ghost use Rattle.gr_detector.specs.Runs.{Run};
-ghost use Rattle.gr_threads.specs.Senders.{Sending};
 ghost use Rattle.gr_streams.specs.Records.{and_one, lists_of};
 ghost use Rattle.gr_streams.specs.Sending.{Tells};
 ghost use Rattle.gr_streams.specs.Sources.{AreBegun, AreOfRun, AreReadOf, AreReceiptsFor, AreSenders, AreServed, HasSender, IsHeaded, known_of};
@@ -28,34 +28,57 @@ use std::time::Clock;
 /// Room for what is kept of the readers once the run has started, when no memory can be asked for any more.
 #[derive(Drop)]
 pub(crate) struct Room<T: Read, A: Allocator> {
+    pub(crate) senders: Vec<Option<Sender<A>>, A>,
     pub(crate) threads: Vec<ReaderThread<T, A>, A>,
     pub(crate) receipts: Vec<Receipt<A>, A>,
 }
 
-/// Room for so many readers.
+/// Room for so many readers, and for the senders of so many groups.
 pub(crate) fn room_for<A: Allocator + Copy, T: Read>(
     alloc: A,
     readers: usize,
+    groups: usize,
 ) -> Result<Room<T, A>, Memory>
+    ensures senders { IfOk result (λ r. (r.senders.items ≡ []) × (vec_len r.senders ≡ 0) × (groups ≤ vec_capacity r.senders)) }
     ensures threads { IfOk result (λ r. (r.threads.items ≡ []) × (vec_len r.threads ≡ 0) × (readers ≤ vec_capacity r.threads)) }
     ensures receipts { IfOk result (λ r. (r.receipts.items ≡ []) × (vec_len r.receipts ≡ 0) × (readers ≤ vec_capacity r.receipts)) }
 {
+    let senders = Vec::with_capacity(alloc, groups)?;
     let threads = Vec::with_capacity(alloc, readers)?;
     let receipts = Vec::with_capacity(alloc, readers)?;
-    Ok(Room { threads, receipts })
+    Ok(Room {
+        senders,
+        threads,
+        receipts,
+    })
 }
 
-/// The sender of a group, which is taken from the others.
-/// Requires: it is there.
-fn take_sender<A: Allocator>(senders: &mut Vec<Sender<A>, A>, group: u16) -> Sender<A>
-    requires { HasSender senders.old.items group }
-    ensures group { result.group ≡ group }
-    ensures there { Contains senders.old.items result }
-    ensures others { (g : ℕ) → g ≢ group → HasSender senders.old.items g → HasSender senders.new.items g }
-    ensures fewer { (s : Sending) → Contains senders.new.items s → Contains senders.old.items s }
+/// The senders of a run in the order of its groups, each of which may be taken from its place.
+/// Requires: there is room.
+pub(crate) fn at_places<A: Allocator>(
+    senders: Vec<Sender<A>, A>,
+    places: Vec<Option<Sender<A>>, A>,
+) -> Vec<Option<Sender<A>>, A>
+    requires none { (places.items ≡ []) × (vec_len places ≡ 0) }
+    requires room { vec_len senders ≤ vec_capacity places }
+    ensures { result.items ≡ map (λ s. Some s) senders.items }
 {
-    match senders.iter().position(|sender| sender.group() == group) {
-        Some(place) => senders.swap_remove(place),
+    let mut places = places;
+    for sender in senders {
+        places.push_reserved(Some(sender));
+    }
+    places
+}
+
+/// The sender of a group, which is taken from its place.
+/// Requires: it is there.
+fn take_sender<A: Allocator>(senders: &mut Vec<Option<Sender<A>>, A>, group: u16) -> Sender<A>
+    requires { HasSender senders.old.items group }
+    ensures there { slice_index_or senders.old.items group None ≡ Some result }
+    ensures taken { senders.new.items ≡ slice_set senders.old.items group None }
+{
+    match senders[group as usize].take() {
+        Some(sender) => sender,
         None => unreachable!(),
     }
 }
@@ -98,7 +121,7 @@ pub(crate) fn start_all<R, A, T>(
     rt: R,
     alloc: A,
     sources: Vec<Source<T>, A>,
-    senders: Vec<Sender<A>, A>,
+    senders: Vec<Option<Sender<A>>, A>,
     threads: Vec<ReaderThread<T, A>, A>,
     abandoned: &Arc<AtomicBool, A>,
 ) -> Vec<ReaderThread<T, A>, A>

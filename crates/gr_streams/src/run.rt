@@ -15,7 +15,7 @@ ghost use Rattle.gr_replay.specs.Replays.{IsExactOfEach};
 ghost use Rattle.gr_streams.specs.Streams.{IsReportOn, IsRunFault, IsWantOfMemory, WritesPrefixOfEach};
 
 use crate::headers::{Headed, read_headers};
-use crate::joins::{Joined, Room, join_all, room_for, start_all};
+use crate::joins::{Joined, Room, at_places, join_all, room_for, start_all};
 use crate::shape::shape_of;
 use crate::source::Source;
 use gr_detector::error::{FinishError, StartError};
@@ -87,7 +87,11 @@ where
     ensures fault { IfErr result (λ f. (inputs : List (List ℕ)) → map (known_of T.remaining) sources.items ≡ map (λ x. Some x) inputs → (f ≡ faults.Threads) ⊎ Fails f (lists_of inputs)) }
     ensures write { IfErr result (λ f. f ≢ faults.Write) }
 {
-    let Room { threads, receipts } = room_for(alloc, sources.len())?;
+    let Room {
+        senders: places,
+        threads,
+        receipts,
+    } = room_for(alloc, sources.len(), shape.groups() as usize)?;
     let Ok(abandoned) = Arc::new(alloc, AtomicBool::new(false)) else {
         return Err(Fault::Memory);
     };
@@ -95,6 +99,7 @@ where
         Ok(started) => started,
         Err(error) => return Err(fault_of_start(error)),
     };
+    let senders = at_places(senders, places);
     let threads = start_all(rt, alloc, sources, senders, threads, &abandoned);
     let Joined { receipts, fault } = join_all(&rt, threads, receipts);
     judge(fault, running.finish(&rt, receipts))

@@ -1,14 +1,18 @@
-use Rattle.std.proofs.Common.{◌∙◌, arith, length, map, subst, sym}
+use Rattle.std.proofs.Common.{◌≡◌, ◌∙◌, ◌⊎◌, Some, Result, ap, arith, inl, inr, length, map, refl, subst, sym, ⊎_elim}
 use Rattle.std.proofs.lemmas.Result.{IfErr-weaker, IfOk-at_ok, IfOk-weaker}
 use Rattle.gr_detector.specs.Refusals.{IsHandedBack}
 use Rattle.gr_detector.specs.Runs.{IsEachOnce, sent_by}
 use Rattle.gr_model.specs.Reports.{IsReportOf}
 use Rattle.gr_model.specs.Shapes.{IsShape}
+use Rattle.gr_record.specs.InputFaults.{Fails}
+use Rattle.gr_record.specs.declared.fault.Fault.{Fault}
+use Rattle.gr_record.specs.declared.fault.Fault.TheVariants as faults
 use Rattle.gr_report.specs.Whole.{whole_of}
 use Rattle.gr_route.specs.IntakeSeats.{Seat}
 use Rattle.gr_streams.specs.Headers.{AreHeadersOf}
 use Rattle.gr_streams.specs.Records.{lists_of}
-use Rattle.gr_streams.specs.Sending.{Tells}
+use Rattle.gr_streams.specs.Sending.{FailsHere, Tells}
+use Rattle.gr_streams.specs.Sources.{AreSenders}
 use Rattle.gr_streams.specs.Streams.{IsWantOfMemory}
 use Rattle.gr_streams.specs.declared.source.Source.{Source}
 use Rattle.gr_streams.proofs.LaunchLemmas.{launch_sent, of_run, receipts_of_run, served}
@@ -19,12 +23,16 @@ pub start_all-threads-requires-clause-senders : goal.start_all-threads-requires-
 start_all-threads-requires-clause-senders g c κs within =
     let hs = map (λ (s : Source _). s.header) c.args.sources.items in
     let run = c.in-Ok-start.started.1 in
-    served run c.in-Ok-start.started.0.items c.in-Ok-start.ensures.senders hs c.requires.apart (subst (AreHeadersOf hs) (sym c.in-Ok-start.ensures.run.1) c.requires.shape)
+    let launch = subst (AreHeadersOf hs) (sym c.in-Ok-start.ensures.run.1) c.requires.shape in
+    rw c.at_places-senders.ensures (served run c.in-Ok-start.started.0.items c.in-Ok-start.ensures.senders hs c.requires.apart launch)
 
 pub finish-requires : goal.finish-requires
 finish-requires g c =
     let run = c.in-Ok-start.started.1 in
-    receipts_of_run run c.start_all-threads.result.items c.join_all-receipts.result.receipts.items (c.start_all-threads.ensures.run run (of_run run c.in-Ok-start.started.0.items c.in-Ok-start.ensures.senders)) c.join_all-receipts.ensures.receipts
+    let threads = c.start_all-threads.result.items in
+    let senders = of_run run c.in-Ok-start.started.0.items c.in-Ok-start.ensures.senders in
+    let begun = c.start_all-threads.ensures.run run (subst (AreSenders run) (sym c.at_places-senders.ensures) senders) in
+    receipts_of_run run threads c.join_all-receipts.result.receipts.items begun c.join_all-receipts.ensures.receipts
 
 pub judge-requires : goal.judge-requires
 judge-requires g c =
@@ -56,19 +64,48 @@ returns-clause-report g c =
     c.judge.ensures.report
 
 pub start_all-threads-requires-clause-room : goal.start_all-threads-requires-clause-room
-start_all-threads-requires-clause-room g c κs within = omega (arith, c.in_ok-threads.ensures.threads.2, c.len.ensures)
+start_all-threads-requires-clause-room g c κs within = omega (arith, c.in_ok-places.ensures.threads.2, c.len.ensures)
 
 pub start_all-threads-requires-clause-headed : goal.start_all-threads-requires-clause-headed
 start_all-threads-requires-clause-headed g c κs within = c.requires.headed
 
 pub start_all-threads-requires-clause-none : goal.start_all-threads-requires-clause-none
-start_all-threads-requires-clause-none g c κs within = (c.in_ok-threads.ensures.threads.0, c.in_ok-threads.ensures.threads.1)
+start_all-threads-requires-clause-none g c κs within = (c.in_ok-places.ensures.threads.0, c.in_ok-places.ensures.threads.1)
 
 pub join_all-receipts-requires-clause-none : goal.join_all-receipts-requires-clause-none
-join_all-receipts-requires-clause-none g c = (c.in_ok-threads.ensures.receipts.0, c.in_ok-threads.ensures.receipts.1)
+join_all-receipts-requires-clause-none g c = (c.in_ok-places.ensures.receipts.0, c.in_ok-places.ensures.receipts.1)
 
 pub join_all-receipts-requires-clause-room : goal.join_all-receipts-requires-clause-room
-join_all-receipts-requires-clause-room g c = omega (arith, c.in_ok-threads.ensures.receipts.2, c.len.ensures, c.start_all-threads.ensures.count)
+join_all-receipts-requires-clause-room g c =
+    omega (arith, c.in_ok-places.ensures.receipts.2, c.len.ensures, c.start_all-threads.ensures.count)
 
 pub room_for-requires : goal.room_for-requires
 room_for-requires g c κs lives = lives
+
+pub at_places-senders-requires-clause-room : goal.at_places-senders-requires-clause-room
+at_places-senders-requires-clause-room g c =
+    let senders = c.in-Ok-start.ensures.senders in
+    let groups = ap length c.in-Ok-start.ensures.run.1 in
+    omega (arith, c.in_ok-places.ensures.senders.2, c.groups.ensures.count, groups, senders.count, c.in-Ok-start.started.0.ok.0)
+
+-- what a thread tells of its input is why the run fails, unless a thread is missing
+why : {Y : Type 0} (meaning : Result Y Fault) (f : Fault) → FailsHere f meaning → (f ≡ faults.Threads) ⊎ Fails f meaning
+why meaning faults.Threads here = inl refl
+why meaning faults.Memory here = inr tt
+why meaning faults.Read here = inr tt
+why meaning f here = inr here
+
+pub returns-clause-fault : goal.returns-clause-fault
+returns-clause-fault g c =
+    let begun = c.start_all-threads.ensures.begun in
+    let pushed = map (λ (r : Seat). r.pushed) c.join_all-receipts.result.receipts.items in
+    IfErr-weaker c.judge.result _ _
+    (λ f h inputs known.
+    ⊎_elim
+    (λ told.
+    let tells = c.join_all-receipts.ensures.tells inputs (begun.placed, begun.bytes ∙ known) in
+    let here : Tells (lists_of inputs) pushed (Some f) = subst (Tells (lists_of inputs) pushed) told tells in
+    why (lists_of inputs) f here.1)
+    (λ memory. inr (subst (λ (e : Fault). Fails e (lists_of inputs)) (sym memory) tt))
+    h)
+    c.judge.ensures.fault
