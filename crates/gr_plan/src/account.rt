@@ -122,9 +122,16 @@ impl Account {
             }
             at = at.saturating_add(n);
         }
-        let at = at.min(self.bytes.len());
-        self.bytes.drain(..at);
+        self.drop_front(at);
         Ok(())
+    }
+
+    /// Lets so many of the bytes at hand go, from the front.
+    fn drop_front(&mut self, count: usize) {
+        let count = count.min(self.bytes.len());
+        let left = self.bytes.len() - count;
+        self.bytes.as_mut_slice().copy_within(count.., 0);
+        self.bytes.truncate(left);
     }
 
     /// Whether the stream at hand is the last one.
@@ -153,7 +160,10 @@ impl Account {
     fn pass_front(&mut self, at: usize, seen: &mut Seen) -> Result<usize, Memory> {
         let passed = match self.header {
             None => self.pass_header(at, seen),
-            Some(header) => self.pass_record(at, &header, seen),
+            Some(header) => match self.pass_plain(at, &header, seen) {
+                0 => self.pass_record(at, &header, seen),
+                n => Ok(n),
+            },
         };
         match passed {
             Ok(n) => {
@@ -178,6 +188,27 @@ impl Account {
         self.records = 0;
         seen.begin(&header)?;
         Ok(HEADER_LENGTH)
+    }
+
+    /// Passes the records of a stream of this header that stand at this place of the bytes at hand, up to its end, where nobody looks
+    /// at more than their first byte. Gives how long they are.
+    fn pass_plain(&mut self, at: usize, header: &Header, seen: &Seen) -> usize {
+        if self.judges || self.is_at_last() || !seen.is_blind() {
+            return 0;
+        }
+        let length = header.version.record_length();
+        let mut passed: usize = 0;
+        let mut count: u64 = 0;
+        for record in self.rest(at).chunks_exact(length) {
+            if record.first().is_none_or(|kind| *kind >= END) {
+                break;
+            }
+            passed = passed.saturating_add(length);
+            count = count.saturating_add(1);
+        }
+        self.records = self.records.saturating_add(count);
+        self.all_records = self.all_records.saturating_add(count);
+        passed
     }
 
     /// Passes the record of a stream of this header at this place of the bytes at hand, and gives how long it is.

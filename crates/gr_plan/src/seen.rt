@@ -27,10 +27,14 @@ impl Seen {
         }
     }
 
+    /// Whether nobody sees the records.
+    pub fn is_blind(&self) -> bool {
+        self.sited.is_none() && self.sought.is_none()
+    }
+
     /// Passes a record of the stream of this header, which is no end.
     pub fn pass(&mut self, header: &Header, record: &[u8]) -> Result<(), Memory> {
-        let is_seen = self.sited.is_some() || self.sought.is_some();
-        if !is_seen || record.len() != header.version.record_length() {
+        if self.is_blind() || record.len() != header.version.record_length() {
             return Ok(());
         }
         let Ok(event) = read_event(*header, record) else {
