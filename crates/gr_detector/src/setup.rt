@@ -73,10 +73,7 @@ fn line_of<A: Allocator + Copy>(
     };
     let queue = Arc::new(alloc, queue)?;
     let theirs = Arc::try_clone(&queue)?;
-    Ok((
-        Outlet::new(alloc, queue, giver),
-        Worker::new(number, theirs, seat),
-    ))
+    Ok((Outlet::new(queue, giver), Worker::new(number, theirs, seat)))
 }
 
 /// The ends of the workers' queues, which are new, and the workers, in order.

@@ -1,7 +1,12 @@
 -- Batches, and what is left of one.
-use Rattle.std.proofs.Common.{◌≡◌, List, [], ◌∷◌, ◌++◌, ◌+◌, ◌-◌, length, take, refl, sym, ap, ◌∙◌, append_assoc, append-nil, length-append, arith}
+use Rattle.std.proofs.Common.{◌≡◌, ℕ, All, List, [], ◌∷◌, ◌++◌, ◌+◌, ◌-◌, length, take, refl, sym, ap, ◌∙◌, append_assoc, append-nil, length-append, arith}
 use Rattle.std.proofs.Math.Seq.{take-append_seam}
-use Rattle.gr_route.specs.Batches.{all_of, front}
+use Rattle.std.proofs.lemmas.List.Elements.{All-map}
+use Rattle.gr_route.proofs.PrefixLemmas.{not_nil}
+use Rattle.gr_model.specs.declared.event.Event.{Event}
+use Rattle.gr_model.specs.declared.event.Sent.{Sent}
+use Rattle.gr_route.specs.Batches.{all_of, front, sent_by}
+use Rattle.gr_route.specs.IntakeRule.{events_in}
 
 module _ {T : Type 0} where
   pub all_of_push : (bs : List (List T)) (b : List T) → all_of (bs ++ b ∷ []) ≡ all_of bs ++ b
@@ -27,3 +32,19 @@ module _ {T : Type 0} where
 
   pub front_left_more : (p a r : List T) (x : T) → p ≡ a ++ x ∷ r → p ≡ front p r ++ r
   front_left_more p a r x is = front_left p (a ++ x ∷ []) r (is ∙ sym (append_assoc a (x ∷ []) r))
+
+-- ---- events of a group
+
+pub of_group : (g : ℕ) (es : List Event) → All (λ (x : Sent). x.group ≡ g) (sent_by g es)
+of_group g es = All-map (λ (x : Sent). x.group ≡ g) (λ (e : Event). record { group = g; event = e }) es (λ _ _ _. refl)
+
+pub events_of_sent : (g : ℕ) (es : List Event) → events_in (sent_by g es) ≡ es
+events_of_sent g [] = refl
+events_of_sent g (e ∷ es) = ap (λ l. e ∷ l) (events_of_sent g es)
+
+pub none_sent : (g : ℕ) (es : List Event) → sent_by g es ≡ [] → es ≡ []
+none_sent g [] none = refl
+none_sent g (e ∷ es) none = absurd (not_nil [] (record { group = g; event = e }) (sent_by g es) none)
+
+pub same_events : (g h : ℕ) (es fs : List Event) → sent_by g es ≡ sent_by h fs → es ≡ fs
+same_events g h es fs same = sym (events_of_sent g es) ∙ ap events_in same ∙ events_of_sent h fs

@@ -1,6 +1,6 @@
 -- Each kind of step keeps the rule of an intake queue, and what the steps tell a seat.
-use Rattle.std.proofs.Common.{◌≡◌, ◌≢◌, ℕ, ◌<◌, true≢false, List, [], ◌∷◌, ◌++◌, Option, Some, None, length, get_or, set, map, sym, refl, ap, ◌∙◌, subst, ⊎_elim, append_assoc, append-nil, arith, IsFalse}
-use Rattle.std.specs.Prelude.{slice_index, slice_set, IfSome, MatchOption}
+use Rattle.std.proofs.Common.{◌≡◌, ◌≢◌, ℕ, ◌<◌, true≢false, List, [], ◌∷◌, ◌++◌, length, get_or, set, sym, refl, ap, ◌∙◌, subst, ⊎_elim, append_assoc, append-nil, arith, IsFalse}
+use Rattle.std.specs.Prelude.{slice_index, slice_set}
 use Rattle.std.specs.List.{All}
 use Rattle.std.proofs.lemmas.List.{get_or-set_same, get_or-set_other}
 use Rattle.std.proofs.lemmas.List.Elements.{All-nil, All-head, All-tail, All-push, All-weaker}
@@ -22,7 +22,7 @@ use Rattle.gr_route.specs.Batches.{all_of, front}
 use Rattle.gr_route.specs.IntakeRule.{BatchesAgree, FitsJoined, FitsSeat, FitsTaker, Pops, Pushes, SeatsAgree, events_in, after_join, after_split, first_view, joined_from, no_sizes, seat_of, spent_view, taker_of}
 use Rattle.gr_route.specs.IntakeSeats.{IsBeforeTaker, IsDelivered, IsDelivery, IsNextPopped, Seat, SeatTells, Taker, TakerTells}
 use Rattle.gr_route.specs.Rooms.{AgreesWith}
-use Rattle.gr_route.proofs.BatchLemmas.{all_of_push, front_all, front_left_more, front_more}
+use Rattle.gr_route.proofs.BatchLemmas.{all_of_push, front_all, front_left, front_left_more, front_more}
 use Rattle.gr_route.proofs.PrefixLemmas.{nil_prefix, not_nil}
 use Rattle.gr_route.proofs.GroupLemmas.{by_place, changed, changed_else, changed_here}
 use Rattle.gr_route.proofs.Views.{Each, agrees, each_one, each_set, each_snoc, held, none_holds, same_holder, set_there}
@@ -386,6 +386,25 @@ module _ (v w : IntakeView) (s : List ℕ) (r0 r1 : List Sent) (x : Sent) (h : H
 
   pub handed_delivery : (q : TableId) → IsDelivery record { queue = q; popped = front w.popped r1; sizes = s; joined = w.joined }
   handed_delivery q = front_delivery q w s r1 h.agrees.0 handed_known handed_left h.agrees.1
+
+-- ---- a whole batch is handed out, where nothing was left
+
+-- the view before and after it, what is left, and the batch
+pub record HandsAll (v w : IntakeView) (s : List ℕ) (r b : List Sent) : Type 0 where
+  pub known : w ≡ taker_of w.popped s w.joined
+  pub left : w.popped ≡ front w.popped r ++ r
+  pub handed : front w.popped r ≡ front v.popped r ++ b
+  pub joined : w.joined ≡ v.joined
+  pub agrees : (items : List Sent) × AgreesWith SeatsAgree w items
+
+pub hands_all : (v w : IntakeView) (s : List ℕ) (r b : List Sent) → v ≡ taker_of v.popped s v.joined → r ≡ [] → Pops v b w → HandsAll v w s r b
+hands_all v w s r b is none told = record {
+  known = subst (λ (u : IntakeView). u ≡ taker_of u.popped s u.joined) (sym told.0) (ap (λ l. taker_of (v.popped ++ b) l v.joined) (ap (λ (u : IntakeView). u.sizes) is));
+  left = front_left w.popped w.popped r (sym (ap (λ l. w.popped ++ l) none ∙ append-nil w.popped));
+  handed = front_all w.popped r none ∙ ap (λ (u : IntakeView). u.popped) told.0 ∙ ap (λ l. l ++ b) (sym (front_all v.popped r none));
+  joined = ap (λ (u : IntakeView). u.joined) told.0;
+  agrees = told.1;
+}
 
 -- ---- where the taker's seat begins, and after a split
 

@@ -1,6 +1,6 @@
 -- Each kind of step keeps the rule of a work queue, and what the steps tell a seat.
-use Rattle.std.proofs.Common.{◌≡◌, ◌≢◌, ℕ, Bool, true, false, true≢false, List, [], ◌∷◌, ◌++◌, ◌||◌, Option, Some, None, length, set, sym, refl, ap, ◌∙◌, subst, ◌⊎◌, inl, inr, ⊎_elim, append_assoc, append-nil, IsTrue, IsFalse}
-use Rattle.std.specs.Prelude.{IfSome, MatchOption}
+use Rattle.std.proofs.Common.{◌≡◌, ◌≢◌, ℕ, Bool, true, false, true≢false, List, [], ◌∷◌, ◌++◌, ◌||◌, Option, Some, length, set, sym, refl, ap, ◌∙◌, subst, ◌⊎◌, inl, inr, ⊎_elim, append_assoc, append-nil, IsTrue, IsFalse}
+use Rattle.std.specs.Prelude.{IfSome}
 use Rattle.std.proofs.lemmas.Option.{IfSome_then}
 use mathlib.Core.Option as seat
 use lib.ListN.{get_elem?}
@@ -14,7 +14,7 @@ use Rattle.gr_route.specs.Rooms.{AgreesWith}
 use Rattle.gr_route.specs.Batches.{all_of, front}
 use Rattle.gr_route.specs.WorkRule.{BatchesAgree, FitsGiver, FitsWorker, Pops, Pushes, SeatsAgree, StopMakesWhole, StopsLast, after_join, after_split, first_view, giver_of, is_stop, is_stopped, spent_view, worker_of}
 use Rattle.gr_route.specs.WorkSeats.{Giver, GiverTells, IsBeforeWorker, IsDelivery, Worker, WorkerTells}
-use Rattle.gr_route.proofs.BatchLemmas.{all_of_push, front_all, front_left_more, front_more}
+use Rattle.gr_route.proofs.BatchLemmas.{all_of_push, front_all, front_left, front_left_more, front_more}
 use Rattle.gr_route.proofs.PrefixLemmas.{nil_prefix}
 use Rattle.gr_route.proofs.Views.{Each, agrees, each_one, each_set, each_snoc, held, none_holds, same_holder, set_there}
 
@@ -292,6 +292,25 @@ module _ {A : Type 0} where
 
     pub handed_delivery : (q : TableId) → IsDelivery record { queue = q; popped = front w.popped r1; split = s; given = w.given }
     handed_delivery q = front_delivery q w s r1 h.agrees.0 handed_known handed_left h.agrees.1
+
+  -- ---- a whole batch is handed out, where nothing was left
+
+  -- the view before and after it, what is left, and the batch
+  pub record HandsAll (v w : WorkView A) (s : Bool) (r b : List (Work A)) : Type 0 where
+    pub known : w ≡ worker_of w.popped s w.given
+    pub left : w.popped ≡ front w.popped r ++ r
+    pub handed : front w.popped r ≡ front v.popped r ++ b
+    pub given : w.given ≡ v.given
+    pub agrees : (items : List (Work A)) × AgreesWith SeatsAgree w items
+
+  pub hands_all : (v w : WorkView A) (s : Bool) (r b : List (Work A)) → v ≡ worker_of v.popped s v.given → r ≡ [] → Pops v b w → HandsAll v w s r b
+  hands_all v w s r b is none told = record {
+    known = subst (λ (u : WorkView A). u ≡ worker_of u.popped s u.given) (sym told.0) (ap (λ l. worker_of (v.popped ++ b) l v.given) (ap (λ (u : WorkView A). u.split) is));
+    left = front_left w.popped w.popped r (sym (ap (λ l. w.popped ++ l) none ∙ append-nil w.popped));
+    handed = front_all w.popped r none ∙ ap (λ (u : WorkView A). u.popped) told.0 ∙ ap (λ l. l ++ b) (sym (front_all v.popped r none));
+    given = ap (λ (u : WorkView A). u.given) told.0;
+    agrees = told.1;
+  }
 
   -- ---- where the worker's seat begins
 

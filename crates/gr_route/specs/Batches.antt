@@ -1,6 +1,8 @@
 -- What goes through a queue in one step, and what of it waits before the queue or after it.
 -- Source: docs/QUEUES.md, "Batches".
-use Rattle.std.specs.Prelude.{◌≡◌, ◌-◌, List, [], ◌∷◌, ◌++◌, length, take, Option, None, Some, Vec}
+use Rattle.std.specs.Prelude.{◌≡◌, ◌-◌, ℕ, List, [], ◌∷◌, ◌++◌, length, map, take, Option, None, Some, Vec}
+use Rattle.gr_model.specs.declared.event.Event.{Event}
+use Rattle.gr_model.specs.declared.event.Sent.{Sent}
 use Rattle.gr_route.specs.declared.batch.Content.{Content}
 use Rattle.gr_route.specs.declared.batch.Content.TheVariants.{One, Several}
 
@@ -12,6 +14,10 @@ all_of (b ∷ bs) = b ++ all_of bs
 -- what was handed out of values that were popped, where this is left of them
 abbrev pub front : {T : Type 0} → List T → List T → List T
 front popped rest = take (length popped - length rest) popped
+
+-- events of a group, each with it
+abbrev pub sent_by : ℕ → List Event → List Sent
+sent_by group events = map (λ e. record { group = group; event = e }) events
 
 -- ---- what the types hold
 

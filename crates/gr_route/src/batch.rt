@@ -1,10 +1,10 @@
 //! What goes through a queue in one step: one value, or several.
 //!
 //! Each push costs the threads on both sides of a queue the same, whatever it brings. So a thread that has several values at
-//! hand pushes them together: they wait in an `Outbox`, go through the queue as one `Batch`, and are handed out one by one
-//! of a `Rest`.
+//! hand pushes them together: they wait in an `Outbox`, go through the queue as one `Batch`, and are looked at there, or handed
+//! out one by one of a `Rest`. The list that held them can hold others then (`Spares`).
 
-ghost use Rattle.std.specs.Prelude.{◌≡◌, List, [], ◌∷◌, ◌++◌, length, IfErr, IfNone, IfOk, IfSome, OnErr, OnOk};
+ghost use Rattle.std.specs.Prelude.{◌≡◌, ◌<◌, ◌+◌, ◌≤◌, List, [], ◌∷◌, ◌++◌, drop, length, IfErr, IfNone, IfOk, IfSome, IsTrue, MatchOption, OnErr, OnOk};
 ghost use Rattle.gr_route.specs.Batches as spec;
 
 use std::alloc::{Allocator, Global};
@@ -61,13 +61,49 @@ impl<T: Drop, A: Allocator> Batch<T, A> {
         })
     }
 
-    /// How many values there are.
+    /// How many values there are: at least one.
     pub fn len(&self) -> usize
-        ensures { result ≡ length self.now }
+        ensures count { result ≡ length self.now }
+        ensures some { 0 < result }
     {
         match &self.content {
             Content::One(_) => 1,
             Content::Several(values) => values.len(),
+        }
+    }
+
+    /// The value at a place.
+    #[inline(always)]
+    pub fn get(&self, place: usize) -> Option<&T>
+        ensures { MatchOption result (length self.now ≤ place) (λ value. drop place self.now ≡ value.now ∷ drop (place + 1) self.now) }
+    {
+        match &self.content {
+            Content::One(value) => (place == 0).then_some(value),
+            Content::Several(values) => values.get(place),
+        }
+    }
+
+    /// The last value.
+    pub fn last(&self) -> &T
+        ensures { (others : List T) × (self.now ≡ others ++ result.now ∷ []) }
+    {
+        match &self.content {
+            Content::One(value) => value,
+            Content::Several(values) => match values.last() {
+                Some(value) => value,
+                None => unreachable!(),
+            },
+        }
+    }
+
+    /// The list that held the values, where there were several. They are let go.
+    pub fn into_list(self) -> Option<Vec<T, A>> {
+        match self.content {
+            Content::One(_) => None,
+            Content::Several(mut values) => {
+                values.clear();
+                Some(values)
+            }
         }
     }
 
@@ -172,6 +208,17 @@ impl<T: Drop, A: Allocator> Outbox<T, A> {
         }
     }
 
+    /// Whether no value waits.
+    pub fn is_empty(&self) -> bool
+        ensures { IsTrue result → self.now ≡ [] }
+    {
+        let is_none = match &self.waiting {
+            Some(values) => values.is_empty(),
+            None => true,
+        };
+        is_none && self.refused.is_none()
+    }
+
     /// Takes out all values, as one batch, or `None` where no value waits.
     pub fn take(&mut self) -> Option<Batch<T, A>>
         ensures some { IfSome result (λ batch. batch ≡ self.old) }
@@ -184,6 +231,17 @@ impl<T: Drop, A: Allocator> Outbox<T, A> {
                 Some(values) => Batch::of(values),
                 None => None,
             },
+        }
+    }
+
+    /// Has the values that come wait in this list, if none waits. What it holds is let go.
+    pub fn lend(&mut self, list: Vec<T, A>)
+        ensures { self.new ≡ self.old }
+    {
+        if self.refused.is_none() && self.waiting.is_none() {
+            let mut list = list;
+            list.clear();
+            self.waiting = Some(list);
         }
     }
 

@@ -15,11 +15,14 @@ ghost use Rattle.gr_route.specs.Batches.{all_of};
 ghost use Rattle.gr_route.specs.IntakeRule.{BatchesAgree, after_split, events_in, no_sizes, seat_of};
 ghost use Rattle.gr_route.specs.IntakeSeats.{AgreesWithSeat, AgreesWithTaker, IsDelivered, IsDelivery, IsNextPopped, popped_of};
 
-use crate::batch::{Batch, Rest};
+use crate::batch::Batch;
+use crate::group_batch::{GroupBatch, GroupRest};
 use crate::intake_rule::{
     IntakeRule, IntakeView, JoinStep, NamesGroup, PopStep, PushStep, SplitStep,
 };
+use crate::leads::Leads;
 use crate::room::Full;
+use crate::spares::Spares;
 use crossbeam_queue::{Pass, RuledArrayQueue};
 use gr_model::event::{Event, Sent};
 use gr_model::limits::{MOST_GROUPS, MOST_ITEMS_OF_A_GROUP, MOST_PLACES, MOST_RECORDS};
@@ -31,7 +34,11 @@ use std::sync::Wait;
 /// A bounded queue of events. Contracts see which queue it is, and for how many batches of events it has room.
 #[derive(Drop)]
 pub struct Intake<A: Allocator = Global> {
-    queue: RuledArrayQueue<Batch<Sent, A>, IntakeView, IntakeRule, A>,
+    queue: RuledArrayQueue<GroupBatch<A>, IntakeView, IntakeRule, A>,
+    /// Lists that held events.
+    pub spares: Spares<Event, A>,
+    /// How far the senders of the first groups are ahead.
+    pub leads: Leads<A>,
 }
 
 impl<A: Allocator> Model for Intake<A> {
@@ -46,7 +53,7 @@ impl<A: Allocator> Model for Intake<A> {
 /// The seat that pushes a work-group's events. Contracts see its queue, its group and items, and what it pushed.
 #[derive(Drop)]
 pub struct IntakeSeat<A: Allocator = Global> {
-    pass: Pass<Batch<Sent, A>, IntakeView>,
+    pass: Pass<GroupBatch<A>, IntakeView>,
     group: u16,
     items: u16,
 }
@@ -83,12 +90,12 @@ impl<A: Allocator> IntakeSeat<A> {
 /// that were joined back had pushed.
 #[derive(Drop)]
 pub struct TakerSeat<A: Allocator = Global> {
-    pass: Pass<Batch<Sent, A>, IntakeView>,
+    pass: Pass<GroupBatch<A>, IntakeView>,
     // The number of items of each group that has had a seat, and 0 of another; with a place for each group that may be, so that
     // a split takes no memory.
     sizes: Vec<u16, A>,
     // What is left of the batch that was popped last.
-    rest: Rest<Sent, A>,
+    rest: GroupRest<A>,
 }
 
 impl<A: Allocator> Model for TakerSeat<A> {
@@ -122,11 +129,11 @@ fn none_seated<A: Allocator>(alloc: A) -> Result<Vec<u16, A>, Memory>
 /// Splits off the seat of a group.
 /// Requires: `G` names the group and its number of items; the pass is of this queue; the rule allows the split.
 fn seat_for<G: NamesGroup, A: Allocator>(
-    queue: &RuledArrayQueue<Batch<Sent, A>, IntakeView, IntakeRule, A>,
-    pass: &mut Pass<Batch<Sent, A>, IntakeView>,
+    queue: &RuledArrayQueue<GroupBatch<A>, IntakeView, IntakeRule, A>,
+    pass: &mut Pass<GroupBatch<A>, IntakeView>,
     group: u16,
     items: u16,
-) -> Pass<Batch<Sent, A>, IntakeView>
+) -> Pass<GroupBatch<A>, IntakeView>
     requires named { (G.group ≡ group) × (G.items ≡ items) }
     requires queue { IsPassOf queue.now pass.old }
     requires rule { Forks BatchesAgree pass.old.id (known pass.old) (after_split group items (known pass.old)) (seat_of group items []) }
@@ -162,8 +169,13 @@ impl<A: Allocator + Copy> Intake<A> {
     {
         let (queue, pass) = RuledArrayQueue::ruled(alloc, capacity as usize)?;
         let sizes = none_seated(alloc)?;
-        let rest = Rest::none(alloc);
-        Ok((Intake { queue }, TakerSeat { pass, sizes, rest }))
+        let intake = Intake {
+            queue,
+            spares: Spares::new(alloc)?,
+            leads: Leads::new(alloc)?,
+        };
+        let rest = GroupRest::none(alloc);
+        Ok((intake, TakerSeat { pass, sizes, rest }))
     }
 }
 
@@ -215,22 +227,15 @@ impl<A: Allocator> Intake<A> {
         ensures unchanged { IfErr result (λ back. (back.0 ≡ event) × (seat.new ≡ seat.old)) }
         ensures full { IfErr result (λ _. Held self.now.places (λ batches. AgreesWithSeat seat.old (all_of batches))) }
     {
-        let sent = Sent {
-            group: seat.group,
-            event,
-        };
-        match self
-            .queue
-            .push_as::<PushStep, R>(rt, &mut seat.pass, Batch::one(sent))
-        {
+        let batch = GroupBatch::new(seat.group, Batch::one(event));
+        match self.queue.push_as::<PushStep, R>(rt, &mut seat.pass, batch) {
             Ok(()) => Ok(()),
-            Err(back) => Err(Full(back.into_first().event)),
+            Err(back) => Err(Full(back.into_first())),
         }
     }
 
     /// Pushes events of the seat's work-group in one step.
-    /// Requires: the seat is of this queue; the events are of its group; what the seat pushed, and these after it, are the
-    /// beginning of a stream.
+    /// Requires: the seat is of this queue; what it pushed, and these after it, are the beginning of a stream.
     ///
     /// # Errors
     /// `Full` with the events, only if the queue was full at some moment of the call. The seat is then unchanged.
@@ -238,21 +243,21 @@ impl<A: Allocator> Intake<A> {
         &self,
         rt: &R,
         seat: &mut IntakeSeat<A>,
-        batch: Batch<Sent, A>,
-    ) -> Result<(), Full<Batch<Sent, A>>>
+        events: Batch<Event, A>,
+    ) -> Result<(), Full<Batch<Event, A>>>
         requires queue { seat.old.queue ≡ self.now.queue }
-        requires group { All (λ s. s.group ≡ seat.old.group) batch }
-        requires stream { IsPrefix seat.old.items (seat.old.pushed ++ events_in batch) }
+        requires stream { IsPrefix seat.old.items (seat.old.pushed ++ events) }
 
-        ensures ok { OnOk result (seat.new ≡ record seat.old { pushed = seat.old.pushed ++ events_in batch }) }
+        ensures ok { OnOk result (seat.new ≡ record seat.old { pushed = seat.old.pushed ++ events }) }
 
-        ensures unchanged { IfErr result (λ back. (back.0 ≡ batch) × (seat.new ≡ seat.old)) }
+        ensures unchanged { IfErr result (λ back. (back.0 ≡ events) × (seat.new ≡ seat.old)) }
         ensures full { IfErr result (λ _. Held self.now.places (λ batches. AgreesWithSeat seat.old (all_of batches))) }
     {
-        match self.queue.push_as::<PushStep, R>(rt, &mut seat.pass, batch) {
-            Ok(()) => Ok(()),
-            Err(back) => Err(Full(back)),
+        let batch = GroupBatch::new(seat.group, events);
+        if let Err(back) = self.queue.push_as::<PushStep, R>(rt, &mut seat.pass, batch) {
+            return Err(Full(back.into_events().1));
         }
+        Ok(())
     }
 
     /// Pops an event: of its work-group, the first that was not popped yet. Answers `None` only if the queue was empty
@@ -276,6 +281,26 @@ impl<A: Allocator> Intake<A> {
             None => None,
             Some(batch) => Some(batch.open(&mut taker.rest)),
         }
+    }
+
+    /// Pops events that were pushed together; of a batch whose first event `pop` handed out, one of those that are left.
+    /// Answers `None` only if the queue was empty at some moment of the call.
+    /// Requires: the seat is of this queue.
+    pub fn pop_all<R: Wait>(&self, rt: &R, taker: &mut TakerSeat<A>) -> Option<GroupBatch<A>>
+        requires { taker.old.queue ≡ self.now.queue }
+
+        ensures some { IfSome result (λ batch. taker.new ≡ record taker.old { popped = taker.old.popped ++ batch }) }
+
+        ensures unchanged { IfNone result (taker.new ≡ taker.old) }
+        ensures empty { IfNone result (Held 0 (λ batches. AgreesWithTaker taker.old (all_of batches))) }
+
+        ensures delivery { IsDelivery taker.new }
+    {
+        if let Some(sent) = taker.rest.next() {
+            return Some(GroupBatch::new(sent.group, Batch::one(sent.event)));
+        }
+        let batch = self.queue.pop_as::<PopStep, R>(rt, &mut taker.pass)?;
+        Some(batch)
     }
 
     /// Takes a work-group's seat back, and with it the list of what that pushed. What was popped of the group is a

@@ -3,7 +3,7 @@
 //! Of each work-group, what was popped, followed by what is queued, is what its seat pushed. Told in words in
 //! docs/QUEUES.md, "The intake queue".
 
-use crate::batch::Batch;
+use crate::group_batch::GroupBatch;
 use crossbeam_queue::protocol::{Join, Lesson, Outcome, Protocol, Split};
 use gr_model::event::{Event, Sent};
 use std::alloc::Allocator;
@@ -43,7 +43,7 @@ pub struct IntakeView {
 /// The rule: of each work-group, what was popped, followed by what is queued, is what its seat pushed.
 pub struct IntakeRule;
 
-impl<A: Allocator> Protocol<Batch<Sent, A>, IntakeView> for IntakeRule {
+impl<A: Allocator> Protocol<GroupBatch<A>, IntakeView> for IntakeRule {
     ghost use Rattle.gr_route.specs.IntakeRule.{BatchesAgree, first_view};
 
     ghost holds = { BatchesAgree };
@@ -92,13 +92,13 @@ impl Join<IntakeView> for JoinStep {
 /// A step of the rule, for proofs alone: a batch is pushed, or refused.
 pub struct PushStep;
 
-impl<A: Allocator> Outcome<Batch<Sent, A>, IntakeView> for PushStep {
+impl<A: Allocator> Outcome<GroupBatch<A>, IntakeView> for PushStep {
     ghost use Rattle.gr_route.specs.IntakeRule.{Pushes};
 
     ghost then = { Pushes };
 }
 
-impl<A: Allocator> Lesson<Batch<Sent, A>, IntakeView> for PushStep {
+impl<A: Allocator> Lesson<GroupBatch<A>, IntakeView> for PushStep {
     ghost use Rattle.gr_route.specs.IntakeRule.{BatchesAgree};
     ghost use Rattle.gr_route.specs.Rooms.{AgreesWith};
 
@@ -108,13 +108,13 @@ impl<A: Allocator> Lesson<Batch<Sent, A>, IntakeView> for PushStep {
 /// A step of the rule, for proofs alone: a batch is popped, or there is none.
 pub struct PopStep;
 
-impl<A: Allocator> Outcome<Batch<Sent, A>, IntakeView> for PopStep {
+impl<A: Allocator> Outcome<GroupBatch<A>, IntakeView> for PopStep {
     ghost use Rattle.gr_route.specs.IntakeRule.{Pops};
 
     ghost then = { Pops };
 }
 
-impl<A: Allocator> Lesson<Batch<Sent, A>, IntakeView> for PopStep {
+impl<A: Allocator> Lesson<GroupBatch<A>, IntakeView> for PopStep {
     ghost use Rattle.gr_route.specs.IntakeRule.{BatchesAgree};
     ghost use Rattle.gr_route.specs.Rooms.{AgreesWith};
 

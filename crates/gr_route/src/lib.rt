@@ -4,9 +4,12 @@
 #![tactic(auto)]
 
 pub mod batch;
+pub mod group_batch;
 pub mod intake;
 pub mod intake_rule;
 pub mod laws;
+pub mod leads;
 pub mod room;
+pub mod spares;
 pub mod work;
 pub mod work_rule;

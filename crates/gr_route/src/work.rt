@@ -14,6 +14,7 @@ ghost use Rattle.gr_route.specs.WorkSeats.{AgreesWithGiver, AgreesWithWorker, Is
 
 use crate::batch::{Batch, Rest};
 use crate::room::Full;
+use crate::spares::Spares;
 use crate::work_rule::{JoinStep, PopStep, PushStep, SplitStep, WorkRule, WorkView};
 use crossbeam_queue::{Pass, RuledArrayQueue};
 use gr_clocks::access::Access;
@@ -37,6 +38,8 @@ pub enum Work<A: Allocator = Global> {
 #[derive(Drop)]
 pub struct WorkQueue<A: Allocator = Global> {
     queue: RuledArrayQueue<Batch<Work<A>, A>, WorkView<A>, WorkRule, A>,
+    /// Lists that held work.
+    pub spares: Spares<Work<A>, A>,
 }
 
 impl<A: Allocator> Model for WorkQueue<A> {
@@ -104,7 +107,8 @@ impl<A: Allocator + Copy> WorkQueue<A> {
             split: false,
             rest: Rest::none(alloc),
         };
-        Ok((WorkQueue { queue }, seat))
+        let spares = Spares::new(alloc)?;
+        Ok((WorkQueue { queue, spares }, seat))
     }
 }
 
@@ -208,6 +212,26 @@ impl<A: Allocator> WorkQueue<A> {
             None => None,
             Some(batch) => Some(batch.open(&mut worker.rest)),
         }
+    }
+
+    /// Pops work that was pushed together; of a batch whose first work `pop` handed out, one of those that are left. Answers
+    /// `None` only if the queue was empty at some moment of the call.
+    /// Requires: the seat is of this queue.
+    pub fn pop_all<R: Wait>(&self, rt: &R, worker: &mut WorkerSeat<A>) -> Option<Batch<Work<A>, A>>
+        requires { worker.old.queue ≡ self.now.queue }
+
+        ensures some { IfSome result (λ batch. worker.new ≡ record worker.old { popped = worker.old.popped ++ batch }) }
+
+        ensures unchanged { IfNone result (worker.new ≡ worker.old) }
+        ensures empty { IfNone result (Held 0 (λ batches. AgreesWithWorker worker.old (all_of batches))) }
+
+        ensures delivery { IsDelivery worker.new }
+    {
+        if let Some(work) = worker.rest.next() {
+            return Some(Batch::one(work));
+        }
+        let batch = self.queue.pop_as::<PopStep, R>(rt, &mut worker.pass)?;
+        Some(batch)
     }
 
     /// Takes the giver's seat back, and with it the list of what that pushed. What was popped is a prefix of this list,

@@ -1,9 +1,10 @@
 -- Where the sequencer's thread begins.
-use Rattle.std.proofs.Common.{◌≡◌, ℕ, ◌<◌, ◌≤◌, ◌%◌, List, [], ◌∷◌, length, get_or, map, false, sym, ap, ◌∙◌, subst, ⊎_elim, arith, append-nil}
+use Rattle.std.proofs.Common.{◌≡◌, ◌++◌, ℕ, ◌<◌, ◌≤◌, ◌%◌, List, [], ◌∷◌, length, get_or, map, false, sym, ap, ◌∙◌, subst, ⊎_elim, arith, append-nil}
 use Rattle.std.proofs.Math.ListN.{get_or-eq_default}
 use Rattle.std.proofs.Math.Nat.{mod-lt}
 use Rattle.std.proofs.lemmas.Bool.{cases_lt}
 use Rattle.std.proofs.lemmas.List.{get_or-map, length-map}
+use Rattle.std.specs.List.{All}
 use Rattle.gr_model.specs.declared.event.Event.{Event}
 use Rattle.gr_model.specs.Configs.{IsConfig, Settings}
 use Rattle.gr_model.specs.Streams.{IsPrefix, events_of, list_of, size_of}
@@ -54,15 +55,18 @@ module _ {A : Type 0} (config : Settings) (is : IsConfig config) (sizes : List �
   none_given k [] empty lt = absurd (omega (arith, lt))
   none_given k (g ∷ gs) empty lt = get_or-map (λ (u : Giver A). accesses_in u.pushed) (g ∷ gs) k g [] lt ∙ ap accesses_in (empty k g lt)
 
-  fresh_passed : ArePassedOn config seq (given_of givers) []
-  fresh_passed = (
+  fresh_passed : (on_way : List (List ClockedAccess)) → All (λ l. l ≡ []) on_way → ArePassedOn config seq (given_of givers) on_way
+  fresh_passed on_way none = (
     [],
     subst (λ (s : Sequence). AreAccesses seq.taken s.handled []) (sym from) of_none,
-    λ k lt. sym (append-nil (get_or (given_of givers) k []) ∙ none_given k givers (λ j d below. fresh.pushed j d (omega (arith, below, fresh.worker_count))) (omega (arith, lt, fresh.worker_count))),
+    λ k lt. sym ((λ i. none_given k givers (λ j d below. fresh.pushed j d (omega (arith, below, fresh.worker_count))) (omega (arith, lt, fresh.worker_count)) i ++ none_on_way k i)),
   )
+    where
+      none_on_way : (k : ℕ) → get_or on_way k [] ≡ []
+      none_on_way k = ⊎_elim (λ (below : k < length on_way). none k [] below) (λ above. get_or-eq_default on_way [] above) (cases_lt k (length on_way))
 
-  pub fresh_good : (on_way : List ClockedAccess) → on_way ≡ [] → IsGood (record { config = config; sizes = sizes; sequence = seq; takers = takers; givers = givers; coming = coming; on_way = on_way; failed = false })
-  fresh_good on_way empty = record { same = same; sequence = sequence; popped = fresh_popped; passed = subst (ArePassedOn config seq (given_of givers)) (sym empty) fresh_passed }
+  pub fresh_good : (on_way : List (List ClockedAccess)) → All (λ l. l ≡ []) on_way → IsGood (record { config = config; sizes = sizes; sequence = seq; takers = takers; givers = givers; coming = coming; on_way = on_way; failed = false })
+  fresh_good on_way empty = record { same = same; sequence = sequence; popped = fresh_popped; passed = fresh_passed on_way empty }
 
   pub fresh_unstopped : AreOpen givers
   fresh_unstopped k d lt = ap is_stopped (fresh.pushed k d (omega (arith, lt, fresh.worker_count)))

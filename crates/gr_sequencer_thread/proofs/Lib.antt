@@ -1,4 +1,4 @@
-pub mod OutletLemmas
+pub mod WayLemmas
 pub mod TakeLemmas
 pub mod StepLemmas
 pub mod SameRuns

@@ -1,81 +1,95 @@
 -- What the workers were given, and what is on its way to them, after a step.
-use Rattle.std.proofs.Common.{◌≡◌, ◌≢◌, ◌==◌, ℕ, ◌<◌, List, [], ◌∷◌, ◌++◌, length, get_or, set, cond, Option, None, Some, sym, ap, ◌∙◌, subst, ⊎_elim, arith, append_assoc, eq-eqb, ne_eqb}
+use Rattle.std.proofs.Common.{◌≡◌, ◌≢◌, ◌==◌, ℕ, ◌<◌, List, [], ◌∷◌, ◌++◌, length, get_or, set, cond, sym, ap, ◌∙◌, subst, ⊎_elim, arith, append_assoc, append-nil, eq-eqb, ne_eqb, IsFalse}
 use Rattle.std.proofs.Math.Nat.{mod-lt}
-use Rattle.std.proofs.lemmas.Bool.{cases_eq}
-use Rattle.std.proofs.lemmas.List.{get_or-set_other, get_or-set_same, get_or-map, length-map, length-set, map-append, map-set}
+use Rattle.std.proofs.Math.ListN.{get_or-eq_default}
+use Rattle.std.proofs.lemmas.Bool.{cases_eq, cases_lt}
+use Rattle.std.proofs.lemmas.List.{get_or-set_other, get_or-set_same, get_or-map, get_or_default, length-set, map-set}
 use Rattle.std.proofs.lemmas.List.Elements.{filter-append}
+use Rattle.std.specs.List.{All}
 use Rattle.gr_model.specs.declared.event.Word.{Word}
 use Rattle.gr_model.specs.declared.event.Word.TheVariants.{Global, Local}
 use Rattle.gr_model.specs.Configs.{worker_number}
-use Rattle.gr_clocks.specs.declared.access.Access.{Access as AnyAccess}
-use Rattle.gr_clocks.specs.ClockedAccess.{ClockedAccess, clocked}
-use Rattle.gr_route.specs.declared.work.Work.TheVariants.{Access}
+use Rattle.gr_clocks.specs.ClockedAccess.{ClockedAccess}
+use Rattle.gr_route.specs.declared.work.Work.{Work}
 use Rattle.gr_route.specs.WorkRule.{is_stopped}
 use Rattle.gr_route.specs.WorkSeats.{Giver}
 use Rattle.gr_threads.specs.Given.{accesses_in}
-use Rattle.gr_threads.proofs.Givens.{access_given, access_stops_not}
-use Rattle.gr_sequencer_thread.specs.Feeds.{AreOpen, AreSplit, accesses_for, accesses_on_way, given_of}
-
--- accesses more are on their way
-pub split_more : (workers : ℕ) (given : List (List ClockedAccess)) (accesses on_way more : List ClockedAccess) → AreSplit workers given accesses on_way → AreSplit workers given (accesses ++ more) (on_way ++ more)
-split_more workers given accesses on_way more split k lt =
-    filter-append (λ (x : ClockedAccess). worker_number x.word workers == k) accesses more
-    ∙ (ap (λ (l : List ClockedAccess). l ++ accesses_for workers k more) (split k lt)
-    ∙ (append_assoc (get_or given k []) (accesses_for workers k on_way) (accesses_for workers k more)
-    ∙ ap (λ (l : List ClockedAccess). get_or given k [] ++ l) (sym (filter-append (λ (x : ClockedAccess). worker_number x.word workers == k) on_way more))))
-
-pub on_way_more : {A : Type 0} (refused : Option (AnyAccess A)) (waiting : List (AnyAccess A)) (x : AnyAccess A) → accesses_on_way refused (waiting ++ x ∷ []) ≡ accesses_on_way refused waiting ++ clocked x ∷ []
-on_way_more None waiting x = map-append clocked waiting (x ∷ [])
-on_way_more (Some y) waiting x = ap (λ (l : List ClockedAccess). clocked y ∷ l) (map-append clocked waiting (x ∷ []))
-
--- ---- the first access on its way is passed on
+use Rattle.gr_threads.proofs.Givens.{more_given}
+use Rattle.gr_sequencer_thread.specs.Feeds.{AreOpen, AreSplit, accesses_for, accesses_on_way, given_of, towards}
 
 pub worker_below : (w : Word) (workers : ℕ) → 0 < workers → worker_number w workers < workers
 worker_below (Global n) workers some = mod-lt n some
 worker_below (Local g n) workers some = mod-lt _ some
 
-abbrev pub giving : {A : Type 0} → Giver A → AnyAccess A → Giver A
-giving g x = record { queue = g.queue; pushed = g.pushed ++ Access x ∷ [] }
+-- ---- an access more is on its way
 
-module _ {A : Type 0} (workers : ℕ) (givers : List (Giver A)) (worker_count : length givers ≡ workers) (x : AnyAccess A) (k : ℕ) (to : k ≡ worker_number x.word workers) (there : k < workers) (o : Giver A) (at : o ≡ get_or givers k o) where
-  abbrev now_given : List ClockedAccess
-  now_given = accesses_in o.pushed ++ clocked x ∷ []
+module _ (workers : ℕ) (given : List (List ClockedAccess)) (accesses : List ClockedAccess) (on_way : List (List ClockedAccess)) (x : ClockedAccess) (k : ℕ) (to : k ≡ worker_number x.word workers) (there : k < length on_way) (w : List ClockedAccess) (at : w ≡ get_or on_way k w) (split : AreSplit workers given accesses on_way) where
+  abbrev more : List (List ClockedAccess)
+  more = set on_way k (w ++ x ∷ [])
 
-  given_now : given_of (set givers k (giving o x)) ≡ set (given_of givers) k now_given
-  given_now = map-set (λ (g : Giver A). accesses_in g.pushed) givers k (giving o x) ∙ ap (set (given_of givers) k) (access_given o.pushed x)
+  own : k < workers → accesses_for workers k (accesses ++ x ∷ []) ≡ get_or given k [] ++ get_or more k []
+  own lt =
+      filter-append (λ (y : ClockedAccess). worker_number y.word workers == k) accesses (x ∷ [])
+      ∙ (ap (λ b. accesses_for workers k accesses ++ cond b (x ∷ []) []) (eq-eqb (worker_number x.word workers) k (sym to))
+      ∙ (ap (λ (l : List ClockedAccess). l ++ x ∷ []) (split k lt)
+      ∙ (append_assoc (get_or given k []) (get_or on_way k []) (x ∷ [])
+      ∙ (ap (λ (l : List ClockedAccess). get_or given k [] ++ (l ++ x ∷ [])) (get_or_default on_way k [] w there ∙ sym at)
+      ∙ ap (λ (l : List ClockedAccess). get_or given k [] ++ l) (sym (get_or-set_same on_way k (w ++ x ∷ []) [] there))))))
 
-  given_at : get_or (given_of givers) k [] ≡ accesses_in o.pushed
-  given_at = get_or-map (λ (g : Giver A). accesses_in g.pushed) givers k o [] (omega (arith, there, worker_count)) ∙ ap (λ (g : Giver A). accesses_in g.pushed) (sym at)
+  others : (j : ℕ) → j < workers → j ≢ k → accesses_for workers j (accesses ++ x ∷ []) ≡ get_or given j [] ++ get_or more j []
+  others j lt apart =
+      filter-append (λ (y : ClockedAccess). worker_number y.word workers == j) accesses (x ∷ [])
+      ∙ (ap (λ b. accesses_for workers j accesses ++ cond b (x ∷ []) []) (ne_eqb (worker_number x.word workers) j (λ same. apart (sym same ∙ sym to)))
+      ∙ (append-nil (accesses_for workers j accesses)
+      ∙ (split j lt ∙ ap (λ (l : List ClockedAccess). get_or given j [] ++ l) (sym (get_or-set_other on_way k j (w ++ x ∷ []) [] apart)))))
 
-  here : (accesses rest : List ClockedAccess) → AreSplit workers (given_of givers) accesses (clocked x ∷ rest) → accesses_for workers k accesses ≡ get_or (set (given_of givers) k now_given) k [] ++ accesses_for workers k rest
-  here accesses rest split =
-      split k there
-      ∙ (ap (λ b. get_or (given_of givers) k [] ++ cond b (clocked x ∷ accesses_for workers k rest) (accesses_for workers k rest)) (eq-eqb (worker_number x.word workers) k (sym to))
-      ∙ (ap (λ (l : List ClockedAccess). l ++ clocked x ∷ accesses_for workers k rest) given_at
-      ∙ (sym (append_assoc (accesses_in o.pushed) (clocked x ∷ []) (accesses_for workers k rest))
-      ∙ ap (λ (l : List ClockedAccess). l ++ accesses_for workers k rest)
-      (sym (get_or-set_same (given_of givers) k now_given [] (omega (arith, there, worker_count, length-map givers (λ (g : Giver A). accesses_in g.pushed))))))))
-
-  elsewhere : (accesses rest : List ClockedAccess) → AreSplit workers (given_of givers) accesses (clocked x ∷ rest) → (j : ℕ) → j < workers → j ≢ k → accesses_for workers j accesses ≡ get_or (set (given_of givers) k now_given) j [] ++ accesses_for workers j rest
-  elsewhere accesses rest split j lt apart =
-      split j lt
-      ∙ (ap (λ b. get_or (given_of givers) j [] ++ cond b (clocked x ∷ accesses_for workers j rest) (accesses_for workers j rest)) (ne_eqb (worker_number x.word workers) j (λ same. apart (sym same ∙ sym to)))
-      ∙ ap (λ (l : List ClockedAccess). l ++ accesses_for workers j rest) (sym (get_or-set_other (given_of givers) k j now_given [] apart)))
-
-  pub split_passed : (accesses rest : List ClockedAccess) → AreSplit workers (given_of givers) accesses (clocked x ∷ rest) → AreSplit workers (given_of (set givers k (giving o x))) accesses rest
-  split_passed accesses rest split j lt =
-      subst (λ (given : List (List ClockedAccess)). accesses_for workers j accesses ≡ get_or given j [] ++ accesses_for workers j rest) (sym given_now)
-      (⊎_elim
-      (λ (same : j ≡ k). subst (λ n. accesses_for workers n accesses ≡ get_or (set (given_of givers) k now_given) n [] ++ accesses_for workers n rest) (sym same) (here accesses rest split))
-      (λ apart. elsewhere accesses rest split j lt apart)
-      (cases_eq j k))
-
-  pub still_unstopped : AreOpen givers → AreOpen (set givers k (giving o x))
-  still_unstopped free j d lt = ⊎_elim
-      (λ (same : j ≡ k).
-      ap (λ n. is_stopped (get_or (set givers k (giving o x)) n d).pushed) same
-      ∙ (ap (λ (g : Giver A). is_stopped g.pushed) (get_or-set_same givers k (giving o x) d (omega (arith, there, worker_count)))
-      ∙ (access_stops_not o.pushed x
-      ∙ (ap (λ (g : Giver A). is_stopped g.pushed) at ∙ free k o (omega (arith, there, worker_count))))))
-      (λ apart. ap (λ (g : Giver A). is_stopped g.pushed) (get_or-set_other givers k j (giving o x) d apart) ∙ free j d (let len = length-set givers k (giving o x) in omega (arith, lt, len)))
+  pub split_more : AreSplit workers given (accesses ++ x ∷ []) more
+  split_more j lt = ⊎_elim
+      (λ (same : j ≡ k). subst (λ n. accesses_for workers n (accesses ++ x ∷ []) ≡ get_or given n [] ++ get_or more n []) (sym same) (own (subst (λ n. n < workers) same lt)))
+      (λ apart. others j lt apart)
       (cases_eq j k)
+
+-- ---- some are passed on to a worker
+
+module _ {A : Type 0} (givers : List (Giver A)) (ways : List (List (Work A))) (k : ℕ) (there : k < length givers) (o o' : Giver A) (at : o ≡ get_or givers k o) where
+  given_at : (gs : List (Giver A)) (u : Giver A) → k < length gs → get_or gs k u ≡ u → get_or (given_of gs) k [] ≡ accesses_in u.pushed
+  given_at gs u lt is = get_or-map (λ (g : Giver A). accesses_in g.pushed) gs k u [] lt ∙ ap (λ (g : Giver A). accesses_in g.pushed) is
+
+  on_way_at : (ws : List (List (Work A))) (u : List (Work A)) → k < length ws → get_or ws k u ≡ u → get_or (accesses_on_way ws) k [] ≡ accesses_in u
+  on_way_at ws u lt is = get_or-map accesses_in ws k u [] lt ∙ ap accesses_in is
+
+  pub still_open : IsFalse (is_stopped o'.pushed) → AreOpen givers → AreOpen (set givers k o')
+  still_open unstopped free j d lt = ⊎_elim
+      (λ (same : j ≡ k).
+      ap (λ n. is_stopped (get_or (set givers k o') n d).pushed) same
+      ∙ (ap (λ (g : Giver A). is_stopped g.pushed) (get_or-set_same givers k o' d there) ∙ unstopped))
+      (λ apart. ap (λ (g : Giver A). is_stopped g.pushed) (get_or-set_other givers k j o' d apart) ∙ free j d (let len = length-set givers k o' in omega (arith, lt, len)))
+      (cases_eq j k)
+
+  module _ (within : k < length ways) (w w' : List (Work A)) (mine : w ≡ get_or ways k w) (moved : o'.pushed ++ w' ≡ o.pushed ++ w) where
+    own_towards : towards (set givers k o') (set ways k w') k ≡ towards givers ways k
+    own_towards =
+        (λ i. given_at (set givers k o') o' (let len = length-set givers k o' in omega (arith, there, len)) (get_or-set_same givers k o' o' there) i ++ on_way_at (set ways k w') w' (let len = length-set ways k w' in omega (arith, within, len)) (get_or-set_same ways k w' w' within) i)
+        ∙ (sym (more_given o'.pushed w')
+        ∙ (ap accesses_in moved
+        ∙ (more_given o.pushed w
+        ∙ (λ i. sym (given_at givers o there (sym at)) i ++ sym (on_way_at ways w within (sym mine)) i))))
+
+    other_towards : (j : ℕ) → j ≢ k → towards (set givers k o') (set ways k w') j ≡ towards givers ways j
+    other_towards j apart = λ i.
+        (ap (λ (l : List (List ClockedAccess)). get_or l j []) (map-set (λ (g : Giver A). accesses_in g.pushed) givers k o') ∙ get_or-set_other (given_of givers) k j (accesses_in o'.pushed) [] apart) i
+        ++ (ap (λ (l : List (List ClockedAccess)). get_or l j []) (map-set accesses_in ways k w') ∙ get_or-set_other (accesses_on_way ways) k j (accesses_in w') [] apart) i
+
+    pub same_towards : (j : ℕ) → towards (set givers k o') (set ways k w') j ≡ towards givers ways j
+    same_towards j = ⊎_elim
+        (λ (same : j ≡ k). subst (λ n. towards (set givers k o') (set ways k w') n ≡ towards givers ways n) (sym same) own_towards)
+        (λ apart. other_towards j apart)
+        (cases_eq j k)
+
+-- ---- nothing is on its way any more
+
+pub split_whole : (workers : ℕ) (given : List (List ClockedAccess)) (accesses : List ClockedAccess) (on_way : List (List ClockedAccess)) → All (λ l. l ≡ []) on_way → AreSplit workers given accesses on_way → AreSplit workers given accesses []
+split_whole workers given accesses on_way none split k lt = split k lt ∙ ap (λ (l : List ClockedAccess). get_or given k [] ++ l) (none_at k)
+  where
+    none_at : (j : ℕ) → get_or on_way j [] ≡ []
+    none_at j = ⊎_elim (λ (below : j < length on_way). none j [] below) (λ above. get_or-eq_default on_way [] above) (cases_lt j (length on_way))

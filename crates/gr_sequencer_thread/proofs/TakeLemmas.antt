@@ -1,5 +1,5 @@
 -- What was popped may come, and what was taken of it is in the end all that was popped.
-use Rattle.std.proofs.Common.{◌≡◌, ◌≢◌, ◌==◌, ℕ, ◌<◌, ◌≤◌, ◌%◌, List, [], ◌∷◌, ◌++◌, length, get_or, set, cond, refl, sym, ap, ◌∙◌, subst, ⊎_elim, arith, append_assoc, append-nil, eq-eqb, ne_eqb}
+use Rattle.std.proofs.Common.{◌≡◌, ◌≢◌, ◌==◌, ℕ, ◌<◌, ◌≤◌, ◌%◌, List, [], ◌∷◌, ◌++◌, length, get_or, set, cond, refl, sym, ap, ◌∙◌, subst, ⊎_elim, arith, append_assoc, append-nil, length-append, eq-eqb, ne_eqb}
 use Rattle.std.proofs.Math.ListN.{get_or-eq_default}
 use Rattle.std.proofs.lemmas.Bool.{cases_eq, cases_lt}
 use Rattle.std.proofs.lemmas.List.{get_or-map, get_or-set_other, get_or-set_same, get_or_default, length-map, length-set}
@@ -7,20 +7,32 @@ use Rattle.std.specs.List.{All}
 use Rattle.gr_model.specs.declared.event.Event.{Event}
 use Rattle.gr_model.specs.declared.event.Sent.{Sent}
 use Rattle.gr_model.specs.Configs.{Settings}
-use Rattle.gr_model.specs.Streams.{IsPrefix, Streams, list_of, size_of}
+use Rattle.gr_model.specs.Streams.{IsPrefix, Streams, events_of, list_of, size_of}
 use Rattle.gr_model.proofs.Sending.{events_append, events_else, events_here}
-use Rattle.gr_model.proofs.StreamPrefixes.{prefix_push}
-use Rattle.gr_route.specs.IntakeSeats.{IsNextPopped, Taker, popped_of}
+use Rattle.gr_route.specs.Batches.{sent_by}
+use Rattle.gr_route.specs.IntakeSeats.{IsDelivery, Taker, popped_of}
 use Rattle.gr_taking.specs.Sources.{ListedRecords, MayCome, come_of}
 use Rattle.gr_sequencer_thread.specs.Feeds.{ArePopped, AreSeated, AreTaken, come_in}
 
--- the seat after one event more was popped
-abbrev pub popping : Taker → Sent → Taker
-popping t s = record { queue = t.queue; popped = t.popped ++ s ∷ []; sizes = t.sizes; joined = t.joined }
+-- the seat after events of a group were popped
+abbrev pub popping : Taker → ℕ → List Event → Taker
+popping t n es = record { queue = t.queue; popped = t.popped ++ sent_by n es; sizes = t.sizes; joined = t.joined }
 
--- the backlog with one event more
-abbrev pub behind : ListedRecords → Event → ListedRecords
-behind b e = record { group = b.group; records = b.records ++ e ∷ [] }
+-- the backlog with these events more
+abbrev pub behind : ListedRecords → List Event → ListedRecords
+behind b es = record { group = b.group; records = b.records ++ es }
+
+sent_here : (n : ℕ) (es : List Event) → events_of n (sent_by n es) ≡ es
+sent_here n [] = refl
+sent_here n (e ∷ es) =
+    let x : Sent = record { group = n; event = e } in
+    events_append n (x ∷ []) (sent_by n es) ∙ (λ i. events_here x i ++ sent_here n es i)
+
+sent_else : (h n : ℕ) (es : List Event) → h ≢ n → events_of h (sent_by n es) ≡ []
+sent_else h n [] apart = refl
+sent_else h n (e ∷ es) apart =
+    let x : Sent = record { group = n; event = e } in
+    events_append h (x ∷ []) (sent_by n es) ∙ (λ i. events_else h x (λ same. apart (sym same)) i ++ sent_else h n es apart i)
 
 -- of a group, what was taken of it with what is to be taken
 abbrev pub come_one : Streams → ListedRecords → ℕ × List Event
@@ -29,113 +41,114 @@ come_one taken b = come_of (λ c. c.group) (λ g. g) (λ c. c.records) taken b
 pub come_at : (taken : Streams) (coming : List ListedRecords) (g : ℕ) (f : ℕ × List Event) (b : ListedRecords) → g < length coming → get_or (come_in taken coming) g f ≡ come_one taken (get_or coming g b)
 come_at taken coming g f b lt = get_or-map (come_one taken) coming g b f lt
 
--- ---- an event is popped
+-- ---- events of a group are popped
 
-module _ (config : Settings) (sizes : List ℕ) (takers : List Taker) (seated : AreSeated config sizes takers) (q : ℕ) (t : Taker) (at : t ≡ get_or takers q t) (there : q < config.queues) (queues : length takers ≡ config.queues) (s : Sent) (next : IsNextPopped t s) where
-  seat_size : get_or t.sizes s.group 0 ≡ cond (s.group % config.queues == q) (get_or sizes s.group 0) 0
-  seat_size = ap (λ (u : Taker). get_or u.sizes s.group 0) at ∙ seated q s.group t there
+module _ (config : Settings) (sizes : List ℕ) (takers : List Taker) (seated : AreSeated config sizes takers) (q : ℕ) (t : Taker) (at : t ≡ get_or takers q t) (there : q < config.queues) (queues : length takers ≡ config.queues) (n : ℕ) (es : List Event) (some : 0 < length es) (delivery : IsDelivery (popping t n es)) where
+  popped_here : popped_of (popping t n es) n ≡ popped_of t n ++ es
+  popped_here = events_append n t.popped (sent_by n es) ∙ ap (λ (l : List Event). popped_of t n ++ l) (sent_here n es)
 
-  queue_is : s.group % config.queues ≡ q
+  popped_else : (h : ℕ) → h ≢ n → popped_of (popping t n es) h ≡ popped_of t h
+  popped_else h apart = events_append h t.popped (sent_by n es) ∙ (ap (λ (l : List Event). popped_of t h ++ l) (sent_else h n es apart) ∙ append-nil (popped_of t h))
+
+  has_seat : get_or t.sizes n 0 ≢ 0
+  has_seat none =
+      let all : length (popped_of t n ++ es) ≡ 0 = ap length (sym popped_here ∙ delivery.unseated n none) in
+      absurd (omega (arith, all, some, length-append (popped_of t n) es))
+
+  seat_size : get_or t.sizes n 0 ≡ cond (n % config.queues == q) (get_or sizes n 0) 0
+  seat_size = ap (λ (u : Taker). get_or u.sizes n 0) at ∙ seated q n t there
+
+  queue_is : n % config.queues ≡ q
   queue_is = ⊎_elim (λ same. same)
-      (λ apart. absurd (next.seated (seat_size ∙ ap (λ b. cond b (get_or sizes s.group 0) 0) (ne_eqb (s.group % config.queues) q apart))))
-      (cases_eq (s.group % config.queues) q)
+      (λ apart. absurd (has_seat (seat_size ∙ ap (λ b. cond b (get_or sizes n 0) 0) (ne_eqb (n % config.queues) q apart))))
+      (cases_eq (n % config.queues) q)
 
-  size_is : get_or t.sizes s.group 0 ≡ get_or sizes s.group 0
-  size_is = seat_size ∙ ap (λ b. cond b (get_or sizes s.group 0) 0) (eq-eqb (s.group % config.queues) q queue_is)
+  size_is : get_or t.sizes n 0 ≡ get_or sizes n 0
+  size_is = seat_size ∙ ap (λ b. cond b (get_or sizes n 0) 0) (eq-eqb (n % config.queues) q queue_is)
 
-  pub group_there : s.group < length sizes
+  pub group_there : n < length sizes
   group_there = ⊎_elim (λ lt. lt)
-      (λ (ge : length sizes ≤ s.group). absurd (next.seated (size_is ∙ get_or-eq_default sizes 0 ge)))
-      (cases_lt s.group (length sizes))
+      (λ (ge : length sizes ≤ n). absurd (has_seat (size_is ∙ get_or-eq_default sizes 0 ge)))
+      (cases_lt n (length sizes))
 
-  seat_here : (d : Taker) → get_or (set takers q (popping t s)) q d ≡ popping t s
-  seat_here d = get_or-set_same takers q (popping t s) d (omega (arith, there, queues))
+  seat_here : (d : Taker) → get_or (set takers q (popping t n es)) q d ≡ popping t n es
+  seat_here d = get_or-set_same takers q (popping t n es) d (omega (arith, there, queues))
 
-  seat_else : (p : ℕ) (d : Taker) → p ≢ q → get_or (set takers q (popping t s)) p d ≡ get_or takers p d
-  seat_else p d apart = get_or-set_other takers q p (popping t s) d apart
+  seat_else : (p : ℕ) (d : Taker) → p ≢ q → get_or (set takers q (popping t n es)) p d ≡ get_or takers p d
+  seat_else p d apart = get_or-set_other takers q p (popping t n es) d apart
 
-  popped_here : popped_of (popping t s) s.group ≡ popped_of t s.group ++ s.event ∷ []
-  popped_here = events_append s.group t.popped (s ∷ []) ∙ ap (λ (l : List Event). popped_of t s.group ++ l) (events_here s)
+  -- what was popped of the events' group
+  own_before : (d : Taker) → popped_of (get_or takers (n % config.queues) d) n ≡ popped_of t n
+  own_before d = ap (λ m. popped_of (get_or takers m d) n) queue_is ∙ ap (λ (u : Taker). popped_of u n) (get_or_default takers q d t (omega (arith, there, queues)) ∙ sym at)
 
-  popped_else : (h : ℕ) → h ≢ s.group → popped_of (popping t s) h ≡ popped_of t h
-  popped_else h apart = events_append h t.popped (s ∷ []) ∙ (ap (λ (l : List Event). popped_of t h ++ l) (events_else h s (λ e. apart (sym e))) ∙ append-nil (popped_of t h))
-
-  -- what was popped of the event's group
-  own_before : (d : Taker) → popped_of (get_or takers (s.group % config.queues) d) s.group ≡ popped_of t s.group
-  own_before d = ap (λ n. popped_of (get_or takers n d) s.group) queue_is ∙ ap (λ (u : Taker). popped_of u s.group) (get_or_default takers q d t (omega (arith, there, queues)) ∙ sym at)
-
-  own_after : (d : Taker) → popped_of (get_or (set takers q (popping t s)) (s.group % config.queues) d) s.group ≡ popped_of t s.group ++ s.event ∷ []
-  own_after d = ap (λ n. popped_of (get_or (set takers q (popping t s)) n d) s.group) queue_is ∙ (ap (λ (u : Taker). popped_of u s.group) (seat_here d) ∙ popped_here)
+  own_after : (d : Taker) → popped_of (get_or (set takers q (popping t n es)) (n % config.queues) d) n ≡ popped_of t n ++ es
+  own_after d = ap (λ m. popped_of (get_or (set takers q (popping t n es)) m d) n) queue_is ∙ (ap (λ (u : Taker). popped_of u n) (seat_here d) ∙ popped_here)
 
   -- and of other groups
-  others : (h : ℕ) (d : Taker) → h ≢ s.group → popped_of (get_or takers (h % config.queues) d) h ≡ popped_of (get_or (set takers q (popping t s)) (h % config.queues) d) h
+  others : (h : ℕ) (d : Taker) → h ≢ n → popped_of (get_or takers (h % config.queues) d) h ≡ popped_of (get_or (set takers q (popping t n es)) (h % config.queues) d) h
   others h d apart = ⊎_elim
       (λ (same : h % config.queues ≡ q).
       ap (λ n. popped_of (get_or takers n d) h) same
       ∙ (ap (λ (u : Taker). popped_of u h) (get_or_default takers q d t (omega (arith, there, queues)) ∙ sym at)
       ∙ (sym (popped_else h apart)
       ∙ (sym (ap (λ (u : Taker). popped_of u h) (seat_here d))
-      ∙ ap (λ n. popped_of (get_or (set takers q (popping t s)) n d) h) (sym same)))))
+      ∙ ap (λ m. popped_of (get_or (set takers q (popping t n es)) m d) h) (sym same)))))
       (λ other. ap (λ (u : Taker). popped_of u h) (sym (seat_else (h % config.queues) d other)))
       (cases_eq (h % config.queues) q)
 
-  -- the event joins those that are to be taken
-  module _ (taken : Streams) (same : taken.sizes ≡ sizes) (coming : List ListedRecords) (are : ArePopped config taken coming takers) (b : ListedRecords) (mine : b ≡ get_or coming s.group b) where
-    there_now : s.group < length coming
+  -- the events join those that are to be taken
+  module _ (taken : Streams) (same : taken.sizes ≡ sizes) (coming : List ListedRecords) (are : ArePopped config taken coming takers) (b : ListedRecords) (mine : b ≡ get_or coming n b) where
+    there_now : n < length coming
     there_now = omega (arith, are.count, ap length same, group_there)
 
     abbrev joined : List ListedRecords
-    joined = set coming s.group (behind b s.event)
+    joined = set coming n (behind b es)
 
-    came : (d : Taker) → come_one taken b ≡ (s.group, popped_of t s.group)
+    came : (d : Taker) → come_one taken b ≡ (n, popped_of t n)
     came d =
         let f = come_one taken b in
         ap (come_one taken) mine
-        ∙ (sym (come_at taken coming s.group f b there_now)
-        ∙ (are.each s.group f d (omega (arith, there_now, are.count)) ∙ ap (λ (l : List Event). (s.group, l)) (own_before d)))
+        ∙ (sym (come_at taken coming n f b there_now)
+        ∙ (are.each n f d (omega (arith, there_now, are.count)) ∙ ap (λ (l : List Event). (n, l)) (own_before d)))
 
-    here : (f : ℕ × List Event) (d : Taker) → get_or (come_in taken joined) s.group f ≡ (s.group, popped_of (get_or (set takers q (popping t s)) (s.group % config.queues) d) s.group)
+    here : (f : ℕ × List Event) (d : Taker) → get_or (come_in taken joined) n f ≡ (n, popped_of (get_or (set takers q (popping t n es)) (n % config.queues) d) n)
     here f d =
-        come_at taken joined s.group f b (omega (arith, there_now, length-set coming s.group (behind b s.event)))
-        ∙ (ap (come_one taken) (get_or-set_same coming s.group (behind b s.event) b there_now)
-        ∙ (ap (λ (l : List Event). (b.group, l)) (sym (append_assoc (list_of taken b.group) b.records (s.event ∷ [])))
-        ∙ (ap (λ (x : ℕ × List Event). (x.0, x.1 ++ s.event ∷ [])) (came d)
-        ∙ ap (λ (l : List Event). (s.group, l)) (sym (own_after d)))))
+        come_at taken joined n f b (omega (arith, there_now, length-set coming n (behind b es)))
+        ∙ (ap (come_one taken) (get_or-set_same coming n (behind b es) b there_now)
+        ∙ (ap (λ (l : List Event). (b.group, l)) (sym (append_assoc (list_of taken b.group) b.records (es)))
+        ∙ (ap (λ (x : ℕ × List Event). (x.0, x.1 ++ es)) (came d)
+        ∙ ap (λ (l : List Event). (n, l)) (sym (own_after d)))))
 
-    elsewhere : (g : ℕ) (f : ℕ × List Event) (d : Taker) → g < length taken.sizes → g ≢ s.group → get_or (come_in taken joined) g f ≡ (g, popped_of (get_or (set takers q (popping t s)) (g % config.queues) d) g)
+    elsewhere : (g : ℕ) (f : ℕ × List Event) (d : Taker) → g < length taken.sizes → g ≢ n → get_or (come_in taken joined) g f ≡ (g, popped_of (get_or (set takers q (popping t n es)) (g % config.queues) d) g)
     elsewhere g f d lt apart =
-        come_at taken joined g f b (omega (arith, lt, are.count, length-set coming s.group (behind b s.event)))
-        ∙ (ap (come_one taken) (get_or-set_other coming s.group g (behind b s.event) b apart)
+        come_at taken joined g f b (omega (arith, lt, are.count, length-set coming n (behind b es)))
+        ∙ (ap (come_one taken) (get_or-set_other coming n g (behind b es) b apart)
         ∙ (sym (come_at taken coming g f b (omega (arith, lt, are.count)))
         ∙ (are.each g f d lt ∙ ap (λ (l : List Event). (g, l)) (others g d apart))))
 
-    own_size : get_or t.sizes s.group 0 ≡ size_of taken s.group
-    own_size = size_is ∙ ap (λ (l : List ℕ). get_or l s.group 0) (sym same)
+    own_size : get_or t.sizes n 0 ≡ size_of taken n
+    own_size = size_is ∙ ap (λ (l : List ℕ). get_or l n 0) (sym same)
 
-    own_prefix : (d : Taker) → IsPrefix (size_of taken s.group) (popped_of (get_or (set takers q (popping t s)) (s.group % config.queues) d) s.group)
-    own_prefix d =
-        let before : IsPrefix (get_or t.sizes s.group 0) (popped_of t s.group) =
-        subst (λ n. IsPrefix n (popped_of t s.group)) (sym own_size) (subst (IsPrefix (size_of taken s.group)) (own_before d) (are.prefixes s.group d (omega (arith, there_now, are.count)))) in
-        subst (IsPrefix (size_of taken s.group)) (sym (own_after d))
-        (subst (λ n. IsPrefix n (popped_of t s.group ++ s.event ∷ [])) own_size (prefix_push (get_or t.sizes s.group 0) (popped_of t s.group) s.event before next.good next.unended next.room))
+    own_prefix : (d : Taker) → IsPrefix (size_of taken n) (popped_of (get_or (set takers q (popping t n es)) (n % config.queues) d) n)
+    own_prefix d = subst (IsPrefix (size_of taken n)) (popped_here ∙ sym (own_after d)) (subst (λ m. IsPrefix m (popped_of (popping t n es) n)) own_size (delivery.streams n))
 
-    pub still_popped : ArePopped config taken joined (set takers q (popping t s))
+    pub still_popped : ArePopped config taken joined (set takers q (popping t n es))
     still_popped = record {
-      count = length-set coming s.group (behind b s.event) ∙ are.count;
+      count = length-set coming n (behind b es) ∙ are.count;
       each = λ g f d lt. ⊎_elim
-          (λ (own : g ≡ s.group). subst (λ n. get_or (come_in taken joined) n f ≡ (n, popped_of (get_or (set takers q (popping t s)) (n % config.queues) d) n)) (sym own) (here f d))
+          (λ (own : g ≡ n). subst (λ m. get_or (come_in taken joined) m f ≡ (m, popped_of (get_or (set takers q (popping t n es)) (m % config.queues) d) m)) (sym own) (here f d))
           (λ apart. elsewhere g f d lt apart)
-          (cases_eq g s.group);
+          (cases_eq g n);
       prefixes = λ g d lt. ⊎_elim
-          (λ (own : g ≡ s.group). subst (λ n. IsPrefix (size_of taken n) (popped_of (get_or (set takers q (popping t s)) (n % config.queues) d) n)) (sym own) (own_prefix d))
+          (λ (own : g ≡ n). subst (λ m. IsPrefix (size_of taken m) (popped_of (get_or (set takers q (popping t n es)) (m % config.queues) d) m)) (sym own) (own_prefix d))
           (λ apart. subst (IsPrefix (size_of taken g)) (others g d apart) (are.prefixes g d lt))
-          (cases_eq g s.group);
+          (cases_eq g n);
     }
 
-  pub still_seated : AreSeated config sizes (set takers q (popping t s))
+  pub still_seated : AreSeated config sizes (set takers q (popping t n es))
   still_seated p g d lt = ⊎_elim
       (λ (same : p ≡ q).
-      ap (λ n. get_or (get_or (set takers q (popping t s)) n d).sizes g 0) same
+      ap (λ m. get_or (get_or (set takers q (popping t n es)) m d).sizes g 0) same
       ∙ (ap (λ (u : Taker). get_or u.sizes g 0) (seat_here d ∙ refl)
       ∙ (ap (λ (u : Taker). get_or u.sizes g 0) at
       ∙ (seated q g t there ∙ ap (λ n. cond (g % config.queues == n) (get_or sizes g 0) 0) (sym same)))))

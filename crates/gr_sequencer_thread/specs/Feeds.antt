@@ -1,14 +1,14 @@
 -- What the sequencer's thread has, and what is so of it at every moment and at its end.
 -- Source: docs/QUEUES.md, "The work queue", and docs/MODEL.md, "The world".
-use Rattle.std.specs.Prelude.{◌≡◌, ◌==◌, ◌<◌, ◌%◌, ℕ, All, Bool, false, List, [], ◌∷◌, ◌++◌, length, map, filter, slice_index, slice_index_or, Option, None, Some, IsFalse, IsTrue, if◌then◌else◌}
+use Rattle.std.specs.Prelude.{◌≡◌, ◌==◌, ◌<◌, ◌%◌, ℕ, All, Bool, false, List, [], ◌++◌, drop, length, map, filter, slice_index, slice_index_or, Option, None, Some, IsFalse, IsTrue, if◌then◌else◌}
 use Rattle.atomic_table.specs.Seated.{TableId}
 use Rattle.gr_model.specs.declared.event.Event.{Event}
 use Rattle.gr_model.specs.Configs.{IsConfig, Settings, worker_number}
 use Rattle.gr_model.specs.Streams.{AreComplete, IsPrefix, Streams, list_of, size_of}
-use Rattle.gr_clocks.specs.declared.access.Access.{Access}
-use Rattle.gr_clocks.specs.ClockedAccess.{ClockedAccess, clocked}
+use Rattle.gr_clocks.specs.ClockedAccess.{ClockedAccess}
 use Rattle.gr_order.specs.Sequences.{IsDone, IsSequence, Sequence}
 use Rattle.gr_route.specs.declared.work.Work.{Work}
+use Rattle.gr_route.specs.Batches.{all_of}
 use Rattle.gr_route.specs.IntakeSeats.{Taker, popped_of}
 use Rattle.gr_route.specs.WorkRule.{is_stopped}
 use Rattle.gr_route.specs.WorkSeats.{Giver}
@@ -16,7 +16,7 @@ use Rattle.gr_taking.specs.Along.{IsAlong}
 use Rattle.gr_taking.specs.Sources.{ListedRecords, come_from}
 use Rattle.gr_threads.specs.Given.{accesses_in}
 
--- how the run is set up, and the items of each work-group; what was taken, and what of it was handled, in which order; the seats that pop, by queue; the seats that push, by worker; the events that were popped and are to be taken, by group; the accesses that were handled and pushed to no worker yet; whether memory ran out
+-- how the run is set up, and the items of each work-group; what was taken, and what of it was handled, in which order; the seats that pop, by queue; the seats that push, by worker; the events that were popped and are to be taken, by group; the accesses that were handled and pushed to no worker yet, by worker; whether memory ran out
 pub record Feed (A : Type 0) : Type 0 where
   pub config : Settings
   pub sizes : List ℕ
@@ -24,7 +24,7 @@ pub record Feed (A : Type 0) : Type 0 where
   pub takers : List Taker
   pub givers : List (Giver A)
   pub coming : List ListedRecords
-  pub on_way : List ClockedAccess
+  pub on_way : List (List ClockedAccess)
   pub failed : Bool
 
 -- a backlog for each group, and no event in it
@@ -32,10 +32,19 @@ pub record AreNoBacklogs (sizes : List ℕ) (coming : List ListedRecords) : Type
   pub count : length coming ≡ length sizes
   pub each : (g : ℕ) (d : ListedRecords) → g < length coming → slice_index_or coming g d ≡ record { group = g; records = [] }
 
--- the accesses on their way: one that was refused before the others
-abbrev pub accesses_on_way : {A : Type 0} → Option (Access A) → List (Access A) → List ClockedAccess
-accesses_on_way None waiting = map clocked waiting
-accesses_on_way (Some x) waiting = clocked x ∷ map clocked waiting
+-- the events that are left of a batch of which so many were taken
+abbrev pub left_of : Option (List Event) → ℕ → List Event
+left_of None taken = []
+left_of (Some events) taken = drop taken events
+
+-- the work on its way to a worker: a batch that was refused, the batches after it, and what waits for more
+abbrev pub work_on_way : {A : Type 0} → Option (List (Work A)) → List (List (Work A)) → List (Work A) → List (Work A)
+work_on_way None batches waiting = all_of batches ++ waiting
+work_on_way (Some batch) batches waiting = batch ++ (all_of batches ++ waiting)
+
+-- the accesses on their way, by worker
+abbrev pub accesses_on_way : {A : Type 0} → List (List (Work A)) → List (List ClockedAccess)
+accesses_on_way ways = map accesses_in ways
 
 -- which queues the seats are of
 abbrev pub intakes_of : List Taker → List TableId
@@ -44,19 +53,13 @@ intakes_of takers = map (λ (t : Taker). t.queue) takers
 abbrev pub works_of : {A : Type 0} → List (Giver A) → List TableId
 works_of givers = map (λ g. g.queue) givers
 
--- what waits at the end of a worker's queue to be pushed there: accesses, and none once the word was pushed that there are no more
-pub record IsOutlet {A : Type 0} (queue : TableId) (seat : Giver A) (waiting : List (Work A)) : Type 0 where
-  pub queue_is : seat.queue ≡ queue
-  pub accesses : IsFalse (is_stopped waiting)
-  pub stopped : IsTrue (is_stopped seat.pushed) → waiting ≡ []
-
--- the seat, where that was pushed
-abbrev pub with_waiting : {A : Type 0} → Giver A → List (Work A) → Giver A
-with_waiting seat waiting = record { queue = seat.queue; pushed = seat.pushed ++ waiting }
-
 -- the accesses that each worker was given
 abbrev pub given_of : {A : Type 0} → List (Giver A) → List (List ClockedAccess)
 given_of givers = map (λ g. accesses_in g.pushed) givers
+
+-- what each worker was given, and what is on its way to it
+abbrev pub towards : {A : Type 0} → List (Giver A) → List (List (Work A)) → ℕ → List ClockedAccess
+towards givers ways k = slice_index_or (given_of givers) k [] ++ slice_index_or (accesses_on_way ways) k []
 
 -- of these accesses those that go to a worker, of so many
 abbrev pub accesses_for : ℕ → ℕ → List ClockedAccess → List ClockedAccess
@@ -90,12 +93,12 @@ pub record ArePopped (config : Settings) (taken : Streams) (coming : List Listed
   pub each : (g : ℕ) (f : ℕ × List Event) (d : Taker) → g < length taken.sizes → slice_index_or (come_in taken coming) g f ≡ (g, popped_of (slice_index_or takers (g % config.queues) d) g)
   pub prefixes : (g : ℕ) (d : Taker) → g < length taken.sizes → IsPrefix (size_of taken g) (popped_of (slice_index_or takers (g % config.queues) d) g)
 
--- of these accesses each of so many workers was given those that go to it, but for those that are on their way
-abbrev pub AreSplit : ℕ → List (List ClockedAccess) → List ClockedAccess → List ClockedAccess → Type 0
-AreSplit workers given accesses on_way = (k : ℕ) → k < workers → accesses_for workers k accesses ≡ slice_index_or given k [] ++ accesses_for workers k on_way
+-- of these accesses each of so many workers was given those that go to it, but for those that are on their way to it
+abbrev pub AreSplit : ℕ → List (List ClockedAccess) → List ClockedAccess → List (List ClockedAccess) → Type 0
+AreSplit workers given accesses on_way = (k : ℕ) → k < workers → accesses_for workers k accesses ≡ slice_index_or given k [] ++ slice_index_or on_way k []
 
 -- what the workers were given, and what is on its way to them, are the accesses along the handled order
-abbrev pub ArePassedOn : Settings → Sequence → List (List ClockedAccess) → List ClockedAccess → Type 0
+abbrev pub ArePassedOn : Settings → Sequence → List (List ClockedAccess) → List (List ClockedAccess) → Type 0
 ArePassedOn config sequence given on_way = IsAlong (AreSplit config.workers given) sequence on_way
 
 -- memory never ran out
@@ -140,7 +143,7 @@ pub record IsOver {A : Type 0} (f : Feed A) : Type 0 where
   pub complete : AreComplete f.sequence.taken
   pub done : IsDone f.sequence
   pub taken : All (λ b. b.records ≡ []) f.coming
-  pub passed : f.on_way ≡ []
+  pub passed : All (λ l. l ≡ []) f.on_way
 
 -- all that was popped was taken, handled and passed on
 pub record IsWhole {A : Type 0} (config : Settings) (sequence : Sequence) (takers : List Taker) (givers : List (Giver A)) : Type 0 where

@@ -1,52 +1,122 @@
 //! The events of a work-group that were popped, and are to be taken.
 
-ghost use Rattle.std.specs.Prelude.{◌≡◌, ◌==◌, ◌<◌, ◌∷◌, ◌++◌, [], false, IfOk, MatchOption, OnErr, OnOk, length, slice_index_or, slice_set};
-ghost use Rattle.std.specs.List.{list_all};
+ghost use Rattle.std.specs.Prelude.{◌≡◌, ◌<◌, ◌∷◌, ◌++◌, [], All, false, IfNone, IfOk, IfSome, IsTrue, MatchOption, OnErr, OnOk, length, slice_index_or, slice_set};
 ghost use Rattle.gr_taking.specs.Sources.{ListedRecords};
-ghost use Rattle.gr_sequencer_thread.specs.Feeds.{AreNoBacklogs};
+ghost use Rattle.gr_sequencer_thread.specs.Feeds.{AreNoBacklogs, left_of};
 
-use gr_model::event::{Event, Sent};
+use crate::inlet::Inlet;
+use gr_model::event::Event;
 use gr_model::memory::Memory;
 use gr_model::shape::Shape;
+use gr_route::batch::Batch;
 use gr_taking::source::Source;
 use std::alloc::{Allocator, Global};
 use std::collections::VecDeque;
 use std::marker::Model;
+use std::mem;
+use std::sync::Wait;
 
 /// The events of a work-group that were popped, and are to be taken. Contracts see the group and these events.
 #[derive(Drop)]
 pub(crate) struct Backlog<A: Allocator = Global> {
     group: u16,
     items: u16,
-    events: VecDeque<Event, A>,
+    /// The batch that is being taken, and how many of its events were.
+    batch: Option<Batch<Event, A>>,
+    taken: usize,
+    /// The batches after it, and how many events they have.
+    later: VecDeque<Batch<Event, A>, A>,
+    count: usize,
+    /// Lists that held events that were taken.
+    emptied: VecDeque<Vec<Event, A>, A>,
 }
 
 impl<A: Allocator> Model for Backlog<A> {
+    ghost use Rattle.std.specs.Prelude.{◌++◌};
+    ghost use Rattle.gr_route.specs.Batches.{all_of};
+    ghost use Rattle.gr_sequencer_thread.specs.Feeds.{left_of};
     ghost use Rattle.gr_taking.specs.Sources.{ListedRecords};
 
     ghost Value = { ListedRecords };
 
-    ghost view = { λ b. record { group = b.group; records = b.events.items } };
+    ghost view = { λ b. record { group = b.group; records = left_of b.batch b.taken ++ all_of b.later.items } };
+}
+
+/// How many events a batch has, if it is there: at least one.
+fn count_of<A: Allocator>(batch: &Option<Batch<Event, A>>) -> usize
+    ensures { MatchOption batch.now (result ≡ 0) (λ events. (result ≡ length events) × (0 < result)) }
+{
+    match batch {
+        None => 0,
+        Some(events) => events.len(),
+    }
+}
+
+/// The next event of the batch that is being taken, if one is left.
+#[inline(always)]
+fn next_of<A: Allocator>(batch: &Option<Batch<Event, A>>, taken: &mut usize) -> Option<Event>
+    ensures some { IfSome result (λ event. left_of batch.now taken.old ≡ event ∷ left_of batch.now taken.new) }
+    ensures none { IfNone result ((left_of batch.now taken.old ≡ []) × (taken.new ≡ taken.old)) }
+{
+    match batch {
+        None => None,
+        Some(events) if *taken >= events.len() => None,
+        Some(events) => match events.get(*taken) {
+            None => unreachable!(),
+            Some(event) => {
+                *taken += 1;
+                Some(*event)
+            }
+        },
+    }
 }
 
 impl<A: Allocator> Backlog<A> {
-    /// Adds an event that was popped.
+    /// Adds events that were popped.
     ///
     /// # Errors
     /// `Memory`: out of memory. The backlog is then as it was.
-    pub(crate) fn push(&mut self, event: Event) -> Result<(), Memory>
-        ensures ok { OnOk result (self.new ≡ record { group = self.old.group; records = self.old.records ++ event ∷ [] }) }
+    pub(crate) fn push(&mut self, events: Batch<Event, A>) -> Result<(), Memory>
+        ensures ok { OnOk result (self.new ≡ record { group = self.old.group; records = self.old.records ++ events }) }
         ensures unchanged { OnErr result (self.new ≡ self.old) }
     {
-        self.events.push_back(event)?;
+        let count = events.len();
+        self.later.push_back(events)?;
+        self.count = self.count.saturating_add(count);
         Ok(())
     }
 
     /// Whether no event is to be taken.
     pub(crate) fn is_empty(&self) -> bool
-        ensures { result ≡ (length self.now.records == 0) }
+        ensures { IsTrue result → self.now.records ≡ [] }
     {
-        self.events.is_empty()
+        self.taken >= count_of(&self.batch) && self.later.is_empty()
+    }
+
+    /// How many events are to be taken.
+    pub(crate) fn len(&self) -> usize {
+        self.count
+            .saturating_add(count_of(&self.batch).saturating_sub(self.taken))
+    }
+
+    /// Gives the lists back that held events that were taken, to be filled again.
+    pub(crate) fn give_back<R: Wait>(&mut self, rt: &R, inlet: &Inlet<A>)
+        ensures { self.new ≡ self.old }
+    {
+        for _ in 0..self.emptied.len() {
+            if let Some(list) = self.emptied.pop_front() {
+                inlet.give_back(rt, list);
+            }
+        }
+    }
+}
+
+/// Keeps the list of a batch that was taken, if it has one, to be filled again.
+fn keep<A: Allocator>(emptied: &mut VecDeque<Vec<Event, A>, A>, batch: Option<Batch<Event, A>>) {
+    if let Some(events) = batch {
+        if let Some(list) = events.into_list() {
+            let _ = emptied.push_back(list);
+        }
     }
 }
 
@@ -73,41 +143,41 @@ impl<A: Allocator> Source for Backlog<A> {
         ensures header { self.new.group ≡ self.old.group }
         ensures next { MatchOption result ((self.old.records ≡ []) × (self.new.records ≡ [])) (λ e. self.old.records ≡ e ∷ self.new.records) }
     {
-        let event = self.events.pop_front()?;
-        if event.kind.is_end() {
-            self.events.shrink_to_fit();
+        if let Some(event) = next_of(&self.batch, &mut self.taken) {
+            return Some(event);
         }
-        Some(event)
+        let next = self.later.pop_front();
+        self.count = self.count.saturating_sub(count_of(&next));
+        keep(&mut self.emptied, mem::replace(&mut self.batch, next));
+        self.taken = 0;
+        next_of(&self.batch, &mut self.taken)
     }
 }
 
 /// Whether no event is to be taken of any group.
 pub(crate) fn are_empty<A: Allocator>(backlogs: &[Backlog<A>]) -> bool
-    ensures { result ≡ list_all (λ b. length b.records == 0) backlogs.now }
+    ensures { IsTrue result → All (λ b. b.records ≡ []) backlogs.now }
 {
-    backlogs.iter().all(|backlog| backlog.is_empty())
-}
-
-/// How many events are to be taken.
-pub(crate) fn count<A: Allocator>(backlogs: &[Backlog<A>]) -> usize {
-    let mut count: usize = 0;
-    for backlog in backlogs {
-        count = count.saturating_add(backlog.events.len());
+    for group in 0..backlogs.len() {
+        if !backlogs[group].is_empty() {
+            return false;
+        }
     }
-    count
+    true
 }
 
-/// Adds an event that was popped to those of its group, unless memory ran out before. Tells whether it ran out, before or now.
+/// Adds events that were popped to those of their group, unless memory ran out before. Tells whether it ran out, before or now.
 pub(crate) fn note<A: Allocator>(
     backlogs: &mut Vec<Backlog<A>, A>,
     failed: bool,
-    sent: &Sent,
+    group: u16,
+    events: Batch<Event, A>,
 ) -> bool
-    requires { sent.now.group < length backlogs.old.items }
-    ensures noted { result ≡ false → (failed ≡ false) × ((b : ListedRecords) → b ≡ slice_index_or backlogs.old.items sent.now.group b → backlogs.new.items ≡ slice_set backlogs.old.items sent.now.group (record { group = b.group; records = b.records ++ sent.now.event ∷ [] })) }
+    requires { group < length backlogs.old.items }
+    ensures noted { result ≡ false → (failed ≡ false) × ((b : ListedRecords) → b ≡ slice_index_or backlogs.old.items group b → backlogs.new.items ≡ slice_set backlogs.old.items group (record { group = b.group; records = b.records ++ events })) }
     ensures count { length backlogs.new.items ≡ length backlogs.old.items }
 {
-    failed || backlogs[usize::from(sent.group)].push(sent.event).is_err()
+    failed || backlogs[usize::from(group)].push(events).is_err()
 }
 
 /// A backlog without events for each group of a shape, in their order.
@@ -125,7 +195,11 @@ pub(crate) fn backlogs_of<A: Allocator + Copy>(
         backlogs.push(Backlog {
             group,
             items: shape.items(group),
-            events: VecDeque::new(alloc),
+            batch: None,
+            taken: 0,
+            later: VecDeque::new(alloc),
+            count: 0,
+            emptied: VecDeque::new(alloc),
         })?;
     }
     Ok(backlogs)

@@ -4,20 +4,22 @@
 //! handled order is lawful, and what each worker was given, with what is on its way to it, are the accesses along that order that
 //! go to it. Where memory ran out, events are popped and go nowhere.
 
-ghost use Rattle.std.specs.Prelude.{◌≡◌, ◌<◌, false, IsTrue, length};
+ghost use Rattle.std.specs.Prelude.{◌≡◌, ◌<◌, [], All, false, IsTrue, length};
 ghost use Rattle.gr_order.specs.Sequences.{nothing};
 ghost use Rattle.gr_sequencer_thread.specs.Ends.{end_line, feed_line};
 ghost use Rattle.gr_sequencer_thread.specs.Feeds.{AreNoBacklogs, IsFresh, IsOver, IsSameRun, intakes_of, works_of};
 
-use crate::backlog::{Backlog, are_empty, count, note};
+use crate::backlog::{Backlog, are_empty, note};
 use crate::end::{SequencerEnd, findings};
 use crate::inlet::Inlet;
 use crate::on_way::{OnWay, Passing};
-use crate::outlet::{Outlet, flush_all, stop_all};
+use crate::outlet::{Outlet, stop_all};
 use gr_model::config::Config;
-use gr_model::event::Sent;
+use gr_model::event::Event;
+use gr_model::limits::FEW_GROUPS;
 use gr_model::memory::Memory;
 use gr_model::shape::Shape;
+use gr_route::batch::Batch;
 use gr_sequencer::sequencer::Sequencer;
 use gr_taking::rounds::take_round;
 use gr_threads::watch::Watch;
@@ -27,8 +29,11 @@ use std::snapshot::Snapshot;
 use std::sync::{Arc, Wait};
 use std::time::Clock;
 
-/// How many events are popped of a queue at most before the groups have their turns, unless there are more groups.
+/// How many events are popped of a queue, with those of their batch, before the next queue.
 const BURST: u32 = 4096;
+
+/// Of how many groups the turns take about as long as a wait.
+const GROUPS_FOR_A_WAIT: usize = 1024;
 
 /// How many accesses may be on their way before no more events are handled.
 const MOST_ON_WAY: usize = 4096;
@@ -47,8 +52,8 @@ pub struct Feed<A: Allocator = Global> {
     // Of how many groups the end was not popped.
     open: u16,
     failed: bool,
-    // How many events were popped since the groups had their turns, and how many are to be before they have the next: half of those
-    // that were left, since a group that waits for others should not take what comes after.
+    // How many events were popped since the groups had their turns, and how many are to be before they have the next: as many as there
+    // are groups, and half of those that were left, since a group that waits for others should not take what comes after.
     fresh: usize,
     due: usize,
 }
@@ -63,12 +68,44 @@ impl<A: Allocator> Model for Feed<A> {
     ghost invariant = { λ f. spec.IsFeed {A = A} (record { config = f.config; sizes = f.shape; sequence = f.sequencer; takers = f.inlets.items; givers = f.outlets.items; coming = f.backlogs.items; on_way = f.on_way; failed = f.failed }) };
 }
 
-/// Of how many groups the end was not popped, after an event that was.
-pub(crate) fn left_open(open: u16, sent: &Sent) -> u16 {
-    if sent.event.kind.is_end() {
+/// Of how many groups the end was not popped, after events that were.
+pub(crate) fn left_open<A: Allocator>(open: u16, events: &Batch<Event, A>) -> u16 {
+    if events.last().kind.is_end() {
         open.saturating_sub(1)
     } else {
         open
+    }
+}
+
+/// Looks at what is left of each group. Notes how far its sender is ahead, and gives the lists back that held what was taken. Tells
+/// how many events are left in all.
+fn look_at<R: Wait, A: Allocator>(
+    rt: &R,
+    backlogs: &mut Vec<Backlog<A>, A>,
+    inlets: &Vec<Inlet<A>, A>,
+) -> usize
+    requires { 0 < length inlets.now.items }
+    ensures { backlogs.new.items ≡ backlogs.old.items }
+{
+    // Else not all streams are read side by side, and one may wait for another that is not begun.
+    let are_side_by_side = backlogs.len() <= FEW_GROUPS;
+    let mut left: usize = 0;
+    for group in 0..backlogs.len() {
+        let backlog = &mut backlogs[group];
+        let inlet = &inlets[group % inlets.len()];
+        left = left.saturating_add(backlog.len());
+        if are_side_by_side {
+            inlet.note_lead(group, backlog.len());
+        }
+        backlog.give_back(rt, inlet);
+    }
+    left
+}
+
+/// Has a watcher see that so many events of a group were popped.
+pub(crate) fn show<W: Watch, A: Allocator>(watch: &Arc<W, A>, group: u16, count: usize) {
+    for _ in 0..count {
+        watch.at_take(group);
     }
 }
 
@@ -76,17 +113,18 @@ impl<A: Allocator> Feed<A> {
     /// What the thread begins with: the shape of the launch, a sequencer that has taken nothing of it, backlogs without events, the
     /// ends of all intake queues and those of all workers' queues, in order.
     pub fn new(
-        alloc: A,
         config: Config,
         shape: Shape<A>,
         sequencer: Sequencer<A>,
         backlogs: Vec<Backlog<A>, A>,
         inlets: Vec<Inlet<A>, A>,
         outlets: Vec<Outlet<A>, A>,
+        on_way: OnWay<A>,
     ) -> Feed<A>
         requires sequencer { sequencer ≡ nothing shape }
         requires backlogs { AreNoBacklogs shape backlogs.items }
         requires fresh { IsFresh config shape inlets.items outlets.items }
+        requires on_way { All (λ l. l ≡ []) on_way }
         ensures { feed_line result ≡ record { config = config; sizes = shape; intakes = intakes_of inlets.items; works = works_of outlets.items } }
     {
         // The order of a sequencer's handled events is lawful, and the numbers of a configuration are in range.
@@ -99,7 +137,7 @@ impl<A: Allocator> Feed<A> {
             inlets,
             outlets,
             backlogs,
-            on_way: OnWay::new(alloc),
+            on_way,
             open,
             failed: false,
             fresh: 0,
@@ -118,35 +156,36 @@ impl<A: Allocator> Feed<A> {
 }
 
 impl<A: Allocator + Copy> Feed<A> {
-    /// Pops the event at the front of an intake queue, if there is one.
-    fn pop<R: Wait>(&mut self, rt: &R, queue: usize) -> Option<Sent>
+    /// Pops events of an intake queue that were pushed together. Tells how many: none where there are none.
+    fn pop<R: Wait, W: Watch>(&mut self, rt: &R, queue: usize, watch: &Arc<W, A>) -> usize
         requires { queue < length self.old.takers }
         ensures { IsSameRun self.old self.new }
     {
-        let sent = self.inlets[queue].pop(rt)?;
-        self.open = left_open(self.open, &sent);
-        self.fresh = self.fresh.saturating_add(1);
-        self.failed = note(&mut self.backlogs, self.failed, &sent);
-        Some(sent)
+        let Some((group, events)) = self.inlets[queue].pop(rt) else {
+            return 0;
+        };
+        let count = events.len();
+        self.open = left_open(self.open, &events);
+        self.fresh = self.fresh.saturating_add(count);
+        self.failed = note(&mut self.backlogs, self.failed, group, events);
+        show(watch, group, count);
+        count
     }
 
-    /// Pops events of an intake queue, a burst of them at most. Tells whether there was one.
+    /// Pops events of an intake queue, as many as are in a burst. Tells whether there was one.
     fn drain<R: Wait, W: Watch>(&mut self, rt: &R, queue: usize, watch: &Arc<W, A>) -> bool
         requires { queue < length self.old.takers }
         ensures { IsSameRun self.old self.new }
     {
-        let burst = BURST.max(u32::from(self.shape.groups()));
-        let mut some = false;
-        for _ in 0..burst {
-            match self.pop(rt, queue) {
-                None => return some,
-                Some(sent) => {
-                    watch.at_take(sent.group);
-                    some = true;
-                }
+        let mut count: usize = 0;
+        for _ in 0..BURST {
+            let popped = self.pop(rt, queue, watch);
+            count = count.saturating_add(popped);
+            if popped == 0 || count >= BURST as usize {
+                break;
             }
         }
-        some
+        count > 0
     }
 
     /// Pops events of each intake queue. Tells whether there was one.
@@ -160,13 +199,20 @@ impl<A: Allocator + Copy> Feed<A> {
         some
     }
 
-    /// Has each group take its turn, unless too many accesses are on their way, or more events come than are there. Tells whether an
-    /// event was taken.
-    pub(crate) fn take_turns(&mut self, are_coming: bool) -> bool
+    /// Whether few events came since the groups had their turns, and more may come soon, after so many waits.
+    fn is_early(&self, waits: usize) -> bool {
+        self.fresh < self.due && waits <= self.backlogs.len() / GROUPS_FOR_A_WAIT
+    }
+
+    /// Has each group take its turn, unless too many accesses are on their way, or few events came since and more may come soon: nothing
+    /// came when the thread waited so often. Tells whether an event was taken.
+    pub(crate) fn take_turns<R: Wait>(&mut self, rt: &R, waits: usize) -> bool
         ensures { IsSameRun self.old self.new }
     {
-        let is_early = are_coming && self.fresh < self.due;
-        if self.failed || is_early || self.on_way.len() >= MOST_ON_WAY {
+        if self.is_early(waits) || self.on_way.len() >= MOST_ON_WAY {
+            return false;
+        }
+        if self.failed {
             return false;
         }
         let passing = Passing {
@@ -180,8 +226,9 @@ impl<A: Allocator + Copy> Feed<A> {
             self.backlogs.as_mut_slice(),
         ) {
             Ok(took) => {
+                let left = look_at(rt, &mut self.backlogs, &self.inlets);
                 self.fresh = 0;
-                self.due = count(&self.backlogs) / 2;
+                self.due = (left / 2).max(self.backlogs.len());
                 took
             }
             Err(Memory) => {
@@ -191,18 +238,12 @@ impl<A: Allocator + Copy> Feed<A> {
         }
     }
 
-    /// Passes the accesses on their way on, as far as there is room for them. Tells whether there was one.
-    pub(crate) fn pass_all<R: Wait>(&mut self, rt: &R) -> bool
+    /// Passes the accesses on that are on their way, as far as there is room for them, but for those that wait for more where
+    /// `all` is false. Tells whether there was one.
+    pub(crate) fn pass<R: Wait>(&mut self, rt: &R, all: bool) -> bool
         ensures { IsSameRun self.old self.new }
     {
-        self.on_way.pass_all(rt, self.config, &mut self.outlets)
-    }
-
-    /// Pushes the accesses that wait for workers, as far as there is room for them: a worker has them before this thread waits.
-    pub(crate) fn flush<R: Wait>(&mut self, rt: &R)
-        ensures { self.new ≡ self.old }
-    {
-        flush_all(rt, &mut self.outlets);
+        self.on_way.pass(rt, self.config, &mut self.outlets, all)
     }
 
     /// Tells each worker that there are no more accesses, which ends the thread.

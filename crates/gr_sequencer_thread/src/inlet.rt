@@ -3,13 +3,15 @@
 ghost use Rattle.std.specs.Prelude.{◌≡◌, ◌<◌, ◌≤◌, ◌++◌, ◌∷◌, [], IfNone, IfOk, IfSome, IsTrue, OnErr, OnOk, slice_index, slice_set};
 ghost use Rattle.std.specs.Arc.{arc_value};
 ghost use Rattle.gr_model.specs.Streams.{is_complete};
+ghost use Rattle.gr_route.specs.Batches.{sent_by};
 ghost use Rattle.gr_route.specs.IntakeRule.{no_sizes};
-ghost use Rattle.gr_route.specs.IntakeSeats.{IsNextPopped, popped_of};
+ghost use Rattle.gr_route.specs.IntakeSeats.{IsDelivery, popped_of};
 ghost use Rattle.gr_route.specs.Prefixes.{StartsWith};
 
-use gr_model::event::Sent;
+use gr_model::event::Event;
 use gr_model::limits::{MOST_GROUPS, MOST_ITEMS_OF_A_GROUP, MOST_PLACES, MOST_RECORDS};
 use gr_model::memory::Memory;
+use gr_route::batch::Batch;
 use gr_route::intake::{Intake, IntakeSeat, TakerSeat};
 use gr_threads::sender::Sender;
 use std::alloc::{Allocator, Global};
@@ -71,13 +73,24 @@ impl<A: Allocator + Copy> Inlet<A> {
 }
 
 impl<A: Allocator> Inlet<A> {
-    /// Pops the event that was pushed first, if there is one.
-    pub fn pop<R: Wait>(&mut self, rt: &R) -> Option<Sent>
-        ensures some { IfSome result (λ sent. self.new ≡ record self.old { popped = self.old.popped ++ sent ∷ [] }) }
-        ensures next { IfSome result (IsNextPopped self.old) }
+    /// Pops events of a work-group that were pushed together, if there are any.
+    pub fn pop<R: Wait>(&mut self, rt: &R) -> Option<(u16, Batch<Event, A>)>
+        ensures some { IfSome result (λ sent. self.new ≡ record self.old { popped = self.old.popped ++ sent_by sent.0 sent.1 }) }
         ensures unchanged { IfNone result (self.new ≡ self.old) }
+        ensures delivery { IsDelivery self.new }
     {
-        self.queue.pop(rt, &mut self.seat)
+        let batch = self.queue.pop_all(rt, &mut self.seat)?;
+        Some(batch.into_events())
+    }
+
+    /// Gives a list back that held events, to be filled again.
+    pub(crate) fn give_back<R: Wait>(&self, rt: &R, list: Vec<Event, A>) {
+        self.queue.spares.put(rt, list);
+    }
+
+    /// So many events of the group are to be taken.
+    pub(crate) fn note_lead(&self, group: usize, events: usize) {
+        self.queue.leads.note(group, events);
     }
 
     /// Takes a work-group's seat back. What was popped of the group is a prefix of what the seat pushed, and all of it where

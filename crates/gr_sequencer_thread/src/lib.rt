@@ -10,3 +10,4 @@ pub mod inlet;
 mod on_way;
 pub mod outlet;
 pub mod thread;
+mod way;

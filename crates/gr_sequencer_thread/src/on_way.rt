@@ -1,110 +1,93 @@
 //! The accesses on their way to the workers: what the sequencer's steps give waits here until its worker's queue has room.
+//!
+//! Invariant: there is a way to each worker that a run may have.
 
-ghost use Rattle.std.specs.Prelude.{◌≡◌, ◌∷◌, ◌++◌, ◌<◌, [], IfNone, IfSome, IsTrue, List, None, OnOk, length, map};
+ghost use Rattle.std.specs.Prelude.{◌≡◌, ◌≤◌, ◌++◌, [], ℕ, All, IfOk, IsTrue, List, OnOk, length};
 ghost use Rattle.std.specs.Option.{option_map};
 ghost use Rattle.gr_clocks.specs.ClockedAccess.{ClockedAccess, clocked};
 ghost use Rattle.gr_closure.specs.AccessesAlong.{in_flight_list};
-ghost use Rattle.gr_sequencer_thread.specs.Feeds.{AreOpen, AreSplit, accesses_on_way, given_of, works_of};
+ghost use Rattle.gr_sequencer_thread.specs.Feeds.{AreOpen, AreSplit, given_of, towards, works_of};
 
 use crate::outlet::Outlet;
+use crate::way::Way;
 use gr_clocks::access::Access;
 use gr_model::config::{Config, worker_of};
+use gr_model::limits::MOST_WORKERS;
 use gr_model::memory::Memory;
-use gr_route::room::Full;
 use gr_taking::keeper::Keeper;
 use std::alloc::{Allocator, Global};
-use std::collections::VecDeque;
 use std::marker::Model;
 use std::snapshot::Snapshot;
 use std::sync::Wait;
 
-/// Accesses on their way to the workers. Contracts see the list of them.
+/// Accesses on their way to the workers. Contracts see for each worker the list of them.
 #[derive(Drop)]
 pub(crate) struct OnWay<A: Allocator = Global> {
-    /// The first, where its worker's queue had no room.
-    refused: Option<Access<A>>,
-    /// Those after it.
-    waiting: VecDeque<Access<A>, A>,
+    alloc: A,
+    ways: Vec<Way<A>, A>,
+    // How many are on their way.
+    count: usize,
 }
 
 impl<A: Allocator> Model for OnWay<A> {
-    ghost use Rattle.std.specs.Prelude.{List};
+    ghost use Rattle.std.specs.Prelude.{◌≡◌, List, length};
     ghost use Rattle.gr_clocks.specs.ClockedAccess.{ClockedAccess};
+    ghost use Rattle.gr_model.specs.declared.limits.TheConstants.{MOST_WORKERS};
     ghost use Rattle.gr_sequencer_thread.specs.Feeds.{accesses_on_way};
 
-    ghost Value = { List ClockedAccess };
+    ghost Value = { List (List ClockedAccess) };
 
-    ghost view = { λ w. accesses_on_way w.refused w.waiting.items };
+    ghost view = { λ w. accesses_on_way w.ways.items };
+
+    ghost invariant = { λ w. length w.ways.items ≡ MOST_WORKERS };
 }
 
-/// Takes out the first of the accesses on their way.
-fn take_first<A: Allocator>(
-    refused: &mut Option<Access<A>>,
-    waiting: &mut VecDeque<Access<A>, A>,
-) -> Option<Access<A>>
-    ensures some { IfSome result (λ access. accesses_on_way refused.old waiting.old.items ≡ clocked access ∷ map clocked waiting.new.items) }
-    ensures none { IfNone result ((accesses_on_way refused.old waiting.old.items ≡ []) × (waiting.new.items ≡ [])) }
-    ensures refused { refused.new ≡ None }
-{
-    match refused.take() {
-        Some(access) => Some(access),
-        None => waiting.pop_front(),
+impl<A: Allocator + Copy> OnWay<A> {
+    /// No access is on its way.
+    ///
+    /// # Errors
+    /// `Memory`: out of memory.
+    pub(crate) fn new(alloc: A) -> Result<OnWay<A>, Memory>
+        ensures { IfOk result (λ w. All (λ l. l ≡ []) w) }
+    {
+        let mut ways = Vec::new(alloc);
+        for _ in 0..MOST_WORKERS {
+            ways.push(Way::new(alloc))?;
+        }
+        Ok(OnWay {
+            alloc,
+            ways,
+            count: 0,
+        })
     }
 }
 
 impl<A: Allocator> OnWay<A> {
-    /// No access is on its way.
-    pub(crate) fn new(alloc: A) -> OnWay<A>
-        ensures { result ≡ [] }
-    {
-        OnWay {
-            refused: None,
-            waiting: VecDeque::new(alloc),
-        }
-    }
-
-    /// How many accesses are on their way, but for one.
+    /// How many accesses are on their way.
     pub(crate) fn len(&self) -> usize {
-        self.waiting.len()
+        self.count
     }
 
     /// Whether no access is on its way.
     pub(crate) fn is_empty(&self) -> bool
-        ensures { IsTrue result → self.now ≡ [] }
+        ensures { IsTrue result → All (λ l. l ≡ []) self.now }
     {
-        self.refused.is_none() && self.waiting.is_empty()
-    }
-}
-
-impl<A: Allocator + Copy> OnWay<A> {
-    /// Passes the first access on to its word's worker. Tells whether there was one, and room for it.
-    fn pass<R: Wait>(&mut self, rt: &R, config: Config, outlets: &mut Vec<Outlet<A>, A>) -> bool
-        requires workers { length outlets.old.items ≡ config.workers }
-        requires open { AreOpen outlets.old.items }
-        ensures split { (accesses : List ClockedAccess) → AreSplit config.workers (given_of outlets.old.items) accesses self.old → AreSplit config.workers (given_of outlets.new.items) accesses self.new }
-        ensures fewer { IsTrue result → length self.new < length self.old }
-        ensures queues { works_of outlets.new.items ≡ works_of outlets.old.items }
-        ensures open { AreOpen outlets.new.items }
-    {
-        let Some(access) = take_first(&mut self.refused, &mut self.waiting) else {
-            return false;
-        };
-        let worker = usize::from(worker_of(&access.word, config.workers()));
-        match outlets[worker].push(rt, access) {
-            Ok(()) => true,
-            Err(Full(access)) => {
-                self.refused = Some(access);
-                false
+        for worker in 0..self.ways.len() {
+            if !self.ways[worker].is_empty() {
+                return false;
             }
         }
+        true
     }
 
-    /// Passes the accesses on, as far as there is room for them. Tells whether there was one.
-    pub(crate) fn pass_all<R: Wait>(
+    /// Passes the accesses on that are on their way, as far as there is room for them, but for those that wait for more where
+    /// `all` is false. Tells whether there was one.
+    pub(crate) fn pass<R: Wait>(
         &mut self,
         rt: &R,
         config: Config,
         outlets: &mut Vec<Outlet<A>, A>,
+        all: bool,
     ) -> bool
         requires workers { length outlets.old.items ≡ config.workers }
         requires open { AreOpen outlets.old.items }
@@ -112,12 +95,32 @@ impl<A: Allocator + Copy> OnWay<A> {
         ensures queues { works_of outlets.new.items ≡ works_of outlets.old.items }
         ensures open { AreOpen outlets.new.items }
     {
-        let mut some = false;
-        while self.pass(rt, config, outlets) {
-            some = true;
-        }
-        some
+        let passed = pass_each(rt, &mut self.ways, outlets, all);
+        self.count = self.count.saturating_sub(passed);
+        passed > 0
     }
+}
+
+/// Passes the accesses on that are on these ways, each to its outlet, as `Way::pass_all` does. Tells how many it passed on.
+fn pass_each<R: Wait, A: Allocator>(
+    rt: &R,
+    ways: &mut Vec<Way<A>, A>,
+    outlets: &mut Vec<Outlet<A>, A>,
+    all: bool,
+) -> usize
+    requires ways { length outlets.old.items ≤ length ways.old.items }
+    requires open { AreOpen outlets.old.items }
+    ensures towards { (k : ℕ) → towards outlets.new.items ways.new.items k ≡ towards outlets.old.items ways.old.items k }
+    ensures count { length ways.new.items ≡ length ways.old.items }
+    ensures queues { works_of outlets.new.items ≡ works_of outlets.old.items }
+    ensures open { AreOpen outlets.new.items }
+{
+    let mut count: usize = 0;
+    for worker in 0..outlets.len() {
+        let passed = ways[worker].pass_all(rt, &mut outlets[worker], all);
+        count = count.saturating_add(passed);
+    }
+    count
 }
 
 /// Has each access be on its way, of a run that is set up so, and of which these have been passed on.
@@ -137,7 +140,9 @@ impl<A: Allocator + Copy> Keeper<A> for Passing<A> {
         ensures { OnOk result ((accesses : List ClockedAccess) → AreSplit self.now.config.workers (given_of self.now.outlets.value.items) accesses kept.old → AreSplit self.now.config.workers (given_of self.now.outlets.value.items) (accesses ++ in_flight_list (option_map clocked access.old)) kept.new) }
     {
         if let Some(access) = access.take() {
-            kept.waiting.push_back(access)?;
+            let worker = usize::from(worker_of(&access.word, self.config.workers()));
+            kept.ways[worker].add(kept.alloc, access)?;
+            kept.count = kept.count.saturating_add(1);
         }
         Ok(())
     }

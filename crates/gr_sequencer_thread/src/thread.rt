@@ -1,6 +1,6 @@
 //! The sequencer's thread, from its start to its join.
 
-ghost use Rattle.std.specs.Prelude.{◌≡◌, IfOk, IfSome};
+ghost use Rattle.std.specs.Prelude.{◌≡◌, [], All, IfOk, IfSome};
 ghost use Rattle.gr_sequencer_thread.specs.Ends.{begin_line, end_line, feed_line};
 ghost use Rattle.gr_order.specs.Sequences.{nothing};
 ghost use Rattle.gr_sequencer_thread.specs.Feeds.{AreNoBacklogs, intakes_of};
@@ -8,12 +8,14 @@ ghost use Rattle.gr_sequencer_thread.specs.Feeds.{AreNoBacklogs, intakes_of};
 use crate::backlog::{Backlog, backlogs_of};
 use crate::begin::Begin;
 use crate::end::SequencerEnd;
-use crate::feed::{Feed, left_open};
+use crate::feed::{Feed, left_open, show};
 use crate::inlet::Inlet;
+use crate::on_way::OnWay;
 use crate::outlet::stop_all;
-use gr_model::event::Sent;
+use gr_model::event::Event;
 use gr_model::memory::Memory;
 use gr_model::shape::Shape;
+use gr_route::batch::Batch;
 use gr_sequencer::sequencer::Sequencer;
 use gr_threads::idle::Idle;
 use gr_threads::watch::Watch;
@@ -38,10 +40,15 @@ fn run<R: Wait + Clock, A: Allocator + Copy, W: Watch>(
 {
     let mut feed = feed;
     let idle = Idle::new();
+    // How often the thread has waited since an event came.
+    let mut waits: usize = 0;
     for _ in rt.forever() {
         let popped = feed.drain_all(rt, watch);
-        let taken = feed.take_turns(popped);
-        let passed = feed.pass_all(rt);
+        if popped {
+            waits = 0;
+        }
+        let taken = feed.take_turns(rt, waits);
+        let passed = feed.pass(rt, waits > 0);
         if popped || taken || passed {
             idle.reset();
             continue;
@@ -49,14 +56,14 @@ fn run<R: Wait + Clock, A: Allocator + Copy, W: Watch>(
         if feed.is_over() {
             return feed.stop(rt, alloc);
         }
-        feed.flush(rt);
         idle.wait(rt);
+        waits = waits.saturating_add(1);
     }
     unreachable!()
 }
 
-/// Pops an event of some intake queue, if there is one.
-fn pop_any<R: Wait, A: Allocator>(rt: &R, inlets: &mut [Inlet<A>]) -> Option<Sent>
+/// Pops events of some intake queue that were pushed together, if there are any.
+fn pop_any<R: Wait, A: Allocator>(rt: &R, inlets: &mut [Inlet<A>]) -> Option<(u16, Batch<Event, A>)>
     ensures { intakes_of inlets.new ≡ intakes_of inlets.old }
 {
     for inlet in inlets.iter_mut() {
@@ -84,29 +91,38 @@ fn pop_all<R: Wait + Clock, A: Allocator, W: Watch>(
         }
         match pop_any(rt, inlets) {
             None => idle.wait(rt),
-            Some(sent) => {
+            Some((group, events)) => {
                 idle.reset();
-                watch.at_take(sent.group);
-                open = left_open(open, &sent);
+                show(watch, group, events.len());
+                open = left_open(open, &events);
             }
         }
     }
     unreachable!()
 }
 
-/// A sequencer and backlogs for a launch of this shape, of which nothing has come.
+/// What the thread works with, for a launch of which nothing has come.
+#[derive(Drop)]
+struct Empty<A: Allocator = Global> {
+    sequencer: Sequencer<A>,
+    backlogs: Vec<Backlog<A>, A>,
+    on_way: OnWay<A>,
+}
+
+/// What the thread works with, for a launch of this shape, of which nothing has come.
 ///
 /// # Errors
 /// `Memory`: out of memory.
-fn fresh<A: Allocator + Copy>(
-    alloc: A,
-    shape: &Shape<A>,
-) -> Result<(Sequencer<A>, Vec<Backlog<A>, A>), Memory>
-    ensures sequencer { IfOk result (λ pair. pair.0 ≡ nothing shape.now) }
-    ensures backlogs { IfOk result (λ pair. AreNoBacklogs shape.now pair.1.items) }
+fn fresh<A: Allocator + Copy>(alloc: A, shape: &Shape<A>) -> Result<Empty<A>, Memory>
+    ensures sequencer { IfOk result (λ f. f.sequencer ≡ nothing shape.now) }
+    ensures backlogs { IfOk result (λ f. AreNoBacklogs shape.now f.backlogs.items) }
+    ensures on_way { IfOk result (λ f. All (λ l. l ≡ []) f.on_way) }
 {
-    let sequencer = Sequencer::new(alloc, shape.copy()?)?;
-    Ok((sequencer, backlogs_of(alloc, shape)?))
+    Ok(Empty {
+        sequencer: Sequencer::new(alloc, shape.copy()?)?,
+        backlogs: backlogs_of(alloc, shape)?,
+        on_way: OnWay::new(alloc)?,
+    })
 }
 
 /// The whole of the thread.
@@ -125,8 +141,14 @@ fn sequence<R: Wait + Clock, A: Allocator + Copy, W: Watch>(
         mut outlets,
     } = begin;
     match fresh(alloc, &shape) {
-        Ok((sequencer, backlogs)) => {
-            let feed = Feed::new(alloc, config, shape, sequencer, backlogs, inlets, outlets);
+        Ok(
+            Empty {
+                sequencer,
+                backlogs,
+                on_way,
+            },
+        ) => {
+            let feed = Feed::new(config, shape, sequencer, backlogs, inlets, outlets, on_way);
             run(rt, alloc, feed, watch)
         }
         Err(Memory) => {
@@ -173,12 +195,11 @@ impl<A: Allocator + Copy + Send + Sync + Drop + 'static> SequencerThread<A> {
         ensures { IfSome result (λ t. t ≡ begin) }
     {
         let promise = OfSequencer(Snapshot::of(&begin));
-        let handle = thread::spawn_with(
-            &rt,
-            promise,
-            move || sequence(&rt, alloc, begin, &watch),
-        ).ok()?;
-        Some(SequencerThread { handle })
+        let work = move || sequence(&rt, alloc, begin, &watch);
+        match thread::spawn_with(&rt, promise, work) {
+            Ok(handle) => Some(SequencerThread { handle }),
+            Err(_) => None,
+        }
     }
 }
 

@@ -50,6 +50,7 @@ fn read_rest<R: Wait + Clock, A: Allocator + Copy, T: Read>(
                 if let Err(error) = forward.take(rt, &piece[..count]) {
                     return forward.fail(rt, Fault::of_stream(place, error));
                 }
+                forward.sender.let_others_catch_up(rt);
             }
         }
     }

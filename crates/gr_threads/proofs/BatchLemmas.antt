@@ -1,27 +1,23 @@
 -- What a sender keeps that lets events wait.
 use Rattle.std.proofs.Common.{◌≡◌, ℕ, ◌+◌, ◌<◌, ◌≤◌, Bool, true, false, true≢false, List, [], ◌∷◌, ◌++◌, length, Result, Ok, Err, refl, sym, ap, ◌∙◌, subst, arith, append_assoc, append-nil, length-append, IsFalse}
 use Rattle.std.specs.Prelude.{IfErr, OnOk}
-use Rattle.std.proofs.lemmas.List.{map-append}
-use Rattle.std.proofs.lemmas.List.Elements.{All-nil, All-push}
 use Rattle.gr_model.specs.declared.event.Event.{Event}
-use Rattle.gr_model.specs.declared.event.Sent.{Sent}
 use Rattle.gr_model.specs.declared.limits.TheConstants.{MOST_RECORDS}
 use Rattle.gr_model.specs.Events.{end_of}
 use Rattle.gr_model.specs.Streams.{IsPrefix, is_complete}
 use Rattle.gr_model.proofs.Sending.{is_complete-push}
 use Rattle.gr_model.proofs.StreamPrefixes.{prefix_push}
-use Rattle.gr_route.specs.IntakeRule.{events_in}
 use Rattle.gr_threads.specs.declared.sender.SendError.{SendError}
 use Rattle.gr_threads.specs.declared.sender.SendError.TheVariants.{Closed, UnknownItem, BadEvent, StreamFull, Full}
 use Rattle.gr_threads.specs.Refusals.{IsRefusalOfEnd, MaySend, is_full}
 use Rattle.gr_threads.specs.Senders.{IsBatchSender, Sending, with_waiting}
 
 -- the end was sent where it was pushed
-pub same_end : (s : Sending) (w : List Sent) (n : ℕ) → IsBatchSender s w n → is_complete s.sent ≡ is_complete (s.sent ++ events_in w)
+pub same_end : (s : Sending) (w : List Event) (n : ℕ) → IsBatchSender s w n → is_complete s.sent ≡ is_complete (s.sent ++ w)
 same_end s w n is = by_cases (is_complete s.sent) refl
   where
-    by_cases : (b : Bool) → is_complete s.sent ≡ b → is_complete s.sent ≡ is_complete (s.sent ++ events_in w)
-    by_cases true ended = ap is_complete (sym (ap (λ (l : List Sent). s.sent ++ events_in l) (is.ended ended) ∙ append-nil s.sent))
+    by_cases : (b : Bool) → is_complete s.sent ≡ b → is_complete s.sent ≡ is_complete (s.sent ++ w)
+    by_cases true ended = ap is_complete (sym (ap (λ (l : List Event). s.sent ++ l) (is.ended ended) ∙ append-nil s.sent))
     by_cases false unended = unended ∙ sym (is.unended unended).after
 
 -- an end that may be pushed is pushed
@@ -34,10 +30,10 @@ ends (Err StreamFull) s cut unended refused never p = absurd refused
 ends (Err (Full x)) s cut unended refused never p = absurd (true≢false never)
 
 -- after the end nothing waits
-pub ended_so : (s t : Sending) (w v : List Sent) (n : ℕ) (cut : Bool) → IsBatchSender s w n → t ≡ record (with_waiting s w) { sent = (s.sent ++ events_in w) ++ end_of cut ∷ [] } → v ≡ [] → IsBatchSender t v (n + 1)
+pub ended_so : (s t : Sending) (w v : List Event) (n : ℕ) (cut : Bool) → IsBatchSender s w n → t ≡ record (with_waiting s w) { sent = (s.sent ++ w) ++ end_of cut ∷ [] } → v ≡ [] → IsBatchSender t v (n + 1)
 ended_so s t w v n cut is now none =
-    let l : List Event = s.sent ++ events_in w in
-    subst (λ (y : Sending × List Sent). IsBatchSender y.0 y.1 (n + 1)) (λ i. (sym now i, sym none i)) record {
+    let l : List Event = s.sent ++ w in
+    subst (λ (y : Sending × List Event). IsBatchSender y.0 y.1 (n + 1)) (λ i. (sym now i, sym none i)) record {
       count = let count = is.count in omega (arith, count, length-append l (end_of cut ∷ []), length-append (l ++ end_of cut ∷ []) []);
       unended = λ unended. absurd (true≢false (sym (is_complete-push l (end_of cut)) ∙ unended));
       ended = λ _. refl;
@@ -45,36 +41,35 @@ ended_so s t w v n cut is now none =
 
 -- ---- an event more
 
-module _ (s : Sending) (w : List Sent) (n : ℕ) (e : Event) (is : IsBatchSender s w n) (may : MaySend (with_waiting s w) e) (limit : s.records ≤ MOST_RECORDS) where
+module _ (s : Sending) (w : List Event) (n : ℕ) (e : Event) (is : IsBatchSender s w n) (may : MaySend (with_waiting s w) e) (limit : s.records ≤ MOST_RECORDS) where
   before : IsFalse (is_complete s.sent)
   before = same_end s w n is ∙ may.unended
 
   abbrev pub more : List Event
-  more = (s.sent ++ events_in w) ++ e ∷ []
+  more = (s.sent ++ w) ++ e ∷ []
 
   more_stream : IsPrefix s.items more
   more_stream =
       let room = may.room in
-      prefix_push s.items (s.sent ++ events_in w) e (is.unended before).stream may.sendable.1 may.unended (omega (arith, room, limit))
+      prefix_push s.items (s.sent ++ w) e (is.unended before).stream may.sendable.1 may.unended (omega (arith, room, limit))
 
   more_unended : IsFalse (is_complete more)
-  more_unended = is_complete-push (s.sent ++ events_in w) e ∙ may.sendable.0
+  more_unended = is_complete-push (s.sent ++ w) e ∙ may.sendable.0
 
   more_length : length more ≡ n + 1
-  more_length = let count = is.count in let all : length more ≡ length (s.sent ++ events_in w) + 1 = length-append (s.sent ++ events_in w) (e ∷ []) in omega (arith, count, all)
+  more_length = let count = is.count in let all : length more ≡ length (s.sent ++ w) + 1 = length-append (s.sent ++ w) (e ∷ []) in omega (arith, count, all)
 
   more_room : length more < s.records
   more_room = let room = may.room in let count = is.count in omega (arith, room, more_length, count)
 
   -- it was sent after those that waited
-  pub sent_so : (t : Sending) (v : List Sent) → t ≡ record (with_waiting s w) { sent = more } → v ≡ [] → IsBatchSender t v (n + 1)
+  pub sent_so : (t : Sending) (v : List Event) → t ≡ record (with_waiting s w) { sent = more } → v ≡ [] → IsBatchSender t v (n + 1)
   sent_so t v now none =
       let all : more ++ [] ≡ more = append-nil more in
-      subst (λ (y : Sending × List Sent). IsBatchSender y.0 y.1 (n + 1)) (λ i. (sym now i, sym none i)) record {
+      subst (λ (y : Sending × List Event). IsBatchSender y.0 y.1 (n + 1)) (λ i. (sym now i, sym none i)) record {
         count = sym (ap length all ∙ more_length);
         unended = λ _. record {
           before = more_unended;
-          group = All-nil (λ (x : Sent). x.group ≡ s.group);
           stream = subst (IsPrefix s.items) (sym all) more_stream;
           after = ap is_complete all ∙ more_unended;
           room = subst (λ (l : List Event). length l < s.records) (sym all) more_room;
@@ -83,15 +78,13 @@ module _ (s : Sending) (w : List Sent) (n : ℕ) (e : Event) (is : IsBatchSender
       }
 
   -- it waits with the others
-  pub waits_so : (v : List Sent) (x : Sent) → x ≡ record { group = s.group; event = e } → v ≡ w ++ x ∷ [] → IsBatchSender s v (n + 1)
-  waits_so v x is_of now =
-      let all : s.sent ++ events_in (w ++ x ∷ []) ≡ more =
-      ap (λ l. s.sent ++ l) (map-append (λ (y : Sent). y.event) w (x ∷ [])) ∙ sym (append_assoc s.sent (events_in w) (x.event ∷ [])) ∙ ap (λ (y : Sent). (s.sent ++ events_in w) ++ y.event ∷ []) is_of in
-      subst (λ (l : List Sent). IsBatchSender s l (n + 1)) (sym now) record {
+  pub waits_so : (v : List Event) → v ≡ w ++ e ∷ [] → IsBatchSender s v (n + 1)
+  waits_so v now =
+      let all : s.sent ++ (w ++ e ∷ []) ≡ more = sym (append_assoc s.sent w (e ∷ [])) in
+      subst (λ (l : List Event). IsBatchSender s l (n + 1)) (sym now) record {
         count = sym (ap length all ∙ more_length);
         unended = λ _. record {
           before = before;
-          group = All-push (λ (y : Sent). y.group ≡ s.group) w x (is.unended before).group (ap (λ (y : Sent). y.group) is_of);
           stream = subst (IsPrefix s.items) (sym all) more_stream;
           after = ap is_complete all ∙ more_unended;
           room = subst (λ (l : List Event). length l < s.records) (sym all) more_room;

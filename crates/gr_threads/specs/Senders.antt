@@ -1,11 +1,9 @@
 -- What contracts see of a sender, and what a sender keeps.
 -- Source: docs/QUEUES.md, "Senders".
-use Rattle.std.specs.Prelude.{◌≡◌, ◌<◌, ◌≤◌, ℕ, Bool, All, List, [], ◌++◌, length, IsFalse, IsTrue}
+use Rattle.std.specs.Prelude.{◌≡◌, ◌<◌, ◌≤◌, ℕ, Bool, List, [], ◌++◌, length, IsFalse, IsTrue}
 use Rattle.gr_model.specs.declared.event.Event.{Event}
 use Rattle.gr_model.specs.declared.limits.TheConstants.{MOST_RECORDS}
-use Rattle.gr_model.specs.declared.event.Sent.{Sent}
 use Rattle.gr_model.specs.Streams.{IsPrefix, is_complete}
-use Rattle.gr_route.specs.IntakeRule.{events_in}
 use Rattle.gr_route.specs.IntakeSeats.{Seat}
 use Rattle.gr_route.specs.Rooms.{Room}
 
@@ -30,20 +28,19 @@ pub record IsSender (queue : Room) (seat : Seat) (group items records sent : ℕ
 
 -- ---- events that are pushed together
 
--- these may be pushed after what was sent: they are the group's, no end is among them, and after them there is room for it
-pub record MayPush (s : Sending) (batch : List Sent) : Type 0 where
+-- these may be pushed after what was sent: no end is among them, and after them there is room for it
+pub record MayPush (s : Sending) (events : List Event) : Type 0 where
   pub before : IsFalse (is_complete s.sent)
-  pub group : All (λ x. x.group ≡ s.group) batch
-  pub stream : IsPrefix s.items (s.sent ++ events_in batch)
-  pub after : IsFalse (is_complete (s.sent ++ events_in batch))
-  pub room : length (s.sent ++ events_in batch) < s.records
+  pub stream : IsPrefix s.items (s.sent ++ events)
+  pub after : IsFalse (is_complete (s.sent ++ events))
+  pub room : length (s.sent ++ events) < s.records
 
 -- what was sent, where these wait
-abbrev pub with_waiting : Sending → List Sent → Sending
-with_waiting s waiting = record { queue = s.queue; group = s.group; items = s.items; records = s.records; sent = s.sent ++ events_in waiting }
+abbrev pub with_waiting : Sending → List Event → Sending
+with_waiting s waiting = record { queue = s.queue; group = s.group; items = s.items; records = s.records; sent = s.sent ++ waiting }
 
 -- events wait only where all may be pushed, and the count is that of all
-pub record IsBatchSender (s : Sending) (waiting : List Sent) (sent : ℕ) : Type 0 where
-  pub count : sent ≡ length (s.sent ++ events_in waiting)
+pub record IsBatchSender (s : Sending) (waiting : List Event) (sent : ℕ) : Type 0 where
+  pub count : sent ≡ length (s.sent ++ waiting)
   pub unended : IsFalse (is_complete s.sent) → MayPush s waiting
   pub ended : IsTrue (is_complete s.sent) → waiting ≡ []

@@ -11,18 +11,28 @@ ghost use Rattle.gr_threads.specs.Senders.{MayPush, with_waiting};
 use crate::idle::Idle;
 use crate::receipt::Receipt;
 use crate::sender::{SendError, Sender, refusal};
-use gr_model::event::{Event, Sent};
+use gr_model::event::Event;
 use gr_route::batch::Outbox;
 use std::alloc::{Allocator, Global};
 use std::marker::Model;
 use std::sync::Wait;
-use std::time::Clock;
+use std::thread;
+use std::time::{Clock, Duration};
+
+/// How many events of a sender are to be taken before it lets others catch up.
+const GREAT_LEAD: u32 = 16384;
+
+/// For how many microseconds it sleeps before it looks again.
+const NAP: u64 = 256;
+
+/// How often it sleeps at most before it goes on.
+const MOST_NAPS: u32 = 64;
 
 /// A sender that lets events wait, and pushes them together. Contracts see it as the sender that has sent all of them.
 #[derive(Drop)]
 pub struct BatchSender<A: Allocator = Global> {
     sender: Sender<A>,
-    waiting: Outbox<Sent, A>,
+    waiting: Outbox<Event, A>,
     // How many records it has sent, with those that wait.
     sent: u32,
 }
@@ -41,7 +51,7 @@ impl<A: Allocator> Model for BatchSender<A> {
 fn push_waiting<R: Wait + Clock, A: Allocator>(
     rt: &R,
     sender: &mut Sender<A>,
-    waiting: &mut Outbox<Sent, A>,
+    waiting: &mut Outbox<Event, A>,
 )
     requires { MayPush sender.old waiting.old }
     ensures sent { sender.new ≡ with_waiting sender.old waiting.old }
@@ -63,6 +73,15 @@ fn push_waiting<R: Wait + Clock, A: Allocator>(
     unreachable!()
 }
 
+/// Has the events that come next wait in a list that was filled before, if there is one.
+fn find_list<R: Wait, A: Allocator>(rt: &R, sender: &Sender<A>, waiting: &mut Outbox<Event, A>)
+    ensures { waiting.new ≡ waiting.old }
+{
+    if let Some(list) = sender.queue().spares.take(rt) {
+        waiting.lend(list);
+    }
+}
+
 impl<A: Allocator> BatchSender<A> {
     /// Of a sender that has sent nothing.
     pub fn new(sender: Sender<A>) -> BatchSender<A>
@@ -82,6 +101,18 @@ impl<A: Allocator> BatchSender<A> {
     {
         if !self.sender.is_closed() {
             push_waiting(rt, &mut self.sender, &mut self.waiting);
+        }
+    }
+
+    /// Sleeps a while, where much of what it sent is to be taken.
+    pub fn let_others_catch_up<R: Clock>(&self, rt: &R) {
+        let group = self.sender.group();
+        let leads = &self.sender.queue().leads;
+        for _ in 0..MOST_NAPS {
+            if leads.of(group) < GREAT_LEAD {
+                return;
+            }
+            thread::sleep(rt, Duration::from_micros(NAP));
         }
     }
 
@@ -152,11 +183,7 @@ impl<A: Allocator + Copy> BatchSender<A> {
         if let Some(error) = refusal(closed, items, self.sent, self.sender.records(), &event) {
             return Err(error);
         }
-        let sent = Sent {
-            group: self.sender.group(),
-            event,
-        };
-        match self.waiting.add(alloc, sent) {
+        match self.waiting.add(alloc, event) {
             Ok(()) => {
                 self.sent += 1;
                 Ok(())
@@ -164,6 +191,7 @@ impl<A: Allocator + Copy> BatchSender<A> {
             Err(_) => {
                 push_waiting(rt, &mut self.sender, &mut self.waiting);
                 self.sender.send_wait(rt, event)?;
+                find_list(rt, &self.sender, &mut self.waiting);
                 self.sent += 1;
                 Ok(())
             }

@@ -14,7 +14,7 @@ ghost use Rattle.gr_threads.specs.Senders.{MayPush, with_waiting};
 
 use crate::idle::Idle;
 use crate::receipt::Receipt;
-use gr_model::event::{Event, Sent, event_ok};
+use gr_model::event::{Event, event_ok};
 use gr_model::limits::MOST_RECORDS;
 use gr_route::batch::Batch;
 use gr_route::intake::{Intake, IntakeSeat};
@@ -190,21 +190,26 @@ impl<A: Allocator> Sender<A> {
     pub(crate) fn push_all<R: Wait>(
         &mut self,
         rt: &R,
-        batch: Batch<Sent, A>,
-    ) -> Result<(), Batch<Sent, A>>
-        requires { MayPush self.old batch }
-        ensures ok { OnOk result (self.new ≡ with_waiting self.old batch) }
-        ensures unchanged { IfErr result (λ back. (back ≡ batch) × (self.new ≡ self.old)) }
+        events: Batch<Event, A>,
+    ) -> Result<(), Batch<Event, A>>
+        requires { MayPush self.old events }
+        ensures ok { OnOk result (self.new ≡ with_waiting self.old events) }
+        ensures unchanged { IfErr result (λ back. (back ≡ events) × (self.new ≡ self.old)) }
         ensures full { OnErr result (WasFull self.old) }
     {
-        let count = batch.len() as u32;
-        match self.queue.push_all(rt, &mut self.seat, batch) {
+        let count = events.len() as u32;
+        match self.queue.push_all(rt, &mut self.seat, events) {
             Ok(()) => {
                 self.sent += count;
                 Ok(())
             }
             Err(back) => Err(back.0),
         }
+    }
+
+    /// The queue that it sends to.
+    pub(crate) fn queue(&self) -> &Intake<A> {
+        &self.queue
     }
 
     /// Sends an event.

@@ -17,6 +17,7 @@ use crate::watch::Watch;
 use gr_clocks::access::Access;
 use gr_model::event::Word;
 use gr_model::memory::Memory;
+use gr_route::batch::Batch;
 use gr_route::work::{GiverSeat, Work, WorkQueue, WorkerSeat};
 use gr_shadow::shadows::Shadows;
 use std::alloc::{Allocator, Global};
@@ -104,6 +105,51 @@ fn shade<A: Allocator + Copy, W: Watch>(
     }
 }
 
+/// The same of work, which may be no access.
+fn shade_work<A: Allocator + Copy, W: Watch>(
+    shadows: Option<Shadows<A>>,
+    number: u16,
+    work: &Work<A>,
+    watch: &Arc<W, A>,
+) -> Option<Shadows<A>>
+    ensures { (accesses : List ClockedAccess) → IfSome shadows (StandsFor accesses) → IfSome result (StandsFor (accesses ++ accesses_in (work.now ∷ []))) }
+{
+    match work {
+        Work::Access(access) => shade(shadows, number, access, watch),
+        Work::Stop => shadows,
+    }
+}
+
+/// The same of the work of a batch.
+fn shade_all<A: Allocator + Copy, W: Watch>(
+    shadows: Option<Shadows<A>>,
+    number: u16,
+    batch: &Batch<Work<A>, A>,
+    watch: &Arc<W, A>,
+) -> Option<Shadows<A>>
+    ensures { (accesses : List ClockedAccess) → IfSome shadows (StandsFor accesses) → IfSome result (StandsFor (accesses ++ accesses_in batch.now)) }
+{
+    let mut shadows = shadows;
+    for place in 0..batch.len() {
+        match batch.get(place) {
+            Some(work) => shadows = shade_work(shadows, number, work, watch),
+            None => unreachable!(),
+        }
+    }
+    shadows
+}
+
+/// Gives the list of a batch back, to be filled again. Its accesses are let go.
+fn give_back<R: Wait, A: Allocator>(
+    rt: &R,
+    queue: &Arc<WorkQueue<A>, A>,
+    batch: Batch<Work<A>, A>,
+) {
+    if let Some(list) = batch.into_list() {
+        queue.spares.put(rt, list);
+    }
+}
+
 /// Applies the accesses that come through the worker's queue, until it is told to stop. Where memory runs out it goes on
 /// popping, and applies nothing more.
 pub fn work<R: Wait + Clock, A: Allocator + Copy, W: Watch>(
@@ -122,20 +168,20 @@ pub fn work<R: Wait + Clock, A: Allocator + Copy, W: Watch>(
     let mut shadows = Some(Shadows::new(alloc));
     let idle = Idle::new();
     for _ in rt.forever() {
-        match queue.pop(rt, &mut seat) {
-            None => idle.wait(rt),
-            Some(Work::Access(access)) => {
-                idle.reset();
-                shadows = shade(shadows, number, &access, watch);
-            }
-            Some(Work::Stop) => {
-                return WorkerEnd {
-                    queue,
-                    seat,
-                    shadows,
-                };
-            }
+        let Some(batch) = queue.pop_all(rt, &mut seat) else {
+            idle.wait(rt);
+            continue;
+        };
+        idle.reset();
+        shadows = shade_all(shadows, number, &batch, watch);
+        if let Work::Stop = batch.last() {
+            return WorkerEnd {
+                queue,
+                seat,
+                shadows,
+            };
         }
+        give_back(rt, &queue, batch);
     }
     unreachable!()
 }

@@ -67,9 +67,3 @@ unreachable-requires g c =
     let none : into_iter_items left ≡ [] = nothing_left (into_iter_items left) (sym left.rest.ok.0 ∙ c.in_default.ensures.cases.0) in
     let both = ap worker_queues (sym c.in-Some.ensures.steps.0) ∙ (c.loop-worker.invariant.0 ∙ ap works_of none) in
     omega (arith, ap length both)
-
-pub into_seat-requires : goal.into_seat-requires
-into_seat-requires g c =
-    let o = c.in-Some-next.outlet in
-    let items : into_iter_items c.loop-worker.left ≡ o ∷ into_iter_items c.next-in-loop-worker.new.self = search rules in
-    subst (λ (gs : List (Giver g.row.A.Denot)). AreStopped gs) items c.loop-worker.invariant.3 0 o (omega arith)

@@ -1,5 +1,5 @@
-use Rattle.std.proofs.Common.{◌≡◌, ◌++◌, ◌∷◌, [], List, Option, None, IfSome, ap, sym, subst}
-use Rattle.gr_clocks.specs.ClockedAccess.{ClockedAccess, clocked}
+use Rattle.std.proofs.Common.{◌≡◌, ◌++◌, ◌∷◌, [], None, IfSome, sym, subst}
+use Rattle.gr_clocks.specs.ClockedAccess.{clocked}
 use Rattle.gr_shadow.specs.StandsFor.{StandsFor}
 use Rattle.gr_threads.proofs.worker.shade.Goals as goal
 

@@ -1,5 +1,4 @@
 use Rattle.std.proofs.Common.{◌≡◌, ◌∙◌, ◌++◌, true, ap, sym, subst, refl}
-use Rattle.crossbeam_queue.specs.Passes.{view as known}
 use Rattle.gr_route.specs.Batches.{all_of, front}
 use Rattle.gr_route.specs.Rooms.{AgreesWith, Room}
 use Rattle.gr_route.specs.declared.work_rule.WorkView.{WorkView}

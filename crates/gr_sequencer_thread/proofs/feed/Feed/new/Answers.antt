@@ -9,5 +9,5 @@ invariant_of-result g c = record {
   backlogs = c.requires.backlogs.count;
   seated = c.requires.fresh.seated;
   unstopped = fresh_unstopped c.args.config c.queues.ensures.config c.args.shape c.args.sequencer c.at_end.ensures.sequence c.requires.sequencer c.args.backlogs.items c.requires.backlogs c.args.inlets.items c.args.outlets.items c.requires.fresh;
-  good = λ f. fresh_good c.args.config c.queues.ensures.config c.args.shape c.args.sequencer c.at_end.ensures.sequence c.requires.sequencer c.args.backlogs.items c.requires.backlogs c.args.inlets.items c.args.outlets.items c.requires.fresh c.new.result c.new.ensures;
+  good = λ f. fresh_good c.args.config c.queues.ensures.config c.args.shape c.args.sequencer c.at_end.ensures.sequence c.requires.sequencer c.args.backlogs.items c.requires.backlogs c.args.inlets.items c.args.outlets.items c.requires.fresh c.args.on_way c.requires.on_way;
 }

@@ -14,6 +14,7 @@ use Rattle.gr_route.specs.WorkSeats.{Giver}
 use Rattle.gr_sequencer_thread.specs.Ends.{End, IsEnd, IsFound, end_line, feed_line}
 use Rattle.gr_sequencer_thread.specs.Feeds.{AreOpen, ArePassedOn, Feed, IsOver, IsWhole, given_of, intakes_of, works_of}
 use Rattle.gr_sequencer_thread.proofs.SameRuns.{whole_back}
+use Rattle.gr_sequencer_thread.proofs.StepLemmas.{split_whole}
 use Rattle.gr_sequencer_thread.proofs.TakeLemmas.{all_taken}
 use Rattle.gr_sequencer_thread.proofs.feed.Feed.stop.Goals as goal
 
@@ -37,13 +38,13 @@ of-requires g c =
     let whole : c.self.inside.failed ≡ false → IsWhole config seq takers now = λ f.
     let good = c.self.invariant.good f in
     let over : IsOver c.args.self = c.requires (sym (ap (λ (u : Feed g.row.A.Denot). u.failed) c.self.view_is) ∙ f) in
-    let on_way : c.self.inside.on_way ≡ [] = ap (λ (u : Feed g.row.A.Denot). u.on_way) c.self.view_is ∙ over.passed in
+    let on_way : All (λ (l : List ClockedAccess). l ≡ []) c.self.inside.on_way = subst (λ (u : Feed g.row.A.Denot). All (λ (l : List ClockedAccess). l ≡ []) u.on_way) (sym c.self.view_is) over.passed in
     record {
       sequence_is = good.sequence;
       complete = subst (λ (u : Feed g.row.A.Denot). AreComplete u.sequence.taken) (sym c.self.view_is) over.complete;
       done = subst (λ (u : Feed g.row.A.Denot). IsDone u.sequence) (sym c.self.view_is) over.done;
       taken = all_taken config seq.taken c.self.inside.backlogs.items takers good.popped (subst (λ (u : Feed g.row.A.Denot). All (λ b. b.records ≡ []) u.coming) (sym c.self.view_is) over.taken);
-      passed = subst (λ (gs : List (List ClockedAccess)). ArePassedOn config seq gs []) (sym given) (subst (ArePassedOn config seq (given_of was)) on_way good.passed);
+      passed = subst (λ (gs : List (List ClockedAccess)). ArePassedOn config seq gs []) (sym given) (good.passed.0, good.passed.1, split_whole config.workers (given_of was) good.passed.0 c.self.inside.on_way on_way good.passed.2);
     } in
     subst (λ (gs : List (Giver g.row.A.Denot)). IsEnd (record { config = config; sizes = sizes; takers = takers; givers = gs; report = option_map whole_of c.findings-report.result }))
     (sym (whole_back c.self.inside.outlets.len was now len count))

@@ -17,6 +17,9 @@ pub take_round-requires-clause-along : goal.take_round-requires-clause-along
 take_round-requires-clause-along g c =
     subst (λ o. IsAlong (AreSplit c.self.inside.config.workers (given_of o.items)) c.self.inside.sequencer c.self.inside.on_way) (sym c.of.ensures) (c.self.invariant.good c.if-self.false).passed
 
+pub look_at-left-requires : goal.look_at-left-requires
+look_at-left-requires g c = let some = c.self.invariant.config.queues.0 in omega (arith, some, c.self.invariant.queues)
+
 pub invariant_of-self : goal.invariant_of-self
 invariant_of-self g c =
     let good = c.self.invariant.good c.if-self.false in
@@ -28,7 +31,7 @@ invariant_of-self g c =
     let popped = popped_moves c.self.inside.config c.self.inside.sequencer.taken was c.self.inside.inlets.items good.popped c.take_round.new.sequencer.taken now
     (told.come ∙ ap (come_in c.self.inside.sequencer.taken) c.as_mut_slice.ensures.value) told.sizes in
     subst (λ (l : List ListedRecords). IsFeed {A = g.row.A.Denot} (record { config = c.self.inside.config; sizes = c.self.inside.shape; sequence = c.take_round.new.sequencer; takers = c.self.inside.inlets.items; givers = c.self.inside.outlets.items; coming = l; on_way = c.take_round.new.kept; failed = c.self.inside.failed }))
-    (sym (whole_back c.self.inside.backlogs.len was now len count))
+    (sym (c.look_at-left.ensures ∙ whole_back c.self.inside.backlogs.len was now len count))
     (record {
       config = c.self.invariant.config;
       queues = c.self.invariant.queues;

@@ -1,0 +1,5 @@
+use Rattle.std.proofs.Common.{◌≡◌}
+use Rattle.gr_sequencer_thread.proofs.feed.look_at.Given as goal
+
+abbrev pub invariant-loop-group : goal.invariant-loop-group
+invariant-loop-group g l = l.backlogs.items ≡ l.fn.backlogs.items
