@@ -1,4 +1,5 @@
 pub mod HitLemmas
+pub mod OrderLemmas
 pub mod SentLemmas
 pub mod FinishLemmas
 pub mod SetupLemmas

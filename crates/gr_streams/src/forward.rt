@@ -1,6 +1,6 @@
 //! A stream on its way from its bytes, as they come, to its sender.
 
-ghost use Rattle.std.specs.Prelude.{◌≡◌, ◌≢◌, ◌++◌, ◌∷◌, [], ℕ, List, Some, None, IfOk, IfErr, IfSome, IsFalse, IsTrue, length, take};
+ghost use Rattle.std.specs.Prelude.{◌≡◌, ◌≢◌, ◌++◌, ◌∷◌, [], ℕ, List, Some, None, IfOk, IfErr, IfSome, IsFalse, IsTrue, take};
 ghost use Rattle.gr_model.specs.declared.event.Event.{Event as AnyEvent};
 ghost use Rattle.gr_model.specs.Streams.{is_complete};
 ghost use Rattle.gr_model.specs.declared.limits.TheConstants.{MOST_RECORDS};

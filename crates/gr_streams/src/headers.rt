@@ -1,6 +1,6 @@
 //! The headers of all streams, which are read before any record is.
 
-ghost use Rattle.std.specs.Prelude.{◌≡◌, ◌≢◌, ◌++◌, ◌∷◌, [], All, IfErr, IfOk, IfSome, Ok, OnOk, map};
+ghost use Rattle.std.specs.Prelude.{◌≡◌, ◌++◌, ◌∷◌, [], All, IfErr, IfOk, IfSome, Ok, OnOk, map};
 ghost use Rattle.gr_record.specs.InputFaults.{Fails};
 ghost use Rattle.gr_record.specs.Faults.{IsOfReading};
 ghost use Rattle.gr_replay.specs.Each.{all_known};
