@@ -4,8 +4,8 @@
 fuzz_pairs.py [--launches N] [--seed S] [--program FILE]
 
 The launches are those of the examples and random ones, in which each event has a place of a few, or none. Of each racy word the pairs of
-an operation and a place that race have to be those of the kinds that `races` writes, each pair once, with two events that race. A launch
-of which others are told is left in a file `different` of the working folder.
+an operation and a place that race have to be those of the kinds that `races` writes, each pair once, with two events that race, of two
+groups if there are such. A launch of which others are told is left in a file `different` of the working folder.
 """
 import argparse
 import json
@@ -89,8 +89,12 @@ def told(kind, which):
 def wrong(lines, races, places):
     """What is wrong with the kinds that are told of these races, or None."""
     kinds = [line for line in lines if line["type"] == "kind"]
-    expected = {(word, frozenset((side_of(one, places), side_of(other, places)))) for word, found in races.items() for one, other in found}
-    said = [(word, frozenset((told(kind, "first")[0], told(kind, "second")[0]))) for kind in kinds for word in words_of(kind)]
+    one_group = defaultdict(lambda: True)
+    for word, found in races.items():
+        for one, other in found:
+            one_group[word, frozenset((side_of(one, places), side_of(other, places)))] &= one.at[0] == other.at[0]
+    expected = {(*pair, alone) for pair, alone in one_group.items()}
+    said = [(word, frozenset((told(kind, "first")[0], told(kind, "second")[0])), kind["kind"]["one_group"]) for kind in kinds for word in words_of(kind)]
     if len(said) != len(set(said)) or set(said) != expected:
         return f"pairs missing {expected - set(said)}, not there {set(said) - expected}"
     for kind in kinds:

@@ -2,8 +2,10 @@
 use Rattle.std.proofs.Common.{◌≡◌, ◌⊎◌, ℕ, ◌≤◌, Bool, true, false, cond, Contains, List, [], ◌∷◌, ◌++◌, Option, None, Some, arith, map, refl, sym, ◌∙◌, subst, inl, inr, ⊎_elim}
 use Rattle.std.specs.List.{find}
 use Rattle.std.specs.Map.{lookup}
+use Rattle.std.specs.Option.{unwrap_or}
 use Rattle.std.proofs.lemmas.Bool.Decides.{nat_tests}
 use Rattle.std.proofs.lemmas.List.Elements.{Contains-append_left, Contains-push, Contains-push_cases}
+use Rattle.std.proofs.lemmas.List.Folds.{list_any_at}
 use Rattle.indexmap.specs.IndexMap.{insert_entry}
 use Rattle.gr_model.specs.declared.event.EventId.{EventId}
 use Rattle.gr_model.specs.declared.event.ItemId.{ItemId}
@@ -11,10 +13,10 @@ use Rattle.gr_model.specs.contracts.event.ItemIdPartialEq.TheImpl as equality
 use Rattle.gr_model.specs.declared.class.Class.{Class}
 use Rattle.gr_model.specs.Classes.{exempt}
 use Rattle.gr_clocks.proofs.RowLemmas.{same_items}
-use Rattle.gr_shadow.specs.Clashes.{ClockedAccess}
-use Rattle.gr_shadow.proofs.KeepsLemmas.{Contains-first, Contains-rest}
+use Rattle.gr_shadow.specs.Clashes.{ClockedAccess, event_of}
+use Rattle.gr_shadow.proofs.KeepsLemmas.{Contains-first, Contains-rest, find_is, find_told}
 use Rattle.gr_explain.proofs.Lists.{first_or_rest}
-use Rattle.gr_explain.specs.Alike.{IsInPlaceOf, KeepsEvents, entry_event, event_clashes, greatest}
+use Rattle.gr_explain.specs.Alike.{AlikeEvents, IsChosen, IsInPlaceOf, KeepsEvents, are_of_groups, entry_event, event_clashes, greatest, is_sought}
 
 -- ---- exempt in whatever groups
 
@@ -25,9 +27,49 @@ exempt_apart c d g h is = grind arith
 no_clash : (c : Class) (y : ClockedAccess) (e : EventId) → exempt c 0 y.class 1 ≡ true → event_clashes c y e ≡ false
 no_clash c y e is = grind (arith, exempt_apart c y.class e.at.group y.item.group is)
 
-pub none_clashes : (c : Class) (y : ClockedAccess) (events : List EventId) → exempt c 0 y.class 1 ≡ true → find (event_clashes c y) events ≡ None
-none_clashes c y [] is = refl
-none_clashes c y (e ∷ events) is = grind (arith, no_clash c y e is, none_clashes c y events is)
+pub none_clashes : (two : Bool) (c : Class) (y : ClockedAccess) (events : List EventId) → exempt c 0 y.class 1 ≡ true → find (is_sought two c y) events ≡ None
+none_clashes two c y [] is = refl
+none_clashes two c y (e ∷ events) is = grind (arith, no_clash c y e is, none_clashes two c y events is)
+
+-- ---- which event is chosen
+
+pub found_none : {X : Type 0} (f : X → Bool) (xs : List X) (x : X) → find f xs ≡ None → Contains xs x → f x ≡ true → ⊥
+found_none f xs x none (k, lt, is) holds = grind (arith, list_any_at f xs k x lt, find_told f xs)
+
+module _ (l : AlikeEvents) (y : ClockedAccess) where
+  abbrev pub sought : Bool → Option EventId
+  sought two = find (is_sought two l.class y) l.events
+
+  pub none_chosen : sought false ≡ None → IsChosen l y None
+  none_chosen none = record {
+    one = tt;
+    whole = λ two e there is. found_none (is_sought false l.class y) l.events e none there (grind (arith, is));
+  }
+
+  module _ (e : EventId) where
+    chosen : Contains l.events e → event_clashes l.class y e ≡ true → ((f : EventId) → Contains l.events f → is_sought true l.class y f ≡ true → are_of_groups true e (event_of y) ≡ true) → IsChosen l y (Some e)
+    chosen there clash best = record { one = (there, clash); whole = whole }
+      where
+        whole : (two : Bool) (f : EventId) → Contains l.events f → is_sought two l.class y f ≡ true → are_of_groups two e (event_of y) ≡ true
+        whole true f in_events is = best f in_events is
+        whole false f in_events is = refl
+
+    -- one of another group
+    pub other_chosen : (two : Bool) → sought two ≡ Some e → are_of_groups true e (event_of y) ≡ true → IsChosen l y (Some e)
+    other_chosen two found other =
+        let is = find_is (is_sought two l.class y) l.events e found in
+        chosen (is.0) (let so = is.1 in grind (arith, so)) (λ f there so. other)
+
+    -- one of the access's group, where there is none of another group
+    pub same_chosen : sought false ≡ Some e → sought true ≡ None → IsChosen l y (Some e)
+    same_chosen found none =
+        let is = find_is (is_sought false l.class y) l.events e found in
+        chosen (is.0) (let so = is.1 in grind (arith, so)) (λ f there so. absurd (found_none (is_sought true l.class y) l.events f none there so))
+
+  -- one of another group, or else that
+  pub picked : (e f : EventId) (o : Option EventId) → sought false ≡ Some e → sought true ≡ o → f ≡ unwrap_or o e → IsChosen l y (Some f)
+  picked e f None found none is = subst (λ x. IsChosen l y (Some x)) (sym is) (same_chosen e found none)
+  picked e f (Some g) found other is = subst (λ x. IsChosen l y (Some x)) (sym is) (let there = find_is (is_sought true l.class y) l.events g other in let so = there.1 in other_chosen g true other (grind (arith, so)))
 
 -- ---- the greatest index of each item
 

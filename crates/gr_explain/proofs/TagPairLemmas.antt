@@ -1,9 +1,9 @@
 -- The pairs of tags that race on a word, where one more access comes.
-use Rattle.std.proofs.Common.{◌≡◌, ◌≢◌, ◌⊎◌, ℕ, zero, suc, ◌<◌, Bool, true, false, Contains, IsTrue, List, [], ◌∷◌, ◌++◌, length, get_or, slice_set, Some, None, arith, refl, sym, ap, ◌∙◌, subst, inl, inr, ⊎_elim}
-use Rattle.std.specs.List.{find, list_any}
+use Rattle.std.proofs.Common.{◌≡◌, ◌≢◌, ◌⊎◌, ℕ, zero, suc, ◌<◌, Bool, true, false, Contains, List, [], ◌∷◌, ◌++◌, length, get_or, slice_set, Some, None, arith, refl, sym, ap, ◌∙◌, subst, inl, inr, ⊎_elim}
+use Rattle.std.specs.List.{list_any, position}
 use Rattle.std.proofs.lemmas.Bool.Decides.{nat_tests}
 use Rattle.std.proofs.lemmas.Grind.{common_steps}
-use Rattle.std.proofs.lemmas.List.Elements.{Contains-append_cases, Contains-append_left, Contains-append_right, Contains-push, Contains-push_cases}
+use Rattle.std.proofs.lemmas.List.Elements.{Contains-append_cases, Contains-append_left, Contains-append_right, Contains-get_or, Contains-push, Contains-push_cases}
 use Rattle.std.proofs.lemmas.List.Folds.{list_any-append, list_any_at}
 use Rattle.std.proofs.lemmas.List.Quantifiers.{all_pairs_push}
 use Rattle.gr_model.specs.declared.event.EventId.{EventId}
@@ -12,22 +12,27 @@ use Rattle.gr_model.specs.RacePairs.{HasTags, IsTurned}
 use Rattle.gr_model.specs.declared.class.Class.{Class}
 use Rattle.gr_clocks.proofs.RowLemmas.{same_item_self}
 use Rattle.gr_shadow.specs.Clashes.{ClockedAccess, event_of}
-use Rattle.gr_shadow.proofs.KeepsLemmas.{find_is, find_told}
-use Rattle.gr_explain.specs.Alike.{AlikeEvents, IsInPlaceOf, KeepsEvents, event_clashes}
-use Rattle.gr_explain.specs.TagPairs.{Finds, IsFound, IsFoundAmong, IsKeptIn, IsOfTag, IsTaggedClash, IsThat, KeepsMore, StandsForTags, has_tags, is_of_tags}
+use Rattle.gr_shadow.proofs.KeepsLemmas.{find_is}
+use Rattle.gr_explain.specs.Alike.{AlikeEvents, IsChosen, IsInPlaceOf, KeepsEvents, are_of_groups, event_clashes, is_sought}
+use Rattle.gr_explain.specs.TagPairs.{Finds, IsFound, IsFoundAmong, IsKeptIn, IsOfTag, IsTaggedClash, IsPreferred, IsThat, KeepsMore, StandsForTags, has_tags, is_of_tags, is_so}
 use Rattle.gr_explain.specs.declared.tag_pairs.TaggedRace.{TaggedRace}
 use Rattle.gr_explain.specs.declared.tag_pairs.TagPairs.{TagPairs}
-use Rattle.gr_explain.proofs.AlikeLemmas.{in_place_of_both, in_place_of_itself, later_clashes}
+use Rattle.gr_explain.proofs.AlikeLemmas.{found_none, in_place_of_both, in_place_of_itself, later_clashes, sought}
 use Rattle.gr_explain.proofs.ClashLemmas.{IsNewClash, clash_added, clash_was, new_is_of, of_cases, still_of, still_pair}
-use Rattle.gr_explain.proofs.Lists.{set_has, set_still, set_was}
+use Rattle.gr_explain.proofs.Lists.{any_there, pairs_set, set_has, set_still, set_was}
 
 -- ---- tags
 
 not_any : {X : Type 0} (f : X → Bool) (xs : List X) → list_any f xs ≡ false → (k : ℕ) (d : X) → k < length xs → f (get_or xs k d) ≡ false
 not_any f xs none k d lt = grind (arith, common_steps)
 
-found_none : {X : Type 0} (f : X → Bool) (xs : List X) (x : X) → find f xs ≡ None → Contains xs x → f x ≡ true → ⊥
-found_none f xs x none (k, lt, is) holds = grind (arith, list_any_at f xs k x lt, find_told f xs)
+contains_any : {X : Type 0} (f : X → Bool) (xs : List X) (x : X) → Contains xs x → f x ≡ true → list_any f xs ≡ true
+contains_any f xs x (k, lt, is) holds = list_any_at f xs k x lt (ap f is ∙ holds)
+
+-- the place of a value that passes, or none
+pub none_at : {X : Type 0} (f : X → Bool) (xs : List X) → position f xs ≡ None → list_any f xs ≡ false
+none_at f [] none = refl
+none_at f (x ∷ xs) none = grind (arith, none_at f xs)
 
 only_one : {X : Type 0} (x z : X) → Contains (x ∷ []) z → x ≡ z
 only_one x z (zero, lt, is) = is
@@ -36,43 +41,89 @@ only_one x z (suc k, lt, is) = absurd (omega (arith, lt))
 -- ---- the races of a later access
 
 module _ (y : ClockedAccess) (tag : ℕ) where
+  -- what holds of one list holds of each in its list
+  of_one : (l m : AlikeEvents) → Contains (l ∷ []) m → (P : AlikeEvents → Type 0) → P l → P m
+  of_one l m there P holds = subst P (only_one l m there) holds
+
   -- where it clashes with none
-  pub finds_none : (l : AlikeEvents) (found : List TaggedRace) → find (event_clashes l.class y) l.events ≡ None → Finds y tag (l ∷ []) found found
+  pub finds_none : (l : AlikeEvents) (found : List TaggedRace) → IsChosen l y None → Finds y tag (l ∷ []) found found
   finds_none l found none = record {
-    kept = λ a b h. h;
+    kept = λ two a b h. h;
     each = λ t there. inl there;
-    whole = λ m e there event clash.
-        let same = only_one l m there in
-        absurd (found_none (event_clashes l.class y) l.events e none (subst (λ (k : AlikeEvents). Contains k.events e) (sym same) event) (subst (λ (k : AlikeEvents). event_clashes k.class y e ≡ true) (sym same) clash));
+    whole = λ two m e there. of_one l m there (λ (k : AlikeEvents). Contains k.events e → is_sought two k.class y e ≡ true → has_tags two found k.tag tag ≡ true) (λ event is. absurd (none.whole two e event is));
     others = λ h. h;
   }
 
-  -- where it clashes with one
-  pub finds_one : (l : AlikeEvents) (e : EventId) (t : TaggedRace) (old new : List TaggedRace) → has_tags old l.tag tag ≡ false → find (event_clashes l.class y) l.events ≡ Some e → IsFound e l.tag y tag t → new ≡ old ++ t ∷ [] → Finds y tag (l ∷ []) old new
-  finds_one l e t old new had is found pushed = subst (λ (found : List TaggedRace). Finds y tag (l ∷ []) old found) (sym pushed) pushed_finds
-    where
-      there : Contains l.events e × (event_clashes l.class y e ≡ true)
-      there = find_is (event_clashes l.class y) l.events e is
+  -- where it clashes with one, and there is no race of the two tags
+  module _ (l : AlikeEvents) (e : EventId) (t : TaggedRace) (old : List TaggedRace) (had : list_any (is_of_tags l.tag tag) old ≡ false) (is : IsChosen l y (Some e)) (found : IsFound e l.tag y tag t) where
+    now : (two : Bool) → are_of_groups two e (event_of y) ≡ true → has_tags two (old ++ t ∷ []) l.tag tag ≡ true
+    now two so = contains_any (is_so two l.tag tag) (old ++ t ∷ []) t (Contains-push old t) (grind (arith, nat_tests, found.first_tag, found.second_tag, found.turned, so))
 
-      more : (a b : ℕ) → has_tags old a b ≡ true → has_tags (old ++ t ∷ []) a b ≡ true
-      more a b h = grind (arith, list_any-append)
+    apart : (k : ℕ) (d : TaggedRace) → k < length old → is_of_tags (get_or old k d).tag (get_or old k d).other t ≡ false
+    apart k d lt = grind (arith, nat_tests, not_any (is_of_tags l.tag tag) old had k d lt, found.first_tag, found.second_tag)
 
-      now : has_tags (old ++ t ∷ []) l.tag tag ≡ true
-      now = grind (arith, nat_tests, list_any-append, found.first_tag, found.second_tag)
+    pub finds_one : Finds y tag (l ∷ []) old (old ++ t ∷ [])
+    finds_one = record {
+      kept = λ two a b h. grind (arith, list_any-append);
+      each = λ u within_new. ⊎_elim
+          (λ (was : Contains old u). inl was)
+          (λ (last : t ≡ u). inr (subst (IsFoundAmong (l ∷ []) y tag) last (record { list = l; there = Contains-push [] l; earlier = e; event = is.one.0; clash = is.one.1; found = found })))
+          (Contains-push_cases old t u within_new);
+      whole = λ two m f there. of_one l m there (λ (k : AlikeEvents). Contains k.events f → is_sought two k.class y f ≡ true → has_tags two (old ++ t ∷ []) k.tag tag ≡ true) (λ event so. now two (is.whole two f event so));
+      others = λ h. all_pairs_push (λ (t u : TaggedRace). is_of_tags t.tag t.other u ≡ false) old t h apart;
+    }
 
-      apart : (k : ℕ) (d : TaggedRace) → k < length old → is_of_tags (get_or old k d).tag (get_or old k d).other t ≡ false
-      apart k d lt = grind (arith, nat_tests, not_any (is_of_tags l.tag tag) old had k d lt, found.first_tag, found.second_tag)
+  -- where there is a race of the two tags, which stays or gives way
+  module _ (l : AlikeEvents) (old : List TaggedRace) (place : ℕ) (t d : TaggedRace) (lt : place < length old) (tags : is_of_tags l.tag tag (get_or old place d) ≡ true) (is : IsPreferred l y tag (get_or old place d) t) where
+    still_so : (two : Bool) (a b : ℕ) (x : TaggedRace) → is_so two a b x ≡ true → get_or old place d ≡ x → is_so two a b t ≡ true
+    still_so two a b x so here =
+        let was : is_so two a b (get_or old place d) ≡ true = ap (is_so two a b) here ∙ so in
+        grind (arith, nat_tests, tags, is.tags, is.kept two, was)
 
-      pushed_finds : Finds y tag (l ∷ []) old (old ++ t ∷ [])
-      pushed_finds = record {
-        kept = more;
-        each = λ u within_new. ⊎_elim
-            (λ (was : Contains old u). inl was)
-            (λ (last : t ≡ u). inr (subst (IsFoundAmong (l ∷ []) y tag) last (record { list = l; there = Contains-push [] l; earlier = e; event = there.0; clash = there.1; found = found })))
-            (Contains-push_cases old t u within_new);
-        whole = λ m f in_lists event clash. subst (λ (k : AlikeEvents). IsTrue (has_tags (old ++ t ∷ []) k.tag tag)) (only_one l m in_lists) now;
-        others = λ h. all_pairs_push (λ (t u : TaggedRace). is_of_tags t.tag t.other u ≡ false) old t h apart;
-      }
+    pub finds_set : Finds y tag (l ∷ []) old (slice_set old place t)
+    finds_set = record {
+      kept = λ two a b h.
+          let x = any_there (is_so two a b) old h in
+          ⊎_elim
+          (λ here. contains_any (is_so two a b) (slice_set old place t) t (set_has old place t lt) (still_so two a b x.0 x.2 here))
+          (λ still. contains_any (is_so two a b) (slice_set old place t) x.0 still x.2)
+          (set_still old place t d x.0 x.1);
+      each = λ u there. ⊎_elim
+          (λ (here : t ≡ u). ⊎_elim
+          (λ same. inl (subst (Contains old) (same ∙ here) (Contains-get_or old place d lt)))
+          (λ among. inr (subst (IsFoundAmong (l ∷ []) y tag) here among))
+          is.one)
+          (λ was. inl was)
+          (set_was old place t u there);
+      whole = λ two m f there. of_one l m there (λ (k : AlikeEvents). Contains k.events f → is_sought two k.class y f ≡ true → has_tags two (slice_set old place t) k.tag tag ≡ true)
+          (λ event so. contains_any (is_so two l.tag tag) (slice_set old place t) t (set_has old place t lt) (grind (arith, is.tags, is.whole two f event so)));
+      others = pairs_set (λ (u v : TaggedRace). is_of_tags u.tag u.other v ≡ false) old place t d lt
+          (λ z apart. grind (arith, nat_tests, tags, is.tags, apart))
+          (λ z apart. grind (arith, nat_tests, tags, is.tags, apart));
+    }
+
+  -- a race of the two tags, where one of these of another group clashes, or none does
+  module _ (l : AlikeEvents) (old : TaggedRace) (tags : is_of_tags l.tag tag old ≡ true) where
+    pub stays : sought l y true ≡ None → IsPreferred l y tag old old
+    stays none = record { one = inl refl; tags = tags; kept = λ two h. h; whole = whole }
+      where
+        whole : (two : Bool) (e : EventId) → Contains l.events e → is_sought two l.class y e ≡ true → are_of_groups two old.race.first old.race.second ≡ true
+        whole true e there is = absurd (found_none (is_sought true l.class y) l.events e none there is)
+        whole false e there is = refl
+
+    pub gives_way : (e : EventId) (t : TaggedRace) → sought l y true ≡ Some e → IsFound e l.tag y tag t → IsPreferred l y tag old t
+    gives_way e t is found = record {
+      one = inr (record { list = l; there = Contains-push [] l; earlier = e; event = there.0; clash = (let so = there.1 in grind (arith, so)); found = found });
+      tags = grind (arith, nat_tests, found.first_tag, found.second_tag);
+      kept = λ two h. groups two;
+      whole = λ two f in_events so. groups two;
+    }
+      where
+        there : Contains l.events e × (is_sought true l.class y e ≡ true)
+        there = find_is (is_sought true l.class y) l.events e is
+
+        groups : (two : Bool) → are_of_groups two t.race.first t.race.second ≡ true
+        groups two = let so = there.1 in grind (arith, nat_tests, found.turned, so)
 
   among_more : (xs zs : List AlikeEvents) (t : TaggedRace) → ((l : AlikeEvents) → Contains xs l → Contains zs l) → IsFoundAmong xs y tag t → IsFoundAmong zs y tag t
   among_more xs zs t more among = record { list = among.list; there = more among.list among.there; earlier = among.earlier; event = among.event; clash = among.clash; found = among.found }
@@ -80,14 +131,14 @@ module _ (y : ClockedAccess) (tag : ℕ) where
   -- one list after others
   pub finds_more : (xs : List AlikeEvents) (z : AlikeEvents) (a b c : List TaggedRace) → Finds y tag xs a b → Finds y tag (z ∷ []) b c → Finds y tag (xs ++ z ∷ []) a c
   finds_more xs z a b c first second = record {
-    kept = λ m n h. second.kept m n (first.kept m n h);
+    kept = λ two m n h. second.kept two m n (first.kept two m n h);
     each = λ t there. ⊎_elim
         (λ (was : Contains b t). ⊎_elim (λ (old : Contains a t). inl old) (λ among. inr (among_more xs (xs ++ z ∷ []) t (λ l. Contains-append_left xs (z ∷ []) l) among)) (first.each t was))
         (λ among. inr (among_more (z ∷ []) (xs ++ z ∷ []) t (λ l. Contains-append_right xs (z ∷ []) l) among))
         (second.each t there);
-    whole = λ l e there event clash. ⊎_elim
-        (λ (in_xs : Contains xs l). second.kept l.tag tag (first.whole l e in_xs event clash))
-        (λ (last : Contains (z ∷ []) l). second.whole l e last event clash)
+    whole = λ two l e there event is. ⊎_elim
+        (λ (in_xs : Contains xs l). second.kept two l.tag tag (first.whole two l e in_xs event is))
+        (λ (last : Contains (z ∷ []) l). second.whole two l e last event is)
         (Contains-append_cases xs (z ∷ []) l there);
     others = λ h. second.others (first.others h);
   }
@@ -155,14 +206,14 @@ other_stands_for_tags tag_of w accesses y other pairs stands = record {
   each = λ t c e kept. still_of_tag w accesses y tag_of t c e (stands.each t c e kept);
   some = λ t c e of. stands.some t c e (⊎_elim (λ was. record { access = was; tag_is = of.tag_is }) (λ last. absurd (other last.0)) (of_cases w accesses y e c of.access));
   sound = λ t there. still_tagged w accesses y tag_of t (stands.sound t there);
-  whole = λ e f clash. ⊎_elim (stands.whole e f) (λ new. absurd (other new.word)) (clash_was w accesses y e f clash);
+  whole = λ two e f clash groups. ⊎_elim (λ was. stands.whole two e f was groups) (λ new. absurd (other new.word)) (clash_was w accesses y e f clash);
   others = stands.others;
 }
 
 module _ {Z : Type 0} (tag_of : EventId → ℕ) (accesses : List ClockedAccess) (y : ClockedAccess) (tag : ℕ) (tag_is : tag_of (event_of y) ≡ tag) (old new : TagPairs Z) (stands : StandsForTags tag_of y.word accesses old) (finds : Finds y tag old.lists.items old.found.items new.found.items) (keeps : KeepsMore old.lists.items tag y new.lists.items) where
   -- a later access and the one with which it clashes differ
-  apart : (c : Class) (e : EventId) → event_clashes c y e ≡ true → ¬ (e ≡ event_of y)
-  apart c e clash same = grind (arith, clash, same_item_self)
+  differ : (c : Class) (e : EventId) → event_clashes c y e ≡ true → ¬ (e ≡ event_of y)
+  differ c e clash same = grind (arith, clash, same_item_self)
 
   -- a race of it that was added
   added_race : (t : TaggedRace) → IsFoundAmong old.lists.items y tag t → IsTaggedClash tag_of y.word (accesses ++ y ∷ []) t
@@ -177,7 +228,7 @@ module _ {Z : Type 0} (tag_of : EventId → ℕ) (accesses : List ClockedAccess)
           later = event_of y;
           clash = clash_added accesses y e l.class of.access among.clash;
           turned = among.found.turned;
-          below = among.found.below (apart l.class e among.clash);
+          below = among.found.below (differ l.class e among.clash);
         };
         tags = tagged t.race.first t.race.second e among.found.turned (of.tag_is ∙ sym among.found.first_tag) (tag_is ∙ sym among.found.second_tag);
       }
@@ -186,11 +237,14 @@ module _ {Z : Type 0} (tag_of : EventId → ℕ) (accesses : List ClockedAccess)
       tagged first second e turned one other = grind arith
 
   -- two tags of which it clashes have a race now
-  clash_found : (e f : EventId) → IsNewClash y.word accesses y e f → IsTrue (has_tags new.found.items (tag_of e) (tag_of f))
-  clash_found e f clash =
+  clash_found : (two : Bool) (e f : EventId) → IsNewClash y.word accesses y e f → are_of_groups two e f ≡ true → has_tags two new.found.items (tag_of e) (tag_of f) ≡ true
+  clash_found two e f clash groups =
       let d = stands.some (tag_of e) clash.class e (record { access = clash.of; tag_is = refl }) in
-      let now = finds.whole d.1.list d.0 d.1.there d.1.event (subst (λ (c : Class). event_clashes c y d.0 ≡ true) (sym d.1.class_is) (later_clashes clash.class y d.0 e d.2 clash.clash)) in
-      subst (λ (a : ℕ). IsTrue (has_tags new.found.items a (tag_of f))) d.1.tag_is (subst (λ (b : ℕ). IsTrue (has_tags new.found.items d.1.list.tag b)) (sym tag_is ∙ ap tag_of clash.event) now)
+      let clashes = later_clashes clash.class y d.0 e d.2 clash.clash in
+      let same_class : d.1.list.class ≡ clash.class = d.1.class_is in
+      let sought : is_sought two d.1.list.class y d.0 ≡ true = grind (arith, clashes, groups, d.2.item, clash.event, same_class) in
+      let now = finds.whole two d.1.list d.0 d.1.there d.1.event sought in
+      subst (λ (a : ℕ). has_tags two new.found.items a (tag_of f) ≡ true) d.1.tag_is (subst (λ (b : ℕ). has_tags two new.found.items d.1.list.tag b ≡ true) (sym tag_is ∙ ap tag_of clash.event) now)
 
   some_of : (t : ℕ) (c : Class) (e : EventId) → IsOfTag tag_of y.word (accesses ++ y ∷ []) t c e → (d : EventId) × IsKeptIn new.lists.items t c d × IsInPlaceOf d e
   some_of t c e of = ⊎_elim
@@ -209,6 +263,6 @@ module _ {Z : Type 0} (tag_of : EventId → ℕ) (accesses : List ClockedAccess)
         (keeps.each t c e kept);
     some = some_of;
     sound = λ t there. ⊎_elim (λ (was : Contains old.found.items t). still_tagged y.word accesses y tag_of t (stands.sound t was)) (λ among. added_race t among) (finds.each t there);
-    whole = λ e f clash. ⊎_elim (λ was. finds.kept (tag_of e) (tag_of f) (stands.whole e f was)) (clash_found e f) (clash_was y.word accesses y e f clash);
+    whole = λ two e f clash groups. ⊎_elim (λ was. finds.kept two (tag_of e) (tag_of f) (stands.whole two e f was groups)) (λ new. clash_found two e f new groups) (clash_was y.word accesses y e f clash);
     others = finds.others stands.others;
   }

@@ -1,10 +1,8 @@
 -- The races of words, one for each two tags, where what stands for the accesses along a lawful order of all grounded events is known.
-use Rattle.std.proofs.Common.{◌≡◌, ◌⊎◌, ℕ, suc, Bool, true, false, All, AllPairs, Contains, List, [], ◌∷◌, ◌++◌, Option, arith, get_or, map, sym, ◌∙◌, subst, inl, inr, ⊎_elim, true≢false}
-use Rattle.std.specs.List.{list_any}
+use Rattle.std.proofs.Common.{◌≡◌, ◌⊎◌, ℕ, suc, Bool, true, false, All, AllPairs, Contains, List, [], ◌∷◌, ◌++◌, Option, arith, get_or, map, refl, sym, ◌∙◌, subst, inl, inr, ⊎_elim, true≢false}
 use Rattle.std.proofs.lemmas.Bool.Decides.{nat_tests}
 use Rattle.std.proofs.lemmas.List.{get_or-map, length-map}
 use Rattle.std.proofs.lemmas.List.Elements.{All-append, All-contains, All-map, All-weaker, Contains-append_left, Contains-append_right, Contains-get_or}
-use Rattle.std.proofs.lemmas.List.Folds.{Any-from_list_any}
 use Rattle.std.proofs.lemmas.List.Kept.{AllPairs-cons}
 use Rattle.gr_model.specs.declared.event.EventId.{EventId}
 use Rattle.gr_model.specs.declared.event.Word.{Word}
@@ -16,12 +14,13 @@ use Rattle.gr_model.specs.Streams.{Streams}
 use Rattle.gr_closure.specs.AccessesAlong.{AreAccesses}
 use Rattle.gr_shadow.specs.Clashes.{ClockedAccess}
 use Rattle.gr_shadow.proofs.KeepsLemmas.{Contains-first, Contains-rest}
-use Rattle.gr_explain.specs.TagPairs.{HaveOtherTags, IsTaggedClash, StandsForTags, is_of_tags}
-use Rattle.gr_explain.specs.TagRaces.{AreTagRaces, HasRaceOfTags, IsApart}
+use Rattle.gr_explain.specs.Alike.{are_of_groups}
+use Rattle.gr_explain.specs.TagPairs.{HaveOtherTags, IsTaggedClash, StandsForTags, is_of_tags, is_so}
+use Rattle.gr_explain.specs.TagRaces.{AreOfTwoGroups, AreTagRaces, HasRaceOfTags, IsApart}
 use Rattle.gr_explain.specs.WordPairs.{StandForWords, races_at, races_of}
 use Rattle.gr_explain.specs.declared.tag_pairs.TaggedRace.{TaggedRace}
 use Rattle.gr_explain.specs.declared.tag_pairs.TagPairs.{TagPairs}
-use Rattle.gr_explain.proofs.Lists.{first_or_rest, mapped_there}
+use Rattle.gr_explain.proofs.Lists.{any_there, first_or_rest, mapped_there}
 use Rattle.gr_explain.proofs.RacePairs.{clash_is_race, race_is_clash}
 
 -- ---- two tags, in whatever order
@@ -44,10 +43,18 @@ tell_two a b t h = grind (arith, nat_tests)
 turned_two : (tag_of : EventId → ℕ) (e f : EventId) (pair : Pair) → IsTurned e f pair → AreSameTwo (tag_of e) (tag_of f) (tag_of pair.0) (tag_of pair.1)
 turned_two tag_of e f pair turned = grind arith
 
--- ---- lists
+-- the two groups of a pair, where they are asked for
+groups_of : (two : Bool) (e f : EventId) (pair : Pair) → IsTurned e f pair → (two ≡ true → AreOfTwoGroups pair) → are_of_groups two e f ≡ true
+groups_of false e f pair turned groups = refl
+groups_of true e f pair turned groups = let apart = groups refl in grind (arith, nat_tests)
 
-any_there : {X : Type 0} (f : X → Bool) (xs : List X) → list_any f xs ≡ true → (x : X) × Contains xs x × (f x ≡ true)
-any_there f xs h = let found = Any-from_list_any f xs h in (found.1, (found.0, found.2, found.3), found.4)
+so_tags : (two : Bool) (a b : ℕ) (t : TaggedRace) → is_so two a b t ≡ true → is_of_tags a b t ≡ true
+so_tags two a b t so = grind (arith, so)
+
+so_groups : (a b : ℕ) (t : TaggedRace) → is_so true a b t ≡ true → AreOfTwoGroups (t.race.first, t.race.second)
+so_groups a b t so = grind (arith, nat_tests, so)
+
+-- ---- lists
 
 pairs_first : {X : Type 0} (R : X → X → Type 0) (x : X) (xs : List X) → AllPairs R (x ∷ xs) → (z : X) → Contains xs z → R x z
 pairs_first R x xs pairs z there = subst (R x) there.2 (pairs 0 (suc there.0) z (omega arith) (omega (arith, there.1)))
@@ -74,7 +81,7 @@ race_of t = t.race
 record AreOfWord (s : Streams) (tag_of : EventId → ℕ) (w : Word) (races : List Race) : Type 0 where
   pairs : All (λ r. IsRacePair s r.word (r.first, r.second)) races
   word : All (λ r. r.word ≡ w) races
-  whole : (a b : ℕ) → TagsRace s tag_of w a b → HasRaceOfTags tag_of races w a b
+  whole : (two : Bool) (a b : ℕ) (h : TagsRace s tag_of w a b) → (two ≡ true → AreOfTwoGroups h.pair) → HasRaceOfTags tag_of races two w a b
   apart : AllPairs (IsApart tag_of) races
 
 module _ (s : Streams) (order : List EventId) (accesses : List ClockedAccess) (lawful : IsWholeOrder s order) (are : AreAccesses s order accesses) (tag_of : EventId → ℕ) where
@@ -103,11 +110,11 @@ module _ (s : Streams) (order : List EventId) (accesses : List ClockedAccess) (l
         let of = stands.sound t (Contains-get_or found k d lt) in
         subst (λ (v : Word). IsRacePair s v (t.race.first, t.race.second)) (sym of.word) (clash_is_race s w order accesses lawful are (t.race.first, t.race.second) of.clash));
     word = All-map (λ (r : Race). r.word ≡ w) race_of found (λ k d lt. (stands.sound (get_or found k d) (Contains-get_or found k d lt)).word);
-    whole = λ a b h.
+    whole = λ two a b h groups.
         let clash = race_is_clash s w order accesses lawful are h.pair h.race in
         let e = tag_of clash.earlier in
         let f = tag_of clash.later in
-        let t = any_there (is_of_tags e f) found (stands.whole clash.earlier clash.later clash.clash) in
+        let t = any_there (is_so two e f) found (stands.whole two clash.earlier clash.later clash.clash (groups_of two clash.earlier clash.later h.pair clash.turned groups)) in
         let of = stands.sound t.0 t.1 in
         record {
           race = t.0.race;
@@ -115,8 +122,9 @@ module _ (s : Streams) (order : List EventId) (accesses : List ClockedAccess) (l
           word = of.word;
           tags =
               two_then (tag_of t.0.race.first) (tag_of t.0.race.second) t.0.tag t.0.other a b of.tags
-              (two_then t.0.tag t.0.other e f a b (two_told e f t.0 t.2)
+              (two_then t.0.tag t.0.other e f a b (two_told e f t.0 (so_tags two e f t.0 t.2))
               (two_then e f (tag_of h.pair.0) (tag_of h.pair.1) a b (turned_two tag_of clash.earlier clash.later h.pair clash.turned) h.tags));
+          groups = λ is. so_groups e f t.0 (subst (λ (b : Bool). is_so b e f t.0 ≡ true) is t.2);
         };
     apart = apart_races w found stands.sound stands.others;
   }
@@ -132,13 +140,13 @@ module _ (s : Streams) (order : List EventId) (accesses : List ClockedAccess) (l
     within = All-append (λ (r : Race). Contains (w ∷ words) r.word) first rest
         (All-weaker (λ (r : Race). r.word ≡ w) (λ (r : Race). Contains (w ∷ words) r.word) (λ r is. subst (Contains (w ∷ words)) (sym is) (Contains-first w words)) first of_first.word)
         (All-weaker (λ (r : Race). Contains words r.word) (λ (r : Race). Contains (w ∷ words) r.word) (λ r there. Contains-rest w words r.word there) rest of_rest.within);
-    whole = λ v a b in_words h. ⊎_elim
+    whole = λ two v a b in_words h groups. ⊎_elim
         (λ (is : w ≡ v).
-        let found = of_first.whole a b (subst (λ (x : Word). TagsRace s tag_of x a b) (sym is) h) in
-        record { race = found.race; there = Contains-append_left first rest found.race found.there; word = found.word ∙ is; tags = found.tags })
+        let found = of_first.whole two a b (record { pair = h.pair; race = subst (λ (x : Word). IsRacePair s x h.pair) (sym is) h.race; tags = h.tags }) groups in
+        record { race = found.race; there = Contains-append_left first rest found.race found.there; word = found.word ∙ is; tags = found.tags; groups = found.groups })
         (λ (later : Contains words v).
-        let found = of_rest.whole v a b later h in
-        record { race = found.race; there = Contains-append_right first rest found.race found.there; word = found.word; tags = found.tags })
+        let found = of_rest.whole two v a b later h groups in
+        record { race = found.race; there = Contains-append_right first rest found.race found.there; word = found.word; tags = found.tags; groups = found.groups })
         (first_or_rest w words v in_words);
     apart = pairs_append (IsApart tag_of) first rest of_first.apart of_rest.apart (λ r q in_first in_rest. inl (
         subst (λ (x : Word). WordBelow x q.word) (sym (All-contains (λ (p : Race). p.word ≡ w) first r of_first.word in_first)) (below q.word (All-contains (λ (p : Race). Contains words p.word) rest q of_rest.within in_rest))));
@@ -148,7 +156,7 @@ module _ (s : Streams) (order : List EventId) (accesses : List ClockedAccess) (l
   no_races = record {
     pairs = λ k d lt. absurd (omega (arith, lt));
     within = λ k d lt. absurd (omega (arith, lt));
-    whole = λ w a b there h. absurd (omega (arith, there.1));
+    whole = λ two w a b there h groups. absurd (omega (arith, there.1));
     apart = pairs_none (IsApart tag_of);
   }
 

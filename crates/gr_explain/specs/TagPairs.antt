@@ -8,7 +8,7 @@ use Rattle.gr_model.specs.RacePairs.{HasTags, IsTurned}
 use Rattle.gr_model.specs.Reports.{EventBelow}
 use Rattle.gr_model.specs.declared.class.Class.{Class}
 use Rattle.gr_shadow.specs.Clashes.{ClockedAccess, IsClashIn, event_of}
-use Rattle.gr_explain.specs.Alike.{AlikeEvents, IsInPlaceOf, IsOfKind, event_clashes}
+use Rattle.gr_explain.specs.Alike.{AlikeEvents, IsInPlaceOf, IsOfKind, are_of_groups, event_clashes, is_sought}
 use Rattle.gr_explain.specs.ClashPairs.{IsClashPair, IsOfList}
 use Rattle.gr_explain.specs.declared.tag_pairs.TaggedRace.{TaggedRace}
 use Rattle.gr_explain.specs.declared.tag_pairs.TagPairs.{TagPairs}
@@ -19,9 +19,13 @@ use Rattle.gr_explain.specs.declared.tag_pairs.TagPairs.{TagPairs}
 abbrev pub is_of_tags : ℕ → ℕ → TaggedRace → Bool
 is_of_tags a b t = ((t.tag == a) && (t.other == b)) || ((t.tag == b) && (t.other == a))
 
--- there is a race of these tags
-abbrev pub has_tags : List TaggedRace → ℕ → ℕ → Bool
-has_tags found a b = list_any (is_of_tags a b) found
+-- a race is of these tags, and of two groups where that is asked for
+abbrev pub is_so : Bool → ℕ → ℕ → TaggedRace → Bool
+is_so two a b t = is_of_tags a b t && are_of_groups two t.race.first t.race.second
+
+-- there is a race of these tags, and of two groups where that is asked for
+abbrev pub has_tags : Bool → List TaggedRace → ℕ → ℕ → Bool
+has_tags two found a b = list_any (is_so two a b) found
 
 -- no two races have the same tags
 abbrev pub HaveOtherTags : List TaggedRace → Type 0
@@ -44,11 +48,18 @@ pub record IsFoundAmong (lists : List AlikeEvents) (y : ClockedAccess) (tag : �
   pub clash : IsTrue (event_clashes list.class y earlier)
   pub found : IsFound earlier list.tag y tag t
 
--- the races of a later access with these were added, one for each two tags that had none
+-- a race of a later access with one of these takes the place of another one of the two tags, if then there is one of two groups
+pub record IsPreferred (l : AlikeEvents) (y : ClockedAccess) (tag : ℕ) (old new : TaggedRace) : Type 0 where
+  pub one : (old ≡ new) ⊎ IsFoundAmong (l ∷ []) y tag new
+  pub tags : IsTrue (is_of_tags l.tag tag new)
+  pub kept : (two : Bool) → IsTrue (are_of_groups two old.race.first old.race.second) → IsTrue (are_of_groups two new.race.first new.race.second)
+  pub whole : (two : Bool) (e : EventId) → Contains l.events e → IsTrue (is_sought two l.class y e) → IsTrue (are_of_groups two new.race.first new.race.second)
+
+-- the races of a later access with these were added, one for each two tags that had none, or none of two groups
 pub record Finds (y : ClockedAccess) (tag : ℕ) (lists : List AlikeEvents) (old new : List TaggedRace) : Type 0 where
-  pub kept : (a b : ℕ) → IsTrue (has_tags old a b) → IsTrue (has_tags new a b)
+  pub kept : (two : Bool) (a b : ℕ) → IsTrue (has_tags two old a b) → IsTrue (has_tags two new a b)
   pub each : (t : TaggedRace) → Contains new t → Contains old t ⊎ IsFoundAmong lists y tag t
-  pub whole : (l : AlikeEvents) (e : EventId) → Contains lists l → Contains l.events e → IsTrue (event_clashes l.class y e) → IsTrue (has_tags new l.tag tag)
+  pub whole : (two : Bool) (l : AlikeEvents) (e : EventId) → Contains lists l → Contains l.events e → IsTrue (is_sought two l.class y e) → IsTrue (has_tags two new l.tag tag)
   pub others : HaveOtherTags old → HaveOtherTags new
 
 -- ---- the accesses that are kept
@@ -91,12 +102,12 @@ pub record IsTaggedClash (tag_of : EventId → ℕ) (w : Word) (accesses : List 
   pub tags : HasTags tag_of (t.race.first, t.race.second) t.tag t.other
 
 -- of these accesses to a word each is kept, or a later one of its item, tag and class; and there is one race for each two tags of which
--- some two accesses clash
+-- some two accesses clash, one of two groups if some of two groups clash
 pub record StandsForTags {Z : Type 0} (tag_of : EventId → ℕ) (w : Word) (accesses : List ClockedAccess) (pairs : TagPairs Z) : Type 0 where
   pub each : (t : ℕ) (c : Class) (e : EventId) → IsKeptIn pairs.lists.items t c e → IsOfTag tag_of w accesses t c e
   pub some : (t : ℕ) (c : Class) (e : EventId) → IsOfTag tag_of w accesses t c e → (d : EventId) × IsKeptIn pairs.lists.items t c d × IsInPlaceOf d e
   pub sound : (t : TaggedRace) → Contains pairs.found.items t → IsTaggedClash tag_of w accesses t
-  pub whole : (e f : EventId) → IsClashIn accesses w e f → IsTrue (has_tags pairs.found.items (tag_of e) (tag_of f))
+  pub whole : (two : Bool) (e f : EventId) → IsClashIn accesses w e f → IsTrue (are_of_groups two e f) → IsTrue (has_tags two pairs.found.items (tag_of e) (tag_of f))
   pub others : HaveOtherTags pairs.found.items
 
 -- one more access came, which has this tag

@@ -5,7 +5,7 @@ ghost use Rattle.std.specs.List.{find};
 ghost use Rattle.gr_clocks.specs.ClockedAccess.{clocked};
 ghost use Rattle.gr_shadow.specs.Clashes.{event_of};
 ghost use Rattle.gr_explain.specs.Alike as spec;
-ghost use Rattle.gr_explain.specs.Alike.{IsOfKind, KeepsEvents, event_clashes, no_events};
+ghost use Rattle.gr_explain.specs.Alike.{IsChosen, IsOfKind, KeepsEvents, event_clashes, is_sought, no_events};
 
 use gr_clocks::access::Access;
 use gr_model::class::{Class, exempt};
@@ -73,9 +73,9 @@ impl<A: Allocator> Alike<A> {
         self.tag == tag && self.class == access.class
     }
 
-    /// The event of one of these with which a later access to the word clashes.
-    fn find_clashing(&self, access: &Access<A>) -> Option<EventId>
-        ensures { result ≡ find (event_clashes self.now.class (clocked access.now)) self.now.events }
+    /// The event of one of these with which a later access to the word clashes, and of another group if `two`.
+    fn find_clashing(&self, access: &Access<A>, two: bool) -> Option<EventId>
+        ensures { result ≡ find (is_sought two self.now.class (clocked access.now)) self.now.events }
     {
         self.indexes
             .iter()
@@ -83,18 +83,36 @@ impl<A: Allocator> Alike<A> {
                 at: *entry.0,
                 index: *entry.1,
             })
-            .find(|event| clashes(self.class, *event, access))
+            .find(|event| {
+                (!two || event.at.group != access.item.group) && clashes(self.class, *event, access)
+            })
     }
 
-    /// The event of one of these with which a later access to the word clashes. Where two accesses of these classes are exempt though
-    /// they are of two groups, none clashes.
-    pub(crate) fn clashing(&self, access: &Access<A>) -> Option<EventId>
-        ensures { result ≡ find (event_clashes self.now.class (clocked access.now)) self.now.events }
+    /// The event of one of these with which a later access to the word clashes, and of another group if `two`. Where two accesses of
+    /// these classes are exempt though they are of two groups, none clashes.
+    pub(crate) fn clashing(&self, access: &Access<A>, two: bool) -> Option<EventId>
+        ensures { result ≡ find (is_sought two self.now.class (clocked access.now)) self.now.events }
     {
         if exempt(self.class, 0, access.class, 1) {
             return None;
         }
-        self.find_clashing(access)
+        self.find_clashing(access, two)
+    }
+
+    /// The event of one of these with which a later access to the word clashes, of another group if there is such a one.
+    pub(crate) fn chosen(&self, access: &Access<A>) -> Option<EventId>
+        ensures { IsChosen self.now (clocked access.now) result }
+    {
+        match self.clashing(access, false) {
+            None => None,
+            Some(event) => {
+                if event.at.group != access.item.group {
+                    Some(event)
+                } else {
+                    Some(self.clashing(access, true).unwrap_or(event))
+                }
+            }
+        }
     }
 
     /// Adds an access, which has this tag.

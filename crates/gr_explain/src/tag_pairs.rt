@@ -1,12 +1,11 @@
 //! The pairs of tags that race on a word, found along the order in which events are handled.
 
-ghost use Rattle.std.specs.Prelude.{◌≡◌, ◌∷◌, [], IfSome, OnOk, ℕ};
-ghost use Rattle.std.specs.List.{list_any};
+ghost use Rattle.std.specs.Prelude.{◌≡◌, ◌∷◌, [], IfSome, IsFalse, IsTrue, OnOk, ℕ};
+ghost use Rattle.std.specs.List.{list_any, position};
 ghost use Rattle.gr_model.specs.declared.event.EventId.{EventId as AnyEvent};
 ghost use Rattle.gr_model.specs.declared.event.Word.{Word as AnyWord};
 ghost use Rattle.gr_clocks.specs.ClockedAccess.{clocked};
-ghost use Rattle.gr_explain.specs.Alike.{event_clashes};
-ghost use Rattle.gr_explain.specs.TagPairs.{Finds, IsFound, IsOfKindAt, KeepsMore, IsTagAdded, StandsForTags, has_tags, is_of_tags};
+ghost use Rattle.gr_explain.specs.TagPairs.{Finds, IsFound, IsOfKindAt, IsPreferred, KeepsMore, IsTagAdded, StandsForTags, is_of_tags};
 
 use crate::alike::Alike;
 use crate::seen::event_of;
@@ -36,7 +35,7 @@ impl TaggedRace {
     }
 }
 
-/// The accesses to a word that came so far, and a race for each two tags that race on it.
+/// The accesses to a word that came so far, and a race for each two tags that race on it, one of two groups if there is such a one.
 #[derive(Drop)]
 #[derive_where(Debug)]
 pub(crate) struct TagPairs<A: Allocator = Global> {
@@ -46,11 +45,11 @@ pub(crate) struct TagPairs<A: Allocator = Global> {
     pub(crate) found: Vec<TaggedRace, A>,
 }
 
-/// Whether there is a race of these tags.
-fn has_tags(found: &[TaggedRace], tag: u128, other: u128) -> bool
-    ensures { result ≡ has_tags found.now tag other }
+/// The place of the race of these tags.
+fn place_of_tags(found: &[TaggedRace], tag: u128, other: u128) -> Option<usize>
+    ensures { result ≡ position (is_of_tags tag other) found.now }
 {
-    found.iter().any(|race| race.is_of(tag, other))
+    found.iter().position(|race| race.is_of(tag, other))
 }
 
 /// The race of a later access, which has this tag, with an earlier one.
@@ -74,8 +73,42 @@ fn race_with<A: Allocator>(
     }
 }
 
-/// Adds the race of a later access, which has this tag, with one of earlier ones that are alike, if it clashes with one and there is
-/// no race of the two tags.
+/// Adds the race of a later access, which has this tag, with one of earlier ones that are alike, if it clashes with one.
+/// Requires: there is no race of the two tags.
+///
+/// # Errors
+/// `Memory`: out of memory.
+fn add_race<A: Allocator>(
+    found: &mut Vec<TaggedRace, A>,
+    alike: &Alike<A>,
+    access: &Access<A>,
+    tag: u128,
+) -> Result<(), Memory>
+    requires { IsFalse (list_any (is_of_tags alike.now.tag tag) found.old.items) }
+    ensures { OnOk result (Finds (clocked access.now) tag (alike.now ∷ []) found.old.items found.new.items) }
+{
+    if let Some(earlier) = alike.chosen(access) {
+        found.push(race_with(earlier, alike.tag(), access, tag))?;
+    }
+    Ok(())
+}
+
+/// Puts the race of a later access, which has this tag, with one of earlier ones that are alike in the place of one of the two tags that is
+/// of one group, if it clashes with one of another group.
+fn prefer<A: Allocator>(race: &mut TaggedRace, alike: &Alike<A>, access: &Access<A>, tag: u128)
+    requires { IsTrue (is_of_tags alike.now.tag tag race.old) }
+    ensures { IsPreferred alike.now (clocked access.now) tag race.old race.new }
+{
+    if race.race.first.at.group != race.race.second.at.group {
+        return;
+    }
+    if let Some(earlier) = alike.clashing(access, true) {
+        *race = race_with(earlier, alike.tag(), access, tag);
+    }
+}
+
+/// Sees to the race of a later access, which has this tag, with one of earlier ones that are alike: adds it if there is none of the two
+/// tags, and prefers it if that is of one group.
 ///
 /// # Errors
 /// `Memory`: out of memory.
@@ -87,19 +120,16 @@ fn find_among<A: Allocator>(
 ) -> Result<(), Memory>
     ensures { OnOk result (Finds (clocked access.now) tag (alike.now ∷ []) found.old.items found.new.items) }
 {
-    if has_tags(found, alike.tag(), tag) {
-        return Ok(());
-    }
-    match alike.clashing(access) {
-        None => Ok(()),
-        Some(earlier) => {
-            found.push(race_with(earlier, alike.tag(), access, tag))?;
+    match place_of_tags(found, alike.tag(), tag) {
+        None => add_race(found, alike, access, tag),
+        Some(place) => {
+            prefer(&mut found[place], alike, access, tag);
             Ok(())
         }
     }
 }
 
-/// Adds the races of a later access, which has this tag, with earlier ones, where there is none of the two tags.
+/// Adds the races of a later access, which has this tag, with earlier ones, where there is none of the two tags, or none of two groups.
 ///
 /// # Errors
 /// `Memory`: out of memory.

@@ -1,6 +1,6 @@
 -- The least racing pair of a word, what its accesses are, what stands between them, the cause of their race, and the word's other races.
 -- Source: docs/OUTPUT.md, "explain --long".
-use Rattle.std.specs.Prelude.{◌≡◌, ◌∷◌, [], ℕ, List, MatchOption, Option, Some, filter, not}
+use Rattle.std.specs.Prelude.{◌≡◌, ◌∷◌, ◌==◌, ◌&&◌, ◌||◌, [], ℕ, Bool, List, MatchOption, Option, Some, filter, not}
 use Rattle.gr_model.specs.declared.event.EventId.{EventId}
 use Rattle.gr_model.specs.declared.event.Word.{Word}
 use Rattle.gr_model.specs.declared.race.Race.{Race}
@@ -21,15 +21,16 @@ use Rattle.gr_timeline.specs.declared.details.Details.{Details}
 use Rattle.gr_races.specs.Between.{BetweenSaid, between_of, between_said}
 use Rattle.gr_timeline.specs.Details.{details_of}
 
--- the races of a word but for those of two tags
-abbrev pub others_of : List KindedRace → ℕ → ℕ → List KindedRace
-others_of rows a b = filter (λ row. not (is_of_tags row.kind a b)) rows
+-- the races of a word but for those of two tags; but those of two groups are among them, where the pair at hand is of one
+abbrev pub others_of : List KindedRace → ℕ → ℕ → Bool → List KindedRace
+others_of rows a b one_group = filter (λ row. not (is_of_tags row.kind a b) || (one_group && not row.kind.one_group)) rows
 
--- a race for each further two tags that race on the word, those of two tags before those of one
+-- a race for each further two tags that race on the word, and of two groups for those of the pair if it is of one; those of two tags before
+-- those of one
 pub record AreOthers (s : Streams) (numbers : Placed → Option ℕ) (w : Word) (first second : EventId) (others : List KindedRace) : Type 0 where
   pub races : List Race
   pub exact : AreTagRaces s (tag_at s numbers) (w ∷ []) races
-  pub listed : others ≡ others_of (in_order (all_kinded s numbers (with_causes races []))) (tag_at s numbers first) (tag_at s numbers second)
+  pub listed : others ≡ others_of (in_order (all_kinded s numbers (with_causes races []))) (tag_at s numbers first) (tag_at s numbers second) (first.at.group == second.at.group)
 
 -- what is said of a racing pair
 pub record AccountSaid : Type 0 where

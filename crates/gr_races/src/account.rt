@@ -48,11 +48,11 @@ pub struct Account<A: Allocator = Global> {
     pub between: Between<A>,
     /// The cause.
     pub cause: Cause,
-    /// A race for each further two tags that race on the word.
+    /// A race for each further two tags that race on the word; and one of the pair's tags that is of two groups, if the pair is of one.
     pub others: Vec<KindedRace, A>,
 }
 
-/// Of these races those that are not of two events' tags.
+/// Of these races those that are not of two events' tags, or that are of two groups while the two events are of one.
 ///
 /// # Errors
 /// `Memory`: out of memory.
@@ -61,18 +61,20 @@ fn others_of<A: Allocator>(
     rows: &[KindedRace],
     tag: u128,
     other: u128,
+    one_group: bool,
 ) -> Result<Vec<KindedRace, A>, Memory>
-    ensures { IfOk result (λ others. others.items ≡ spec.others_of rows.now tag other) }
+    ensures { IfOk result (λ others. others.items ≡ spec.others_of rows.now tag other one_group) }
 {
     let others = rows
         .iter()
         .copied()
-        .filter(|row| !row.kind.is_of(tag, other))
+        .filter(|row| { !row.kind.is_of(tag, other) || (one_group && !row.kind.one_group) })
         .collect(alloc)?;
     Ok(others)
 }
 
-/// Of races for each two tags that race on a word those that are not of two events' tags, with their kinds.
+/// Of races for each two tags that race on a word those that are not of two events' tags, or that are of two groups while the two events
+/// are of one, with their kinds.
 ///
 /// # Errors
 /// `Memory`: out of memory.
@@ -86,7 +88,8 @@ fn other_races<A: Allocator + Copy>(
     ensures { IfOk result (λ others. (w : AnyWord) → AreTagRaces tags.now.records.now (tag_at tags.now.records.now (number_at tags.now.index.now)) (w ∷ []) races.now → AreOthers tags.now.records.now (number_at tags.now.index.now) w first second others.items) }
 {
     let rows = ordered_rows(alloc, tags.records, tags.index, races, &[])?;
-    others_of(alloc, &rows, tags.tag(first), tags.tag(second))
+    let one_group = first.at.group == second.at.group;
+    others_of(alloc, &rows, tags.tag(first), tags.tag(second), one_group)
 }
 
 /// What is told of the least racing pair of a word, of this cause, with all records of the launch and the word's other races.

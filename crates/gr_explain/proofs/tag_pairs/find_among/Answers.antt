@@ -1,17 +1,30 @@
-use Rattle.std.proofs.Common.{◌≡◌, ◌∙◌, false, sym}
+use Rattle.std.proofs.Common.{◌≡◌, ◌∙◌, true, subst, sym}
+use Rattle.std.specs.List.{position}
+use Rattle.std.proofs.lemmas.List.Quantifiers.{position-Some}
 use Rattle.gr_clocks.specs.ClockedAccess.{clocked}
-use Rattle.gr_explain.specs.TagPairs.{IsFound, has_tags}
-use Rattle.gr_explain.proofs.TagPairLemmas.{finds_none, finds_one}
+use Rattle.gr_explain.specs.TagPairs.{IsPreferred, is_of_tags}
+use Rattle.gr_explain.specs.declared.tag_pairs.TaggedRace.{TaggedRace}
+use Rattle.gr_explain.proofs.TagPairLemmas.{finds_set, none_at}
 use Rattle.gr_explain.proofs.tag_pairs.find_among.Goals as goal
 
-pub returns-in-None : goal.returns-in-None
-returns-in-None g c =
-    finds_none (clocked c.args.access.now) c.args.tag c.args.alike.now c.args.found.now.items (sym c.clashing.ensures ∙ c.in-None.is)
+pub add_race-requires : goal.add_race-requires
+add_race-requires g c =
+    let at : position (is_of_tags c.args.alike.now.tag c.args.tag) c.args.found.now.items ≡ c.place_of_tags.result = rw (← c.deref.ensures.value, ← c.tag.ensures) (sym c.place_of_tags.ensures) in
+    none_at (is_of_tags c.args.alike.now.tag c.args.tag) c.args.found.now.items (at ∙ c.in-None.is)
 
-pub returns-in_ok-push-in-Some : goal.returns-in_ok-push-in-Some
-returns-in_ok-push-in-Some g c =
+pub prefer-requires : goal.prefer-requires
+prefer-requires g c =
+    let test = is_of_tags c.args.alike.now.tag c.args.tag in
+    let at : position test c.args.found.now.items ≡ c.place_of_tags.result = rw (← c.deref.ensures.value, ← c.tag.ensures) (sym c.place_of_tags.ensures) in
+    let found = position-Some test c.args.found.now.items c.in-Some.place c.index_mut.result.now (at ∙ c.in-Some.is) in
+    subst (λ (t : TaggedRace). test t ≡ true) (sym c.index_mut.ensures.value) found.1
+
+pub returns-in-Some : goal.returns-in-Some
+returns-in-Some g c =
     let l = c.args.alike.now in
     let y = clocked c.args.access.now in
-    let had : has_tags c.args.found.now.items l.tag c.args.tag ≡ false = rw (← c.deref.ensures.value, ← c.tag.ensures) (sym c.has_tags.ensures ∙ c.if-has_tags.false) in
-    let found : IsFound c.in-Some.earlier l.tag y c.args.tag c.race_with.result = rw (← c.tag-in-Some.ensures) c.race_with.ensures in
-    finds_one y c.args.tag l c.in-Some.earlier c.race_with.result c.args.found.now.items c.push.new.self.items had (sym c.clashing.ensures ∙ c.in-Some.is) found c.in_ok-push-in-Some.ensures.items
+    let test = is_of_tags l.tag c.args.tag in
+    let at : position test c.args.found.now.items ≡ c.place_of_tags.result = rw (← c.deref.ensures.value, ← c.tag.ensures) (sym c.place_of_tags.ensures) in
+    let found = position-Some test c.args.found.now.items c.in-Some.place c.index_mut.result.now (at ∙ c.in-Some.is) in
+    finds_set y c.args.tag l c.args.found.now.items c.in-Some.place c.prefer.new.race c.index_mut.result.now found.0 found.1
+    (subst (λ (t : TaggedRace). IsPreferred l y c.args.tag t c.prefer.new.race) c.index_mut.ensures.value c.prefer.ensures)
