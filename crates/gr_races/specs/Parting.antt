@@ -1,6 +1,6 @@
 -- Divergent instances of barriers that stand between two events of one work-group.
 -- Source: docs/OUTPUT.md, "explain --long". They are this project's own.
-use Rattle.std.specs.Prelude.{◌≡◌, ◌⊎◌, ℕ, ◌<◌, Some}
+use Rattle.std.specs.Prelude.{◌≡◌, ◌⊎◌, ℕ, ◌<◌, ◌≤◌, Some}
 use Rattle.gr_model.specs.declared.event.EventId.{EventId}
 use Rattle.gr_model.specs.Barriers.{IsDivergent, is_barrier}
 use Rattle.gr_model.specs.Streams.{Streams, place_of}
@@ -18,3 +18,7 @@ pub record IsParting (s : Streams) (k : ℕ) (e f : EventId) : Type 0 where
 -- a divergent instance stands between two events of one group
 abbrev pub AreParted : Streams → EventId → EventId → Type 0
 AreParted s e f = (k : ℕ) × (IsParting s k e f ⊎ IsParting s k f e)
+
+-- an instance of a group, from one number to below another, is divergent
+abbrev pub HasDivergent : Streams → (g from to : ℕ) → Type 0
+HasDivergent s g from to = (k : ℕ) × (from ≤ k) × (k < to) × IsDivergent s g k

@@ -1,9 +1,9 @@
 //! Divergent instances of barriers that stand between two events of one work-group.
 
-ghost use Rattle.std.specs.Prelude.{◌≡◌, ◌↔◌, IsTrue};
+ghost use Rattle.std.specs.Prelude.{◌≡◌, ◌↔◌, ◌<◌, ◌≤◌, ℕ, IsTrue, length};
 ghost use Rattle.gr_model.specs.Shapes.{HasItem};
-ghost use Rattle.gr_lanes.specs.Remembered.{IsAllRemembered, IsRemembered};
-ghost use Rattle.gr_races.specs.Parting.{AreParted, IsBehind, IsParting};
+ghost use Rattle.gr_lanes.specs.Remembered.{IsAllRemembered, IsRemembered, forgotten_of};
+ghost use Rattle.gr_races.specs.Parting.{AreParted, HasDivergent, IsBehind};
 
 use gr_lanes::instance::is_divergent;
 use gr_lanes::lanes::Lanes;
@@ -21,30 +21,48 @@ fn is_behind<A: Allocator>(lanes: &Lanes<A>, event: EventId, number: u32) -> boo
     }
 }
 
-/// Whether the first of two events stands behind the instance of this number, the second does not, and the instance is
-/// divergent.
-fn is_parting<A: Allocator>(lanes: &Lanes<A>, number: u32, first: EventId, second: EventId) -> bool
-    requires item { HasItem lanes.now.streams.sizes first.at }
+/// How many of its item's barriers an event stands behind: so many first ones.
+fn barriers_above<A: Allocator>(lanes: &Lanes<A>, event: EventId) -> u32
+    requires item { HasItem lanes.now.streams.sizes event.at }
     requires whole { IsAllRemembered lanes.now }
-    ensures { IsTrue result ↔ IsParting lanes.now.streams number first second }
+    ensures { (k : ℕ) → k < result ↔ IsBehind lanes.now.streams event k }
 {
-    if !is_behind(lanes, first, number) || is_behind(lanes, second, number) {
-        return false;
+    let (mut least, mut most) = (0, event.index);
+    while least < most {
+        let middle = least + (most - least) / 2;
+        if is_behind(lanes, event, middle) {
+            least = middle + 1;
+        } else {
+            most = middle;
+        }
     }
-    is_divergent(lanes, first.at.group, number)
+    least
 }
 
-/// Whether a divergent instance stands between two events.
+/// Whether an instance of a group's barriers, from one number to below another, is divergent.
+/// Requires: none of them is forgotten.
+fn has_divergent<A: Allocator>(lanes: &Lanes<A>, group: u16, from: u32, to: u32) -> bool
+    requires group { group < length lanes.now.streams.sizes }
+    requires remembered { (k : ℕ) → k < to → forgotten_of lanes.now group ≤ k }
+    ensures { IsTrue result ↔ HasDivergent lanes.now.streams group from to }
+{
+    for number in from..to {
+        if is_divergent(lanes, group, number) {
+            return true;
+        }
+    }
+    false
+}
+
+/// Whether a divergent instance stands between two events. It looks at no other instances.
 pub(crate) fn are_parted<A: Allocator>(lanes: &Lanes<A>, first: EventId, second: EventId) -> bool
     requires first { HasItem lanes.now.streams.sizes first.at }
     requires second { HasItem lanes.now.streams.sizes second.at }
     requires whole { IsAllRemembered lanes.now }
     ensures { IsTrue result ↔ AreParted lanes.now.streams first second }
 {
-    for number in 0..first.index.max(second.index) {
-        if is_parting(lanes, number, first, second) || is_parting(lanes, number, second, first) {
-            return true;
-        }
-    }
-    false
+    let above_first = barriers_above(lanes, first);
+    let above_second = barriers_above(lanes, second);
+    has_divergent(lanes, first.at.group, above_second, above_first)
+        || has_divergent(lanes, second.at.group, above_first, above_second)
 }

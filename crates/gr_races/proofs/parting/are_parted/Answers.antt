@@ -1,24 +1,30 @@
-use Rattle.std.proofs.Common.{◌∙◌, arith, below_more, sym, true≢false, ⊎_elim}
-use Rattle.std.proofs.Math.Nat.{le-max_left, le-max_right}
-use Rattle.gr_races.proofs.PartingLemmas.{number_below}
+use Rattle.std.proofs.Common.{◌∙◌, inl, inr, sym, true≢false, ⊎_elim}
+use Rattle.gr_races.proofs.PartingLemmas.{is_parting, parting_is}
 use Rattle.gr_races.proofs.parting.are_parted.Goals as goal
 
-pub loop-number-preserved : goal.loop-number-preserved
-loop-number-preserved g c =
-    below_more _ _ c.loop-number.invariant (λ either. ⊎_elim
-    (λ parting. true≢false (sym (c.is_parting.ensures.1 parting) ∙ c.if-is_parting.false))
-    (λ parting. true≢false (sym (c.is_parting-else-is_parting.ensures.1 parting) ∙ c.if-is_parting-2.false))
-    either)
+pub has_divergent-requires-clause-remembered : goal.has_divergent-requires-clause-remembered
+has_divergent-requires-clause-remembered g c = λ k below. let behind = (c.barriers_above-above_first.ensures k).0 below in c.requires.whole c.args.first.at k behind.0 behind.1
 
-pub returns : goal.returns
-returns g c =
+pub has_divergent-requires-else-has_divergent-clause-remembered : goal.has_divergent-requires-else-has_divergent-clause-remembered
+has_divergent-requires-else-has_divergent-clause-remembered g c = λ k below. let behind = (c.barriers_above-above_second.ensures k).0 below in c.requires.whole c.args.second.at k behind.0 behind.1
+
+pub returns-then-has_divergent : goal.returns-then-has_divergent
+returns-then-has_divergent g c =
+    let p = is_parting c.args.lanes.now.streams c.args.first c.args.second c.barriers_above-above_first.result c.barriers_above-above_second.result c.barriers_above-above_first.ensures c.barriers_above-above_second.ensures (c.has_divergent.ensures.0 c.if-has_divergent.true) in
+    (λ is. (p.0, inl p.1), λ h. c.if-has_divergent.true)
+
+pub returns-else-has_divergent : goal.returns-else-has_divergent
+returns-else-has_divergent g c =
+    let s = c.args.lanes.now.streams in
     let e = c.args.first in
     let f = c.args.second in
-    let first = le-max_left e.index f.index in
-    let second = le-max_right e.index f.index in (
-      λ no. absurd (true≢false (sym no)),
+    let m = c.barriers_above-above_first.result in
+    let n = c.barriers_above-above_second.result in
+    let of_e = c.barriers_above-above_first.ensures in
+    let of_f = c.barriers_above-above_second.ensures in (
+      λ is. let p = is_parting s f e n m of_f of_e (c.has_divergent-else-has_divergent.ensures.0 is) in (p.0, inr p.1),
       λ h. ⊎_elim
-          (λ parting. let below = number_below c.args.lanes.now.streams e h.0 parting.behind in absurd (c.loop-number.invariant h.0 (omega (arith, below, first, c.max-number-end.ensures, c.loop-number-test.false)) h.1))
-          (λ parting. let below = number_below c.args.lanes.now.streams f h.0 parting.behind in absurd (c.loop-number.invariant h.0 (omega (arith, below, second, c.max-number-end.ensures, c.loop-number-test.false)) h.1))
+          (λ first. absurd (true≢false (sym (c.has_divergent.ensures.1 (parting_is s e f m n of_e of_f h.0 first)) ∙ c.if-has_divergent.false)))
+          (λ second. c.has_divergent-else-has_divergent.ensures.1 (parting_is s f e n m of_f of_e h.0 second))
           h.1,
     )
