@@ -1,11 +1,11 @@
 -- What several releases left, in each memory.
-use Rattle.std.proofs.Common.{◌≡◌, ◌≢◌, ℕ, zero, suc, None, Some, slice_get, ◌<◌, ◌≤◌, max, if◌then◌else◌, ◌++◌, true, false, All, List, [], ◌∷◌, filter, map, length, get_or, refl, sym, ◌∙◌, ap, subst, arith}
+use Rattle.std.proofs.Common.{◌≡◌, ◌≢◌, ℕ, zero, suc, None, Some, slice_get, ◌<◌, ◌≤◌, max, ◌++◌, true, false, All, List, [], ◌∷◌, map, length, get_or, refl, sym, ◌∙◌, ap, subst, arith}
 use Rattle.std.proofs.lemmas.List.{get_or-map, length-map}
+use Rattle.std.proofs.lemmas.List.Elements.{All-tail}
 use Rattle.gr_model.specs.declared.event.Space.{Space}
 use Rattle.gr_model.specs.declared.event.Space.TheVariants.{Global, Local}
 use Rattle.gr_model.specs.declared.event.ItemId.{ItemId}
 use Rattle.gr_model.specs.declared.event.Word.{Word}
-use Rattle.gr_model.specs.declared.event.Word.TheVariants.{Global as GlobalWord, Local as LocalWord}
 use Rattle.gr_model.specs.Access.{memory_of}
 use Rattle.gr_clocks.specs.declared.clock.TheConstants.{LARGEST_COUNT}
 use Rattle.gr_clocks.specs.Counts.{Counts, count_of, greatest_count}
@@ -13,16 +13,10 @@ use Rattle.gr_clocks.specs.Tables.{ClockTable, TicksItem, LearnsAndTicks}
 use Rattle.gr_clocks.specs.ItemClocks.{ItemClocks, ReleaseClock, Acquires, AreOfOneWord, AreSpent, Ticks, clocks_in, clocks_left, clocks_of, is_in}
 
 in_its_memory : (m : Space) (w : Word) → m ≡ memory_of w → is_in m w ≡ true
-in_its_memory Global (GlobalWord w) same = refl
-in_its_memory Global (LocalWord g w) same = cc
-in_its_memory Local (GlobalWord w) same = cc
-in_its_memory Local (LocalWord g w) same = refl
+in_its_memory m w same = grind arith
 
 in_no_other : (m : Space) (w : Word) → m ≢ memory_of w → is_in m w ≡ false
-in_no_other Global (GlobalWord w) other = absurd (other refl)
-in_no_other Global (LocalWord g w) other = refl
-in_no_other Local (GlobalWord w) other = refl
-in_no_other Local (LocalWord g w) other = absurd (other refl)
+in_no_other m w other = grind arith
 
 -- ---- releases on words of one memory
 
@@ -30,36 +24,22 @@ module _ {X : Type 0} (release : X → ReleaseClock) where
   abbrev clocks : List X → List Counts
   clocks xs = map (λ x. (release x).clock) xs
 
-  tail_of : (P : X → Type 0) (x : X) (xs : List X) → All P (x ∷ xs) → All P xs
-  tail_of P x xs all k d below = all (suc k) d (omega (arith, below))
-
   pub left_all : (m : Space) (xs : List X) → All (λ x. m ≡ memory_of (release x).word) xs → clocks_left m (map release xs) ≡ clocks xs
   left_all m [] all = refl
   left_all m (x ∷ xs) all =
-      let here = in_its_memory m (release x).word (all 0 x (omega arith)) in
-      let rest = left_all m xs (tail_of (λ y. m ≡ memory_of (release y).word) x xs all) in
-      rw here (ap (λ (cs : List Counts). (release x).clock ∷ cs) rest)
+      rw (in_its_memory m (release x).word (all 0 x (omega arith))) (ap (λ (cs : List Counts). (release x).clock ∷ cs) (left_all m xs (All-tail (λ y. m ≡ memory_of (release y).word) x xs all)))
 
   pub left_none : (m : Space) (xs : List X) → All (λ x. m ≢ memory_of (release x).word) xs → clocks_left m (map release xs) ≡ []
   left_none m [] all = refl
   left_none m (x ∷ xs) all =
-      let away = in_no_other m (release x).word (all 0 x (omega arith)) in
-      let rest = left_none m xs (tail_of (λ y. m ≢ memory_of (release y).word) x xs all) in
-      rw away rest
+      rw (in_no_other m (release x).word (all 0 x (omega arith))) (left_none m xs (All-tail (λ y. m ≢ memory_of (release y).word) x xs all))
 
   -- all are on the word of the first
   pub word_of_first : (xs : List X) (first : X) → slice_get xs 0 ≡ Some first → AreOfOneWord (map release xs) → All (λ x. (release x).word ≡ (release first).word) xs
   word_of_first [] first is one k d below = absurd (omega (arith, below))
-  word_of_first (y ∷ xs) first is one k d below =
-      let same : y ≡ first = cc in
-      subst (λ x. (release (get_or (y ∷ xs) k d)).word ≡ (release x).word) same (by_place k below)
-    where
-      by_place : (k : ℕ) → k < length (y ∷ xs) → (release (get_or (y ∷ xs) k d)).word ≡ (release y).word
-      by_place zero below = refl
-      by_place (suc k) below =
-          let there : k < length xs = omega (arith, below) in
-          let at : get_or (map release xs) k (release d) ≡ release (get_or xs k d) = get_or-map release xs k d (release d) there in
-          ap (λ (r : ReleaseClock). r.word) (sym at) ∙ one k (release d) (let size = length-map xs release in omega (arith, there, size))
+  word_of_first (y ∷ xs) first is one zero d below = cc
+  word_of_first (y ∷ xs) first is one (suc k) d below =
+      grind (arith, one k (release d), get_or-map release xs k d (release d), length-map xs release)
 
   pub none_first : (xs : List X) → slice_get xs 0 ≡ None → map release xs ≡ []
   none_first [] none = refl
@@ -74,41 +54,24 @@ module _ {X : Type 0} (release : X → ReleaseClock) where
   pub none_spent : (xs : List X) (i : ItemId) → All (λ x. count_of (release x).clock i ≢ LARGEST_COUNT) xs → ¬ AreSpent (map release xs) i
   none_spent [] i room (k, r, below, at, full) = absurd (omega (arith, below))
   none_spent (x ∷ xs) i room (zero, r, below, at, full) = room 0 x (omega arith) (ap (λ (s : ReleaseClock). count_of s.clock i) at ∙ full)
-  none_spent (x ∷ xs) i room (suc k, r, below, at, full) = none_spent xs i (tail_of (λ y. count_of (release y).clock i ≢ LARGEST_COUNT) x xs room) (k, r, omega (arith, below), at, full)
+  none_spent (x ∷ xs) i room (suc k, r, below, at, full) = none_spent xs i (All-tail (λ y. count_of (release y).clock i ≢ LARGEST_COUNT) x xs room) (k, r, omega (arith, below), at, full)
 
 -- ---- what releases count together in a memory
 
 -- one release more, on a word of the memory or of the other
 pub left_here : (m : Space) (releases : List ReleaseClock) (r : ReleaseClock) (j : ItemId) → m ≡ memory_of r.word → greatest_count (clocks_left m (releases ++ r ∷ [])) j ≡ max (greatest_count (clocks_left m releases) j) (count_of r.clock j)
-left_here m [] r j same = rw (in_its_memory m r.word same) (omega arith)
-left_here m (x ∷ releases) r j same =
-    let rest = left_here m releases r j same in
-    elim (is_in m x.word) as (λ b. greatest_count (map (λ (s : ReleaseClock). s.clock) (if b then x ∷ filter (λ s. is_in m s.word) (releases ++ r ∷ []) else filter (λ s. is_in m s.word) (releases ++ r ∷ []))) j ≡ max (greatest_count (map (λ (s : ReleaseClock). s.clock) (if b then x ∷ filter (λ s. is_in m s.word) releases else filter (λ s. is_in m s.word) releases)) j) (count_of r.clock j)) [
-      | true ↦ omega (arith, rest)
-      | false ↦ rest
-    ]
+left_here m [] r j same = grind (arith, in_its_memory m r.word)
+left_here m (x ∷ releases) r j same = grind (arith, left_here m releases r j same)
 
 pub left_elsewhere : (m : Space) (releases : List ReleaseClock) (r : ReleaseClock) (j : ItemId) → m ≢ memory_of r.word → greatest_count (clocks_left m (releases ++ r ∷ [])) j ≡ greatest_count (clocks_left m releases) j
-left_elsewhere m [] r j other = rw (in_no_other m r.word other) refl
-left_elsewhere m (x ∷ releases) r j other =
-    let rest = left_elsewhere m releases r j other in
-    elim (is_in m x.word) as (λ b. greatest_count (map (λ (s : ReleaseClock). s.clock) (if b then x ∷ filter (λ s. is_in m s.word) (releases ++ r ∷ []) else filter (λ s. is_in m s.word) (releases ++ r ∷ []))) j ≡ greatest_count (map (λ (s : ReleaseClock). s.clock) (if b then x ∷ filter (λ s. is_in m s.word) releases else filter (λ s. is_in m s.word) releases)) j) [
-      | true ↦ omega (arith, rest)
-      | false ↦ rest
-    ]
+left_elsewhere m [] r j other = grind (arith, in_no_other m r.word)
+left_elsewhere m (x ∷ releases) r j other = grind (arith, left_elsewhere m releases r j other)
 
 -- they count together what one of them does
 pub left_counted : (releases : List ReleaseClock) (j : ItemId) (k : ℕ) (r : ReleaseClock) → k < length releases → get_or releases k r ≡ r → count_of r.clock j ≤ greatest_count (clocks_left (memory_of r.word) releases) j
 left_counted [] j k r below at = absurd (omega (arith, below))
-left_counted (x ∷ releases) j zero r below at =
-    subst (λ (y : ReleaseClock). count_of y.clock j ≤ greatest_count (clocks_left (memory_of y.word) (x ∷ releases)) j) at
-    (rw (in_its_memory (memory_of x.word) x.word refl) (omega arith))
-left_counted (x ∷ releases) j (suc k) r below at =
-    let rest = left_counted releases j k r (omega (arith, below)) at in
-    elim (is_in (memory_of r.word) x.word) as (λ b. count_of r.clock j ≤ greatest_count (map (λ (s : ReleaseClock). s.clock) (if b then x ∷ filter (λ s. is_in (memory_of r.word) s.word) releases else filter (λ s. is_in (memory_of r.word) s.word) releases)) j) [
-      | true ↦ omega (arith, rest)
-      | false ↦ rest
-    ]
+left_counted (x ∷ releases) j zero r below at = grind (arith, in_its_memory (memory_of r.word) r.word)
+left_counted (x ∷ releases) j (suc k) r below at = grind (arith, left_counted releases j k r)
 
 -- ---- an acquire, from what it does in each memory
 

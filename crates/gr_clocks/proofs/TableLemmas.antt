@@ -1,7 +1,7 @@
 -- The clocks of items in a table: what is read, and what is written at an item or a group.
-use Rattle.std.proofs.Common.{◌≡◌, ◌≢◌, ◌⊎◌, inl, inr, ℕ, suc, ◌+◌, ◌<◌, ◌≤◌, max, Bool, true, false, List, [], ◌∷◌, ◌++◌, map, length, slice_index, get_or, set, All, refl, sym, ◌∙◌, ap, subst, arith, ⊎_elim}
-use Rattle.std.proofs.lemmas.Bool.{cases_eq, cases_lt}
-use Rattle.std.proofs.lemmas.List.{length-map, length-set, length_push, map-append, map-set, get_or-set_same, get_or-set_other, get_or_read, get_or_push, get_or_append_left, ext_get_or}
+use Rattle.std.proofs.Common.{◌≡◌, ◌≢◌, ℕ, zero, suc, ◌+◌, ◌<◌, ◌≤◌, All, Bool, true, false, List, [], ◌∷◌, ◌++◌, map, length, slice_index, get_or, set, refl, sym, ◌∙◌, ap, subst, arith}
+use Rattle.std.proofs.lemmas.Grind.{get_or-set_at}
+use Rattle.std.proofs.lemmas.List.{length-map, length-set, length_push, map-append, map-set, get_or-set_same, get_or-set_other, get_or_read, get_or_push, get_or_append_left, ext_get_or, nil_from_length}
 use Rattle.std.proofs.Math.ListN.{get_or-map}
 use Rattle.std.proofs.Math.Seq.{map-set_same}
 use Rattle.gr_model.specs.declared.event.ItemId.{ItemId}
@@ -9,15 +9,14 @@ use Rattle.gr_model.specs.Groups.{put}
 use Rattle.gr_model.specs.Shapes.{HasItem}
 use Rattle.gr_model.proofs.PutLemmas.{map_put, put_behind, put_other, put_same, put_within}
 use Rattle.gr_clocks.specs.declared.clock.TheConstants.{LARGEST_COUNT}
-use Rattle.gr_clocks.specs.Counts.{Counts, count_of, greatest_count, tick_at, CountsOneMore, IsZero, IsJoinOfAll}
-use Rattle.gr_clocks.specs.Groups.{item_of, greatest, GroupClocks, no_group, with_clock, IsShared, IsGrown, IsSameGroup, IsBehind}
+use Rattle.gr_clocks.specs.Counts.{Counts, count_of, greatest_count, tick_at, CountsOneMore, IsJoinOfAll}
+use Rattle.gr_clocks.specs.Groups.{item_of, GroupClocks, no_group, with_clock, IsShared, IsGrown, IsSameGroup, IsBehind}
 use Rattle.gr_clocks.specs.Tables.{AddsItems, ClockTable, clock_at, group_at, table_of, AreGroups, MeetsGroup, AreZero, TicksItem, IsTickOfJoin, LearnsAndTicks}
-use Rattle.gr_clocks.proofs.RowLemmas.{row_size, row_of_item, entry_same, entry_other}
+use Rattle.gr_clocks.proofs.RowLemmas.{each_push, row_size, row_of_item, entry_same, entry_other}
 
-same_group : (x y : GroupClocks) → x.number ≡ y.number → x.clocks ≡ y.clocks → x ≡ y
-same_group x y number clocks =
-    ap (λ (n : ℕ). let g : GroupClocks = record { number = n; clocks = x.clocks } in g) number ∙
-    ap (λ (cs : List Counts). let g : GroupClocks = record { number = y.number; clocks = cs } in g) clocks
+-- groups that have their places for their numbers
+numbered : (groups : List GroupClocks) (p : ℕ) → (get_or groups p no_group).number ≡ p → get_or groups p no_group ≡ group_at (table_of groups) p
+numbered groups p is = let row = get_or-map (λ (g : GroupClocks). g.clocks) groups p no_group in λ d. record { number = is d; clocks = sym row d }
 
 -- ---- a table without groups
 
@@ -43,25 +42,10 @@ module _ (groups : List GroupClocks) (t : ClockTable) (are : AreGroups groups) (
     pub put_table : table_of (set groups p y) ≡ set t p y.clocks
     put_table = map-set (λ g. g.clocks) groups p y ∙ ap (λ (u : ClockTable). set u p y.clocks) is
 
-    put_sizes : map length (set t p y.clocks) ≡ map length t
-    put_sizes = map-set_same length t p y.clocks [] same.size
-
-    put_here : y ≡ group_at (set t p y.clocks) p
-    put_here = same_group y (group_at (set t p y.clocks) p) same.number (sym (get_or-set_same t p y.clocks [] there))
-
-    others_stay : (q : ℕ) → (q ≡ p → ⊥) → group_at t q ≡ group_at (set t p y.clocks) q
-    others_stay q apart = same_group (group_at t q) (group_at (set t p y.clocks) q) refl (sym (get_or-set_other t p q y.clocks [] apart))
-
     pub put_groups : AreGroups (set groups p y)
     put_groups q within =
-        let in_groups : p < length groups = subst (λ (n : ℕ). p < n) (sym table_length) there in
-        ⊎_elim
-        (λ (here : q ≡ p).
-        subst (λ (n : ℕ). get_or (set groups p y) n no_group ≡ group_at (table_of (set groups p y)) n) (sym here)
-        (get_or-set_same groups p y no_group in_groups ∙ put_here ∙ ap (λ (u : ClockTable). group_at u p) (sym put_table)))
-        (λ (apart : q ≡ p → ⊥).
-        get_or-set_other groups p q y no_group apart ∙ are q (subst (λ (n : ℕ). q < n) (length-set groups p y) within) ∙ ap (λ (u : ClockTable). group_at u q) is ∙ others_stay q apart ∙ ap (λ (u : ClockTable). group_at u q) (sym put_table))
-        (cases_eq q p)
+        let same_number = same.number in
+        numbered (set groups p y) q (grind (arith, get_or-set_at, get_or-set_other, length-set groups p y, table_length, λ (below : q < length groups). ap (λ (g : GroupClocks). g.number) (are q below)))
 
   -- a group is put there that has another clock for one item
   module _ (i : ItemId) (x y : GroupClocks) (clock : Counts) (has : HasItem (map length t) i) (reads : x ≡ get_or groups i.group x) (written : y ≡ with_clock x i.item clock) where
@@ -101,45 +85,22 @@ module _ (old new : ClockTable) (i : ItemId) (clock : Counts) (has : HasItem (ma
 pub tick_grows : (mine : Counts) (theirs : List Counts) (i : ItemId) (after : Counts) → IsTickOfJoin mine theirs i after → IsGrown mine after
 tick_grows mine theirs i after tick = record { counts = λ j. let at = tick.counts j in omega arith }
 
--- a tick after joins
-pub tick_of_join : (mine : Counts) (theirs : List Counts) (joined : Counts) (i : ItemId) (after : Counts) → IsJoinOfAll mine theirs joined → CountsOneMore joined i after → IsTickOfJoin mine theirs i after
-tick_of_join mine theirs joined i after join tick = record {
-  counts = λ j. tick.counts j ∙ ap (λ (n : ℕ). n + tick_at i j) (join.counts j);
-}
-
-max_cases : (m n x : ℕ) → x ≡ max m n → (x ≡ m) ⊎ (x ≡ n)
-max_cases m n x e =
-    ⊎_elim
-    (λ (lt : m < n). inr (let same : x ≡ n = omega arith in same))
-    (λ (le : n ≤ m). inl (let same : x ≡ m = omega arith in same))
-    (cases_lt m n)
-
 -- where none of them is full, the greatest of their counts is not the largest there is
 greatest_has_room : {X : Type 0} (clock : X → Counts) (theirs : List X) (i : ItemId) → All (λ x. count_of (clock x) i ≢ LARGEST_COUNT) theirs → greatest_count (map clock theirs) i ≢ LARGEST_COUNT
 greatest_has_room clock [] i room full = absurd (omega (arith, full))
 greatest_has_room clock (x ∷ theirs) i room full =
-    ⊎_elim
-    (λ (same : greatest_count (map clock (x ∷ theirs)) i ≡ count_of (clock x) i). room 0 x (omega arith) (sym same ∙ full))
-    (λ (same : greatest_count (map clock (x ∷ theirs)) i ≡ greatest_count (map clock theirs) i). greatest_has_room clock theirs i (λ k d below. room (suc k) d (omega (arith, below))) (sym same ∙ full))
-    (max_cases (count_of (clock x) i) (greatest_count (map clock theirs) i) (greatest_count (map clock (x ∷ theirs)) i) refl)
+    grind (arith, room 0 x, greatest_has_room clock theirs i (λ k d below. room (suc k) d (omega (arith, below))))
 
 -- where none is full, their join has room
 pub join_has_room : {X : Type 0} (clock : X → Counts) (mine : Counts) (theirs : List X) (joined : Counts) (i : ItemId) → IsJoinOfAll mine (map clock theirs) joined → count_of mine i ≢ LARGEST_COUNT → All (λ x. count_of (clock x) i ≢ LARGEST_COUNT) theirs → count_of joined i ≢ LARGEST_COUNT
 join_has_room clock mine theirs joined i join mine_room their_room full =
-    ⊎_elim
-    (λ (same : count_of joined i ≡ count_of mine i). mine_room (sym same ∙ full))
-    (λ (same : count_of joined i ≡ greatest_count (map clock theirs) i). greatest_has_room clock theirs i their_room (sym same ∙ full))
-    (max_cases (count_of mine i) (greatest_count (map clock theirs) i) (count_of joined i) (join.counts i))
+    grind (arith, join.counts i, greatest_has_room clock theirs i their_room)
 
 -- ---- new clocks
 
 pub shared_more : (met : Counts) (size : ℕ → ℕ) (n : ℕ) (groups more : List GroupClocks) (x : GroupClocks) → length groups ≡ n → ((p : ℕ) → p < n → IsShared met p (size p) (get_or groups p no_group)) → IsShared met n (size n) x → more ≡ groups ++ x ∷ [] → (p : ℕ) → p < n + 1 → IsShared met p (size p) (get_or more p no_group)
-shared_more met size n groups more x count each last is p below =
-    subst (λ (gs : List GroupClocks). IsShared met p (size p) (get_or gs p no_group)) (sym is)
-    (⊎_elim
-    (λ (same : p ≡ n). subst (IsShared met p (size p)) (sym (get_or_push groups x no_group p (count ∙ sym same))) (subst (λ (m : ℕ). IsShared met m (size m) x) (sym same) last))
-    (λ (apart : p ≡ n → ⊥). subst (IsShared met p (size p)) (sym (get_or_append_left groups (x ∷ []) no_group p (omega arith))) (each p (omega arith)))
-    (cases_eq p n))
+shared_more met size n groups more x count each last is =
+    each_push (λ p. IsShared met p (size p)) no_group groups more x n count each last is
 
 -- groups that share a clock which has counted nothing
 module _ (sizes : List ℕ) (zero : Counts) (groups : List GroupClocks) (is_zero : (j : ItemId) → count_of zero j ≡ 0) (count : length groups ≡ length sizes) (shared : (p : ℕ) → p < length sizes → IsShared zero p (slice_index sizes p) (get_or groups p no_group)) where
@@ -155,9 +116,7 @@ module _ (sizes : List ℕ) (zero : Counts) (groups : List GroupClocks) (is_zero
       ext_get_or 0 (map length (table_of groups)) sizes whole (λ p there. row_size (table_of groups) p ∙ zero_row p (subst (λ (n : ℕ). p < n) whole there))
 
   pub zero_groups : AreGroups groups
-  zero_groups p within =
-      let is = shared p (subst (λ (n : ℕ). p < n) count within) in
-      same_group (get_or groups p no_group) (group_at (table_of groups) p) is.number (sym (row_is p))
+  zero_groups p within = numbered groups p (shared p (omega (arith, within, count))).number
 
   pub zero_table : AreZero sizes (table_of groups)
   zero_table = record {
@@ -171,31 +130,22 @@ module _ (sizes : List ℕ) (zero : Counts) (groups : List GroupClocks) (is_zero
 -- ---- a barrier
 
 pub meets_group : (group : ℕ) (orders : Bool) (old new : ClockTable) (y : GroupClocks) → group < length old → IsBehind (group_at old group) orders y → new ≡ set old group y.clocks → MeetsGroup old group orders new
-meets_group group orders old new y there behind is =
-    let others : (j : ItemId) → j.group ≢ group → clock_at new j ≡ clock_at old j = λ j other. ap (λ (t : ClockTable). clock_at t j) is ∙ ap (λ (row : List Counts). get_or row j.item []) (get_or-set_other old group j.group y.clocks [] other) in
-    let row : get_or new group [] ≡ y.clocks = ap (λ (t : ClockTable). get_or t group []) is ∙ get_or-set_same old group y.clocks [] there in
-    let size = row_size old group in
-    let shape : length y.clocks ≡ length (get_or old group []) → map length new ≡ map length old = λ same. ap (λ (t : ClockTable). map length t) is ∙ map-set_same length old group y.clocks [] same in
-    elim orders as (λ b. IsBehind (group_at old group) b y → MeetsGroup old group b new) [
-      | true ↦ λ met. record {
-        shape = shape met.same.size;
-        counts = λ k j below.
-            let within : k < length (get_or old group []) = subst (λ (n : ℕ). k < n) size below in
-            let f = λ (m : ℕ). count_of (clock_at old (item_of group m)) j + tick_at (item_of group m) j in
-            ap (λ (cs : List Counts). count_of (get_or cs k []) j) row ∙ (met.each k within).counts j ∙ ap (λ (n : ℕ). greatest n f) (sym size);
-        others = others;
-      }
-      | false ↦ λ ticked. record {
-        shape = shape ticked.same.size;
-        items = λ k below.
-            let within : k < length (get_or old group []) = subst (λ (n : ℕ). k < n) size below in
-            subst (λ (cs : List Counts). CountsOneMore (get_or (get_or old group []) k []) (item_of group k) (get_or cs k [])) (sym row) (ticked.each k within);
-        others = others;
-      }
-    ] behind
+meets_group group true old new y there met is = rw is (record {
+  shape = map-set_same length old group y.clocks [] met.same.size;
+  counts = λ k j below.
+      let f = λ (m : ℕ). count_of (clock_at old (item_of group m)) j + tick_at (item_of group m) j in
+      rw (get_or-set_same old group y.clocks [] there, row_size old group) ((met.each k (omega (arith, below, row_size old group))).counts j);
+  others = λ j other. grind (arith, get_or-set_other);
+})
+meets_group group false old new y there ticked is = rw is (record {
+  shape = map-set_same length old group y.clocks [] ticked.same.size;
+  items = λ k below. rw (get_or-set_same old group y.clocks [] there) (ticked.each k (omega (arith, below, row_size old group)));
+  others = λ j other. grind (arith, get_or-set_other);
+})
 
 pub behind_same : (g : GroupClocks) (orders : Bool) (y : GroupClocks) → IsBehind g orders y → IsSameGroup g y
-behind_same g orders y behind = elim orders as (λ b. IsBehind g b y → IsSameGroup g y) [ true ↦ λ met. met.same | false ↦ λ ticked. ticked.same ] behind
+behind_same g true y met = met.same
+behind_same g false y ticked = ticked.same
 
 -- ---- a group gets its items
 
@@ -204,34 +154,13 @@ pub record Reaches (t : ClockTable) (group : ℕ) (groups : List GroupClocks) : 
   pub are : AreGroups groups
   pub same : (row : List Counts) → put [] (table_of groups) group row ≡ put [] t group row
 
-table_push : (groups : List GroupClocks) (x : GroupClocks) → table_of (groups ++ x ∷ []) ≡ table_of groups ++ x.clocks ∷ []
-table_push groups x = map-append (λ (g : GroupClocks). g.clocks) groups (x ∷ [])
-
 pub reaches_more : (t : ClockTable) (group n : ℕ) (groups more : List GroupClocks) (x : GroupClocks) → length groups ≡ n → n ≤ group → Reaches t group groups → x.number ≡ n → length x.clocks ≡ 0 → more ≡ groups ++ x ∷ [] → Reaches t group more
 reaches_more t group n groups more x size below reaches number none is = record {
-  are = λ p within. subst (λ (gs : List GroupClocks). get_or gs p no_group ≡ group_at (table_of gs) p) (sym is)
-      (⊎_elim
-      (λ (same : p ≡ n). get_or_push groups x no_group p (size ∙ sym same) ∙ same_group x (group_at (table_of (groups ++ x ∷ [])) p) (number ∙ sym same) (sym (row_is (groups ++ x ∷ []) p ∙ ap (λ (g : GroupClocks). g.clocks) (get_or_push groups x no_group p (size ∙ sym same)))))
-      (λ (apart : p ≡ n → ⊥).
-      let count = length_push groups x in
-      let lengths : length more ≡ length (groups ++ x ∷ []) = ap length is in
-      let there : p < length groups = omega (arith, within, apart, size, count, lengths) in
-      let here = get_or_append_left groups (x ∷ []) no_group p there in
-      here ∙ same_group (get_or groups p no_group) (group_at (table_of (groups ++ x ∷ [])) p) (ap (λ (g : GroupClocks). g.number) (reaches.are p there)) (sym (row_is (groups ++ x ∷ []) p ∙ ap (λ (g : GroupClocks). g.clocks) here)))
-      (cases_eq p n));
+  are = λ p within. numbered more p (grind (arith, get_or_push, get_or_append_left, length_push, λ (there : p < length groups). ap (λ (g : GroupClocks). g.number) (reaches.are p there)));
   same = λ row.
-      let nothing : x.clocks ≡ [] = empty x.clocks none in
-      let pushed : table_of more ≡ table_of groups ++ [] ∷ [] = ap table_of is ∙ table_push groups x ∙ ap (λ (cs : List Counts). table_of groups ++ cs ∷ []) nothing in
-      let over : length (table_of groups) ≤ group = omega (arith, length-map groups (λ (g : GroupClocks). g.clocks), size, below) in
-      ap (λ (u : ClockTable). put [] u group row) pushed ∙ put_behind [] (table_of groups) group row over ∙ reaches.same row;
+      let pushed : table_of more ≡ table_of groups ++ [] ∷ [] = ap table_of is ∙ map-append (λ (g : GroupClocks). g.clocks) groups (x ∷ []) ∙ ap (λ (cs : List Counts). table_of groups ++ cs ∷ []) (nil_from_length x.clocks none) in
+      rw pushed (put_behind [] (table_of groups) group row (omega (arith, length-map groups (λ (g : GroupClocks). g.clocks))) ∙ reaches.same row);
 }
-  where
-    row_is : (gs : List GroupClocks) (p : ℕ) → get_or (table_of gs) p [] ≡ (get_or gs p no_group).clocks
-    row_is gs p = get_or-map (λ (g : GroupClocks). g.clocks) gs p no_group
-
-    empty : (cs : List Counts) → length cs ≡ 0 → cs ≡ []
-    empty [] none = refl
-    empty (c ∷ cs) none = absurd (omega (arith, none))
 
 module _ (t : ClockTable) (group n : ℕ) (groups : List GroupClocks) (x : GroupClocks) (reaches : Reaches t group groups) (there : group < length groups) (zero : Counts) (nothing : (j : ItemId) → count_of zero j ≡ 0) (shared : IsShared zero group n x) where
   added_table : table_of (set groups group x) ≡ put [] t group x.clocks
@@ -239,26 +168,13 @@ module _ (t : ClockTable) (group n : ℕ) (groups : List GroupClocks) (x : Group
       let within : group < length (table_of groups) = omega (arith, length-map groups (λ (g : GroupClocks). g.clocks), there) in
       map-set (λ (g : GroupClocks). g.clocks) groups group x ∙ sym (put_within [] (table_of groups) group x.clocks within) ∙ reaches.same x.clocks
 
-  row_of : (p : ℕ) → get_or (table_of (set groups group x)) p [] ≡ (get_or (set groups group x) p no_group).clocks
-  row_of p = get_or-map (λ (g : GroupClocks). g.clocks) (set groups group x) p no_group
-
   pub added_groups : AreGroups (set groups group x)
   added_groups p within =
-      ⊎_elim
-      (λ (here : p ≡ group).
-      let at : get_or (set groups group x) p no_group ≡ x = ap (λ (q : ℕ). get_or (set groups group x) q no_group) here ∙ get_or-set_same groups group x no_group there in
-      same_group (get_or (set groups group x) p no_group) (group_at (table_of (set groups group x)) p) (ap (λ (g : GroupClocks). g.number) at ∙ shared.number ∙ sym here) (sym (row_of p)))
-      (λ (apart : p ≡ group → ⊥).
-      let at : get_or (set groups group x) p no_group ≡ get_or groups p no_group = get_or-set_other groups group p x no_group apart in
-      let was = reaches.are p (subst (λ (m : ℕ). p < m) (length-set groups group x) within) in
-      same_group (get_or (set groups group x) p no_group) (group_at (table_of (set groups group x)) p) (ap (λ (g : GroupClocks). g.number) at ∙ ap (λ (g : GroupClocks). g.number) was) (sym (row_of p)))
-      (cases_eq p group)
+      numbered (set groups group x) p (grind (arith, get_or-set_at, get_or-set_other, length-set groups group x, shared.number, λ (below : p < length groups). ap (λ (g : GroupClocks). g.number) (reaches.are p below)))
 
   pub adds_items : AddsItems t group n (table_of (set groups group x))
   adds_items = record {
     shape = ap (λ (u : ClockTable). map length u) added_table ∙ map_put length [] t group x.clocks ∙ ap (put 0 (map length t) group) shared.size;
-    fresh = λ k j below.
-        let at : clock_at (table_of (set groups group x)) (item_of group k) ≡ get_or x.clocks k [] = ap (λ (u : ClockTable). clock_at u (item_of group k)) added_table ∙ ap (λ (cs : List Counts). get_or cs k []) (put_same [] t group x.clocks) in
-        ap (λ (c : Counts). count_of c j) at ∙ shared.each k (let size = shared.size in omega (arith, below, size)) j ∙ nothing j;
-    others = λ i apart. ap (λ (u : ClockTable). clock_at u i) added_table ∙ ap (λ (cs : List Counts). get_or cs i.item []) (put_other [] t group x.clocks i.group apart);
+    fresh = λ k j below. rw (added_table, put_same [] t group x.clocks) (shared.each k (omega (arith, below, shared.size)) j ∙ nothing j);
+    others = λ i apart. rw (added_table, put_other [] t group x.clocks i.group apart) refl;
   }

@@ -1,4 +1,4 @@
-use Rattle.std.proofs.Common.{◌≡◌, ◌≢◌, ◌∙◌, All, ap, arith, length, refl, subst, sym, take, ◌++◌, ◌∷◌, []}
+use Rattle.std.proofs.Common.{◌≢◌, ◌∙◌, All, ap, arith, refl, subst, sym, take, ◌++◌, ◌∷◌, []}
 use Rattle.std.proofs.lemmas.List.{get_or-map, length-map, take_all, take_more}
 use Rattle.std.proofs.lemmas.Bool.{false≢true}
 use Rattle.std.proofs.lemmas.List.Elements.{All-push}

@@ -1,4 +1,4 @@
-use Rattle.std.proofs.Common.{◌≡◌, ◌∙◌, List, ap, set, map}
+use Rattle.std.proofs.Common.{◌∙◌, List, ap, set}
 use Rattle.std.proofs.lemmas.List.{map-set}
 use Rattle.std.specs.Arc.{arc_value}
 use Rattle.gr_clocks.specs.Counts.{Counts}
