@@ -1,23 +1,17 @@
 -- One group's barriers: what a mark more changes.
-use Rattle.std.proofs.Common.{◌+◌, ◌≡◌, ℕ, ◌<◌, ◌≤◌, Bool, List, [], ◌∷◌, ◌++◌, map, length, get_or, set, Result, Ok, Err, OnErr, sym, ◌∙◌, ap, subst, arith, ⊎_elim, Vec}
-use Rattle.std.proofs.lemmas.Bool.{cases_eq}
-use Rattle.std.proofs.lemmas.List.{length_push, get_or-map, get_or-set_same, get_or-set_other, map-set, length-map, set-get_or}
+use Rattle.std.proofs.Common.{◌≡◌, ℕ, ◌+◌, ◌-◌, ◌<◌, ◌≤◌, Bool, List, [], ◌∷◌, ◌++◌, map, length, get_or, set, Result, Ok, Err, OnErr, Vec, sym, ◌∙◌, ap, subst, arith}
+use Rattle.std.proofs.lemmas.Grind.{get_or-set_at}
+use Rattle.std.proofs.lemmas.List.{length_push, get_or-map, get_or-set_other, map-set, length-map, set-get_or}
 use Rattle.gr_model.specs.declared.limits.TheConstants.{MOST_RECORDS}
 use Rattle.gr_model.specs.Instances.{Mark}
 use Rattle.gr_barriers.specs.Arrived.{GroupMarks, marks_at, AreFew}
 
 few_set : (marks : List (List Mark)) (i : ℕ) (xs : List Mark) → AreFew marks → i < length marks → length xs ≤ MOST_RECORDS → AreFew (set marks i xs)
-few_set marks i xs few there small q =
-    ⊎_elim
-    (λ (same : q ≡ i). subst (λ (n : ℕ). length (get_or (set marks i xs) n []) ≤ MOST_RECORDS) (sym same) (subst (λ (ys : List Mark). length ys ≤ MOST_RECORDS) (sym (get_or-set_same marks i xs [] there)) small))
-    (λ (other : q ≡ i → ⊥). subst (λ (ys : List Mark). length ys ≤ MOST_RECORDS) (sym (get_or-set_other marks i q xs [] other)) (few q))
-    (cases_eq q i)
+few_set marks i xs few there small q = grind (arith, get_or-set_at, get_or-set_other, few q)
 
 -- an item of the group that vectors are
 pub within : {Z : Type 0} (vs : List (Vec Mark Z)) (i : ℕ) (ended : Bool) (t : GroupMarks) → record { marks = map (λ v. v.items) vs; ended = ended } ≡ t → i < length t.marks → i < length vs
-within vs i ended t is there =
-    let size : length t.marks ≡ length (map (λ v. v.items) vs) = ap (λ (x : GroupMarks). length x.marks) (sym is) in
-    omega (arith, length-map vs (λ v. v.items))
+within vs i ended t is there = grind (arith, length-map vs (λ v. v.items))
 
 -- lists in vectors, of which one is read and another written in its place
 module _ {Z : Type 0} (vs : List (Vec Mark Z)) (i : ℕ) (there : i < length vs) (x : Vec Mark Z) (reads : x ≡ get_or vs i x) where

@@ -1,6 +1,5 @@
 -- The divergences of a launch, listed one instance after the other.
-use Rattle.std.proofs.Common.{◌≡◌, ◌⊎◌, ℕ, ◌+◌, ◌<◌, ◌≤◌, Bool, List, [], ◌∷◌, ◌++◌, refl, subst, inl, inr, ⊎_elim, arith}
-use Rattle.std.proofs.lemmas.Bool.{cases_eq, cases_lt}
+use Rattle.std.proofs.Common.{◌≡◌, ◌⊎◌, inl, inr, ℕ, ◌+◌, ◌<◌, ◌≤◌, Bool, List, [], ◌∷◌, ◌++◌, refl, subst, arith, ⊎_elim}
 use Rattle.gr_model.specs.declared.report.Divergence.{Divergence}
 use Rattle.gr_model.specs.declared.report.DivergenceCause.{DivergenceCause}
 use Rattle.gr_model.specs.Instances.{Arrivals, HasDivergenceCause, IsDivergentOf}
@@ -12,16 +11,10 @@ use Rattle.gr_barriers.proofs.Lists.{listed_push, listed_same}
 use Rattle.gr_barriers.proofs.SummaryLemmas.{nobody_diverges}
 
 before_more : (g k : ℕ) (d : Divergence) → IsBefore g k d → IsBefore g (k + 1) d
-before_more g k d (inl lower) = inl lower
-before_more g k d (inr here) = inr (here.0, let lt : d.instance < k + 1 = omega (arith, here.1) in lt)
+before_more g k d before = grind arith
 
 before_cases : (g k : ℕ) (d : Divergence) → IsBefore g (k + 1) d → IsBefore g k d ⊎ ((d.group ≡ g) × (d.instance ≡ k))
-before_cases g k d (inl lower) = inl (inl lower)
-before_cases g k d (inr here) =
-    ⊎_elim
-    (λ (same : d.instance ≡ k). inr (here.0, same))
-    (λ (other : d.instance ≡ k → ⊥). inl (inr (here.0, let lt : d.instance < k = omega (arith, here.1) in lt)))
-    (cases_eq d.instance k)
+before_cases g k d before = grind arith
 
 -- the divergences of groups that have ended or not, are of some size, and whose items brought this to their instances
 module _ (Is : Divergence → Type 0) where
@@ -57,24 +50,15 @@ module _ (Is : Divergence → Type 0) where
             λ i. record { group = group i; instance = instance i; cause = same i }
 
         below_this : (d : Divergence) → IsBefore g k d → DivergenceBelow d this
-        below_this d (inl lower) = inl lower
-        below_this d (inr here) = inr here
+        below_this d before = grind arith
 
     -- behind the last instance to which somebody came the group is done
     pub group_done : ((n : ℕ) → k ≤ n → NobodyCame (size g) (arrived g n)) → AreListedBefore Is (g + 1) 0 ds
     group_done none = listed_same DivergenceBelow (λ d. Is d × IsBefore g k d) (λ d. Is d × IsBefore (g + 1) 0 d) ds listed (λ d p. (p.0, earlier d p.1)) (λ d p. (p.0, later d p.0 p.1))
       where
         earlier : (d : Divergence) → IsBefore g k d → IsBefore (g + 1) 0 d
-        earlier d (inl lower) = inl (let lt : d.group < g + 1 = omega arith in lt)
-        earlier d (inr here) = inl (let lt : d.group < g + 1 = omega (arith, here.0) in lt)
+        earlier d before = grind arith
 
         later : (d : Divergence) → Is d → IsBefore (g + 1) 0 d → IsBefore g k d
-        later d is (inr past) = let over : d.instance < 0 = past.1 in absurd (omega arith)
-        later d is (inl lower) =
-            ⊎_elim
-            (λ (same : d.group ≡ g). ⊎_elim
-            (λ (lt : d.instance < k). inr (same, lt))
-            (λ (le : k ≤ d.instance). absurd (nobody_diverges (ended g) (size g) (arrived g d.instance) (none d.instance le) (diverges d is same)))
-            (cases_lt d.instance k))
-            (λ (other : d.group ≡ g → ⊥). inl (let lt : d.group < g = omega arith in lt))
-            (cases_eq d.group g)
+        later d is before =
+            grind (arith, λ (same : d.group ≡ g) (le : k ≤ d.instance). nobody_diverges (ended g) (size g) (arrived g d.instance) (none d.instance le) (diverges d is same))

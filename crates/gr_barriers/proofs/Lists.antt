@@ -1,5 +1,5 @@
 -- Lists in the making, and what one value more leaves of them.
-use Rattle.std.proofs.Common.{ℕ, ◌≤◌, ◌-◌, length, inl, inr, refl, ◌≡◌, ◌⊎◌, ◌<◌, List, [], ◌∷◌, ◌++◌, get_or, Contains, sym, subst, ⊎_elim, arith}
+use Rattle.std.proofs.Common.{ℕ, ◌≤◌, ◌-◌, length, inl, inr, refl, ◌≡◌, ◌⊎◌, ◌<◌, List, [], ◌∷◌, ◌++◌, get_or, arith}
 use Rattle.std.proofs.lemmas.List.Elements.{Contains-append_cases, Contains-append_left, Contains-append_right, Contains-get_or, Contains-push, Contains-push_cases}
 use Rattle.std.proofs.lemmas.Bool.{cases_lt}
 use Rattle.std.proofs.lemmas.List.{get_or-append_right, get_or_append_left, length-append}
@@ -24,11 +24,8 @@ pub listed_push : {X : Type 0} (Below : X → X → Type 0) (P Q : X → Type 0)
 listed_push {X} Below P Q xs new lists below this to from = record {
   ascending = all_pairs_push Below xs new lists.ascending (λ n d within. below (get_or xs n d) ((lists.exact (get_or xs n d)).0 (Contains-get_or xs n d within)));
   exact = λ x. (
-    λ in_more. ⊎_elim (λ (old : Contains xs x). to x ((lists.exact x).0 old)) (λ (same : new ≡ x). subst Q same this) (Contains-push_cases xs new x in_more),
-    λ q. ⊎_elim
-        (λ (p : P x). Contains-append_left xs (new ∷ []) x ((lists.exact x).1 p))
-        (λ (same : x ≡ new). subst (Contains (xs ++ new ∷ [])) (sym same) (Contains-push xs new))
-        (from x q),
+    λ in_more. grind (arith, lists.exact x, to x, Contains-push_cases xs new x in_more),
+    λ q. grind (arith, lists.exact x, from x q, Contains-append_left xs (new ∷ []), Contains-push xs new),
   );
 }
 
@@ -37,21 +34,17 @@ pub listed_append : {X : Type 0} (Below : X → X → Type 0) (P Q R : X → Typ
 listed_append {X} Below P Q R xs ys first second across to too from = record {
   ascending = λ i j d lt within. by_case i j d lt within (cases_lt j (length xs)) (cases_lt i (length xs));
   exact = λ x. (
-    λ in_both. ⊎_elim (λ (old : Contains xs x). to x ((first.exact x).0 old)) (λ (new : Contains ys x). too x ((second.exact x).0 new)) (Contains-append_cases xs ys x in_both),
-    λ is. ⊎_elim (λ (p : P x). Contains-append_left xs ys x ((first.exact x).1 p)) (λ (q : Q x). Contains-append_right xs ys x ((second.exact x).1 q)) (from x is),
+    λ in_both. grind (arith, first.exact x, second.exact x, to x, too x, Contains-append_cases xs ys x in_both),
+    λ is. grind (arith, first.exact x, second.exact x, from x is, Contains-append_left xs ys x, Contains-append_right xs ys x),
   );
 }
   where
     by_case : (i j : ℕ) (d : X) → i < j → j < length (xs ++ ys) → (j < length xs) ⊎ (length xs ≤ j) → (i < length xs) ⊎ (length xs ≤ i) → Below (get_or (xs ++ ys) i d) (get_or (xs ++ ys) j d)
-    by_case i j d lt within (inl left) either =
-        subst (λ y. Below (get_or (xs ++ ys) i d) y) (sym (get_or_append_left xs ys d j left))
-        (subst (λ x. Below x (get_or xs j d)) (sym (get_or_append_left xs ys d i (omega (arith, lt, left)))) (first.ascending i j d lt left))
+    by_case i j d lt within (inl left) either = rw (get_or_append_left xs ys d j left, get_or_append_left xs ys d i (omega (arith, lt, left))) (first.ascending i j d lt left)
     by_case i j d lt within (inr right) (inl left) =
         let there : j - length xs < length ys = omega (arith, within, length-append xs ys, right) in
-        subst (λ y. Below (get_or (xs ++ ys) i d) y) (sym (get_or-append_right xs ys (length xs) j d refl right))
-        (subst (λ x. Below x (get_or ys (j - length xs) d)) (sym (get_or_append_left xs ys d i left))
-        (across (get_or xs i d) (get_or ys (j - length xs) d) ((first.exact (get_or xs i d)).0 (Contains-get_or xs i d left)) ((second.exact (get_or ys (j - length xs) d)).0 (Contains-get_or ys (j - length xs) d there))))
+        rw (get_or-append_right xs ys (length xs) j d refl right, get_or_append_left xs ys d i left)
+        (across (get_or xs i d) (get_or ys (j - length xs) d) ((first.exact (get_or xs i d)).0 (Contains-get_or xs i d left)) ((second.exact (get_or ys (j - length xs) d)).0 (Contains-get_or ys (j - length xs) d there)))
     by_case i j d lt within (inr right) (inr right_too) =
-        subst (λ y. Below (get_or (xs ++ ys) i d) y) (sym (get_or-append_right xs ys (length xs) j d refl right))
-        (subst (λ x. Below x (get_or ys (j - length xs) d)) (sym (get_or-append_right xs ys (length xs) i d refl right_too))
-        (second.ascending (i - length xs) (j - length xs) d (omega (arith, lt, right_too)) (omega (arith, within, length-append xs ys, right))))
+        rw (get_or-append_right xs ys (length xs) j d refl right, get_or-append_right xs ys (length xs) i d refl right_too)
+        (second.ascending (i - length xs) (j - length xs) d (omega (arith, lt, right_too)) (omega (arith, within, length-append xs ys, right)))

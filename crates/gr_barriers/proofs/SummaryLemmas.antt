@@ -1,7 +1,6 @@
 -- What the sum of what a group's items brought to an instance says of the instance.
-use Rattle.std.proofs.Common.{◌≡◌, ◌≢◌, ◌⊎◌, ◌↔◌, ℕ, ◌<◌, Bool, true, false, IsTrue, Option, Some, None, is_some, refl, sym, ◌∙◌, ap, arith, inl, inr, ⊎_elim, true≢false}
+use Rattle.std.proofs.Common.{◌≡◌, ◌≢◌, ◌⊎◌, ◌↔◌, inl, inr, ℕ, ◌<◌, Bool, IsTrue, is_some, Option, Some, None, refl, sym, ◌∙◌, ap, arith, ⊎_elim}
 use Rattle.std.specs.Prelude.{MatchOption}
-use Rattle.std.proofs.lemmas.Bool.{cases_eq}
 use Rattle.gr_model.specs.declared.report.DivergenceCause.{DivergenceCause}
 use Rattle.gr_model.specs.Instances.{Mark, Arrivals, AreMixed, HasDivergenceCause, IsConvergentOf, IsDivergentOf, IsMissing, IsPartial, IsWaitingOf, SitesDiffer}
 use Rattle.gr_model.proofs.Causes.{cause_diverges}
@@ -9,13 +8,12 @@ use Rattle.gr_barriers.specs.Summaries.{IsSummaryOf, NobodyCame}
 use Rattle.gr_barriers.specs.declared.summary.Summary.{Summary}
 
 pub nobody_diverges : (ended : Bool) (n : ℕ) (arrived : Arrivals) → NobodyCame n arrived → ¬ IsDivergentOf ended n arrived
-nobody_diverges ended n arrived none (inl (i, j, a, b, at_i, at_j, differ)) = let lacks : arrived i ≡ None = none i at_i.0 in let clash : Some a ≡ None = sym at_i.1 ∙ lacks in cc
-nobody_diverges ended n arrived none (inr (whole, (i, j, a, at_i, within, lacks))) = let lacks_i : arrived i ≡ None = none i at_i.0 in let clash : Some a ≡ None = sym at_i.1 ∙ lacks_i in cc
+nobody_diverges ended n arrived none d = grind (arith, none)
 
 -- what has a cause diverges, and what has none does not
 pub caused : (ended : Bool) (n : ℕ) (arrived : Arrivals) (o : Option DivergenceCause) → MatchOption o (¬ IsDivergentOf ended n arrived) (HasDivergenceCause ended n arrived) → IsTrue (is_some o) ↔ IsDivergentOf ended n arrived
-caused ended n arrived None none = (λ no. absurd (true≢false (sym no)), λ divergent. absurd (none divergent))
-caused ended n arrived (Some c) cause = (λ _. cause_diverges ended n arrived c cause, λ _. refl)
+caused ended n arrived None none = grind (arith, none)
+caused ended n arrived (Some c) cause = grind (arith, cause_diverges ended n arrived c cause)
 
 -- ---- marks
 
@@ -25,16 +23,10 @@ came_or_not (Some b) = inr (b, refl)
 
 same_mark : (a b : Mark) → (a ≢ b → ⊥) → a ≡ b
 same_mark a b not_other =
-    let site : a.site ≡ b.site = ⊎_elim (λ e. e) (λ n. absurd (not_other (λ same. n (ap (λ (m : Mark). m.site) same)))) (cases_eq a.site b.site) in
-    let global : a.global ≡ b.global = ⊎_elim (λ e. e) (λ n. absurd (not_other (λ same. n (ap (λ (m : Mark). m.global) same)))) (same_or_not a.global b.global) in
-    let local : a.local ≡ b.local = ⊎_elim (λ e. e) (λ n. absurd (not_other (λ same. n (ap (λ (m : Mark). m.local) same)))) (same_or_not a.local b.local) in
+    let site : a.site ≡ b.site = grind (arith, not_other) in
+    let global : a.global ≡ b.global = grind (arith, not_other) in
+    let local : a.local ≡ b.local = grind (arith, not_other) in
     λ i. record { site = site i; global = global i; local = local i }
-  where
-    same_or_not : (x y : Bool) → (x ≡ y) ⊎ (x ≡ y → ⊥)
-    same_or_not false false = inl refl
-    same_or_not false true = inr (λ e. cc)
-    same_or_not true false = inr (λ e. cc)
-    same_or_not true true = inl refl
 
 -- ---- an instance to which somebody came
 
@@ -63,11 +55,10 @@ module _ (n : ℕ) (arrived : Arrivals) (s : Summary) (is : IsSummaryOf n arrive
       none (is.other_mark.1 (i, at_i.0, (mark.0, a, mark.1, at_i.1, λ here. none (is.other_mark.1 (j, at_j.0, (mark.0, b, mark.1, at_j.1, λ there. differ (here ∙ sym there)))))))
 
   pub none_missing : (ended : Bool) → (IsTrue ended → IsTrue s.lacks_one → ⊥) → ¬ IsMissing ended n arrived
-  none_missing ended none (whole, (i, j, a, at_i, within, lacks)) = none whole (is.lacks_one.1 (j, within, lacks))
+  none_missing ended none missing = grind (arith, none, is.lacks_one)
 
   pub not_divergent : (ended : Bool) → (IsTrue ended → IsTrue s.lacks_one → ⊥) → ¬ IsTrue s.other_mark → ¬ IsDivergentOf ended n arrived
-  not_divergent ended missing other (inl differ) = one_mark other differ
-  not_divergent ended missing other (inr lacks) = none_missing ended missing lacks
+  not_divergent ended missing other d = grind (arith, one_mark other, none_missing ended missing)
 
   pub waits : (ended : Bool) → ¬ IsDivergentOf ended n arrived → IsTrue s.lacks_one → IsWaitingOf ended n arrived
   waits ended convergent lacks =
