@@ -1,23 +1,20 @@
 -- What is kept of a list of touches tells the same clashes.
-use Rattle.std.proofs.Common.{◌≡◌, ◌⊎◌, ℕ, zero, suc, ◌<◌, ◌≤◌, Bool, true, false, ◌&&◌, ◌||◌, List, [], ◌∷◌, ◌++◌, Contains, Option, Some, None, cond, is_some, length, drop, ◌+◌, get_or, slice_set, refl, sym, ap, ◌∙◌, subst, inl, inr, ⊎_elim, true≢false, append_assoc, arith}
-use Rattle.std.specs.Prelude.{not, nat_lt}
+use Rattle.std.proofs.Common.{◌≡◌, ◌⊎◌, inl, inr, ℕ, zero, suc, ◌+◌, ◌-◌, ◌<◌, ◌≤◌, All, Bool, true, false, ◌&&◌, List, [], ◌∷◌, ◌++◌, length, get_or, slice_set, is_some, Option, Some, None, Contains, drop, refl, sym, ◌∙◌, ap, subst, arith, ⊎_elim, append_assoc}
+use Rattle.std.specs.Prelude.{not}
 use Rattle.std.specs.List.{list_any, All, find}
 use Rattle.std.specs.Bool.{MatchBool}
 use Rattle.std.specs.List.Retain.{DedupsFrom, IsDeduped}
 use Rattle.std.specs.List.Sorted.{IsPermutation}
-use Rattle.std.proofs.lemmas.Bool.{and_parts, and_from}
+use Rattle.std.proofs.lemmas.Bool.{cases_Bool}
 use Rattle.std.proofs.lemmas.List.Sorted.{Contains-permutation, IsPermutation-sym}
 use Rattle.std.proofs.lemmas.Bool.Decides.{nat_tests}
 use Rattle.std.specs.Option.{option_or}
 use Rattle.std.proofs.lemmas.List.{append-nil, drop_all, drop_more}
-use Rattle.std.proofs.lemmas.List.Folds.{find-append, list_any_at}
+use Rattle.std.proofs.lemmas.List.Folds.{Any-from_list_any, find-append, list_any_at}
 use Rattle.std.proofs.lemmas.List.Elements.{All-contains, All-contains_itself, All-weaker, Contains-append_left, Contains-append_right, Contains-append_cases, Contains-push, Contains-push_cases}
 use Rattle.gr_model.specs.declared.class.Class.{Class}
-use Rattle.gr_model.specs.declared.class.Class.TheVariants.{PlainRead, PlainWrite, GroupRead, GroupModify, DeviceRead, DeviceModify}
 use Rattle.gr_model.specs.Classes.{exempt}
 use Rattle.gr_clocks.specs.ClockedAccess.{ClockedAccess}
-use Rattle.gr_clocks.specs.Rows.{same_item}
-use Rattle.gr_clocks.specs.Counts.{count_of}
 use Rattle.gr_shadow.specs.declared.touch.Touch.{Touch}
 use Rattle.gr_shadow.specs.Keeps.{touch_clashes, is_unseen, IsInPlaceOf, Keeps, kept_group, TouchList, IsOfClass, all_touches}
 
@@ -30,61 +27,41 @@ pub Contains-rest : {X : Type 0} (x : X) (xs : List X) (z : X) → Contains xs z
 Contains-rest x xs z there = Contains-append_right (x ∷ []) xs z there
 
 found : {X : Type 0} (f : X → Bool) (xs : List X) → list_any f xs ≡ true → (x : X) × Contains xs x × (f x ≡ true)
-found f [] h = absurd (true≢false (sym h))
-found {X} f (x ∷ xs) h = here (f x) refl (found f xs) h
-  where
-    here : (b : Bool) → f x ≡ b → (list_any f xs ≡ true → (z : X) × Contains xs z × (f z ≡ true)) → (b || list_any f xs) ≡ true → (z : X) × Contains (x ∷ xs) z × (f z ≡ true)
-    here true e later h = (x, Contains-first x xs, e)
-    here false e later h = let rest = later h in (rest.0, Contains-append_right (x ∷ []) xs rest.0 rest.1, rest.2)
+found f xs h = let any = Any-from_list_any f xs h in (any.1, (any.0, any.2, any.3), any.4)
 
-finds : {X : Type 0} (f : X → Bool) (xs : List X) (x : X) → Contains xs x → f x ≡ true → list_any f xs ≡ true
+pub finds : {X : Type 0} (f : X → Bool) (xs : List X) (x : X) → Contains xs x → f x ≡ true → list_any f xs ≡ true
 finds f xs x there h = list_any_at f xs there.0 x there.1 (ap f there.2 ∙ h)
 
 same_answer : (b c : Bool) → (b ≡ true → c ≡ true) → (c ≡ true → b ≡ true) → b ≡ c
-same_answer true c to from = sym (to refl)
-same_answer false true to from = from refl
-same_answer false false to from = refl
+same_answer b c to from = grind (arith, to, from)
 
 -- ---- the first element of which a test holds
 
 find_same : {X : Type 0} (f g : X → Bool) (xs : List X) → ((x : X) → Contains xs x → f x ≡ g x) → find f xs ≡ find g xs
 find_same f g [] same = refl
-find_same f g (x ∷ xs) same =
-    ap (λ b. cond b (Some x) (find f xs)) (same x (Contains-first x xs)) ∙ ap (λ o. cond (g x) (Some x) o) (find_same f g xs (λ z there. same z (Contains-rest x xs z there)))
+find_same f g (x ∷ xs) same = grind (arith, same x (Contains-first x xs), find_same f g xs (λ z there. same z (Contains-rest x xs z there)))
 
 find_none : {X : Type 0} (f : X → Bool) (xs : List X) → ((x : X) → Contains xs x → f x ≡ false) → find f xs ≡ None
 find_none f [] none = refl
-find_none f (x ∷ xs) none =
-    ap (λ b. cond b (Some x) (find f xs)) (none x (Contains-first x xs)) ∙ find_none f xs (λ z there. none z (Contains-rest x xs z there))
+find_none f (x ∷ xs) none = grind (arith, none x (Contains-first x xs), find_none f xs (λ z there. none z (Contains-rest x xs z there)))
 
 pub find_told : {X : Type 0} (f : X → Bool) (xs : List X) → list_any f xs ≡ is_some (find f xs)
 find_told f [] = refl
-find_told f (x ∷ xs) = here (f x) (find_told f xs)
-  where
-    here : (b : Bool) → list_any f xs ≡ is_some (find f xs) → (b || list_any f xs) ≡ is_some (cond b (Some x) (find f xs))
-    here true rest = refl
-    here false rest = rest
+find_told f (x ∷ xs) = grind (arith, find_told f xs)
 
 pub find_is : {X : Type 0} (f : X → Bool) (xs : List X) (x : X) → find f xs ≡ Some x → Contains xs x × (f x ≡ true)
 find_is f [] x is = cc
-find_is f (y ∷ xs) x is = here (f y) refl is (find_is f xs x)
-  where
-    here : (b : Bool) → f y ≡ b → cond b (Some y) (find f xs) ≡ Some x → (find f xs ≡ Some x → Contains xs x × (f x ≡ true)) → Contains (y ∷ xs) x × (f x ≡ true)
-    here true holds is later = let same : y ≡ x = cc in (subst (λ z. Contains (y ∷ xs) z) same (Contains-first y xs), subst (λ z. f z ≡ true) same holds)
-    here false holds is later = let rest = later is in (Contains-rest y xs x rest.0, rest.1)
+find_is f (y ∷ xs) x is =
+    elim (cases_Bool (f y)) [
+      | inl holds ↦ let same : y ≡ x = grind arith in rw (← same) (Contains-first y xs, holds)
+      | inr fails ↦ let rest = find_is f xs x (grind arith) in (Contains-rest y xs x rest.0, rest.1)
+    ]
 
 -- ---- what is kept tells the same clashes
 
-still_unseen : (i j n : ℕ) → i ≤ j → not (nat_lt i n) ≡ true → not (nat_lt j n) ≡ true
-still_unseen i j n le h = grind (arith, nat_tests)
-
 -- where an access clashes with a touch, it does with one that stands for it
 later_clashes : (y : ClockedAccess) (t u : Touch) → IsInPlaceOf t u → touch_clashes y u ≡ true → touch_clashes y t ≡ true
-later_clashes y t u p h =
-    let other = and_parts _ _ h in
-    let apart = and_parts _ _ other.1 in
-    let still = still_unseen u.index t.index (count_of y.clock u.item) p.index apart.1 in
-    rw (p.item, p.class) (and_from _ _ other.0 (and_from _ _ apart.0 still))
+later_clashes y t u p h = grind (arith, nat_tests, p.item, p.class, p.index)
 
 pub clashes_kept : (y : ClockedAccess) (kept all : List Touch) → Keeps kept all → list_any (touch_clashes y) kept ≡ list_any (touch_clashes y) all
 clashes_kept y kept all k = same_answer _ _ to from
@@ -104,10 +81,7 @@ in_place_of_itself : (t : Touch) → IsInPlaceOf t t
 in_place_of_itself t = record { item = refl; class = refl; index = omega arith }
 
 in_place_of_both : (t u v : Touch) → IsInPlaceOf t u → IsInPlaceOf u v → IsInPlaceOf t v
-in_place_of_both t u v p q =
-    let first = p.index in
-    let second = q.index in
-    record { item = p.item ∙ q.item; class = p.class ∙ q.class; index = omega arith }
+in_place_of_both t u v p q = grind arith
 
 pub Keeps-same : (a b : List Touch) → ((t : Touch) → Contains a t → Contains b t) → ((t : Touch) → Contains b t → Contains a t) → Keeps a b
 Keeps-same a b to from = record { each = to; some = λ u h. (u, from u h, in_place_of_itself u) }
@@ -215,12 +189,10 @@ unfold_at f lists k l lt is =
     ∙ find-append f l.touches (all_touches (drop (k + 1) lists))
 
 pub found_here : (f : Touch → Bool) (lists : List TouchList) (k : ℕ) (l : TouchList) (o : Option Touch) → k < length lists → l ≡ get_or lists k l → find f l.touches ≡ o → is_some o ≡ true → find f (all_touches (drop k lists)) ≡ o
-found_here f lists k l None lt is found some = absurd (true≢false (sym some))
-found_here f lists k l (Some t) lt is found some = unfold_at f lists k l lt is ∙ ap (λ o. option_or o (find f (all_touches (drop (k + 1) lists)))) found
+found_here f lists k l o lt is found some = grind (arith, unfold_at f lists k l lt is)
 
 pub found_later : (f : Touch → Bool) (lists : List TouchList) (k : ℕ) (l : TouchList) (o : Option Touch) → k < length lists → l ≡ get_or lists k l → find f l.touches ≡ o → is_some o ≡ false → find f (all_touches (drop k lists)) ≡ find f (all_touches (drop (k + 1) lists))
-found_later f lists k l (Some t) lt is found none = absurd (true≢false none)
-found_later f lists k l None lt is found none = unfold_at f lists k l lt is ∙ ap (λ o. option_or o (find f (all_touches (drop (k + 1) lists)))) found
+found_later f lists k l o lt is found none = grind (arith, unfold_at f lists k l lt is)
 
 pub found_nowhere : (f : Touch → Bool) (lists : List TouchList) (k : ℕ) → length lists ≤ k → find f (all_touches (drop k lists)) ≡ None
 found_nowhere f lists k all = ap (λ ls. find f (all_touches ls)) (drop_all k lists all)
@@ -228,34 +200,14 @@ found_nowhere f lists k all = ap (λ ls. find f (all_touches ls)) (drop_all k li
 -- ---- touches of one class
 
 exempt_by_kept_group : (c : Class) (g : ℕ) (d : Class) (h : ℕ) → exempt c g d h ≡ exempt c (kept_group c g) d h
-exempt_by_kept_group PlainRead g d h = refl
-exempt_by_kept_group PlainWrite g d h = refl
-exempt_by_kept_group GroupRead g d h = refl
-exempt_by_kept_group GroupModify g d h = refl
-exempt_by_kept_group DeviceRead g PlainRead h = refl
-exempt_by_kept_group DeviceRead g PlainWrite h = refl
-exempt_by_kept_group DeviceRead g GroupRead h = refl
-exempt_by_kept_group DeviceRead g GroupModify h = refl
-exempt_by_kept_group DeviceRead g DeviceRead h = refl
-exempt_by_kept_group DeviceRead g DeviceModify h = refl
-exempt_by_kept_group DeviceModify g PlainRead h = refl
-exempt_by_kept_group DeviceModify g PlainWrite h = refl
-exempt_by_kept_group DeviceModify g GroupRead h = refl
-exempt_by_kept_group DeviceModify g GroupModify h = refl
-exempt_by_kept_group DeviceModify g DeviceRead h = refl
-exempt_by_kept_group DeviceModify g DeviceModify h = refl
-
-regrouped : (s e n : Bool) → (not s && (not e && not n)) ≡ (not e && (not s && not n))
-regrouped s e n = grind arith
+exempt_by_kept_group c g d h = grind arith
 
 touch_told : (y : ClockedAccess) (c : Class) (g : ℕ) (t : Touch) → IsOfClass c g t → touch_clashes y t ≡ (not (exempt c g y.class y.item.group) && is_unseen y t)
-touch_told y c g t of =
-    let same : exempt t.class t.item.group y.class y.item.group ≡ exempt c g y.class y.item.group = exempt_by_kept_group t.class t.item.group y.class y.item.group ∙ ap (λ h. exempt t.class h y.class y.item.group) of.apart ∙ ap (λ d. exempt d g y.class y.item.group) of.same in
-    regrouped (same_item t.item y.item) (exempt t.class t.item.group y.class y.item.group) (nat_lt t.index (count_of y.clock t.item)) ∙ ap (λ e. not e && is_unseen y t) same
+touch_told y c g t of = grind (arith, exempt_by_kept_group t.class t.item.group y.class y.item.group, of.apart, of.same)
 
 -- of touches of one class an access clashes with none where it is exempt with them, and else with those that it has not seen
 pub class_exempt : (y : ClockedAccess) (c : Class) (g : ℕ) (ts : List Touch) → All (IsOfClass c g) ts → exempt c g y.class y.item.group ≡ true → find (touch_clashes y) ts ≡ None
-class_exempt y c g ts of is = find_none (touch_clashes y) ts (λ t there. touch_told y c g t (All-contains (IsOfClass c g) ts t of there) ∙ ap (λ e. not e && is_unseen y t) is)
+class_exempt y c g ts of is = find_none (touch_clashes y) ts (λ t there. grind (arith, touch_told y c g t (All-contains (IsOfClass c g) ts t of there)))
 
 pub class_finds : (y : ClockedAccess) (c : Class) (g : ℕ) (ts : List Touch) → All (IsOfClass c g) ts → exempt c g y.class y.item.group ≡ false → find (touch_clashes y) ts ≡ find (is_unseen y) ts
-class_finds y c g ts of is = find_same (touch_clashes y) (is_unseen y) ts (λ t there. touch_told y c g t (All-contains (IsOfClass c g) ts t of there) ∙ ap (λ e. not e && is_unseen y t) is)
+class_finds y c g ts of is = find_same (touch_clashes y) (is_unseen y) ts (λ t there. grind (arith, touch_told y c g t (All-contains (IsOfClass c g) ts t of there)))

@@ -1,13 +1,13 @@
 -- Shadows of a launch, memory by memory.
-use Rattle.std.proofs.Common.{◌≡◌, ◌≢◌, ◌⊎◌, ◌↔◌, ℕ, suc, ◌+◌, ◌<◌, ◌≤◌, ◌==◌, Bool, true, false, cond, List, [], ◌∷◌, ◌++◌, Contains, Option, Some, None, filter, length, slice_get, slice_set, get_or, refl, sym, ap, ◌∙◌, subst, arith, inl, inr, ⊎_elim, true≢false}
+use Rattle.std.proofs.Common.{◌≡◌, ◌≢◌, ◌⊎◌, ◌↔◌, inl, inr, ℕ, ◌+◌, ◌-◌, ◌<◌, ◌==◌, Bool, true, false, List, [], ◌∷◌, ◌++◌, filter, length, get_or, slice_set, slice_get, Option, Some, None, refl, sym, ◌∙◌, ap, subst, arith, ⊎_elim, true≢false}
 use Rattle.std.specs.Prelude.{unwrap_or}
 use Rattle.std.specs.List.{list_any}
 use Rattle.std.specs.Map.{lookup}
-use Rattle.std.proofs.lemmas.Bool.{cases_Bool, cases_lt, eq-eqb, eqb-true, ne_eqb}
-use Rattle.std.proofs.lemmas.List.{get_or_append_left, get_or-set_other, get_or-set_same, length-append, length-set}
-use Rattle.std.proofs.Math.Seq.{get_or-append_seam}
+use Rattle.std.proofs.lemmas.Bool.{cases_eq, cases_lt, eq-eqb, false_from_ne_true}
+use Rattle.std.proofs.lemmas.Bool.Decides.{nat_tests}
+use Rattle.std.proofs.lemmas.List.{get_or_append_left, get_or_push, get_or-set_other, get_or-set_same, length_push, length-set}
 use Rattle.std.proofs.lemmas.Map.Views.{Contains-from_lookup}
-use Rattle.std.proofs.lemmas.Option.{slice_get-get_or, slice_get_past, slice_get_within, get_or_from_slice_get}
+use Rattle.std.proofs.lemmas.Option.{gets, slice_get-get_or, slice_get_past}
 use Rattle.indexmap.proofs.SetLemmas.{filter_keep, filter_skip}
 use Rattle.gr_model.specs.declared.event.Word.{Word}
 use Rattle.gr_model.specs.declared.event.Word.TheVariants.{Global, Local}
@@ -15,23 +15,14 @@ use Rattle.gr_model.specs.Hits.{SomePair}
 use Rattle.gr_model.proofs.HitLaws.{IsHit-filter}
 use Rattle.gr_model.proofs.Pairs.{PairIn, PairIn-from_some, SomeOf, SomePair-from_in}
 use Rattle.gr_model.proofs.WordLemmas.{same_from_equal}
-use Rattle.gr_shadow.specs.Clashes.{ClockedAccess, IsClashIn, IsClashOf, IsHitIn, clashes}
+use Rattle.gr_shadow.specs.Clashes.{ClockedAccess, IsClashOf, IsHitIn, clashes}
 use Rattle.gr_shadow.specs.Kept.{Kept, WordShadow, clash_at, no_shadow, same_word, shadow_at}
 use Rattle.gr_shadow.specs.Launches.{LaunchKept, StandsForLaunch, StandsForLocal, accesses_in, is_global, is_local_of, launch_clash_at, local_clash_at}
 use Rattle.gr_shadow.specs.StandsFor.{StandsFor}
 use Rattle.gr_shadow.proofs.ListingLemmas.{HasClash, clash_there}
-use Rattle.gr_shadow.proofs.MapLemmas.{Contains-some}
+use Rattle.gr_shadow.proofs.KeepsLemmas.{finds}
 
 -- ---- no word is hit
-
-any_of : {X : Type 0} (p : X → Bool) (xs : List X) (x : X) → SomeOf (λ y. y ≡ x) xs → p x ≡ true → list_any p xs ≡ true
-any_of p [] x h t = absurd h
-any_of p (y ∷ xs) x (inl e) t = rw (ap p e ∙ t) refl
-any_of p (y ∷ xs) x (inr h) t =
-    elim (cases_Bool (p y)) [
-      | inl here ↦ rw here refl
-      | inr other ↦ rw other (any_of p xs x h t)
-    ]
 
 none_answered : (kept : Kept) → list_any (λ e. e.1.answered) kept ≡ false → (w : Word) → (shadow_at kept w).answered ≡ false
 none_answered kept none w = by_entry (lookup (same_word w) kept) refl
@@ -39,10 +30,9 @@ none_answered kept none w = by_entry (lookup (same_word w) kept) refl
     by_entry : (o : Option WordShadow) → lookup (same_word w) kept ≡ o → (shadow_at kept w).answered ≡ false
     by_entry None found = ap (λ o. (unwrap_or o no_shadow).answered) found
     by_entry (Some s) found =
-        elim (cases_Bool s.answered) [
-          | inl answered ↦ absurd (true≢false (sym (any_of (λ e. e.1.answered) kept (w, s) ((Contains-some kept (w, s)).0 (Contains-from_lookup same_from_equal w s kept found)) answered) ∙ none))
-          | inr is ↦ ap (λ o. (unwrap_or o no_shadow).answered) found ∙ is
-        ]
+        let there = Contains-from_lookup same_from_equal w s kept found in
+        let no : s.answered ≡ false = false_from_ne_true s.answered (λ is. true≢false (sym (finds (λ e. e.1.answered) kept (w, s) there is) ∙ none)) in
+        ap (λ o. (unwrap_or o no_shadow).answered) found ∙ no
 
 pub none_hit : (accesses : List ClockedAccess) (kept : Kept) → StandsFor accesses kept → list_any (λ e. e.1.answered) kept ≡ false → (w : Word) → IsHitIn accesses w → ⊥
 none_hit accesses kept stands none w hit = true≢false (sym ((stands.answered w).1 hit) ∙ none_answered kept none w)
@@ -51,19 +41,11 @@ none_hit accesses kept stands none w hit = true≢false (sym ((stands.answered w
 
 some_unfiltered : {X : Type 0} (keep : X → Bool) (P : X → Type 0) (xs : List X) → SomeOf P (filter keep xs) → SomeOf P xs
 some_unfiltered keep P [] h = h
-some_unfiltered {X} keep P (x ∷ xs) h =
-    elim (keep x) as (λ b. SomeOf P (cond b (x ∷ filter keep xs) (filter keep xs)) → SomeOf P (x ∷ xs)) [
-      | true ↦ λ h. ⊎_elim (λ p. inl p) (λ t. inr (some_unfiltered keep P xs t)) h
-      | false ↦ λ h. inr (some_unfiltered keep P xs h)
-    ] h
+some_unfiltered keep P (x ∷ xs) h = grind (arith, some_unfiltered keep P xs)
 
 pair_unfiltered : {X : Type 0} (keep : X → Bool) (R : X → X → Type 0) (xs : List X) → PairIn R (filter keep xs) → PairIn R xs
 pair_unfiltered keep R [] h = h
-pair_unfiltered {X} keep R (x ∷ xs) h =
-    elim (keep x) as (λ b. PairIn R (cond b (x ∷ filter keep xs) (filter keep xs)) → PairIn R (x ∷ xs)) [
-      | true ↦ λ h. ⊎_elim (λ s. inl (some_unfiltered keep (R x) xs s)) (λ t. inr (pair_unfiltered keep R xs t)) h
-      | false ↦ λ h. inr (pair_unfiltered keep R xs h)
-    ] h
+pair_unfiltered keep R (x ∷ xs) h = grind (arith, some_unfiltered keep (R x) xs, pair_unfiltered keep R xs)
 
 unfiltered : (keep : Word → Bool) (R : ClockedAccess → ClockedAccess → Type 0) (accesses : List ClockedAccess) → SomePair R (accesses_in keep accesses) → SomePair R accesses
 unfiltered keep R accesses h = SomePair-from_in R accesses (pair_unfiltered (λ x. keep x.word) R accesses (PairIn-from_some R (accesses_in keep accesses) h))
@@ -89,90 +71,50 @@ more keep accesses y is = filter_keep (λ x. keep x.word) accesses y is
 as_before : (keep : Word → Bool) (accesses : List ClockedAccess) (y : ClockedAccess) → keep y.word ≡ false → accesses_in keep (accesses ++ y ∷ []) ≡ accesses_in keep accesses
 as_before keep accesses y is = filter_skip (λ x. keep x.word) accesses y is
 
-pub global_more : (accesses : List ClockedAccess) (y : ClockedAccess) (v : ℕ) (old : LaunchKept) (kept : Kept) → y.word ≡ Global v → StandsForLaunch accesses old → StandsFor (accesses_in is_global accesses ++ y ∷ []) kept → StandsForLaunch (accesses ++ y ∷ []) (record { global = kept; local = old.local })
-global_more accesses y v old kept is stands after = record {
-  global = subst (λ (l : List ClockedAccess). StandsFor l kept) (sym (more is_global accesses y (ap is_global is))) after;
-  local = λ g. subst (λ (l : List ClockedAccess). StandsForLocal l (slice_get old.local g)) (sym (as_before (is_local_of g) accesses y (ap (is_local_of g) is))) (stands.local g);
-}
-
 is_not_global : (w : Word) (g : ℕ) → is_local_of g w ≡ true → is_global w ≡ false
-is_not_global (Global v) g is = absurd (true≢false (sym is))
-is_not_global (Local h v) g is = refl
+is_not_global w g is = grind arith
 
 is_of_no_other : (w : Word) (g h : ℕ) → is_local_of g w ≡ true → h ≢ g → is_local_of h w ≡ false
-is_of_no_other (Global v) g h is other = refl
-is_of_no_other (Local k v) g h is other = ne_eqb k h (λ e. other (sym e ∙ eqb-true k g is))
+is_of_no_other w g h is other = grind (arith, nat_tests)
 
-get_at : {X : Type 0} (xs : List X) (i : ℕ) (x : X) → i < length xs → slice_get (slice_set xs i x) i ≡ Some x
-get_at xs i x lt = slice_get-get_or (slice_set xs i x) i x (omega (arith, lt, length-set xs i x)) ∙ ap (λ (y : _). Some y) (get_or-set_same xs i x x lt)
+-- what holds at each place holds with another element at one place, or with one more
+at_each_set : {X : Type 0} (P : ℕ → Option X → Type 0) (xs : List X) (i : ℕ) (x : X) → i < length xs → P i (Some x) → (j : ℕ) → (j ≢ i → P j (slice_get xs j)) → P j (slice_get (slice_set xs i x) j)
+at_each_set P xs i x there here j others =
+    ⊎_elim
+    (λ (same : j ≡ i). let at : slice_get (slice_set xs i x) j ≡ Some x = grind (arith, gets, get_or-set_same, length-set) in rw (at, same) here)
+    (λ (apart : j ≢ i). let at : slice_get (slice_set xs i x) j ≡ slice_get xs j = grind (arith, gets, get_or-set_other, length-set) in rw at (others apart))
+    (cases_eq j i)
 
-get_other : {X : Type 0} (xs : List X) (i j : ℕ) (x : X) → j ≢ i → slice_get (slice_set xs i x) j ≡ slice_get xs j
-get_other xs i j x other =
-    elim (cases_lt j (length xs)) [
-      | inl lt ↦
-          slice_get-get_or (slice_set xs i x) j x (omega (arith, lt, length-set xs i x)) ∙ (ap (λ (y : _). Some y) (get_or-set_other xs i j x x other) ∙ sym (slice_get-get_or xs j x lt))
-      | inr past ↦ slice_get_past (slice_set xs i x) j (omega (arith, past, length-set xs i x)) ∙ sym (slice_get_past xs j past)
-    ]
+at_each_push : {X : Type 0} (P : ℕ → Option X → Type 0) (xs : List X) (x : X) → P (length xs) (Some x) → (j : ℕ) → P j (slice_get xs j) → P j (slice_get (xs ++ x ∷ []) j)
+at_each_push P xs x here j other =
+    ⊎_elim
+    (λ (same : j ≡ length xs). let at : slice_get (xs ++ x ∷ []) j ≡ Some x = grind (arith, gets, get_or_push, length_push) in rw (at, same) here)
+    (λ (apart : j ≢ length xs). let at : slice_get (xs ++ x ∷ []) j ≡ slice_get xs j = grind (arith, gets, get_or_append_left, length_push) in rw at other)
+    (cases_eq j (length xs))
 
 pub local_more : (accesses : List ClockedAccess) (y : ClockedAccess) (group : ℕ) (old : LaunchKept) (o : Option Kept) → is_local_of group y.word ≡ true → group < length old.local → StandsForLaunch accesses old → StandsForLocal (accesses_in (is_local_of group) accesses ++ y ∷ []) (Some o)
     → StandsForLaunch (accesses ++ y ∷ []) (record { global = old.global; local = slice_set old.local group o })
 local_more accesses y group old o is lt stands after = record {
-  global = subst (λ (l : List ClockedAccess). StandsFor l old.global) (sym (as_before is_global accesses y (is_not_global y.word group is))) stands.global;
-  local = λ g.
-      elim (cases_Bool (g == group)) [
-        | inl same ↦
-            let e : group ≡ g = sym (eqb-true g group same) in
-            subst (λ n. StandsForLocal (accesses_in (is_local_of n) (accesses ++ y ∷ [])) (slice_get (slice_set old.local group o) n)) e
-            (subst (StandsForLocal (accesses_in (is_local_of group) (accesses ++ y ∷ []))) (sym (get_at old.local group o lt))
-            (subst (λ (l : List ClockedAccess). StandsForLocal l (Some o)) (sym (more (is_local_of group) accesses y is)) after))
-        | inr differ ↦
-            let other : g ≢ group = λ e. true≢false (sym (eq-eqb g group e) ∙ differ) in
-            subst (StandsForLocal (accesses_in (is_local_of g) (accesses ++ y ∷ []))) (sym (get_other old.local group g o other))
-            (subst (λ (l : List ClockedAccess). StandsForLocal l (slice_get old.local g)) (sym (as_before (is_local_of g) accesses y (is_of_no_other y.word group g is other))) (stands.local g))
-      ];
+  global = rw (as_before is_global accesses y (is_not_global y.word group is)) stands.global;
+  local = λ g. at_each_set (λ n. StandsForLocal (accesses_in (is_local_of n) (accesses ++ y ∷ []))) old.local group o lt
+      (subst (λ (l : List ClockedAccess). StandsForLocal l (Some o)) (sym (more (is_local_of group) accesses y is)) after) g
+      (λ other. subst (λ (l : List ClockedAccess). StandsForLocal l (slice_get old.local g)) (sym (as_before (is_local_of g) accesses y (is_of_no_other y.word group g is other))) (stands.local g));
 }
 
 -- ---- one group more, and another table of one
 
 pub pushed : (accesses : List ClockedAccess) (old : LaunchKept) (kept : Kept) → StandsForLaunch accesses old → StandsFor [] kept → StandsForLaunch accesses (record { global = old.global; local = old.local ++ Some kept ∷ [] })
-pushed accesses old kept stands fresh = record { global = stands.global; local = each }
-  where
-    next : List (Option Kept)
-    next = old.local ++ Some kept ∷ []
-
-    count : length next ≡ length old.local + 1
-    count = length-append old.local (Some kept ∷ [])
-
-    each : (g : ℕ) → StandsForLocal (accesses_in (is_local_of g) accesses) (slice_get next g)
-    each g =
-        elim (cases_lt g (length old.local)) [
-          | inl below ↦
-              let same : slice_get next g ≡ slice_get old.local g = slice_get-get_or next g None (omega (arith, below, count)) ∙ (ap (λ (y : _). Some y) (get_or_append_left old.local (Some kept ∷ []) None g below) ∙ sym (slice_get-get_or old.local g None below)) in
-              subst (StandsForLocal (accesses_in (is_local_of g) accesses)) (sym same) (stands.local g)
-          | inr from ↦
-              let none = subst (StandsForLocal (accesses_in (is_local_of g) accesses)) (slice_get_past old.local g from) (stands.local g) in
-              elim (cases_lt (length old.local) g) [
-                | inl beyond ↦ subst (StandsForLocal (accesses_in (is_local_of g) accesses)) (sym (slice_get_past next g (omega (arith, beyond, count)))) none
-                | inr upto ↦
-                    let here : length old.local ≡ g = omega (arith, from, upto) in
-                    let is : slice_get next g ≡ Some (Some kept) = slice_get-get_or next g None (omega (arith, here, count)) ∙ ap (λ (y : _). Some y) (ap (λ n. get_or next n None) (sym here) ∙ get_or-append_seam old.local (Some kept) [] None) in
-                    subst (StandsForLocal (accesses_in (is_local_of g) accesses)) (sym is) (subst (λ (l : List ClockedAccess). StandsFor l kept) (sym none) fresh)
-              ]
-        ]
+pushed accesses old kept stands fresh =
+    let none = subst (StandsForLocal (accesses_in (is_local_of (length old.local)) accesses)) (slice_get_past old.local (length old.local) (omega arith)) (stands.local (length old.local)) in
+    record {
+      global = stands.global;
+      local = λ g. at_each_push (λ n. StandsForLocal (accesses_in (is_local_of n) accesses)) old.local (Some kept) (subst (λ (l : List ClockedAccess). StandsFor l kept) (sym none) fresh) g (stands.local g);
+    }
 
 pub local_put : (accesses : List ClockedAccess) (old : LaunchKept) (group : ℕ) (o : Option Kept) → group < length old.local → StandsForLaunch accesses old → StandsForLocal (accesses_in (is_local_of group) accesses) (Some o) → StandsForLaunch accesses (record { global = old.global; local = slice_set old.local group o })
 local_put accesses old group o lt stands after = record {
   global = stands.global;
-  local = λ g.
-      elim (cases_Bool (g == group)) [
-        | inl same ↦
-            let e : group ≡ g = sym (eqb-true g group same) in
-            subst (λ n. StandsForLocal (accesses_in (is_local_of n) accesses) (slice_get (slice_set old.local group o) n)) e
-            (subst (StandsForLocal (accesses_in (is_local_of group) accesses)) (sym (get_at old.local group o lt)) after)
-        | inr differ ↦
-            let other : g ≢ group = λ e. true≢false (sym (eq-eqb g group e) ∙ differ) in
-            subst (StandsForLocal (accesses_in (is_local_of g) accesses)) (sym (get_other old.local group g o other)) (stands.local g)
-      ];
+  local = λ g. at_each_set (λ n. StandsForLocal (accesses_in (is_local_of n) accesses)) old.local group o lt after g (λ other. stands.local g);
 }
 
 pub local_at : (accesses : List ClockedAccess) (k : LaunchKept) (g : ℕ) (d : Option Kept) → g < length k.local → StandsForLaunch accesses k → StandsForLocal (accesses_in (is_local_of g) accesses) (Some (get_or k.local g d))
@@ -185,7 +127,7 @@ abbrev pub IsHitBelow : List ClockedAccess → ℕ → Word → Type 0
 IsHitBelow accesses n w = IsHitIn (accesses_in is_global accesses) w ⊎ ((g : ℕ) × (g < n) × IsHitIn (accesses_in (is_local_of g) accesses) w)
 
 pub below_none : (accesses : List ClockedAccess) (w : Word) → IsHitBelow accesses 0 w → IsHitIn (accesses_in is_global accesses) w
-below_none accesses w h = ⊎_elim (λ a. a) (λ b. absurd (omega (arith, b.1))) h
+below_none accesses w h = grind arith
 
 pub below_more : (accesses : List ClockedAccess) (n : ℕ) (w : Word) → IsHitBelow accesses (n + 1) w ↔ (IsHitBelow accesses n w ⊎ IsHitIn (accesses_in (is_local_of n) accesses) w)
 below_more accesses n w = (

@@ -1,5 +1,5 @@
 -- A map of shadows as what is kept of each word.
-use Rattle.std.proofs.Common.{◌≡◌, ◌↔◌, Bool, true, false, cond, List, [], ◌∷◌, Option, Some, None, IsTrue, Contains, map, filter, refl, sym, ap, ◌∙◌, subst, inl, inr, ⊎_elim, true≢false}
+use Rattle.std.proofs.Common.{◌≡◌, ◌≢◌, ◌↔◌, ◌-◌, true, IsTrue, List, [], ◌∷◌, cond, Option, Some, None, Contains, refl, sym, ◌∙◌, ap, subst, arith, true≢false}
 use Rattle.std.specs.Prelude.{unwrap_or}
 use Rattle.std.specs.Map.{lookup, keys_of}
 use Rattle.std.specs.List.{IsDistinct}
@@ -20,21 +20,16 @@ HasUpdate old v s new = (w : Word) → lookup (same_word w) new ≡ cond (same_w
 -- a map in which the word of an access has its next shadow, and each other word what it had
 after_from_update : (old : Kept) (y : ClockedAccess) (s : WordShadow) (new : Kept) → IsShadowAfter (shadow_at old y.word) y s → HasUpdate old y.word s new → IsAfter old y new
 after_from_update old y s new after update =
-    let value : (w : Word) (b : Bool) → same_word y.word w ≡ b → shadow_at new w ≡ unwrap_or (cond b (Some s) (lookup (same_word w) old)) no_shadow = λ w b e. ap (λ o. unwrap_or o no_shadow) (update w ∙ ap (λ b. cond b (Some s) (lookup (same_word w) old)) e) in
     record {
-      word = subst (λ (t : WordShadow). IsShadowAfter (shadow_at old y.word) y t) (sym (value y.word true (equal.laws-law.refl y.word))) after;
-      others = λ w f. value w false f;
+      word = let now : shadow_at new y.word ≡ s = grind (arith, update y.word, equal.laws-law.refl y.word) in rw now after;
+      others = λ w f. grind (arith, update w);
     }
 
 pub after_write : (entries old : Kept) (y : ClockedAccess) (s t : WordShadow) (new : Kept) → entries ≡ old → lookup (same_word y.word) entries ≡ Some s → IsShadowAfter s y t → HasUpdate entries y.word t new → IsAfter old y new
-after_write entries old y s t new same found after update =
-    let next = subst (λ (u : WordShadow). IsShadowAfter u y t) (sym (ap (λ o. unwrap_or o no_shadow) found)) after in
-    subst (λ (k : Kept). IsAfter k y new) same (after_from_update entries y t new next update)
+after_write entries old y s t new same found after update = rw (← same) (after_from_update entries y t new (rw found after) update)
 
 pub after_insert : (entries old : Kept) (y : ClockedAccess) (t : WordShadow) (new : Kept) → entries ≡ old → lookup (same_word y.word) entries ≡ None → IsShadowAfter no_shadow y t → HasUpdate entries y.word t new → IsAfter old y new
-after_insert entries old y t new same absent after update =
-    let next = subst (λ (u : WordShadow). IsShadowAfter u y t) (sym (ap (λ o. unwrap_or o no_shadow) absent)) after in
-    subst (λ (k : Kept). IsAfter k y new) same (after_from_update entries y t new next update)
+after_insert entries old y t new same absent after update = rw (← same) (after_from_update entries y t new (rw absent after) update)
 
 -- ---- the words that were answered
 
@@ -50,12 +45,7 @@ IsAnsweredAt w e = (e.0 ≡ w) × IsTrue e.1.answered
 
 some_answered : (kept : Kept) (w : Word) → SomeOf (λ v. v ≡ w) (answered_words kept) ↔ SomeOf (IsAnsweredAt w) kept
 some_answered [] w = (λ h. h, λ h. h)
-some_answered (e ∷ kept) w =
-    let rest = some_answered kept w in
-    elim e.1.answered as (λ b. (e.1.answered ≡ b) → SomeOf (λ v. v ≡ w) (map (λ e. e.0) (cond b (e ∷ filter (λ e. e.1.answered) kept) (filter (λ e. e.1.answered) kept))) ↔ SomeOf (IsAnsweredAt w) (e ∷ kept)) [
-      | true ↦ λ t. (⊎_elim (λ h. inl (h, t)) (λ h. inr (rest.0 h)), ⊎_elim (λ h. inl h.0) (λ h. inr (rest.1 h)))
-      | false ↦ λ f. (λ h. inr (rest.0 h), ⊎_elim (λ h. absurd (true≢false (sym h.1 ∙ f))) (λ h. rest.1 h))
-    ] refl
+some_answered (e ∷ kept) w = grind (arith, some_answered kept w)
 
 -- where the words of a map differ, the words that were answered are those whose shadow says so
 pub answered_words_told : (kept : Kept) → IsDistinct same_word (keys_of kept) → (w : Word) → Contains (answered_words kept) w ↔ IsTrue (shadow_at kept w).answered

@@ -1,7 +1,7 @@
 -- What shadows tell of the accesses that they stand for.
-use Rattle.std.proofs.Common.{◌≡◌, ◌⊎◌, ◌↔◌, Bool, true, false, cond, ◌&&◌, ◌||◌, List, [], ◌∷◌, ◌++◌, map, IsTrue, Option, Some, None, is_some, refl, sym, ap, ◌∙◌, subst, inl, inr, ⊎_elim, true≢false}
+use Rattle.std.proofs.Common.{◌≡◌, ◌≢◌, ◌⊎◌, ◌↔◌, inl, inr, ◌+◌, ◌-◌, Bool, true, false, ◌&&◌, ◌||◌, IsTrue, List, [], ◌∷◌, ◌++◌, map, if◌then◌else◌, cond, is_some, Option, Some, None, refl, sym, ◌∙◌, ap, subst, arith, ⊎_elim, true≢false}
 use Rattle.std.specs.Prelude.{not, if◌then◌else◌, option_map}
-use Rattle.std.proofs.lemmas.Bool.{false_from_ne_true}
+use Rattle.std.proofs.lemmas.Bool.{or_right, or_parts}
 use Rattle.std.specs.Bool.{then_some}
 use Rattle.std.specs.List.{find, list_any}
 use Rattle.std.proofs.lemmas.List.{append-nil, map-append}
@@ -47,73 +47,27 @@ clash_told (x ∷ xs) y w at =
     here rest false c first = (λ h. inr (rest.0 h), ⊎_elim (λ k. absurd (true≢false (sym k.clashes ∙ c))) (λ s. rest.1 s))
 
 pub clashes_before_told : (xs : List ClockedAccess) (kept : Kept) (y : ClockedAccess) (w : Word) → StandsFor xs kept → (shadow_at kept w).answered ≡ false → y.word ≡ w → IsTrue (clashes_before (shadow_at kept w) y) ↔ ClashesBefore xs y w
-clashes_before_told xs kept y w stands not_yet at =
-    let same : clashes_before (shadow_at kept w) y ≡ list_any (touch_clashes y) (map touch_of (accesses_to w xs)) = clashes_kept y _ _ (stands.touches w not_yet) in
-    let told = clash_told xs y w at in
-    (λ h. told.0 (sym same ∙ h), λ h. same ∙ told.1 h)
-
-first_from : (a c : Bool) → a ≡ false → c ≡ true → (not a && c) ≡ true
-first_from true c f h = absurd (true≢false f)
-first_from false c f h = h
-
-first_parts : (a c : Bool) → (not a && c) ≡ true → (a ≡ false) × (c ≡ true)
-first_parts true c h = absurd (true≢false (sym h))
-first_parts false c h = (refl, h)
+clashes_before_told xs kept y w stands not_yet at = grind (arith, clashes_kept y _ _ (stands.touches w not_yet), clash_told xs y w at)
 
 -- shadows tell which word becomes hit by one more access
 pub answer_told : (xs : List ClockedAccess) (kept : Kept) (y : ClockedAccess) → StandsFor xs kept → (w : Word) → IsHitBy xs y w ↔ ((y.word ≡ w) × IsTrue (is_first_hit (shadow_at kept y.word) y))
-answer_told xs kept y stands w = (to, from)
-  where
-    to : IsHitBy xs y w → (y.word ≡ w) × IsTrue (is_first_hit (shadow_at kept y.word) y)
-    to h =
-        let not_yet = false_from_ne_true _ (λ a. h.before ((stands.answered w).0 a)) in
-        ⊎_elim (λ old. absurd (h.before old)) (λ clash.
-        let at = word_of_clash xs y w clash in
-        (at, subst (λ v. IsTrue (is_first_hit (shadow_at kept v) y)) (sym at) (first_from _ _ not_yet ((clashes_before_told xs kept y w stands not_yet at).1 clash)))) ((hit_by_push xs y w).0 h.now)
-
-    from : (y.word ≡ w) × IsTrue (is_first_hit (shadow_at kept y.word) y) → IsHitBy xs y w
-    from h =
-        let parts = first_parts _ _ (subst (λ v. IsTrue (is_first_hit (shadow_at kept v) y)) h.0 h.1) in
-        record {
-          now = (hit_by_push xs y w).1 (inr ((clashes_before_told xs kept y w stands parts.0 h.0).0 parts.1));
-          before = λ old. true≢false (sym ((stands.answered w).1 old) ∙ parts.0);
-        }
+answer_told xs kept y stands w =
+    grind (arith, hit_by_push xs y w, stands.answered w, word_of_clash xs y w, clashes_before_told xs kept y w stands)
 
 -- a word is answered where its test holds
 pub then_some_is : (hit : Bool) (v w : Word) → then_some hit v ≡ Some w ↔ ((v ≡ w) × IsTrue hit)
-then_some_is true v w = (λ h. (cc, refl), λ h. ap Some h.0)
-then_some_is false v w = (λ h. cc, λ h. absurd (true≢false (sym h.1)))
-
-either : (a c : Bool) → (a || c) ≡ true → (a ≡ true) ⊎ (c ≡ true)
-either true c h = inl refl
-either false c h = inr h
-
-left : (a c : Bool) → a ≡ true → (a || c) ≡ true
-left true c h = refl
-left false c h = absurd (true≢false (sym h))
-
-right : (a c : Bool) → c ≡ true → (a || c) ≡ true
-right true c h = refl
-right false c h = h
-
-none : (a c : Bool) → (a || c) ≡ false → a ≡ false
-none true c h = absurd (true≢false h)
-none false c h = refl
+then_some_is hit v w = grind arith
 
 -- ---- clashes
 
 some_weaker : {X : Type 0} (P Q : X → Type 0) (xs : List X) → ((x : X) → P x → Q x) → SomeOf P xs → SomeOf Q xs
 some_weaker P Q [] weaker h = h
-some_weaker P Q (x ∷ xs) weaker h = ⊎_elim (λ p. inl (weaker x p)) (λ rest. inr (some_weaker P Q xs weaker rest)) h
+some_weaker P Q (x ∷ xs) weaker h = grind (arith, weaker x, some_weaker P Q xs weaker)
 
 -- a touch of the accesses to a word is that of one of them
 some_access : (w : Word) (t : Touch) (xs : List ClockedAccess) → SomeOf (λ u. u ≡ t) (map touch_of (accesses_to w xs)) → SomeOf (λ x. (x.word ≡ w) × (touch_of x ≡ t)) xs
 some_access w t [] h = h
-some_access w t (x ∷ xs) h =
-    elim (same_word x.word w) as (λ b. (same_word x.word w ≡ b) → SomeOf (λ u. u ≡ t) (map touch_of (cond b (x ∷ accesses_to w xs) (accesses_to w xs))) → SomeOf (λ z. (z.word ≡ w) × (touch_of z ≡ t)) (x ∷ xs)) [
-      | true ↦ λ e there. ⊎_elim (λ same. inl (same_from_equal x.word w e, same)) (λ rest. inr (some_access w t xs rest)) there
-      | false ↦ λ e there. inr (some_access w t xs there)
-    ] refl h
+some_access w t (x ∷ xs) h = grind (arith, some_access w t xs, same_from_equal x.word w)
 
 -- an access that clashes with a touch that is kept clashes with the touch's access
 pub clash_in : (xs : List ClockedAccess) (kept : Kept) (y : ClockedAccess) (w : Word) (t : Touch) → StandsFor xs kept → (shadow_at kept w).answered ≡ false → y.word ≡ w → find (touch_clashes y) (shadow_at kept w).touches ≡ Some t → IsClashIn (xs ++ y ∷ []) w (touch_event t) (event_of y)
@@ -145,7 +99,7 @@ pub hit_after : (old new : WordShadow) (y : ClockedAccess) (t : Touch) → old.a
 hit_after old new y t not_yet found answered clash =
     let hit : clashes_before old y ≡ true = find_told (touch_clashes y) old.touches ∙ ap is_some found in
     record {
-      answered = answered ∙ sym (right old.answered _ hit);
+      answered = answered ∙ sym (or_right old.answered _ hit);
       clash = λ _. clash ∙ sym (ap (λ b. if b then old.clash else clash_with old y) not_yet ∙ ap (option_map (λ (u : Touch). (touch_event u, touch_event (touch_of y)))) found);
       touches = λ not_answered. absurd (true≢false (sym answered ∙ not_answered));
     }
@@ -177,31 +131,16 @@ stands_after xs old y new stands after = record {
     touched : (w : Word) (b : Bool) → same_word y.word w ≡ b → (shadow_at new w).answered ≡ false → Keeps (shadow_at new w).touches (map touch_of (accesses_to w (xs ++ y ∷ [])))
     touched w true t not_yet =
         let step = here w t in
-        let was = none _ _ (sym step.answered ∙ not_yet) in
+        let was = (or_parts _ _ (sym step.answered ∙ not_yet)).0 in
         subst (λ ts. Keeps (shadow_at new w).touches ts) (sym (listed w true t)) (Keeps-trans _ _ _ (step.touches not_yet) (Keeps-append _ _ _ _ (stands.touches w was) (Keeps-self (touch_of y ∷ []))))
     touched w false f not_yet =
         let same = after.others w f in
         let was = sym (ap (λ s. s.answered) same) ∙ not_yet in
         subst (λ ts. Keeps (shadow_at new w).touches ts) (sym (listed w false f ∙ append-nil (map touch_of (accesses_to w xs)))) (subst (λ (s : WordShadow). Keeps s.touches (map touch_of (accesses_to w xs))) (sym same) (stands.touches w was))
 
-    became : (w : Word) (b : Bool) → (shadow_at old w).answered ≡ b → same_word y.word w ≡ true → IsTrue (shadow_at new w).answered ↔ IsHitIn (xs ++ y ∷ []) w
-    became w true a t =
-        let step = here w t in (
-          λ _. (hit_by_push xs y w).1 (inl ((stands.answered w).0 a)),
-          λ _. step.answered ∙ left _ _ a,
-        )
-    became w false a t =
-        let step = here w t in
-        let before = clashes_before_told xs old y w stands a (same_from_equal y.word w t) in (
-          λ h. (hit_by_push xs y w).1 (inr (before.0 (⊎_elim (λ b. absurd (true≢false (sym b ∙ a))) (λ c. c) (either _ _ (sym step.answered ∙ h))))),
-          λ h. step.answered ∙ ⊎_elim (λ b. left _ _ ((stands.answered w).1 b)) (λ c. right _ _ (before.1 c)) ((hit_by_push xs y w).0 h),
-        )
-
     -- the clash of a word that is answered after the access
     newly : (w : Word) → (shadow_at old w).answered ≡ false → same_word y.word w ≡ true → IsTrue (shadow_at new w).answered → (o : Option Touch) → find (touch_clashes y) (shadow_at old w).touches ≡ o → KeepsClash (xs ++ y ∷ []) w (shadow_at new w)
-    newly w not_yet t a None empty =
-        let step = here w t in
-        absurd (true≢false (sym a ∙ step.answered ∙ ap (λ b. b || clashes_before (shadow_at old w) y) not_yet ∙ find_told (touch_clashes y) _ ∙ ap is_some empty))
+    newly w not_yet t a None empty = grind (arith, (here w t).answered, find_told (touch_clashes y) (shadow_at old w).touches)
     newly w not_yet t a (Some u) found =
         let step = here w t in
         record {
@@ -222,9 +161,6 @@ stands_after xs old y new stands after = record {
         clash_stays xs y w _ _ (ap (λ s. s.clash) same) (stands.clashes w (sym (ap (λ s. s.answered) same) ∙ a))
 
     told : (w : Word) (b : Bool) → same_word y.word w ≡ b → IsTrue (shadow_at new w).answered ↔ IsHitIn (xs ++ y ∷ []) w
-    told w true t = became w (shadow_at old w).answered refl t
-    told w false f =
-        let same = ap (λ s. s.answered) (after.others w f) in (
-          λ h. (hit_by_push xs y w).1 (inl ((stands.answered w).0 (sym same ∙ h))),
-          λ h. same ∙ ⊎_elim (λ a. (stands.answered w).1 a) (λ c. absurd (true≢false (sym (subst (λ v. same_word v w ≡ true) (sym (word_of_clash xs y w c)) (equal.laws-law.refl w)) ∙ f))) ((hit_by_push xs y w).0 h),
-        )
+    told w true t =
+        grind (arith, hit_by_push xs y w, stands.answered w, (here w t).answered, clashes_before_told xs old y w stands, same_from_equal y.word w t)
+    told w false f = grind (arith, hit_by_push xs y w, stands.answered w, after.others w f, word_of_clash xs y w, equal.laws-law.refl w)

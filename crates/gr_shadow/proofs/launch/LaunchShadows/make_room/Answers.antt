@@ -1,4 +1,4 @@
-use Rattle.std.proofs.Common.{List, sym, subst, ◌++◌, ◌∷◌, [], Some, Option}
+use Rattle.std.proofs.Common.{List, sym, subst, Option}
 use Rattle.gr_shadow.specs.Kept.{Kept}
 use Rattle.gr_shadow.specs.Launches.{LaunchKept, StandsForLaunch}
 use Rattle.gr_shadow.proofs.LaunchLemmas.{pushed}

@@ -1,4 +1,4 @@
-use Rattle.std.proofs.Common.{◌≡◌, ◌↔◌, ◌<◌, List, Contains, Option, Some, ◌+◌, ap, arith, inl, inr, get_or, length, sym, subst, ⊎_elim, ◌∙◌}
+use Rattle.std.proofs.Common.{◌≡◌, ◌↔◌, ◌<◌, List, Option, Some, ap, arith, inl, inr, get_or, length, sym, subst, ⊎_elim, ◌∙◌}
 use Rattle.gr_model.specs.declared.event.Word.{Word}
 use Rattle.gr_shadow.specs.Clashes.{ClockedAccess, IsHitIn}
 use Rattle.gr_shadow.specs.Kept.{Kept}
