@@ -1,9 +1,10 @@
 -- The windows of a group's items: what is read, what is written at an item, and that those in which nothing waits can go.
-use Rattle.std.proofs.Common.{◌≡◌, ℕ, zero, suc, ◌+◌, ◌-◌, ◌<◌, ◌≤◌, ◌==◌, List, [], ◌∷◌, ◌++◌, length, get_or, set, drop, refl, sym, ◌∙◌, ap, arith, append-nil}
+use Rattle.std.proofs.lemmas.Bool.Decides.{nat_tests}
+use Rattle.std.proofs.lemmas.List.{get_or_append_left, get_or-append_right}
+use Rattle.std.proofs.Common.{◌≡◌, ℕ, suc, ◌+◌, ◌-◌, ◌<◌, ◌≤◌, ◌==◌, List, [], ◌∷◌, ◌++◌, length, get_or, set, drop, refl, sym, ◌∙◌, ap, arith, append-nil}
 use Rattle.std.specs.Int.{from_bool}
 use Rattle.std.specs.List.{sum_by}
-use Rattle.std.proofs.lemmas.Bool.{ne_eqb}
-use Rattle.std.proofs.lemmas.List.{get_or_past, get_or_read, length-drop, length-replicate, length-set, set-append_left, set-get_or}
+use Rattle.std.proofs.lemmas.List.{get_or_past, get_or_read, length-drop, length-replicate, length-set, set-append_left}
 use Rattle.std.proofs.lemmas.List.Sums.{get_or-le-sum_by, sum_by-cons, sum_by-set}
 use Rattle.gr_model.specs.declared.event.Event.{Event}
 use Rattle.gr_windows.specs.Rows.{IsRowKept, padded, waits}
@@ -11,9 +12,7 @@ use Rattle.gr_windows.proofs.WindowLemmas.{none_is, none_of}
 
 -- what is read
 rest_reads : (ws : List (List Event)) (n i : ℕ) → get_or (ws ++ none_of n) i [] ≡ get_or ws i []
-rest_reads [] n i = none_is n i
-rest_reads (w ∷ ws) n zero = refl
-rest_reads (w ∷ ws) n (suc i) = rest_reads ws n i
+rest_reads ws n i = grind (arith, get_or_append_left, get_or-append_right ws (none_of n) (length ws) i [], none_is, get_or_past)
 
 pub padded_reads : (size : ℕ) (ws : List (List Event)) (i : ℕ) → get_or (padded size ws) i [] ≡ get_or ws i []
 padded_reads size ws i = rest_reads ws (size - length ws) i
@@ -21,21 +20,14 @@ padded_reads size ws i = rest_reads ws (size - length ws) i
 -- ---- in how many events wait
 
 push_waits : (l : List Event) (x : Event) → waits (l ++ x ∷ []) ≡ waits l + from_bool (length l == 0)
-push_waits [] x = refl
-push_waits (y ∷ l) x = ap (λ b. 1 + from_bool b) (sym (ne_eqb (suc (length l)) 0 (λ e. omega arith)))
+push_waits l x = grind (arith, nat_tests)
 
 less_waits : (l rest : List Event) → length rest ≡ length l - 1 → waits rest + from_bool (length l == 1) ≡ waits l
-less_waits [] [] is = refl
-less_waits [] (z ∷ rest) is = absurd (omega arith)
-less_waits (x ∷ []) [] is = refl
-less_waits (x ∷ []) (z ∷ rest) is = absurd (omega arith)
-less_waits (x ∷ y ∷ l) [] is = absurd (omega arith)
-less_waits (x ∷ y ∷ l) (z ∷ rest) is = ap (λ b. 1 + from_bool b) (ne_eqb (suc (suc (length l))) 1 (λ e. omega arith))
+less_waits l rest is = grind (arith, nat_tests)
 
 waits_most : (vs : List (List Event)) → sum_by waits vs ≤ length vs
 waits_most [] = omega arith
-waits_most ([] ∷ vs) = omega (arith, sum_by-cons waits [] vs, waits_most vs)
-waits_most ((x ∷ v) ∷ vs) = omega (arith, sum_by-cons waits (x ∷ v) vs, waits_most vs)
+waits_most (v ∷ vs) = grind (arith, sum_by-cons waits v vs, waits_most vs)
 
 none_waits : (vs : List (List Event)) (n : ℕ) → sum_by waits vs ≡ 0 → vs ++ none_of n ≡ none_of (length vs + n)
 none_waits [] n none = ap none_of (omega arith)
@@ -50,12 +42,6 @@ module _ {size busy : ℕ} {ws : List (List Event)} (kept : IsRowKept size busy 
       ap none_of whole ∙ (sym (none_waits ws (size - length ws) (sym kept.count ∙ idle)) ∙ view)
 
   module _ {p item : ℕ} (same : p ≡ item) where
-    -- at an item without a window nothing waits, and nothing is forgotten
-    pub past_at : length ws ≤ p → (f : List Event → List Event) → f [] ≡ [] → s ≡ set s item (f (get_or s item []))
-    past_at past f none =
-        let empty : get_or s item [] ≡ [] = ap (λ n. get_or s n []) (sym same) ∙ (ap (λ t. get_or t p []) (sym view) ∙ (padded_reads size ws p ∙ get_or_past ws p [] past)) in
-        sym (ap (set s item) (ap f empty ∙ (none ∙ sym empty)) ∙ set-get_or s item [])
-
     module _ (there : p < length ws) {old : List Event} (reads : old ≡ get_or ws p old) where
       old_is : old ≡ get_or ws p []
       old_is = get_or_read ws p old there reads []
@@ -99,10 +85,3 @@ new_padded n ws is =
     let count : length ws ≡ n = ap length is ∙ length-replicate n [] in
     let none : n - length ws ≡ 0 = omega (arith, count) in
     ap (λ m. ws ++ none_of m) none ∙ (append-nil ws ∙ is)
-
-pub new_kept : (n : ℕ) (ws : List (List Event)) → ws ≡ none_of n → IsRowKept n 0 ws
-new_kept n ws is = record { few = (let size : length ws ≡ n = ap length is ∙ length-replicate n [] in omega (arith, size)); count = sym (ap (sum_by waits) is ∙ no_waits n) }
-  where
-    no_waits : (m : ℕ) → sum_by waits (none_of m) ≡ 0
-    no_waits zero = refl
-    no_waits (suc m) = omega (arith, sum_by-cons waits [] (none_of m), no_waits m)
