@@ -37,6 +37,13 @@ module _ (groups : List GroupClocks) (t : ClockTable) (are : AreGroups groups) (
       let within : p < length groups = subst (λ (n : ℕ). p < n) (sym table_length) there in
       get_or_read groups p x within reads no_group ∙ are p within ∙ ap (λ (u : ClockTable). group_at u p) is
 
+  -- what is read of the group of an item
+  pub item_read : (i : ItemId) (x : GroupClocks) → HasItem (map length t) i → x ≡ get_or groups i.group x → (x ≡ group_at t i.group) × (i.item < length x.clocks)
+  item_read i x has reads =
+      let there = row_of_item t i has in
+      let same = group_is i.group x there.0 reads in
+      (same, rw same there.1)
+
   -- a group is put in the place of one of as many items
   module _ (p : ℕ) (y : GroupClocks) (there : p < length t) (same : IsSameGroup (group_at t p) y) where
     pub put_table : table_of (set groups p y) ≡ set t p y.clocks

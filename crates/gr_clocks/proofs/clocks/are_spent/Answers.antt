@@ -1,7 +1,7 @@
-use Rattle.std.proofs.Common.{◌≢◌, ◌∙◌, All, ap, arith, refl, subst, sym, take, ◌++◌, ◌∷◌, []}
-use Rattle.std.proofs.lemmas.List.{get_or-map, length-map, take_all, take_more}
+use Rattle.std.proofs.Common.{◌≢◌, ◌∙◌, ap, arith, refl, sym}
+use Rattle.std.proofs.lemmas.List.{get_or-map, length-map, take_all}
 use Rattle.std.proofs.lemmas.Bool.{false≢true}
-use Rattle.std.proofs.lemmas.List.Elements.{All-push}
+use Rattle.std.proofs.lemmas.List.Elements.{All-more}
 use Rattle.gr_clocks.specs.declared.clock.TheConstants.{LARGEST_COUNT}
 use Rattle.gr_clocks.specs.Counts.{Counts, count_of}
 use Rattle.gr_clocks.proofs.ReleaseLemmas.{none_spent}
@@ -33,9 +33,6 @@ returns-then-is_spent g c =
 
 pub loop-snapshot-preserved : goal.loop-snapshot-preserved
 loop-snapshot-preserved g c =
-    let r = c.snapshot-item.result in
-    let i = c.loop-snapshot.snapshot-index in
-    let more = take_more c.args.snapshots.now i r c.loop-snapshot-test.true in
-    let room : count_of r.now.clock c.args.item ≢ LARGEST_COUNT = λ full. false≢true (c.if-is_spent.ensures.1 (ap (λ (v : Counts). count_of v c.args.item) c.clock.ensures ∙ full)) in
-    subst (All (λ s. count_of s.now.clock c.args.item ≢ LARGEST_COUNT)) (sym (more ∙ ap (λ x. take i c.args.snapshots.now ++ x ∷ []) (sym c.snapshot-item.is)))
-    (All-push (λ s. count_of s.now.clock c.args.item ≢ LARGEST_COUNT) (take i c.args.snapshots.now) r c.loop-snapshot.invariant room)
+    let room : count_of c.snapshot-item.result.now.clock c.args.item ≢ LARGEST_COUNT = λ full. false≢true (c.if-is_spent.ensures.1 (ap (λ (v : Counts). count_of v c.args.item) c.clock.ensures ∙ full)) in
+    All-more (λ s. count_of s.now.clock c.args.item ≢ LARGEST_COUNT) c.args.snapshots.now c.loop-snapshot.snapshot-index c.snapshot-item.result c.loop-snapshot-test.true c.loop-snapshot.invariant
+    (rw (← c.snapshot-item.is) room)
