@@ -11,12 +11,6 @@ size_at t n lt = get_or-map length t n [] 0 (omega (arith, lt, length-map t (λ 
 free_at : (t : ClockTable) (n : ℕ) → n < length (map length t) → ¬ IsGroupFull t n → ¬ HasFullClock (group_at t n)
 free_at t n lt free full = free (full.0, omega (arith, full.1, size_at t n lt), full.2)
 
-pub group-requires : goal.group-requires
-group-requires g c = omega (arith, c.requires.group.0, length-map c.args.self.now (λ (row : List Counts). length row))
-
-pub group-requires-else-orders : goal.group-requires-else-orders
-group-requires-else-orders g c = omega (arith, c.requires.group.0, length-map c.args.self.now (λ (row : List Counts). length row))
-
 pub met-requires : goal.met-requires
 met-requires g c = record {
   some = subst (λ (o : GroupClocks). 0 < length o.clocks) (sym c.group.ensures) (omega (arith, c.requires.group.1, size_at c.args.self.now c.args.group c.requires.group.0));
@@ -35,9 +29,3 @@ pub returns-else-orders-clause-behind : goal.returns-else-orders-clause-behind
 returns-else-orders-clause-behind g c =
     subst (λ (b : Bool). IfOk c.ticked.result (λ x. IsBehind (group_at c.args.self.now c.args.group) b x)) (sym c.if-orders.false)
     (subst (λ (o : GroupClocks). IfOk c.ticked.result (λ x. TicksEach o x)) c.group-else-orders.ensures c.ticked.ensures.ticked)
-
-pub returns-then-orders-clause-memory : goal.returns-then-orders-clause-memory
-returns-then-orders-clause-memory g c = c.met.ensures.memory
-
-pub returns-else-orders-clause-memory : goal.returns-else-orders-clause-memory
-returns-else-orders-clause-memory g c = c.ticked.ensures.memory
