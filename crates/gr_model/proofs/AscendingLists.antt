@@ -1,10 +1,9 @@
 -- A list without repeats in an order is told by its elements.
-use Rattle.std.proofs.Common.{◌≡◌, ◌⊎◌, ℕ, zero, suc, ◌<◌, List, [], ◌∷◌, length, slice_index_or, Contains, AllPairs, refl, sym, ◌∙◌, subst, inl, inr, ⊎_elim, arith}
+use Rattle.std.proofs.Common.{◌≡◌, ◌⊎◌, ℕ, suc, ◌<◌, List, [], ◌∷◌, length, slice_index_or, Contains, AllPairs, refl, sym, ◌∙◌, subst, ⊎_elim, arith}
 use Rattle.gr_model.specs.Reports.{Lists}
 
 Contains-cases : {X : Type 0} (y : X) (ys : List X) (x : X) (k : ℕ) → k < length (y ∷ ys) → slice_index_or (y ∷ ys) k x ≡ x → (y ≡ x) ⊎ Contains ys x
-Contains-cases y ys x zero lt at = inl at
-Contains-cases y ys x (suc k) lt at = inr (k, omega arith, at)
+Contains-cases y ys x k lt at = grind arith
 
 Contains-later : {X : Type 0} (y : X) (ys : List X) (x : X) → Contains ys x → Contains (y ∷ ys) x
 Contains-later y ys x h = (suc h.0, omega (arith, h.1), h.2)

@@ -1,11 +1,11 @@
 -- What may have come stays so where a group gets its items, and its lists have grown.
-use Rattle.std.proofs.Common.{◌≡◌, ℕ, ◌+◌, ◌<◌, ◌≤◌, List, [], ◌∷◌, length, slice_index, slice_index_or, slice_get, sum, Some, None, refl, sym, ap, ◌∙◌, subst, inl, inr, ⊎_elim, append-nil, arith}
+use Rattle.std.proofs.Common.{◌≡◌, ℕ, ◌+◌, ◌<◌, ◌≤◌, List, [], ◌∷◌, length, slice_index, slice_get, sum, Some, refl, ap, ◌∙◌, ⊎_elim, append-nil, arith}
 use Rattle.std.specs.Prelude.{◌≢◌}
 use Rattle.std.proofs.lemmas.Bool.{cases_eq, cases_lt}
 use Rattle.std.proofs.lemmas.List.{get_or_past}
 use Rattle.gr_model.specs.declared.event.Event.{Event}
 use Rattle.gr_model.specs.declared.event.ItemId.{ItemId}
-use Rattle.gr_model.specs.declared.limits.TheConstants.{MOST_GROUPS, MOST_ITEMS, MOST_ITEMS_OF_A_GROUP, MOST_RECORDS}
+use Rattle.gr_model.specs.declared.limits.TheConstants.{MOST_GROUPS, MOST_ITEMS, MOST_ITEMS_OF_A_GROUP}
 use Rattle.gr_model.specs.Groups.{CanAdd, put, with_group}
 use Rattle.gr_model.specs.Shapes.{HasItem, IsPartOfShape, IsShape}
 use Rattle.gr_model.specs.Streams.{ArePrefixes, Grows, IsPrefix, Streams, list_of, size_of}
@@ -30,11 +30,7 @@ part_with_group sizes g n part group none size room = record {
 module _ (s : Streams) (g n : ℕ) where
   -- of each group as much has come as before
   pub list_stays : (h : ℕ) → list_of (with_group s g n) h ≡ list_of s h
-  list_stays h =
-      ⊎_elim
-      (λ (same : h ≡ g). ap (λ k. slice_index_or (put [] s.lists g (list_of s g)) k []) same ∙ put_same [] s.lists g (list_of s g) ∙ ap (list_of s) (sym same))
-      (λ apart. put_other [] s.lists g (list_of s g) h apart)
-      (cases_eq h g)
+  list_stays h = grind (arith, put_same, put_other)
 
   pub size_now : size_of (with_group s g n) g ≡ n
   size_now = put_same 0 s.sizes g n
@@ -56,47 +52,24 @@ module _ (s : Streams) (g n : ℕ) where
         nothing (x ∷ xs) none = absurd (none x refl)
 
     pub group_grows : Grows s (with_group s g n)
-    group_grows = record {
-      sizes = λ h. ⊎_elim
-          (λ (same : h ≡ g). inr (ap (list_of s) same ∙ nothing_came))
-          (λ apart. inl (sym (size_stays h apart)))
-          (cases_eq h g);
-      lists = λ h. ([], list_stays h ∙ sym (append-nil (list_of s h)));
-      whole = λ h whole. list_stays h;
-    }
+    group_grows = grind (arith, nothing_came, size_stays, list_stays, append-nil)
 
     nothing_is_prefix : (items : ℕ) (list : List Event) → list ≡ [] → IsPrefix items list
-    nothing_is_prefix items list none = record {
-      few = subst (λ l. length l ≤ MOST_RECORDS) (sym none) (omega arith);
-      good = λ p x at. let no : None ≡ Some x = sym (ap (λ l. slice_get l p) none) ∙ at in cc;
-    }
+    nothing_is_prefix items list none = grind arith
 
     pub prefixes_with_group : ArePrefixes (with_group s g n)
     prefixes_with_group = record {
       shape = part_with_group s.sizes g n prefixes.shape can.group can.none can.size.1 can.total;
-      count = let lists = length_put [] s.lists g (list_of s g) in let sizes = length_put 0 s.sizes g n in let count = prefixes.count in omega (arith, lists, sizes, count);
+      count = omega (arith, length_put [] s.lists g (list_of s g), length_put 0 s.sizes g n, prefixes.count);
       each = λ h there. ⊎_elim
-          (λ (same : h ≡ g). nothing_is_prefix (size_of (with_group s g n) h) (list_of (with_group s g n) h) (list_stays h ∙ ap (list_of s) same ∙ nothing_came))
+          (λ (same : h ≡ g). nothing_is_prefix _ _ (list_stays h ∙ ap (list_of s) same ∙ nothing_came))
           (λ apart. ⊎_elim
-          (λ (was : h < length s.sizes). subst (λ m. IsPrefix m (list_of (with_group s g n) h)) (sym (size_stays h apart)) (subst (IsPrefix (size_of s h)) (sym (list_stays h)) (prefixes.each h was)))
-          (λ (past : length s.sizes ≤ h). nothing_is_prefix (size_of (with_group s g n) h) (list_of (with_group s g n) h) (list_stays h ∙ get_or_past s.lists h [] (let count = prefixes.count in omega (arith, past, count))))
+          (λ (was : h < length s.sizes). rw (list_stays h, size_stays h apart) (prefixes.each h was))
+          (λ past. nothing_is_prefix _ _ (list_stays h ∙ get_or_past s.lists h [] (omega (arith, past, prefixes.count))))
           (cases_lt h (length s.sizes)))
           (cases_eq h g);
     }
 
-    -- the items of the other groups
-    pub item_stays : (i : ItemId) → HasItem s.sizes i → HasItem (with_group s g n).sizes i
-    item_stays i has =
-        let apart : i.group ≢ g = λ same. let none : slice_index s.sizes i.group ≡ 0 = ap (slice_index s.sizes) same ∙ can.none in let some = has.1 in absurd (omega (arith, none, some)) in
-        (let count = length_put 0 s.sizes g n in let some = has.0 in omega (arith, count, some), subst (λ m. i.item < m) (sym (size_stays i.group apart)) has.1)
-
     -- and its own
     pub item_was : (i : ItemId) → i.group ≢ g → HasItem (with_group s g n).sizes i → HasItem s.sizes i
-    item_was i apart has =
-        let item : i.item < slice_index s.sizes i.group = subst (λ m. i.item < m) (size_stays i.group apart) has.1 in (
-          ⊎_elim
-              (λ (there : i.group < length s.sizes). there)
-              (λ (past : length s.sizes ≤ i.group). let none : slice_index s.sizes i.group ≡ 0 = get_or_past s.sizes i.group 0 past in absurd (omega (arith, none, item)))
-              (cases_lt i.group (length s.sizes)),
-          item,
-        )
+    item_was i apart has = grind (arith, size_stays, get_or_past)

@@ -1,5 +1,5 @@
 -- What holds of the events that are reached holds on where incomplete lists grow.
-use Rattle.std.proofs.Common.{Contains, ◌≡◌, ◌⊎◌, ℕ, zero, suc, ◌+◌, ◌<◌, Bool, false, true, List, [], ◌++◌, length, Some, None, slice_get, filter, filter_map, option_and_then, sym, ap, ◌∙◌, subst, inl, inr, ⊎_elim, arith, IsTrue}
+use Rattle.std.proofs.Common.{Contains, ◌≡◌, ◌⊎◌, ℕ, zero, suc, ◌+◌, ◌<◌, Bool, List, ◌++◌, Some, slice_get, filter, filter_map, option_and_then, sym, ap, ◌∙◌, subst, inl, inr, ⊎_elim, arith, IsTrue}
 use Rattle.std.proofs.lemmas.List.Elements.{filter-append, filter_map-append}
 use Rattle.std.proofs.lemmas.Option.{slice_get_within}
 use Rattle.gr_model.specs.declared.event.ItemId.{ItemId}
@@ -9,7 +9,7 @@ use Rattle.gr_model.specs.declared.event.Event.{Event}
 use Rattle.gr_model.specs.Access.{event_word, is_release}
 use Rattle.gr_model.specs.Barriers.{IsConvergent, IsDivergent, StandsIn, Together, arrivals, is_barrier, mark_of}
 use Rattle.gr_model.specs.HappensBefore.{BasePair, HappensBefore, IsInclusive, behind_barrier, by_pair, sequenced, synchronized, through}
-use Rattle.gr_model.specs.Instances.{AreMixed, HasArrived, Mark}
+use Rattle.gr_model.specs.Instances.{HasArrived, Mark}
 use Rattle.gr_model.specs.Names.{HasName, Matches, MatchesBy, names_at, names_of}
 use Rattle.gr_model.specs.Streams.{Grows, IsEvent, Streams, event_at, is_complete, is_of, list_of, place_of, places_from, size_of, trace_of, word_at}
 use Rattle.gr_model.specs.Waits.{IsSettled, Stage, Waits, for_arrival, for_meeting, for_previous, for_release}
@@ -20,10 +20,7 @@ use Rattle.gr_model.proofs.Cuts.{same_event}
 
 -- an instance is not both convergent and divergent
 pub not_both : (u : Streams) (g k : ℕ) (a : Mark) → IsConvergent u g k a → IsDivergent u g k → ⊥
-not_both u g k a c (inl mixed) =
-    let same : mixed.2 ≡ mixed.3 = let e : Some mixed.2 ≡ Some mixed.3 = sym mixed.4.1 ∙ (c.1 mixed.0 mixed.4.0 ∙ (sym (c.1 mixed.1 mixed.5.0) ∙ mixed.5.1)) in cc in
-    mixed.6 same
-not_both u g k a c (inr part) = let e : Some a ≡ None = sym (c.1 part.1.1 part.1.4) ∙ part.1.5 in cc
+not_both u g k a c h = grind arith
 
 module _ (s t : Streams) (grows : Grows s t) where
   pub trace_grows : (i : ItemId) → (more : List Event) × (trace_of t i ≡ trace_of s i ++ more)
@@ -34,14 +31,12 @@ module _ (s t : Streams) (grows : Grows s t) where
   -- an event stays
   pub event_grows : (e : EventId) (x : Event) → event_at s e ≡ Some x → event_at t e ≡ Some x
   event_grows e x at =
-      let more = trace_grows e.at in
-      ap (λ l. slice_get l e.index) more.1 ∙ slice_get-append (trace_of s e.at) more.0 e.index x at
+      let more = trace_grows e.at in rw more.1 (slice_get-append (trace_of s e.at) more.0 e.index x at)
 
   -- the k-th that passes a test stays where it is, and is the k-th that was there
   place_grows : (test : Event → Bool) (i : ItemId) (k n : ℕ) → place_of s test i k ≡ Some n → place_of t test i k ≡ Some n
   place_grows test i k n at =
-      let more = trace_grows i in
-      ap (λ l. slice_get (places_from test 0 l) k) more.1 ∙ (ap (λ l. slice_get l k) (places_from-append test 0 (trace_of s i) more.0) ∙ slice_get-append (places_from test 0 (trace_of s i)) (places_from test (0 + length (trace_of s i)) more.0) k n at)
+      let more = trace_grows i in rw (more.1, places_from-append) (slice_get-append (places_from test 0 (trace_of s i)) _ k n at)
 
   place_shrinks : (test : Event → Bool) (e : EventId) (k : ℕ) → IsEvent s e → place_of t test e.at k ≡ Some e.index → place_of s test e.at k ≡ Some e.index
   place_shrinks test e k there at =
@@ -49,9 +44,7 @@ module _ (s t : Streams) (grows : Grows s t) where
       places_from-within test (trace_of s e.at) more.0 k e.index (ap (λ l. slice_get (places_from test 0 l) k) (sym more.1) ∙ at) (slice_get_within (trace_of s e.at) e.index there.0 there.1)
 
   place_there : (test : Event → Bool) (e : EventId) (k : ℕ) → place_of s test e.at k ≡ Some e.index → IsEvent s e
-  place_there test e k at =
-      let h = places_from-there test 0 (trace_of s e.at) k e.index at in
-      (h.1, let same : e.index ≡ h.0 = omega (arith, h.2) in ap (slice_get (trace_of s e.at)) same ∙ h.3)
+  place_there test e k at = grind (arith, places_from-there)
 
   pub word_grows : (e : EventId) → IsEvent s e → word_at t e ≡ word_at s e
   word_grows e there = ap (option_and_then (event_word e.at.group)) (event_grows e there.0 there.1 ∙ sym there.1)
@@ -68,13 +61,7 @@ module _ (s t : Streams) (grows : Grows s t) where
   release_event n f e m = place_there is_release e n.release (ap (λ i. place_of s is_release i n.release) m.item ∙ m.place)
 
   matches_by_grows : (n : Name) (f e : EventId) → IsEvent s f → MatchesBy s n f e → MatchesBy t n f e
-  matches_by_grows n f e there m =
-      record {
-        named = subst (λ names. Contains names n) (sym (names_grow f there)) m.named;
-        item = m.item;
-        place = place_grows is_release n.at n.release e.index m.place;
-        word = word_grows f there ∙ (m.word ∙ sym (word_grows e (release_event n f e m)));
-      }
+  matches_by_grows n f e there m = grind (arith, names_grow, place_grows, word_grows, release_event)
 
   matches_grows : (f e : EventId) → IsEvent s f → Matches s f e → Matches t f e
   matches_grows f e there m = record { name = m.name; by = matches_by_grows m.name f e there m.by }
@@ -92,27 +79,18 @@ module _ (s t : Streams) (grows : Grows s t) where
 
   -- a group of which an event has come keeps its size
   pub size_stays : (e : EventId) → IsEvent s e → size_of s e.at.group ≡ size_of t e.at.group
-  size_stays e there = ⊎_elim (λ same. same) (λ none. absurd (nothing_there none)) (grows.sizes e.at.group)
-    where
-      nothing_there : list_of s e.at.group ≡ [] → ⊥
-      nothing_there none = let no : None ≡ Some there.0 = sym (ap (λ l. slice_get (filter (is_of e.at.item) l) e.index) none) ∙ there.1 in cc
+  size_stays e there = grind arith
 
   size_with : (g k i : ℕ) (a : Mark) → arrivals s g k i ≡ Some a → size_of s g ≡ size_of t g
-  size_with g k i a at = ⊎_elim (λ same. same) (λ none. absurd (nobody_came none)) (grows.sizes g)
-    where
-      nobody_came : list_of s g ≡ [] → ⊥
-      nobody_came none = let no : None ≡ Some a = sym (ap (λ l. slice_get (filter_map mark_of (filter (is_of i) l)) k) none) ∙ at in cc
+  size_with g k i a at = grind arith
 
   size_of_whole : (g : ℕ) → IsTrue (is_complete (list_of s g)) → size_of s g ≡ size_of t g
-  size_of_whole g whole = ⊎_elim (λ same. same) (λ none. absurd (nothing_is_whole none)) (grows.sizes g)
-    where
-      nothing_is_whole : list_of s g ≡ [] → ⊥
-      nothing_is_whole none = let no : false ≡ true = sym (ap is_complete none) ∙ whole in cc
+  size_of_whole g whole = grind arith
 
   arrival_grows : (g k i : ℕ) (a : Mark) → arrivals s g k i ≡ Some a → arrivals t g k i ≡ Some a
   arrival_grows g k i a at =
       let more = trace_grows (record { group = g; item = i }) in
-      ap (λ l. slice_get (filter_map mark_of l) k) more.1 ∙ (ap (λ l. slice_get l k) (filter_map-append mark_of (trace_of s (record { group = g; item = i })) more.0) ∙ slice_get-append (filter_map mark_of (trace_of s (record { group = g; item = i }))) (filter_map mark_of more.0) k a at)
+      rw (more.1, filter_map-append) (slice_get-append (filter_map mark_of (trace_of s (record { group = g; item = i }))) (filter_map mark_of more.0) k a at)
 
   arrived_grows : (g k i : ℕ) (a : Mark) → HasArrived (size_of s g) (arrivals s g k) i a → HasArrived (size_of t g) (arrivals t g k) i a
   arrived_grows g k i a h = (subst (λ n. i < n) (size_with g k i a h.1) h.0, arrival_grows g k i a h.1)
@@ -126,70 +104,37 @@ module _ (s t : Streams) (grows : Grows s t) where
       let size = size_of_met g k a c in
       (subst (λ n. 0 < n) size c.0, λ i below. arrival_grows g k i a (c.1 i (subst (λ n. i < n) (sym size) below)))
 
-  mixed_grows : (g k : ℕ) → AreMixed (size_of s g) (arrivals s g k) → AreMixed (size_of t g) (arrivals t g k)
-  mixed_grows g k h = (h.0, h.1, h.2, h.3, arrived_grows g k h.0 h.2 h.4, arrived_grows g k h.1 h.3 h.5, h.6)
-
   -- a whole list's traces stay
   whole_trace : (g i : ℕ) → IsTrue (is_complete (list_of s g)) → trace_of t (record { group = g; item = i }) ≡ trace_of s (record { group = g; item = i })
   whole_trace g i whole = ap (filter (is_of i)) (grows.whole g whole)
 
   pub divergent_grows : (g k : ℕ) → IsDivergent s g k → IsDivergent t g k
-  divergent_grows g k (inl mixed) = inl (mixed_grows g k mixed)
-  divergent_grows g k (inr part) =
-      let whole = part.0 in
-      let h = part.1 in
-      inr (
-        ap is_complete (grows.whole g whole) ∙ whole,
-        (h.0, h.1, h.2, arrived_grows g k h.0 h.2 h.3, subst (λ n. h.1 < n) (size_of_whole g whole) h.4, ap (λ l. slice_get (filter_map mark_of l) k) (whole_trace g h.1 whole) ∙ h.5),
-      )
+  divergent_grows g k h = grind (arith, arrived_grows, size_of_whole, whole_trace)
 
   -- a settled instance is convergent in the longer lists with the mark that it has
   convergent_shrinks : (g k : ℕ) (a : Mark) → ((b : Mark) × IsConvergent s g k b) ⊎ IsDivergent s g k → IsConvergent t g k a → IsConvergent s g k a
-  convergent_shrinks g k a (inl h) c =
-      let same : h.0 ≡ a = let e : Some h.0 ≡ Some a = sym (arrival_grows g k 0 h.0 (h.1.1 0 h.1.0)) ∙ c.1 0 c.0 in cc in
-      subst (λ b. IsConvergent s g k b) same h.1
-  convergent_shrinks g k a (inr d) c = absurd (not_both t g k a c (divergent_grows g k d))
+  convergent_shrinks g k a h c = grind (arith, arrival_grows, not_both, divergent_grows)
 
   -- a barrier's number stays
   pub stands_grows : (e : EventId) (g k : ℕ) → StandsIn s e g k → StandsIn t e g k
-  stands_grows e g k h =
-      let size : size_of s g ≡ size_of t g = subst (λ n. size_of s n ≡ size_of t n) h.group (size_stays e (place_there is_barrier e k h.place)) in
-      record { group = h.group; item = subst (λ n. e.at.item < n) size h.item; place = place_grows is_barrier e.at k e.index h.place }
+  stands_grows e g k h = grind (arith, size_stays, place_there, place_grows)
 
   pub stands_shrinks : (e : EventId) (g k : ℕ) → IsEvent s e → StandsIn t e g k → StandsIn s e g k
-  stands_shrinks e g k there h =
-      let size : size_of s g ≡ size_of t g = subst (λ n. size_of s n ≡ size_of t n) h.group (size_stays e there) in
-      record { group = h.group; item = subst (λ n. e.at.item < n) (sym size) h.item; place = place_shrinks is_barrier e k there h.place }
+  stands_shrinks e g k there h = grind (arith, size_stays, place_shrinks)
 
   pub together_grows : (a : Mark) (e b : EventId) → Together s a e b → Together t a e b
-  together_grows a e b h = record {
-    group = h.group;
-    instance = h.instance;
-    convergent = convergent_grows h.group h.instance a h.convergent;
-    first = stands_grows e h.group h.instance h.first;
-    second = stands_grows b h.group h.instance h.second;
-  }
+  together_grows a e b h = search (arith, convergent_grows, stands_grows)
 
   -- in longer lists a reached barrier has met those whom it had met
   pub together_shrinks : (a : Mark) (e b : EventId) → IsEvent s e → IsSettled s e → Together t a e b → Together s a e b
   together_shrinks a e b there go h =
       let first = stands_shrinks e h.group h.instance there h.first in
-      let settled = go.instance h.group h.instance first in
-      let convergent = convergent_shrinks h.group h.instance a settled h.convergent in
+      let convergent = convergent_shrinks h.group h.instance a (go.instance h.group h.instance first) h.convergent in
+      let within : b.at.item < size_of s h.group = omega (arith, h.second.item, size_of_met h.group h.instance a convergent) in
       let here : ItemId = record { group = h.group; item = b.at.item } in
-      let item : b.at ≡ here = λ i. record { group = h.second.group i; item = b.at.item } in
-      let size : size_of s h.group ≡ size_of t h.group = subst (λ n. size_of s n ≡ size_of t n) h.first.group (size_stays e there) in
-      let within : b.at.item < size_of s h.group = subst (λ n. b.at.item < n) (sym size) h.second.item in
       let found = filter_map-place mark_of 0 (trace_of s here) h.instance a (convergent.1 b.at.item within) in
-      let was : place_of s is_barrier b.at h.instance ≡ Some found.0 = ap (λ i. place_of s is_barrier i h.instance) item ∙ found.1 in
-      let same : Some found.0 ≡ Some b.index = sym (place_grows is_barrier b.at h.instance found.0 was) ∙ h.second.place in
-      record {
-        group = h.group;
-        instance = h.instance;
-        convergent = convergent;
-        first = first;
-        second = record { group = h.second.group; item = within; place = was ∙ same };
-      }
+      let second : StandsIn s b h.group h.instance = grind (arith, found, place_grows is_barrier here h.instance found.0, h.second, within) in
+      record { group = h.group; instance = h.instance; convergent = convergent; first = first; second = second }
 
   -- ---- what an event waits for, and the stages
 
@@ -231,31 +176,10 @@ module _ (s t : Streams) (grows : Grows s t) where
   -- ---- what happens before an event that is reached
 
   inclusive_grows : (m : Space) (e f : EventId) → IsInclusive s m e f → IsInclusive t m e f
-  inclusive_grows m e f h = record {
-    first = h.first;
-    second = h.second;
-    at_first = event_grows e h.first h.at_first;
-    at_second = event_grows f h.second h.at_second;
-    word = h.word;
-    has_word = word_grows e (h.first, h.at_first) ∙ h.has_word;
-    memory = h.memory;
-    scopes = h.scopes;
-  }
-
-  same_event_at : (e : EventId) (x : Event) → IsEvent s e → event_at t e ≡ Some x → event_at s e ≡ Some x
-  same_event_at e x there at = there.1 ∙ (sym (event_grows e there.0 there.1) ∙ at)
+  inclusive_grows m e f h = grind (arith, event_grows, word_grows)
 
   inclusive_shrinks : (m : Space) (e f : EventId) → IsEvent s e → IsEvent s f → IsInclusive t m e f → IsInclusive s m e f
-  inclusive_shrinks m e f has_e has_f h = record {
-    first = h.first;
-    second = h.second;
-    at_first = same_event_at e h.first has_e h.at_first;
-    at_second = same_event_at f h.second has_f h.at_second;
-    word = h.word;
-    has_word = sym (word_grows e has_e) ∙ h.has_word;
-    memory = h.memory;
-    scopes = h.scopes;
-  }
+  inclusive_shrinks m e f has_e has_f h = grind (arith, event_grows, word_grows)
 
   pair_grows : (m : Space) (e f : EventId) → IsEvent s f → BasePair s m e f → BasePair t m e f
   pair_grows m e f has (sequenced item below there) = sequenced item below (there.0, event_grows f there.0 there.1)
@@ -264,10 +188,7 @@ module _ (s t : Streams) (grows : Grows s t) where
 
   pair_shrinks : (m : Space) (n : ℕ) (e f : EventId) → Stage s n f → BasePair t m e f → BasePair s m e f
   pair_shrinks m n e f h (sequenced item below there) = sequenced item below (stage_event n f h).0
-  pair_shrinks m n e f h (synchronized match inclusive) =
-      let here = stage_event n f h in
-      let was = matches_shrinks f e here.0 here.1 match in
-      synchronized was (inclusive_shrinks m e f (release_event was.name f e was.by) here.0 inclusive)
+  pair_shrinks m n e f h (synchronized match inclusive) = grind (arith, stage_event, matches_shrinks, inclusive_shrinks, release_event)
   pair_shrinks m n e f h (behind_barrier a b flagged met item below there) =
       let lower = below_in_item s (Stage s) (stage_descends s) n b f h item below in
       let barrier = stage_event lower.0 b lower.2 in

@@ -14,7 +14,6 @@ pub mod AscendingLists
 pub mod ReportLaws
 pub mod Cuts
 pub mod HitsAreRaces
-pub mod Prefixes
 pub mod WordLemmas
 pub mod Sending
 pub mod Causes

@@ -1,5 +1,5 @@
 -- An element of which something holds, and a pair of elements, an earlier and a later one, that are related.
-use Rattle.std.proofs.Common.{◌≡◌, ◌⊎◌, ◌↔◌, ℕ, zero, suc, ◌<◌, Bool, true, false, cond, List, [], ◌∷◌, Some, slice_get, filter, refl, sym, ◌∙◌, subst, inl, inr, ⊎_elim, arith, true≢false}
+use Rattle.std.proofs.Common.{◌≡◌, ◌⊎◌, ◌↔◌, ℕ, zero, suc, ◌<◌, Bool, true, List, [], ◌∷◌, Some, slice_get, filter, refl, subst, inl, inr, arith}
 use Rattle.gr_model.specs.Hits.{SomePair}
 
 -- P holds of an element
@@ -24,10 +24,8 @@ PairIn R (x ∷ xs) = SomeOf (R x) xs ⊎ PairIn R xs
 
 PairIn-at : {X : Type 0} (R : X → X → Type 0) (xs : List X) (p q : ℕ) (x y : X) → p < q → slice_get xs p ≡ Some x → slice_get xs q ≡ Some y → R x y → PairIn R xs
 PairIn-at R [] p q x y lt at_x at_y r = cc
-PairIn-at R (z ∷ xs) zero zero x y lt at_x at_y r = absurd (omega arith)
-PairIn-at R (z ∷ xs) zero (suc q) x y lt at_x at_y r = inl (let same : x ≡ z = cc in SomeOf-at (R z) xs q y at_y (subst (λ w. R w y) same r))
-PairIn-at R (z ∷ xs) (suc p) zero x y lt at_x at_y r = absurd (omega arith)
-PairIn-at R (z ∷ xs) (suc p) (suc q) x y lt at_x at_y r = inr (PairIn-at R xs p q x y (omega arith) at_x at_y r)
+PairIn-at R (z ∷ xs) zero q x y lt at_x at_y r = grind (arith, SomeOf-at (R z) xs)
+PairIn-at R (z ∷ xs) (suc p) q x y lt at_x at_y r = grind (arith, PairIn-at R xs p)
 
 pub SomePair-from_in : {X : Type 0} (R : X → X → Type 0) (xs : List X) → PairIn R xs → SomePair R xs
 SomePair-from_in R [] h = absurd h
@@ -40,27 +38,11 @@ PairIn-from_some R xs h = PairIn-at R xs h.0 h.1 h.2 h.3 h.4 h.5 h.6 h.7
 -- a filter keeps an element of which P holds, where it keeps all such elements
 pub SomeOf-filter : {X : Type 0} (keep : X → Bool) (P : X → Type 0) → ((x : X) → P x → keep x ≡ true) → (xs : List X) → SomeOf P xs ↔ SomeOf P (filter keep xs)
 SomeOf-filter keep P kept [] = (λ h. h, λ h. h)
-SomeOf-filter {X} keep P kept (x ∷ xs) =
-    let rest = SomeOf-filter keep P kept xs in
-    elim (keep x) as (λ b. (keep x ≡ b) → (P x ⊎ SomeOf P xs) ↔ SomeOf P (cond b (x ∷ filter keep xs) (filter keep xs))) [
-      | true ↦ λ _. (⊎_elim (λ p. inl p) (λ t. inr (rest.0 t)), ⊎_elim (λ p. inl p) (λ t. inr (rest.1 t)))
-      | false ↦ λ e. (⊎_elim (λ p. absurd (true≢false (sym (kept x p) ∙ e))) (λ t. rest.0 t), λ t. inr (rest.1 t))
-    ] refl
+SomeOf-filter {X} keep P kept (x ∷ xs) = grind (arith, SomeOf-filter keep P kept xs)
 
 pub PairIn-filter : {X : Type 0} (keep : X → Bool) (R : X → X → Type 0) → ((x y : X) → R x y → (keep x ≡ true) × (keep y ≡ true)) → (xs : List X) → PairIn R xs ↔ PairIn R (filter keep xs)
 PairIn-filter keep R kept [] = (λ h. h, λ h. h)
-PairIn-filter {X} keep R kept (x ∷ xs) =
-    let rest = PairIn-filter keep R kept xs in
-    let later = SomeOf-filter keep (R x) (λ y r. (kept x y r).1) xs in
-    elim (keep x) as (λ b. (keep x ≡ b) → (SomeOf (R x) xs ⊎ PairIn R xs) ↔ PairIn R (cond b (x ∷ filter keep xs) (filter keep xs))) [
-      | true ↦ λ _. (⊎_elim (λ p. inl (later.0 p)) (λ t. inr (rest.0 t)), ⊎_elim (λ p. inl (later.1 p)) (λ t. inr (rest.1 t)))
-      | false ↦ λ e. (⊎_elim (λ p. absurd (none x xs p e)) (λ t. rest.0 t), λ t. inr (rest.1 t))
-    ] refl
-  where
-    none : (x : X) (xs : List X) → SomeOf (R x) xs → keep x ≡ false → ⊥
-    none x [] r e = elim r [ ]
-    none x (y ∷ ys) (inl r) e = true≢false (sym (kept x y r).0 ∙ e)
-    none x (y ∷ ys) (inr r) e = none x ys r e
+PairIn-filter keep R kept (x ∷ xs) = grind (arith, PairIn-filter keep R kept xs, SomeOf-filter keep (R x) (λ y r. (kept x y r).1) xs, SomeOf-place (R x) xs, kept x)
 
 pub SomePair-filter : {X : Type 0} (keep : X → Bool) (R : X → X → Type 0) → ((x y : X) → R x y → (keep x ≡ true) × (keep y ≡ true)) → (xs : List X) → SomePair R xs ↔ SomePair R (filter keep xs)
 SomePair-filter keep R kept xs =

@@ -11,14 +11,10 @@ put_same none (y ∷ ys) zero x = refl
 put_same none (y ∷ ys) (suc p) x = put_same none ys p x
 
 pub put_other : {X : Type 0} (none : X) (xs : List X) (p : ℕ) (x : X) (q : ℕ) → q ≢ p → get_or (put none xs p x) q none ≡ get_or xs q none
-put_other none [] zero x zero apart = absurd (apart refl)
-put_other none [] zero x (suc q) apart = refl
-put_other none [] (suc p) x zero apart = refl
-put_other none [] (suc p) x (suc q) apart = put_other none [] p x q (λ (same : q ≡ p). apart (ap suc same))
-put_other none (y ∷ ys) zero x zero apart = absurd (apart refl)
-put_other none (y ∷ ys) zero x (suc q) apart = refl
-put_other none (y ∷ ys) (suc p) x zero apart = refl
-put_other none (y ∷ ys) (suc p) x (suc q) apart = put_other none ys p x q (λ (same : q ≡ p). apart (ap suc same))
+put_other none [] zero x q apart = grind arith
+put_other none [] (suc p) x q apart = grind (arith, put_other none [] p x)
+put_other none (y ∷ ys) zero x q apart = grind arith
+put_other none (y ∷ ys) (suc p) x q apart = grind (arith, put_other none ys p x)
 
 pub length_put : {X : Type 0} (none : X) (xs : List X) (p : ℕ) (x : X) → length (put none xs p x) ≡ max (length xs) (p + 1)
 length_put none [] zero x = refl
@@ -29,15 +25,12 @@ length_put none (y ∷ ys) (suc p) x = let rest = length_put none ys p x in omeg
 -- within the list it is written
 pub put_within : {X : Type 0} (none : X) (xs : List X) (p : ℕ) (x : X) → p < length xs → put none xs p x ≡ set xs p x
 put_within none [] p x there = absurd (omega (arith, there))
-put_within none (y ∷ ys) zero x there = refl
-put_within none (y ∷ ys) (suc p) x there = ap (λ rest. y ∷ rest) (put_within none ys p x (omega (arith, there)))
+put_within none (y ∷ ys) p x there = grind (arith, put_within none ys)
 
 -- what stands between may stand there before
 pub put_behind : {X : Type 0} (none : X) (xs : List X) (p : ℕ) (x : X) → length xs ≤ p → put none (xs ++ none ∷ []) p x ≡ put none xs p x
-put_behind none [] zero x over = refl
-put_behind none [] (suc p) x over = refl
-put_behind none (y ∷ ys) zero x over = absurd (omega (arith, over))
-put_behind none (y ∷ ys) (suc p) x over = ap (λ rest. y ∷ rest) (put_behind none ys p x (omega (arith, over)))
+put_behind none [] p x over = grind arith
+put_behind none (y ∷ ys) p x over = grind (arith, put_behind none ys)
 
 pub map_put : {X Y : Type 0} (f : X → Y) (none : X) (xs : List X) (p : ℕ) (x : X) → map f (put none xs p x) ≡ put (f none) (map f xs) p (f x)
 map_put f none [] zero x = refl
@@ -59,14 +52,10 @@ sum_put (m ∷ ns) (suc p) n none = let rest = sum_put ns p n none in omega (ari
 
 -- each is small where the others are
 pub all_put : (P : ℕ → Type 0) (ns : List ℕ) (p n : ℕ) → P 0 → P n → All P ns → All P (put 0 ns p n)
-all_put P [] zero n nothing new all zero d there = new
-all_put P [] zero n nothing new all (suc k) d there = absurd (omega (arith, there))
-all_put P [] (suc p) n nothing new all zero d there = nothing
-all_put P [] (suc p) n nothing new all (suc k) d there = all_put P [] p n nothing new all k d (omega (arith, there))
-all_put P (m ∷ ns) zero n nothing new all zero d there = new
-all_put P (m ∷ ns) zero n nothing new all (suc k) d there = all (suc k) d there
-all_put P (m ∷ ns) (suc p) n nothing new all zero d there = all 0 d (omega arith)
-all_put P (m ∷ ns) (suc p) n nothing new all (suc k) d there = all_put P ns p n nothing new (λ i e lt. all (suc i) e (omega (arith, lt))) k d (omega (arith, there))
+all_put P [] zero n nothing new all k d there = grind arith
+all_put P [] (suc p) n nothing new all k d there = grind (arith, all_put P [] p n nothing new)
+all_put P (m ∷ ns) zero n nothing new all k d there = grind (arith, all k d)
+all_put P (m ∷ ns) (suc p) n nothing new all k d there = grind (arith, all 0 d, all_put P ns p n nothing new (λ i e lt. all (suc i) e (omega (arith, lt))))
 
 -- ---- lists that grow up to a place
 

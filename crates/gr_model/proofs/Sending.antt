@@ -1,5 +1,5 @@
 -- The events of one group among those that several sent, and where a list of records is complete.
-use Rattle.std.proofs.Common.{◌≡◌, ◌≢◌, ℕ, true, false, cond, eqb, eq-eqb, ne_eqb, List, [], ◌∷◌, ◌++◌, refl, ap}
+use Rattle.std.proofs.Common.{◌≡◌, ◌≢◌, ℕ, cond, eq-eqb, ne_eqb, List, [], ◌∷◌, ◌++◌, refl, ap, arith}
 use Rattle.gr_model.specs.declared.event.Event.{Event}
 use Rattle.gr_model.specs.declared.event.Sent.{Sent}
 use Rattle.gr_model.specs.Events.{is_end}
@@ -7,8 +7,7 @@ use Rattle.gr_model.specs.Streams.{events_of, is_complete}
 
 pub events_append : (g : ℕ) (xs ys : List Sent) → events_of g (xs ++ ys) ≡ events_of g xs ++ events_of g ys
 events_append g [] ys = refl
-events_append g (s ∷ ss) ys = elim (eqb s.group g) as (λ b. cond b (s.event ∷ events_of g (ss ++ ys)) (events_of g (ss ++ ys)) ≡ cond b (s.event ∷ events_of g ss) (events_of g ss) ++ events_of g ys)
-    [ true ↦ ap (λ l. s.event ∷ l) (events_append g ss ys) | false ↦ events_append g ss ys ]
+events_append g (s ∷ ss) ys = grind (arith, events_append g ss ys)
 
 pub events_here : (s : Sent) → events_of s.group (s ∷ []) ≡ s.event ∷ []
 events_here s = ap (λ b. cond b (s.event ∷ []) []) (eq-eqb s.group s.group refl)

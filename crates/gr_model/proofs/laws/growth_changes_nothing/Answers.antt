@@ -3,7 +3,7 @@ use Rattle.gr_model.specs.declared.event.EventId.{EventId}
 use Rattle.gr_model.specs.Streams.{Grows, Streams}
 use Rattle.gr_model.specs.Waits.{Stage, Waits}
 use Rattle.gr_model.proofs.GrowthLaws.{waits_grows, waits_shrink, stage_grows, stage_shrinks, before_grows, before_shrinks}
-use Rattle.gr_model.proofs.CountLaws.{count_grows, count_shrinks}
+use Rattle.gr_model.proofs.CountLaws.{count_stays}
 use Rattle.gr_model.proofs.laws.growth_changes_nothing.Goals as goal
 
 waits_stay : (s t : Streams) (e d : EventId) → Grows s t → (n : ℕ) → Stage s n e → Waits s e d ↔ Waits t e d
@@ -20,4 +20,4 @@ pub returns-clause-order : goal.returns-clause-order
 returns-clause-order c s t m e f grows g = (λ b. before_grows s t grows m e f b g.0 g.1, λ b. before_shrinks s t grows m e f b g.0 g.1)
 
 pub returns-clause-counts : goal.returns-clause-counts
-returns-clause-counts c s t m f j n grows g = (count_grows s t grows m f g.0 g.1 j n, count_shrinks s t grows m f g.0 g.1 j n)
+returns-clause-counts c s t m f j n grows g = count_stays s t grows m f g.0 g.1 j n

@@ -1,12 +1,8 @@
-use Rattle.std.proofs.Common.{◌<◌, ◌≤◌, List, ℕ, length, refl, ap, sym, subst, arith}
-use Rattle.gr_model.specs.Groups.{put}
+use Rattle.std.proofs.Common.{◌<◌, ◌≤◌, length, refl, sym, subst, arith}
 use Rattle.gr_model.specs.Shapes.{IsPartOfShape}
 use Rattle.gr_model.proofs.GroupLaws.{part_with_group}
 use Rattle.gr_model.proofs.PutLemmas.{puts_last, puts_more}
 use Rattle.gr_model.proofs.growing.GrowingShape.with_group.Goals as goal
-
-pub loop-sizes-init : goal.loop-sizes-init
-loop-sizes-init g c n = ap (λ (l : List ℕ). put 0 l c.args.group n) c.self.view_is
 
 pub loop-sizes-preserved : goal.loop-sizes-preserved
 loop-sizes-preserved g c =
