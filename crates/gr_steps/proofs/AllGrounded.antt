@@ -6,7 +6,7 @@ use Rattle.std.proofs.lemmas.Option.{slice_get_within}
 use Rattle.gr_model.specs.declared.event.EventId.{EventId}
 use Rattle.gr_model.specs.declared.event.ItemId.{ItemId}
 use Rattle.gr_model.specs.declared.event.Name.{Name}
-use Rattle.gr_model.specs.Barriers.{IsConvergent, IsDivergent, StandsIn, Together}
+use Rattle.gr_model.specs.Barriers.{IsConvergent, StandsIn, Together}
 use Rattle.gr_model.specs.Instances.{Mark}
 use Rattle.gr_model.specs.LawfulOrders.{IsIn}
 use Rattle.gr_model.specs.Names.{HasName}
@@ -14,12 +14,12 @@ use Rattle.gr_model.specs.Reports.{IsUnmatchedAcquire}
 use Rattle.gr_model.specs.Streams.{AreComplete, IsEvent, Streams, trace_of}
 use Rattle.gr_model.specs.Waits.{IsSettled, IsGrounded, IsPrevious, Stage, Waits, for_arrival, for_meeting, for_previous, for_release}
 use Rattle.gr_model.proofs.Descent.{below_in_item, stage_descends}
-use Rattle.gr_model.proofs.GrowthLaws.{not_both}
-use Rattle.gr_steps.proofs.BarrierPlaces.{barrier_there, moved, same_instance, standing, stands_before, stands_same}
+use Rattle.gr_steps.proofs.BarrierPlaces.{barrier_there, moved, standing, stands_before, stands_same, meets_in, meets_none}
 use Rattle.gr_steps.proofs.DecidedWaits.{settled}
 use Rattle.gr_steps.proofs.Deciding.{IsLeastWithout, all_below, by_cases, in_dec}
-use Rattle.gr_steps.proofs.Orders.{number_before, there_is}
+use Rattle.gr_steps.proofs.Orders.{there_is, previous_of}
 use Rattle.gr_steps.proofs.Reached.{IsClosed, reached, stage_in}
+use Rattle.gr_model.proofs.Cuts.{same_event}
 
 -- the places of an item
 abbrev event_of : ItemId → ℕ → EventId
@@ -78,14 +78,8 @@ module _ (s : Streams) (complete : AreComplete s) (matched : (e : EventId) → �
   -- the barriers of an instance are together
   joined : (a m : Mark) (c d b : EventId) → Together s a c d → Together s m d b → Together s a c b
   joined a m c d b first second =
-      let same = same_instance s d second.group second.instance first.group first.instance second.first first.second in
-      record {
-        group = first.group;
-        instance = first.instance;
-        convergent = first.convergent;
-        first = first.first;
-        second = moved s b second.group second.instance first.group first.instance same.0 same.1 second.second;
-      }
+      let second : StandsIn s b first.group first.instance = meets_in s first.group first.instance m d b first.second second in
+      record { group = first.group; instance = first.instance; convergent = first.convergent; first = first.first; second = second }
 
   -- with a barrier that is grounded, each that it meets is
   met_in : (k : ℕ) (a : Mark) (c d : EventId) → Stage s k c → Together s a c d → IsIn all d
@@ -97,13 +91,12 @@ module _ (s : Streams) (complete : AreComplete s) (matched : (e : EventId) → �
     where
       passed : IsPassed d
       passed i lt =
-          let m = number_before d.index (omega (arith, lt)) in
-          let p : EventId = event_of d.at m.0 in
-          let stage = h.2 p (for_arrival a d met (record { item = refl; next = m.1 })) in
+          let p = previous_of d i lt in
+          let stage = h.2 p.0 (for_arrival a d met p.1) in
           ⊎_elim
-          (λ (same : i ≡ m.0). stage_in s n all is k (event_of d.at i) (subst (λ j. Stage s k (event_of d.at j)) (sym same) stage))
-          (λ (less : i < m.0). let lower = below_in_item s (Stage s) (stage_descends s) k (event_of d.at i) p stage refl less in stage_in s n all is lower.0 (event_of d.at i) lower.2)
-          (eq-or-lt_of_le (let le : i ≤ m.0 = omega (arith, m.1, lt) in le))
+          (λ (same : i ≡ p.0.index). stage_in s n all is k (event_of d.at i) (subst (λ x. Stage s k x) (sym (same_event (event_of d.at i) p.0 (sym p.1.item) same)) stage))
+          (λ (less : i < p.0.index). let lower = below_in_item s (Stage s) (stage_descends s) k (event_of d.at i) p.0 stage (sym p.1.item) less in stage_in s n all is lower.0 (event_of d.at i) lower.2)
+          (eq-or-lt_of_le p.2)
 
   -- so an event is grounded where all before it are, and all before the barriers that it meets
   comes_with : (e : EventId) → IsEvent s e → IsPassed e → ((a : Mark) (b d : EventId) → Together s a e b → IsPrevious d b → IsIn all d) → IsIn all e
@@ -115,14 +108,9 @@ module _ (s : Streams) (complete : AreComplete s) (matched : (e : EventId) → �
       by_cases (standing s e)
       (λ h. ⊎_elim
       (λ c. record { group = h.0; instance = h.1; mark = c.0; stands = h.2; convergent = c.1 })
-      (λ d. absurd (away (comes_with e there passed (λ a b x met p. absurd (apart h.0 h.1 h.2 d a b met)))))
+      (λ d. absurd (away (comes_with e there passed (λ a b x met p. absurd (meets_none s h.0 h.1 a e b h.2 d met)))))
       (settled s complete e h.0 h.1 h.2))
       (λ none. absurd (away (comes_with e there passed (λ a b d met p. absurd (none (met.group, met.instance, met.first))))))
-    where
-      apart : (g k : ℕ) → StandsIn s e g k → IsDivergent s g k → (a : Mark) (b : EventId) → Together s a e b → ⊥
-      apart g k stands d a b met =
-          let same = same_instance s e g k met.group met.instance stands met.first in
-          not_both s met.group met.instance a met.convergent (subst (λ l. IsDivergent s met.group l) same.1 (subst (λ h. IsDivergent s h k) same.0 d))
 
   -- up to an event all of its item are grounded, or there is a first that is not
   search : (e : EventId) → IsPassed e ⊎ ((i : ℕ) × IsLeastWithout (λ j. IsIn all (event_of e.at j)) e.index i)
@@ -131,24 +119,20 @@ module _ (s : Streams) (complete : AreComplete s) (matched : (e : EventId) → �
   -- of two barriers of an item the earlier is of an earlier instance
   earlier_instance : (b f : EventId) (g k h l : ℕ) → b.at ≡ f.at → StandsIn s b g k → StandsIn s f h l → f.index < b.index → l < k
   earlier_instance b f g k h l at hb hf lt =
-      ⊎_elim (λ (less : l < k). less) (λ (ge : k ≤ l). ⊎_elim (λ (same : k ≡ l). absurd (one same)) (λ (over : k < l). let up = stands_before s b f g k l hb there at over in absurd (omega (arith, up, lt))) (eq-or-lt_of_le ge)) (cases_lt l k)
-    where
-      there : StandsIn s f g l
-      there = moved s f h l g l (sym hf.group ∙ (ap (λ i. i.group) (sym at) ∙ hb.group)) refl hf
-
-      one : k ≡ l → ⊥
-      one same =
-          let event = stands_same s b f g k hb (moved s f g l g k refl (sym same) there) (ap (λ i. i.item) at) in
-          let index : b.index ≡ f.index = ap (λ e. e.index) event in
-          omega (arith, lt, index)
+      let there = moved s f h l g l (sym hf.group ∙ (ap (λ i. i.group) (sym at) ∙ hb.group)) refl hf in
+      ⊎_elim (λ (less : l < k). less)
+      (λ (ge : k ≤ l). ⊎_elim
+      (λ (same : k ≡ l). absurd (omega (arith, lt, ap (λ e. e.index) (stands_same s b f g k hb (moved s f g l g k refl (sym same) there) (ap (λ i. i.item) at)))))
+      (λ (over : k < l). absurd (omega (arith, lt, stands_before s b f g k l hb there at over)))
+      (eq-or-lt_of_le ge))
+      (cases_lt l k)
 
   -- no item's first event that is not grounded stands in a convergent instance, by induction on the number of the instance: each item of the group has passed what is before its barrier, or is held at one of an earlier instance
   none_held : (bound : ℕ) (e : EventId) (at : StandsConvergent s e) → at.instance < bound → IsPassed e → (IsIn all e → ⊥) → ⊥
   none_held zero e at lt passed away = omega arith
   none_held (suc bound) e at lt passed away =
       away (comes_with e (let there = barrier_there s e at.group at.instance at.stands in (there.0, there.1)) passed (λ m b d met p.
-      let here = same_instance s e met.group met.instance at.group at.instance met.first at.stands in
-      let other = moved s b met.group met.instance at.group at.instance here.0 here.1 met.second in
+      let other = meets_in s at.group at.instance m e b at.stands met in
       let there = barrier_there s b at.group at.instance other in
       ⊎_elim
       (λ (passed : IsPassed b). previous_in b d passed p)

@@ -10,10 +10,9 @@ use Rattle.gr_model.specs.Instances.{Mark}
 use Rattle.gr_model.specs.Names.{HasItsReleases, HasName, Matches, MatchesBy, names_at, release_place}
 use Rattle.gr_model.specs.Streams.{AreComplete, Streams, place_of, size_of, trace_of, word_at}
 use Rattle.gr_model.specs.Waits.{IsPrevious, Waits, for_arrival, for_meeting, for_previous, for_release}
-use Rattle.gr_model.proofs.GrowthLaws.{not_both}
 use Rattle.gr_model.proofs.Places.{place-filter_map}
 use Rattle.gr_model.proofs.Cuts.{same_event}
-use Rattle.gr_steps.proofs.BarrierPlaces.{barrier_of, moved, same_instance, standing, stands_same}
+use Rattle.gr_steps.proofs.BarrierPlaces.{barrier_of, standing, stands_same, meets_in, meets_none}
 use Rattle.gr_steps.proofs.Deciding.{IsLeastWithout, all_below, all_dec, dec_map, mark_dec, option_dec, word_dec}
 use Rattle.gr_steps.proofs.EventRecords.{one_release}
 use Rattle.gr_steps.proofs.Orders.{number_before}
@@ -22,8 +21,7 @@ use Rattle.gr_steps.proofs.Orders.{number_before}
 
 -- a group with items is one of the shape
 group_of_items : (s : Streams) (g i : ℕ) → i < size_of s g → g < length s.sizes
-group_of_items s g i within =
-    ⊎_elim (λ lt. lt) (λ (past : length s.sizes ≤ g). let none : size_of s g ≡ 0 = get_or_past s.sizes g 0 past in absurd (omega (arith, within, none))) (cases_lt g (length s.sizes))
+group_of_items s g i within = grind (arith, get_or_past)
 
 -- an instance of a complete list is convergent or divergent, where an item has come to it
 pub settled : (s : Streams) → AreComplete s → (e : EventId) (g k : ℕ) → StandsIn s e g k → ((a : Mark) × IsConvergent s g k a) ⊎ IsDivergent s g k
@@ -91,14 +89,9 @@ module _ (s : Streams) (complete : AreComplete s) where
   instance_dec Q decide c =
       elim (standing s c) as (λ _. Dec ((a : Mark) (b : EventId) → Together s a c b → Q b)) [
         | no h ↦ yes (λ a b met. absurd (h (met.group, met.instance, met.first)))
-        | yes h ↦ ⊎_elim (λ m. convergent h.0 h.1 h.2 m.0 m.1) (λ d. yes (λ a b met. absurd (divergent h.0 h.1 h.2 d a b met))) (settled s complete c h.0 h.1 h.2)
+        | yes h ↦ ⊎_elim (λ m. convergent h.0 h.1 h.2 m.0 m.1) (λ d. yes (λ a b met. absurd (meets_none s h.0 h.1 a c b h.2 d met))) (settled s complete c h.0 h.1 h.2)
       ]
     where
-      divergent : (g k : ℕ) → StandsIn s c g k → IsDivergent s g k → (a : Mark) (b : EventId) → Together s a c b → ⊥
-      divergent g k stands d a b met =
-          let same = same_instance s c g k met.group met.instance stands met.first in
-          not_both s met.group met.instance a met.convergent (subst (λ n. IsDivergent s met.group n) same.1 (subst (λ n. IsDivergent s n k) same.0 d))
-
       of_item : (g k : ℕ) (a : Mark) → IsConvergent s g k a → (i : ℕ) → i < size_of s g → Dec (IsOfItem s Q g k i)
       of_item g k a m i lt =
           let there = barrier_of s g k a m i lt in
@@ -108,7 +101,7 @@ module _ (s : Streams) (complete : AreComplete s) where
       convergent : (g k : ℕ) → StandsIn s c g k → (a : Mark) → IsConvergent s g k a → Dec ((a : Mark) (b : EventId) → Together s a c b → Q b)
       convergent g k stands a m =
           ⊎_elim
-          (λ all. yes (λ n b met. let same = same_instance s c met.group met.instance g k met.first stands in let here = moved s b met.group met.instance g k same.0 same.1 met.second in all b.at.item here.item b refl here))
+          (λ all. yes (λ n b met. let here = meets_in s g k n c b stands met in all b.at.item here.item b refl here))
           (λ (h : (i : ℕ) × IsLeastWithout (IsOfItem s Q g k) (size_of s g) i). no (λ all. h.1.1 (λ b item other. all a b (record { group = g; instance = k; convergent = m; first = stands; second = other }))))
           (all_below (IsOfItem s Q g k) (size_of s g) (of_item g k a m))
 

@@ -1,15 +1,14 @@
 -- The record of an event stands in its group's list; a name is that of one release, and a barrier has none.
-use Rattle.std.proofs.Common.{◌≡◌, ◌==◌, ℕ, zero, suc, ◌<◌, ◌≤◌, Bool, true, false, cond, IsTrue, List, [], ◌∷◌, length, Contains, Some, None, slice_get, filter, refl, sym, ap, ◌∙◌, subst, ⊎_elim, arith, is_some, not}
-use Rattle.std.proofs.lemmas.Bool.{and_parts, cases_lt, eqb-true}
+use Rattle.std.proofs.Common.{◌≡◌, ◌==◌, ℕ, zero, suc, ◌<◌, Bool, true, false, cond, IsTrue, List, [], ◌∷◌, length, Contains, Some, slice_get, filter, refl, subst, arith, not}
+use Rattle.std.proofs.lemmas.Bool.{and_parts, eqb-true}
 use Rattle.std.proofs.lemmas.Option.{slice_get_past}
 use Rattle.std.proofs.lemmas.List.{get_or_past}
 use Rattle.gr_model.specs.declared.event.Event.{Event}
 use Rattle.gr_model.specs.declared.event.EventId.{EventId}
 use Rattle.gr_model.specs.declared.event.Kind.{Kind}
-use Rattle.gr_model.specs.declared.event.Kind.TheVariants.{Barrier, End, Load, Read, Rmw, Store, Write}
 use Rattle.gr_model.specs.declared.event.Name.{Name}
 use Rattle.gr_model.specs.Access.{is_acquire_kind}
-use Rattle.gr_model.specs.Barriers.{is_barrier, mark_of_kind}
+use Rattle.gr_model.specs.Barriers.{is_barrier}
 use Rattle.gr_model.specs.Events.{IsNamingOk, is_end}
 use Rattle.gr_model.specs.Names.{MatchesBy}
 use Rattle.gr_model.specs.Streams.{ArePrefixes, IsEvent, Streams, event_at, is_of, list_of, size_of}
@@ -34,14 +33,7 @@ record_there s e x at = let there = filter-there (is_of e.at.item) (list_of s e.
 
 -- a group with an event has a list
 pub group_there : (s : Streams) (e : EventId) → IsEvent s e → e.at.group < length s.lists
-group_there s e there =
-    ⊎_elim
-    (λ lt. lt)
-    (λ (past : length s.lists ≤ e.at.group).
-    let listed = record_there s e there.0 there.1 in
-    let gone : slice_get [] listed.0 ≡ Some there.0 = ap (λ l. slice_get l listed.0) (sym (get_or_past s.lists e.at.group [] past)) ∙ listed.1 in
-    absurd (let no : None ≡ Some there.0 = sym (slice_get_past [] listed.0 (omega arith)) ∙ gone in cc))
-    (cases_lt e.at.group (length s.lists))
+group_there s e there = grind (arith, record_there, get_or_past, slice_get_past)
 
 module _ (s : Streams) (prefixes : ArePrefixes s) (e : EventId) (x : Event) (at : event_at s e ≡ Some x) where
   -- an event is of a group and an item of the shape
@@ -56,28 +48,15 @@ module _ (s : Streams) (prefixes : ArePrefixes s) (e : EventId) (x : Event) (at 
 
 -- a name is that of one release
 pub one_release : (s : Streams) (n : Name) (e d f : EventId) → MatchesBy s n e d → MatchesBy s n e f → d ≡ f
-one_release s n e d f a b =
-    let places : Some d.index ≡ Some f.index = sym a.place ∙ b.place in
-    let index : d.index ≡ f.index = cc in
-    same_event d f (a.item ∙ sym b.item) index
+one_release s n e d f a b = grind (arith, same_event)
 
 -- what names a release is an acquire
 named_acquires : (kind : Kind) (names : List Name) (n : Name) → Contains names n → IsNamingOk kind names → IsTrue (is_acquire_kind kind)
-named_acquires kind [] n named ok = absurd (omega (arith, named.1))
-named_acquires kind (m ∷ names) n named ok = ok.0
+named_acquires kind names n named ok = grind arith
 
 pub barriers_name_nothing : (s : Streams) → ArePrefixes s → (e : EventId) (x : Event) (n : Name) → event_at s e ≡ Some x → is_barrier x ≡ true → Contains x.names n → ⊥
 barriers_name_nothing s prefixes e x n at barrier named =
     let there = record_there s e x at in
     let group = group_of_event s prefixes e x at in
     let good = (prefixes.each e.at.group group).good there.0 x there.1 in
-    clash x.kind x.word barrier (named_acquires x.kind x.names n named good.0.1)
-  where
-    clash : (kind : Kind) (word : ℕ) → is_some (mark_of_kind kind word) ≡ true → IsTrue (is_acquire_kind kind) → ⊥
-    clash Read word b a = cc
-    clash Write word b a = cc
-    clash (Load scope order) word b a = cc
-    clash (Store scope order) word b a = cc
-    clash (Rmw scope order) word b a = cc
-    clash (Barrier global local) word b a = cc
-    clash (End cut) word b a = cc
+    grind (arith, barrier, named_acquires x.kind x.names n named good.0.1)

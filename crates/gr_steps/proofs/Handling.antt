@@ -1,5 +1,5 @@
 -- A lawful order stays lawful where an event that is ready comes behind it.
-use Rattle.std.proofs.Common.{◌≡◌, ◌⊎◌, ℕ, zero, suc, ◌+◌, ◌<◌, List, [], ◌∷◌, ◌++◌, length, Some, slice_get, sym, subst, inl, inr, ⊎_elim, arith}
+use Rattle.std.proofs.Common.{◌≡◌, ◌⊎◌, ℕ, ◌+◌, ◌<◌, List, [], ◌∷◌, ◌++◌, length, sym, subst, inl, inr, arith}
 use Rattle.std.proofs.lemmas.Option.{slice_get_within}
 use Rattle.gr_model.specs.declared.event.EventId.{EventId}
 use Rattle.gr_model.specs.Barriers.{StandsIn, Together}
@@ -18,21 +18,14 @@ module _ (s : Streams) (order : List EventId) (lawful : IsLawful s order) (e : E
   IsEither p x = IsAt order p x ⊎ ((p ≡ length order) × (x ≡ e))
 
   either : (p : ℕ) (x : EventId) → IsAt (order ++ e ∷ []) p x → IsEither p x
-  either p x at = ⊎_elim (λ h. inl h) (λ (h : (i : ℕ) × (p ≡ length order + i) × (slice_get (e ∷ []) i ≡ Some x)). inr (last h.0 h.1 h.2)) (split_last order (e ∷ []) p x at)
-    where
-      last : (i : ℕ) → p ≡ length order + i → slice_get (e ∷ []) i ≡ Some x → (p ≡ length order) × (x ≡ e)
-      last zero place at = (omega arith, let same : Some e ≡ Some x = at in cc)
-      last (suc i) place at = cc
+  either p x at = grind (arith, split_last)
 
   event_more : (p : ℕ) (x : EventId) → IsEither p x → IsEvent s x × IsSettled s x
   event_more p x (inl at) = lawful.event p x at
   event_more p x (inr h) = subst (λ y. IsEvent s y × IsSettled s y) (sym h.1) (ready.event, record { release = ready.release; instance = λ g k stands. inr (ready.instance g k stands) })
 
   once_more : (p q : ℕ) (x : EventId) → IsEither p x → IsEither q x → p ≡ q
-  once_more p q x (inl a) (inl b) = lawful.once p q x a b
-  once_more p q x (inl a) (inr b) = absurd (ready.fresh (p, subst (λ y. IsAt order p y) b.1 a))
-  once_more p q x (inr a) (inl b) = absurd (ready.fresh (q, subst (λ y. IsAt order q y) a.1 b))
-  once_more p q x (inr a) (inr b) = omega arith
+  once_more p q x h h2 = grind arith
 
   after_more : (p : ℕ) (x d : EventId) → IsEither p x → Waits s x d → (q : ℕ) × (q < p) × IsAt (order ++ e ∷ []) q d
   after_more p x d (inl at) w = let there = lawful.after p x d at w in (there.0, there.1, slice_get-append order (e ∷ []) there.0 d there.2)

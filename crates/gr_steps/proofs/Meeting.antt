@@ -1,5 +1,5 @@
 -- A lawful order stays lawful where the barriers of an instance that can meet come behind it; and when an instance can meet.
-use Rattle.std.proofs.Common.{◌≡◌, ◌⊎◌, ℕ, ◌+◌, ◌<◌, ◌≤◌, List, ◌++◌, length, Some, slice_get, Contains, refl, sym, ap, ◌∙◌, subst, inl, inr, ⊎_elim, arith, eq-or-lt_of_le}
+use Rattle.std.proofs.Common.{◌≡◌, ◌⊎◌, ℕ, ◌+◌, ◌<◌, List, ◌++◌, length, Some, slice_get, Contains, refl, sym, ap, ◌∙◌, subst, inl, inr, arith}
 use Rattle.std.proofs.lemmas.Option.{slice_get_within}
 use Rattle.gr_model.specs.declared.event.EventId.{EventId}
 use Rattle.gr_model.specs.declared.event.Name.{Name}
@@ -10,11 +10,10 @@ use Rattle.gr_model.specs.Names.{HasName, names_of}
 use Rattle.gr_model.specs.Streams.{ArePrefixes, IsEvent, Streams}
 use Rattle.gr_model.specs.Waits.{IsSettled, IsPrevious, Waits, for_arrival, for_meeting, for_previous, for_release}
 use Rattle.gr_model.proofs.Places.{slice_get-append}
-use Rattle.gr_model.proofs.Cuts.{same_event}
 use Rattle.gr_steps.specs.Steps.{AreBarriers, HasMet, IsMeeting}
-use Rattle.gr_steps.proofs.BarrierPlaces.{barrier_of, barrier_there, moved, same_instance, stands_before, stands_same}
+use Rattle.gr_steps.proofs.BarrierPlaces.{barrier_of, barrier_there, same_instance, stands_before, stands_same, meets_in}
 use Rattle.gr_steps.proofs.EventRecords.{barriers_name_nothing}
-use Rattle.gr_steps.proofs.Orders.{at_behind, handled_before, number_before, split_last, there_is}
+use Rattle.gr_steps.proofs.Orders.{at_behind, split_last, there_is, handled_upto, previous_of}
 
 module _ (s : Streams) (prefixes : ArePrefixes s) (order : List EventId) (lawful : IsLawful s order) (g k : ℕ) (a : Mark) (meeting : IsMeeting s order g k a) (bs : List EventId) (are : AreBarriers s g k bs) where
   -- what stands in the longer order: what stood there, or one of the barriers
@@ -51,9 +50,7 @@ module _ (s : Streams) (prefixes : ArePrefixes s) (order : List EventId) (lawful
   met_waits : (x d : EventId) → StandsIn s x g k → Waits s x d → IsIn order d
   met_waits x d stands (for_previous previous) = meeting.before x d stands previous
   met_waits x d stands (for_release match) = absurd (no_name x match.name stands match.by.named)
-  met_waits x d stands (for_arrival m b met previous) =
-      let same = same_instance s x met.group met.instance g k met.first stands in
-      meeting.before b d (moved s b met.group met.instance g k same.0 same.1 met.second) previous
+  met_waits x d stands (for_arrival m b met previous) = meeting.before b d (meets_in s g k m x b stands met) previous
   met_waits x d stands (for_meeting m c previous met) =
       let there = meeting.before x c stands previous in
       let other = lawful.together there.0 c d m there.1 met in
@@ -78,8 +75,7 @@ module _ (s : Streams) (prefixes : ArePrefixes s) (order : List EventId) (lawful
   met_together p x b m (inr h) met =
       let is = are.each h.0 x h.2 in
       let item : x.at.item ≡ h.0 = is.0 in
-      let same = same_instance s x met.group met.instance g k met.first is.1 in
-      let other = barrier_at b (moved s b met.group met.instance g k same.0 same.1 met.second) in
+      let other = barrier_at b (meets_in s g k m x b is.1 met) in
       (length order + b.at.item, omega (arith, h.1), at_behind order bs b.at.item b other)
 
   pub lawful_meet : IsLawful s (order ++ bs)
@@ -103,11 +99,5 @@ meeting_of s order lawful g k a convergent fresh before = record { convergent = 
         let c : EventId = record { at = record { group = g; item = 0 }; index = first.0 } in
         let b : EventId = record { at = record { group = g; item = 0 }; index = later.0 } in
         let below : first.0 < later.0 = stands_before s c b g l k first.1 later.1 refl lt in
-        let n = number_before later.0 (omega (arith, below)) in
-        let d : EventId = record { at = record { group = g; item = 0 }; index = n.0 } in
-        let there : IsIn order d = before b d later.1 (record { item = refl; next = n.1 }) in
-        let handled : IsIn order c = ⊎_elim
-        (λ (same : first.0 ≡ n.0). subst (λ x. IsIn order x) (sym (same_event c d refl same)) there)
-        (λ (less : first.0 < n.0). handled_before s order lawful c d refl less there)
-        (eq-or-lt_of_le (let le : first.0 ≤ n.0 = omega (arith, n.1, below) in le)) in
-        (c, first.1, handled)
+        let p = previous_of b first.0 below in
+        (c, first.1, handled_upto s order lawful c p.0 (sym p.1.item) p.2 (before b p.0 later.1 p.1))

@@ -1,23 +1,22 @@
 -- Places in an order and in a longer one, and what a lawful order has.
-use Rattle.std.proofs.Common.{◌≡◌, ◌⊎◌, ℕ, zero, suc, ◌+◌, ◌<◌, List, [], ◌∷◌, ◌++◌, length, Some, None, slice_get, refl, sym, ap, subst, inl, inr, ⊎_elim, arith}
+use Rattle.std.proofs.Common.{◌≡◌, ◌⊎◌, ℕ, zero, suc, ◌+◌, ◌<◌, List, [], ◌∷◌, ◌++◌, length, Some, slice_get, refl, sym, ap, inl, inr, arith, ◌≤◌, subst, ⊎_elim, eq-or-lt_of_le}
+use Rattle.std.proofs.lemmas.Grind.{common_steps}
+use Rattle.std.proofs.lemmas.Option.{gets}
 use Rattle.gr_model.specs.declared.event.EventId.{EventId}
 use Rattle.gr_model.specs.LawfulOrders.{IsAt, IsIn, IsLawful}
-use Rattle.gr_model.specs.Streams.{IsEvent, Streams}
-use Rattle.gr_model.specs.Waits.{IsSettled}
+use Rattle.gr_model.specs.Streams.{Streams}
 use Rattle.gr_model.proofs.Descent.{below_in_item, lawful_descends}
+use Rattle.gr_model.specs.Waits.{IsPrevious}
+use Rattle.gr_model.proofs.Cuts.{same_event}
 
 -- ---- lists
 
 -- an element of a list stands in its prefix, or so far behind it
 pub split_last : {X : Type 0} (xs ys : List X) (p : ℕ) (x : X) → slice_get (xs ++ ys) p ≡ Some x → (slice_get xs p ≡ Some x) ⊎ ((i : ℕ) × (p ≡ length xs + i) × (slice_get ys i ≡ Some x))
-split_last [] ys p x at = inr (p, omega arith, at)
-split_last (y ∷ xs) ys zero x at = inl at
-split_last (y ∷ xs) ys (suc p) x at =
-    ⊎_elim (λ h. inl h) (λ (h : (i : ℕ) × (p ≡ length xs + i) × (slice_get ys i ≡ Some x)). inr (h.0, omega (arith, h.1), h.2)) (split_last xs ys p x at)
+split_last xs ys p x at = grind (arith, common_steps, gets)
 
 pub at_behind : {X : Type 0} (xs ys : List X) (i : ℕ) (x : X) → slice_get ys i ≡ Some x → slice_get (xs ++ ys) (length xs + i) ≡ Some x
-at_behind [] ys i x at = subst (λ n. slice_get ys n ≡ Some x) (let n : i ≡ 0 + i = omega arith in n) at
-at_behind (y ∷ xs) ys i x at = subst (λ n. slice_get (y ∷ (xs ++ ys)) n ≡ Some x) (let n : suc (length xs + i) ≡ suc (length xs) + i = omega arith in n) (at_behind xs ys i x at)
+at_behind xs ys i x at = grind (arith, common_steps, gets)
 
 pub there_is : {X : Type 0} (xs : List X) (i : ℕ) → i < length xs → (x : X) × (slice_get xs i ≡ Some x)
 there_is [] i lt = absurd (omega arith)
@@ -32,8 +31,7 @@ number_before (suc m) lt = (m, refl)
 -- ---- events
 
 in_cases_at : (x : EventId) (xs : List EventId) (e : EventId) (p : ℕ) → IsAt (x ∷ xs) p e → (e ≡ x) ⊎ IsIn xs e
-in_cases_at x xs e zero at = inl (let same : Some x ≡ Some e = at in cc)
-in_cases_at x xs e (suc p) at = inr (p, at)
+in_cases_at x xs e p at = grind arith
 
 -- what stands in a list is its first, or stands behind it
 pub in_cases : (x : EventId) (xs : List EventId) (e : EventId) → IsIn (x ∷ xs) e → (e ≡ x) ⊎ IsIn xs e
@@ -51,17 +49,15 @@ handled_before s order lawful d e item below there =
     let lower = below_in_item s (IsAt order) (lawful_descends s order lawful) there.0 d e there.1 item below in
     (lower.0, lower.2)
 
+-- and so do it and they
+pub handled_upto : (s : Streams) (order : List EventId) → IsLawful s order → (d e : EventId) → d.at ≡ e.at → d.index ≤ e.index → IsIn order e → IsIn order d
+handled_upto s order lawful d e item upto there =
+    ⊎_elim (λ same. subst (λ x. IsIn order x) (sym (same_event d e item same)) there) (λ lt. handled_before s order lawful d e item lt there) (eq-or-lt_of_le upto)
+
+-- the event before another stands at or behind each that is earlier than that
+pub previous_of : (e : EventId) (n : ℕ) → n < e.index → (p : EventId) × IsPrevious p e × (n ≤ p.index)
+previous_of e n lt = let m = number_before e.index (omega (arith, lt)) in (record { at = e.at; index = m.0 }, record { item = refl; next = m.1 }, omega (arith, m.1, lt))
+
 -- the order of no events is lawful
 pub lawful_empty : (s : Streams) → IsLawful s []
-lawful_empty s = record {
-  event = λ p e at. nothing p e at;
-  once = λ p q e at bt. absurd (none p e at);
-  after = λ p e d at w. absurd (none p e at);
-  together = λ p e b a at met. absurd (none p e at);
-}
-  where
-    none : (p : ℕ) (e : EventId) → IsAt [] p e → ⊥
-    none p e at = let n : None ≡ Some e = at in cc
-
-    nothing : (p : ℕ) (e : EventId) → IsAt [] p e → IsEvent s e × IsSettled s e
-    nothing p e at = absurd (none p e at)
+lawful_empty s = grind arith

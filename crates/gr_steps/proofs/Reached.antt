@@ -3,7 +3,8 @@ use Rattle.std.proofs.Common.{◌≡◌, ◌⊎◌, ℕ, zero, suc, ◌+◌, ◌
 use Rattle.std.specs.List.{flat_map, range_with_len}
 use Rattle.std.proofs.lemmas.List.FromFn.{get_or-range_with_len, length-range_with_len}
 use Rattle.std.proofs.lemmas.Bool.{and_parts}
-use Rattle.std.proofs.lemmas.Option.{slice_get-get_or, slice_get_within}
+use Rattle.std.proofs.lemmas.Option.{slice_get-get_or, slice_get_within, gets}
+use Rattle.std.proofs.lemmas.Grind.{common_steps}
 use Rattle.gr_model.specs.declared.event.EventId.{EventId}
 use Rattle.gr_model.specs.Events.{is_end}
 use Rattle.gr_model.specs.LawfulOrders.{IsIn}
@@ -101,14 +102,10 @@ in_flat_map f (z ∷ xs) (suc p) x at q y there =
     (length (f z) + h.0, at_behind (f z) (flat_map f xs) h.0 y h.1)
 
 in_range : (n k : ℕ) → k < n → slice_get (range_with_len 0 n) k ≡ Some k
-in_range n k lt =
-    let within : k < length (range_with_len 0 n) = subst (λ l. k < l) (sym (length-range_with_len 0 n)) lt in
-    slice_get-get_or (range_with_len 0 n) k 0 within ∙ ap Some (get_or-range_with_len 0 n k 0 lt ∙ (let z : 0 + k ≡ k = omega arith in z))
+in_range n k lt = grind (arith, length-range_with_len, slice_get-get_or, get_or-range_with_len, common_steps, gets)
 
 in_map : {X Y : Type 0} (f : X → Y) (xs : List X) (k : ℕ) (x : X) → slice_get xs k ≡ Some x → slice_get (map f xs) k ≡ Some (f x)
-in_map f [] k x at = cc
-in_map f (y ∷ xs) zero x at = let same : y ≡ x = let c : Some y ≡ Some x = at in cc in ap (λ z. Some (f z)) same
-in_map f (y ∷ xs) (suc k) x at = in_map f xs k x at
+in_map f xs k x at = grind (arith, common_steps, gets)
 
 -- of an item the places of its trace, of a group those of the items of its records, and of all groups
 item_candidates : Streams → ℕ → ℕ → List EventId

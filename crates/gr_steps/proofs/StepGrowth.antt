@@ -1,5 +1,7 @@
 -- A lawful order, and a step behind it, stay so where lists that are not complete grow.
-use Rattle.std.proofs.Common.{◌≡◌, ℕ, suc, ◌<◌, List, [], ◌∷◌, ◌++◌, length, sym, ◌∙◌, subst, arith, refl}
+use Rattle.std.proofs.Common.{◌≡◌, ℕ, suc, ◌<◌, List, [], ◌∷◌, ◌++◌, length, sym, ◌∙◌, subst, arith}
+use Rattle.std.proofs.lemmas.Grind.{common_steps}
+use Rattle.std.proofs.lemmas.Option.{gets}
 use Rattle.gr_model.specs.declared.event.EventId.{EventId}
 use Rattle.gr_model.specs.Barriers.{IsConvergent, StandsIn}
 use Rattle.gr_model.specs.Instances.{Mark}
@@ -15,8 +17,7 @@ use Rattle.gr_steps.proofs.Meeting.{meeting_of}
 use Rattle.gr_steps.proofs.Orders.{there_is}
 
 at_last : (order : List EventId) (e : EventId) → IsAt (order ++ (e ∷ [])) (length order) e
-at_last [] e = refl
-at_last (d ∷ order) e = at_last order e
+at_last order e = grind (arith, common_steps, gets)
 
 module _ (s t : Streams) (grows : Grows s t) (old : List EventId) (lawful : IsLawful s old) where
   stage_of : (p : ℕ) (e : EventId) → IsAt old p e → Stage s (suc p) e
