@@ -1,10 +1,9 @@
 -- The accesses along an order that has become longer.
-use Rattle.std.proofs.Common.{◌≡◌, ℕ, suc, true, List, [], ◌∷◌, ◌++◌, Some, None, is_some, slice_get, option_and_then, refl, sym, ap, ◌∙◌, subst, append-nil}
+use Rattle.std.proofs.Common.{◌≡◌, ℕ, suc, true, List, [], ◌∷◌, ◌++◌, Some, None, is_some, slice_get, refl, sym, subst, append-nil, arith}
 use Rattle.gr_model.specs.declared.event.EventId.{EventId}
 use Rattle.gr_model.specs.declared.event.Kind.{Kind}
-use Rattle.gr_model.specs.declared.event.Kind.TheVariants.{Read, Write, Load, Store, Rmw, Barrier, End}
 use Rattle.gr_model.specs.declared.event.Word.{Word}
-use Rattle.gr_model.specs.Access.{event_word, word_if_access, word_in}
+use Rattle.gr_model.specs.Access.{word_if_access}
 use Rattle.gr_model.specs.Barriers.{StandsIn, mark_of_kind}
 use Rattle.gr_model.specs.Streams.{Streams, word_at}
 use Rattle.gr_clocks.specs.declared.access.Access.{Access}
@@ -16,15 +15,7 @@ use Rattle.gr_closure.specs.AccessesAlong.{AreAccesses, of_none, of_access, of_o
 
 -- an access tells the same without its allocator
 pub bare_access : {Z : Type 0} (s : Streams) (e : EventId) (a : Access Z) → IsAccess s e a → IsAccess s e (bare (clocked a))
-bare_access s e a of_e = record {
-  word = of_e.word;
-  item = of_e.item;
-  index = of_e.index;
-  event = of_e.event;
-  at_event = of_e.at_event;
-  class = of_e.class;
-  counts = of_e.counts;
-}
+bare_access s e a of_e = grind arith
 
 -- the accesses along two orders, one after the other
 accesses_after : (s : Streams) (order more : List EventId) (accesses others : List ClockedAccess) → AreAccesses s order accesses → AreAccesses s more others → AreAccesses s (order ++ more) (accesses ++ others)
@@ -38,19 +29,11 @@ none_of s [] no_words = of_none
 none_of s (b ∷ events) no_words = of_other (no_words 0 b refl) (none_of s events (λ i d at. no_words (suc i) d at))
 
 kind_without_word : (k : Kind) (site : ℕ) (w : Word) → is_some (mark_of_kind k site) ≡ true → word_if_access k w ≡ None
-kind_without_word Read site w is = cc
-kind_without_word Write site w is = cc
-kind_without_word (Load scope order) site w is = cc
-kind_without_word (Store scope order) site w is = cc
-kind_without_word (Rmw scope order) site w is = cc
-kind_without_word (Barrier global local) site w is = refl
-kind_without_word (End cut) site w is = refl
+kind_without_word k site w is = grind arith
 
 -- barriers have no words
 barriers_have_none : (s : Streams) (g k : ℕ) (b : EventId) → StandsIn s b g k → word_at s b ≡ None
-barriers_have_none s g k b stands =
-    let there = barrier_there s b g k stands in
-    ap (option_and_then (event_word b.at.group)) there.1 ∙ kind_without_word there.0.kind there.0.word (word_in there.0.space b.at.group there.0.word) there.2
+barriers_have_none s g k b stands = grind (arith, barrier_there, kind_without_word)
 
 none_of_barriers : (s : Streams) (g k : ℕ) (barriers : List EventId) → AreBarriers s g k barriers → AreAccesses s barriers []
 none_of_barriers s g k barriers are = none_of s barriers (λ i b at. barriers_have_none s g k b (are.each i b at).1)
@@ -58,8 +41,7 @@ none_of_barriers s g k barriers are = none_of s barriers (λ i b at. barriers_ha
 -- ---- steps
 
 pub handled_adds : (s : Streams) (old new : List EventId) (e : EventId) (accesses : List ClockedAccess) (x : ClockedAccess) → Handles s old e new → AreAccesses s old accesses → IsAccess s e (bare x) → AreAccesses s new (accesses ++ x ∷ [])
-handled_adds s old new e accesses x step are of_e =
-    subst (λ (order : List EventId). AreAccesses s order (accesses ++ x ∷ [])) (sym step.order) (accesses_after s old (e ∷ []) accesses (x ∷ []) are (of_access of_e of_none))
+handled_adds s old new e accesses x step are of_e = grind (arith, accesses_after, of_access, of_none)
 
 pub others_add_none : (s : Streams) (old new : List EventId) (e : EventId) (accesses : List ClockedAccess) → Handles s old e new → AreAccesses s old accesses → word_at s e ≡ None → AreAccesses s new accesses
 others_add_none s old new e accesses step are none =

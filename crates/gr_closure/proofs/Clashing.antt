@@ -1,5 +1,5 @@
 -- A word is hit in the accesses along an order exactly where two events of the order clash on it.
-use Rattle.std.proofs.Common.{◌≡◌, ◌↔◌, List, [], ◌∷◌, Some, None, inl, inr, ⊎_elim}
+use Rattle.std.proofs.Common.{◌≡◌, ◌↔◌, List, [], ◌∷◌, Some, None, inl, inr, arith}
 use Rattle.gr_model.specs.declared.event.EventId.{EventId}
 use Rattle.gr_model.specs.declared.event.Word.{Word}
 use Rattle.gr_model.specs.LawfulOrders.{IsIn, IsLawful, IsWholeOrder}
@@ -29,15 +29,8 @@ module _ (s : Streams) (w : Word) where
   later : (e : EventId) (x : ClockedAccess) (order : List EventId) (accesses : List ClockedAccess) → IsAccess s e (bare x) → AreAccesses s order accesses → SomeOf (RacesInOrder s w e) order ↔ SomeOf (ClashesAt (λ z. z.word) clashes w x) accesses
   later e x _ _ of_e of_none = (λ h. h, λ h. h)
   later e x _ _ of_e (of_access {e = f} {x = y} {order = order} {accesses = accesses} of_f rest) =
-      let same = later e x order accesses of_e rest in (
-        ⊎_elim (λ c. inl (clash_is_hit s w e f x y of_e of_f c)) (λ c. inr (same.0 c)),
-        ⊎_elim (λ h. inl (hit_is_clash s w e f x y of_e of_f h)) (λ h. inr (same.1 h)),
-      )
-  later e x _ _ of_e (of_other {e = f} {order = order} {accesses = accesses} none rest) =
-      let same = later e x order accesses of_e rest in (
-        ⊎_elim (λ (c : RacesInOrder s w e f). absurd (has_none s w f none c.may_race.word_second)) (λ c. same.0 c),
-        λ h. inr (same.1 h),
-      )
+      grind (arith, clash_is_hit s w e f x y of_e of_f, hit_is_clash s w e f x y of_e of_f, later e x order accesses of_e rest)
+  later e x _ _ of_e (of_other {e = f} {order = order} {accesses = accesses} none rest) = grind (arith, of_other, has_none, later e x order accesses of_e rest)
 
   -- an event without a word clashes with none
   alone : (e : EventId) (order : List EventId) → word_at s e ≡ None → SomeOf (RacesInOrder s w e) order → ⊥
@@ -47,17 +40,8 @@ module _ (s : Streams) (w : Word) where
 
   pairs : (order : List EventId) (accesses : List ClockedAccess) → AreAccesses s order accesses → PairIn (RacesInOrder s w) order ↔ PairIn (ClashesAt (λ z. z.word) clashes w) accesses
   pairs _ _ of_none = (λ h. h, λ h. h)
-  pairs _ _ (of_access {e = e} {x = x} {order = order} {accesses = accesses} of_e rest) =
-      let first = later e x order accesses of_e rest in
-      let same = pairs order accesses rest in (
-        ⊎_elim (λ c. inl (first.0 c)) (λ c. inr (same.0 c)),
-        ⊎_elim (λ h. inl (first.1 h)) (λ h. inr (same.1 h)),
-      )
-  pairs _ _ (of_other {e = e} {order = order} {accesses = accesses} none rest) =
-      let same = pairs order accesses rest in (
-        ⊎_elim (λ c. absurd (alone e order none c)) (λ c. same.0 c),
-        λ h. inr (same.1 h),
-      )
+  pairs _ _ (of_access {e = e} {x = x} {order = order} {accesses = accesses} of_e rest) = grind (arith, later e x order accesses of_e rest, pairs order accesses rest)
+  pairs _ _ (of_other {e = e} {order = order} {accesses = accesses} none rest) = grind (arith, of_other, alone, pairs order accesses rest)
 
   pub hits_are_clashes : (order : List EventId) (accesses : List ClockedAccess) → AreAccesses s order accesses → IsHitIn accesses w ↔ SomePair (RacesInOrder s w) order
   hits_are_clashes order accesses are =
@@ -83,7 +67,4 @@ whole_hits_are_races s order accesses w whole are =
 
 -- a list of the values of which P holds lists those of which Q does, where both say the same
 pub lists_as : {X : Type 0} {Below : X → X → Type 0} {P Q : X → Type 0} (xs : List X) → Lists Below P xs → ((x : X) → P x ↔ Q x) → Lists Below Q xs
-lists_as xs lists same = record {
-  ascending = lists.ascending;
-  exact = λ x. (λ has. (same x).0 ((lists.exact x).0 has), λ holds. (lists.exact x).1 ((same x).1 holds));
-}
+lists_as xs lists same = grind arith

@@ -1,5 +1,5 @@
 -- What an event that is handled sees; and what its item, and the others, know then.
-use Rattle.std.proofs.Common.{◌≡◌, ◌≢◌, ◌⊎◌, ◌↔◌, ℕ, zero, suc, List, [], ◌∷◌, Some, slice_get, refl, sym, ap, ◌∙◌, subst, inl, inr, ⊎_elim}
+use Rattle.std.proofs.Common.{◌≡◌, ◌≢◌, ◌⊎◌, ◌↔◌, List, [], ◌∷◌, refl, sym, ap, ◌∙◌, subst, inr, ⊎_elim, arith}
 use Rattle.gr_model.specs.declared.event.EventId.{EventId}
 use Rattle.gr_model.specs.declared.event.ItemId.{ItemId}
 use Rattle.gr_model.specs.declared.event.Space.{Space}
@@ -25,11 +25,7 @@ module _ (s : Streams) (m : Space) (old new : List EventId) (e : EventId) (lawfu
   handled_now = subst (λ l. IsIn l e) (sym handles.order) (in_back old (e ∷ []) e (0, refl))
 
   pub handled_cases : (x : EventId) → IsIn new x → IsIn old x ⊎ (x ≡ e)
-  handled_cases x h = ⊎_elim (λ was. inl was) (λ (b : IsIn (e ∷ []) x). inr (alone b.0 b.1)) (in_longer old (e ∷ []) x (subst (λ l. IsIn l x) handles.order h))
-    where
-      alone : (p : ℕ) → slice_get (e ∷ []) p ≡ Some x → x ≡ e
-      alone zero at = let same : Some e ≡ Some x = at in cc
-      alone (suc p) at = cc
+  handled_cases x h = grind (arith, in_longer old (e ∷ []) x (subst (λ l. IsIn l x) handles.order h))
 
   -- it is no barrier of a convergent instance
   apart : (a : Mark) (c : EventId) → Together s a c e → ⊥

@@ -1,5 +1,5 @@
 -- What a barrier sees whose instance meets; and what its item, its group, and the others, know then.
-use Rattle.std.proofs.Common.{◌≡◌, ◌≢◌, ◌⊎◌, ◌↔◌, ℕ, ◌<◌, List, Some, IsTrue, IsFalse, refl, sym, ap, ◌∙◌, subst, inl, inr, ⊎_elim, Contains, true≢false}
+use Rattle.std.proofs.Common.{◌≡◌, ◌≢◌, ◌⊎◌, ◌↔◌, ℕ, ◌<◌, List, Some, IsTrue, IsFalse, refl, sym, ap, ◌∙◌, subst, inl, inr, ⊎_elim, true≢false, arith}
 use Rattle.gr_model.specs.declared.event.EventId.{EventId}
 use Rattle.gr_model.specs.declared.event.ItemId.{ItemId}
 use Rattle.gr_model.specs.declared.event.Space.{Space}
@@ -7,7 +7,6 @@ use Rattle.gr_model.specs.Barriers.{IsConvergent, StandsIn, Together}
 use Rattle.gr_model.specs.Counts.{Sees}
 use Rattle.gr_model.specs.Instances.{Mark, flags}
 use Rattle.gr_model.specs.LawfulOrders.{IsIn, IsLawful}
-use Rattle.gr_model.specs.Names.{names_of}
 use Rattle.gr_model.specs.Streams.{ArePrefixes, IsEvent, Streams, size_of}
 use Rattle.gr_steps.specs.Steps.{Meets}
 use Rattle.gr_steps.proofs.BarrierPlaces.{barrier_of, barrier_there, moved, same_instance, stands_same}
@@ -23,9 +22,7 @@ module _ (s : Streams) (m : Space) (old new : List EventId) (g k : ℕ) (prefixe
 
   -- a barrier names nothing, so it learns nothing
   learns_nothing : (b d : EventId) → StandsIn s b g k → Learns s m b d → ⊥
-  learns_nothing b d stands l =
-      let there = barrier_there s b g k stands in
-      barriers_name_nothing s prefixes b there.0 l.matches.name there.1 there.2 (subst (λ names. Contains names l.matches.name) (ap names_of there.1) l.matches.by.named)
+  learns_nothing b d stands l = grind (arith, barrier_there, barriers_name_nothing)
 
   pub met_sees : (b d : EventId) → StandsIn s b g k → Sees s m b d ↔ ((d ≡ b) ⊎ Knows s m old b.at d)
   met_sees b d stands =
@@ -55,11 +52,7 @@ module _ (s : Streams) (m : Space) (old new : List EventId) (g k : ℕ) (prefixe
 
   -- of an instance that a barrier stands in, this is the number
   here : (a : Mark) (c b : EventId) → StandsIn s b g k → Together s a c b → StandsIn s c g k × IsConvergent s g k a
-  here a c b stands t =
-      let same = same_instance s b t.group t.instance g k t.second stands in (
-        moved s c t.group t.instance g k same.0 same.1 t.first,
-        subst (λ n. IsConvergent s g n a) same.1 (subst (λ h. IsConvergent s h t.instance a) same.0 t.convergent),
-      )
+  here a c b stands t = grind (arith, same_instance, moved)
 
   -- the item's own barrier is the one
   own : (x b : EventId) → StandsIn s x g k → StandsIn s b g k → x.at ≡ b.at → x ≡ b

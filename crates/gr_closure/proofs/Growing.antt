@@ -1,8 +1,6 @@
 -- The accesses along an order are those of all lists to which these grow.
-use Rattle.std.proofs.Common.{◌≡◌, ℕ, suc, List, Some, slice_get, refl, ◌∙◌, inl, inr, ⊎_elim}
+use Rattle.std.proofs.Common.{◌≡◌, ℕ, suc, List, Some, slice_get, refl, ◌∙◌, arith}
 use Rattle.gr_model.specs.declared.event.EventId.{EventId}
-use Rattle.gr_model.specs.Access.{memory_of}
-use Rattle.gr_model.specs.HappensBefore.{HappensBefore}
 use Rattle.gr_model.specs.LawfulOrders.{IsLawful}
 use Rattle.gr_model.specs.Streams.{Grows, Streams}
 use Rattle.gr_model.specs.Waits.{IsGrounded}
@@ -14,18 +12,7 @@ use Rattle.gr_closure.specs.AccessesAlong.{AreAccesses, of_none, of_access, of_o
 
 module _ (s t : Streams) (grows : Grows s t) where
   access_grows : (e : EventId) (x : ClockedAccess) → IsGrounded s e → IsAccess s e (bare x) → IsAccess t e (bare x)
-  access_grows e x grounded of_e = record {
-    word = word_grows s t grows e (of_e.event, of_e.at_event) ∙ of_e.word;
-    item = of_e.item;
-    index = of_e.index;
-    event = of_e.event;
-    at_event = event_grows s t grows e of_e.event of_e.at_event;
-    class = of_e.class;
-    counts = λ d. (
-      λ lt. ⊎_elim (λ same. inl same) (λ (b : HappensBefore s (memory_of x.word) d e). inr (before_grows s t grows (memory_of x.word) d e b grounded.0 grounded.1)) ((of_e.counts d).0 lt),
-      λ seen. (of_e.counts d).1 (⊎_elim (λ same. inl same) (λ (b : HappensBefore t (memory_of x.word) d e). inr (before_shrinks s t grows (memory_of x.word) d e b grounded.0 grounded.1)) seen),
-    );
-  }
+  access_grows e x grounded of_e = grind (arith, word_grows, event_grows, before_grows, before_shrinks)
 
   along : (order : List EventId) (accesses : List ClockedAccess) → ((p : ℕ) (e : EventId) → slice_get order p ≡ Some e → IsGrounded s e) → AreAccesses s order accesses → AreAccesses t order accesses
   along _ _ grounded of_none = of_none

@@ -1,5 +1,5 @@
 -- What handled events see, and what is known along their order, stays where lists that are not complete grow.
-use Rattle.std.proofs.Common.{◌↔◌, List, inl, inr}
+use Rattle.std.proofs.Common.{◌↔◌, List, inl, inr, arith}
 use Rattle.gr_model.specs.declared.event.EventId.{EventId}
 use Rattle.gr_model.specs.declared.event.ItemId.{ItemId}
 use Rattle.gr_model.specs.declared.event.Space.{Space}
@@ -26,9 +26,7 @@ module _ (s t : Streams) (m : Space) (order : List EventId) (grows : Grows s t) 
 
   -- the barriers that a handled barrier has met stay the same, and are handled
   met_shrinks : (a : Mark) (c b : EventId) → IsIn order b → Together t a c b → Together s a c b
-  met_shrinks a c b h met =
-      let event = lawful.event h.0 b h.1 in
-      together-swap (together_shrinks s t grows a b c event.0 event.1 (together-swap met))
+  met_shrinks a c b h met = grind (arith, together-swap, together_shrinks)
 
   met_handled : (a : Mark) (c b : EventId) → IsIn order b → Together s a c b → IsIn order c
   met_handled a c b h met = let there = lawful.together h.0 b c a h.1 (together-swap met) in (there.0, there.2)

@@ -1,5 +1,5 @@
 -- What happens before an event is seen by an event that makes a base pair with it.
-use Rattle.std.proofs.Common.{refl, sym, subst, inl, inr}
+use Rattle.std.proofs.Common.{sym, subst, inl, inr, arith}
 use Rattle.gr_model.specs.declared.event.EventId.{EventId}
 use Rattle.gr_model.specs.declared.event.Space.{Space}
 use Rattle.gr_model.specs.Counts.{Sees}
@@ -9,8 +9,7 @@ use Rattle.gr_model.specs.Streams.{Streams}
 module _ (s : Streams) (m : Space) where
   -- the last base pair on the way from d to e starts at an event that sees d
   pub last_pair : (d e : EventId) → HappensBefore s m d e → (x : EventId) × Sees s m x d × BasePair s m x e
-  last_pair d e (by_pair pair) = (d, inl refl, pair)
-  last_pair d e (through {f = x} before pair) = (x, inr before, pair)
+  last_pair d e h = grind (arith, by_pair, through)
 
   -- what is seen by an event happens before those with which it makes a base pair
   pub seen_before : (d x e : EventId) → Sees s m x d → BasePair s m x e → HappensBefore s m d e
