@@ -1,6 +1,5 @@
 -- The places of the elements that pass a test, and so the barriers of an item: each has one number, and a later one a greater.
-use Rattle.std.proofs.Common.{◌≡◌, ℕ, zero, suc, ◌+◌, ◌<◌, ◌≤◌, Bool, true, false, cond, List, [], ◌∷◌, Some, None, slice_get, refl, sym, ap, ◌∙◌, subst, ⊎_elim, arith, true≢false}
-use Rattle.std.proofs.lemmas.Bool.{cases_lt}
+use Rattle.std.proofs.Common.{◌≡◌, ℕ, zero, suc, ◌+◌, ◌<◌, Bool, true, false, cond, List, [], ◌∷◌, Some, None, slice_get, refl, sym, ap, ◌∙◌, subst, arith}
 use Rattle.gr_model.specs.declared.event.Event.{Event}
 use Rattle.gr_model.specs.declared.event.EventId.{EventId}
 use Rattle.gr_model.specs.Barriers.{IsConvergent, IsDivergent, StandsIn, Together, is_barrier, mark_of}
@@ -9,6 +8,7 @@ use Rattle.gr_model.specs.Streams.{Streams, event_at, places_from, size_of, trac
 use Rattle.gr_model.proofs.GrowthLaws.{not_both}
 use Rattle.gr_model.proofs.Places.{filter_map-place, places_from-there}
 use Rattle.gr_model.proofs.Cuts.{same_event}
+use Rattle.gr_steps.proofs.Deciding.{by_cases}
 
 -- ---- places
 
@@ -58,20 +58,16 @@ pub standing : (s : Streams) (e : EventId) → Dec ((g k : ℕ) × StandsIn s e 
 standing s e =
     elim (event_at s e) as (λ o. (event_at s e ≡ o) → Dec ((g k : ℕ) × StandsIn s e g k)) [
       | None ↦ λ none. no (λ h. let there = barrier_there s e h.0 h.1 h.2 in let n : None ≡ Some there.0 = sym none ∙ there.1 in cc)
-      | Some x ↦ λ at. elim (is_barrier x) as (λ b. (is_barrier x ≡ b) → Dec ((g k : ℕ) × StandsIn s e g k)) [
-        | true ↦ λ t. ⊎_elim (λ item. let here = barrier_stands s e x at t item in yes (e.at.group, here.0, here.1)) (λ out. no (λ h. outside h.0 h.1 h.2 out)) (cases_lt e.at.item (size_of s e.at.group))
-        | false ↦ λ f. no (λ h. other x at f h.0 h.1 h.2)
-      ] refl
+      | Some x ↦ λ at. by_cases (decided x)
+          (λ t. let here = barrier_stands s e x at t.0 t.1 in yes (e.at.group, here.0, here.1))
+          (λ other. no (λ h. other (is_one x at h.0 h.1 h.2)))
     ] refl
   where
-    outside : (g k : ℕ) → StandsIn s e g k → size_of s e.at.group ≤ e.at.item → ⊥
-    outside g k stands out = let within : e.at.item < size_of s e.at.group = subst (λ h. e.at.item < size_of s h) (sym stands.group) stands.item in omega (arith, within, out)
+    decided : (x : Event) → Dec ((is_barrier x ≡ true) × (e.at.item < size_of s e.at.group))
+    decided x = grind arith
 
-    other : (x : Event) → event_at s e ≡ Some x → is_barrier x ≡ false → (g k : ℕ) → StandsIn s e g k → ⊥
-    other x at plain g k stands =
-        let there = barrier_there s e g k stands in
-        let same : there.0 ≡ x = let n : Some there.0 ≡ Some x = sym there.1 ∙ at in cc in
-        true≢false (sym there.2 ∙ (ap is_barrier same ∙ plain))
+    is_one : (x : Event) → event_at s e ≡ Some x → (g k : ℕ) → StandsIn s e g k → (is_barrier x ≡ true) × (e.at.item < size_of s e.at.group)
+    is_one x at g k stands = grind (arith, barrier_there s e g k stands)
 
 -- each item of the group has a barrier of a convergent instance
 pub barrier_of : (s : Streams) (g k : ℕ) (a : Mark) → IsConvergent s g k a → (i : ℕ) → i < size_of s g → (n : ℕ) × StandsIn s (record { at = record { group = g; item = i }; index = n }) g k

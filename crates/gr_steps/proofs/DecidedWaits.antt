@@ -1,5 +1,5 @@
 -- In complete lists every instance is settled, and it can be decided whether an event has its releases and whether all that it waits for is of a set.
-use Rattle.std.proofs.Common.{◌≡◌, ◌⊎◌, ℕ, suc, ◌<◌, ◌≤◌, length, Some, None, refl, sym, ap, ◌∙◌, subst, inl, inr, ⊎_elim, arith}
+use Rattle.std.proofs.Common.{◌≡◌, ◌⊎◌, ℕ, ◌<◌, ◌≤◌, length, Some, None, refl, sym, ap, ◌∙◌, subst, inl, inr, ⊎_elim, arith}
 use Rattle.std.proofs.lemmas.Bool.{cases_lt}
 use Rattle.std.proofs.lemmas.List.{get_or_past}
 use Rattle.gr_model.specs.declared.event.EventId.{EventId}
@@ -13,9 +13,9 @@ use Rattle.gr_model.specs.Waits.{IsPrevious, Waits, for_arrival, for_meeting, fo
 use Rattle.gr_model.proofs.Places.{place-filter_map}
 use Rattle.gr_model.proofs.Cuts.{same_event}
 use Rattle.gr_steps.proofs.BarrierPlaces.{barrier_of, standing, stands_same, meets_in, meets_none}
-use Rattle.gr_steps.proofs.Deciding.{IsLeastWithout, all_below, all_dec, dec_map, mark_dec, option_dec, word_dec}
+use Rattle.gr_steps.proofs.Deciding.{IsLeastWithout, all_below, all_dec, dec_map, mark_dec, option_dec, word_dec, dec_four}
 use Rattle.gr_steps.proofs.EventRecords.{one_release}
-use Rattle.gr_steps.proofs.Orders.{number_before}
+use Rattle.gr_steps.proofs.Orders.{previous_of}
 
 -- ---- instances
 
@@ -51,16 +51,11 @@ release_of_name_dec : (s : Streams) (e : EventId) (n : Name) → HasName s e n �
 release_of_name_dec s e n named =
     elim (release_place s n) as (λ o. (release_place s n ≡ o) → Dec ((d : EventId) × MatchesBy s n e d)) [
       | None ↦ λ absent. no (λ r. let c : None ≡ Some r.0.index = sym absent ∙ r.1.place in cc)
-      | Some k ↦ λ at. dec_map (has k at) (had k at) (option_dec word_dec (word_at s e) (word_at s (record { at = n.at; index = k })))
+      | Some k ↦ λ at. dec_map
+          (λ word. (record { at = n.at; index = k }, record { named = named; item = refl; place = at; word = word }))
+          (λ r. let same : r.0 ≡ record { at = n.at; index = k } = grind (arith, r.1.item, r.1.place, at) in r.1.word ∙ ap (word_at s) same)
+          (option_dec word_dec (word_at s e) (word_at s (record { at = n.at; index = k })))
     ] refl
-  where
-    has : (k : ℕ) → release_place s n ≡ Some k → word_at s e ≡ word_at s (record { at = n.at; index = k }) → (d : EventId) × MatchesBy s n e d
-    has k at word = (record { at = n.at; index = k }, record { named = named; item = refl; place = at; word = word })
-
-    had : (k : ℕ) → release_place s n ≡ Some k → (d : EventId) × MatchesBy s n e d → word_at s e ≡ word_at s (record { at = n.at; index = k })
-    had k at r =
-        let index : r.0.index ≡ k = let c : Some r.0.index ≡ Some k = sym r.1.place ∙ at in cc in
-        r.1.word ∙ ap (word_at s) (same_event r.0 (record { at = n.at; index = k }) r.1.item index)
 
 pub releases_dec : (s : Streams) (e : EventId) → Dec (HasItsReleases s e)
 releases_dec s e = all_dec (λ n. (d : EventId) × MatchesBy s n e d) (names_at s e) (release_of_name_dec s e)
@@ -69,15 +64,13 @@ releases_dec s e = all_dec (λ n. (d : EventId) × MatchesBy s n e d) (names_at 
 
 -- the event before another, if there is one, has what can be decided of each event
 pub previous_dec : (Q : EventId → Type 0) → ((d : EventId) → Dec (Q d)) → (e : EventId) → Dec ((d : EventId) → IsPrevious d e → Q d)
-previous_dec Q decide e = ⊎_elim (λ (some : 0 < e.index). before (number_before e.index some)) (λ (none : e.index ≤ 0). yes (λ d p. absurd (omega (arith, p.next, none)))) (cases_lt 0 e.index)
-  where
-    before : (m : ℕ) × (suc m ≡ e.index) → Dec ((d : EventId) → IsPrevious d e → Q d)
-    before n =
-        let d : EventId = record { at = e.at; index = n.0 } in
-        dec_map
-        (λ q c p. subst Q (same_event d c (sym p.item) (let same : n.0 ≡ c.index = omega (arith, n.1, p.next) in same)) q)
-        (λ all. all d (record { item = refl; next = n.1 }))
-        (decide d)
+previous_dec Q decide e =
+    ⊎_elim
+    (λ (some : 0 < e.index).
+    let p = previous_of e 0 some in
+    dec_map (λ q c is. subst Q (same_event p.0 c (p.1.item ∙ sym is.item) (omega (arith, p.1.next, is.next))) q) (λ all. all p.0 p.1) (decide p.0))
+    (λ (none : e.index ≤ 0). yes (λ d p. absurd (omega (arith, p.next, none))))
+    (cases_lt 0 e.index)
 
 -- an item's barrier of an instance is of a set
 abbrev IsOfItem : Streams → (EventId → Type 0) → ℕ → ℕ → ℕ → Type 0
@@ -127,11 +120,7 @@ module _ (s : Streams) (complete : AreComplete s) where
     all_of previous release arrival meeting d (for_meeting a c p met) = meeting c p a d met
 
     pub waits_dec : Dec IsAll
-    waits_dec = four (previous_dec In in_dec e) release_dec (instance_dec (λ b. (d : EventId) → IsPrevious d b → In d) (previous_dec In in_dec) e) (previous_dec (λ c. (a : Mark) (d : EventId) → Together s a c d → In d) (instance_dec In in_dec) e)
-      where
-        four : Dec ((d : EventId) → IsPrevious d e → In d) → Dec ((d : EventId) → Matches s e d → In d) → Dec ((a : Mark) (b : EventId) → Together s a e b → (d : EventId) → IsPrevious d b → In d) → Dec ((c : EventId) → IsPrevious c e → (a : Mark) (d : EventId) → Together s a c d → In d) → Dec IsAll
-        four (yes p) (yes r) (yes a) (yes m) = yes (all_of p r a m)
-        four (no h) r a m = no (λ all. h (λ d w. all d (for_previous w)))
-        four (yes p) (no h) a m = no (λ all. h (λ d w. all d (for_release w)))
-        four (yes p) (yes r) (no h) m = no (λ all. h (λ a b met d w. all d (for_arrival a b met w)))
-        four (yes p) (yes r) (yes a) (no h) = no (λ all. h (λ c w a d met. all d (for_meeting a c w met)))
+    waits_dec =
+        dec_map (λ h. all_of h.0 h.1 h.2 h.3)
+        (λ all. (λ d p. all d (for_previous p), λ d m. all d (for_release m), λ a b met d p. all d (for_arrival a b met p), λ c p a d met. all d (for_meeting a c p met)))
+        (dec_four (previous_dec In in_dec e) release_dec (instance_dec (λ b. (d : EventId) → IsPrevious d b → In d) (previous_dec In in_dec) e) (previous_dec (λ c. (a : Mark) (d : EventId) → Together s a c d → In d) (instance_dec In in_dec) e))

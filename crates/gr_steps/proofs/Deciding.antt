@@ -12,6 +12,9 @@ dec_map to from h = grind arith
 pub dec_both : {P Q : Type 0} → Dec P → Dec Q → Dec (P × Q)
 dec_both h d = grind arith
 
+pub dec_four : {P Q R S : Type 0} → Dec P → Dec Q → Dec R → Dec S → Dec (P × Q × R × S)
+dec_four p q r s = grind arith
+
 pub dec_either : {P Q : Type 0} → Dec P → Dec Q → Dec (P ⊎ Q)
 dec_either h q = grind arith
 

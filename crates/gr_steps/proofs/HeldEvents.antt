@@ -1,7 +1,6 @@
 -- How many events are held where no step is left.
 use Rattle.std.proofs.Common.{◌≡◌, ℕ, zero, suc, ◌-◌, ◌<◌, ◌≤◌, List, length, subst, inl, inr, ⊎_elim, arith, eq-or-lt_of_le, refl}
 use Rattle.std.specs.List.{sum_by}
-use Rattle.std.proofs.lemmas.Bool.{cases_lt}
 use Rattle.std.proofs.lemmas.Option.{slice_get_within}
 use Rattle.gr_model.specs.declared.event.EventId.{EventId}
 use Rattle.gr_model.specs.declared.event.ItemId.{ItemId}
@@ -24,15 +23,13 @@ number_from P c (suc b) le before behind =
 
 module _ (s : Streams) (order : List EventId) (lawful : IsLawful s order) (grounded : AreGrounded s order) (c : ItemId → ℕ) (first : AreFirst order c) where
   few : (i : ItemId) → c i ≤ length (trace_of s i)
-  few i = ⊎_elim (λ over. absurd (past over)) (λ le. le) (cases_lt (length (trace_of s i)) (c i))
-    where
-      past : length (trace_of s i) < c i → ⊥
-      past over =
-          let e : EventId = record { at = i; index = length (trace_of s i) } in
-          let there = (first e).1 over in
-          let event = (lawful.event there.0 e there.1).0 in
-          let within : length (trace_of s i) < length (trace_of s i) = slice_get_within (trace_of s i) (length (trace_of s i)) event.0 event.1 in
-          omega arith
+  few i =
+      let e : EventId = record { at = i; index = length (trace_of s i) } in
+      let not_over : ¬ (length (trace_of s i) < c i) = λ over.
+      let there = (first e).1 over in
+      let event = (lawful.event there.0 e there.1).0 in
+      omega (arith, slice_get_within (trace_of s i) (length (trace_of s i)) event.0 event.1) in
+      omega arith
 
   held_of : (i : ItemId) → IsHeldOf s i (length (trace_of s i) - c i)
   held_of i =

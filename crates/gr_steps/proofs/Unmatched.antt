@@ -1,5 +1,5 @@
 -- An unmatched acquire has a cause, so a report names each.
-use Rattle.std.proofs.Common.{◌≡◌, ◌⊎◌, ℕ, Some, None, [], sym, ◌∙◌, subst, inl, inr, ⊎_elim, arith, refl, Contains}
+use Rattle.std.proofs.Common.{◌≡◌, ◌⊎◌, ℕ, Some, None, [], subst, inl, inr, ⊎_elim, arith, refl, Contains}
 use Rattle.gr_model.specs.declared.event.EventId.{EventId}
 use Rattle.gr_model.specs.declared.event.Name.{Name}
 use Rattle.gr_model.specs.declared.report.AcquireCause.{AcquireCause}
@@ -32,7 +32,7 @@ has_cause s e =
         ] refl
 
     not_absent : (n : Name) → IsThere s n → ¬ IsAbsent s n
-    not_absent n there absent = let clash : None ≡ Some there.0 = sym absent ∙ there.1 in cc
+    not_absent n there absent = cc
 
     of_word : (n : Name) → IsThere s n → IsOfItsWord s e n ⊎ IsOfOtherWord s e n
     of_word n there =
