@@ -38,11 +38,7 @@ settled s complete e g k stands =
         place-filter_map mark_of 0 (trace_of s here) k e.index (ap (λ i. place_of s is_barrier i k) (sym same) ∙ stands.place)
 
     differs : (i : ℕ) → i < size_of s g → (arrivals s g k i ≡ Some come.0 → ⊥) → IsDivergent s g k
-    differs i lt other =
-        elim (arrivals s g k i) as (λ o. (arrivals s g k i ≡ o) → IsDivergent s g k) [
-          | None ↦ λ none. inr (complete g (group_of_items s g i lt), (e.at.item, i, come.0, (stands.item, come.1), lt, none))
-          | Some b ↦ λ at. inl (e.at.item, i, come.0, b, (stands.item, come.1), (lt, at), λ same. other (at ∙ ap Some (sym same)))
-        ] refl
+    differs i lt other = grind (arith, group_of_items, come)
 
 -- ---- releases
 

@@ -56,8 +56,7 @@ all_below P (suc n) d =
     (all_below P n (λ i lt. d i (omega arith)))
   where
     last : Dec (P n) → ((i : ℕ) → i < n → P i) → ((i : ℕ) → i < suc n → P i) ⊎ ((i : ℕ) × IsLeastWithout P (suc n) i)
-    last (yes p) all = inl (λ i lt. grind (arith, p, all i))
-    last (no h) all = inr (n, (omega arith, h, all))
+    last h all = grind (arith)
 
 -- an element of a list is its first or one of the rest
 first_or_rest : {X : Type 0} (y : X) (xs : List X) (x : X) → Contains (y ∷ xs) x → (y ≡ x) ⊎ Contains xs x

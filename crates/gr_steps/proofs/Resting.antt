@@ -1,5 +1,5 @@
 -- Where no event may be handled and no instance may meet, every grounded event is handled.
-use Rattle.std.proofs.Common.{ℕ, zero, suc, List, refl, subst, ⊎_elim}
+use Rattle.std.proofs.Common.{ℕ, zero, suc, List, refl, ⊎_elim, arith}
 use Rattle.gr_model.specs.declared.event.EventId.{EventId}
 use Rattle.gr_model.specs.Barriers.{IsConvergent, IsDivergent, StandsIn}
 use Rattle.gr_model.specs.Instances.{Mark}
@@ -24,9 +24,7 @@ module _ (s : Streams) (order : List EventId) (lawful : IsLawful s order) (rest 
       handle each = rest.handles e.at (e, refl, record { event = there; fresh = away; waits = waits; release = go.release; instance = each })
 
       divergent : (g k : ℕ) → StandsIn s e g k → IsDivergent s g k → (h l : ℕ) → StandsIn s e h l → IsDivergent s h l
-      divergent g k stands d h l other =
-          let same = same_instance s e g k h l stands other in
-          subst (λ n. IsDivergent s h n) same.1 (subst (λ n. IsDivergent s n k) same.0 d)
+      divergent g k stands d h l other = grind (arith, same_instance)
 
       meet : (g k : ℕ) (a : Mark) → StandsIn s e g k → IsConvergent s g k a → ⊥
       meet g k a stands convergent = rest.meets g (
