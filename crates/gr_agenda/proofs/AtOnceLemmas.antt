@@ -1,5 +1,5 @@
 -- Where an event is handled as soon as its record is taken, no step becomes ready: the record is taken, its event is handled, and its item has no other.
-use Rattle.std.proofs.Common.{◌≡◌, ◌+◌, ℕ, List, [], ◌∷◌, ◌++◌, true≢false, Option, Some, Vec, slice_get, length, refl, sym, ap, ◌∙◌, subst, inl, inr, ⊎_elim, zero, suc}
+use Rattle.std.proofs.Common.{◌≡◌, ◌+◌, ℕ, List, [], ◌∷◌, ◌++◌, true≢false, Option, Some, Vec, slice_get, length, refl, sym, ap, ◌∙◌, subst, inl, inr, ⊎_elim, arith}
 use Rattle.gr_model.specs.declared.event.Event.{Event}
 use Rattle.gr_model.specs.declared.event.EventId.{EventId}
 use Rattle.gr_model.specs.declared.event.ItemId.{ItemId}
@@ -47,17 +47,7 @@ module _ {Z : Type 0} (q : Sequence) (is : IsSequence q) (t : Steps) (lists : Li
   has_item = inr (length t.steps + 0, at_behind t.steps (Item e.at ∷ []) 0 (Item e.at) refl)
 
   narrow : (r : Ready) → Has wide r → (r ≡ Item e.at → ⊥) → Has t r
-  narrow r has apart = ⊎_elim
-      (λ short. inl short)
-      (λ (there : (p : ℕ) × (slice_get wide.steps p ≡ Some r)). ⊎_elim
-      (λ was. inr (there.0, was))
-      (λ (last : (k : ℕ) × (there.0 ≡ length t.steps + k) × (slice_get (Item e.at ∷ []) k ≡ Some r)). absurd (apart (only last.0 last.2)))
-      (split_last t.steps (Item e.at ∷ []) there.0 r there.1))
-      has
-    where
-      only : (k : ℕ) → slice_get (Item e.at ∷ []) k ≡ Some r → r ≡ Item e.at
-      only zero at = let same : Item e.at ≡ r = cc in sym same
-      only (suc k) at = cc
+  narrow r has apart = grind (arith, wide, e, split_last)
 
   sequence : IsSequence (taking q g x)
   sequence = record { prefixes = subst ArePrefixes step.taken prefixes; lawful = lawful_grows q.taken more (record_grows q.taken g x is.prefixes go.can) q.handled is.lawful }

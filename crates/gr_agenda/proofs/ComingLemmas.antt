@@ -1,5 +1,5 @@
 -- What is so of the list of steps and of those that wait where a group comes: no step may be made that could not be.
-use Rattle.std.proofs.Common.{◌≡◌, ℕ, List, [], ◌∷◌, length, arith, Vec, filter, filter_map, slice_get, Some, None, Option, sym, ap, ◌∙◌, subst, inl, inr, ⊎_elim, true≢false}
+use Rattle.std.proofs.Common.{◌≡◌, ℕ, List, [], ◌∷◌, length, arith, Vec, filter, filter_map, slice_get, Some, None, Option, sym, ap, ◌∙◌, subst, inl, inr, ⊎_elim}
 use Rattle.std.proofs.lemmas.Bool.{cases_eq}
 use Rattle.gr_model.specs.declared.event.Event.{Event}
 use Rattle.gr_model.specs.declared.event.ItemId.{ItemId}
@@ -51,8 +51,7 @@ module _ (q : Sequence) (g n : ℕ) (prefixes : ArePrefixes q.taken) (lawful : I
 
   -- no instance of the new group is divergent
   not_divergent : (k : ℕ) → IsDivergent more g k → ⊥
-  not_divergent k (inl (i, j, a, b, ha, hb, differ)) = let none : None ≡ Some a = sym (nobody k i) ∙ ha.1 in cc
-  not_divergent k (inr missing) = absurd (true≢false (sym missing.0 ∙ ap is_complete nothing))
+  not_divergent k h = grind (arith, nobody, nothing)
 
   divergent_was : (h k : ℕ) → IsDivergent more h k → IsDivergent q.taken h k
   divergent_was h k divergent =
@@ -64,12 +63,7 @@ module _ (q : Sequence) (g n : ℕ) (prefixes : ArePrefixes q.taken) (lawful : I
       (cases_eq h g)
 
   takes : Takes q.taken more q.handled (λ d. ⊥)
-  takes = record {
-    grows = group_grows q.taken g n prefixes can;
-    lawful = lawful;
-    event = λ d apart. ap (λ (l : List Event). slice_get l d.index) (same_trace d.at);
-    divergent = λ d h k apart stands divergent. divergent_was h k divergent;
-  }
+  takes  = search (arith, group_grows, same_trace, divergent_was)
 
   never : ⊥ → ⊥
   never e = e

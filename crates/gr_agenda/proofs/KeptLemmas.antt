@@ -1,25 +1,23 @@
 -- The list of steps has all that is ready, behind each step and each record.
-use Rattle.std.proofs.Common.{Contains, filter, ◌≡◌, ◌⊎◌, ◌+◌, ◌<◌, ℕ, List, [], ◌∷◌, ◌++◌, Bool, true, false, Some, None, Vec, slice_get, zero, suc, length, refl, sym, ap, ◌∙◌, subst, inl, inr, ⊎_elim, arith, is_some}
+use Rattle.std.proofs.Common.{Contains, ◌≡◌, ◌⊎◌, ◌+◌, ◌<◌, ℕ, List, [], ◌∷◌, ◌++◌, Bool, true, false, Some, Vec, slice_get, zero, suc, length, refl, sym, ap, ◌∙◌, subst, inl, inr, ⊎_elim, arith, is_some}
 use Rattle.std.proofs.lemmas.Bool.{cases_eq}
 use Rattle.gr_model.specs.declared.event.Event.{Event}
 use Rattle.gr_model.specs.declared.event.EventId.{EventId}
 use Rattle.gr_model.specs.declared.event.ItemId.{ItemId}
 use Rattle.gr_model.specs.declared.event.Kind.{Kind}
-use Rattle.gr_model.specs.declared.event.Kind.TheVariants.{Read, Write, Load, Store, Rmw, Barrier, End}
 use Rattle.gr_model.specs.declared.event.Name.{Name}
-use Rattle.gr_model.specs.Access.{is_release, is_release_kind}
+use Rattle.gr_model.specs.Access.{is_release_kind}
 use Rattle.gr_model.specs.Barriers.{IsDivergent, StandsIn, arrivals, is_barrier, mark_of_kind}
 use Rattle.gr_model.specs.LawfulOrders.{IsIn}
 use Rattle.gr_model.specs.Names.{HasName, names_of, release_place}
 use Rattle.gr_lanes.specs.Takes.{CanTake, next_of, nothing_taken, with_record}
-use Rattle.gr_model.specs.Streams.{ArePrefixes, IsEvent, Streams, event_at, is_of, list_of, place_of, size_of, trace_of}
+use Rattle.gr_model.specs.Streams.{ArePrefixes, IsEvent, Streams, event_at, list_of, place_of, size_of, trace_of}
 use Rattle.gr_model.proofs.Places.{places_from-there, slice_get-append}
 use Rattle.gr_steps.specs.Steps.{CanMeet, IsReady}
 use Rattle.gr_steps.proofs.BarrierPlaces.{barrier_of, barrier_there}
 use Rattle.gr_steps.proofs.Deciding.{by_cases, dec_both, number_dec, option_dec}
 use Rattle.gr_steps.proofs.EventRecords.{barriers_name_nothing, item_of_event}
 use Rattle.gr_steps.proofs.Orders.{split_last}
-use Rattle.gr_model.proofs.Cuts.{same_event}
 use Rattle.gr_order.proofs.AtOnceLemmas.{there_at_once}
 use Rattle.gr_order.proofs.StateLemmas.{item_cases}
 use Rattle.gr_order.specs.declared.steps.Ready.{Ready}
@@ -41,20 +39,11 @@ passes_there s test e k place =
 
 -- an event that has a name is there
 pub named_there : (s : Streams) (d : EventId) (n : Name) → HasName s d n → IsEvent s d
-named_there s d n named = elim (event_at s d) as (λ o. (event_at s d ≡ o) → IsEvent s d) [
-  | None ↦ λ none. absurd (let within = subst (λ names. Contains names n) (ap names_of none) named in omega (arith, within.1))
-  | Some x ↦ λ at. (x, at)
-] refl
+named_there s d n named = grind (arith, s)
 
 -- a barrier is no release
 not_both : (kind : Kind) (word : ℕ) → is_some (mark_of_kind kind word) ≡ true → is_release_kind kind ≡ true → ⊥
-not_both Read word b r = cc
-not_both Write word b r = cc
-not_both (Load scope order) word b r = cc
-not_both (Store scope order) word b r = cc
-not_both (Rmw scope order) word b r = cc
-not_both (Barrier global local) word b r = cc
-not_both (End cut) word b r = cc
+not_both kind word b r = grind arith
 
 -- ---- an event is handled
 
@@ -70,17 +59,7 @@ module _ {Z : Type 0} (q : Sequence) (is : IsSequence q) (t t2 : Steps) (lists l
     h2 = h ++ e ∷ []
 
     adds_event : Adds s h h2 (λ x. x ≡ e) (λ i. i ≡ e.at)
-    adds_event = record {
-      lawful = is.lawful;
-      old = λ x there. (there.0, slice_get-append h (e ∷ []) there.0 x there.1);
-      split = λ x there. ⊎_elim (λ was. inl (there.0, was)) (λ (last : (i : ℕ) × (there.0 ≡ length h + i) × (slice_get (e ∷ []) i ≡ Some x)). inr (only x last.0 last.2)) (split_last h (e ∷ []) there.0 x there.1);
-      fresh = λ x same there. ready.fresh (subst (IsIn h) same there);
-      touched = λ x same. ap (λ (y : EventId). y.at) same;
-    }
-      where
-        only : (x : EventId) (i : ℕ) → slice_get (e ∷ []) i ≡ Some x → x ≡ e
-        only x zero at = let same : e ≡ x = cc in sym same
-        only x (suc i) at = cc
+    adds_event  = grind (arith, slice_get-append, h, e, split_last)
 
     module _ (item : Has t2 (Item e.at)) (group : CanMeet s h2 e.at.group → Has t2 (Group e.at.group))
         (others : (n : Name) (i : ItemId) → IsWaiting lists n i → Has t2 (Item i) ⊎ IsWaiting lists2 n i)
@@ -110,7 +89,7 @@ module _ {Z : Type 0} (q : Sequence) (is : IsSequence q) (t t2 : Steps) (lists l
           (others noted.0 d.at noted.2))
         where
           item_dec : (i j : ItemId) → Dec (i ≡ j)
-          item_dec i j = ⊎_elim yes no (item_cases i j)
+          item_dec i j = grind arith
 
       handled_ready : (r : Ready) → CanMake (record { taken = s; handled = h2 }) r → Has t2 r
       handled_ready (Item i) (d, at, now) = ⊎_elim
@@ -161,11 +140,7 @@ module _ {Z : Type 0} (q : Sequence) (is : IsSequence q) (t t2 : Steps) (lists l
     }
 
     none_released : (n : Name) (x : EventId) → New x → x.at ≡ n.at → release_place s n ≡ Some x.index → ⊥
-    none_released n x new at place =
-        let barrier = barrier_there s x g k (new_stands x new) in
-        let release = passes_there s is_release x n.release (ap (λ i. place_of s is_release i n.release) at ∙ place) in
-        let same : release.0 ≡ barrier.0 = let both : Some release.0 ≡ Some barrier.0 = sym release.1 ∙ barrier.1 in cc in
-        not_both barrier.0.kind barrier.0.word barrier.2 (ap is_release (sym same) ∙ release.2)
+    none_released n x new at place = grind (arith, barrier_there, s, new_stands, passes_there, not_both)
 
     own_item : (d : EventId) → IsEvent s d → d.at.group ≡ g → IsPending (record { taken = s; handled = met_list }) d.at → Has t2 (Item d.at)
     own_item d there own pending =
@@ -207,11 +182,7 @@ module _ {Z : Type 0} (q : Sequence) (is : IsSequence q) (t t2 : Steps) (lists l
 pub meet_behind : (q : Sequence) → IsSequence q → (e : EventId) → IsReady q.taken q.handled e → (q2 : Sequence) → HandlesEvent q e q2 → (t : Steps)
     → (CanMeet q2.taken q2.handled e.at.group → e.at.item < size_of q2.taken e.at.group → Has t (Group e.at.group))
     → CanMeet q.taken (q.handled ++ e ∷ []) e.at.group → Has t (Group e.at.group)
-meet_behind q is e ready q2 step t there can =
-    let path : q2 ≡ record { taken = q.taken; handled = q.handled ++ e ∷ [] } = λ i. record { taken = step.taken i; handled = step.handles.order i } in
-    there
-    (subst {A = Sequence} (λ p. CanMeet p.taken p.handled e.at.group) (sym path) can)
-    (subst (λ (s : Streams). e.at.item < size_of s e.at.group) (sym step.taken) (item_of_event q.taken is.prefixes e ready.event.0 ready.event.1))
+meet_behind q is e ready q2 step t there can = grind (arith, e, s, item_of_event)
 
 -- ---- a step is looked at that can't be made
 
@@ -232,8 +203,7 @@ kept_looked {Z} q t t2 lists lists2 step kept can't less more noted = record {
 }
   where
     step_cases : (i : ItemId) (r : Ready) → (Item i ≡ r) ⊎ (Item i ≡ r → ⊥)
-    step_cases i (Item j) = ⊎_elim (λ (same : i ≡ j). inl (ap Item same)) (λ (apart : i ≡ j → ⊥). inr (λ same. apart (let is : i ≡ j = cc in is))) (item_cases i j)
-    step_cases i (Group g) = inr (λ same. cc)
+    step_cases i r = grind arith
 
 -- ---- nothing was taken
 
@@ -243,9 +213,7 @@ none_listed (n ∷ sizes) zero = refl
 none_listed (n ∷ sizes) (suc g) = none_listed sizes g
 
 none_there : (sizes : List ℕ) (e : EventId) → IsEvent (nothing_taken sizes) e → ⊥
-none_there sizes e there =
-    let none : event_at (nothing_taken sizes) e ≡ None = ap (λ (l : List Event). slice_get (filter (is_of e.at.item) l) e.index) (none_listed sizes e.at.group) in
-    let clash : None ≡ Some there.0 = sym none ∙ there.1 in cc
+none_there sizes e there = grind (arith, e, none_listed)
 
 pub kept_nothing : {Z : Type 0} (sizes : List ℕ) (q : Sequence) → q ≡ nothing sizes → (t : Steps) (lists : List (Vec ItemId Z)) → IsKept q t lists
 kept_nothing {Z} sizes q is t lists = subst {A = Sequence} (λ p. IsKept p t lists) (sym is) (record { ready = none_ready; waits = λ d n held. absurd (none_there sizes d (named_there (nothing_taken sizes) d n held.named)) })
@@ -323,9 +291,7 @@ module _ {Z : Type 0} (q : Sequence) (t t2 : Steps) (lists : List (Vec ItemId Z)
     took_plain plain ends item = took_own ends (plain_marks q.taken g x is.prefixes can ends plain) item (λ meets. keeps (Group g) (kept.ready (Group g) (own_meets q.taken g x is.prefixes can ends plain q.handled is.lawful meets)))
 
     pub took_following : IsFollowing q.taken g x → Has t2 (Group g) → Has t2 (Item own) → IsKept q2 t2 lists
-    took_following follows group item =
-        let ends = barrier_goes_on x.kind x.word follows.barrier in
-        took_own ends (following_marks q.taken g x is.prefixes can ends follows) item (λ meets. group)
+    took_following follows group item = search (arith, barrier_goes_on, took_own, following_marks)
 
     abbrev e : EventId
     e = next_of q.taken g x
@@ -342,10 +308,7 @@ module _ {Z : Type 0} (q : Sequence) (t t2 : Steps) (lists : List (Vec ItemId Z)
         still divergent = undiverged (subst (λ (p : Sequence). IsDivergent p.taken g (next_instance q.taken g x.item)) (sym took) divergent)
 
         event_cases : (d : EventId) → (d ≡ e) ⊎ (d ≡ e → ⊥)
-        event_cases d = ⊎_elim
-            (λ (item : d.at ≡ e.at). ⊎_elim (λ (index : d.index ≡ e.index). inl (same_event d e item index)) (λ apart. inr (λ same. apart (ap (λ (y : EventId). y.index) same))) (cases_eq d.index e.index))
-            (λ apart. inr (λ same. apart (ap (λ (y : EventId). y.at) same)))
-            (item_cases d.at e.at)
+        event_cases d = grind arith
 
         names_nothing : (n : Name) → HasName q2.taken e n → ⊥
         names_nothing n named =

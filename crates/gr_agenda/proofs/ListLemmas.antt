@@ -1,15 +1,15 @@
 -- Elements of lists that grow and shrink at their end, and the lists of those that wait.
-use Rattle.std.proofs.Common.{◌≡◌, ◌⊎◌, ◌+◌, ◌<◌, ℕ, List, [], ◌∷◌, ◌++◌, Bool, true, Some, Vec, slice_get, zero, suc, length, refl, sym, ap, ◌∙◌, subst, inl, inr, ⊎_elim, arith}
+use Rattle.std.proofs.Common.{◌≡◌, ◌⊎◌, ◌+◌, ◌<◌, ℕ, List, [], ◌∷◌, ◌++◌, Bool, true, Some, Vec, slice_get, length, refl, sym, ap, ◌∙◌, subst, inl, inr, ⊎_elim, arith}
 use Rattle.std.specs.Prelude.{slice_index_or, slice_set}
 use Rattle.std.proofs.lemmas.Bool.{cases_eq}
-use Rattle.std.proofs.lemmas.List.{get_or-set_same, get_or-set_other, length-set, length_push}
-use Rattle.std.proofs.lemmas.Option.{slice_get-get_or, slice_get_within}
+use Rattle.std.proofs.lemmas.List.{length_push}
+use Rattle.std.proofs.lemmas.Option.{slice_get-get_or, gets}
+use Rattle.std.proofs.lemmas.Grind.{common_steps}
 use Rattle.gr_model.specs.declared.event.ItemId.{ItemId}
 use Rattle.gr_model.specs.declared.event.Name.{Name}
 use Rattle.gr_model.proofs.Places.{slice_get-append}
 use Rattle.gr_steps.proofs.Orders.{at_behind, split_last}
 use Rattle.gr_order.specs.declared.steps.Ready.{Ready}
-use Rattle.gr_order.specs.declared.steps.Ready.TheVariants.{Item, Group}
 use Rattle.gr_agenda.specs.Lists.{AreMarked, Has, IsAmong, IsLast, IsPlace, IsWaiting, KeepsSteps, Steps, bucket_of}
 
 module _ {X : Type 0} (xs : List X) (x : X) where
@@ -20,11 +20,7 @@ module _ {X : Type 0} (xs : List X) (x : X) where
   among_last = (length xs + 0, at_behind xs (x ∷ []) 0 x refl)
 
   pub among_cases : (y : X) → IsAmong (xs ++ x ∷ []) y → IsAmong xs y ⊎ (y ≡ x)
-  among_cases y there = ⊎_elim (λ was. inl (there.0, was)) (λ (last : (i : ℕ) × (there.0 ≡ length xs + i) × (slice_get (x ∷ []) i ≡ Some y)). inr (only last.0 last.2)) (split_last xs (x ∷ []) there.0 y there.1)
-    where
-      only : (i : ℕ) → slice_get (x ∷ []) i ≡ Some y → y ≡ x
-      only zero at = let same : x ≡ y = cc in sym same
-      only (suc i) at = cc
+  among_cases y there = grind (arith, split_last)
 
 pub at_index : {X : Type 0} (list : List X) (n p : ℕ) (d x : X) → n < length list → p ≡ n → slice_get list p ≡ Some x → slice_index_or list n d ≡ x
 at_index list n p d x lt same at = let both : Some (slice_index_or list n d) ≡ Some x = sym (slice_get-get_or list n d lt) ∙ (ap (slice_get list) (sym same) ∙ at) in cc
@@ -33,17 +29,10 @@ at_index list n p d x lt same at = let both : Some (slice_index_or list n d) ≡
 
 -- a step has one place, and at a place there is one step
 pub one_place : (r : Ready) (p n : ℕ) → IsPlace r p → IsPlace r n → p ≡ n
-one_place (Item i) p n a b = omega (arith, a.1, b.1)
-one_place (Group g) p n a b = omega (arith, a, b)
+one_place r p n a b = grind arith
 
 pub one_step : (r o : Ready) (p : ℕ) → IsPlace r p → IsPlace o p → r ≡ o
-one_step (Item i) (Item j) p a b =
-    let groups : i.group ≡ j.group = omega (arith, a.0, a.1, b.0, b.1) in
-    let items : i.item ≡ j.item = omega (arith, a.0, a.1, b.0, b.1) in
-    λ k. Item (record { group = groups k; item = items k })
-one_step (Item i) (Group h) p a b = absurd (omega (arith, a.0, a.1, b))
-one_step (Group g) (Item j) p a b = absurd (omega (arith, b.0, b.1, a))
-one_step (Group g) (Group h) p a b = ap Group (let same : g ≡ h = omega (arith, a, b) in same)
+one_step r o p a b = grind arith
 
 -- a step is put at the end and marked
 pub marked_more : (marks new : List Bool) (steps after : List Ready) (step : Ready) → AreMarked marks steps → after ≡ steps ++ step ∷ [] → ((p : ℕ) → slice_get new p ≡ Some true → IsPlace step p ⊎ (slice_get marks p ≡ Some true)) → AreMarked new after
@@ -51,13 +40,6 @@ marked_more marks new steps after step are is each r p place at = ⊎_elim
     (λ (here : IsPlace step p). let same : r ≡ step = one_step r step p place here in subst (λ l. IsAmong l r) (sym is) (subst (IsAmong (steps ++ step ∷ [])) (sym same) (among_last steps step)))
     (λ (was : slice_get marks p ≡ Some true). subst (λ l. IsAmong l r) (sym is) (among_more steps step r (are r p place was)))
     (each p at)
-
--- the last step is taken away with its mark
-pub marked_less : (marks new : List Bool) (steps after : List Ready) (step : Ready) → AreMarked marks steps → steps ≡ after ++ step ∷ [] → ((p : ℕ) → IsPlace step p → slice_get new p ≡ Some true → ⊥) → ((p : ℕ) → slice_get new p ≡ Some true → slice_get marks p ≡ Some true) → AreMarked new after
-marked_less marks new steps after step are is here others r p place at = ⊎_elim
-    (λ (there : IsAmong after r). there)
-    (λ (same : r ≡ step). absurd (here p (subst (λ o. IsPlace o p) same place) at))
-    (among_cases after step r (subst (λ l. IsAmong l r) is (are r p place (others p at))))
 
 -- what stood there and is not the last one stands there still
 pub has_less : (t : Steps) (after : List Ready) (step : Ready) → t.steps ≡ after ++ step ∷ [] → (r : Ready) → Has t r → (IsLast t r → ⊥) → Has (record { steps = after; short = t.short }) r
@@ -87,19 +69,13 @@ one_last t r o a b =
 
 module _ {Z : Type 0} (lists : List (Vec ItemId Z)) (b : ℕ) (old new : Vec ItemId Z) (lt : b < length lists) (value : old ≡ slice_index_or lists b old) where
   at_b : slice_get lists b ≡ Some old
-  at_b = slice_get-get_or lists b old lt ∙ ap Some (sym value)
-
-  longer : length (slice_set lists b new) ≡ length lists
-  longer = length-set lists b new
+  at_b = grind (arith, common_steps, gets)
 
   at_new : slice_get (slice_set lists b new) b ≡ Some new
-  at_new = slice_get-get_or (slice_set lists b new) b old (subst (λ n. b < n) (sym longer) lt) ∙ ap Some (get_or-set_same lists b new old lt)
+  at_new = grind (arith, common_steps, gets)
 
   at_other : (c : ℕ) (list : Vec ItemId Z) → (c ≡ b → ⊥) → slice_get lists c ≡ Some list → slice_get (slice_set lists b new) c ≡ Some list
-  at_other c list apart at =
-      let within : c < length lists = slice_get_within lists c list at in
-      let was : Some (slice_index_or lists c old) ≡ Some list = sym (slice_get-get_or lists c old within) ∙ at in
-      slice_get-get_or (slice_set lists b new) c old (subst (λ n. c < n) (sym longer) within) ∙ (ap Some (get_or-set_other lists b c new old apart) ∙ was)
+  at_other c list apart at = grind (arith, common_steps, gets)
 
   pub waiting_new : (n : Name) (i : ItemId) → bucket_of n ≡ b → IsAmong new.items i → IsWaiting (slice_set lists b new) n i
   waiting_new n i here among = (new, ap (slice_get (slice_set lists b new)) here ∙ at_new, among)
@@ -116,6 +92,4 @@ module _ {Z : Type 0} (lists : List (Vec ItemId Z)) (b : ℕ) (old new : Vec Ite
   waiting_kept more n i waits = ⊎_elim (λ (here : (bucket_of n ≡ b) × IsAmong old.items i). waiting_new n i here.0 (more i here.1)) (λ still. still) (waiting_cases n i waits)
 
   pub waiting_in : (n : Name) (i : ItemId) → bucket_of n ≡ b → IsWaiting lists n i → IsAmong old.items i
-  waiting_in n i here (list, at, among) =
-      let same : list ≡ old = let both : Some list ≡ Some old = sym at ∙ (ap (slice_get lists) here ∙ at_b) in cc in
-      subst (λ (l : Vec ItemId Z). IsAmong l.items i) same among
+  waiting_in n i here h = grind (arith, at_b)

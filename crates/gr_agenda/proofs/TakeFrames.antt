@@ -1,12 +1,10 @@
 -- What a record that is taken changes: an item or a group that it does not touch can go on only as before.
-use Rattle.std.proofs.Common.{Contains, cond, is_some, length, ◌+◌, ◌≡◌, ◌<◌, ◌≤◌, ℕ, zero, suc, List, [], ◌∷◌, ◌++◌, Bool, true, false, Some, None, Option, refl, sym, ap, ◌∙◌, subst, inl, inr, ⊎_elim, filter, filter_map, slice_get, arith, append-nil, true≢false}
-use Rattle.std.specs.Prelude.{not, ◌&&◌, ◌==◌}
+use Rattle.std.proofs.Common.{Contains, cond, is_some, length, ◌+◌, ◌≡◌, ◌<◌, ◌≤◌, ℕ, List, [], ◌∷◌, ◌++◌, Bool, true, false, Some, None, Option, refl, sym, ap, ◌∙◌, subst, inl, inr, ⊎_elim, filter, filter_map, slice_get, arith, append-nil, true≢false}
 use Rattle.std.specs.List.{cons_option}
 use Rattle.std.proofs.lemmas.List.{get_or-set_same, get_or-set_other}
 use Rattle.gr_model.proofs.Sending.{is_complete-push}
 use Rattle.gr_model.specs.declared.event.Kind.{Kind}
-use Rattle.gr_model.specs.declared.event.Kind.TheVariants.{Read, Write, Load, Store, Rmw, Barrier, End}
-use Rattle.gr_model.specs.Instances.{HasArrived, IsDivergentOf}
+use Rattle.gr_model.specs.Instances.{HasArrived, IsDivergentOf, Mark}
 use Rattle.gr_lanes.specs.Indices.{with_if}
 use Rattle.gr_lanes.specs.Takes.{CanTake, next_of, with_record}
 use Rattle.gr_lanes.proofs.Growth.{record_grows}
@@ -25,14 +23,14 @@ use Rattle.gr_model.specs.declared.event.Name.{Name}
 use Rattle.gr_model.specs.Access.{is_release}
 use Rattle.gr_model.specs.Barriers.{IsDivergent, StandsIn, arrivals, is_barrier, mark_of, mark_of_kind}
 use Rattle.gr_model.specs.Events.{is_end, is_end_kind}
-use Rattle.gr_model.specs.Instances.{Mark}
 use Rattle.gr_model.specs.LawfulOrders.{IsIn, IsLawful}
 use Rattle.gr_model.specs.Names.{HasName, MatchesBy, names_of, release_place}
 use Rattle.gr_model.specs.Streams.{ArePrefixes, Grows, IsEvent, Streams, event_at, is_complete, is_of, list_of, place_of, places_from, size_of, trace_of}
 use Rattle.gr_model.specs.Waits.{for_release}
 use Rattle.gr_model.proofs.GrowthLaws.{convergent_grows, event_grows, stands_grows, stands_shrinks, trace_grows, waits_grows, word_grows}
 use Rattle.gr_model.proofs.Places.{places_from-append, places_from-within, slice_get-append}
-use Rattle.std.proofs.lemmas.Option.{slice_get_within}
+use Rattle.std.proofs.lemmas.Option.{slice_get_within, gets}
+use Rattle.std.proofs.lemmas.Grind.{common_steps}
 use Rattle.gr_steps.specs.Steps.{CanMeet, IsMeeting, IsReady}
 use Rattle.gr_agenda.specs.Kept.{IsHeldUp}
 use Rattle.gr_agenda.specs.Reaches.{IsFollowing, next_instance}
@@ -48,8 +46,7 @@ pub record Takes (s t : Streams) (h : List EventId) (T : EventId → Type 0) : T
 module _ (s t : Streams) (grows : Grows s t) where
   place_grows : (test : Event → Bool) (i : ItemId) (k n : ℕ) → place_of s test i k ≡ Some n → place_of t test i k ≡ Some n
   place_grows test i k n at =
-      let more = trace_grows s t grows i in
-      ap (λ l. slice_get (places_from test 0 l) k) more.1 ∙ (ap (λ l. slice_get l k) (places_from-append test 0 (trace_of s i) more.0) ∙ slice_get-append (places_from test 0 (trace_of s i)) (places_from test (0 + length (trace_of s i)) more.0) k n at)
+      let more = trace_grows s t grows i in rw (more.1, places_from-append) (slice_get-append (places_from test 0 (trace_of s i)) _ k n at)
 
   place_shrinks : (test : Event → Bool) (e : EventId) (k : ℕ) → IsEvent s e → place_of t test e.at k ≡ Some e.index → place_of s test e.at k ≡ Some e.index
   place_shrinks test e k there at =
@@ -61,8 +58,7 @@ module _ (s t : Streams) (grows : Grows s t) where
 
   -- the release of a name is the one that it was, where it was there
   release_was : (n : Name) (x : EventId) → IsEvent s x → x.at ≡ n.at → release_place t n ≡ Some x.index → release_place s n ≡ Some x.index
-  release_was n x there at place =
-      subst (λ i. place_of s is_release i n.release ≡ Some x.index) at (place_shrinks is_release x n.release there (subst (λ i. place_of t is_release i n.release ≡ Some x.index) (sym at) place))
+  release_was n x there at place = grind (arith, place_shrinks)
 
 module _ (s t : Streams) (h : List EventId) (T : EventId → Type 0) (takes : Takes s t h T) where
   handled_event : (x : EventId) → IsIn h x → IsEvent s x
@@ -133,31 +129,17 @@ AddsNoMark s t g = (n i : ℕ) (a : Mark) → HasArrived (size_of s g) (arrivals
 
 -- a barrier is no end
 pub barrier_goes_on : (kind : Kind) (word : ℕ) → is_some (mark_of_kind kind word) ≡ true → is_end_kind kind ≡ false
-barrier_goes_on Read word b = refl
-barrier_goes_on Write word b = refl
-barrier_goes_on (Load scope order) word b = refl
-barrier_goes_on (Store scope order) word b = refl
-barrier_goes_on (Rmw scope order) word b = refl
-barrier_goes_on (Barrier global local) word b = refl
-barrier_goes_on (End cut) word b = cc
+barrier_goes_on kind word b = grind arith
 
 count_marks : (xs : List Event) → length (filter_map mark_of xs) ≡ length (filter is_barrier xs)
 count_marks [] = refl
-count_marks (x ∷ xs) = elim (mark_of x) as (λ o. length (cons_option o (filter_map mark_of xs)) ≡ length (cond (is_some o) (x ∷ filter is_barrier xs) (filter is_barrier xs))) [
-  | None ↦ count_marks xs
-  | Some a ↦ ap suc (count_marks xs)
-]
+count_marks (x ∷ xs) = grind (arith, count_marks xs)
 
 one_mark : (o : Option Mark) (p : ℕ) (a : Mark) → slice_get (cons_option o []) p ≡ Some a → (p ≡ 0) × (o ≡ Some a)
-one_mark None p a at = cc
-one_mark (Some b) zero a at = (refl, at)
-one_mark (Some b) (suc p) a at = cc
+one_mark o p a at = grind arith
 
 get_before : {X : Type 0} (xs : List X) (x : X) (k : ℕ) → (k ≡ length xs → ⊥) → slice_get (xs ++ x ∷ []) k ≡ slice_get xs k
-get_before [] x zero apart = absurd (apart refl)
-get_before [] x (suc k) apart = refl
-get_before (y ∷ xs) x zero apart = refl
-get_before (y ∷ xs) x (suc k) apart = get_before xs x k (λ same. apart (ap suc same))
+get_before xs x k apart = grind (arith, common_steps, gets)
 
 -- ---- one record more of a group
 
@@ -204,27 +186,13 @@ module _ (s : Streams) (g : ℕ) (x : Event) (prefixes : ArePrefixes s) (can : C
     not_complete = ap is_complete here ∙ (is_complete-push (list_of s g) x ∙ ends)
 
     item_is : (i : ℕ) → is_of i x ≡ true → x.item ≡ i
-    item_is i is = by_test (x.item == i) refl
-      where
-        by_test : (b : Bool) → (x.item == i) ≡ b → x.item ≡ i
-        by_test true t = eqb-true x.item i t
-        by_test false f = absurd (true≢false (sym is ∙ ap (λ (b : Bool). b && not (is_end x)) f))
+    item_is i is = grind (arith, eqb-true)
 
     not_of : (i : ItemId) → i.group ≡ g → (i ≡ own → ⊥) → is_of i.item x ≡ false
-    not_of i group apart = by_test (is_of i.item x) refl
-      where
-        by_test : (b : Bool) → is_of i.item x ≡ b → is_of i.item x ≡ false
-        by_test true t = absurd (apart (let item : x.item ≡ i.item = item_is i.item t in λ k. record { group = group k; item = sym item k }))
-        by_test false f = f
+    not_of i group apart = grind (arith, item_is)
 
     own_trace : (i : ItemId) → (i ≡ own → ⊥) → trace_of more i ≡ trace_of s i
-    own_trace i apart = ⊎_elim
-        (λ (group : i.group ≡ g).
-        let last : cond (is_of i.item x) (x ∷ []) [] ≡ [] = ap (λ (b : Bool). cond b (x ∷ []) []) (not_of i group apart) in
-        ap (λ (l : List Event). filter (is_of i.item) l) (ap (list_of more) group ∙ here)
-        ∙ (filter-append (is_of i.item) (list_of s g) (x ∷ []) ∙ (ap (λ (l : List Event). filter (is_of i.item) (list_of s g) ++ l) last ∙ (append-nil (filter (is_of i.item) (list_of s g)) ∙ ap (λ n. filter (is_of i.item) (list_of s n)) (sym group)))))
-        (λ away. other_trace i away)
-        (cases_eq i.group g)
+    own_trace i apart = grind (arith, not_of, more, here, filter-append, append-nil, other_trace)
 
     module _ (marks : AddsNoMark s more g) where
       same_divergent : (n : ℕ) → IsDivergent more g n → IsDivergent s g n
@@ -248,17 +216,13 @@ module _ (s : Streams) (g : ℕ) (x : Event) (prefixes : ArePrefixes s) (can : C
     -- a record that is no barrier brings no mark
     module _ (plain : is_barrier x ≡ false) where
       unmarked : (o : Option Mark) → is_some o ≡ false → (ms : List Mark) → cons_option o ms ≡ ms
-      unmarked None none ms = refl
-      unmarked (Some m) none ms = cc
+      unmarked o none ms = grind arith
 
       nothing_if : (b : Bool) → filter_map mark_of (cond b (x ∷ []) []) ≡ []
-      nothing_if true = unmarked (mark_of x) plain []
-      nothing_if false = refl
+      nothing_if b = grind (arith, unmarked)
 
       same_arrival : (n i : ℕ) → arrivals more g n i ≡ arrivals s g n i
-      same_arrival n i =
-          let old = trace_of s (record { group = g; item = i }) in
-          ap (λ (l : List Mark). slice_get l n) (longer_marks i ∙ (ap (λ (l : List Mark). filter_map mark_of old ++ l) (nothing_if (is_of i x)) ∙ append-nil (filter_map mark_of old)))
+      same_arrival n i = grind (arith, longer_marks, nothing_if, append-nil)
 
       pub plain_marks : AddsNoMark s more g
       plain_marks n i a arrived = (i, (arrived.0, sym (same_arrival n i) ∙ arrived.1))
@@ -284,16 +248,11 @@ module _ (s : Streams) (g : ℕ) (x : Event) (prefixes : ArePrefixes s) (can : C
               let clash : None ≡ Some mark_there.0 = sym none ∙ (follows.came ∙ mark_there.1) in cc
 
       only_own : (i : ℕ) (b : Bool) → is_of i x ≡ b → (p : ℕ) (a : Mark) → slice_get (filter_map mark_of (cond b (x ∷ []) [])) p ≡ Some a → (x.item ≡ i) × (p ≡ 0) × (mark_of x ≡ Some a)
-      only_own i true is p a at = let mark = one_mark (mark_of x) p a at in (item_is i is, mark.0, mark.1)
-      only_own i false is p a at = cc
+      only_own i b is p a at = grind (arith, one_mark, item_is)
 
       -- the mark that comes is that of the one before
       came_before : (n i : ℕ) (a : Mark) (p : ℕ) → n ≡ length (filter_map mark_of (trace_of s (record { group = g; item = i }))) + p → slice_get (filter_map mark_of (cond (is_of i x) (x ∷ []) [])) p ≡ Some a → (j : ℕ) × HasArrived (size_of s g) (arrivals s g n) j a
-      came_before n i a p place at =
-          let mine = only_own i (is_of i x) refl p a at in
-          let count : length (filter_map mark_of (trace_of s (record { group = g; item = i }))) ≡ instance = ap (λ k. length (filter_map mark_of (trace_of s (record { group = g; item = k })))) (sym mine.0) ∙ count_marks (trace_of s own) in
-          let number : n ≡ instance = omega (arith, place, mine.1, count) in
-          (follows.other, (within, ap (λ m. arrivals s g m follows.other) number ∙ (follows.came ∙ mine.2)))
+      came_before n i a p place at = grind (arith, only_own, instance, count_marks, own, other, within)
 
       pub following_marks : AddsNoMark s more g
       following_marks n i a arrived =
@@ -352,12 +311,7 @@ module _ (s : Streams) (g : ℕ) (x : Event) (prefixes : ArePrefixes s) (can : C
             (cases_eq k g)
 
         last_event : (d : EventId) → (d ≡ e → ⊥) → event_at more d ≡ event_at s d
-        last_event d apart = ⊎_elim
-            (λ (same : d.at ≡ own).
-            ap (λ i. slice_get (trace_of more i) d.index) same
-            ∙ (ap (λ (l : List Event). slice_get l d.index) own_longer ∙ (get_before (trace_of s own) x d.index (λ last. apart (same_event d e same last)) ∙ ap (λ i. slice_get (trace_of s i) d.index) (sym same))))
-            (λ other. ap (λ (l : List Event). slice_get l d.index) (own_trace d.at other))
-            (item_cases d.at own)
+        last_event d apart = grind (arith, own, more, own_longer, get_before, same_event, e, other, own_trace, item_cases)
 
         pub takes_last : (h : List EventId) → IsLawful s h → Takes s more h (λ d. d ≡ e)
         takes_last h lawful = record {

@@ -1,10 +1,10 @@
 -- An item that stands at a barrier can go on exactly where the barrier's instance is divergent; and which instances stay as they are.
-use Rattle.std.proofs.Common.{◌≡◌, ◌<◌, ◌≤◌, arith, ℕ, List, true, false, None, Some, Option, length, slice_get, refl, sym, ap, ◌∙◌, subst, ⊎_elim}
+use Rattle.std.proofs.Common.{◌≡◌, ◌<◌, ◌≤◌, arith, ℕ, List, true, false, Some, Option, length, slice_get, refl, sym, ap, ◌∙◌, subst, ⊎_elim}
 use Rattle.std.specs.Prelude.{slice_index_or, slice_set}
 use Rattle.std.proofs.lemmas.Bool.{cases_eq}
-use Rattle.std.proofs.lemmas.List.{get_or-set_same, get_or-set_other, length-set}
 use Rattle.std.proofs.lemmas.List.Elements.{Contains-get_or}
-use Rattle.std.proofs.lemmas.Option.{get_or_from_slice_get, slice_get-get_or, slice_get_within}
+use Rattle.std.proofs.lemmas.Option.{slice_get_within, gets}
+use Rattle.std.proofs.lemmas.Grind.{common_steps}
 use Rattle.gr_model.specs.declared.event.Event.{Event}
 use Rattle.gr_model.specs.declared.event.EventId.{EventId}
 use Rattle.gr_model.specs.declared.event.ItemId.{ItemId}
@@ -89,40 +89,20 @@ module _ (q q2 : Sequence) (is : IsSequence q) (g : ℕ) (x : Event) (can : CanT
   undiverged_plain plain ends = undiverged_own ends (plain_marks q.taken g x is.prefixes can ends plain)
 
   pub undiverged_following : IsFollowing q.taken g x → AreUndiverged q2.taken undiverged
-  undiverged_following follows =
-      let ends = barrier_goes_on x.kind x.word follows.barrier in
-      undiverged_own ends (following_marks q.taken g x is.prefixes can ends follows)
+  undiverged_following follows = search (arith, barrier_goes_on, undiverged_own, following_marks)
 
 -- ---- which are told
 
 module _ {X : Type 0} (xs : List X) (n : ℕ) (v : X) where
   set_here : n < length xs → slice_get (slice_set xs n v) n ≡ Some v
-  set_here lt = slice_get-get_or (slice_set xs n v) n v (subst (λ m. n < m) (sym (length-set xs n v)) lt) ∙ ap Some (get_or-set_same xs n v v lt)
+  set_here lt = grind (arith, common_steps, gets)
 
   set_else : (h : ℕ) (y : X) → (h ≡ n → ⊥) → slice_get (slice_set xs n v) h ≡ Some y → slice_get xs h ≡ Some y
-  set_else h y apart at =
-      let within : h < length (slice_set xs n v) = slice_get_within (slice_set xs n v) h y at in
-      slice_get-get_or xs h y (subst (λ m. h < m) (length-set xs n v) within)
-      ∙ (ap Some (sym (get_or-set_other xs n h v y apart)) ∙ (sym (slice_get-get_or (slice_set xs n v) h y within) ∙ at))
+  set_else h y apart at = grind (arith, common_steps, gets)
 
 -- one more is told
 pub told_here : (undiverged : List (Option ℕ)) (g k : ℕ) → g < length undiverged → IsTold undiverged g k (slice_set undiverged g (Some k))
-told_here undiverged g k lt = record {
-  own = λ n told. let both : Some (Some k) ≡ Some (Some n) = sym (set_here undiverged g (Some k) lt) ∙ told in cc;
-  others = λ h n apart told. set_else undiverged g (Some k) h (Some n) apart told;
-}
+told_here undiverged g k lt = grind (arith, set_here, set_else)
 
 pub undiverged_set : (s : Streams) (undiverged : List (Option ℕ)) (g n : ℕ) (new : List (Option ℕ)) → AreUndiverged s undiverged → IsTold undiverged g n new → ¬ IsDivergent s g n → AreUndiverged s new
-undiverged_set s undiverged g n new are tells not_divergent h k told divergent = ⊎_elim
-    (λ (same : h ≡ g).
-    let this : k ≡ n = tells.own k (ap (slice_get new) (sym same) ∙ told) in
-    not_divergent (subst (λ m. IsDivergent s m n) same (subst (IsDivergent s h) this divergent)))
-    (λ (apart : h ≡ g → ⊥). are h k (tells.others h k apart told) divergent)
-    (cases_eq h g)
-
--- none is told
-pub undiverged_none : (s : Streams) (undiverged : List (Option ℕ)) (n : ℕ) → length undiverged ≡ n → ((h : ℕ) (o : Option ℕ) → h < n → slice_index_or undiverged h o ≡ None) → AreUndiverged s undiverged
-undiverged_none s undiverged n count none h k told divergent =
-    let within : h < length undiverged = slice_get_within undiverged h (Some k) told in
-    let here : slice_index_or undiverged h (Some k) ≡ Some k = get_or_from_slice_get undiverged h (Some k) (Some k) told in
-    let clash : None ≡ Some k = sym (none h (Some k) (subst (λ m. h < m) count within)) ∙ here in cc
+undiverged_set s undiverged g n new are tells not_divergent h k told divergent = grind arith

@@ -4,10 +4,6 @@ use Rattle.gr_model.specs.Streams.{Streams, place_of, trace_of}
 use Rattle.gr_steps.proofs.BarrierPlaces.{places_from-once}
 use Rattle.gr_agenda.proofs.agenda.name_of.Goals as goal
 
-pub returns-in-None : goal.returns-in-None
-returns-in-None g c n at place =
-    absurd (c.in-None.ensures n.release (ap (λ (s : Streams). place_of s is_release c.args.event.at n.release) c.lanes.ensures.taken ∙ (ap (λ i. place_of c.args.order.now.taken is_release i n.release) (sym at) ∙ place)))
-
 pub returns-in-Some : goal.returns-in-Some
 returns-in-Some g c n at place =
     let s = c.lanes.result.now.streams in

@@ -33,6 +33,3 @@ invariant_of-self g c =
 
 pub invariant_of-self-in-Err : goal.invariant_of-self-in-Err
 invariant_of-self-in-Err g c = (record { ready = λ r can. c.note_shortage.ensures r; waits = λ d n held. inl (c.note_shortage.ensures (Item d.at)) }, c.mark_undiverged.ensures c.self.invariant.1)
-
-pub mark_undiverged-requires : goal.mark_undiverged-requires
-mark_undiverged-requires g c can = true≢false (sym (c.can_make.ensures.1 (subst (λ p. CanMake p c.in-Some.step) c.self.view_is can)) ∙ c.if-can_make.false)

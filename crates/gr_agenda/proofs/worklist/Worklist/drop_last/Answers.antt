@@ -1,6 +1,6 @@
 use Rattle.std.proofs.Common.{sym, subst}
 use Rattle.gr_agenda.specs.Lists.{Has, IsLast}
-use Rattle.gr_agenda.proofs.ListLemmas.{has_less, marked_less}
+use Rattle.gr_agenda.proofs.ListLemmas.{has_less}
 use Rattle.gr_agenda.proofs.worklist.Worklist.drop_last.Goals as goal
 
 pub returns-in-Some : goal.returns-in-Some
@@ -8,6 +8,3 @@ returns-in-Some g c r has apart =
     has_less (record { steps = c.self.inside.steps.items; short = c.self.inside.short }) c.pop.new.self.items c.in-Some.step c.in-Some.ensures.items r
     (subst (λ t. Has t r) (sym c.self.view_is) has)
     (λ last. apart (subst (λ t. IsLast t r) c.self.view_is last))
-
-pub invariant_of-self-in-Some : goal.invariant_of-self-in-Some
-invariant_of-self-in-Some g c = marked_less c.self.inside.marks.items c.unmark.new.marks.items c.self.inside.steps.items c.pop.new.self.items c.in-Some.step c.self.invariant c.in-Some.ensures.items c.unmark.ensures.here c.unmark.ensures.others
