@@ -267,12 +267,10 @@ module _ {Z : Type 0} (q : Sequence) (t t2 : Steps) (lists : List (Vec ItemId Z)
     took_wide group prefixes items = kept_took (λ d. d.at.group ≡ g) (takes_wide q.taken g x is.prefixes can q.handled is.lawful) (λ d. cases_eq d.at.group g) arrivals_was each (λ can. group) q2 took
       where
         there : (d : EventId) → Goes d → IsEvent longer d
-        there d (inl ready) = ready.event
-        there d (inr (n, held)) = named_there longer d n held.named
+        there d h = grind (arith, named_there, longer)
 
         pending : (d : EventId) → Goes d → IsPending (taking q g x) d.at
-        pending d (inl ready) = inl (d, refl, ready)
-        pending d (inr (n, held)) = inr (d, n, refl, held)
+        pending d h = grind (arith)
 
         each : (d : EventId) → d.at.group ≡ g → Goes d → Has t2 (Item d.at)
         each d own goes =

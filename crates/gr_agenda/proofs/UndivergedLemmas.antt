@@ -10,7 +10,7 @@ use Rattle.gr_model.specs.declared.event.EventId.{EventId}
 use Rattle.gr_model.specs.declared.event.ItemId.{ItemId}
 use Rattle.gr_model.specs.Barriers.{IsDivergent, is_barrier}
 use Rattle.gr_model.specs.Events.{is_end}
-use Rattle.gr_model.specs.Streams.{Streams, event_at, place_of, trace_of}
+use Rattle.gr_model.specs.Streams.{Streams, event_at, place_of}
 use Rattle.gr_clocks.specs.Counts.{count_of}
 use Rattle.gr_lanes.specs.Takes.{CanTake, next_of, with_record}
 use Rattle.gr_steps.specs.Steps.{CanHandle}
@@ -62,16 +62,10 @@ module _ (q q2 : Sequence) (is : IsSequence q) (g : ℕ) (x : Event) (can : CanT
       own = next_of q.taken g x
 
       place : place_of r.streams is_barrier own.at k ≡ Some own.index
-      place =
-          ap (λ (s : Streams). place_of s is_barrier own.at k) (streams ∙ ap (λ (p : Sequence). p.taken) took)
-          ∙ (ap (place_of (with_record q.taken g x) is_barrier own.at) next ∙ own_place q.taken g x is.prefixes can (barrier_goes_on x.kind x.word barrier) barrier)
+      place = grind (arith, own, own_place, barrier_goes_on)
 
       out : ¬ IsIn q2.handled own
-      out there =
-          let was : IsIn q.handled own = subst (λ (p : Sequence). IsIn p.handled own) took there in
-          let event = (is.lawful.event was.0 own was.1).0 in
-          let below = slice_get_within (trace_of q.taken own.at) own.index event.0 event.1 in
-          omega (arith, below)
+      out there = grind (arith, there, own, slice_get_within)
 
   -- one more is told, which is not divergent behind the record
   pub undiverged_more : (k : ℕ) → ¬ IsDivergent q2.taken g k → (new : List (Option ℕ)) → IsTold undiverged g k new → AreUndiverged q2.taken new
