@@ -82,9 +82,7 @@ module _ {Z : Type 0} (lists : List (Vec ItemId Z)) (b : ℕ) (old new : Vec Ite
 
   pub waiting_cases : (n : Name) (i : ItemId) → IsWaiting lists n i → ((bucket_of n ≡ b) × IsAmong old.items i) ⊎ IsWaiting (slice_set lists b new) n i
   waiting_cases n i (list, at, among) = ⊎_elim
-      (λ (here : bucket_of n ≡ b).
-      let same : list ≡ old = let both : Some list ≡ Some old = sym at ∙ (ap (slice_get lists) here ∙ at_b) in cc in
-      inl (here, subst (λ (l : Vec ItemId Z). IsAmong l.items i) same among))
+      (λ (here : bucket_of n ≡ b). inl (here, grind (arith, here, at, at_b, among)))
       (λ apart. inr (list, at_other (bucket_of n) list apart at, among))
       (cases_eq (bucket_of n) b)
 

@@ -1,6 +1,5 @@
 -- An event that is held up is the next of its item.
-use Rattle.std.proofs.Common.{Contains, subst, true, ◌≡◌, ◌<◌, ◌≤◌, ℕ, List, Some, None, refl, sym, ap, ◌∙◌, ⊎_elim, arith, eq-or-lt_of_le}
-use Rattle.std.proofs.lemmas.Bool.{cases_lt}
+use Rattle.std.proofs.Common.{Contains, subst, true, ◌≡◌, ◌<◌, ℕ, List, Some, None, refl, sym, ap, ◌∙◌, arith}
 use Rattle.gr_model.specs.declared.event.Event.{Event}
 use Rattle.gr_model.specs.declared.event.EventId.{EventId}
 use Rattle.gr_model.specs.declared.event.ItemId.{ItemId}
@@ -20,17 +19,12 @@ use Rattle.gr_agenda.specs.Kept.{IsHeldUp, IsReleaseHandled}
 module _ (s : Streams) (handled : List EventId) (frontier : Counts) (first : AreBelowFrontier handled frontier) (d : EventId) (n : Name) (held : IsHeldUp s handled d n) where
   index_is : d.index ≡ count_of frontier d.at
   index_is =
-      ⊎_elim
-      (λ (lt : d.index < count_of frontier d.at). absurd (held.fresh ((first d).1 lt)))
-      (λ (ge : count_of frontier d.at ≤ d.index). ⊎_elim (λ (same : count_of frontier d.at ≡ d.index). sym same) (λ (lt : count_of frontier d.at < d.index). absurd (over lt)) (eq-or-lt_of_le ge))
-      (cases_lt d.index (count_of frontier d.at))
-    where
-      over : count_of frontier d.at < d.index → ⊥
-      over lt =
-          let m = number_before d.index (omega (arith, lt)) in
-          let p : EventId = record { at = d.at; index = m.0 } in
-          let there = (first p).0 (held.previous p (record { item = refl; next = m.1 })) in
-          omega (arith, there, m.1)
+      let not_less : ¬ (d.index < count_of frontier d.at) = λ lt. held.fresh ((first d).1 lt) in
+      let not_more : ¬ (count_of frontier d.at < d.index) = λ lt.
+      let m = number_before d.index (omega (arith, lt)) in
+      let p : EventId = record { at = d.at; index = m.0 } in
+      omega (arith, (first p).0 (held.previous p (record { item = refl; next = m.1 })), m.1, lt) in
+      omega arith
 
   module _ (i : ItemId) (item : d.at ≡ i) where
     next_is : d ≡ record { at = i; index = count_of frontier i }

@@ -87,16 +87,9 @@ module _ (q q2 : Sequence) (is : IsSequence q) (g : ℕ) (x : Event) (can : CanT
 
 -- ---- which are told
 
-module _ {X : Type 0} (xs : List X) (n : ℕ) (v : X) where
-  set_here : n < length xs → slice_get (slice_set xs n v) n ≡ Some v
-  set_here lt = grind (arith, common_steps, gets)
-
-  set_else : (h : ℕ) (y : X) → (h ≡ n → ⊥) → slice_get (slice_set xs n v) h ≡ Some y → slice_get xs h ≡ Some y
-  set_else h y apart at = grind (arith, common_steps, gets)
-
 -- one more is told
 pub told_here : (undiverged : List (Option ℕ)) (g k : ℕ) → g < length undiverged → IsTold undiverged g k (slice_set undiverged g (Some k))
-told_here undiverged g k lt = grind (arith, set_here, set_else)
+told_here undiverged g k lt = grind (arith, common_steps, gets)
 
 pub undiverged_set : (s : Streams) (undiverged : List (Option ℕ)) (g n : ℕ) (new : List (Option ℕ)) → AreUndiverged s undiverged → IsTold undiverged g n new → ¬ IsDivergent s g n → AreUndiverged s new
 undiverged_set s undiverged g n new are tells not_divergent h k told divergent = grind arith
