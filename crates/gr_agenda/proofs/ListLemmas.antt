@@ -43,11 +43,7 @@ marked_more marks new steps after step are is each r p place at = ⊎_elim
 
 -- what stood there and is not the last one stands there still
 pub has_less : (t : Steps) (after : List Ready) (step : Ready) → t.steps ≡ after ++ step ∷ [] → (r : Ready) → Has t r → (IsLast t r → ⊥) → Has (record { steps = after; short = t.short }) r
-has_less t after step is r (inl short) apart = inl short
-has_less t after step is r (inr there) apart = ⊎_elim
-    (λ (still : IsAmong after r). inr still)
-    (λ (same : r ≡ step). absurd (apart (after, is ∙ ap (λ o. after ++ o ∷ []) (sym same))))
-    (among_cases after step r (subst (λ l. IsAmong l r) is there))
+has_less t after step is r h apart = grind (arith, among_cases, common_steps, gets)
 
 pub has_more : (t : Steps) (after : List Ready) (step : Ready) → after ≡ t.steps ++ step ∷ [] → KeepsSteps t (record { steps = after; short = t.short })
 has_more t after step is r (inl short) = inl short
@@ -58,12 +54,7 @@ has_last t after step is = inr (subst (λ l. IsAmong l step) (sym is) (among_las
 
 -- there is one last step
 pub one_last : (t : Steps) (r o : Ready) → IsLast t r → IsLast t o → r ≡ o
-one_last t r o a b =
-    let here : slice_get t.steps (length a.0 + 0) ≡ Some r = subst (λ (l : List Ready). slice_get l (length a.0 + 0) ≡ Some r) (sym a.1) (at_behind a.0 (r ∷ []) 0 r refl) in
-    let there : slice_get t.steps (length b.0 + 0) ≡ Some o = subst (λ (l : List Ready). slice_get l (length b.0 + 0) ≡ Some o) (sym b.1) (at_behind b.0 (o ∷ []) 0 o refl) in
-    let lengths : length a.0 + 1 ≡ length b.0 + 1 = sym (length_push a.0 r) ∙ (ap length (sym a.1 ∙ b.1) ∙ length_push b.0 o) in
-    let same : length a.0 + 0 ≡ length b.0 + 0 = omega (arith, lengths) in
-    let both : Some r ≡ Some o = sym here ∙ (ap (slice_get t.steps) same ∙ there) in cc
+one_last t r o a b = grind (arith, at_behind, length_push, common_steps, gets)
 
 -- ---- items that wait
 

@@ -281,11 +281,7 @@ module _ (s : Streams) (g : ℕ) (x : Event) (prefixes : ArePrefixes s) (can : C
       own_marks = ap (λ (l : List Event). filter_map mark_of l) own_longer ∙ (filter_map-append mark_of (trace_of s own) (x ∷ []) ∙ ap (λ (o : Option Mark). filter_map mark_of (trace_of s own) ++ cons_option o []) own_mark.1)
 
       else_arrival : (n i : ℕ) → (n ≡ brought → ⊥) → arrivals more g n i ≡ arrivals s g n i
-      else_arrival n i apart = ⊎_elim
-          (λ (same : i ≡ x.item). subst (λ j. arrivals more g n j ≡ arrivals s g n j) (sym same)
-          (ap (λ (l : List Mark). slice_get l n) own_marks ∙ get_before (filter_map mark_of (trace_of s own)) own_mark.0 n (λ last. apart (last ∙ count_marks (trace_of s own)))))
-          (λ (other : i ≡ x.item → ⊥). ap (λ (l : List Event). slice_get (filter_map mark_of l) n) (own_trace (record { group = g; item = i }) (λ same. other (ap (λ (j : ItemId). j.item) same))))
-          (cases_eq i x.item)
+      else_arrival n i apart = grind (arith, more, own_marks, get_before, own, own_mark, count_marks, other, own_trace, common_steps, gets)
 
       pub own_place : place_of more is_barrier own brought ≡ Some e.index
       own_place =
