@@ -1,15 +1,11 @@
--- The least place at fault, one place at a time.
-use Rattle.std.proofs.Common.{◌≡◌, ℕ, suc, ◌+◌, ◌-◌, ◌<◌, ◌≤◌, Bool, true, false, List, drop, Some, None, refl, arith, inl, inr}
-use Rattle.std.specs.Prelude.{slice_index, ◌==◌, ◌||◌}
-use Rattle.std.proofs.lemmas.Bool.{or_cases, eqb-true, eq-eqb}
+-- The fields of a record, place by place.
+use Rattle.std.proofs.Common.{◌≡◌, ℕ, zero, suc, ◌+◌, ◌<◌, ◌≤◌, Bool, true, false, cond, List, drop, Option, Some, None, refl, arith, inl, inr}
+use Rattle.std.specs.Prelude.{slice_index, not, ◌==◌, ◌||◌}
+use Rattle.std.proofs.lemmas.Bool.{cases_lt, or_cases, or_left, or_right, eqb-true, eq-eqb}
 use Rattle.std.proofs.lemmas.List.{get_or-drop}
 use Rattle.gr_record.specs.declared.header.Version.{Version}
 use Rattle.gr_record.specs.Versions.{has_sites}
 use Rattle.gr_record.specs.Reading.{field, is_field_ok, bad_field, bad_field_from}
-use Rattle.gr_record.proofs.Places.{or_left, or_right}
-
-pub not_both : (b : Bool) → b ≡ false → b ≡ true → ⊥
-not_both b is_false is_true = absurd cc
 
 -- both bytes of a number that is 0
 site_zero : (bytes : List ℕ) → field 6 2 bytes ≡ 0 → (slice_index bytes 6 ≡ 0) × (slice_index bytes 7 ≡ 0)
@@ -33,20 +29,17 @@ no_bad_field v bytes more one two three site =
           rw (more, one, two, three, or_right (slice_index bytes 6 == 0) _ told, or_right (slice_index bytes 7 == 0) _ told) refl
     ]
 
-pub bad_field_from-here : (v : Version) (bytes : List ℕ) (place stop : ℕ) → place < stop → is_field_ok v (slice_index bytes 0) place (slice_index bytes place) ≡ false → bad_field_from v bytes place (stop - place) ≡ Some place
-unfolding bad_field_from
-bad_field_from-here v bytes place stop lt bad =
-    let k : stop - place ≡ suc (stop - (place + 1)) = omega arith in
-    rw (k, bad) refl
+-- a place that has no fault, before others
+none_next : (t : Bool) (place : ℕ) (others : Option ℕ) → cond (not t) (Some place) others ≡ None → (t ≡ true) × (others ≡ None)
+none_next t place others none = grind arith
 
-pub bad_field_from-later : (v : Version) (bytes : List ℕ) (place stop : ℕ) → place < stop → is_field_ok v (slice_index bytes 0) place (slice_index bytes place) ≡ true → bad_field_from v bytes place (stop - place) ≡ bad_field_from v bytes (place + 1) (stop - (place + 1))
+-- each of n places that has no fault
+pub fields_ok : (v : Version) (bytes : List ℕ) (place n : ℕ) → bad_field_from v bytes place n ≡ None → (p : ℕ) → place ≤ p → p < place + n → is_field_ok v (slice_index bytes 0) p (slice_index bytes p) ≡ true
 unfolding bad_field_from
-bad_field_from-later v bytes place stop lt good =
-    let k : stop - place ≡ suc (stop - (place + 1)) = omega arith in
-    rw (k, good) refl
-
-pub bad_field_from-none : (v : Version) (bytes : List ℕ) (place stop : ℕ) → stop ≤ place → bad_field_from v bytes place (stop - place) ≡ None
-unfolding bad_field_from
-bad_field_from-none v bytes place stop le =
-    let k : stop - place ≡ 0 = omega arith in
-    rw k refl
+fields_ok v bytes place zero none p ge lt = absurd (omega arith)
+fields_ok v bytes place (suc n) none p ge lt =
+    let here = none_next (is_field_ok v (slice_index bytes 0) place (slice_index bytes place)) place (bad_field_from v bytes (place + 1) n) none in
+    elim (cases_lt place p) [
+      | inl later ↦ fields_ok v bytes (place + 1) n here.1 p (omega arith) (omega arith)
+      | inr le ↦ let same : p ≡ place = omega arith in rw same here.0
+    ]

@@ -1,9 +1,7 @@
 -- What is read of bytes is a prefix, and is spelled so.
-use Rattle.std.proofs.Common.{◌≡◌, ℕ, zero, suc, ◌<◌, ◌≤◌, Bool, true, false, List, [], ◌∷◌, ◌++◌, length, take, drop, Result, Ok, Err, refl, sym, ap, subst, ◌∙◌, append_assoc, arith, inl, inr}
-use Rattle.std.specs.Prelude.{IsTrue}
+use Rattle.std.proofs.Common.{◌≡◌, ℕ, zero, suc, ◌<◌, ◌≤◌, Bool, true, false, List, [], ◌∷◌, ◌++◌, length, take, drop, Result, Ok, Err, refl, sym, ap, ◌∙◌, append_assoc, arith, inl, inr}
 use Rattle.std.proofs.lemmas.Bool.{lt-ltb, le-ltb, cases_lt, cases_Bool, both_ways}
-use Rattle.std.proofs.lemmas.List.{take-append-drop, append-nil, length-take, get_or-take, get_or_past}
-use Rattle.std.proofs.Math.Seq.{take-length}
+use Rattle.std.proofs.lemmas.List.{take-append-drop, append-nil, length-take, get_or-take, get_or_past, take_all}
 use Rattle.gr_model.specs.declared.event.Event.{Event}
 use Rattle.gr_model.specs.Events.{is_end}
 use Rattle.gr_model.specs.Streams.{is_complete}
@@ -31,15 +29,6 @@ bytes_take n bytes h i =
       | inl lt ↦ rw (get_or-take n bytes i 0 lt) (h i)
       | inr le ↦ rw (get_or_past (take n bytes) i 0 (omega (arith, length-take n bytes))) (omega arith)
     ]
-
-take_whole : (xs : List ℕ) (n : ℕ) → length xs ≡ n → take n xs ≡ xs
-take_whole xs n len = subst (λ (k : ℕ). take k xs ≡ xs) len (take-length xs)
-
-fault_apart : (e : RecordError) → AtFault e ≡ Inside → ⊥
-fault_apart e h = absurd cc
-
-end_apart : AtEnd ≡ Inside → ⊥
-end_apart h = absurd cc
 
 -- ---- records
 
@@ -74,17 +63,17 @@ module _ (h : Header) where
   spelled e bytes fits long is =
       let len : length (take size bytes) ≡ size = omega (arith, length-take size bytes) in
       let s = read_is_spelled h e (take size bytes) (bytes_take size bytes fits) (omega arith) is in
-      (sym (take_whole (take size bytes) size len) ∙ s.0, s.1)
+      (sym (take_all size (take size bytes) (omega arith)) ∙ s.0, s.1)
 
   step_found : (most : ℕ) (bytes : List ℕ) → AreBytes bytes → size ≤ length bytes → (further : Records) → Found h most (drop size bytes) further
       → (x : Result Event RecordError) → event_at h (take size bytes) ≡ x → Found h (suc most) bytes (step size x bytes further)
-  step_found most bytes fits long further found (Err e) is = record { parts = refl; runs = tt; few = omega arith; complete = refl; short = λ is_inside. absurd (fault_apart e is_inside) }
+  step_found most bytes fits long further found (Err e) is = record { parts = refl; runs = tt; few = omega arith; complete = refl; short = λ is_inside. absurd cc }
   step_found most bytes fits long further found (Ok e) is =
       let s = spelled e bytes fits long is in
       let one : List ℕ = event_spelling h.version (sited h.version e (take size bytes)) in
       let split : bytes ≡ one ++ drop size bytes = sym (take-append-drop size bytes) ∙ ap (λ (x : List ℕ). x ++ drop size bytes) s.0 in
       elim (cases_Bool (is_end e)) [
-        | inl end ↦ rw end (record { parts = rw (append-nil one) split; runs = (s.1, λ _. refl, tt); few = omega arith; complete = end; short = λ is_inside. absurd (end_apart is_inside) })
+        | inl end ↦ rw end (record { parts = rw (append-nil one) split; runs = (s.1, λ _. refl, tt); few = omega arith; complete = end; short = λ is_inside. absurd cc })
         | inr on ↦ rw on (record {
           parts = split ∙ ap (λ (x : List ℕ). one ++ x) found.parts ∙ sym (append_assoc one (events_spelling h.version (all_sited h.version further.events (drop size bytes))) further.rest);
           runs = (s.1, λ is_inside. absurd (both_ways (is_end e) on is_inside), found.runs);
@@ -101,7 +90,7 @@ module _ (h : Header) where
   records_found zero bytes fits =
       elim (cases_lt (length bytes) size) [
         | inl lt ↦ short_found zero bytes lt
-        | inr long ↦ rw (too_many size (event_at h) bytes long) (record { parts = refl; runs = tt; few = omega arith; complete = refl; short = λ is_inside. absurd (fault_apart _ is_inside) })
+        | inr long ↦ rw (too_many size (event_at h) bytes long) (record { parts = refl; runs = tt; few = omega arith; complete = refl; short = λ is_inside. absurd cc })
       ]
   records_found (suc most) bytes fits =
       elim (cases_lt (length bytes) size) [
@@ -112,33 +101,24 @@ module _ (h : Header) where
 -- ---- a header and its records
 
 closed_stop : (stop : Stop) (rest : List ℕ) → close stop rest ≡ AtEnd → (stop ≡ AtEnd) × (rest ≡ [])
-closed_stop Inside rest h = absurd cc
-closed_stop AtEnd [] h = (refl, refl)
-closed_stop AtEnd (b ∷ rest) h = absurd cc
-closed_stop (AtFault e) rest h = absurd cc
+closed_stop stop rest h = grind arith
 
 closed_inside : (stop : Stop) (rest : List ℕ) → close stop rest ≡ Inside → stop ≡ Inside
-closed_inside Inside rest h = refl
-closed_inside AtEnd [] h = absurd cc
-closed_inside AtEnd (b ∷ rest) h = absurd cc
-closed_inside (AtFault e) rest h = absurd cc
-
-completed : (r : Records) → is_complete r.events ≡ is_at_end r.stop → r.stop ≡ AtEnd → IsTrue (is_complete r.events)
-completed r complete end = complete ∙ ap is_at_end end
+closed_inside stop rest h = grind arith
 
 under_found : (limit : ℕ) (bytes : List ℕ) → AreBytes bytes → HEADER_LENGTH ≤ length bytes → (x : Result Header RecordError) → header_at (take HEADER_LENGTH bytes) ≡ x → IsReadingOf limit bytes (under x limit bytes)
-under_found limit bytes fits long (Err e) is = record { events = refl; parts = refl; prefix = refl; ended = λ is_inside. absurd cc; short = λ is_inside. absurd (fault_apart e is_inside) }
+under_found limit bytes fits long (Err e) is = record { events = refl; parts = refl; prefix = refl; ended = λ is_inside. absurd cc; short = λ is_inside. absurd cc }
 under_found limit bytes fits long (Ok h) is =
     let len : length (take HEADER_LENGTH bytes) ≡ HEADER_LENGTH = omega (arith, length-take HEADER_LENGTH bytes) in
     let s = read_header_is_spelled h (take HEADER_LENGTH bytes) (bytes_take HEADER_LENGTH bytes fits) (omega arith) is in
     let r = records_of h limit (drop HEADER_LENGTH bytes) in
     let f = records_found h limit (drop HEADER_LENGTH bytes) (bytes_drop HEADER_LENGTH bytes fits) in
-    let header : take HEADER_LENGTH bytes ≡ header_spelling h = sym (take_whole (take HEADER_LENGTH bytes) HEADER_LENGTH len) ∙ s.0 in
+    let header : take HEADER_LENGTH bytes ≡ header_spelling h = sym (take_all HEADER_LENGTH (take HEADER_LENGTH bytes) (omega arith)) ∙ s.0 in
     record {
       events = events_sited h.version r.events (drop HEADER_LENGTH bytes);
       parts = sym (take-append-drop HEADER_LENGTH bytes) ∙ ap (λ (x : List ℕ). x ++ drop HEADER_LENGTH bytes) header ∙ ap (λ (x : List ℕ). header_spelling h ++ x) f.parts ∙ sym (append_assoc (header_spelling h) (events_spelling h.version (all_sited h.version r.events (drop HEADER_LENGTH bytes))) r.rest);
       prefix = record { header = s.1; runs = f.runs; few = f.few };
-      ended = λ e. let c = closed_stop r.stop r.rest e in (completed r f.complete c.0, c.1);
+      ended = λ e. let c = closed_stop r.stop r.rest e in (f.complete ∙ ap is_at_end c.0, c.1);
       short = λ e. f.short (closed_inside r.stop r.rest e);
     }
 

@@ -27,19 +27,13 @@ module _ (size : ℕ) (read : List ℕ → Result Event RecordError) (b : List �
   behind_grown AtEnd e r most = refl
   behind_grown (AtFault d) e r most = refl
 
-  prefix_same : (a : List ℕ) → size ≤ length a → take size (a ++ b) ≡ take size a
-  prefix_same a long = take-append-le size a b long
-
-  rest_same : (a : List ℕ) → size ≤ length a → drop size (a ++ b) ≡ drop size a ++ b
-  rest_same a long = drop-append-le size a b long
-
   step_grows : (most : ℕ) (a : List ℕ) → size ≤ length a → Grows most (drop size a) (records_at size read most (drop size a)) → (x : Result Event RecordError)
       → step size x (a ++ b) (records_at size read most (drop size (a ++ b))) ≡ grown (step size x a (records_at size read most (drop size a))).stop (step size x a (records_at size read most (drop size a))) (λ n. records_at size read (suc most - n) ((step size x a (records_at size read most (drop size a))).rest ++ b)) b
   step_grows most a long ih (Err e) = refl
   step_grows most a long ih (Ok e) =
       elim (cases_Bool (is_end e)) [
-        | inl end ↦ rw (end, rest_same a long) refl
-        | inr on ↦ rw (on, rest_same a long) (ap (behind e) ih ∙ behind_grown (records_at size read most (drop size a)).stop e (records_at size read most (drop size a)) most)
+        | inl end ↦ rw (end, drop-append-le size a b long) refl
+        | inr on ↦ rw (on, drop-append-le size a b long) (ap (behind e) ih ∙ behind_grown (records_at size read most (drop size a)).stop e (records_at size read most (drop size a)) most)
       ]
 
   inside_grows : (most : ℕ) (a : List ℕ) → length a < size → Grows most a (records_at size read most a)
@@ -61,5 +55,5 @@ module _ (size : ℕ) (read : List ℕ → Result Event RecordError) (b : List �
         | inr long ↦
             let longer : size ≤ length (a ++ b) = simp length-append (omega arith) in
             let ih = records_grow most (drop size a) in
-            rw (next size read most a long, next size read most (a ++ b) longer, prefix_same a long) (step_grows most a long ih (read (take size a)))
+            rw (next size read most a long, next size read most (a ++ b) longer, take-append-le size a b long) (step_grows most a long ih (read (take size a)))
       ]

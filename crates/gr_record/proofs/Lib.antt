@@ -3,6 +3,7 @@ pub mod Fields
 pub mod Found
 pub mod FoundPrefixes
 pub mod Growing
+pub mod Judging
 pub mod Loop
 pub mod Naming
 pub mod Numbers

@@ -1,13 +1,10 @@
 -- Numbers of two, four and eight bytes, and the numbers that stand for spaces, scopes, orders and flags.
-use Rattle.std.proofs.Common.{◌≡◌, ℕ, zero, suc, ◌+◌, ◌*◌, ◌/◌, ◌%◌, ◌<◌, ◌≤◌, true, refl, arith, inl, inr}
-use Rattle.std.proofs.lemmas.Bool.{or_cases, eqb-true}
+use Rattle.std.proofs.Common.{◌≡◌, ℕ, ◌+◌, ◌*◌, ◌/◌, ◌%◌, ◌<◌, true, arith}
+use Rattle.std.proofs.lemmas.Bool.Decides.{nat_tests}
 use Rattle.std.specs.Prelude.{nat_lt, nat_le, ◌==◌, ◌||◌, ◌&&◌}
 use Rattle.gr_model.specs.declared.event.Space.{Space}
-use Rattle.gr_model.specs.declared.event.Space.TheVariants.{Global, Local}
 use Rattle.gr_model.specs.declared.event.Scope.{Scope}
-use Rattle.gr_model.specs.declared.event.Scope.TheVariants.{Group, Device}
 use Rattle.gr_model.specs.declared.event.Order.{Order}
-use Rattle.gr_model.specs.declared.event.Order.TheVariants.{Relaxed, Acquire, Release, Both}
 use Rattle.gr_record.specs.Spelling.{space_byte, scope_byte, order_byte, bit}
 use Rattle.gr_record.specs.Reading.{space_of, scope_of, order_of}
 
@@ -21,13 +18,13 @@ two_high a b f g = omega arith
 
 pub four : (a b c d : ℕ) → a < 256 → b < 256 → c < 256 → d < 256 → (n : ℕ) → n ≡ a + 256 * (b + 256 * (c + 256 * (d + 0)))
     → (n % 256 ≡ a) × (n / 256 % 256 ≡ b) × (n / 65536 % 256 ≡ c) × (n / 16777216 % 256 ≡ d)
-four a b c d p q r s n k = (omega arith, omega arith, omega arith, omega arith)
+four a b c d p q r s n k = omega arith
 
 -- eight bytes of the greatest number
 pub eight : (a b c d e f g h : ℕ) → a < 256 → b < 256 → c < 256 → d < 256 → e < 256 → f < 256 → g < 256 → h < 256
     → a + 256 * (b + 256 * (c + 256 * (d + 256 * (e + 256 * (f + 256 * (g + 256 * (h + 0))))))) ≡ 18446744073709551615
     → (a ≡ 255) × (b ≡ 255) × (c ≡ 255) × (d ≡ 255) × (e ≡ 255) × (f ≡ 255) × (g ≡ 255) × (h ≡ 255)
-eight a b c d e f g h p q r s t u v w k = (omega arith, omega arith, omega arith, omega arith, omega arith, omega arith, omega arith, omega arith)
+eight a b c d e f g h p q r s t u v w k = omega arith
 
 -- ---- from a number to bytes and back
 
@@ -40,64 +37,25 @@ four_again n lt = omega arith
 -- ---- the single bytes
 
 pub space_again : (b : ℕ) → b < 2 → space_byte (space_of b) ≡ b
-space_again zero lt = refl
-space_again (suc zero) lt = refl
-space_again (suc (suc b)) lt = absurd (omega arith)
+space_again b lt = grind (arith, nat_tests)
 
 pub scope_again : (b : ℕ) → ((b == 1) || (b == 2)) ≡ true → scope_byte (scope_of b) ≡ b
-scope_again zero e = absurd cc
-scope_again (suc zero) e = refl
-scope_again (suc (suc zero)) e = refl
-scope_again (suc (suc (suc b))) e =
-    elim (or_cases _ _ e) [
-      | inl p ↦ let k : suc (suc (suc b)) ≡ 1 = eqb-true _ 1 p in absurd (omega arith)
-      | inr p ↦ let k : suc (suc (suc b)) ≡ 2 = eqb-true _ 2 p in absurd (omega arith)
-    ]
+scope_again b e = grind (arith, nat_tests)
 
-pub order_again : (b : ℕ) → 1 ≤ b → b ≤ 4 → order_byte (order_of b) ≡ b
-order_again zero ge le = absurd (omega arith)
-order_again (suc zero) ge le = refl
-order_again (suc (suc zero)) ge le = refl
-order_again (suc (suc (suc zero))) ge le = refl
-order_again (suc (suc (suc (suc zero)))) ge le = refl
-order_again (suc (suc (suc (suc (suc b))))) ge le = absurd (omega arith)
+pub order_again : (b : ℕ) → (nat_le 1 b && nat_le b 4) ≡ true → order_byte (order_of b) ≡ b
+order_again b e = grind (arith, nat_tests)
 
 pub bit_again : (b : ℕ) → b < 2 → bit (b == 1) ≡ b
-bit_again zero lt = refl
-bit_again (suc zero) lt = refl
-bit_again (suc (suc b)) lt = absurd (omega arith)
+bit_again b lt = grind (arith, nat_tests)
 
 pub flags_again : (b : ℕ) → b < 4 → bit ((b == 1) || (b == 3)) + 2 * bit ((b == 2) || (b == 3)) ≡ b
-flags_again zero lt = refl
-flags_again (suc zero) lt = refl
-flags_again (suc (suc zero)) lt = refl
-flags_again (suc (suc (suc zero))) lt = refl
-flags_again (suc (suc (suc (suc b)))) lt = absurd (omega arith)
+flags_again b lt = grind (arith, nat_tests)
 
-pub space_back : (s : Space) → space_of (space_byte s) ≡ s
-space_back Global = refl
-space_back Local = refl
+pub space_back : (s : Space) → (space_of (space_byte s) ≡ s) × (nat_lt (space_byte s) 2 ≡ true)
+space_back s = grind arith
 
-pub space_fits : (s : Space) → nat_lt (space_byte s) 2 ≡ true
-space_fits Global = refl
-space_fits Local = refl
+pub scope_back : (s : Scope) → (scope_of (scope_byte s) ≡ s) × (((scope_byte s == 1) || (scope_byte s == 2)) ≡ true)
+scope_back s = grind arith
 
-pub scope_back : (s : Scope) → scope_of (scope_byte s) ≡ s
-scope_back Group = refl
-scope_back Device = refl
-
-pub scope_fits : (s : Scope) → ((scope_byte s == 1) || (scope_byte s == 2)) ≡ true
-scope_fits Group = refl
-scope_fits Device = refl
-
-pub order_back : (o : Order) → order_of (order_byte o) ≡ o
-order_back Relaxed = refl
-order_back Acquire = refl
-order_back Release = refl
-order_back Both = refl
-
-pub order_fits : (o : Order) → (nat_le 1 (order_byte o) && nat_le (order_byte o) 4) ≡ true
-order_fits Relaxed = refl
-order_fits Acquire = refl
-order_fits Release = refl
-order_fits Both = refl
+pub order_back : (o : Order) → (order_of (order_byte o) ≡ o) × ((nat_le 1 (order_byte o) && nat_le (order_byte o) 4) ≡ true)
+order_back o = grind arith

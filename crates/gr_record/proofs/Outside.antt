@@ -3,7 +3,7 @@ use Rattle.std.proofs.Common.{◌≡◌, ℕ, List, Option, None, Some, Result, 
 use Rattle.std.specs.Prelude.{IfSome}
 use Rattle.gr_record.specs.declared.fault.Fault.{Fault}
 use Rattle.gr_record.specs.declared.fault.Fault.TheVariants as faults
-use Rattle.gr_record.specs.InputFaults.{IsOutside, Fails}
+use Rattle.gr_record.specs.InputFaults.{Fails}
 
 pub at_known : (known : Option (List ℕ)) (bytes : List ℕ) (P : List ℕ → Type 0) → IfSome known (λ xs. bytes ≡ xs) → P bytes → IfSome known P
 at_known None bytes P e p = tt
@@ -12,11 +12,6 @@ at_known (Some xs) bytes P e p = subst P e p
 pub at_any : (known : Option (List ℕ)) (P : List ℕ → Type 0) → ((xs : List ℕ) → P xs) → IfSome known P
 at_any None P p = tt
 at_any (Some xs) P p = p xs
-
-pub outside_fails : {Y : Type 0} (f : Fault) (meaning : Result Y Fault) → IsOutside f → Fails f meaning
-outside_fails faults.Memory meaning h = tt
-outside_fails faults.Read meaning h = tt
-outside_fails _ meaning h = absurd h
 
 -- what a part of a call failed with, the whole fails with
 pub fails_through : {X Y : Type 0} (f : Fault) (part : Result X Fault) (total : Result Y Fault) → Fails f part → (part ≡ Err f → total ≡ Err f) → Fails f total

@@ -1,21 +1,21 @@
 -- Names in their places: what is read from the bytes of names, and what the bytes of names that were read are.
-use Rattle.std.proofs.Common.{◌≡◌, ℕ, zero, suc, ◌+◌, ◌-◌, ◌*◌, ◌/◌, ◌%◌, ◌^◌, ◌<◌, ◌≤◌, Bool, true, false, List, [], ◌∷◌, ◌++◌, length, take, drop, refl, ap, ◌∙◌, arith, inl, inr}
-use Rattle.std.specs.Prelude.{nat_le, ◌==◌, ◌||◌, All}
-use Rattle.std.proofs.lemmas.Bool.{eqb-true, ltb-true, lt-ltb, leb-true, le-leb, eq-eqb, ne_eqb, and_parts, and_from, or_cases, cases_Bool}
+use Rattle.std.proofs.Common.{◌≡◌, ℕ, zero, suc, ◌+◌, ◌*◌, ◌/◌, ◌%◌, ◌<◌, ◌≤◌, true, false, List, [], ◌∷◌, ◌++◌, length, take, drop, refl, ap, ◌∙◌, arith, inl, inr}
+use Rattle.std.specs.Prelude.{All}
+use Rattle.std.proofs.lemmas.Bool.{eqb-true, leb-true, le-leb, ne_eqb, and_parts, and_from, cases_Bool}
+use Rattle.std.proofs.lemmas.Bool.Decides.{nat_tests}
 use Rattle.std.proofs.lemmas.List.{length-drop, take_at, get_or-drop}
 use Rattle.gr_model.specs.declared.event.Name.{Name}
 use Rattle.gr_model.specs.declared.event.Kind.{Kind}
 use Rattle.gr_model.specs.Events.{IsNamingOk}
-use Rattle.gr_model.specs.NameLists.{IsNameInRange, IsNameWithin, NameBelow, AreAscending, AreNames, AreNamesWithin}
+use Rattle.gr_model.specs.NameLists.{IsNameInRange, IsNameWithin, NameBelow, AreAscending, AreNamesWithin}
 use Rattle.gr_model.specs.declared.limits.TheConstants.{MOST_GROUPS, MOST_ITEMS_OF_A_GROUP}
 use Rattle.gr_model.proofs.Bounds.{names_within}
 use Rattle.gr_record.specs.declared.header.Version.{Version}
-use Rattle.gr_record.specs.declared.header.Version.TheVariants.{One, Two, Three, Four}
-use Rattle.gr_record.specs.Versions.{most_groups, most_items}
+use Rattle.gr_record.specs.Versions.{places, record_length, most_groups, most_items}
 use Rattle.gr_record.specs.declared.header.Header.{Header}
 use Rattle.gr_record.specs.Spelling.{IsHeader, names_bytes}
 use Rattle.gr_record.specs.Laws.{AreBytes}
-use Rattle.gr_record.specs.Reading.{field, are_unused, name_in, names_in, is_in_range, is_below, are_in_order, is_naming_ok}
+use Rattle.gr_record.specs.Reading.{are_unused, name_in, names_in, is_in_range, is_below, are_in_order, is_naming_ok}
 use Rattle.gr_record.proofs.Numbers.{two_low, two_high, two_again, four, four_again, eight}
 
 pub bytes_drop : (n : ℕ) (bytes : List ℕ) → AreBytes bytes → AreBytes (drop n bytes)
@@ -76,11 +76,7 @@ names_prefix n bytes fits long =
 pub names_few : (n : ℕ) (bytes : List ℕ) → length (names_in n bytes) ≤ n
 unfolding names_in
 names_few zero bytes = omega arith
-names_few (suc n) bytes =
-    elim (cases_Bool (are_unused (suc n) bytes)) [
-      | inl unused ↦ rw unused (omega arith)
-      | inr used ↦ let ih = names_few n (drop 8 bytes) in rw used (omega arith)
-    ]
+names_few (suc n) bytes = grind (arith, names_few n (drop 8 bytes))
 
 -- ---- names that one acquire may have
 
@@ -89,16 +85,13 @@ abbrev pub IsNameOf : Version → Name → Type 0
 IsNameOf v n = IsNameWithin (most_groups v) (most_items v) n
 
 pub groups_within : (v : Version) → most_groups v ≤ MOST_GROUPS
-groups_within One = omega arith
-groups_within Two = omega arith
-groups_within Three = omega arith
-groups_within Four = omega arith
+groups_within v = grind arith
 
 pub items_within : (v : Version) → most_items v ≤ MOST_ITEMS_OF_A_GROUP
-items_within One = omega arith
-items_within Two = omega arith
-items_within Three = omega arith
-items_within Four = omega arith
+items_within v = grind arith
+
+pub fields_and_names : (v : Version) → 12 + 8 * places v ≡ record_length v
+fields_and_names v = grind arith
 
 -- of whatever version, a header's group and items are those that some launch may have
 pub header_group : (h : Header) → IsHeader h → h.group < MOST_GROUPS
@@ -108,22 +101,10 @@ pub header_items : (h : Header) → IsHeader h → h.items ≤ MOST_ITEMS_OF_A_G
 header_items h is = let items = is.items in let few = items_within h.version in omega (arith, items, few)
 
 range_found : (v : Version) (n : Name) → is_in_range v n ≡ true → IsNameOf v n
-range_found v n h =
-    let a = and_parts _ _ h in
-    let b = and_parts _ _ a.0 in
-    (ltb-true _ _ b.0, ltb-true _ _ b.1, ltb-true _ _ a.1)
+range_found v n h = grind (arith, nat_tests)
 
 below_found : (m n : Name) → is_below m n ≡ true → NameBelow m n
-below_found m n h =
-    elim (or_cases _ _ h) [
-      | inl group ↦ inl (ltb-true _ _ group)
-      | inr more ↦
-          let a = and_parts _ _ more in
-          elim (or_cases _ _ a.1) [
-            | inl item ↦ inr (eqb-true _ _ a.0, inl (ltb-true _ _ item))
-            | inr last ↦ let b = and_parts _ _ last in inr (eqb-true _ _ a.0, inr (eqb-true _ _ b.0, ltb-true _ _ b.1))
-          ]
-    ]
+below_found m n h = grind (arith, nat_tests)
 
 ascending_found : (v : Version) (names : List Name) → are_in_order v names ≡ true → AreAscending names
 ascending_found v [] h k d lt = absurd (omega arith)
@@ -156,20 +137,10 @@ naming_found v kind (n ∷ names) h =
 -- ---- and back
 
 range_back : (v : Version) (n : Name) → IsNameOf v n → is_in_range v n ≡ true
-range_back v n ok = and_from _ _ (and_from _ _ (lt-ltb _ _ ok.0) (lt-ltb _ _ ok.1)) (lt-ltb _ _ ok.2)
-
-pub or_left : (a b : Bool) → a ≡ true → (a || b) ≡ true
-or_left true b h = refl
-or_left false b h = absurd cc
-
-pub or_right : (a b : Bool) → b ≡ true → (a || b) ≡ true
-or_right true b h = refl
-or_right false b h = h
+range_back v n ok = grind (arith, nat_tests)
 
 below_back : (m n : Name) → NameBelow m n → is_below m n ≡ true
-below_back m n (inl group) = or_left _ _ (lt-ltb _ _ group)
-below_back m n (inr (group, inl item)) = or_right _ _ (and_from _ _ (eq-eqb _ _ group) (or_left _ _ (lt-ltb _ _ item)))
-below_back m n (inr (group, inr (item, last))) = or_right _ _ (and_from _ _ (eq-eqb _ _ group) (or_right _ _ (and_from _ _ (eq-eqb _ _ item) (lt-ltb _ _ last))))
+below_back m n below = grind (arith, nat_tests)
 
 ascending_later : (n : Name) (names : List Name) → AreAscending (n ∷ names) → AreAscending names
 ascending_later n names ascending k d lt =
@@ -228,35 +199,12 @@ pub each_in_range : (kind : Kind) (names : List Name) → IsNamingOk kind names 
 each_in_range kind [] ok k d lt = absurd (omega arith)
 each_in_range kind (n ∷ names) ok k d lt = ok.1.each k d lt
 
--- ---- place by place
-
-pub used_now : (n : ℕ) (bytes : List ℕ) → (field 0 8 bytes == 2 ^ 64 - 1) ≡ false → are_unused (suc n) bytes ≡ false
-unfolding are_unused
-used_now n bytes other = rw other refl
-
-pub unused_so_far : (n : ℕ) (bytes : List ℕ) → (field 0 8 bytes == 2 ^ 64 - 1) ≡ true → are_unused (suc n) bytes ≡ are_unused n (drop 8 bytes)
-unfolding are_unused
-unused_so_far n bytes all = rw all refl
-
-pub unused_all : (bytes : List ℕ) → are_unused 0 bytes ≡ true
-unfolding are_unused
-unused_all bytes = refl
-
-pub no_names : (bytes : List ℕ) → names_in 0 bytes ≡ []
-unfolding names_in
-no_names bytes = refl
-
-pub names_end : (n : ℕ) (bytes : List ℕ) → are_unused (suc n) bytes ≡ true → names_in (suc n) bytes ≡ []
-unfolding names_in
-names_end n bytes unused = rw unused refl
-
-pub names_next : (n : ℕ) (bytes : List ℕ) → are_unused (suc n) bytes ≡ false → names_in (suc n) bytes ≡ name_in bytes ∷ names_in n (drop 8 bytes)
-unfolding names_in
-names_next n bytes used = rw used refl
+-- ---- places that are not used
 
 pub names_none : (n : ℕ) (bytes : List ℕ) → are_unused n bytes ≡ true → names_in n bytes ≡ []
-names_none zero bytes unused = no_names bytes
-names_none (suc n) bytes unused = names_end n bytes unused
+unfolding names_in
+names_none zero bytes unused = refl
+names_none (suc n) bytes unused = rw unused refl
 
 pub few_names : (kind : Kind) (names : List Name) → IsNamingOk kind names → length names ≤ 4
 few_names kind [] ok = omega arith

@@ -1,13 +1,12 @@
 -- A decoder that goes on from what it kept reads what one reads that begins anew.
-use Rattle.std.proofs.Common.{◌∙◌, ap, ◌≡◌, ℕ, ◌+◌, ◌-◌, ◌≤◌, List, [], ◌∷◌, ◌++◌, length, take, drop, Some, None, Result, Ok, Err, refl, sym, arith, inl, inr}
+use Rattle.std.proofs.Common.{◌∙◌, ap, ◌≡◌, ℕ, ◌-◌, ◌≤◌, List, [], ◌∷◌, ◌++◌, length, take, drop, Some, None, Result, Ok, Err, refl, sym, arith, inl, inr}
 use Rattle.std.proofs.lemmas.Bool.{lt-ltb, le-ltb, cases_lt}
+use Rattle.std.proofs.Math.Nat.{add-zero, zero-add}
 use Rattle.std.proofs.lemmas.List.{take-append-le, drop-append-le, length-append, map-append, append-nil}
 use Rattle.gr_model.specs.declared.event.Event.{Event}
 use Rattle.gr_record.specs.declared.error.RecordError.{RecordError}
 use Rattle.gr_record.specs.declared.header.Header.{Header}
-use Rattle.gr_record.specs.declared.part.Part.{Part}
 use Rattle.gr_record.specs.declared.part.Part.TheVariants as parts
-use Rattle.gr_record.specs.declared.stop.Stop.{Stop}
 use Rattle.gr_record.specs.declared.stop.Stop.{Stop}
 use Rattle.gr_record.specs.declared.stop.Stop.TheVariants.{Inside, AtEnd, AtFault}
 use Rattle.gr_record.specs.declared.layout.TheConstants.{HEADER_LENGTH}
@@ -24,22 +23,15 @@ pub record GoesOn (limit : ℕ) (piece : List ℕ) (fewer more : Reading) : Type
   pub listed : parts_of more ≡ parts_of fewer ++ parts_of (still (standing limit fewer) piece)
 
 module _ (limit : ℕ) (piece : List ℕ) where
-  -- nothing more is read
-  no_more : (p : List Part) → p ≡ p ++ []
-  no_more p = sym (append-nil p)
-
-  same_count : (n : ℕ) → n ≡ n + 0
-  same_count n = omega arith
-
   records_go_on : (h : Header) (stop : Stop) (events : List Event) (rest : List ℕ) → GoesOn limit piece (closed (Some h) (record { events = events; rest = rest; stop = stop })) (closed (Some h) (grown stop (record { events = events; rest = rest; stop = stop }) (λ n. records_of h (limit - n) (rest ++ piece)) piece))
   unfolding read_from
   records_go_on h Inside events rest = record {
     stands = rw (length-append events (records_of h (limit - length events) (rest ++ piece)).events) refl;
     listed = rw (map-append parts.Event events (records_of h (limit - length events) (rest ++ piece)).events) refl;
   }
-  records_go_on h AtEnd events [] = record { stands = rw (← same_count (length events)) refl; listed = no_more _ }
-  records_go_on h AtEnd events (b ∷ bytes) = record { stands = rw (← same_count (length events)) refl; listed = no_more _ }
-  records_go_on h (AtFault e) events rest = record { stands = rw (← same_count (length events)) refl; listed = no_more _ }
+  records_go_on h AtEnd events [] = record { stands = rw (add-zero (length events)) refl; listed = sym (append-nil _) }
+  records_go_on h AtEnd events (b ∷ bytes) = record { stands = rw (add-zero (length events)) refl; listed = sym (append-nil _) }
+  records_go_on h (AtFault e) events rest = record { stands = rw (add-zero (length events)) refl; listed = sym (append-nil _) }
 
   under_goes_on : (fed : List ℕ) → HEADER_LENGTH ≤ length fed → (x : Result Header RecordError) → GoesOn limit piece (under x limit fed) (under x limit (fed ++ piece))
   under_goes_on fed long (Err e) = record { stands = refl; listed = refl }
@@ -47,16 +39,10 @@ module _ (limit : ℕ) (piece : List ℕ) where
       let r = records_of h limit (drop HEADER_LENGTH fed) in
       rw (drop-append-le HEADER_LENGTH fed piece long, records_grow (record_length h.version) (event_at h) piece limit (drop HEADER_LENGTH fed)) (records_go_on h r.stop r.events r.rest)
 
-  none_before : (n : ℕ) → n ≡ 0 + n
-  none_before n = omega arith
-
-  begins : (fed : List ℕ) (q : Reading) → standing limit q ≡ standing_after (record { limit = limit; header = None; count = 0; held = fed; stop = Inside }) q
-  begins fed q = rw (← none_before (length q.events)) refl
-
   first_bytes : (fed : List ℕ) → GoesOn limit piece (record { header = None; events = []; rest = fed; stop = Inside }) (reading limit (fed ++ piece))
   first_bytes fed =
       let k : limit - 0 ≡ limit = omega arith in
-      record { stands = rw k (begins fed (reading limit (fed ++ piece))); listed = rw k refl }
+      record { stands = rw (k, zero-add (length (reading limit (fed ++ piece)).events)) refl; listed = rw k refl }
 
   pub reading_goes_on : (fed : List ℕ) → GoesOn limit piece (reading limit fed) (reading limit (fed ++ piece))
   unfolding read_from

@@ -1,5 +1,5 @@
 -- What is spelled is read: a header and the records of its stream.
-use Rattle.std.proofs.Common.{◌≡◌, ℕ, zero, suc, ◌<◌, ◌≤◌, Bool, true, false, cond, List, [], ◌∷◌, ◌++◌, length, drop, Result, Ok, refl, sym, ap, ◌∙◌, append_assoc, arith, inl, inr}
+use Rattle.std.proofs.Common.{◌≡◌, ℕ, zero, suc, ◌≤◌, Bool, true, false, cond, List, [], ◌∷◌, ◌++◌, length, drop, Result, Ok, refl, sym, ap, ◌∙◌, append_assoc, arith, inl, inr}
 use Rattle.std.proofs.lemmas.Bool.{le-ltb, cases_Bool}
 use Rattle.std.proofs.lemmas.List.{take_at, drop_at, length-append, append-nil}
 use Rattle.gr_model.specs.declared.event.Event.{Event}
@@ -8,18 +8,16 @@ use Rattle.gr_model.specs.Events.{is_end}
 use Rattle.gr_model.specs.Streams.{is_complete}
 use Rattle.gr_record.specs.declared.error.RecordError.{RecordError}
 use Rattle.gr_record.specs.declared.header.Header.{Header}
-use Rattle.gr_record.specs.declared.header.Version.{Version}
-use Rattle.gr_record.specs.declared.header.Version.TheVariants.{One, Two, Three, Four}
 use Rattle.gr_record.specs.declared.stop.Stop.TheVariants.{Inside, AtEnd}
 use Rattle.gr_record.specs.declared.layout.TheConstants.{HEADER_LENGTH}
 use Rattle.gr_record.specs.Versions.{record_length}
-use Rattle.gr_record.specs.Spelling.{event_spelling, events_spelling, header_spelling, IsHeader}
+use Rattle.gr_record.specs.Spelling.{event_spelling, events_spelling, header_spelling}
 use Rattle.gr_record.specs.Sites.{Sited, events_of, all_sited}
-use Rattle.gr_record.specs.Reading.{header_at, event_at, site_at}
+use Rattle.gr_record.specs.Reading.{event_at, site_at}
 use Rattle.gr_record.specs.Fronts.{Records, behind, step, records_of}
 use Rattle.gr_record.specs.Decoding.{close, read_from}
 use Rattle.gr_record.specs.PrefixLaws.{Runs, stop_after, SpelledPrefixIsRead}
-use Rattle.gr_record.proofs.Places.{header_items}
+use Rattle.gr_record.proofs.Places.{fields_and_names, header_items}
 use Rattle.gr_record.proofs.Loop.{short, next}
 use Rattle.gr_record.proofs.FoundPrefixes.{complete_behind}
 use Rattle.gr_record.proofs.Spelled.{spelled_is_read, spelled_header_is_read, spelling_length}
@@ -27,36 +25,23 @@ use Rattle.gr_record.proofs.Spelled.{spelled_is_read, spelled_header_is_read, sp
 abbrev Spelled : List Sited → Records
 Spelled rs = record { events = events_of rs; rest = []; stop = stop_after (events_of rs) }
 
--- an end is the last
-ended : (e : Event) (es : List Event) → is_end e ≡ true → es ≡ [] → stop_after (e ∷ es) ≡ AtEnd
-ended e es end none = rw (none, end) refl
-
 -- what follows a record that is no end decides
 gone_on : (e : Event) (es : List Event) → is_end e ≡ false → stop_after (e ∷ es) ≡ stop_after es
 gone_on e es on = ap (λ (b : Bool). cond b AtEnd Inside) (complete_behind e es on)
-
-long_prefix : (n : ℕ) (xs ys : List ℕ) → length xs ≡ n → n ≤ length (xs ++ ys)
-long_prefix n xs ys len = omega (arith, length-append xs ys)
-
-some_size : (v : Version) → 0 < record_length v
-some_size One = omega arith
-some_size Two = omega arith
-some_size Three = omega arith
-some_size Four = omega arith
 
 module _ (h : Header) (few : h.items ≤ MOST_ITEMS_OF_A_GROUP) where
   abbrev size : ℕ
   size = record_length h.version
 
   records_spelled : (rs : List Sited) (most : ℕ) → Runs h rs → length rs ≤ most → records_of h most (events_spelling h.version rs) ≡ Spelled rs
-  records_spelled [] most runs le = short size (event_at h) most [] (some_size h.version)
+  records_spelled [] most runs le = short size (event_at h) most [] (omega (arith, fields_and_names h.version))
   records_spelled (r ∷ rs) zero runs le = absurd (omega arith)
   records_spelled (r ∷ rs) (suc most) runs le =
       let e = r.event in
       let len = spelling_length h.version r in
       let prefix : List ℕ = event_spelling h.version r in
       let rest : List ℕ = events_spelling h.version rs in
-      let long = long_prefix size prefix rest len in
+      let long : size ≤ length (prefix ++ rest) = omega (arith, length-append prefix rest, len) in
       let is : event_at h prefix ≡ Ok e = rw (append-nil prefix) at (spelled_is_read h r [] few runs.0).0 in
       let here : records_of h (suc most) (prefix ++ rest) ≡ step size (Ok e) (prefix ++ rest) (records_of h most rest)
       = next size (event_at h) most (prefix ++ rest) long
@@ -65,7 +50,7 @@ module _ (h : Header) (few : h.items ≤ MOST_ITEMS_OF_A_GROUP) where
       elim (cases_Bool (is_end e)) [
         | inl end ↦
             let none : rs ≡ [] = runs.1 end in
-            here ∙ rw (end, drop_at prefix rest size len, ended e (events_of rs) end (ap events_of none), none) refl
+            here ∙ rw (end, drop_at prefix rest size len, none, end) refl
         | inr on ↦
             let ih = records_spelled rs most runs.2 (omega arith) in
             here ∙ rw (on, gone_on e (events_of rs) on) (ap (behind e) ih)
@@ -86,15 +71,12 @@ closed_after : (b : Bool) → close (cond b AtEnd Inside) [] ≡ cond b AtEnd In
 closed_after true = refl
 closed_after false = refl
 
-header_read : (h : Header) → IsHeader h → header_at (header_spelling h) ≡ Ok h
-header_read h ok = spelled_header_is_read h [] ok
-
 pub spelled_prefix_is_read : SpelledPrefixIsRead
 unfolding read_from
 spelled_prefix_is_read limit h rs prefix =
     let long : HEADER_LENGTH ≤ length (header_spelling h ++ events_spelling h.version rs) = omega arith in
     let items = header_items h prefix.header in
     let records = records_spelled h items rs limit prefix.runs prefix.few in (
-      rw (le-ltb (length (header_spelling h ++ events_spelling h.version rs)) HEADER_LENGTH long, header_read h prefix.header, records, closed_after (is_complete (events_of rs))) refl,
+      rw (le-ltb (length (header_spelling h ++ events_spelling h.version rs)) HEADER_LENGTH long, spelled_header_is_read h [] prefix.header, records, closed_after (is_complete (events_of rs))) refl,
       ap (all_sited h.version (events_of rs)) (sym (append-nil (events_spelling h.version rs))) ∙ sites_spelled h items rs [] prefix.runs,
     )

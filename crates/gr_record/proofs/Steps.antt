@@ -1,30 +1,24 @@
 -- A decoder's steps: a whole header, a whole record, bytes that are kept, and the end of a piece.
-use Rattle.std.proofs.Common.{◌≡◌, ℕ, suc, ◌+◌, ◌-◌, ◌/◌, ◌<◌, ◌≤◌, Bool, true, false, List, [], ◌∷◌, ◌++◌, length, Option, Some, None, Ok, Err, refl, sym, ap, ◌∙◌, append_assoc, arith}
-use Rattle.std.specs.Prelude.{IsSome}
+use Rattle.std.proofs.Common.{◌≡◌, ℕ, suc, ◌+◌, ◌-◌, ◌<◌, ◌≤◌, Bool, true, false, List, [], ◌∷◌, ◌++◌, length, Option, Some, None, Ok, Err, refl, sym, ap, ◌∙◌, append_assoc, arith}
 use Rattle.std.proofs.lemmas.Bool.{lt-ltb, le-ltb}
+use Rattle.std.proofs.Math.Nat.{add-zero}
 use Rattle.std.proofs.lemmas.List.{take_at, drop_at, length-append, append-nil}
 use Rattle.gr_model.specs.declared.event.Event.{Event}
 use Rattle.gr_model.specs.Events.{is_end}
 use Rattle.gr_record.specs.declared.error.RecordError.{RecordError}
 use Rattle.gr_record.specs.declared.error.RecordError.TheVariants as errors
 use Rattle.gr_record.specs.declared.header.Header.{Header}
-use Rattle.gr_record.specs.declared.header.Version.{Version}
-use Rattle.gr_record.specs.declared.header.Version.TheVariants.{One, Two, Three, Four}
 use Rattle.gr_record.specs.declared.part.Part.{Part}
 use Rattle.gr_record.specs.declared.part.Part.TheVariants as parts
 use Rattle.gr_record.specs.declared.stop.Stop.{Stop}
 use Rattle.gr_record.specs.declared.stop.Stop.TheVariants.{Inside, AtEnd, AtFault}
-use Rattle.gr_record.specs.declared.layout.TheConstants.{HEADER_LENGTH, RECORD_LENGTH}
+use Rattle.gr_record.specs.declared.layout.TheConstants.{HEADER_LENGTH}
 use Rattle.gr_record.specs.Versions.{record_length}
 use Rattle.gr_record.specs.Reading.{header_at, event_at}
 use Rattle.gr_record.specs.Fronts.{step, records_of}
-use Rattle.gr_record.specs.Decoding.{close, closed, under, read_from, reading, parts_of, Standing, standing, StandsFor, still, standing_after, IsStanding, IsHeldOk, stop_behind, Continues, GrowsAs, unit_length, records_in, units_in}
+use Rattle.gr_record.specs.Decoding.{close, closed, under, read_from, reading, parts_of, Standing, standing, StandsFor, still, standing_after, IsStanding, IsHeldOk, stop_behind, Continues, GrowsAs}
 use Rattle.gr_record.proofs.Loop.{short, too_many, next}
 use Rattle.gr_record.proofs.Resuming.{reading_goes_on}
-
--- one reading leads to the other
-regrouped : (listed : List Part) (p : Part) (more : List Part) → listed ++ p ∷ more ≡ (listed ++ p ∷ []) ++ more
-regrouped listed p more = sym (append_assoc listed (p ∷ []) more)
 
 -- what is read where a whole header comes first
 from_header : (most : ℕ) (unit rest : List ℕ) → length unit ≡ HEADER_LENGTH → read_from None most (unit ++ rest) ≡ under (header_at unit) most (unit ++ rest)
@@ -54,7 +48,7 @@ module _ (limit count : ℕ) (unit rest : List ℕ) (listed : List Part) where
   header_continues h len is =
       let r : read_from None (limit - count) (unit ++ rest) ≡ closed (Some h) (records_of h (limit - count) rest)
       = from_header (limit - count) unit rest len ∙ rw (is, drop_at unit rest HEADER_LENGTH len) refl in
-      record { stands = rw r refl; parts = rw r (regrouped listed (parts.Header h) _) }
+      record { stands = rw r refl; parts = rw r (sym (append_assoc listed ((parts.Header h) ∷ []) _)) }
 
   -- a header at fault
   pub header_fails : (e : RecordError) → length unit ≡ HEADER_LENGTH → header_at unit ≡ Err e
@@ -100,7 +94,7 @@ module _ (limit count : ℕ) (unit rest : List ℕ) (listed : List Part) where
           let r : read_from (Some h) (limit - count) (unit ++ rest) ≡ closed None (record { events = e ∷ []; rest = rest; stop = AtEnd })
           = one_more ∙ rw (is, end, drop_at unit rest (record_length h.version) len) refl in
           let k : count + 1 ≡ count + 1 + 0 = omega arith in
-          record { stands = rw (r, ← k) refl; parts = rw r (regrouped listed (parts.Event e) []) }
+          record { stands = rw (r, ← k) refl; parts = rw r (sym (append_assoc listed ((parts.Event e) ∷ []) _)) }
 
       -- any other record
       record_continues : (e : Event) → event_at h unit ≡ Ok e → is_end e ≡ false
@@ -112,7 +106,7 @@ module _ (limit count : ℕ) (unit rest : List ℕ) (listed : List Part) where
           = one_more ∙ rw (is, on) refl in
           let k : count + suc (length next_records.events) ≡ count + 1 + length next_records.events = omega arith in
           let q = from_records h (limit - (count + 1)) rest in
-          record { stands = rw (r, q, k) refl; parts = rw (r, q) (regrouped listed (parts.Event e) _) }
+          record { stands = rw (r, q, k) refl; parts = rw (r, q) (sym (append_assoc listed ((parts.Event e) ∷ []) _)) }
 
       -- a record
       pub record_taken : (e : Event) (end : Bool) → event_at h unit ≡ Ok e → is_end e ≡ end
@@ -121,43 +115,7 @@ module _ (limit count : ℕ) (unit rest : List ℕ) (listed : List Part) where
       record_taken e true is end = record_ends e is end
       record_taken e false is on = record_continues e is on
 
--- ---- bytes that are kept
-
--- bytes that do not make a whole header or record are kept
-pub holding_continues : (limit count : ℕ) (h : Option Header) (held piece : List ℕ) (listed : List Part)
-    → Continues (record { limit = limit; header = h; count = count; held = held; stop = Inside }) piece listed
-    (record { limit = limit; header = h; count = count; held = held ++ piece; stop = Inside }) [] listed
-holding_continues limit count h held piece listed = record { stands = rw (append-nil (held ++ piece)) refl; parts = rw (append-nil (held ++ piece)) refl }
-
--- what was kept comes before the rest
-pub held_continues : (limit count : ℕ) (h : Option Header) (held prefix rest : List ℕ) (listed : List Part)
-    → Continues (record { limit = limit; header = h; count = count; held = held; stop = Inside }) (prefix ++ rest) listed
-    (record { limit = limit; header = h; count = count; held = []; stop = Inside }) ((held ++ prefix) ++ rest) listed
-held_continues limit count h held prefix rest listed = record { stands = rw (append_assoc held prefix rest) refl; parts = rw (append_assoc held prefix rest) refl }
-
--- bytes behind an end
-pub after_end_continues : (limit count : ℕ) (h : Option Header) (b : ℕ) (bytes : List ℕ) (listed : List Part)
-    → Continues (record { limit = limit; header = h; count = count; held = []; stop = AtEnd }) (b ∷ bytes) listed
-    (record { limit = limit; header = h; count = count; held = []; stop = AtFault errors.AfterEnd }) [] listed
-after_end_continues limit count h b bytes listed = record { stands = refl; parts = refl }
-
--- bytes behind a fault
-pub failed_continues : (limit count : ℕ) (h : Option Header) (e : RecordError) (bytes : List ℕ) (listed : List Part)
-    → Continues (record { limit = limit; header = h; count = count; held = []; stop = AtFault e }) bytes listed
-    (record { limit = limit; header = h; count = count; held = []; stop = AtFault e }) [] listed
-failed_continues limit count h e bytes listed = record { stands = refl; parts = refl }
-
-pub continues_on : (d e f : Standing) (x y z : List ℕ) (p q r : List Part) → Continues d x p e y q → Continues e y q f z r → Continues d x p f z r
-continues_on d e f x y z p q r one two = record { stands = one.stands ∙ two.stands; parts = one.parts ∙ two.parts }
-
 -- ---- the end of a piece
-
-none_more : (n : ℕ) → n ≡ n + 0
-none_more n = omega arith
-
-too_short : (most : ℕ) (bytes : List ℕ) → length bytes < HEADER_LENGTH → read_from None most bytes ≡ record { header = None; events = []; rest = bytes; stop = Inside }
-unfolding read_from
-too_short most bytes lt = rw (lt-ltb (length bytes) HEADER_LENGTH lt) refl
 
 -- nothing is read of no bytes
 pub record Settled (d : Standing) : Type 0 where
@@ -165,14 +123,13 @@ pub record Settled (d : Standing) : Type 0 where
   pub parts : parts_of (still d []) ≡ []
 
 settled_at : (limit count : ℕ) (h : Option Header) (held : List ℕ) (stop : Stop) → IsHeldOk stop h held → Settled (record { limit = limit; header = h; count = count; held = held; stop = stop })
-settled_at limit count None held Inside ok =
-    let r : read_from None (limit - count) (held ++ []) ≡ record { header = None; events = []; rest = held; stop = Inside } = rw (append-nil held) (too_short (limit - count) held ok) in
-    record { stands = rw (r, ← none_more count) refl; parts = rw r refl }
+unfolding read_from
+settled_at limit count None held Inside ok = record { stands = rw (append-nil held, lt-ltb (length held) HEADER_LENGTH ok, add-zero count) refl; parts = rw (append-nil held, lt-ltb (length held) HEADER_LENGTH ok) refl }
 settled_at limit count (Some h) held Inside ok =
-    let r : read_from (Some h) (limit - count) (held ++ []) ≡ record { header = None; events = []; rest = held; stop = Inside } = rw (append-nil held) (from_records h (limit - count) held ∙ rw (short (record_length h.version) (event_at h) (limit - count) held ok) refl) in
-    record { stands = rw (r, ← none_more count) refl; parts = rw r refl }
-settled_at limit count h held AtEnd ok = record { stands = rw (ok, ← none_more count) refl; parts = refl }
-settled_at limit count h held (AtFault e) ok = record { stands = rw (ok.0, ← none_more count) refl; parts = refl }
+    let r = short (record_length h.version) (event_at h) (limit - count) held ok in
+    record { stands = rw (append-nil held, r, add-zero count) refl; parts = rw (append-nil held, r) refl }
+settled_at limit count h held AtEnd ok = record { stands = rw (ok, add-zero count) refl; parts = refl }
+settled_at limit count h held (AtFault e) ok = record { stands = rw (ok.0, add-zero count) refl; parts = refl }
 
 pub settled : (d : Standing) → IsStanding d → Settled d
 settled d ok = settled_at d.limit d.count d.header d.held d.stop ok.held
@@ -203,39 +160,3 @@ module _ (old new : Standing) (piece : List ℕ) (before after : List Part) (f :
   grows_as bytes so =
       let g = reading_goes_on old.limit piece bytes in
       (parts_of (still old piece), g.listed ∙ ap (λ (d : Standing). parts_of (reading old.limit bytes) ++ parts_of (still d piece)) (sym so), f.parts)
-
--- ---- room for the parts
-
-few_records : (v : Version) (m : ℕ) → records_in v m ≤ m / RECORD_LENGTH
-few_records One m = omega arith
-few_records Two m = omega arith
-few_records Three m = omega arith
-few_records Four m = omega arith
-
-record_less : (v : Version) (n m : ℕ) → n ≡ record_length v + m → records_in v m + 1 ≤ records_in v n
-record_less One n m e = omega arith
-record_less Two n m e = omega arith
-record_less Three n m e = omega arith
-record_less Four n m e = omega arith
-
--- a header that was read stays
-abbrev pub Stays : Option Header → Option Header → Type 0
-Stays h later = (i : Header) → h ≡ Some i → later ≡ Some i
-
-same_header : (i j : Header) → Some i ≡ Some j → i ≡ j
-same_header i j e = cc
-
--- a unit less makes room for one part less
-pub one_less : (h : Option Header) (i : Header) (n m : ℕ) → Stays h (Some i) → n ≡ unit_length h + m → units_in (Some i) m + 1 ≤ units_in h n
-one_less None i n m stays e =
-    let long : HEADER_LENGTH ≤ n = omega arith in
-    let k : n - HEADER_LENGTH ≡ m = omega arith in
-    let few = few_records i.version m in
-    rw (le-ltb n HEADER_LENGTH long, k) (omega arith)
-one_less (Some j) i n m stays e = rw (same_header i j (stays j refl)) (record_less j.version n m e)
-
-pub room_left : (h later : Option Header) (n m len cap longer wider : ℕ) → IsSome later → Stays h later → n ≡ unit_length h + m → len + units_in h n ≤ cap → longer ≤ len + 1 → cap ≤ wider → longer + units_in later m ≤ wider
-room_left h None n m len cap longer wider some stays e room one wide = absurd cc
-room_left h (Some i) n m len cap longer wider some stays e room one wide =
-    let less = one_less h i n m stays e in
-    omega arith

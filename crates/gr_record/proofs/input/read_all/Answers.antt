@@ -1,9 +1,6 @@
 use Rattle.std.proofs.Common.{arith}
-use Rattle.gr_record.proofs.Consuming.{Consumes-none, Consumes-then, Consumes-end}
+use Rattle.gr_record.proofs.Consuming.{Consumes-then, Consumes-end}
 use Rattle.gr_record.proofs.input.read_all.Goals as goal
-
-pub loop-init : goal.loop-init
-loop-init g c = rw c.new-bytes.ensures.items (Consumes-none _)
 
 pub loop-preserved : goal.loop-preserved
 loop-preserved g c =

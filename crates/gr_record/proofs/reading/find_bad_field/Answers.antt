@@ -1,14 +1,21 @@
-use Rattle.std.proofs.Common.{sym, ◌∙◌}
-use Rattle.gr_record.proofs.Fields.{bad_field_from-here, bad_field_from-later, bad_field_from-none}
+use Rattle.std.proofs.Common.{◌≡◌, ◌+◌, ◌-◌, suc, sym, ◌∙◌, arith}
+use Rattle.gr_record.specs.Reading.{bad_field_from}
 use Rattle.gr_record.proofs.reading.find_bad_field.Goals as goal
 
 pub loop-place-preserved : goal.loop-place-preserved
+unfolding bad_field_from
 loop-place-preserved c =
-    c.loop-place.invariant ∙ bad_field_from-later _ _ _ 12 c.loop-place-test.true (sym c.may_stand.ensures ∙ c.if-not-may_stand.false)
+    let k : 12 - c.loop-place.place ≡ suc (12 - (c.loop-place.place + 1)) = omega (arith, c.loop-place-test.true) in
+    rw (k, sym c.may_stand.ensures ∙ c.if-not-may_stand.false) at c.loop-place.invariant
 
 pub returns-then-not-may_stand : goal.returns-then-not-may_stand
+unfolding bad_field_from
 returns-then-not-may_stand c =
-    sym (c.loop-place.invariant ∙ bad_field_from-here _ _ _ 12 c.loop-place-test.true (sym c.may_stand.ensures ∙ c.if-not-may_stand.true))
+    let k : 12 - c.loop-place.place ≡ suc (12 - (c.loop-place.place + 1)) = omega (arith, c.loop-place-test.true) in
+    sym (rw (k, sym c.may_stand.ensures ∙ c.if-not-may_stand.true) at c.loop-place.invariant)
 
 pub returns : goal.returns
-returns c = sym (c.loop-place.invariant ∙ bad_field_from-none _ _ _ 12 c.loop-place-test.false)
+unfolding bad_field_from
+returns c =
+    let k : 12 - c.loop-place.place ≡ 0 = omega (arith, c.loop-place-test.false) in
+    sym (rw k at c.loop-place.invariant)
