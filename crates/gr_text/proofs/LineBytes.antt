@@ -1,13 +1,11 @@
 -- A line has no line feed, and no `@` but that of its site.
 use Rattle.std.proofs.Common.{◌≡◌, ◌≢◌, ℕ, zero, suc, ◌^◌, ◌<◌, ◌≤◌, Bool, true, false, List, [], ◌∷◌, ◌++◌, All, refl, sym, ap, ◌∙◌, arith, inl, inr, true≢false}
-use Rattle.std.specs.Prelude.{nat_lt, not, ◌==◌, ◌&&◌, codes, decimal, ⊤}
-use Rattle.std.proofs.lemmas.Bool.{and_parts, and_from, leb-true, ltb-true, lt-ltb, ne_eqb, cases_Bool}
+use Rattle.std.specs.Prelude.{nat_le, nat_lt, not, ◌==◌, ◌&&◌, codes, decimal, ⊤}
+use Rattle.std.proofs.lemmas.Bool.{and_parts, and_from, cases_Bool}
+use Rattle.std.proofs.lemmas.Bool.Decides.{nat_tests}
 use Rattle.gr_model.specs.declared.event.Space.{Space}
-use Rattle.gr_model.specs.declared.event.Space.TheVariants.{Global, Local}
 use Rattle.gr_model.specs.declared.event.Scope.{Scope}
-use Rattle.gr_model.specs.declared.event.Scope.TheVariants.{Group, Device}
 use Rattle.gr_model.specs.declared.event.Order.{Order}
-use Rattle.gr_model.specs.declared.event.Order.TheVariants.{Relaxed, Acquire, Release, Both}
 use Rattle.gr_model.specs.declared.event.Kind.{Kind}
 use Rattle.gr_model.specs.declared.event.Kind.TheVariants.{Read, Write, Load, Store, Rmw, Barrier, End}
 use Rattle.gr_model.specs.declared.event.Name.{Name}
@@ -15,7 +13,6 @@ use Rattle.gr_model.specs.declared.event.Event.{Event}
 use Rattle.gr_model.specs.Events.{IsNamingOk}
 use Rattle.gr_model.specs.NameLists.{IsNameInRange}
 use Rattle.gr_record.specs.declared.header.Version.{Version}
-use Rattle.gr_record.specs.declared.header.Version.TheVariants.{One, Two, Three, Four}
 use Rattle.gr_record.proofs.Places.{each_in_range, header_group, header_items, items_within}
 use Rattle.gr_text.specs.declared.line.Line.{Line}
 use Rattle.gr_text.specs.declared.line.Line.TheVariants as lines
@@ -37,13 +34,12 @@ pub plain-append : (a b : List ℕ) → ArePlain a → ArePlain b → ArePlain (
 plain-append [] b h k = k
 plain-append (x ∷ a) b h k = let p = and_parts _ _ h in and_from _ _ p.0 (plain-append a b p.1 k)
 
+digit_plain : (b : ℕ) → (nat_le 48 b && nat_lt b 58) ≡ true → (nat_lt 10 b && not (b == 64)) ≡ true
+digit_plain b h = grind (arith, nat_tests)
+
 digits_plain : (ds : List ℕ) → are_digits ds ≡ true → ArePlain ds
 digits_plain [] h = refl
-digits_plain (b ∷ ds) h =
-    let p = and_parts _ _ h in
-    let ge : 48 ≤ b = leb-true 48 b (and_parts _ _ p.0).0 in
-    let other : b ≡ 64 → ⊥ = λ e. absurd (omega (arith, ltb-true b 58 (and_parts _ _ p.0).1)) in
-    and_from _ _ (and_from _ _ (lt-ltb 10 b (omega arith)) (ap not (ne_eqb b 64 other))) (digits_plain ds p.1)
+digits_plain (b ∷ ds) h = let p = and_parts _ _ h in and_from _ _ (digit_plain b p.0) (digits_plain ds p.1)
 
 number_plain : (n : ℕ) → n < 2 ^ 32 → ArePlain (decimal n)
 number_plain n lt = digits_plain (decimal n) (decimal_digits n lt)
@@ -57,24 +53,16 @@ later_plain [] h = refl
 later_plain (w ∷ ws) h = plain-append w (later_text ws) h.0 (later_plain ws h.1)
 
 space_plain : (s : Space) → ArePlain (space_word s)
-space_plain Global = refl
-space_plain Local = refl
+space_plain s = grind arith
 
 scope_plain : (s : Scope) → ArePlain (scope_word s)
-scope_plain Group = refl
-scope_plain Device = refl
+scope_plain s = grind arith
 
 order_plain : (o : Order) → ArePlain (order_word o)
-order_plain Relaxed = refl
-order_plain Acquire = refl
-order_plain Release = refl
-order_plain Both = refl
+order_plain o = grind arith
 
 flags_plain : (global local : Bool) → ArePlain (flags_word global local)
-flags_plain false false = refl
-flags_plain true false = refl
-flags_plain false true = refl
-flags_plain true true = refl
+flags_plain global local = grind arith
 
 name_plain : (n : Name) (ws : List (List ℕ)) → IsNameInRange n → AreAllPlain ws → AreAllPlain (name_words n ++ ws)
 name_plain n ws ok h =
@@ -104,10 +92,7 @@ event_plain (End true) e item word naming = refl
 event_plain (End false) e item word naming = refl
 
 version_plain : (v : Version) → AreAllPlain (version_words v)
-version_plain One = tt
-version_plain Two = (refl, tt)
-version_plain Three = (refl, tt)
-version_plain Four = (refl, tt)
+version_plain v = grind arith
 
 pub line_plain : (v : Version) (x : Line) → IsSaid v x → ArePlain (line_text x)
 line_plain v (lines.Header h) ok =

@@ -12,6 +12,10 @@ pub same_is : (a b : List ℕ) → same a b ≡ true → a ≡ b
 unfolding same
 same_is a b e = same_text a b (sym e)
 
+-- the same in a form that `grind` finds, which shows the call first
+pub same_told : (a b : List ℕ) → (same a b ≡ same a b) × (same a b ≡ true → a ≡ b)
+same_told a b = (refl, same_is a b)
+
 pub same_self : (a : List ℕ) → same a a ≡ true
 unfolding same
 same_self a = nat_list_eq_equiv.refl a

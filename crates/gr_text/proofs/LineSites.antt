@@ -1,21 +1,20 @@
 -- A line with its site is read from its text, and what is read has that text.
-use Rattle.std.proofs.Common.{◌≡◌, ℕ, zero, suc, ◌+◌, ◌-◌, ◌^◌, ◌<◌, ◌≤◌, Bool, true, false, cond, List, [], ◌∷◌, ◌++◌, length, take, Option, Some, None, refl, sym, ap, subst, ◌∙◌, append_assoc, arith, inl, inr, true≢false}
-use Rattle.std.specs.Prelude.{◌==◌, slice_index, codes, decimal}
-use Rattle.std.proofs.lemmas.Bool.{cases_Bool, eqb-true, ne_eqb, eqb-false}
+use Rattle.std.proofs.Common.{◌≡◌, ℕ, suc, ◌+◌, ◌-◌, ◌^◌, ◌<◌, Bool, true, false, List, [], ◌∷◌, ◌++◌, length, take, Option, Some, None, refl, sym, ap, subst, ◌∙◌, append_assoc, arith, inl, inr, true≢false}
+use Rattle.std.specs.Prelude.{◌==◌, slice_index, decimal}
+use Rattle.std.proofs.lemmas.Bool.{cases_Bool, eqb-true, eqb-false}
 use Rattle.std.proofs.lemmas.List.{append-nil, length-append, take_at, get_or-append-add}
 use Rattle.gr_model.specs.declared.event.Event.{Event}
 use Rattle.gr_record.specs.declared.header.Version.{Version}
 use Rattle.gr_record.specs.Versions.{has_sites}
-use Rattle.gr_record.specs.Sites.{IsSite}
 use Rattle.gr_text.specs.declared.line.Line.{Line}
 use Rattle.gr_text.specs.declared.line.Line.TheVariants as lines
 use Rattle.gr_text.specs.declared.line.SitedLine.{SitedLine}
 use Rattle.gr_text.specs.LineText.{line_text, site_text, sited_text}
-use Rattle.gr_text.specs.LineReading.{short_of, behind_mark, cut_at, line_said, unspaced, site_said, event_in, sited_by, sited_said}
+use Rattle.gr_text.specs.LineReading.{behind_mark, cut_at, unspaced, site_said, event_in, sited_by, sited_said}
 use Rattle.gr_text.specs.LineLaws.{IsSaid, IsSiteOf, IsSitedSaid, SitedTextIsRead, SitedReadIsText}
 use Rattle.gr_text.proofs.FirstWords.{first_back, first_found}
 use Rattle.gr_text.proofs.LineWords.{short_again}
-use Rattle.gr_text.proofs.LinesFound.{bind_some, guard_some, some_is, short_found, read_is_text}
+use Rattle.gr_text.proofs.LinesFound.{bind_some, guard_some, unless_some, some_is, short_found, read_is_text}
 use Rattle.gr_text.proofs.LinesAgain.{text_is_read}
 use Rattle.gr_text.proofs.LineBytes.{ArePlain, plain-append, plain_without, line_plain}
 
@@ -53,11 +52,8 @@ unfolding site_said
 site_found word site h =
     let n = bind_some _ _ _ h in
     let f = short_found word n.0 n.1 in
-    by_zero n.0 (n.0 == 0) refl f.0 f.1 n.2
-  where
-    by_zero : (n : ℕ) (b : Bool) → (n == 0) ≡ b → word ≡ decimal n → n < 2 ^ 16 → cond b None (Some n) ≡ Some site → (word ≡ decimal site) × (site < 2 ^ 16) × ((site == 0) ≡ false)
-    by_zero n true is text lt k = absurd cc
-    by_zero n false is text lt k = subst (λ (m : ℕ). (word ≡ decimal m) × (m < 2 ^ 16) × ((m == 0) ≡ false)) (some_is n site k) (text, lt, is)
+    let some = unless_some _ _ _ n.2 in
+    subst (λ (m : ℕ). (word ≡ decimal m) × (m < 2 ^ 16) × ((m == 0) ≡ false)) (some_is n.0 site some.1) (f.0, f.1, some.0)
 
 -- ---- whole lines
 

@@ -1,14 +1,11 @@
 -- Numbers and keywords as words of a line.
 use Rattle.std.proofs.Common.{◌≡◌, ◌≢◌, ℕ, zero, suc, ◌+◌, ◌%◌, ◌^◌, ◌<◌, ◌≤◌, Bool, true, false, List, [], ◌∷◌, ◌++◌, Some, None, refl, ap, ◌∙◌, arith, inl, inr}
 use Rattle.std.specs.Prelude.{nat_lt, nat_le, ◌==◌, ◌&&◌, not, decimal}
-use Rattle.std.proofs.lemmas.Bool.{lt-ltb, le-leb, leb-true, and_parts, and_from, cases_Bool}
+use Rattle.std.proofs.lemmas.Bool.{lt-ltb, le-leb, leb-true, and_parts, and_from, both_ways, cases_Bool}
 use Rattle.std.proofs.lemmas.Fmt.{decimal_by_steps}
 use Rattle.gr_model.specs.declared.event.Space.{Space}
-use Rattle.gr_model.specs.declared.event.Space.TheVariants.{Global, Local}
 use Rattle.gr_model.specs.declared.event.Scope.{Scope}
-use Rattle.gr_model.specs.declared.event.Scope.TheVariants.{Group, Device}
 use Rattle.gr_model.specs.declared.event.Order.{Order}
-use Rattle.gr_model.specs.declared.event.Order.TheVariants.{Relaxed, Acquire, Release, Both}
 use Rattle.gr_text.specs.LineText.{space_word, scope_word, order_word, flags_word, later_text}
 use Rattle.gr_text.specs.LineReading.{same, short_of, IsWord, first_of, space_said, scope_said, order_said, flags_said}
 use Rattle.gr_text.proofs.LineNumbers.{same_is, number_back}
@@ -45,14 +42,11 @@ digits_are_word (b ∷ bytes) h (suc k) d lt = digits_are_word bytes (and_parts 
 pub decimal_word : (n : ℕ) → n < 2 ^ 32 → IsWord (decimal n)
 decimal_word n lt = digits_are_word (decimal n) (decimal_digits n lt)
 
-not_both : (b : Bool) → b ≡ false → b ≡ true → ⊥
-not_both b p q = absurd cc
-
 -- a number is no keyword
 pub no_key : (n : ℕ) (key : List ℕ) → n < 2 ^ 32 → are_digits key ≡ false → same (decimal n) key ≡ false
 no_key n key lt other =
     elim (cases_Bool (same (decimal n) key)) [
-      | inl is ↦ absurd (not_both _ (ap are_digits (same_is (decimal n) key is) ∙ other) (decimal_digits n lt))
+      | inl is ↦ absurd (both_ways _ (ap are_digits (same_is (decimal n) key is) ∙ other) (decimal_digits n lt))
       | inr no_match ↦ no_match
     ]
 
@@ -63,7 +57,7 @@ has_no_space [] = true
 has_no_space (b ∷ bytes) = not (b == 32) && has_no_space bytes
 
 other_byte : (b : ℕ) → not (b == 32) ≡ true → b ≢ 32
-other_byte b h e = not_both _ (ap (λ (x : ℕ). not (x == 32)) e) h
+other_byte b h e = both_ways _ (ap (λ (x : ℕ). not (x == 32)) e) h
 
 pub key_word : (key : List ℕ) → has_no_space key ≡ true → IsWord key
 key_word [] h k d lt = absurd (omega arith)
@@ -71,50 +65,34 @@ key_word (b ∷ bytes) h zero d lt = other_byte b (and_parts _ _ h).0
 key_word (b ∷ bytes) h (suc k) d lt = key_word bytes (and_parts _ _ h).1 k d (omega arith)
 
 pub space_is_word : (s : Space) → IsWord (space_word s)
-space_is_word Global = key_word (space_word Global) refl
-space_is_word Local = key_word (space_word Local) refl
+space_is_word s = key_word (space_word s) (grind arith)
 
 pub scope_is_word : (s : Scope) → IsWord (scope_word s)
-scope_is_word Group = key_word (scope_word Group) refl
-scope_is_word Device = key_word (scope_word Device) refl
+scope_is_word s = key_word (scope_word s) (grind arith)
 
 pub order_is_word : (o : Order) → IsWord (order_word o)
-order_is_word Relaxed = key_word (order_word Relaxed) refl
-order_is_word Acquire = key_word (order_word Acquire) refl
-order_is_word Release = key_word (order_word Release) refl
-order_is_word Both = key_word (order_word Both) refl
+order_is_word o = key_word (order_word o) (grind arith)
 
 pub flags_are_word : (global local : Bool) → IsWord (flags_word global local)
-flags_are_word false false = key_word (flags_word false false) refl
-flags_are_word true false = key_word (flags_word true false) refl
-flags_are_word false true = key_word (flags_word false true) refl
-flags_are_word true true = key_word (flags_word true true) refl
+flags_are_word global local = key_word (flags_word global local) (grind arith)
 
 -- ---- words that are read again
 
 pub space_again : (s : Space) → space_said (space_word s) ≡ Some s
 unfolding space_said same
-space_again Global = refl
-space_again Local = refl
+space_again s = grind arith
 
 pub scope_again : (s : Scope) → scope_said (scope_word s) ≡ Some s
 unfolding scope_said same
-scope_again Group = refl
-scope_again Device = refl
+scope_again s = grind arith
 
 pub order_again : (o : Order) → order_said (order_word o) ≡ Some o
 unfolding order_said same
-order_again Relaxed = refl
-order_again Acquire = refl
-order_again Release = refl
-order_again Both = refl
+order_again o = grind arith
 
 pub flags_again : (global local : Bool) → flags_said (flags_word global local) ≡ Some (global, local)
 unfolding flags_said same
-flags_again false false = refl
-flags_again true false = refl
-flags_again false true = refl
-flags_again true true = refl
+flags_again global local = grind arith
 
 pub short_again : (n : ℕ) → n < 65536 → short_of (decimal n) ≡ Some n
 unfolding short_of

@@ -10,7 +10,6 @@ use Rattle.gr_model.specs.declared.event.Kind.{Kind}
 use Rattle.gr_model.specs.declared.event.Kind.TheVariants.{Read, Write, Load, Store, Rmw, Barrier, End}
 use Rattle.gr_model.specs.declared.event.Name.{Name}
 use Rattle.gr_model.specs.declared.event.Event.{Event}
-use Rattle.gr_model.specs.Access.{is_acquire_kind}
 use Rattle.gr_model.specs.Events.{IsNamingOk, IsKindOk, end_of}
 use Rattle.gr_record.specs.declared.header.Header.{Header}
 use Rattle.gr_record.specs.declared.header.Version.{Version}
@@ -20,44 +19,33 @@ use Rattle.gr_text.specs.declared.line.Line.TheVariants as lines
 use Rattle.gr_record.specs.Versions.{most_groups, most_items}
 use Rattle.gr_record.specs.Reading.{is_order_ok, is_naming_ok}
 use Rattle.gr_record.specs.Spelling.{IsHeader}
-use Rattle.gr_text.specs.LineText.{space_word, scope_word, order_word, flags_word, version_words, name_words, names_words, later_text, line_text}
+use Rattle.gr_text.specs.LineText.{space_word, scope_word, order_word, flags_word, version_words, names_words, later_text, line_text}
 use Rattle.gr_text.specs.LineReading.{same, IsWord, first_of, header_said, version_said, name_said, names_said, kind_said, atomic_said, barrier_said, event_said, checked, ◌>>=◌, line_said}
 use Rattle.gr_text.specs.LineLaws.{TextIsRead}
 use Rattle.gr_text.proofs.LineNumbers.{same_self, number_back}
 use Rattle.gr_text.proofs.LineWords.{decimal_word, no_key, key_word, space_is_word, scope_is_word, order_is_word, flags_are_word, space_again, scope_again, order_again, flags_again, short_again, first_of_more, first_of_last}
 use Rattle.gr_record.proofs.Places.{header_group, header_items, items_within, naming_back, few_names, each_in_range}
 
-third_not_second : same (codes "v3") (codes "v2") ≡ false
-unfolding same
-third_not_second = refl
-
-fourth_not_earlier : (same (codes "v4") (codes "v2") ≡ false) × (same (codes "v4") (codes "v3") ≡ false)
-unfolding same
-fourth_not_earlier = (refl, refl)
-
 version_again : (v : Version) (word : List ℕ) → IsWord word → ((first_of (word ++ later_text (version_words v))).0 ≡ word) × (version_said (first_of (word ++ later_text (version_words v))).1 ≡ Some v)
+unfolding same
 version_again One word is = let w = first_of_last word is in rw w (refl, refl)
-version_again Two word is = let w = first_of_more word (codes "v2") [] is in rw (w, same_self (codes "v2")) (refl, refl)
-version_again Three word is = let w = first_of_more word (codes "v3") [] is in rw (w, third_not_second, same_self (codes "v3")) (refl, refl)
-version_again Four word is = let w = first_of_more word (codes "v4") [] is in rw (w, fourth_not_earlier.0, fourth_not_earlier.1, same_self (codes "v4")) (refl, refl)
+version_again Two word is = let w = first_of_more word (codes "v2") [] is in rw w (refl, refl)
+version_again Three word is = let w = first_of_more word (codes "v3") [] is in rw w (refl, refl)
+version_again Four word is = let w = first_of_more word (codes "v4") [] is in rw w (refl, refl)
 
 header_again : (v : Version) (h : Header) → IsHeader h → line_said v (line_text (lines.Header h)) ≡ Some (lines.Header h)
 unfolding line_said header_said
 header_again v h ok =
     let few : h.group < 65535 = header_group h ok in
-    let group : h.group < most_groups h.version = ok.group in
-    let some : 1 ≤ h.items = ok.some in
     let small : h.items ≤ 1024 = header_items h ok in
-    let items : h.items ≤ most_items h.version = ok.items in
-    let launch : h.launch < 2 ^ 32 = ok.launch in
     let end : List (List ℕ) = version_words h.version in
     let w0 = first_of_more (codes "group") (decimal h.group) (codes "items" ∷ decimal h.items ∷ codes "launch" ∷ decimal h.launch ∷ end) (key_word (codes "group") refl) in
     let w1 = first_of_more (decimal h.group) (codes "items") (decimal h.items ∷ codes "launch" ∷ decimal h.launch ∷ end) (decimal_word h.group (omega arith)) in
     let w2 = first_of_more (codes "items") (decimal h.items) (codes "launch" ∷ decimal h.launch ∷ end) (key_word (codes "items") refl) in
     let w3 = first_of_more (decimal h.items) (codes "launch") (decimal h.launch ∷ end) (decimal_word h.items (omega arith)) in
     let w4 = first_of_more (codes "launch") (decimal h.launch) end (key_word (codes "launch") refl) in
-    let w5 = version_again h.version (decimal h.launch) (decimal_word h.launch launch) in
-    rw (w0, same_self (codes "group"), w1, w2, w3, w4, w5.1, w5.0, same_self (codes "items"), same_self (codes "launch"), short_again h.group (omega arith), short_again h.items (omega arith), number_back h.launch launch, lt-ltb h.group (most_groups h.version) group, le-leb 1 h.items some, le-leb h.items (most_items h.version) items) refl
+    let w5 = version_again h.version (decimal h.launch) (decimal_word h.launch ok.launch) in
+    rw (w0, same_self (codes "group"), w1, w2, w3, w4, w5.1, w5.0, same_self (codes "items"), same_self (codes "launch"), short_again h.group (omega arith), short_again h.items (omega arith), number_back h.launch ok.launch, lt-ltb h.group (most_groups h.version) ok.group, le-leb 1 h.items ok.some, le-leb h.items (most_items h.version) ok.items) refl
 
 -- what stands behind a word, where other words follow
 abbrev tail_text : List (List ℕ) → Option (List ℕ)
@@ -89,12 +77,6 @@ names_again (n ∷ names) (suc most) few each =
     rw (one, ih) refl
 
 -- ---- the words behind the item
-
-not_both : (b : Bool) → b ≡ false → b ≡ true → ⊥
-not_both b p q = absurd cc
-
-none_named : (kind : Kind) (n : Name) (names : List Name) → IsNamingOk kind (n ∷ names) → is_acquire_kind kind ≡ false → ⊥
-none_named kind n names ok other = not_both _ other ok.0
 
 atomic_again : (key : List ℕ) (kind : Kind) (item : ℕ) (space : Space) (word : ℕ) (scope : Scope) (order : Order) (names : List Name) → kind_said key scope order ≡ Some kind → IsNamingOk kind names
     → atomic_said key item space word (scope_word scope ++ later_text (order_word order ∷ names_words names)) ≡ Some (record { item = item; kind = kind; space = space; word = word; names = names })
@@ -137,37 +119,19 @@ module _ (item word : ℕ) (space : Space) (fits : word < 2 ^ 32) where
     abbrev words_behind : List (List ℕ)
     words_behind = scope_word scope ∷ order_word order ∷ names_words names
 
-    load_again : IsNamingOk (Load scope order) names → event_said item (codes "ld" ++ later_text (place_words words_behind)) ≡ Some (record { item = item; kind = Load scope order; space = space; word = word; names = names })
-    unfolding event_said kind_said same
-    load_again ok =
-        let w0 = first_of_more (codes "ld") (space_word space) (decimal word ∷ words_behind) (key_word (codes "ld") refl) in
+    access_again : (key : List ℕ) (kind : Kind) → IsWord key → same key (codes "bar") ≡ false → same key (codes "r") ≡ false → same key (codes "w") ≡ false → kind_said key scope order ≡ Some kind → IsNamingOk kind names
+        → event_said item (key ++ later_text (place_words words_behind)) ≡ Some (record { item = item; kind = kind; space = space; word = word; names = names })
+    unfolding event_said
+    access_again key kind is no_barrier no_read no_write said ok =
+        let w0 = first_of_more key (space_word space) (decimal word ∷ words_behind) is in
         let w1 = first_of_more (space_word space) (decimal word) words_behind (space_is_word space) in
         let w2 = first_of_more (decimal word) (scope_word scope) (order_word order ∷ names_words names) (decimal_word word fits) in
-        rw (w0, w1, w2, space_again space, number_back word fits) (atomic_again (codes "ld") (Load scope order) item space word scope order names refl ok)
-
-    store_again : IsNamingOk (Store scope order) names → event_said item (codes "st" ++ later_text (place_words words_behind)) ≡ Some (record { item = item; kind = Store scope order; space = space; word = word; names = names })
-    unfolding event_said kind_said same
-    store_again ok =
-        let w0 = first_of_more (codes "st") (space_word space) (decimal word ∷ words_behind) (key_word (codes "st") refl) in
-        let w1 = first_of_more (space_word space) (decimal word) words_behind (space_is_word space) in
-        let w2 = first_of_more (decimal word) (scope_word scope) (order_word order ∷ names_words names) (decimal_word word fits) in
-        rw (w0, w1, w2, space_again space, number_back word fits) (atomic_again (codes "st") (Store scope order) item space word scope order names refl ok)
-
-    rmw_again : IsNamingOk (Rmw scope order) names → event_said item (codes "rmw" ++ later_text (place_words words_behind)) ≡ Some (record { item = item; kind = Rmw scope order; space = space; word = word; names = names })
-    unfolding event_said kind_said same
-    rmw_again ok =
-        let w0 = first_of_more (codes "rmw") (space_word space) (decimal word ∷ words_behind) (key_word (codes "rmw") refl) in
-        let w1 = first_of_more (space_word space) (decimal word) words_behind (space_is_word space) in
-        let w2 = first_of_more (decimal word) (scope_word scope) (order_word order ∷ names_words names) (decimal_word word fits) in
-        rw (w0, w1, w2, space_again space, number_back word fits) (atomic_again (codes "rmw") (Rmw scope order) item space word scope order names refl ok)
+        rw (w0, no_barrier, no_read, no_write, w1, w2, space_again space, number_back word fits) (atomic_again key kind item space word scope order names said ok)
 
 -- ---- the whole line
 
 checked_again : (v : Version) (e : Event) → e.item < most_items v → is_order_ok e.kind ≡ true → is_naming_ok v e.kind e.names ≡ true → checked v e ≡ Some e
 checked_again v e lt order named = rw (lt-ltb e.item (most_items v) lt, order, named) refl
-
-few_items : (v : Version) → most_items v ≤ 1024
-few_items v = items_within v
 
 -- a line of a stream of one version
 module _ (v : Version) where
@@ -175,7 +139,7 @@ module _ (v : Version) where
       → line_said v (decimal e.item ++ later_text (key ∷ words)) ≡ Some (lines.Event e)
   unfolding line_said
   event_line e key words lt order named is =
-      let few = few_items v in
+      let few = items_within v in
       let w = first_of_more (decimal e.item) key words (decimal_word e.item (omega arith)) in
       rw (w, no_key e.item (codes "group") (omega arith) refl, no_key e.item (codes "end") (omega arith) refl, short_again e.item (omega arith), is) (ap (λ (o : Option Event). o >>= λ x. Some (lines.Event x)) (checked_again v e lt order named))
 
@@ -186,18 +150,19 @@ module _ (v : Version) where
 
   event_again : (item word : ℕ) (kind : Kind) (space : Space) (names : List Name) → item < most_items v → word < 2 ^ 32 → IsNamingOk kind names → is_naming_ok v kind names ≡ true → IsKindOk kind item space word
       → line_said v (line_text (lines.Event (record { item = item; kind = kind; space = space; word = word; names = names }))) ≡ Some (lines.Event (record { item = item; kind = kind; space = space; word = word; names = names }))
+  unfolding kind_said same
   event_again item word Read space [] lt fits naming named ok = event_line _ (codes "r") (space_word space ∷ decimal word ∷ []) lt refl named (read_again item word space fits)
-  event_again item word Read space (n ∷ names) lt fits naming named ok = absurd (none_named Read n names naming refl)
+  event_again item word Read space (n ∷ names) lt fits naming named ok = cc
   event_again item word Write space [] lt fits naming named ok = event_line _ (codes "w") (space_word space ∷ decimal word ∷ []) lt refl named (write_again item word space fits)
-  event_again item word Write space (n ∷ names) lt fits naming named ok = absurd (none_named Write n names naming refl)
-  event_again item word (Load scope order) space names lt fits naming named ok = event_line _ (codes "ld") (space_word space ∷ decimal word ∷ scope_word scope ∷ order_word order ∷ names_words names) lt (ap not ok) named (load_again item word space fits scope order names naming)
-  event_again item word (Store scope order) space names lt fits naming named ok = event_line _ (codes "st") (space_word space ∷ decimal word ∷ scope_word scope ∷ order_word order ∷ names_words names) lt (ap not ok) named (store_again item word space fits scope order names naming)
-  event_again item word (Rmw scope order) space names lt fits naming named ok = event_line _ (codes "rmw") (space_word space ∷ decimal word ∷ scope_word scope ∷ order_word order ∷ names_words names) lt refl named (rmw_again item word space fits scope order names naming)
+  event_again item word Write space (n ∷ names) lt fits naming named ok = cc
+  event_again item word (Load scope order) space names lt fits naming named ok = event_line _ (codes "ld") (space_word space ∷ decimal word ∷ scope_word scope ∷ order_word order ∷ names_words names) lt (ap not ok) named (access_again item word space fits scope order names (codes "ld") (Load scope order) (key_word (codes "ld") refl) refl refl refl refl naming)
+  event_again item word (Store scope order) space names lt fits naming named ok = event_line _ (codes "st") (space_word space ∷ decimal word ∷ scope_word scope ∷ order_word order ∷ names_words names) lt (ap not ok) named (access_again item word space fits scope order names (codes "st") (Store scope order) (key_word (codes "st") refl) refl refl refl refl naming)
+  event_again item word (Rmw scope order) space names lt fits naming named ok = event_line _ (codes "rmw") (space_word space ∷ decimal word ∷ scope_word scope ∷ order_word order ∷ names_words names) lt refl named (access_again item word space fits scope order names (codes "rmw") (Rmw scope order) (key_word (codes "rmw") refl) refl refl refl refl naming)
   event_again item word (Barrier global local) space [] lt fits naming named ok = rw ok (event_line _ (codes "bar") (decimal word ∷ flags_word global local ∷ []) lt refl named (barrier_again item word space fits global local))
-  event_again item word (Barrier global local) space (n ∷ names) lt fits naming named ok = absurd (none_named (Barrier global local) n names naming refl)
+  event_again item word (Barrier global local) space (n ∷ names) lt fits naming named ok = cc
   event_again item word (End true) space [] lt fits naming named ok = rw (ok.0, ok.1, ok.2) (end_again true)
   event_again item word (End false) space [] lt fits naming named ok = rw (ok.0, ok.1, ok.2) (end_again false)
-  event_again item word (End cut) space (n ∷ names) lt fits naming named ok = absurd (none_named (End cut) n names naming refl)
+  event_again item word (End cut) space (n ∷ names) lt fits naming named ok = cc
 
 pub text_is_read : TextIsRead
 text_is_read v (lines.Header h) ok = header_again v h ok

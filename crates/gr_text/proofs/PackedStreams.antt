@@ -1,16 +1,15 @@
 -- A text that is packed is one of whole streams.
-use Rattle.std.proofs.Common.{◌≡◌, ◌⊎◌, ℕ, ◌+◌, ◌-◌, ◌<◌, ◌≤◌, Bool, true, false, cond, List, [], ◌∷◌, ◌++◌, length, map, All, Option, Some, None, Result, Ok, Err, refl, sym, ap, ap₂, subst, ◌∙◌, arith, inl, inr, IsTrue, suc, true≢false, append_assoc}
-use Rattle.std.specs.Prelude.{nat_le, nat_lt, ◌==◌, ◌||◌}
+use Rattle.std.proofs.Common.{◌≡◌, ◌⊎◌, ℕ, ◌+◌, ◌-◌, ◌<◌, ◌≤◌, Bool, true, false, cond, List, [], ◌∷◌, ◌++◌, length, map, All, Option, Some, None, Ok, refl, sym, ap, ap₂, subst, ◌∙◌, arith, inl, inr, IsTrue, true≢false, append_assoc}
+use Rattle.std.specs.Prelude.{◌==◌}
 use Rattle.std.specs.List.{flat_map, onto_first}
-use Rattle.std.proofs.Common.{eqb-true}
-use Rattle.std.proofs.lemmas.Bool.{cases_Bool, both_ways, leb-false, ltb-false, eqb-false}
+use Rattle.std.proofs.lemmas.Bool.{cases_Bool, both_ways, eqb-true}
 use Rattle.std.proofs.lemmas.List.{append-nil}
+use Rattle.std.proofs.lemmas.List.Elements.{All-cons, All-head, All-nil, All-tail}
+use Rattle.std.proofs.lemmas.List.Folds.{flat_map-map}
 use Rattle.gr_model.specs.declared.event.Event.{Event}
 use Rattle.gr_model.specs.declared.limits.TheConstants.{MOST_RECORDS}
 use Rattle.gr_model.specs.Events.{is_end}
 use Rattle.gr_model.specs.Streams.{is_complete}
-use Rattle.gr_record.specs.declared.fault.Fault.{Fault}
-use Rattle.gr_record.specs.declared.fault.Fault.TheVariants as faults
 use Rattle.gr_record.specs.declared.header.Header.{Header}
 use Rattle.gr_text.specs.declared.line.Line.{Line}
 use Rattle.gr_text.specs.declared.line.Line.TheVariants as lines
@@ -31,8 +30,8 @@ use Rattle.gr_text.specs.declared.place.Place.TheVariants.{Outside, Inside}
 use Rattle.gr_text.specs.Lines.{lines_of}
 use Rattle.gr_text.specs.Texts.{◌>>=◌, record_line, version_at, version_behind, lines_bytes, whole_line, record_at, said_at, line_at, over_at, said_from, said_in}
 use Rattle.gr_text.specs.Dumps.{WholeStream, parts_in}
-use Rattle.gr_text.specs.Wholes.{IsWhole, bytes_of, text_of, IsTextOf, PackedAreStreams}
-use Rattle.gr_text.proofs.DumpedStreams.{all_before, all_none}
+use Rattle.gr_text.specs.Wholes.{IsWhole, bytes_of, text_of, PackedAreStreams}
+use Rattle.gr_text.proofs.Steps.{bind_ok, record_at_ok}
 
 -- ---- a text from its lines
 
@@ -61,10 +60,6 @@ joins_lines (b ∷ bytes) =
       | inr other ↦ rw other (joins_first b bytes (lines_of bytes) (joins_lines bytes))
     ]
 
-ended_lines : (xs : List SitedLine) → flat_map ended (map sited_text xs) ≡ flat_map whole_line xs
-ended_lines [] = refl
-ended_lines (x ∷ xs) = ap (λ (v : List ℕ). whole_line x ++ v) (ended_lines xs)
-
 -- ---- what may follow a place
 
 -- the rest of a stream of so many items that may have so many records more, and whole streams behind it
@@ -91,7 +86,7 @@ begins h site xs ok none r =
     let s : WholeStream = record { header = h; records = r.records } in
     record {
       streams = s ∷ r.streams;
-      whole = all_before IsWhole s r.streams (record { prefix = record { header = ok; runs = r.runs; few = r.few }; ended = r.complete }) r.whole;
+      whole = All-cons IsWhole s r.streams (record { prefix = record { header = ok; runs = r.runs; few = r.few }; ended = r.complete }) r.whole;
       parts = ap₂ (λ (n : ℕ) (v : List SitedLine). record { line = lines.Header h; site = n } ∷ v) none r.parts;
     }
 
@@ -119,48 +114,27 @@ goes_on h left x xs ok on some r = record {
 
 -- ---- line by line
 
-abbrev taken : SitedLine × Place → Result (SitedLine × Place) Fault
-taken x = Ok x
-
-same_taken : (x y : SitedLine × Place) → taken x ≡ taken y → x ≡ y
-same_taken x y e = cc
-
 -- what is taken at a place was said, and what follows behind it follows the place
 record Taken (place : Place) (said : Option SitedLine) (x : SitedLine × Place) : Type 0 where
   line : said ≡ Some x.0
   follow : IsSitedSaid (version_at place) x.0 → (xs : List SitedLine) → Follow x.1 xs → Follow place (x.0 ∷ xs)
 
-or_parts : (x y : Bool) → (x || y) ≡ false → (x ≡ false) × (y ≡ false)
-or_parts true y e = absurd cc
-or_parts false y e = (refl, e)
-
 is_record : (h : Header) (r : Sited) → r.event.item < h.items → length r.event.names ≤ places h.version → IsSitedSaid h.version (record_line r) → IsRecord h r
 is_record h r lt room said = record { event = record { ok = (lt, said.0.0.ok.1, said.0.0.ok.2); word = said.0.0.word }; names = room; range = said.0.1; site = said.1 }
 
 record_taken : (n : ℕ) (h : Header) (left : ℕ) (r : Sited) (x : SitedLine × Place) → record_at n h left r ≡ Ok x → Taken (Inside h left) (Some (record_line r)) x
-record_taken n h left r x k = by_item (nat_le h.items r.event.item || nat_lt (places h.version) (length r.event.names)) refl k
+record_taken n h left r x k =
+    let o = record_at_ok n h left r x k in
+    rw o.3 (by_end (is_end r.event) refl o.0 o.1 o.2)
   where
-    by_end : (b : Bool) → is_end r.event ≡ b → r.event.item < h.items → length r.event.names ≤ places h.version → 1 ≤ left → taken (record_line r, cond b Outside (Inside h (left - 1))) ≡ taken x → Taken (Inside h left) (Some (record_line r)) x
-    by_end true end lt room some k =
-        let one : Taken (Inside h left) (Some (record_line r)) (record_line r, Outside) = record { line = refl; follow = λ said xs s. ends h left r xs (is_record h r lt room said) end some s } in
-        subst (Taken (Inside h left) (Some (record_line r))) (same_taken (record_line r, Outside) x k) one
-    by_end false on lt room some k =
-        let one : Taken (Inside h left) (Some (record_line r)) (record_line r, Inside h (left - 1)) = record { line = refl; follow = λ said xs s. goes_on h left r xs (is_record h r lt room said) on some s } in
-        subst (Taken (Inside h left) (Some (record_line r))) (same_taken (record_line r, Inside h (left - 1)) x k) one
-
-    by_room : (b : Bool) → (left == 0) ≡ b → r.event.item < h.items → length r.event.names ≤ places h.version → cond b (Err (faults.LongStream n)) (taken (record_line r, cond (is_end r.event) Outside (Inside h (left - 1)))) ≡ taken x → Taken (Inside h left) (Some (record_line r)) x
-    by_room true is lt room k = cc
-    by_room false is lt room k = by_end (is_end r.event) refl lt room (let some : left ≡ 0 → ⊥ = eqb-false left 0 is in omega arith) k
-
-    by_item : (b : Bool) → (nat_le h.items r.event.item || nat_lt (places h.version) (length r.event.names)) ≡ b → cond b (Err (faults.BadLine n)) (cond (left == 0) (Err (faults.LongStream n)) (taken (record_line r, cond (is_end r.event) Outside (Inside h (left - 1))))) ≡ taken x → Taken (Inside h left) (Some (record_line r)) x
-    by_item true is k = cc
-    by_item false is k = let p = or_parts _ _ is in by_room (left == 0) refl (leb-false h.items r.event.item p.0) (ltb-false _ _ p.1) k
+    by_end : (b : Bool) → is_end r.event ≡ b → r.event.item < h.items → length r.event.names ≤ places h.version → 1 ≤ left → Taken (Inside h left) (Some (record_line r)) (record_line r, cond b Outside (Inside h (left - 1)))
+    by_end true end lt room some = record { line = refl; follow = λ said xs s. ends h left r xs (is_record h r lt room said) end some s }
+    by_end false on lt room some = record { line = refl; follow = λ said xs s. goes_on h left r xs (is_record h r lt room said) on some s }
 
 place_taken : (n : ℕ) (place : Place) (line : Line) (site : ℕ) (x : SitedLine × Place) → said_at n place line site ≡ Ok x → Taken place (Some (record { line = line; site = site })) x
 place_taken n Outside (lines.Header h) site x k =
-    let l : SitedLine = record { line = lines.Header h; site = site } in
-    let one : Taken Outside (Some l) (l, Inside h MOST_RECORDS) = record { line = refl; follow = λ ok xs r. begins h site xs ok.0 ok.1 r } in
-    subst (Taken Outside (Some l)) (same_taken (l, Inside h MOST_RECORDS) x k) one
+    let same : (record { line = lines.Header h; site = site }, Inside h MOST_RECORDS) ≡ x = cc k in
+    subst (Taken Outside (Some (record { line = lines.Header h; site = site }))) same (record { line = refl; follow = λ ok xs r. begins h site xs ok.0 ok.1 r })
 place_taken n Outside (lines.Event e) site x k = cc
 place_taken n (Inside h left) (lines.Header g) site x k = cc
 place_taken n (Inside h left) (lines.Event e) site x k = record_taken n h left (record { event = e; site = site }) x k
@@ -173,36 +147,21 @@ record Said (place : Place) (ls : List (List ℕ)) (xs : List SitedLine) : Type 
   text : ls ≡ map sited_text xs
   follow : Follow place xs
 
-abbrev all : List SitedLine → Result (List SitedLine) Fault
-all x = Ok x
-
-same_all : (x y : List SitedLine) → all x ≡ all y → x ≡ y
-same_all x y e = cc
-
 over : (place : Place) (xs : List SitedLine) → over_at place ≡ Ok xs → Said place [] xs
-over Outside xs k = subst (Said Outside []) (same_all [] xs k) (record { text = refl; follow = record { streams = []; whole = all_none IsWhole; parts = refl } })
+over Outside xs k = let same : [] ≡ xs = cc k in subst (Said Outside []) same (record { text = refl; follow = record { streams = []; whole = All-nil IsWhole; parts = refl } })
 over (Inside h left) xs k = cc
-
--- what is found of fewer lines
-abbrev Later : ℕ → List (List ℕ) → Type 0
-Later n ls = (behind : Place) (ys : List SitedLine) → said_from (n + 1) behind ls ≡ Ok ys → Said behind ls ys
 
 said_found : (ls : List (List ℕ)) (n : ℕ) (place : Place) (xs : List SitedLine) → said_from n place ls ≡ Ok xs → Said place ls xs
 unfolding said_from
 said_found [] n place xs k = over place xs k
-said_found (l ∷ ls) n place xs k = by_line (line_at n place (sited_said (version_at place) l)) refl k (λ behind ys h. said_found ls (n + 1) behind ys h)
-  where
-    by_rest : (x : SitedLine × Place) → Taken place (sited_said (version_at place) l) x → (r : Result (List SitedLine) Fault) → said_from (n + 1) x.1 ls ≡ r → (r >>= λ ys. all (x.0 ∷ ys)) ≡ Ok xs → Later n ls → Said place (l ∷ ls) xs
-    by_rest x one (Err f) is k later = cc
-    by_rest x one (Ok ys) is k later =
-        let more = later x.1 ys is in
-        let t = sited_read_is_text (version_at place) l x.0 one.line in
-        let whole : Said place (l ∷ ls) (x.0 ∷ ys) = record { text = ap₂ (λ (a : List ℕ) (b : List (List ℕ)). a ∷ b) t.1 more.text; follow = one.follow t.0 ys more.follow } in
-        subst (Said place (l ∷ ls)) (same_all (x.0 ∷ ys) xs k) whole
-
-    by_line : (r : Result (SitedLine × Place) Fault) → line_at n place (sited_said (version_at place) l) ≡ r → (r >>= λ x. said_from (n + 1) x.1 ls >>= λ ys. all (x.0 ∷ ys)) ≡ Ok xs → Later n ls → Said place (l ∷ ls) xs
-    by_line (Err f) is k later = cc
-    by_line (Ok x) is k later = by_rest x (line_taken n place (sited_said (version_at place) l) x is) (said_from (n + 1) x.1 ls) refl k later
+said_found (l ∷ ls) n place xs k =
+    let x = bind_ok (line_at n place (sited_said (version_at place) l)) (λ x. said_from (n + 1) x.1 ls >>= λ ys. Ok (x.0 ∷ ys)) xs k in
+    let one = line_taken n place (sited_said (version_at place) l) x.0 x.1 in
+    let rest = bind_ok (said_from (n + 1) x.0.1 ls) (λ ys. Ok (x.0.0 ∷ ys)) xs x.2 in
+    let more = said_found ls (n + 1) x.0.1 rest.0 rest.1 in
+    let t = sited_read_is_text (version_at place) l x.0.0 one.line in
+    let same : x.0.0 ∷ rest.0 ≡ xs = cc rest.2 in
+    subst (Said place (l ∷ ls)) same (record { text = ap₂ (λ (a : List ℕ) (b : List (List ℕ)). a ∷ b) t.1 more.text; follow = one.follow t.0 rest.0 more.follow })
 
 -- ---- bytes
 
@@ -230,26 +189,17 @@ records_bytes h (r ∷ rs) xs runs complete =
 pub streams_bytes : (ss : List WholeStream) → All IsWhole ss → lines_bytes One (flat_map parts_in ss) ≡ bytes_of ss
 streams_bytes [] whole = refl
 streams_bytes (s ∷ ss) whole =
-    let w = whole 0 s (omega arith) in
-    let rest = streams_bytes ss (λ k d lt. whole (suc k) d (omega arith)) in
+    let w = All-head IsWhole s ss whole in
+    let rest = streams_bytes ss (All-tail IsWhole s ss whole) in
     let one = records_bytes s.header s.records (flat_map parts_in ss) w.prefix.runs w.ended in
     ap (λ (v : List ℕ). header_spelling s.header ++ v) (one ∙ ap (λ (v : List ℕ). events_spelling s.header.version s.records ++ v) rest)
     ∙ sym (append_assoc (header_spelling s.header) (events_spelling s.header.version s.records) (bytes_of ss))
 
-abbrev done : List ℕ → Result (List ℕ) Fault
-done x = Ok x
-
-same_done : (x y : List ℕ) → done x ≡ done y → x ≡ y
-same_done x y e = cc
-
 pub packed_are_streams : PackedAreStreams
-packed_are_streams text bytes e = by_lines (said_in text) refl e
-  where
-    by_lines : (r : Result (List SitedLine) Fault) → said_in text ≡ r → (r >>= λ xs. done (lines_bytes One xs)) ≡ Ok bytes → (ss : List WholeStream) × All IsWhole ss × IsTextOf ss text × (bytes ≡ bytes_of ss)
-    by_lines (Err f) is k = cc
-    by_lines (Ok xs) is k =
-        let s = said_found (lines_of text) 1 Outside xs is in
-        let f = s.follow in
-        let lines_are : flat_map ended (lines_of text) ≡ text_of f.streams = ap (flat_map ended) s.text ∙ ended_lines xs ∙ ap (flat_map whole_line) f.parts in
-        let joined : IsTextOf f.streams text = rw (← lines_are) (joins_lines text) in
-        (f.streams, f.whole, joined, sym (same_done (lines_bytes One xs) bytes k) ∙ ap (lines_bytes One) f.parts ∙ streams_bytes f.streams f.whole)
+packed_are_streams text bytes e =
+    let x = bind_ok (said_in text) _ bytes e in
+    let s = said_found (lines_of text) 1 Outside x.0 x.1 in
+    let f = s.follow in
+    let lines_are : flat_map ended (lines_of text) ≡ text_of f.streams = ap (flat_map ended) s.text ∙ flat_map-map ended sited_text x.0 ∙ ap (flat_map whole_line) f.parts in
+    let same : lines_bytes One x.0 ≡ bytes = cc x.2 in
+    (f.streams, f.whole, rw (← lines_are) (joins_lines text), sym same ∙ ap (lines_bytes One) f.parts ∙ streams_bytes f.streams f.whole)

@@ -5,6 +5,7 @@ use Rattle.std.specs.Option.{option_map_or}
 use Rattle.std.proofs.lemmas.Bool.{cases_lt}
 use Rattle.std.proofs.lemmas.List.{append-nil}
 use Rattle.std.proofs.lemmas.List.Concat.{flat_map-append}
+use Rattle.std.proofs.lemmas.List.Folds.{flat_map-map}
 use Rattle.gr_model.specs.declared.event.Event.{Event}
 use Rattle.gr_model.specs.declared.limits.TheConstants.{MOST_ITEMS_OF_A_GROUP, MOST_RECORDS}
 use Rattle.gr_model.specs.Events.{IsEventOk, is_end}
@@ -24,7 +25,6 @@ use Rattle.gr_record.specs.Sites.{all_sited, sited}
 use Rattle.gr_text.specs.declared.forming.Form.{Form}
 use Rattle.gr_text.specs.declared.forming.Form.TheVariants.{Text}
 use Rattle.gr_record.specs.WholeStreams.{front_header_at}
-use Rattle.gr_text.proofs.DumpedStreams.{records_text}
 use Rattle.gr_text.specs.Dumps.{formed_event}
 use Rattle.gr_text.specs.Texts.{header_line, record_line, whole_line}
 use Rattle.gr_text.specs.Partial.{behind_end, front_at, lines_before}
@@ -108,7 +108,7 @@ pub front_text : (bytes : List ℕ) (h : Header) (mid text done new : List ℕ) 
     → new ≡ done ++ flat_map (formed_event Text h.version) (all_sited h.version (records_of h MOST_RECORDS mid).events mid) → new ≡ text ++ flat_map whole_line (front_at bytes).lines
 front_text bytes h mid text done new line found line_is done_is new_is =
     let rs = all_sited h.version (records_of h MOST_RECORDS mid).events mid in
-    rw found (new_is ∙ ap₂ (λ (a b : List ℕ). a ++ b) (done_is ∙ ap (λ (l : SitedLine). text ++ whole_line l) line_is) (records_text rs) ∙ append_assoc text (whole_line (header_line h)) (flat_map whole_line (map record_line rs)))
+    rw found (new_is ∙ ap₂ (λ (a b : List ℕ). a ++ b) (done_is ∙ ap (λ (l : SitedLine). text ++ whole_line l) line_is) (sym (flat_map-map whole_line record_line rs)) ∙ append_assoc text (whole_line (header_line h)) (flat_map whole_line (map record_line rs)))
 
 -- ---- all streams
 

@@ -1,8 +1,9 @@
 -- The text of whole streams is packed, and what is dumped is packed again.
-use Rattle.std.proofs.Common.{◌≡◌, ℕ, suc, ◌+◌, ◌-◌, ◌^◌, ◌<◌, ◌≤◌, true, false, List, [], ◌∷◌, ◌++◌, length, map, All, Ok, refl, sym, ap, ◌∙◌, arith, inl, inr, IsTrue, true≢false}
+use Rattle.std.proofs.Common.{◌≡◌, ℕ, ◌+◌, ◌-◌, ◌^◌, ◌<◌, ◌≤◌, true, false, List, [], ◌∷◌, ◌++◌, length, map, All, Ok, refl, sym, ap, ◌∙◌, arith, inl, inr, IsTrue, true≢false}
 use Rattle.std.specs.Prelude.{nat_le, nat_lt, ◌==◌, ⊤}
 use Rattle.std.specs.List.{flat_map}
 use Rattle.std.proofs.lemmas.Bool.{cases_Bool, and_parts, ltb-true, le-ltb, lt-leb, ne_eqb}
+use Rattle.std.proofs.lemmas.List.Elements.{All-head, All-tail}
 use Rattle.gr_model.specs.declared.event.Event.{Event}
 use Rattle.gr_record.specs.declared.header.Header.{Header}
 use Rattle.gr_record.specs.declared.header.Version.TheVariants.{One, Four}
@@ -71,8 +72,8 @@ records_said h (r ∷ rs) few runs =
 streams_said : (ss : List WholeStream) → All IsWhole ss → AreSaid (flat_map parts_in ss)
 streams_said [] whole = tt
 streams_said (s ∷ ss) whole =
-    let w = whole 0 s (omega arith) in
-    ((w.prefix.header, omega arith), said-append (map record_line s.records) (flat_map parts_in ss) (records_said s.header s.records (header_items s.header w.prefix.header) w.prefix.runs) (streams_said ss (λ k d lt. whole (suc k) d (omega arith))))
+    let w = All-head IsWhole s ss whole in
+    ((w.prefix.header, omega arith), said-append (map record_line s.records) (flat_map parts_in ss) (records_said s.header s.records (header_items s.header w.prefix.header) w.prefix.runs) (streams_said ss (All-tail IsWhole s ss whole)))
 
 -- ---- line by line
 
@@ -99,9 +100,9 @@ streams_back : (ss : List WholeStream) (n : ℕ) → All IsWhole ss → said_fro
 unfolding said_from
 streams_back [] n whole = refl
 streams_back (s ∷ ss) n whole =
-    let w = whole 0 s (omega arith) in
+    let w = All-head IsWhole s ss whole in
     let read = sited_text_is_read One (header_line s.header) (w.prefix.header, refl) in
-    let later = records_back s.records (n + 1) s.header MOST_RECORDS (flat_map parts_in ss) w.prefix.header.items w.prefix.runs w.ended w.prefix.few (λ m. streams_back ss m (λ k d lt. whole (suc k) d (omega arith))) in
+    let later = records_back s.records (n + 1) s.header MOST_RECORDS (flat_map parts_in ss) w.prefix.header.items w.prefix.runs w.ended w.prefix.few (λ m. streams_back ss m (All-tail IsWhole s ss whole)) in
     rw (read, later) refl
 
 pub whole_streams_are_packed : WholeStreamsArePacked

@@ -2,6 +2,7 @@
 use Rattle.std.proofs.Common.{◌≡◌, ℕ, zero, suc, ◌+◌, ◌≤◌, false, List, [], ◌∷◌, ◌++◌, length, drop, All, Result, Ok, refl, sym, ap, ◌∙◌, append_assoc, arith, inl, inr, IsTrue, true≢false}
 use Rattle.std.specs.Prelude.{◌==◌}
 use Rattle.std.proofs.lemmas.Bool.{le-ltb, ne_eqb, cases_Bool}
+use Rattle.std.proofs.lemmas.List.Elements.{All-head, All-tail}
 use Rattle.std.proofs.lemmas.List.{take_at, drop_at, length-append, append-nil}
 use Rattle.gr_model.specs.declared.event.Event.{Event}
 use Rattle.gr_model.specs.declared.limits.TheConstants.{MOST_ITEMS_OF_A_GROUP, MOST_RECORDS}
@@ -85,9 +86,9 @@ streams_before [] most place whole le = nothing_left most place [] refl
 streams_before (s ∷ ss) zero place whole le = absurd (omega arith)
 streams_before (s ∷ ss) (suc most) place whole le =
     let some : (length (bytes_of (s ∷ ss)) == 0) ≡ false = ne_eqb (length (bytes_of (s ∷ ss))) 0 (λ none. absurd (omega arith)) in
-    let one = stream_before place s (bytes_of ss) (whole 0 s (omega arith)) in
+    let one = stream_before place s (bytes_of ss) (All-head IsWhole s ss whole) in
     let shorter : length (bytes_of ss) ≤ most = omega (arith, length-append (stream_spelling s.header s.records) (bytes_of ss)) in
-    let ih = streams_before ss most (place + 1) (λ k d lt. whole (suc k) d (omega arith)) shorter in
+    let ih = streams_before ss most (place + 1) (All-tail IsWhole s ss whole) shorter in
     rw (some, one, ih) refl
 
 pub whole_streams_are_dumped : WholeStreamsAreDumped

@@ -1,41 +1,32 @@
 -- Streams that are upgraded are whole streams, of the same groups, items, launches and records.
-use Rattle.std.proofs.Common.{◌≡◌, ◌≤◌, ℕ, suc, List, [], ◌∷◌, ◌++◌, length, map, All, Result, Ok, Err, refl, sym, ap, ap₂, ◌∙◌, arith}
+use Rattle.std.proofs.Common.{◌≡◌, ◌≤◌, ℕ, List, [], ◌∷◌, length, map, All, Ok, refl, sym, ap, ap₂, ◌∙◌, arith}
 use Rattle.std.specs.List.{flat_map}
-use Rattle.gr_record.specs.declared.fault.Fault.{Fault}
+use Rattle.std.proofs.lemmas.List.Elements.{All-cons, All-head, All-nil, All-tail}
+use Rattle.std.proofs.lemmas.List.Folds.{flat_map-map}
 use Rattle.gr_record.specs.declared.header.Header.{Header}
 use Rattle.gr_record.specs.declared.header.Version.{Version}
-use Rattle.gr_record.specs.declared.header.Version.TheVariants.{One, Two, Three, Four}
 use Rattle.gr_record.specs.Versions.{has_sites, most_groups, most_items, places}
 use Rattle.gr_record.specs.Sites.{Sited}
 use Rattle.gr_record.specs.WholeStreams.{stream_spelling}
 use Rattle.gr_record.specs.PrefixLaws.{Runs}
 use Rattle.gr_record.specs.Spelling.{IsHeader, IsRecord}
 use Rattle.gr_text.specs.declared.forming.Form.TheVariants.{Long}
-use Rattle.gr_text.specs.Texts.{◌>>=◌}
-use Rattle.gr_text.specs.Dumps.{WholeStream, formed, raised, streams_in, upgraded, upgraded_header}
+use Rattle.gr_text.specs.Dumps.{WholeStream, formed, raised, upgraded, upgraded_header}
 use Rattle.gr_text.specs.Wholes.{IsWhole, bytes_of, upgraded_stream, UpgradedAreStreams, WholeStreamsAreUpgraded, UpgradedStays}
-use Rattle.gr_text.proofs.DumpedStreams.{all_before, all_none, streams_found}
+use Rattle.gr_text.proofs.DumpedStreams.{streams_found}
+use Rattle.gr_text.proofs.Steps.{bind_ok}
 use Rattle.gr_text.proofs.SpelledStreams.{streams_before}
 
 -- ---- an upgraded version has the same limits and sites, and room for all names
 
 same_limits : (v : Version) → (most_groups (raised v) ≡ most_groups v) × (most_items (raised v) ≡ most_items v) × (has_sites (raised v) ≡ has_sites v)
-same_limits One = (refl, refl, refl)
-same_limits Two = (refl, refl, refl)
-same_limits Three = (refl, refl, refl)
-same_limits Four = (refl, refl, refl)
+same_limits v = grind arith
 
 roomier : (v : Version) → places v ≤ places (raised v)
-roomier One = omega arith
-roomier Two = omega arith
-roomier Three = omega arith
-roomier Four = omega arith
+roomier v = grind arith
 
 raised_twice : (v : Version) → raised (raised v) ≡ raised v
-raised_twice One = refl
-raised_twice Two = refl
-raised_twice Three = refl
-raised_twice Four = refl
+raised_twice v = grind arith
 
 -- ---- the same streams are whole
 
@@ -58,30 +49,20 @@ whole_upgraded s w =
     }
 
 all_upgraded : (ss : List WholeStream) → All IsWhole ss → All IsWhole (map upgraded_stream ss)
-all_upgraded [] whole = all_none IsWhole
-all_upgraded (s ∷ ss) whole = all_before IsWhole (upgraded_stream s) (map upgraded_stream ss) (whole_upgraded s (whole 0 s (omega arith))) (all_upgraded ss (λ k d lt. whole (suc k) d (omega arith)))
+all_upgraded [] whole = All-nil IsWhole
+all_upgraded (s ∷ ss) whole = All-cons IsWhole (upgraded_stream s) (map upgraded_stream ss) (whole_upgraded s (All-head IsWhole s ss whole)) (all_upgraded ss (All-tail IsWhole s ss whole))
 
 -- ---- their bytes
 
 streams_long : (ss : List WholeStream) → flat_map (formed Long) ss ≡ bytes_of (map upgraded_stream ss)
-streams_long [] = refl
-streams_long (s ∷ ss) = ap (λ (v : List ℕ). stream_spelling (upgraded_header s.header) s.records ++ v) (streams_long ss)
-
-abbrev done : List ℕ → Result (List ℕ) Fault
-done x = Ok x
-
-same_done : (x y : List ℕ) → done x ≡ done y → x ≡ y
-same_done x y e = cc
+streams_long ss = sym (flat_map-map (λ (s : WholeStream). stream_spelling s.header s.records) upgraded_stream ss)
 
 pub upgraded_are_streams : UpgradedAreStreams
-upgraded_are_streams bytes out fits e = by_streams (streams_in bytes) refl e
-  where
-    by_streams : (r : Result (List WholeStream) Fault) → streams_in bytes ≡ r → (r >>= λ ss. done (flat_map (formed Long) ss)) ≡ Ok out
-        → (ss : List WholeStream) × All IsWhole ss × (bytes ≡ bytes_of ss) × All IsWhole (map upgraded_stream ss) × (out ≡ bytes_of (map upgraded_stream ss))
-    by_streams (Err f) is k = cc
-    by_streams (Ok ss) is k =
-        let f = streams_found (length bytes) 0 bytes fits (omega arith) ss is in
-        (ss, f.whole, f.spelled, all_upgraded ss f.whole, sym (same_done (flat_map (formed Long) ss) out k) ∙ streams_long ss)
+upgraded_are_streams bytes out fits e =
+    let s = bind_ok _ _ out e in
+    let f = streams_found (length bytes) 0 bytes fits (omega arith) s.0 s.1 in
+    let same : flat_map (formed Long) s.0 ≡ out = cc s.2 in
+    (s.0, f.whole, f.spelled, all_upgraded s.0 f.whole, sym same ∙ streams_long s.0)
 
 pub whole_streams_are_upgraded : WholeStreamsAreUpgraded
 whole_streams_are_upgraded ss whole =
@@ -97,4 +78,4 @@ twice (s ∷ ss) = ap₂ (λ (v : Version) (rest : List WholeStream). record { h
 pub upgraded_stays : UpgradedStays
 upgraded_stays bytes out fits e =
     let s = upgraded_are_streams bytes out fits e in
-    ap upgraded s.4 ∙ whole_streams_are_upgraded (map upgraded_stream s.0) s.3 ∙ ap (λ (v : List WholeStream). done (bytes_of v)) (twice s.0) ∙ ap done (sym s.4)
+    ap upgraded s.4 ∙ whole_streams_are_upgraded (map upgraded_stream s.0) s.3 ∙ ap (λ (v : List WholeStream). Ok (bytes_of v)) (twice s.0) ∙ ap (λ (v : List ℕ). Ok v) (sym s.4)

@@ -1,4 +1,4 @@
-use Rattle.std.proofs.Common.{◌≡◌, sym, ap, ◌∙◌}
+use Rattle.std.proofs.Common.{sym, ap, ◌∙◌}
 use Rattle.gr_text.specs.LineReading.{line_said}
 use Rattle.gr_text.proofs.LineNumbers.{each_some}
 use Rattle.gr_text.proofs.LinesAgain.{text_is_read}

@@ -1,8 +1,6 @@
-use Rattle.std.proofs.Common.{◌≡◌, ℕ, ◌+◌, ◌-◌, ◌<◌, ◌≤◌, List, [], ◌∷◌, ◌++◌, length, take, Option, Some, None, sym, ap, ◌∙◌, arith}
-use Rattle.std.specs.Option.{option_map}
+use Rattle.std.proofs.Common.{◌≡◌, ◌<◌, length, take, sym, ◌∙◌, arith}
 use Rattle.std.proofs.lemmas.List.{take_more_set, length-set}
-use Rattle.gr_text.specs.LineReading.{names_said}
-use Rattle.gr_text.proofs.NamesRead.{over, too_many, no_name, one_more, names_before}
+use Rattle.gr_text.proofs.NamesRead.{over, too_many, no_name, one_more}
 use Rattle.gr_text.proofs.parsing.parse_names.Goals as goal
 
 pub returns-in_default-clause-names : goal.returns-in_default-clause-names

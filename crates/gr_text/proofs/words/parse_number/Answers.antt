@@ -1,4 +1,4 @@
-use Rattle.std.proofs.Common.{◌≡◌, ◌≢◌, ◌^◌, ◌<◌, ℕ, List, Option, Some, None, Result, Ok, Err, sym, ap, subst, ◌∙◌, arith}
+use Rattle.std.proofs.Common.{◌≡◌, ◌≢◌, ◌^◌, ◌<◌, ℕ, List, Some, None, Result, Ok, Err, sym, ap, subst, ◌∙◌, arith}
 use Rattle.std.specs.Prelude.{decimal}
 use Rattle.std.specs.Result.{MatchResult, result_ok}
 use Rattle.std.specs.Cmp.Lexicographic.{same_text, other_text}
@@ -20,12 +20,6 @@ at_some (Err e) P Q x h m = absurd cc
 parsed : {E : Type 0} (text : List ℕ) (r : Result ℕ E) (n : ℕ) → n < 2 ^ 32 → text ≡ decimal n → ParsesUnsigned 32 10 text r → result_ok r ≡ Some n
 parsed text r n lt is p = ap result_ok (parse-decimal 32 n text r lt (omega arith) is p)
 
-not_both : (o : Option ℕ) (n : ℕ) → o ≡ None → o ≡ Some n → ⊥
-not_both o n p q = absurd cc
-
-same_number : (o : Option ℕ) (m n : ℕ) → o ≡ Some m → o ≡ Some n → m ≡ n
-same_number o m n p q = cc
-
 pub returns-in_err-ok : goal.returns-in_err-ok
 returns-in_err-ok c =
     let failed = at_none _ _ _ (sym c.ok.ensures.value ∙ c.in_err-ok.was) c.from_utf8.ensures.cases in
@@ -34,7 +28,7 @@ returns-in_err-ok c =
 pub returns-in_err-number : goal.returns-in_err-number
 returns-in_err-number c =
     let text = at_some _ _ _ _ (sym c.ok.ensures.value ∙ c.in_ok-ok.was) c.from_utf8.ensures.cases in
-    c.from_residual-in_err-number.ensures ∙ sym (number_none c.args.word.now (λ n lt is. not_both _ n (sym c.ok-2.ensures.value ∙ c.in_err-number.was) (parsed _ _ n lt (text.0 ∙ is) c.parse.ensures.value.0)))
+    c.from_residual-in_err-number.ensures ∙ sym (number_none c.args.word.now (λ n lt is. cc (sym c.ok-2.ensures.value ∙ c.in_err-number.was, parsed _ _ n lt (text.0 ∙ is) c.parse.ensures.value.0)))
 
 pub returns-then-eq : goal.returns-then-eq
 returns-then-eq c =
@@ -46,5 +40,5 @@ returns-else-eq c =
     let text = at_some _ _ _ _ (sym c.ok.ensures.value ∙ c.in_ok-ok.was) c.from_utf8.ensures.cases in
     let other : c.as_bytes.result.now ≢ c.args.word.now = other_text _ _ (sym c.if-eq.false ∙ c.eq.ensures) in
     sym (number_none c.args.word.now (λ n lt is.
-    let number : n ≡ c.in_ok-number.number = same_number _ n c.in_ok-number.number (parsed _ _ n lt (text.0 ∙ is) c.parse.ensures.value.0) (sym c.ok-2.ensures.value ∙ c.in_ok-number.was) in
+    let number : n ≡ c.in_ok-number.number = cc (parsed _ _ n lt (text.0 ∙ is) c.parse.ensures.value.0, sym c.ok-2.ensures.value ∙ c.in_ok-number.was) in
     other (c.as_bytes.ensures.value ∙ c.format.ensures.text ∙ ap decimal (sym number) ∙ sym is)))
