@@ -40,10 +40,16 @@ from_record h most unit rest len =
     rw (next (record_length h.version) (event_at h) most (unit ++ rest) long, take_at unit rest (record_length h.version) len, drop_at unit rest (record_length h.version) len) refl
 
 module _ (limit count : ℕ) (unit rest : List ℕ) (listed : List Part) where
+  -- where no bytes are kept
+  abbrev pub standing_at : Option Header → ℕ → Stop → Standing
+  standing_at h n stop = record { limit = limit; header = h; count = n; held = []; stop = stop }
+
+  -- what was read of the bytes of a header or a record
+  abbrev pub Reads : Option Header → Option Header → ℕ → Stop → List Part → Type 0
+  Reads before h n stop parts = Continues (standing_at before count Inside) (unit ++ rest) listed (standing_at h n stop) rest parts
+
   -- a header
-  pub header_continues : (h : Header) → length unit ≡ HEADER_LENGTH → header_at unit ≡ Ok h
-      → Continues (record { limit = limit; header = None; count = count; held = []; stop = Inside }) (unit ++ rest) listed
-      (record { limit = limit; header = Some h; count = count; held = []; stop = Inside }) rest (listed ++ parts.Header h ∷ [])
+  pub header_continues : (h : Header) → length unit ≡ HEADER_LENGTH → header_at unit ≡ Ok h → Reads None (Some h) count Inside (listed ++ parts.Header h ∷ [])
   unfolding read_from
   header_continues h len is =
       let r : read_from None (limit - count) (unit ++ rest) ≡ closed (Some h) (records_of h (limit - count) rest)
@@ -51,9 +57,7 @@ module _ (limit count : ℕ) (unit rest : List ℕ) (listed : List Part) where
       record { stands = rw r refl; parts = rw r (sym (append_assoc listed ((parts.Header h) ∷ []) _)) }
 
   -- a header at fault
-  pub header_fails : (e : RecordError) → length unit ≡ HEADER_LENGTH → header_at unit ≡ Err e
-      → Continues (record { limit = limit; header = None; count = count; held = []; stop = Inside }) (unit ++ rest) listed
-      (record { limit = limit; header = None; count = count; held = []; stop = AtFault e }) rest listed
+  pub header_fails : (e : RecordError) → length unit ≡ HEADER_LENGTH → header_at unit ≡ Err e → Reads None None count (AtFault e) listed
   header_fails e len is =
       let r : read_from None (limit - count) (unit ++ rest) ≡ record { header = None; events = []; rest = unit ++ rest; stop = AtFault e }
       = from_header (limit - count) unit rest len ∙ rw is refl in
@@ -61,9 +65,7 @@ module _ (limit count : ℕ) (unit rest : List ℕ) (listed : List Part) where
 
   module _ (h : Header) (len : length unit ≡ (record_length h.version)) where
     -- one record more than the limit
-    pub one_too_many : count ≡ limit
-        → Continues (record { limit = limit; header = Some h; count = count; held = []; stop = Inside }) (unit ++ rest) listed
-        (record { limit = limit; header = Some h; count = count; held = []; stop = AtFault errors.TooManyRecords }) rest listed
+    pub one_too_many : count ≡ limit → Reads (Some h) (Some h) count (AtFault errors.TooManyRecords) listed
     one_too_many full =
         let k : limit - count ≡ 0 = omega arith in
         let long : (record_length h.version) ≤ length (unit ++ rest) = simp length-append (omega arith) in
@@ -78,18 +80,14 @@ module _ (limit count : ℕ) (unit rest : List ℕ) (listed : List Part) where
           rw k (from_record h (limit - (count + 1)) unit rest len)
 
       -- a record at fault
-      pub record_fails : (e : RecordError) → event_at h unit ≡ Err e
-          → Continues (record { limit = limit; header = Some h; count = count; held = []; stop = Inside }) (unit ++ rest) listed
-          (record { limit = limit; header = Some h; count = count; held = []; stop = AtFault e }) rest listed
+      pub record_fails : (e : RecordError) → event_at h unit ≡ Err e → Reads (Some h) (Some h) count (AtFault e) listed
       record_fails e is =
           let r : read_from (Some h) (limit - count) (unit ++ rest) ≡ record { header = None; events = []; rest = unit ++ rest; stop = AtFault e }
           = one_more ∙ rw is refl in
           record { stands = rw r refl; parts = rw r refl }
 
       -- the end
-      record_ends : (e : Event) → event_at h unit ≡ Ok e → is_end e ≡ true
-          → Continues (record { limit = limit; header = Some h; count = count; held = []; stop = Inside }) (unit ++ rest) listed
-          (record { limit = limit; header = Some h; count = count + 1; held = []; stop = AtEnd }) rest (listed ++ parts.Event e ∷ [])
+      record_ends : (e : Event) → event_at h unit ≡ Ok e → is_end e ≡ true → Reads (Some h) (Some h) (count + 1) AtEnd (listed ++ parts.Event e ∷ [])
       record_ends e is end =
           let r : read_from (Some h) (limit - count) (unit ++ rest) ≡ closed None (record { events = e ∷ []; rest = rest; stop = AtEnd })
           = one_more ∙ rw (is, end, drop_at unit rest (record_length h.version) len) refl in
@@ -97,9 +95,7 @@ module _ (limit count : ℕ) (unit rest : List ℕ) (listed : List Part) where
           record { stands = rw (r, ← k) refl; parts = rw r (sym (append_assoc listed ((parts.Event e) ∷ []) _)) }
 
       -- any other record
-      record_continues : (e : Event) → event_at h unit ≡ Ok e → is_end e ≡ false
-          → Continues (record { limit = limit; header = Some h; count = count; held = []; stop = Inside }) (unit ++ rest) listed
-          (record { limit = limit; header = Some h; count = count + 1; held = []; stop = Inside }) rest (listed ++ parts.Event e ∷ [])
+      record_continues : (e : Event) → event_at h unit ≡ Ok e → is_end e ≡ false → Reads (Some h) (Some h) (count + 1) Inside (listed ++ parts.Event e ∷ [])
       record_continues e is on =
           let next_records = records_of h (limit - (count + 1)) rest in
           let r : read_from (Some h) (limit - count) (unit ++ rest) ≡ record { header = None; events = e ∷ next_records.events; rest = next_records.rest; stop = close next_records.stop next_records.rest }
@@ -109,9 +105,7 @@ module _ (limit count : ℕ) (unit rest : List ℕ) (listed : List Part) where
           record { stands = rw (r, q, k) refl; parts = rw (r, q) (sym (append_assoc listed ((parts.Event e) ∷ []) _)) }
 
       -- a record
-      pub record_taken : (e : Event) (end : Bool) → event_at h unit ≡ Ok e → is_end e ≡ end
-          → Continues (record { limit = limit; header = Some h; count = count; held = []; stop = Inside }) (unit ++ rest) listed
-          (record { limit = limit; header = Some h; count = count + 1; held = []; stop = stop_behind end }) rest (listed ++ parts.Event e ∷ [])
+      pub record_taken : (e : Event) (end : Bool) → event_at h unit ≡ Ok e → is_end e ≡ end → Reads (Some h) (Some h) (count + 1) (stop_behind end) (listed ++ parts.Event e ∷ [])
       record_taken e true is end = record_ends e is end
       record_taken e false is on = record_continues e is on
 

@@ -1,16 +1,14 @@
 -- What stands at the front of a list of bytes: a header, or the records of a stream up to its end; and the bytes after it.
 -- Source: docs/FORMATS.md, "Stream".
-use Rattle.std.specs.Prelude.{◌≡◌, ℕ, ◌^◌, ◌<◌, ◌≤◌, List, ◌++◌, length, drop, All, nat_lt, Result, Ok, Err, if◌then◌else◌}
+use Rattle.std.specs.Prelude.{◌≡◌, ℕ, List, ◌++◌, length, drop, nat_lt, Result, Ok, Err, if◌then◌else◌}
 use Rattle.gr_model.specs.declared.event.Event.{Event}
 use Rattle.gr_model.specs.declared.limits.TheConstants.{MOST_RECORDS}
-use Rattle.gr_model.specs.Streams.{IsAccepted}
 use Rattle.gr_record.specs.declared.error.RecordError.{RecordError}
 use Rattle.gr_record.specs.declared.error.RecordError.TheVariants as errors
 use Rattle.gr_record.specs.declared.header.Header.{Header}
 use Rattle.gr_record.specs.declared.layout.TheConstants.{HEADER_LENGTH}
 use Rattle.gr_record.specs.Sites.{Sited}
-use Rattle.gr_record.specs.Versions.{places}
-use Rattle.gr_record.specs.Spelling.{header_spelling, events_spelling, IsHeader}
+use Rattle.gr_record.specs.Spelling.{header_spelling, events_spelling}
 use Rattle.gr_record.specs.Reading.{header_at}
 use Rattle.gr_record.specs.Fronts.{Records, records_of}
 use Rattle.gr_record.specs.declared.stop.Stop.{Stop}
@@ -59,10 +57,3 @@ behind_records_at h bytes = front_records_at h bytes >>= λ x. Ok x.1
 
 abbrev pub stream_spelling : Header → List Sited → List ℕ
 stream_spelling h records = header_spelling h ++ events_spelling h.version records
-
--- a header in range, and a complete list that its group may have, with names for which there is room
-pub record IsStream (h : Header) (events : List Event) : Type 0 where
-  pub header : IsHeader h
-  pub list : IsAccepted h.items events
-  pub words : All (λ e. e.word < 2 ^ 32) events
-  pub names : All (λ e. length e.names ≤ places h.version) events

@@ -22,17 +22,14 @@ pub returns-then-rest-size-clause-exact : goal.returns-then-rest-size-clause-exa
 returns-then-rest-size-clause-exact c =
     behind (stops_short (record_length c.args.header.version) (event_at c.args.header) c.loop.invariant.0 MOST_RECORDS c.loop.counter c.loop.rest.now _ c.loop.invariant.1 (rw c.record_length-size.ensures.length at c.if-rest-size.true))
 
-pub returns-in_err-event-clause-exact : goal.returns-in_err-event-clause-exact
-returns-in_err-event-clause-exact c =
+pub returns-in_err-event : goal.returns-in_err-event
+returns-in_err-event c =
     let p = err_from_is_err_and c.from_residual.result c.from_residual.ensures.1 in
     let h : event_at c.args.header (take (record_length c.args.header.version) c.loop.rest.now) ≡ Err c.in_err-event.field-0.0 = rw (← c.record_length-size.ensures.length, ← c.split_at.ensures.front) (sym c.in_err-event.ensures) in
-    rw (p.1, p.2) (fails _ _ (behind (refused (record_length c.args.header.version) (event_at c.args.header) c.loop.invariant.0 MOST_RECORDS c.loop.counter c.loop.rest.now _ c.loop.invariant.1 c.loop-test.true (rw c.record_length-size.ensures.length at c.if-rest-size.false) _ h)))
-
-pub returns-in_err-event-clause-memory : goal.returns-in_err-event-clause-memory
-returns-in_err-event-clause-memory c =
-    let p = err_from_is_err_and c.from_residual.result c.from_residual.ensures.1 in
-    let is : event_at c.args.header c.split_at.result.0.now ≡ Err c.in_err-event.field-0.0 = sym c.in_err-event.ensures in
-    rw (p.1, p.2) (λ e. event_apart c.args.header c.split_at.result.0.now (rw e at is))
+    rw (p.1, p.2) (record {
+      exact = fails _ _ (behind (refused (record_length c.args.header.version) (event_at c.args.header) c.loop.invariant.0 MOST_RECORDS c.loop.counter c.loop.rest.now _ c.loop.invariant.1 c.loop-test.true (rw c.record_length-size.ensures.length at c.if-rest-size.false) _ h));
+      memory = λ e. event_apart _ _ (rw e at h);
+    })
 
 pub returns-then-is_end-clause-exact : goal.returns-then-is_end-clause-exact
 returns-then-is_end-clause-exact c =

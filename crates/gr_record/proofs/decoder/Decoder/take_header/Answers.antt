@@ -1,5 +1,4 @@
-use Rattle.std.proofs.Common.{◌≡◌, [], None, Ok, Err, sym, ap, ◌∙◌}
-use Rattle.gr_record.specs.declared.stop.Stop.TheVariants.{Inside}
+use Rattle.std.proofs.Common.{◌≡◌, [], Ok, Err, sym, ap, ◌∙◌}
 use Rattle.gr_record.specs.Reading.{header_at}
 use Rattle.gr_record.specs.Decoding.{Standing}
 use Rattle.gr_record.proofs.Apart.{header_apart}
@@ -19,16 +18,12 @@ invariant_of-self-in-Err g c =
 
 pub returns-in-Ok-clause-continues : goal.returns-in-Ok-clause-continues
 returns-in-Ok-clause-continues g c rest =
-    let stop : c.self.inside.stop ≡ Inside = ap (λ (d : Standing). d.stop) c.self.view_is ∙ c.requires.place.0 in
-    let header : c.self.inside.header ≡ None = ap (λ (d : Standing). d.header) c.self.view_is ∙ c.requires.place.1 in
-    let held : c.self.inside.held.items ≡ [] = ap (λ (d : Standing). d.held) c.self.view_is ∙ c.requires.place.2 in
+    let place = rw (← c.self.view_is) at c.requires.place in
     let is : header_at c.args.unit.now ≡ Ok c.in-Ok.header = sym c.read_header.ensures ∙ c.in-Ok.is in
-    rw (← c.self.view_is, stop, header, held, c.push.ensures.parts) (header_continues c.self.inside.limit c.self.inside.count c.args.unit.now rest c.args.parts.now.items c.in-Ok.header c.requires.whole is)
+    rw (← c.self.view_is, place.0, place.1, place.2, c.push.ensures.parts) (header_continues c.self.inside.limit c.self.inside.count c.args.unit.now rest c.args.parts.now.items c.in-Ok.header c.requires.whole is)
 
 pub returns-in-Err-clause-continues : goal.returns-in-Err-clause-continues
 returns-in-Err-clause-continues g c rest =
-    let stop : c.self.inside.stop ≡ Inside = ap (λ (d : Standing). d.stop) c.self.view_is ∙ c.requires.place.0 in
-    let header : c.self.inside.header ≡ None = ap (λ (d : Standing). d.header) c.self.view_is ∙ c.requires.place.1 in
-    let held : c.self.inside.held.items ≡ [] = ap (λ (d : Standing). d.held) c.self.view_is ∙ c.requires.place.2 in
+    let place = rw (← c.self.view_is) at c.requires.place in
     let is : header_at c.args.unit.now ≡ Err c.in-Err.error = sym c.read_header.ensures ∙ c.in-Err.is in
-    rw (← c.self.view_is, stop, header, held) (header_fails c.self.inside.limit c.self.inside.count c.args.unit.now rest c.args.parts.now.items c.in-Err.error c.requires.whole is)
+    rw (← c.self.view_is, place.0, place.1, place.2) (header_fails c.self.inside.limit c.self.inside.count c.args.unit.now rest c.args.parts.now.items c.in-Err.error c.requires.whole is)

@@ -1,6 +1,5 @@
-use Rattle.std.proofs.Common.{◌≡◌, ◌≤◌, [], Some, Ok, Err, refl, sym, ap, ◌∙◌, arith}
+use Rattle.std.proofs.Common.{◌≡◌, ◌≤◌, [], Ok, Err, refl, sym, ap, ◌∙◌, arith}
 use Rattle.gr_model.specs.Events.{is_end}
-use Rattle.gr_record.specs.declared.stop.Stop.TheVariants.{Inside}
 use Rattle.gr_record.specs.Reading.{event_at}
 use Rattle.gr_record.specs.Decoding.{Standing}
 use Rattle.gr_record.proofs.Apart.{event_apart}
@@ -9,10 +8,8 @@ use Rattle.gr_record.proofs.decoder.Decoder.take_record.Goals as goal
 
 pub returns-then-self-clause-continues : goal.returns-then-self-clause-continues
 returns-then-self-clause-continues g c rest =
-    let stop : c.self.inside.stop ≡ Inside = ap (λ (d : Standing). d.stop) c.self.view_is ∙ c.requires.place.0 in
-    let header : c.self.inside.header ≡ Some c.args.header = ap (λ (d : Standing). d.header) c.self.view_is ∙ c.requires.place.1 in
-    let held : c.self.inside.held.items ≡ [] = ap (λ (d : Standing). d.held) c.self.view_is ∙ c.requires.place.2 in
-    rw (← c.self.view_is, stop, header, held) (one_too_many c.self.inside.limit c.self.inside.count c.args.unit.now rest c.args.parts.now.items c.args.header c.requires.whole c.if-self.true)
+    let place = rw (← c.self.view_is) at c.requires.place in
+    rw (← c.self.view_is, place.0, place.1, place.2) (one_too_many c.self.inside.limit c.self.inside.count c.args.unit.now rest c.args.parts.now.items c.args.header c.requires.whole c.if-self.true)
 
 pub invariant_of-self-in-Err : goal.invariant_of-self-in-Err
 invariant_of-self-in-Err g c =
@@ -27,18 +24,14 @@ invariant_of-self-in-Err g c =
 
 pub returns-in-Ok-clause-continues : goal.returns-in-Ok-clause-continues
 returns-in-Ok-clause-continues g c rest =
-    let stop : c.self.inside.stop ≡ Inside = ap (λ (d : Standing). d.stop) c.self.view_is ∙ c.requires.place.0 in
-    let header : c.self.inside.header ≡ Some c.args.header = ap (λ (d : Standing). d.header) c.self.view_is ∙ c.requires.place.1 in
-    let held : c.self.inside.held.items ≡ [] = ap (λ (d : Standing). d.held) c.self.view_is ∙ c.requires.place.2 in
-    let count : c.self.inside.count ≤ c.self.inside.limit = rw header at c.self.invariant.count in
+    let place = rw (← c.self.view_is) at c.requires.place in
+    let count : c.self.inside.count ≤ c.self.inside.limit = rw place.1 at c.self.invariant.count in
     let is : event_at c.args.header c.args.unit.now ≡ Ok c.in-Ok.event = sym c.read_event.ensures ∙ c.in-Ok.is in
-    rw (← c.self.view_is, stop, header, held, c.push.ensures.parts, c.stop_behind-self-inside.ensures) (record_taken c.self.inside.limit c.self.inside.count c.args.unit.now rest c.args.parts.now.items c.args.header c.requires.whole (omega arith) c.in-Ok.event (is_end c.in-Ok.event) is refl)
+    rw (← c.self.view_is, place.0, place.1, place.2, c.push.ensures.parts, c.stop_behind-self-inside.ensures) (record_taken c.self.inside.limit c.self.inside.count c.args.unit.now rest c.args.parts.now.items c.args.header c.requires.whole (omega arith) c.in-Ok.event (is_end c.in-Ok.event) is refl)
 
 pub returns-in-Err-clause-continues : goal.returns-in-Err-clause-continues
 returns-in-Err-clause-continues g c rest =
-    let stop : c.self.inside.stop ≡ Inside = ap (λ (d : Standing). d.stop) c.self.view_is ∙ c.requires.place.0 in
-    let header : c.self.inside.header ≡ Some c.args.header = ap (λ (d : Standing). d.header) c.self.view_is ∙ c.requires.place.1 in
-    let held : c.self.inside.held.items ≡ [] = ap (λ (d : Standing). d.held) c.self.view_is ∙ c.requires.place.2 in
-    let count : c.self.inside.count ≤ c.self.inside.limit = rw header at c.self.invariant.count in
+    let place = rw (← c.self.view_is) at c.requires.place in
+    let count : c.self.inside.count ≤ c.self.inside.limit = rw place.1 at c.self.invariant.count in
     let is : event_at c.args.header c.args.unit.now ≡ Err c.in-Err.error = sym c.read_event.ensures ∙ c.in-Err.is in
-    rw (← c.self.view_is, stop, header, held) (record_fails c.self.inside.limit c.self.inside.count c.args.unit.now rest c.args.parts.now.items c.args.header c.requires.whole (omega arith) c.in-Err.error is)
+    rw (← c.self.view_is, place.0, place.1, place.2) (record_fails c.self.inside.limit c.self.inside.count c.args.unit.now rest c.args.parts.now.items c.args.header c.requires.whole (omega arith) c.in-Err.error is)
