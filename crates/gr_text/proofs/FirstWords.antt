@@ -1,25 +1,11 @@
 -- What stands before the first byte of a kind, as the first word of a text, and what stands behind it.
-use Rattle.std.proofs.Common.{◌≡◌, ◌≢◌, ℕ, zero, suc, ◌+◌, List, [], ◌∷◌, ◌++◌, take, drop, Option, Some, None, refl, ap, arith, inl, inr}
+use Rattle.std.proofs.Common.{◌≡◌, ℕ, zero, suc, ◌+◌, List, [], ◌∷◌, ◌++◌, take, drop, Option, Some, None, refl, ap, arith, inl, inr}
 use Rattle.std.specs.Prelude.{◌==◌}
 use Rattle.std.proofs.lemmas.Bool.{eq-eqb, ne_eqb, eqb-true, cases_Bool}
+use Rattle.std.proofs.lemmas.List.{append-nil}
 use Rattle.gr_text.specs.LineReading.{IsWithout, IsFirst, behind_mark, cut_at}
 
-abbrev First : Type 0
-First = List ℕ × Option (List ℕ)
-
 module _ (mark : ℕ) where
-  -- a byte that is another belongs to what stands before
-  first_behind : (b : ℕ) (bytes word : List ℕ) (rest : Option (List ℕ)) → b ≢ mark → cut_at mark bytes ≡ (word, rest) → cut_at mark (b ∷ bytes) ≡ (b ∷ word, rest)
-  unfolding cut_at
-  first_behind b bytes word rest other e = rw (ne_eqb b mark other, e) refl
-
-  pub first_whole : (bytes : List ℕ) → IsWithout mark bytes → cut_at mark bytes ≡ (bytes, None)
-  unfolding cut_at
-  first_whole [] word = refl
-  first_whole (b ∷ bytes) word =
-      let ih = first_whole bytes (λ k d lt. word (suc k) d (omega arith)) in
-      rw (ne_eqb b mark (word 0 0 (omega arith)), ih) refl
-
   pub first_cut : (at : ℕ) (bytes : List ℕ) → IsFirst mark bytes at → cut_at mark bytes ≡ (take at bytes, Some (drop (at + 1) bytes))
   unfolding cut_at
   first_cut zero (b ∷ bytes) f = rw (eq-eqb b mark f.mark_there) refl
@@ -37,6 +23,9 @@ module _ (mark : ℕ) where
   first_back (b ∷ bytes) rest word =
       let ih = first_back bytes rest (λ k d lt. word (suc k) d (omega arith)) in
       rw (ne_eqb b mark (word 0 0 (omega arith)), ih) refl
+
+  pub first_whole : (bytes : List ℕ) → IsWithout mark bytes → cut_at mark bytes ≡ (bytes, None)
+  first_whole bytes word = rw append-nil at (first_back bytes None word)
 
   pub first_found : (bytes : List ℕ) → bytes ≡ (cut_at mark bytes).0 ++ behind_mark mark (cut_at mark bytes).1
   unfolding cut_at

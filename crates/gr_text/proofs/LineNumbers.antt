@@ -1,9 +1,10 @@
 -- A number's text says that number, and no other word says one.
-use Rattle.std.proofs.Common.{◌≡◌, ℕ, ◌^◌, ◌<◌, Bool, true, false, cond, List, Option, Some, None, refl, sym, ap, subst, ◌∙◌, arith}
+use Rattle.std.proofs.Common.{◌≡◌, ℕ, ◌^◌, ◌<◌, true, List, Option, Some, None, refl, sym, arith}
 use Rattle.std.specs.Prelude.{decimal, IfSome}
 use Rattle.std.specs.Cmp.Lexicographic.{same_text}
 use Rattle.std.specs.Str.Parse.{digits_value}
-use Rattle.std.proofs.lemmas.Bool.{lt-ltb, ltb-true, and_parts}
+use Rattle.std.proofs.lemmas.Bool.{lt-ltb}
+use Rattle.std.proofs.lemmas.Bool.Decides.{nat_tests}
 use Rattle.std.proofs.lemmas.Cmp.{nat_list_eq_equiv}
 use Rattle.std.proofs.lemmas.Fmt.{decimal_is_IsNumeral}
 use Rattle.gr_text.specs.LineReading.{same, number_of}
@@ -27,16 +28,9 @@ pub number_back : (n : ℕ) → n < 2 ^ 32 → number_of (decimal n) ≡ Some n
 unfolding number_of
 number_back n lt = rw (value_back n lt, lt-ltb n (2 ^ 32) lt, same_self (decimal n)) refl
 
-pub chosen : {X : Type 0} (b : Bool) (x y : X) → cond b (Some x) None ≡ Some y → (b ≡ true) × (x ≡ y)
-chosen true x y e = (refl, cc)
-chosen false x y e = absurd cc
-
 pub number_found : (word : List ℕ) (n : ℕ) → number_of word ≡ Some n → (word ≡ decimal n) × (n < 2 ^ 32)
 unfolding number_of
-number_found word n e =
-    let c = chosen _ (digits_value 10 word) n e in
-    let p = and_parts _ _ c.0 in
-    (same_is word (decimal (digits_value 10 word)) p.1 ∙ ap decimal c.1, subst (λ (k : ℕ). k < 2 ^ 32) c.1 (ltb-true _ _ p.0))
+number_found word n e = grind (arith, nat_tests, same_told)
 
 pub each_some : {X : Type 0} (o : Option X) (P : X → Type 0) → ((x : X) → o ≡ Some x → P x) → IfSome o P
 each_some None P h = tt

@@ -1,12 +1,13 @@
 -- Numbers and keywords as words of a line.
 use Rattle.std.proofs.Common.{◌≡◌, ◌≢◌, ℕ, zero, suc, ◌+◌, ◌%◌, ◌^◌, ◌<◌, ◌≤◌, Bool, true, false, List, [], ◌∷◌, ◌++◌, Some, None, refl, ap, ◌∙◌, arith, inl, inr}
 use Rattle.std.specs.Prelude.{nat_lt, nat_le, ◌==◌, ◌&&◌, not, decimal}
-use Rattle.std.proofs.lemmas.Bool.{lt-ltb, le-leb, leb-true, and_parts, and_from, both_ways, cases_Bool}
+use Rattle.std.proofs.lemmas.Bool.{lt-ltb, le-leb, and_parts, and_from, both_ways, cases_Bool}
+use Rattle.std.proofs.lemmas.Bool.Decides.{nat_tests}
 use Rattle.std.proofs.lemmas.Fmt.{decimal_by_steps}
 use Rattle.gr_model.specs.declared.event.Space.{Space}
 use Rattle.gr_model.specs.declared.event.Scope.{Scope}
 use Rattle.gr_model.specs.declared.event.Order.{Order}
-use Rattle.gr_text.specs.LineText.{space_word, scope_word, order_word, flags_word, later_text}
+use Rattle.gr_text.specs.LineText.{space_word, scope_word, order_word, flags_word}
 use Rattle.gr_text.specs.LineReading.{same, short_of, IsWord, first_of, space_said, scope_said, order_said, flags_said}
 use Rattle.gr_text.proofs.LineNumbers.{same_is, number_back}
 use Rattle.gr_text.proofs.FirstWords.{first_back}
@@ -30,18 +31,6 @@ decimal_digits n lt =
     (λ m ds big h. digits_then ds (48 + m % 10) h (omega arith) (omega arith))
     n (omega arith)
 
-digits_are_word : (ds : List ℕ) → are_digits ds ≡ true → IsWord ds
-digits_are_word [] h k d lt = absurd (omega arith)
-digits_are_word (b ∷ bytes) h zero d lt =
-    let p = and_parts _ _ h in
-    let q = and_parts _ _ p.0 in
-    let ge : 48 ≤ b = leb-true 48 b q.0 in
-    λ e. absurd (omega arith)
-digits_are_word (b ∷ bytes) h (suc k) d lt = digits_are_word bytes (and_parts _ _ h).1 k d (omega arith)
-
-pub decimal_word : (n : ℕ) → n < 2 ^ 32 → IsWord (decimal n)
-decimal_word n lt = digits_are_word (decimal n) (decimal_digits n lt)
-
 -- a number is no keyword
 pub no_key : (n : ℕ) (key : List ℕ) → n < 2 ^ 32 → are_digits key ≡ false → same (decimal n) key ≡ false
 no_key n key lt other =
@@ -63,6 +52,16 @@ pub key_word : (key : List ℕ) → has_no_space key ≡ true → IsWord key
 key_word [] h k d lt = absurd (omega arith)
 key_word (b ∷ bytes) h zero d lt = other_byte b (and_parts _ _ h).0
 key_word (b ∷ bytes) h (suc k) d lt = key_word bytes (and_parts _ _ h).1 k d (omega arith)
+
+digit_no_space : (b : ℕ) → (nat_le 48 b && nat_lt b 58) ≡ true → not (b == 32) ≡ true
+digit_no_space b h = grind (arith, nat_tests)
+
+digits_no_space : (ds : List ℕ) → are_digits ds ≡ true → has_no_space ds ≡ true
+digits_no_space [] h = refl
+digits_no_space (b ∷ ds) h = let p = and_parts _ _ h in and_from _ _ (digit_no_space b p.0) (digits_no_space ds p.1)
+
+pub decimal_word : (n : ℕ) → n < 2 ^ 32 → IsWord (decimal n)
+decimal_word n lt = key_word (decimal n) (digits_no_space (decimal n) (decimal_digits n lt))
 
 pub space_is_word : (s : Space) → IsWord (space_word s)
 space_is_word s = key_word (space_word s) (grind arith)
@@ -100,8 +99,8 @@ short_again n lt = rw (number_back n (omega arith), lt-ltb n 65536 lt) refl
 
 -- ---- the first word of several
 
-pub first_of_more : (word next : List ℕ) (words : List (List ℕ)) → IsWord word → first_of (word ++ later_text (next ∷ words)) ≡ (word, Some (next ++ later_text words))
-first_of_more word next words is = first_back 32 word (Some (next ++ later_text words)) is
+pub first_of_space : (word rest : List ℕ) → IsWord word → first_of (word ++ 32 ∷ rest) ≡ (word, Some rest)
+first_of_space word rest is = first_back 32 word (Some rest) is
 
 pub first_of_last : (word : List ℕ) → IsWord word → first_of (word ++ []) ≡ (word, None)
 first_of_last word is = first_back 32 word None is

@@ -23,29 +23,25 @@ use Rattle.gr_text.specs.LineText.{space_word, scope_word, order_word, flags_wor
 use Rattle.gr_text.specs.LineReading.{same, IsWord, first_of, header_said, version_said, name_said, names_said, kind_said, atomic_said, barrier_said, event_said, checked, ◌>>=◌, line_said}
 use Rattle.gr_text.specs.LineLaws.{TextIsRead}
 use Rattle.gr_text.proofs.LineNumbers.{same_self, number_back}
-use Rattle.gr_text.proofs.LineWords.{decimal_word, no_key, key_word, space_is_word, scope_is_word, order_is_word, flags_are_word, space_again, scope_again, order_again, flags_again, short_again, first_of_more, first_of_last}
+use Rattle.gr_text.proofs.LineWords.{decimal_word, no_key, key_word, space_is_word, scope_is_word, order_is_word, flags_are_word, space_again, scope_again, order_again, flags_again, short_again, first_of_space, first_of_last}
 use Rattle.gr_record.proofs.Places.{header_group, header_items, items_within, naming_back, few_names, each_in_range}
 
 version_again : (v : Version) (word : List ℕ) → IsWord word → ((first_of (word ++ later_text (version_words v))).0 ≡ word) × (version_said (first_of (word ++ later_text (version_words v))).1 ≡ Some v)
 unfolding same
-version_again One word is = let w = first_of_last word is in rw w (refl, refl)
-version_again Two word is = let w = first_of_more word (codes "v2") [] is in rw w (refl, refl)
-version_again Three word is = let w = first_of_more word (codes "v3") [] is in rw w (refl, refl)
-version_again Four word is = let w = first_of_more word (codes "v4") [] is in rw w (refl, refl)
+version_again One word is = rw (first_of_last word is) (refl, refl)
+version_again Two word is = rw (first_of_space word _ is) (refl, refl)
+version_again Three word is = rw (first_of_space word _ is) (refl, refl)
+version_again Four word is = rw (first_of_space word _ is) (refl, refl)
 
 header_again : (v : Version) (h : Header) → IsHeader h → line_said v (line_text (lines.Header h)) ≡ Some (lines.Header h)
 unfolding line_said header_said
 header_again v h ok =
     let few : h.group < 65535 = header_group h ok in
     let small : h.items ≤ 1024 = header_items h ok in
-    let end : List (List ℕ) = version_words h.version in
-    let w0 = first_of_more (codes "group") (decimal h.group) (codes "items" ∷ decimal h.items ∷ codes "launch" ∷ decimal h.launch ∷ end) (key_word (codes "group") refl) in
-    let w1 = first_of_more (decimal h.group) (codes "items") (decimal h.items ∷ codes "launch" ∷ decimal h.launch ∷ end) (decimal_word h.group (omega arith)) in
-    let w2 = first_of_more (codes "items") (decimal h.items) (codes "launch" ∷ decimal h.launch ∷ end) (key_word (codes "items") refl) in
-    let w3 = first_of_more (decimal h.items) (codes "launch") (decimal h.launch ∷ end) (decimal_word h.items (omega arith)) in
-    let w4 = first_of_more (codes "launch") (decimal h.launch) end (key_word (codes "launch") refl) in
     let w5 = version_again h.version (decimal h.launch) (decimal_word h.launch ok.launch) in
-    rw (w0, same_self (codes "group"), w1, w2, w3, w4, w5.1, w5.0, same_self (codes "items"), same_self (codes "launch"), short_again h.group (omega arith), short_again h.items (omega arith), number_back h.launch ok.launch, lt-ltb h.group (most_groups h.version) ok.group, le-leb 1 h.items ok.some, le-leb h.items (most_items h.version) ok.items) refl
+    rw (first_of_space (codes "group") _ (key_word (codes "group") refl), same_self (codes "group"), first_of_space (decimal h.group) _ (decimal_word h.group (omega arith)), first_of_space (codes "items") _ (key_word (codes "items") refl))
+    (rw (first_of_space (decimal h.items) _ (decimal_word h.items (omega arith)), first_of_space (codes "launch") _ (key_word (codes "launch") refl), w5.1, w5.0, same_self (codes "items"), same_self (codes "launch"))
+    (rw (short_again h.group (omega arith), short_again h.items (omega arith), number_back h.launch ok.launch, lt-ltb h.group (most_groups h.version) ok.group, le-leb 1 h.items ok.some, le-leb h.items (most_items h.version) ok.items) refl))
 
 -- what stands behind a word, where other words follow
 abbrev tail_text : List (List ℕ) → Option (List ℕ)
@@ -54,16 +50,13 @@ tail_text (w ∷ ws) = Some (w ++ later_text ws)
 
 word_before : (word : List ℕ) (ws : List (List ℕ)) → IsWord word → first_of (word ++ later_text ws) ≡ (word, tail_text ws)
 word_before word [] is = first_of_last word is
-word_before word (w ∷ ws) is = first_of_more word w ws is
+word_before word (w ∷ ws) is = first_of_space word (w ++ later_text ws) is
 
 name_again : (n : Name) (ws : List (List ℕ)) → n.at.group < 65535 → n.at.item < 1024 → n.release < 2 ^ 32 → name_said (codes "<" ++ later_text (decimal n.at.group ∷ decimal n.at.item ∷ decimal n.release ∷ ws)) ≡ Some (n, tail_text ws)
 unfolding name_said
 name_again n ws group item release =
-    let w0 = first_of_more (codes "<") (decimal n.at.group) (decimal n.at.item ∷ decimal n.release ∷ ws) (key_word (codes "<") refl) in
-    let w1 = first_of_more (decimal n.at.group) (decimal n.at.item) (decimal n.release ∷ ws) (decimal_word n.at.group (omega arith)) in
-    let w2 = first_of_more (decimal n.at.item) (decimal n.release) ws (decimal_word n.at.item (omega arith)) in
-    let w3 = word_before (decimal n.release) ws (decimal_word n.release release) in
-    rw (w0, w1, w2, w3, same_self (codes "<"), short_again n.at.group (omega arith), short_again n.at.item (omega arith), number_back n.release release) refl
+    rw (first_of_space (codes "<") _ (key_word (codes "<") refl), first_of_space (decimal n.at.group) _ (decimal_word n.at.group (omega arith)), first_of_space (decimal n.at.item) _ (decimal_word n.at.item (omega arith)))
+    (rw (word_before (decimal n.release) ws (decimal_word n.release release), same_self (codes "<"), short_again n.at.group (omega arith), short_again n.at.item (omega arith), number_back n.release release) refl)
 
 names_again : (names : List Name) (most : ℕ) → length names ≤ most → All IsNameInRange names → names_said (tail_text (names_words names)) most ≡ Some names
 unfolding names_said
@@ -82,10 +75,8 @@ atomic_again : (key : List ℕ) (kind : Kind) (item : ℕ) (space : Space) (word
     → atomic_said key item space word (scope_word scope ++ later_text (order_word order ∷ names_words names)) ≡ Some (record { item = item; kind = kind; space = space; word = word; names = names })
 unfolding atomic_said
 atomic_again key kind item space word scope order names is ok =
-    let w0 = first_of_more (scope_word scope) (order_word order) (names_words names) (scope_is_word scope) in
-    let w1 = word_before (order_word order) (names_words names) (order_is_word order) in
     let said = names_again names 4 (few_names kind names ok) (each_in_range kind names ok) in
-    rw (w0, w1, scope_again scope, order_again order, is, said, naming_back Four kind names ok (each_in_range kind names ok)) refl
+    rw (first_of_space (scope_word scope) _ (scope_is_word scope), word_before (order_word order) (names_words names) (order_is_word order), scope_again scope, order_again order, is, said, naming_back Four kind names ok (each_in_range kind names ok)) refl
 
 module _ (item word : ℕ) (space : Space) (fits : word < 2 ^ 32) where
   abbrev place_words : List (List ℕ) → List (List ℕ)
@@ -94,26 +85,17 @@ module _ (item word : ℕ) (space : Space) (fits : word < 2 ^ 32) where
   read_again : event_said item (codes "r" ++ later_text (place_words [])) ≡ Some (record { item = item; kind = Read; space = space; word = word; names = [] })
   unfolding event_said same
   read_again =
-      let w0 = first_of_more (codes "r") (space_word space) (decimal word ∷ []) (key_word (codes "r") refl) in
-      let w1 = first_of_more (space_word space) (decimal word) [] (space_is_word space) in
-      let w2 = first_of_last (decimal word) (decimal_word word fits) in
-      rw (w0, w1, w2, space_again space, number_back word fits) refl
+      rw (first_of_space (codes "r") _ (key_word (codes "r") refl), first_of_space (space_word space) _ (space_is_word space), first_of_last (decimal word) (decimal_word word fits), space_again space, number_back word fits) refl
 
   write_again : event_said item (codes "w" ++ later_text (place_words [])) ≡ Some (record { item = item; kind = Write; space = space; word = word; names = [] })
   unfolding event_said same
   write_again =
-      let w0 = first_of_more (codes "w") (space_word space) (decimal word ∷ []) (key_word (codes "w") refl) in
-      let w1 = first_of_more (space_word space) (decimal word) [] (space_is_word space) in
-      let w2 = first_of_last (decimal word) (decimal_word word fits) in
-      rw (w0, w1, w2, space_again space, number_back word fits) refl
+      rw (first_of_space (codes "w") _ (key_word (codes "w") refl), first_of_space (space_word space) _ (space_is_word space), first_of_last (decimal word) (decimal_word word fits), space_again space, number_back word fits) refl
 
   barrier_again : (global local : Bool) → event_said item (codes "bar" ++ later_text (decimal word ∷ flags_word global local ∷ [])) ≡ Some (record { item = item; kind = Barrier global local; space = Global; word = word; names = [] })
   unfolding event_said barrier_said same
   barrier_again global local =
-      let w0 = first_of_more (codes "bar") (decimal word) (flags_word global local ∷ []) (key_word (codes "bar") refl) in
-      let w1 = first_of_more (decimal word) (flags_word global local) [] (decimal_word word fits) in
-      let w2 = first_of_last (flags_word global local) (flags_are_word global local) in
-      rw (w0, w1, w2, number_back word fits, flags_again global local) refl
+      rw (first_of_space (codes "bar") _ (key_word (codes "bar") refl), first_of_space (decimal word) _ (decimal_word word fits), first_of_last (flags_word global local) (flags_are_word global local), number_back word fits, flags_again global local) refl
 
   module _ (scope : Scope) (order : Order) (names : List Name) where
     abbrev words_behind : List (List ℕ)
@@ -123,10 +105,7 @@ module _ (item word : ℕ) (space : Space) (fits : word < 2 ^ 32) where
         → event_said item (key ++ later_text (place_words words_behind)) ≡ Some (record { item = item; kind = kind; space = space; word = word; names = names })
     unfolding event_said
     access_again key kind is no_barrier no_read no_write said ok =
-        let w0 = first_of_more key (space_word space) (decimal word ∷ words_behind) is in
-        let w1 = first_of_more (space_word space) (decimal word) words_behind (space_is_word space) in
-        let w2 = first_of_more (decimal word) (scope_word scope) (order_word order ∷ names_words names) (decimal_word word fits) in
-        rw (w0, no_barrier, no_read, no_write, w1, w2, space_again space, number_back word fits) (atomic_again key kind item space word scope order names said ok)
+        rw (first_of_space key _ is, no_barrier, no_read, no_write, first_of_space (space_word space) _ (space_is_word space), first_of_space (decimal word) _ (decimal_word word fits), space_again space, number_back word fits) (atomic_again key kind item space word scope order names said ok)
 
 -- ---- the whole line
 
@@ -140,12 +119,11 @@ module _ (v : Version) where
   unfolding line_said
   event_line e key words lt order named is =
       let few = items_within v in
-      let w = first_of_more (decimal e.item) key words (decimal_word e.item (omega arith)) in
-      rw (w, no_key e.item (codes "group") (omega arith) refl, no_key e.item (codes "end") (omega arith) refl, short_again e.item (omega arith), is) (ap (λ (o : Option Event). o >>= λ x. Some (lines.Event x)) (checked_again v e lt order named))
+      rw (first_of_space (decimal e.item) _ (decimal_word e.item (omega arith)), no_key e.item (codes "group") (omega arith) refl, no_key e.item (codes "end") (omega arith) refl, short_again e.item (omega arith), is) (ap (λ (o : Option Event). o >>= λ x. Some (lines.Event x)) (checked_again v e lt order named))
 
   end_again : (cut : Bool) → line_said v (line_text (lines.Event (end_of cut))) ≡ Some (lines.Event (end_of cut))
   unfolding line_said same
-  end_again true = rw (first_of_more (codes "end") (codes "cut") [] (key_word (codes "end") refl)) refl
+  end_again true = rw (first_of_space (codes "end") _ (key_word (codes "end") refl)) refl
   end_again false = rw (first_of_last (codes "end") (key_word (codes "end") refl)) refl
 
   event_again : (item word : ℕ) (kind : Kind) (space : Space) (names : List Name) → item < most_items v → word < 2 ^ 32 → IsNamingOk kind names → is_naming_ok v kind names ≡ true → IsKindOk kind item space word

@@ -184,40 +184,8 @@ kind_found key scope order k e =
     let rmw = guard_some _ (Some (Rmw scope order)) k last in
     subst (IsAtomic key scope order) (some_is (Rmw scope order) k rmw.1) (record { text = λ x. rw (same_is key (codes "rmw") rmw.0) refl; ok = λ item space word h. tt })))
 
--- what stands behind the word of an atomic access
-record AtomicSaid (key : List ℕ) (item : ℕ) (space : Space) (word : ℕ) (bytes : List ℕ) (e : Event) : Type 0 where
-  scope : Scope
-  order : Order
-  kind : Kind
-  names : List Name
-  naming : IsNamingOk kind names
-  is : record { item = item; kind = kind; space = space; word = word; names = names } ≡ e
-  atomic : IsAtomic key scope order kind
-  text : bytes ≡ scope_word scope ++ later_text (order_word order ∷ names_words names)
-
-atomic_found : (key : List ℕ) (item : ℕ) (space : Space) (word : ℕ) (bytes : List ℕ) (e : Event) → atomic_said key item space word bytes ≡ Some e → AtomicSaid key item space word bytes e
-unfolding atomic_said
-atomic_found key item space word bytes e h =
-    let b = word_found bytes _ e h in
-    let s = bind_some _ _ e b.2 in
-    let o = bind_some _ _ e s.2 in
-    let k = bind_some _ _ e o.2 in
-    let said = bind_some _ _ e k.2 in
-    let n = bind_some _ _ e said.2 in
-    let named = named_found k.0 said.0 n.0 n.1 in
-    record {
-      scope = s.0;
-      order = o.0;
-      kind = k.0;
-      names = n.0;
-      naming = named.1;
-      is = some_is _ e n.2;
-      atomic = kind_found key s.0 o.0 k.0 k.1;
-      text = spaced b.1 (scope_found _ s.0 s.1) (joined (first_found 32 b.0) (order_found _ o.0 o.1) (names_found _ MOST_NAMES said.0 said.1 ∙ ap (λ (x : List Name). later_text (names_words x)) named.0));
-    }
-
 event_found : (item : ℕ) (bytes : List ℕ) (e : Event) → event_said item bytes ≡ Some e → Said item bytes e
-unfolding event_said barrier_said
+unfolding event_said barrier_said atomic_said
 event_found item bytes e h =
     let b = word_found bytes _ e h in
     let c = word_found b.0 _ e b.2 in
@@ -246,9 +214,18 @@ event_found item bytes e h =
     subst (Said item bytes) (some_is _ e z.1) (record { text = ap (after item) text; word = n.1; naming = tt; ok = λ _. tt }))
     (λ atomic.
     let d = word_found c.0 _ e atomic in
-    let a = atomic_found _ item s.0 w.0 d.0 e d.2 in
-    let text = spaced b.1 refl (spaced c.1 space (spaced d.1 n.0 a.text)) in
-    subst (Said item bytes) a.is (record { text = ap (after item) text ∙ sym (a.atomic.text (record { item = item; kind = a.kind; space = s.0; word = w.0; names = a.names })); word = n.1; naming = a.naming; ok = a.atomic.ok item s.0 w.0 }))))
+    let r = word_found d.0 _ e d.2 in
+    let sc = bind_some _ _ e r.2 in
+    let o = bind_some _ _ e sc.2 in
+    let k = bind_some _ _ e o.2 in
+    let said = bind_some _ _ e k.2 in
+    let names = bind_some _ _ e said.2 in
+    let named = named_found k.0 said.0 names.0 names.1 in
+    let a = kind_found _ sc.0 o.0 k.0 k.1 in
+    let behind = joined (first_found 32 r.0) (order_found _ o.0 o.1) (names_found _ MOST_NAMES said.0 said.1 ∙ ap (λ (x : List Name). later_text (names_words x)) named.0) in
+    let text = spaced b.1 refl (spaced c.1 space (spaced d.1 n.0 (spaced r.1 (scope_found _ sc.0 sc.1) behind))) in
+    let x : Event = record { item = item; kind = k.0; space = s.0; word = w.0; names = names.0 } in
+    subst (Said item bytes) (some_is x e names.2) (record { text = ap (after item) text ∙ sym (a.text x); word = n.1; naming = named.1; ok = a.ok item s.0 w.0 }))))
 
 -- ---- whole lines
 

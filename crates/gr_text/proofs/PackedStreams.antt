@@ -28,10 +28,10 @@ use Rattle.gr_text.proofs.LineSites.{sited_read_is_text}
 use Rattle.gr_text.specs.declared.place.Place.{Place}
 use Rattle.gr_text.specs.declared.place.Place.TheVariants.{Outside, Inside}
 use Rattle.gr_text.specs.Lines.{lines_of}
-use Rattle.gr_text.specs.Texts.{◌>>=◌, record_line, version_at, version_behind, lines_bytes, whole_line, record_at, said_at, line_at, over_at, said_from, said_in}
+use Rattle.gr_text.specs.Texts.{◌>>=◌, record_line, version_at, version_behind, lines_bytes, whole_line, said_at, line_at, over_at, said_from, said_in}
 use Rattle.gr_text.specs.Dumps.{WholeStream, parts_in}
 use Rattle.gr_text.specs.Wholes.{IsWhole, bytes_of, text_of, PackedAreStreams}
-use Rattle.gr_text.proofs.Steps.{bind_ok, record_at_ok}
+use Rattle.gr_text.proofs.Steps.{bind_ok, line_at_ok, record_at_ok}
 
 -- ---- a text from its lines
 
@@ -114,34 +114,26 @@ goes_on h left x xs ok on some r = record {
 
 -- ---- line by line
 
--- what is taken at a place was said, and what follows behind it follows the place
-record Taken (place : Place) (said : Option SitedLine) (x : SitedLine × Place) : Type 0 where
-  line : said ≡ Some x.0
-  follow : IsSitedSaid (version_at place) x.0 → (xs : List SitedLine) → Follow x.1 xs → Follow place (x.0 ∷ xs)
-
 is_record : (h : Header) (r : Sited) → r.event.item < h.items → length r.event.names ≤ places h.version → IsSitedSaid h.version (record_line r) → IsRecord h r
 is_record h r lt room said = record { event = record { ok = (lt, said.0.0.ok.1, said.0.0.ok.2); word = said.0.0.word }; names = room; range = said.0.1; site = said.1 }
 
-record_taken : (n : ℕ) (h : Header) (left : ℕ) (r : Sited) (x : SitedLine × Place) → record_at n h left r ≡ Ok x → Taken (Inside h left) (Some (record_line r)) x
-record_taken n h left r x k =
-    let o = record_at_ok n h left r x k in
-    rw o.3 (by_end (is_end r.event) refl o.0 o.1 o.2)
+-- what follows the place behind a line follows the place, behind that line
+follows : (n : ℕ) (place : Place) (said : Option SitedLine) (x : SitedLine × Place) → line_at n place said ≡ Ok x → IsSitedSaid (version_at place) x.0 → (xs : List SitedLine) → Follow x.1 xs → Follow place (x.0 ∷ xs)
+follows n place None x k = absurd cc
+follows n place (Some l) x k = by_place place l.line l.site k
   where
-    by_end : (b : Bool) → is_end r.event ≡ b → r.event.item < h.items → length r.event.names ≤ places h.version → 1 ≤ left → Taken (Inside h left) (Some (record_line r)) (record_line r, cond b Outside (Inside h (left - 1)))
-    by_end true end lt room some = record { line = refl; follow = λ said xs s. ends h left r xs (is_record h r lt room said) end some s }
-    by_end false on lt room some = record { line = refl; follow = λ said xs s. goes_on h left r xs (is_record h r lt room said) on some s }
+    by_place : (place : Place) (line : Line) (site : ℕ) → said_at n place line site ≡ Ok x → IsSitedSaid (version_at place) x.0 → (xs : List SitedLine) → Follow x.1 xs → Follow place (x.0 ∷ xs)
+    by_place Outside (lines.Header h) site k = let same : x ≡ (record { line = lines.Header h; site = site }, Inside h MOST_RECORDS) = cc k in rw same (λ ok xs r. begins h site xs ok.0 ok.1 r)
+    by_place Outside (lines.Event e) site k = absurd cc
+    by_place (Inside h left) (lines.Header g) site k = absurd cc
+    by_place (Inside h left) (lines.Event e) site k = let o = record_at_ok n h left (record { event = e; site = site }) x k in rw o.3 (by_end (is_end e) refl o.0 o.1 o.2)
+      where
+        r : Sited
+        r = record { event = e; site = site }
 
-place_taken : (n : ℕ) (place : Place) (line : Line) (site : ℕ) (x : SitedLine × Place) → said_at n place line site ≡ Ok x → Taken place (Some (record { line = line; site = site })) x
-place_taken n Outside (lines.Header h) site x k =
-    let same : (record { line = lines.Header h; site = site }, Inside h MOST_RECORDS) ≡ x = cc k in
-    subst (Taken Outside (Some (record { line = lines.Header h; site = site }))) same (record { line = refl; follow = λ ok xs r. begins h site xs ok.0 ok.1 r })
-place_taken n Outside (lines.Event e) site x k = cc
-place_taken n (Inside h left) (lines.Header g) site x k = cc
-place_taken n (Inside h left) (lines.Event e) site x k = record_taken n h left (record { event = e; site = site }) x k
-
-line_taken : (n : ℕ) (place : Place) (said : Option SitedLine) (x : SitedLine × Place) → line_at n place said ≡ Ok x → Taken place said x
-line_taken n place None x k = cc
-line_taken n place (Some l) x k = place_taken n place l.line l.site x k
+        by_end : (b : Bool) → is_end e ≡ b → e.item < h.items → length e.names ≤ places h.version → 1 ≤ left → IsSitedSaid h.version (record_line r) → (xs : List SitedLine) → Follow (cond b Outside (Inside h (left - 1))) xs → Follow (Inside h left) (record_line r ∷ xs)
+        by_end true end lt room some said xs s = ends h left r xs (is_record h r lt room said) end some s
+        by_end false on lt room some said xs s = goes_on h left r xs (is_record h r lt room said) on some s
 
 record Said (place : Place) (ls : List (List ℕ)) (xs : List SitedLine) : Type 0 where
   text : ls ≡ map sited_text xs
@@ -156,12 +148,11 @@ unfolding said_from
 said_found [] n place xs k = over place xs k
 said_found (l ∷ ls) n place xs k =
     let x = bind_ok (line_at n place (sited_said (version_at place) l)) (λ x. said_from (n + 1) x.1 ls >>= λ ys. Ok (x.0 ∷ ys)) xs k in
-    let one = line_taken n place (sited_said (version_at place) l) x.0 x.1 in
     let rest = bind_ok (said_from (n + 1) x.0.1 ls) (λ ys. Ok (x.0.0 ∷ ys)) xs x.2 in
     let more = said_found ls (n + 1) x.0.1 rest.0 rest.1 in
-    let t = sited_read_is_text (version_at place) l x.0.0 one.line in
+    let t = sited_read_is_text (version_at place) l x.0.0 (line_at_ok n place (sited_said (version_at place) l) x.0 x.1).0 in
     let same : x.0.0 ∷ rest.0 ≡ xs = cc rest.2 in
-    subst (Said place (l ∷ ls)) same (record { text = ap₂ (λ (a : List ℕ) (b : List (List ℕ)). a ∷ b) t.1 more.text; follow = one.follow t.0 rest.0 more.follow })
+    subst (Said place (l ∷ ls)) same (record { text = ap₂ (λ (a : List ℕ) (b : List (List ℕ)). a ∷ b) t.1 more.text; follow = follows n place (sited_said (version_at place) l) x.0 x.1 t.0 rest.0 more.follow })
 
 -- ---- bytes
 

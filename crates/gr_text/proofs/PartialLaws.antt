@@ -1,5 +1,5 @@
 -- What is told of bytes is what stands before their first fault.
-use Rattle.std.proofs.Common.{◌≡◌, ◌⊎◌, ℕ, zero, suc, ◌+◌, false, List, [], ◌∷◌, ◌++◌, length, map, All, Option, Some, None, Result, Ok, Err, refl, sym, ap, subst, ◌∙◌, IfSome, IsOk, append_assoc, arith, inl, inr}
+use Rattle.std.proofs.Common.{◌≡◌, ◌⊎◌, ℕ, zero, suc, ◌+◌, false, List, [], ◌∷◌, ◌++◌, length, map, Option, Some, None, Result, Ok, Err, refl, sym, ap, subst, ◌∙◌, IfSome, IsOk, append_assoc, arith, inl, inr}
 use Rattle.std.specs.Prelude.{◌==◌}
 use Rattle.std.specs.List.{flat_map}
 use Rattle.std.specs.Option.{option_map_or}
@@ -26,9 +26,9 @@ use Rattle.gr_record.specs.Sites.{Sited, all_sited}
 use Rattle.gr_text.specs.declared.forming.Form.TheVariants.{Text}
 use Rattle.gr_text.specs.Texts.{◌>>=◌, header_line, record_line, whole_line}
 use Rattle.gr_text.specs.Dumps.{WholeStream, parts_in, at_place, dumped, formed, stream_at, streams_at, streams_in}
-use Rattle.gr_text.specs.Wholes.{IsWhole, bytes_of}
+use Rattle.gr_text.specs.Wholes.{IsWhole, bytes_of, text_of}
 use Rattle.gr_text.specs.Writes.{Writes}
-use Rattle.gr_text.specs.Partial.{Front, behind_end, front_at, front_behind, lines_before, text_before_fault, WholeStreamsStandWhole, IsRefusedAtHeader, IsRefusedBehind, RefusedIsToldUpToItsFault}
+use Rattle.gr_text.specs.Partial.{Front, behind_end, front_at, front_behind, lines_before, text_before_fault, WholeStreamsStandWhole, IsRefusedAtHeader, IsRefusedBehind, StandsBefore, RefusedIsToldUpToItsFault}
 use Rattle.gr_text.proofs.DumpedStreams.{stream_found, streams_text}
 use Rattle.gr_text.proofs.Steps.{at_place_err, at_place_ok, bind_err, bind_ok, up_to_err, up_to_ok}
 use Rattle.gr_text.proofs.Streaming.{header_found}
@@ -133,17 +133,11 @@ all_stand (suc most) place bytes xs e =
           one_more most bytes (Some s.0.1) w.behind ∙ ap (λ (v : List SitedLine). v ++ lines_before most s.0.1) w.lines ∙ ap (λ (v : List SitedLine). parts_in s.0.0 ++ v) (all_stand most (place + 1) s.0.1 rest.0 rest.1) ∙ ap (flat_map parts_in) same
     ]
 
-record StandsAt (place p : ℕ) (e : RecordError) (bytes : List ℕ) (xs : List SitedLine) : Type 0 where
-  streams : List WholeStream
-  whole : All IsWhole streams
-  count : place + length streams ≡ p
-  rest : List ℕ
-  parts : bytes ≡ bytes_of streams ++ rest
-  lines : List SitedLine
-  front : IsRefusedAtHeader e rest lines ⊎ IsRefusedBehind e rest lines
-  is : xs ≡ flat_map parts_in streams ++ lines
+-- what is told of bytes of which the first stream is the one of this place
+abbrev StandsFrom : ℕ → ℕ → RecordError → ℕ → List ℕ → Type 0
+StandsFrom place p e most bytes = (k : ℕ) × (place + k ≡ p) × StandsBefore k e bytes (flat_map whole_line (lines_before most bytes))
 
-stands_at : (p : ℕ) (e : RecordError) (most place : ℕ) (bytes : List ℕ) → AreBytes bytes → streams_at most place bytes ≡ Err (faults.Stream p e) → StandsAt place p e bytes (lines_before most bytes)
+stands_at : (p : ℕ) (e : RecordError) (most place : ℕ) (bytes : List ℕ) → AreBytes bytes → streams_at most place bytes ≡ Err (faults.Stream p e) → StandsFrom place p e most bytes
 unfolding streams_at
 stands_at p e zero place bytes fits k = absurd cc
 stands_at p e (suc most) place bytes fits k =
@@ -152,11 +146,12 @@ stands_at p e (suc most) place bytes fits k =
       | inr some ↦ by_stream (bind_err (stream_at place bytes) _ (faults.Stream p e) (rw some at k)) (λ rest fits_rest c. stands_at p e most (place + 1) rest fits_rest c)
     ]
   where
-    by_rest : (x : Found) → stream_at place bytes ≡ Ok x → StandsAt (place + 1) p e x.1 (lines_before most x.1) → StandsAt place p e bytes (lines_before (suc most) bytes)
-    by_rest x one more =
+    by_rest : (x : Found) → stream_at place bytes ≡ Ok x → StandsFrom (place + 1) p e most x.1 → StandsFrom place p e (suc most) bytes
+    by_rest x one (k, at, more) =
         let s = stream_found place bytes fits x one in
         let w = stands_whole place bytes x one in
-        record {
+        let lines_are = one_more most bytes (Some x.1) w.behind ∙ ap (λ (v : List SitedLine). v ++ lines_before most x.1) w.lines in
+        (k + 1, omega (arith, at), record {
           streams = x.0 ∷ more.streams;
           whole = All-cons IsWhole x.0 more.streams s.whole more.whole;
           count = omega (arith, more.count);
@@ -165,24 +160,25 @@ stands_at p e (suc most) place bytes fits k =
           lines = more.lines;
           front = more.front;
           is =
-              one_more most bytes (Some x.1) w.behind ∙ ap (λ (v : List SitedLine). v ++ lines_before most x.1) w.lines ∙ ap (λ (v : List SitedLine). parts_in x.0 ++ v) more.is
-              ∙ sym (append_assoc (parts_in x.0) (flat_map parts_in more.streams) more.lines);
-        }
+              ap (flat_map whole_line) lines_are ∙ flat_map-append whole_line (parts_in x.0) (lines_before most x.1) ∙ ap (λ (v : List ℕ). flat_map whole_line (parts_in x.0) ++ v) more.is
+              ∙ sym (append_assoc (flat_map whole_line (parts_in x.0)) (text_of more.streams) (flat_map whole_line more.lines))
+              ∙ ap (λ (v : List ℕ). v ++ flat_map whole_line more.lines) (sym (flat_map-append whole_line (parts_in x.0) (flat_map parts_in more.streams)));
+        })
 
     by_stream : (stream_at place bytes ≡ Err (faults.Stream p e)) ⊎ ((x : Found) × (stream_at place bytes ≡ Ok x) × ((streams_at most (place + 1) x.1 >>= λ ys. Ok (x.0 ∷ ys)) ≡ Err (faults.Stream p e)))
-        → ((rest : List ℕ) → AreBytes rest → streams_at most (place + 1) rest ≡ Err (faults.Stream p e) → StandsAt (place + 1) p e rest (lines_before most rest)) → StandsAt place p e bytes (lines_before (suc most) bytes)
+        → ((rest : List ℕ) → AreBytes rest → streams_at most (place + 1) rest ≡ Err (faults.Stream p e) → StandsFrom (place + 1) p e most rest) → StandsFrom place p e (suc most) bytes
     by_stream (inl refused) later =
         let s = stands_refused place bytes fits p e refused in
-        record {
+        (0, omega (arith, s.at), record {
           streams = [];
           whole = All-nil IsWhole;
-          count = omega (arith, s.at);
+          count = refl;
           rest = bytes;
           parts = refl;
           lines = (front_at bytes).lines;
           front = s.stands;
-          is = one_more most bytes None s.none_left ∙ append-nil (front_at bytes).lines;
-        }
+          is = ap (flat_map whole_line) (one_more most bytes None s.none_left ∙ append-nil (front_at bytes).lines);
+        })
     by_stream (inr (x, one, k)) later =
         elim (bind_err (streams_at most (place + 1) x.1) (λ ys. Ok (x.0 ∷ ys)) (faults.Stream p e) k) [
           | inl refused ↦ by_rest x one (later x.1 (stream_found place bytes fits x one).fits refused)
@@ -202,16 +198,8 @@ refused_is_told bytes place e fits k =
     elim (bind_err (streams_in bytes) (λ ss. Ok (flat_map (formed Text) ss)) (faults.Stream place e) k) [
       | inl refused ↦
           let s = stands_at place e (length bytes) 0 bytes fits refused in
-          record {
-            streams = s.streams;
-            whole = s.whole;
-            count = omega (arith, s.count);
-            rest = s.rest;
-            parts = s.parts;
-            lines = s.lines;
-            front = s.front;
-            is = ap (flat_map whole_line) s.is ∙ flat_map-append whole_line (flat_map parts_in s.streams) s.lines;
-          }
+          let same : s.0 ≡ place = omega (arith, s.1) in
+          subst (λ (k : ℕ). StandsBefore k e bytes (text_before_fault bytes)) same s.2
       | inr whole ↦ let never = whole.2 in absurd cc
     ]
 

@@ -52,12 +52,9 @@ said-append : (xs ys : List SitedLine) → AreSaid xs → AreSaid ys → AreSaid
 said-append [] ys h k = k
 said-append (x ∷ xs) ys h k = (h.0, said-append xs ys h.1 k)
 
-no_text : lines_of [] ≡ []
-unfolding lines_of
-no_text = refl
-
 lines_back : (xs : List SitedLine) → AreSaid xs → lines_of (flat_map whole_line xs) ≡ map sited_text xs
-lines_back [] h = no_text
+unfolding lines_of
+lines_back [] h = refl
 lines_back (x ∷ xs) h = line_before (sited_text x) (flat_map whole_line xs) (sited_above Four x h.0.0 h.0.1) ∙ ap (λ (v : List (List ℕ)). sited_text x ∷ v) (lines_back xs h.1)
 
 event_said : (items most : ℕ) (e : Event) → items ≤ most → IsEvent items e → IsEvent most e
