@@ -3,7 +3,7 @@ use Rattle.std.proofs.Common.{◌≡◌, ℕ, zero, suc, ◌+◌, ◌*◌, ◌/�
 use Rattle.std.specs.Prelude.{All}
 use Rattle.std.proofs.lemmas.Bool.{eqb-true, leb-true, le-leb, ne_eqb, and_parts, and_from, cases_Bool}
 use Rattle.std.proofs.lemmas.Bool.Decides.{nat_tests}
-use Rattle.std.proofs.lemmas.List.{length-drop, take_at, get_or-drop}
+use Rattle.std.proofs.lemmas.List.{take_at, get_or-drop}
 use Rattle.gr_model.specs.declared.event.Name.{Name}
 use Rattle.gr_model.specs.declared.event.Kind.{Kind}
 use Rattle.gr_model.specs.Events.{IsNamingOk}
@@ -21,15 +21,6 @@ use Rattle.gr_record.proofs.Numbers.{two_low, two_high, two_again, four, four_ag
 pub bytes_drop : (n : ℕ) (bytes : List ℕ) → AreBytes bytes → AreBytes (drop n bytes)
 bytes_drop n bytes h i = rw get_or-drop (h (n + i))
 
--- at least so many places
-abbrev pub HasPlaces : ℕ → List ℕ → Type 0
-HasPlaces zero bytes = Unit {0}
-HasPlaces (suc n) bytes = (8 ≤ length bytes) × HasPlaces n (drop 8 bytes)
-
-pub has_places : (n : ℕ) (bytes : List ℕ) → 8 * n ≤ length bytes → HasPlaces n bytes
-has_places zero bytes le = tt
-has_places (suc n) bytes le = (omega arith, has_places n (drop 8 bytes) (omega (arith, length-drop 8 bytes)))
-
 -- the bytes behind so many places
 abbrev pub behind : ℕ → List ℕ → List ℕ
 behind zero bytes = bytes
@@ -42,22 +33,22 @@ names_length (suc n) (name ∷ names) = let ih = names_length n names in omega a
 
 -- ---- from bytes to names and back
 
-unused_found : (n : ℕ) (bytes : List ℕ) → AreBytes bytes → HasPlaces n bytes → are_unused n bytes ≡ true → bytes ≡ names_bytes n [] ++ behind n bytes
+unused_found : (n : ℕ) (bytes : List ℕ) → AreBytes bytes → 8 * n ≤ length bytes → are_unused n bytes ≡ true → bytes ≡ names_bytes n [] ++ behind n bytes
 unfolding are_unused
 unused_found zero bytes fits has h = refl
 unused_found (suc n) (a0 ∷ a1 ∷ a2 ∷ a3 ∷ a4 ∷ a5 ∷ a6 ∷ a7 ∷ rest) fits has h =
     let p = and_parts _ _ h in
     let k = eight a0 a1 a2 a3 a4 a5 a6 a7 (fits 0) (fits 1) (fits 2) (fits 3) (fits 4) (fits 5) (fits 6) (fits 7) (eqb-true _ _ p.0) in
-    let ih = unused_found n rest (bytes_drop 8 (a0 ∷ a1 ∷ a2 ∷ a3 ∷ a4 ∷ a5 ∷ a6 ∷ a7 ∷ rest) fits) has.1 p.1 in
+    let ih = unused_found n rest (bytes_drop 8 (a0 ∷ a1 ∷ a2 ∷ a3 ∷ a4 ∷ a5 ∷ a6 ∷ a7 ∷ rest) fits) (omega arith) p.1 in
     rw (k.0, k.1, k.2, k.3, k.4, k.5, k.6, k.7) (ap (λ (x : List ℕ). 255 ∷ 255 ∷ 255 ∷ 255 ∷ 255 ∷ 255 ∷ 255 ∷ 255 ∷ x) ih)
-unused_found (suc n) _ fits has h = absurd (omega (arith, has.0))
+unused_found (suc n) _ fits has h = absurd (omega arith)
 
-pub names_found : (n : ℕ) (bytes : List ℕ) → AreBytes bytes → HasPlaces n bytes → bytes ≡ names_bytes n (names_in n bytes) ++ behind n bytes
+pub names_found : (n : ℕ) (bytes : List ℕ) → AreBytes bytes → 8 * n ≤ length bytes → bytes ≡ names_bytes n (names_in n bytes) ++ behind n bytes
 unfolding names_in name_in
 names_found zero bytes fits has = refl
 names_found (suc n) (a0 ∷ a1 ∷ a2 ∷ a3 ∷ a4 ∷ a5 ∷ a6 ∷ a7 ∷ rest) fits has =
     let bytes : List ℕ = a0 ∷ a1 ∷ a2 ∷ a3 ∷ a4 ∷ a5 ∷ a6 ∷ a7 ∷ rest in
-    let ih = names_found n rest (bytes_drop 8 bytes fits) has.1 in
+    let ih = names_found n rest (bytes_drop 8 bytes fits) (omega arith) in
     let w = four a4 a5 a6 a7 (fits 4) (fits 5) (fits 6) (fits 7) _ refl in
     elim (cases_Bool (are_unused (suc n) bytes)) [
       | inl unused ↦ rw unused (unused_found (suc n) bytes fits has unused)
@@ -65,13 +56,13 @@ names_found (suc n) (a0 ∷ a1 ∷ a2 ∷ a3 ∷ a4 ∷ a5 ∷ a6 ∷ a7 ∷ res
           rw (used, two_low a0 a1 (fits 0) (fits 1), two_high a0 a1 (fits 0) (fits 1), two_low a2 a3 (fits 2) (fits 3), two_high a2 a3 (fits 2) (fits 3), w.0, w.1, w.2, w.3)
           (ap (λ (x : List ℕ). a0 ∷ a1 ∷ a2 ∷ a3 ∷ a4 ∷ a5 ∷ a6 ∷ a7 ∷ x) ih)
     ]
-names_found (suc n) _ fits has = absurd (omega (arith, has.0))
+names_found (suc n) _ fits has = absurd (omega arith)
 
 -- what so many places have spells the bytes of these places
 pub names_prefix : (n : ℕ) (bytes : List ℕ) → AreBytes bytes → 8 * n ≤ length bytes → take (8 * n) bytes ≡ names_bytes n (names_in n bytes)
 names_prefix n bytes fits long =
     let names = names_bytes n (names_in n bytes) in
-    ap (take (8 * n)) (names_found n bytes fits (has_places n bytes long)) ∙ take_at names (behind n bytes) (8 * n) (names_length n (names_in n bytes))
+    ap (take (8 * n)) (names_found n bytes fits long) ∙ take_at names (behind n bytes) (8 * n) (names_length n (names_in n bytes))
 
 pub names_few : (n : ℕ) (bytes : List ℕ) → length (names_in n bytes) ≤ n
 unfolding names_in

@@ -1,5 +1,5 @@
 -- A decoder's steps: a whole header, a whole record, bytes that are kept, and the end of a piece.
-use Rattle.std.proofs.Common.{◌≡◌, ℕ, suc, ◌+◌, ◌-◌, ◌<◌, ◌≤◌, Bool, true, false, List, [], ◌∷◌, ◌++◌, length, Option, Some, None, Ok, Err, refl, sym, ap, ◌∙◌, append_assoc, arith}
+use Rattle.std.proofs.Common.{◌≡◌, ◌≢◌, ℕ, suc, ◌+◌, ◌-◌, ◌<◌, ◌≤◌, Bool, true, false, List, [], ◌∷◌, ◌++◌, length, Option, Some, None, Ok, Err, refl, sym, ap, ◌∙◌, append_assoc, arith}
 use Rattle.std.proofs.lemmas.Bool.{lt-ltb, le-ltb}
 use Rattle.std.proofs.Math.Nat.{add-zero}
 use Rattle.std.proofs.lemmas.List.{take_at, drop_at, length-append, append-nil}
@@ -26,6 +26,11 @@ unfolding read_from
 from_header most unit rest len =
     let long : HEADER_LENGTH ≤ length (unit ++ rest) = simp length-append (omega arith) in
     rw (le-ltb (length (unit ++ rest)) HEADER_LENGTH long, take_at unit rest HEADER_LENGTH len) refl
+
+-- a decoder that keeps no bytes may fail
+pub fails_standing : {limit count : ℕ} {header : Option Header} {held : List ℕ} {stop : Stop} {e : RecordError} → IsStanding (record { limit = limit; header = header; count = count; held = held; stop = stop }) → held ≡ [] → e ≢ errors.Memory
+    → IsStanding (record { limit = limit; header = header; count = count; held = held; stop = AtFault e })
+fails_standing ok none apart = record { some = ok.some; limit = ok.limit; count = ok.count; held = (none, apart) }
 
 -- what is read behind a header
 pub from_records : (h : Header) (most : ℕ) (bytes : List ℕ) → read_from (Some h) most bytes ≡ closed None (records_of h most bytes)

@@ -1,20 +1,13 @@
-use Rattle.std.proofs.Common.{◌≡◌, [], Ok, Err, sym, ap, ◌∙◌}
+use Rattle.std.proofs.Common.{◌≡◌, Ok, Err, sym, ◌∙◌}
 use Rattle.gr_record.specs.Reading.{header_at}
-use Rattle.gr_record.specs.Decoding.{Standing}
 use Rattle.gr_record.proofs.Apart.{header_apart}
-use Rattle.gr_record.proofs.Steps.{header_continues, header_fails}
+use Rattle.gr_record.proofs.Steps.{fails_standing, header_continues, header_fails}
 use Rattle.gr_record.proofs.decoder.Decoder.take_header.Goals as goal
 
 pub invariant_of-self-in-Err : goal.invariant_of-self-in-Err
 invariant_of-self-in-Err g c =
-    let held : c.self.inside.held.items ≡ [] = ap (λ (d : Standing). d.held) c.self.view_is ∙ c.requires.place.2 in
     let is : header_at c.args.unit.now ≡ Err c.in-Err.error = sym c.read_header.ensures ∙ c.in-Err.is in
-    record {
-      some = c.self.invariant.some;
-      limit = c.self.invariant.limit;
-      count = c.self.invariant.count;
-      held = (held, λ e. header_apart c.args.unit.now (rw e at is));
-    }
+    fails_standing c.self.invariant (rw (← c.self.view_is) at c.requires.place.2) (λ e. header_apart c.args.unit.now (rw e at is))
 
 pub returns-in-Ok-clause-continues : goal.returns-in-Ok-clause-continues
 returns-in-Ok-clause-continues g c rest =

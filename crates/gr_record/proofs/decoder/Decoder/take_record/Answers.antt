@@ -1,9 +1,8 @@
-use Rattle.std.proofs.Common.{◌≡◌, ◌≤◌, [], Ok, Err, refl, sym, ap, ◌∙◌, arith}
+use Rattle.std.proofs.Common.{◌≡◌, ◌≤◌, Ok, Err, refl, sym, ◌∙◌, arith}
 use Rattle.gr_model.specs.Events.{is_end}
 use Rattle.gr_record.specs.Reading.{event_at}
-use Rattle.gr_record.specs.Decoding.{Standing}
 use Rattle.gr_record.proofs.Apart.{event_apart}
-use Rattle.gr_record.proofs.Steps.{one_too_many, record_fails, record_taken}
+use Rattle.gr_record.proofs.Steps.{fails_standing, one_too_many, record_fails, record_taken}
 use Rattle.gr_record.proofs.decoder.Decoder.take_record.Goals as goal
 
 pub returns-then-self-clause-continues : goal.returns-then-self-clause-continues
@@ -13,14 +12,8 @@ returns-then-self-clause-continues g c rest =
 
 pub invariant_of-self-in-Err : goal.invariant_of-self-in-Err
 invariant_of-self-in-Err g c =
-    let held : c.self.inside.held.items ≡ [] = ap (λ (d : Standing). d.held) c.self.view_is ∙ c.requires.place.2 in
     let is : event_at c.args.header c.args.unit.now ≡ Err c.in-Err.error = sym c.read_event.ensures ∙ c.in-Err.is in
-    record {
-      some = c.self.invariant.some;
-      limit = c.self.invariant.limit;
-      count = c.self.invariant.count;
-      held = (held, λ e. event_apart c.args.header c.args.unit.now (rw e at is));
-    }
+    fails_standing c.self.invariant (rw (← c.self.view_is) at c.requires.place.2) (λ e. event_apart c.args.header c.args.unit.now (rw e at is))
 
 pub returns-in-Ok-clause-continues : goal.returns-in-Ok-clause-continues
 returns-in-Ok-clause-continues g c rest =
