@@ -1,10 +1,12 @@
 -- The tests of a record, in their order.
-use Rattle.std.proofs.Common.{◌≡◌, ℕ, Bool, true, false, cond, List, Option, Some, None, Result, Ok, Err, arith}
+use Rattle.std.proofs.Common.{◌≡◌, ℕ, Bool, true, false, cond, List, Option, Some, None, Result, Ok, Err, arith, ◌≢◌}
 use Rattle.gr_model.specs.declared.event.Event.{Event}
 use Rattle.gr_model.specs.declared.event.Name.{Name}
 use Rattle.gr_record.specs.declared.error.RecordError.{RecordError}
 use Rattle.gr_record.specs.declared.error.RecordError.TheVariants as errors
-use Rattle.gr_record.specs.Reading.{unless_bad, unless_bad_names}
+use Rattle.gr_record.specs.Reading.{unless_bad, unless_bad_names, event_at, header_behind, header_at}
+use Rattle.gr_record.specs.declared.header.Header.{Header}
+use Rattle.gr_record.specs.declared.header.Version.{Version}
 
 -- what a record says whose kind, field, order, names and item are judged so
 abbrev pub judged_by : Bool → Option ℕ → Bool → Option (List Name) → Bool → (List Name → Event) → Result Event RecordError
@@ -15,3 +17,19 @@ judged_by kind field order names item made =
 pub passed : (kind : Bool) (field : Option ℕ) (order naming : Bool) (names : List Name) (item : Bool) (made : List Name → Event) (e : Event) → judged_by kind field order (cond naming (Some names) None) item made ≡ Ok e
     → (kind ≡ false) × (field ≡ None) × (order ≡ false) × (naming ≡ true) × (item ≡ false) × (made names ≡ e)
 passed kind field order naming names item made e is = grind arith
+
+-- ---- that memory ran out is no answer of reading
+
+judged_apart : (kind : Bool) (field : Option ℕ) (order : Bool) (names : Option (List Name)) (item : Bool) (made : List Name → Event) → judged_by kind field order names item made ≢ Err errors.Memory
+judged_apart kind field order names item made e = grind arith
+
+pub event_apart : (h : Header) (bytes : List ℕ) → event_at h bytes ≢ Err errors.Memory
+unfolding event_at
+event_apart h bytes e = judged_apart _ _ _ _ _ _ e
+
+behind_apart : (v : Option Version) (bytes : List ℕ) → header_behind v bytes ≢ Err errors.Memory
+behind_apart v bytes e = grind arith
+
+pub header_apart : (bytes : List ℕ) → header_at bytes ≢ Err errors.Memory
+unfolding header_at
+header_apart bytes = behind_apart _ bytes

@@ -1,11 +1,9 @@
-pub mod Apart
 pub mod Fields
 pub mod Found
 pub mod FoundPrefixes
 pub mod Growing
 pub mod Judging
 pub mod Loop
-pub mod Naming
 pub mod Numbers
 pub mod Places
 pub mod Resuming

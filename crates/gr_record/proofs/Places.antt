@@ -1,6 +1,6 @@
 -- Names in their places: what is read from the bytes of names, and what the bytes of names that were read are.
-use Rattle.std.proofs.Common.{◌≡◌, ℕ, zero, suc, ◌+◌, ◌*◌, ◌/◌, ◌%◌, ◌<◌, ◌≤◌, true, false, List, [], ◌∷◌, ◌++◌, length, take, drop, refl, ap, ◌∙◌, arith, inl, inr}
-use Rattle.std.specs.Prelude.{All}
+use Rattle.std.proofs.Common.{◌≡◌, ℕ, zero, suc, ◌+◌, ◌*◌, ◌/◌, ◌%◌, ◌<◌, ◌≤◌, true, false, List, [], ◌∷◌, ◌++◌, length, take, drop, refl, ap, ◌∙◌, arith, inl, inr, Bool, cond, Option, Some, None}
+use Rattle.std.specs.Prelude.{All, ◌==◌, ◌↔◌, Decides, IsSome, IfSome}
 use Rattle.std.proofs.lemmas.Bool.{eqb-true, leb-true, le-leb, ne_eqb, and_parts, and_from, cases_Bool}
 use Rattle.std.proofs.lemmas.Bool.Decides.{nat_tests}
 use Rattle.std.proofs.lemmas.List.{take_at, get_or-drop}
@@ -15,8 +15,9 @@ use Rattle.gr_record.specs.Versions.{places, record_length, most_groups, most_it
 use Rattle.gr_record.specs.declared.header.Header.{Header}
 use Rattle.gr_record.specs.Spelling.{IsHeader, names_bytes}
 use Rattle.gr_record.specs.Laws.{AreBytes}
-use Rattle.gr_record.specs.Reading.{are_unused, name_in, names_in, is_in_range, is_below, are_in_order, is_naming_ok}
+use Rattle.gr_record.specs.Reading.{are_unused, name_in, names_in, is_in_range, is_below, are_in_order, is_naming_ok, naming}
 use Rattle.gr_record.proofs.Numbers.{two_low, two_high, two_again, four, four_again, eight}
+use Rattle.gr_model.specs.Access.{is_acquire_kind}
 
 pub bytes_drop : (n : ℕ) (bytes : List ℕ) → AreBytes bytes → AreBytes (drop n bytes)
 bytes_drop n bytes h i = rw get_or-drop (h (n + i))
@@ -200,3 +201,19 @@ names_none (suc n) bytes unused = rw unused refl
 pub few_names : (kind : Kind) (names : List Name) → IsNamingOk kind names → length names ≤ 4
 few_names kind [] ok = omega arith
 few_names kind (n ∷ names) ok = ok.1.few
+
+-- ---- names that a call makes
+
+-- what is made where a test says so
+made : {X : Type 0} (b : Bool) (o : Option X) (x : X) (P : Type 0) → Decides b P → (IsSome o ↔ P) → IfSome o (λ y. y ≡ x) → o ≡ cond b (Some x) None
+made true None x P test some is = let has = some.1 (test.0 refl) in absurd cc
+made true (Some y) x P test some is = ap (λ z. Some z) is
+made false None x P test some is = refl
+made false (Some y) x P test some is = let no = test.1 (some.0 refl) in absurd cc
+
+-- names that stand at an acquire
+pub named_some : (v : Version) (kind : Kind) (names : List Name) (o : Option (List Name)) (groups items : ℕ) → groups ≡ most_groups v → items ≡ most_items v → (length names == 0) ≡ false → is_acquire_kind kind ≡ true → (IsSome o ↔ AreNamesWithin groups items names) → IfSome o (λ x. x ≡ names) → o ≡ naming v kind names
+named_some v kind [] o groups items g i some acquire are is = absurd cc
+named_some v kind (n ∷ names) o groups items g i some acquire are is =
+    made (is_naming_ok v kind (n ∷ names)) o (n ∷ names) (AreNamesWithin (most_groups v) (most_items v) (n ∷ names))
+    (those_found v kind n names, λ those. and_from _ _ (and_from _ _ acquire (le-leb _ _ those.few)) (order_back v (n ∷ names) those.ascending those.each)) (rw (g, i) at are) is

@@ -1,5 +1,5 @@
 use Rattle.std.proofs.Common.{sym, ◌∙◌}
-use Rattle.gr_record.proofs.Naming.{named_some}
+use Rattle.gr_record.proofs.Places.{named_some}
 use Rattle.gr_record.proofs.reading.naming.Goals as goal
 
 pub returns-then-is_acquire : goal.returns-then-is_acquire

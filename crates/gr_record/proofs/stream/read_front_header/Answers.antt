@@ -1,7 +1,7 @@
 use Rattle.std.proofs.Common.{◌≡◌, Err, sym, ◌∙◌}
 use Rattle.std.proofs.lemmas.Result.{err_from_is_err_and}
 use Rattle.gr_record.specs.Reading.{header_at}
-use Rattle.gr_record.proofs.Apart.{header_apart}
+use Rattle.gr_record.proofs.Judging.{header_apart}
 use Rattle.gr_record.proofs.stream.read_front_header.Goals as goal
 
 pub returns-in_err-header-clause-memory : goal.returns-in_err-header-clause-memory

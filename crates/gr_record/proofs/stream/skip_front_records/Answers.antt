@@ -6,7 +6,7 @@ use Rattle.gr_record.specs.declared.error.RecordError.{RecordError}
 use Rattle.gr_record.specs.Versions.{record_length}
 use Rattle.gr_record.specs.Reading.{event_at}
 use Rattle.gr_record.specs.WholeStreams.{◌>>=◌, front_records_at}
-use Rattle.gr_record.proofs.Apart.{event_apart}
+use Rattle.gr_record.proofs.Judging.{event_apart}
 use Rattle.gr_record.proofs.Loop.{fails, stops_short, none_left, refused, ended, goes_on}
 use Rattle.gr_record.proofs.stream.skip_front_records.Goals as goal
 

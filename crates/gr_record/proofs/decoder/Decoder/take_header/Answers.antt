@@ -1,6 +1,6 @@
 use Rattle.std.proofs.Common.{◌≡◌, Ok, Err, sym, ◌∙◌}
 use Rattle.gr_record.specs.Reading.{header_at}
-use Rattle.gr_record.proofs.Apart.{header_apart}
+use Rattle.gr_record.proofs.Judging.{header_apart}
 use Rattle.gr_record.proofs.Steps.{fails_standing, header_continues, header_fails}
 use Rattle.gr_record.proofs.decoder.Decoder.take_header.Goals as goal
 

@@ -1,7 +1,7 @@
 use Rattle.std.proofs.Common.{◌≡◌, ◌≤◌, Ok, Err, refl, sym, ◌∙◌, arith}
 use Rattle.gr_model.specs.Events.{is_end}
 use Rattle.gr_record.specs.Reading.{event_at}
-use Rattle.gr_record.proofs.Apart.{event_apart}
+use Rattle.gr_record.proofs.Judging.{event_apart}
 use Rattle.gr_record.proofs.Steps.{fails_standing, one_too_many, record_fails, record_taken}
 use Rattle.gr_record.proofs.decoder.Decoder.take_record.Goals as goal
 
