@@ -20,7 +20,7 @@ use Rattle.gr_record.specs.Versions.{most_groups, most_items}
 use Rattle.gr_record.specs.Reading.{is_order_ok, is_naming_ok}
 use Rattle.gr_record.specs.Spelling.{IsHeader}
 use Rattle.gr_text.specs.LineText.{space_word, scope_word, order_word, flags_word, version_words, names_words, later_text, line_text}
-use Rattle.gr_text.specs.LineReading.{same, IsWord, first_of, header_said, version_said, name_said, names_said, kind_said, atomic_said, barrier_said, event_said, checked, ◌>>=◌, line_said}
+use Rattle.gr_text.specs.LineReading.{same, IsWord, first_of, header_said, version_said, name_said, names_said, kind_said, atomic_said, barrier_said, event_said, line_said}
 use Rattle.gr_text.specs.LineLaws.{TextIsRead}
 use Rattle.gr_text.proofs.LineNumbers.{same_self, number_back}
 use Rattle.gr_text.proofs.LineWords.{decimal_word, no_key, key_word, space_is_word, scope_is_word, order_is_word, flags_are_word, space_again, scope_again, order_again, flags_again, short_again, first_of_space, first_of_last}
@@ -109,9 +109,6 @@ module _ (item word : ℕ) (space : Space) (fits : word < 2 ^ 32) where
 
 -- ---- the whole line
 
-checked_again : (v : Version) (e : Event) → e.item < most_items v → is_order_ok e.kind ≡ true → is_naming_ok v e.kind e.names ≡ true → checked v e ≡ Some e
-checked_again v e lt order named = rw (lt-ltb e.item (most_items v) lt, order, named) refl
-
 -- a line of a stream of one version
 module _ (v : Version) where
   event_line : (e : Event) (key : List ℕ) (words : List (List ℕ)) → e.item < most_items v → is_order_ok e.kind ≡ true → is_naming_ok v e.kind e.names ≡ true → event_said e.item (key ++ later_text words) ≡ Some e
@@ -119,7 +116,7 @@ module _ (v : Version) where
   unfolding line_said
   event_line e key words lt order named is =
       let few = items_within v in
-      rw (first_of_space (decimal e.item) _ (decimal_word e.item (omega arith)), no_key e.item (codes "group") (omega arith) refl, no_key e.item (codes "end") (omega arith) refl, short_again e.item (omega arith), is) (ap (λ (o : Option Event). o >>= λ x. Some (lines.Event x)) (checked_again v e lt order named))
+      rw (first_of_space (decimal e.item) _ (decimal_word e.item (omega arith)), no_key e.item (codes "group") (omega arith) refl, no_key e.item (codes "end") (omega arith) refl, short_again e.item (omega arith), is, lt-ltb e.item (most_items v) lt, order, named) refl
 
   end_again : (cut : Bool) → line_said v (line_text (lines.Event (end_of cut))) ≡ Some (lines.Event (end_of cut))
   unfolding line_said same
@@ -133,9 +130,12 @@ module _ (v : Version) where
   event_again item word Read space (n ∷ names) lt fits naming named ok = cc
   event_again item word Write space [] lt fits naming named ok = event_line _ (codes "w") (space_word space ∷ decimal word ∷ []) lt refl named (write_again item word space fits)
   event_again item word Write space (n ∷ names) lt fits naming named ok = cc
-  event_again item word (Load scope order) space names lt fits naming named ok = event_line _ (codes "ld") (space_word space ∷ decimal word ∷ scope_word scope ∷ order_word order ∷ names_words names) lt (ap not ok) named (access_again item word space fits scope order names (codes "ld") (Load scope order) (key_word (codes "ld") refl) refl refl refl refl naming)
-  event_again item word (Store scope order) space names lt fits naming named ok = event_line _ (codes "st") (space_word space ∷ decimal word ∷ scope_word scope ∷ order_word order ∷ names_words names) lt (ap not ok) named (access_again item word space fits scope order names (codes "st") (Store scope order) (key_word (codes "st") refl) refl refl refl refl naming)
-  event_again item word (Rmw scope order) space names lt fits naming named ok = event_line _ (codes "rmw") (space_word space ∷ decimal word ∷ scope_word scope ∷ order_word order ∷ names_words names) lt refl named (access_again item word space fits scope order names (codes "rmw") (Rmw scope order) (key_word (codes "rmw") refl) refl refl refl refl naming)
+  event_again item word (Load scope order) space names lt fits naming named ok = event_line _ (codes "ld") (space_word space ∷ decimal word ∷ scope_word scope ∷ order_word order ∷ names_words names) lt (ap not ok) named
+      (access_again item word space fits scope order names (codes "ld") (Load scope order) (key_word (codes "ld") refl) refl refl refl refl naming)
+  event_again item word (Store scope order) space names lt fits naming named ok = event_line _ (codes "st") (space_word space ∷ decimal word ∷ scope_word scope ∷ order_word order ∷ names_words names) lt (ap not ok) named
+      (access_again item word space fits scope order names (codes "st") (Store scope order) (key_word (codes "st") refl) refl refl refl refl naming)
+  event_again item word (Rmw scope order) space names lt fits naming named ok = event_line _ (codes "rmw") (space_word space ∷ decimal word ∷ scope_word scope ∷ order_word order ∷ names_words names) lt refl named
+      (access_again item word space fits scope order names (codes "rmw") (Rmw scope order) (key_word (codes "rmw") refl) refl refl refl refl naming)
   event_again item word (Barrier global local) space [] lt fits naming named ok = rw ok (event_line _ (codes "bar") (decimal word ∷ flags_word global local ∷ []) lt refl named (barrier_again item word space fits global local))
   event_again item word (Barrier global local) space (n ∷ names) lt fits naming named ok = cc
   event_again item word (End true) space [] lt fits naming named ok = rw (ok.0, ok.1, ok.2) (end_again true)

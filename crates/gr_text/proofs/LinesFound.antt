@@ -25,7 +25,7 @@ use Rattle.gr_text.specs.LineText.{space_word, scope_word, order_word, flags_wor
 use Rattle.gr_text.specs.LineReading.{short_of, behind_space, first_of, ◌>>=◌, at_end, space_said, scope_said, order_said, flags_said, header_said, header_made, version_said, name_said, names_said, kind_said, atomic_said, barrier_said, event_said, checked, end_said, line_said}
 use Rattle.gr_text.specs.LineLaws.{IsSaid, ReadIsText}
 use Rattle.gr_text.proofs.LineNumbers.{same_is, same_told, number_found}
-use Rattle.gr_text.proofs.FirstWords.{first_found}
+use Rattle.gr_text.proofs.LineWords.{first_found}
 
 -- ---- steps that did not fail
 

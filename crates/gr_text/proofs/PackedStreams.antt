@@ -6,14 +6,12 @@ use Rattle.std.proofs.lemmas.Bool.{cases_Bool, both_ways, eqb-true}
 use Rattle.std.proofs.lemmas.List.{append-nil}
 use Rattle.std.proofs.lemmas.List.Elements.{All-cons, All-head, All-nil, All-tail}
 use Rattle.std.proofs.lemmas.List.Folds.{flat_map-map}
-use Rattle.gr_model.specs.declared.event.Event.{Event}
 use Rattle.gr_model.specs.declared.limits.TheConstants.{MOST_RECORDS}
 use Rattle.gr_model.specs.Events.{is_end}
 use Rattle.gr_model.specs.Streams.{is_complete}
 use Rattle.gr_record.specs.declared.header.Header.{Header}
 use Rattle.gr_text.specs.declared.line.Line.{Line}
 use Rattle.gr_text.specs.declared.line.Line.TheVariants as lines
-use Rattle.gr_record.specs.declared.header.Version.{Version}
 use Rattle.gr_record.specs.declared.header.Version.TheVariants.{One}
 use Rattle.gr_record.specs.Versions.{places}
 use Rattle.gr_record.specs.PrefixLaws.{Runs}
@@ -28,7 +26,7 @@ use Rattle.gr_text.proofs.LineSites.{sited_read_is_text}
 use Rattle.gr_text.specs.declared.place.Place.{Place}
 use Rattle.gr_text.specs.declared.place.Place.TheVariants.{Outside, Inside}
 use Rattle.gr_text.specs.Lines.{lines_of}
-use Rattle.gr_text.specs.Texts.{◌>>=◌, record_line, version_at, version_behind, lines_bytes, whole_line, said_at, line_at, over_at, said_from, said_in}
+use Rattle.gr_text.specs.Texts.{◌>>=◌, record_line, version_at, lines_bytes, whole_line, said_at, line_at, over_at, said_from, said_in}
 use Rattle.gr_text.specs.Dumps.{WholeStream, parts_in}
 use Rattle.gr_text.specs.Wholes.{IsWhole, bytes_of, text_of, PackedAreStreams}
 use Rattle.gr_text.proofs.Steps.{bind_ok, line_at_ok, record_at_ok}
@@ -42,8 +40,7 @@ abbrev Joins : List ℕ → List (List ℕ) → Type 0
 Joins text ls = (text ≡ flat_map ended ls) ⊎ (text ++ 10 ∷ [] ≡ flat_map ended ls)
 
 joins_before : (b : ℕ) (bytes : List ℕ) (ls : List (List ℕ)) → Joins bytes ls → ((b ∷ bytes) ≡ b ∷ flat_map ended ls) ⊎ ((b ∷ bytes) ++ 10 ∷ [] ≡ b ∷ flat_map ended ls)
-joins_before b bytes ls (inl h) = inl (ap (λ (v : List ℕ). b ∷ v) h)
-joins_before b bytes ls (inr h) = inr (ap (λ (v : List ℕ). b ∷ v) h)
+joins_before b bytes ls h = grind arith
 
 joins_first : (b : ℕ) (bytes : List ℕ) (ls : List (List ℕ)) → Joins bytes ls → Joins (b ∷ bytes) (onto_first b ls)
 joins_first b [] [] h = inr refl
@@ -156,12 +153,6 @@ said_found (l ∷ ls) n place xs k =
 
 -- ---- bytes
 
-behind_end : (v : Version) (e : Event) (xs : List SitedLine) → is_end e ≡ true → lines_bytes (version_behind v (lines.Event e)) xs ≡ lines_bytes One xs
-behind_end v e xs end = rw end refl
-
-behind_other : (v : Version) (e : Event) (xs : List SitedLine) → is_end e ≡ false → lines_bytes (version_behind v (lines.Event e)) xs ≡ lines_bytes v xs
-behind_other v e xs on = rw on refl
-
 -- the records of a whole stream, and lines behind it
 records_bytes : (h : Header) (rs : List Sited) (xs : List SitedLine) → Runs h rs → IsTrue (is_complete (events_of rs)) → lines_bytes h.version (map record_line rs ++ xs) ≡ events_spelling h.version rs ++ lines_bytes One xs
 records_bytes h [] xs runs complete = absurd (true≢false (sym complete))
@@ -170,11 +161,10 @@ records_bytes h (r ∷ rs) xs runs complete =
     elim (cases_Bool (is_end e)) [
       | inl end ↦
           let none : rs ≡ [] = runs.1 end in
-          rw none (ap (λ (v : List ℕ). event_spelling h.version r ++ v) (behind_end h.version e xs end) ∙ ap (λ (v : List ℕ). v ++ lines_bytes One xs) (sym (append-nil (event_spelling h.version r))))
+          rw (none, end) (ap (λ (v : List ℕ). v ++ lines_bytes One xs) (sym (append-nil (event_spelling h.version r))))
       | inr on ↦
           let ih = records_bytes h rs xs runs.2 (sym (complete_behind e (events_of rs) on) ∙ complete) in
-          ap (λ (v : List ℕ). event_spelling h.version r ++ v) (behind_other h.version e (map record_line rs ++ xs) on ∙ ih)
-          ∙ sym (append_assoc (event_spelling h.version r) (events_spelling h.version rs) (lines_bytes One xs))
+          rw on (ap (λ (v : List ℕ). event_spelling h.version r ++ v) ih ∙ sym (append_assoc (event_spelling h.version r) (events_spelling h.version rs) (lines_bytes One xs)))
     ]
 
 pub streams_bytes : (ss : List WholeStream) → All IsWhole ss → lines_bytes One (flat_map parts_in ss) ≡ bytes_of ss

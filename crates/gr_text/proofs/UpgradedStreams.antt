@@ -13,7 +13,7 @@ use Rattle.gr_record.specs.Spelling.{IsHeader, IsRecord}
 use Rattle.gr_text.specs.declared.forming.Form.TheVariants.{Long}
 use Rattle.gr_text.specs.Dumps.{WholeStream, formed, raised, upgraded, upgraded_header}
 use Rattle.gr_text.specs.Wholes.{IsWhole, bytes_of, upgraded_stream, UpgradedAreStreams, WholeStreamsAreUpgraded, UpgradedStays}
-use Rattle.gr_text.proofs.DumpedStreams.{streams_found}
+use Rattle.gr_text.proofs.Streaming.{streams_found}
 use Rattle.gr_text.proofs.Steps.{bind_ok}
 use Rattle.gr_text.proofs.SpelledStreams.{streams_before}
 

@@ -3,7 +3,7 @@ use Rattle.gr_model.specs.declared.limits.TheConstants.{MOST_RECORDS}
 use Rattle.gr_record.specs.Fronts.{records_of}
 use Rattle.gr_record.specs.Reading.{event_at}
 use Rattle.gr_record.specs.Versions.{record_length}
-use Rattle.gr_text.proofs.Partials.{ended, goes_on, none_left, refused, stops_short}
+use Rattle.gr_text.proofs.PartialLaws.{ended, goes_on, none_left, refused, stops_short}
 use Rattle.gr_text.proofs.forming.push_records.Goals as goal
 
 pub returns-then-rest-size : goal.returns-then-rest-size

@@ -1,7 +1,7 @@
 use Rattle.std.proofs.Common.{◌-◌}
 use Rattle.gr_model.specs.declared.limits.TheConstants.{MOST_RECORDS}
 use Rattle.gr_record.specs.Fronts.{records_of}
-use Rattle.gr_text.proofs.Partials.{Completes}
+use Rattle.gr_text.proofs.PartialLaws.{Completes}
 use Rattle.gr_text.proofs.forming.push_records.Given as goal
 
 abbrev pub invariant-loop : goal.invariant-loop

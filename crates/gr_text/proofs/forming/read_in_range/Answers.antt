@@ -1,6 +1,6 @@
 use Rattle.std.proofs.Common.{arith}
 use Rattle.gr_record.specs.Laws.{AreBytes}
-use Rattle.gr_text.proofs.Partials.{in_range}
+use Rattle.gr_text.proofs.PartialLaws.{in_range}
 use Rattle.gr_text.proofs.forming.read_in_range.Goals as goal
 
 pub returns-clause-range : goal.returns-clause-range

@@ -1,7 +1,7 @@
 use Rattle.std.proofs.Common.{arith}
 use Rattle.gr_record.specs.Laws.{AreBytes}
 use Rattle.std.proofs.lemmas.Result.{on_ok_weaker}
-use Rattle.gr_text.proofs.Partials.{front_text}
+use Rattle.gr_text.proofs.PartialLaws.{front_text}
 use Rattle.gr_text.proofs.Streaming.{header_found}
 use Rattle.gr_text.proofs.partial.push_front.Goals as goal
 

@@ -1,5 +1,5 @@
 use Rattle.std.proofs.Common.{length, ◌∙◌}
-use Rattle.gr_text.proofs.Partials.{ends, is_full, next_stream}
+use Rattle.gr_text.proofs.PartialLaws.{ends, is_full, next_stream}
 use Rattle.gr_text.proofs.partial.text_before_fault.Goals as goal
 
 pub returns-in_default : goal.returns-in_default

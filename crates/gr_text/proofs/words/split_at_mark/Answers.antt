@@ -1,6 +1,6 @@
 use Rattle.std.proofs.Common.{sym, ◌+◌}
 use Rattle.std.proofs.lemmas.List.{take_rest}
-use Rattle.gr_text.proofs.FirstWords.{first_whole, first_cut}
+use Rattle.gr_text.proofs.LineWords.{first_whole, first_cut}
 use Rattle.gr_text.proofs.words.split_at_mark.Goals as goal
 
 pub returns-in-None : goal.returns-in-None
