@@ -85,7 +85,8 @@ site_found v b0 b1 b2 b3 b4 b5 b6 b7 rest f g six seven = grind (arith, nat_test
 
 said_ok : (h : Header) (bytes : List ℕ) (e : Event) → record_length h.version ≤ length bytes → Accepted h bytes e → IsEventOk (said h bytes) h.items
 said_ok h (b0 ∷ b1 ∷ b2 ∷ b3 ∷ b4 ∷ b5 ∷ b6 ∷ b7 ∷ b8 ∷ b9 ∷ b10 ∷ b11 ∷ rest) e len a =
-    let kind = kind_ok h.version b0 b1 b2 b3 b4 b5 b6 b7 b8 b9 b10 b11 rest a.kind (a.fields 4 (omega arith) (omega arith)) (a.fields 5 (omega arith) (omega arith)) (a.fields 8 (omega arith) (omega arith)) (a.fields 9 (omega arith) (omega arith)) (a.fields 10 (omega arith) (omega arith)) (a.fields 11 (omega arith) (omega arith)) (not-false _ a.order) in
+    let kind = kind_ok h.version b0 b1 b2 b3 b4 b5 b6 b7 b8 b9 b10 b11 rest a.kind (a.fields 4 (omega arith) (omega arith)) (a.fields 5 (omega arith) (omega arith))
+    (a.fields 8 (omega arith) (omega arith)) (a.fields 9 (omega arith) (omega arith)) (a.fields 10 (omega arith) (omega arith)) (a.fields 11 (omega arith) (omega arith)) (not-false _ a.order) in
     (leb-false _ _ a.item, (naming_found h.version _ _ a.naming).0, kind)
 said_ok h _ e len a = absurd (omega (arith, fields_and_names h.version))
 

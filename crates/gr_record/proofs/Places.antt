@@ -171,11 +171,7 @@ used_back n name names rest ok =
 
 name_back : (n : ℕ) (name : Name) (names : List Name) (rest : List ℕ) → IsNameInRange name → name_in (names_bytes (suc n) (name ∷ names) ++ rest) ≡ name
 unfolding name_in
-name_back n name names rest ok =
-    let group : name.at.group < 65535 = ok.0 in
-    let item : name.at.item < 1024 = ok.1 in
-    let release : name.release < 16777216 = ok.2 in
-    rw (two_again name.at.group (omega arith), two_again name.at.item (omega arith), four_again name.release (omega arith)) refl
+name_back n name names rest ok = rw (two_again name.at.group (omega (arith, ok.0)), two_again name.at.item (omega (arith, ok.1)), four_again name.release (omega (arith, ok.2))) refl
 
 pub names_again : (n : ℕ) (names : List Name) (rest : List ℕ) → length names ≤ n → All IsNameInRange names → names_in n (names_bytes n names ++ rest) ≡ names
 unfolding names_in
