@@ -2,7 +2,6 @@
 use Rattle.std.proofs.Common.{◌≡◌, ℕ, ◌^◌, ◌<◌, true, List, Option, Some, None, refl, sym, arith}
 use Rattle.std.specs.Prelude.{decimal, IfSome}
 use Rattle.std.specs.Cmp.Lexicographic.{same_text}
-use Rattle.std.specs.Str.Parse.{digits_value}
 use Rattle.std.proofs.lemmas.Bool.{lt-ltb}
 use Rattle.std.proofs.lemmas.Bool.Decides.{nat_tests}
 use Rattle.std.proofs.lemmas.Cmp.{nat_list_eq_equiv}
@@ -21,12 +20,9 @@ pub same_self : (a : List ℕ) → same a a ≡ true
 unfolding same
 same_self a = nat_list_eq_equiv.refl a
 
-value_back : (n : ℕ) → n < 2 ^ 32 → digits_value 10 (decimal n) ≡ n
-value_back n lt = let d = decimal_is_IsNumeral n (omega arith) in d.1
-
 pub number_back : (n : ℕ) → n < 2 ^ 32 → number_of (decimal n) ≡ Some n
 unfolding number_of
-number_back n lt = rw (value_back n lt, lt-ltb n (2 ^ 32) lt, same_self (decimal n)) refl
+number_back n lt = let d = decimal_is_IsNumeral n (omega arith) in rw (d.1, lt-ltb n (2 ^ 32) lt, same_self (decimal n)) refl
 
 pub number_found : (word : List ℕ) (n : ℕ) → number_of word ≡ Some n → (word ≡ decimal n) × (n < 2 ^ 32)
 unfolding number_of
@@ -36,9 +32,9 @@ pub each_some : {X : Type 0} (o : Option X) (P : X → Type 0) → ((x : X) → 
 each_some None P h = tt
 each_some (Some x) P h = h x refl
 
-none_of : (o : Option ℕ) → ((n : ℕ) → o ≡ Some n → ⊥) → o ≡ None
+pub none_of : {X : Type 0} (o : Option X) → ((x : X) → o ≡ Some x → ⊥) → o ≡ None
 none_of None h = refl
-none_of (Some n) h = absurd (h n refl)
+none_of (Some x) h = absurd (h x refl)
 
 -- what is neither the text of the number that was parsed, nor of any other, says none
 pub number_none : (word : List ℕ) → ((n : ℕ) → n < 2 ^ 32 → word ≡ decimal n → ⊥) → number_of word ≡ None

@@ -1,5 +1,5 @@
 -- A line has no line feed, and no `@` but that of its site; with its site it is read from its text, and what is read has that text.
-use Rattle.std.proofs.Common.{◌≡◌, ◌≢◌, ℕ, zero, suc, ◌^◌, ◌<◌, ◌≤◌, Bool, true, false, List, [], ◌∷◌, ◌++◌, All, refl, sym, ap, ◌∙◌, arith, inl, inr, true≢false, ◌+◌, ◌-◌, length, take, Option, Some, None, subst, append_assoc}
+use Rattle.std.proofs.Common.{◌≡◌, ℕ, zero, suc, ◌^◌, ◌<◌, ◌≤◌, Bool, true, false, List, [], ◌∷◌, ◌++◌, All, refl, sym, ap, ◌∙◌, arith, inl, inr, true≢false, ◌+◌, ◌-◌, length, take, Option, Some, None, subst, append_assoc}
 use Rattle.std.specs.Prelude.{nat_le, nat_lt, not, ◌==◌, ◌&&◌, codes, decimal, ⊤, slice_index}
 use Rattle.std.proofs.lemmas.Bool.{and_parts, and_from, cases_Bool, eqb-true, eqb-false}
 use Rattle.std.proofs.lemmas.Bool.Decides.{nat_tests}
@@ -79,11 +79,8 @@ each_plain : (names : List Name) → All IsNameInRange names → AreAllPlain (na
 each_plain [] each = tt
 each_plain (n ∷ names) each = name_plain n (names_words names) (each 0 n (omega arith)) (each_plain names (λ k d lt. each (suc k) d (omega arith)))
 
-names_plain : (kind : Kind) (names : List Name) → IsNamingOk kind names → AreAllPlain (names_words names)
-names_plain kind names ok = each_plain names (each_in_range kind names ok)
-
 atomic_plain : (word : List ℕ) (kind : Kind) (scope : Scope) (order : Order) (e : Event) → ArePlain word → e.word < 2 ^ 32 → IsNamingOk kind e.names → AreAllPlain (atomic_words word scope order e)
-atomic_plain word kind scope order e is lt naming = (is, (space_plain e.space, (number_plain e.word lt, (scope_plain scope, (order_plain order, names_plain kind e.names naming)))))
+atomic_plain word kind scope order e is lt naming = (is, (space_plain e.space, (number_plain e.word lt, (scope_plain scope, (order_plain order, each_plain e.names (each_in_range kind e.names naming))))))
 
 event_plain : (kind : Kind) (e : Event) → e.item < 1024 → e.word < 2 ^ 32 → IsNamingOk kind e.names → ArePlain (first_word kind e.item ++ later_text (later_words kind e))
 event_plain Read e item word naming = plain-append (decimal e.item) _ (number_plain e.item (omega arith)) (later_plain (later_words Read e) (refl, (space_plain e.space, (number_plain e.word word, tt))))
@@ -107,12 +104,9 @@ line_plain v (lines.Event e) (ok, range) = let few = items_within v in event_pla
 
 -- ---- with its site
 
-other_byte : (b : ℕ) → not (b == 64) ≡ true → b ≢ 64
-other_byte b h e = true≢false (sym h ∙ ap (λ (x : ℕ). not (x == 64)) e)
-
 pub plain_without : (bytes : List ℕ) → ArePlain bytes → IsWithout 64 bytes
 plain_without [] h k d lt = absurd (omega arith)
-plain_without (b ∷ bytes) h zero d lt = other_byte b (and_parts _ _ (and_parts _ _ h).0).1
+plain_without (b ∷ bytes) h zero d lt = λ e. true≢false (sym (and_parts _ _ (and_parts _ _ h).0).1 ∙ ap (λ (x : ℕ). not (x == 64)) e)
 plain_without (b ∷ bytes) h (suc k) d lt = plain_without bytes (and_parts _ _ h).1 k d (omega arith)
 
 -- each byte is above that of a line feed

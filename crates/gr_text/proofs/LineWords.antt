@@ -1,5 +1,5 @@
 -- Words of a line: what stands before the first byte of a kind, and numbers and keywords.
-use Rattle.std.proofs.Common.{◌≡◌, ℕ, zero, suc, ◌+◌, List, [], ◌∷◌, ◌++◌, take, drop, Option, Some, None, refl, ap, arith, inl, inr, ◌≢◌, ◌%◌, ◌^◌, ◌<◌, ◌≤◌, Bool, true, false, ◌∙◌}
+use Rattle.std.proofs.Common.{◌≡◌, ℕ, zero, suc, ◌+◌, List, [], ◌∷◌, ◌++◌, take, drop, Option, Some, None, refl, ap, arith, inl, inr, ◌%◌, ◌^◌, ◌<◌, ◌≤◌, Bool, true, false, ◌∙◌}
 use Rattle.std.specs.Prelude.{◌==◌, nat_lt, nat_le, ◌&&◌, not, decimal}
 use Rattle.std.proofs.lemmas.Bool.{eq-eqb, ne_eqb, eqb-true, cases_Bool, lt-ltb, le-leb, and_parts, and_from, both_ways}
 use Rattle.std.proofs.lemmas.List.{append-nil}
@@ -76,12 +76,9 @@ abbrev pub has_no_space : List ℕ → Bool
 has_no_space [] = true
 has_no_space (b ∷ bytes) = not (b == 32) && has_no_space bytes
 
-other_byte : (b : ℕ) → not (b == 32) ≡ true → b ≢ 32
-other_byte b h e = both_ways _ (ap (λ (x : ℕ). not (x == 32)) e) h
-
 pub key_word : (key : List ℕ) → has_no_space key ≡ true → IsWord key
 key_word [] h k d lt = absurd (omega arith)
-key_word (b ∷ bytes) h zero d lt = other_byte b (and_parts _ _ h).0
+key_word (b ∷ bytes) h zero d lt = λ e. both_ways _ (ap (λ (x : ℕ). not (x == 32)) e) (and_parts _ _ h).0
 key_word (b ∷ bytes) h (suc k) d lt = key_word bytes (and_parts _ _ h).1 k d (omega arith)
 
 digit_no_space : (b : ℕ) → (nat_le 48 b && nat_lt b 58) ≡ true → not (b == 32) ≡ true

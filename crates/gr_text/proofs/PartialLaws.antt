@@ -136,18 +136,16 @@ module _ (text : List ℕ) (most i : ℕ) (bytes total : List ℕ) (so_far : tex
   unfolding lines_before
   is_full le =
       let k : most - i ≡ 0 = omega arith in
-      let none : text_behind text (most - i) bytes ≡ text = rw k (append-nil text) in
-      sym none ∙ so_far
+      rw (k, append-nil text) at so_far
 
   module _ (lt : i < most) where
     one_stream : (left : Option (List ℕ)) → left ≡ (front_at bytes).behind → (text ++ flat_map whole_line (front_at bytes).lines) ++ flat_map whole_line (lines_behind (most - (i + 1)) left) ≡ total
     unfolding lines_before
     one_stream left is =
         let k : most - i ≡ suc (most - (i + 1)) = omega arith in
-        let one : text_behind text (most - i) bytes ≡ text ++ flat_map whole_line ((front_at bytes).lines ++ lines_behind (most - (i + 1)) left) = rw (k, is) refl in
         append_assoc text (flat_map whole_line (front_at bytes).lines) (flat_map whole_line (lines_behind (most - (i + 1)) left))
         ∙ ap (λ (v : List ℕ). text ++ v) (sym (flat_map-append whole_line (front_at bytes).lines (lines_behind (most - (i + 1)) left)))
-        ∙ sym one ∙ so_far
+        ∙ (rw (k, ← is) at so_far)
 
     pub ends : None ≡ (front_at bytes).behind → text ++ flat_map whole_line (front_at bytes).lines ≡ total
     ends is = sym (append-nil (text ++ flat_map whole_line (front_at bytes).lines)) ∙ one_stream None is
@@ -235,18 +233,14 @@ lines_more : (most : ℕ) (bytes : List ℕ) (left : Option (List ℕ)) → (fro
 unfolding lines_before
 lines_more most bytes left is = ap (λ (o : Option (List ℕ)). (front_at bytes).lines ++ option_map_or (λ rest. lines_before most rest) o []) is
 
-nothing_left : (most : ℕ) → lines_before (suc most) [] ≡ []
-unfolding lines_before front_header_at
-nothing_left most = refl
-
 all_stand : (most place : ℕ) (bytes : List ℕ) (xs : List WholeStream) → streams_at most place bytes ≡ Ok xs → lines_before most bytes ≡ flat_map parts_in xs
-unfolding streams_at lines_before
+unfolding streams_at lines_before front_header_at
 all_stand zero place bytes xs e = let same : [] ≡ xs = cc e in ap (flat_map parts_in) same
 all_stand (suc most) place bytes xs e =
     elim (cases_Bool (length bytes == 0)) [
       | inl empty ↦
           let same : [] ≡ xs = cc (rw empty at e) in
-          ap (lines_before (suc most)) (nil_from_length bytes (eqb-true (length bytes) 0 empty)) ∙ nothing_left most ∙ ap (flat_map parts_in) same
+          ap (lines_before (suc most)) (nil_from_length bytes (eqb-true (length bytes) 0 empty)) ∙ ap (flat_map parts_in) same
       | inr some ↦
           let s = bind_ok {X = Found} _ _ xs (rw some at e) in
           let w = stands_whole place bytes s.0 s.1 in

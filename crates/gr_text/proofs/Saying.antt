@@ -10,6 +10,7 @@ use Rattle.gr_text.specs.declared.line.SitedLine.{SitedLine}
 use Rattle.gr_text.specs.LineReading.{sited_said}
 use Rattle.gr_text.specs.LineText.{sited_text}
 use Rattle.gr_text.specs.LineLaws.{IsSitedSaid}
+use Rattle.gr_text.proofs.LineNumbers.{none_of}
 use Rattle.gr_text.proofs.Steps.{each_ok, line_at_ok}
 use Rattle.gr_text.proofs.LineSites.{sited_text_is_read, sited_read_is_text}
 use Rattle.gr_text.specs.declared.place.Place.{Place}
@@ -22,11 +23,7 @@ use Rattle.gr_text.specs.Texts.{◌>>=◌, HasRoom, line_bytes, version_at, vers
 pub parsed_is_said : (v : Version) (r : Option SitedLine) (line : List ℕ) → IfSome r (λ l. IsSitedSaid v l × (line ≡ sited_text l)) → ((l : SitedLine) → IsSitedSaid v l → line ≡ sited_text l → r ≡ Some l) → r ≡ sited_said v line
 parsed_is_said v (Some l) line found only = sym (ap (sited_said v) found.1 ∙ sited_text_is_read v l found.0)
 parsed_is_said v None line found only =
-    none (sited_said v line) refl
-  where
-    none : (o : Option SitedLine) → sited_said v line ≡ o → None ≡ sited_said v line
-    none None is = sym is
-    none (Some l) is = let t = sited_read_is_text v line l is in let no : None ≡ Some l = only l t.0 t.1 in absurd cc
+    sym (none_of (sited_said v line) (λ l is. let t = sited_read_is_text v line l is in let no : None ≡ Some l = only l t.0 t.1 in absurd cc))
 
 -- what a place takes was said
 pub taken_is_said : (n : ℕ) (place : Place) (r : Option SitedLine) → IfSome r (IsSitedSaid (version_at place)) → IfOk (line_at n place r) (λ x. IsSitedSaid (version_at place) x.0)
@@ -63,6 +60,4 @@ module _ (prefix : List ℕ) (n : ℕ) (place : Place) (total : Result (List ℕ
     pub line_goes_on : (x : SitedLine) (behind : Place) → line_at n place (sited_said (version_at place) line) ≡ Ok (x, behind) → bytes_behind (prefix ++ line_bytes (version_at place) x) (version_at behind) (said_from (n + 1) behind ls) ≡ total
     unfolding said_from
     line_goes_on x behind is =
-        let v = version_at place in
-        let one : bytes_behind prefix v (said_from n place (line ∷ ls)) ≡ bytes_behind prefix v (said_from (n + 1) behind ls >>= λ xs. Ok (x ∷ xs)) = rw is refl in
-        rw (← (line_at_ok n place (sited_said (version_at place) line) (x, behind) is).2) (sym (regroup prefix v x (said_from (n + 1) behind ls)) ∙ (sym one ∙ so_far))
+        rw (← (line_at_ok n place (sited_said (version_at place) line) (x, behind) is).2) (sym (regroup prefix (version_at place) x (said_from (n + 1) behind ls)) ∙ (rw is at so_far))

@@ -137,16 +137,14 @@ module _ (form : Form) (prefix : List ℕ) (stop i : ℕ) (bytes : List ℕ) (to
   unfolding streams_at
   is_full le =
       let k : stop - i ≡ 0 = omega arith in
-      let one : texts_behind form prefix (streams_at (stop - i) i bytes) ≡ Ok prefix = rw k (ap (λ (v : List ℕ). Ok v) (append-nil prefix)) in
-      sym so_far ∙ one
+      sym (rw (k, append-nil prefix) at so_far)
 
   module _ (lt : i < stop) (some : (length bytes == 0) ≡ false) where
     step : (s : Result (WholeStream × List ℕ) Fault) → stream_at i bytes ≡ s → texts_behind form prefix (s >>= λ x. streams_at (stop - (i + 1)) (i + 1) x.1 >>= λ xs. Ok (x.0 ∷ xs)) ≡ total
     unfolding streams_at
     step s is =
         let k : stop - i ≡ suc (stop - (i + 1)) = omega arith in
-        let one : texts_behind form prefix (streams_at (stop - i) i bytes) ≡ texts_behind form prefix (s >>= λ x. streams_at (stop - (i + 1)) (i + 1) x.1 >>= λ xs. Ok (x.0 ∷ xs)) = rw (k, some, is) refl in
-        sym one ∙ so_far
+        rw (k, some, is) at so_far
 
     pub stream_fails : (f : Fault) → Fails f (with_stream form prefix (stream_at i bytes)) → Fails f total
     stream_fails f h =

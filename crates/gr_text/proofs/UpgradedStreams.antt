@@ -1,7 +1,7 @@
 -- Streams that are upgraded are whole streams, of the same groups, items, launches and records.
 use Rattle.std.proofs.Common.{◌≡◌, ◌≤◌, ℕ, List, [], ◌∷◌, length, map, All, Ok, refl, sym, ap, ap₂, ◌∙◌, arith}
 use Rattle.std.specs.List.{flat_map}
-use Rattle.std.proofs.lemmas.List.Elements.{All-cons, All-head, All-nil, All-tail}
+use Rattle.std.proofs.lemmas.List.Elements.{All-map}
 use Rattle.std.proofs.lemmas.List.Folds.{flat_map-map}
 use Rattle.gr_record.specs.declared.header.Header.{Header}
 use Rattle.gr_record.specs.declared.header.Version.{Version}
@@ -41,16 +41,13 @@ header_upgraded : (h : Header) → IsHeader h → IsHeader (upgraded_header h)
 header_upgraded h is = record { group = rw (same_limits h.version).0 is.group; some = is.some; items = rw (same_limits h.version).1 is.items; launch = is.launch }
 
 whole_upgraded : (s : WholeStream) → IsWhole s → IsWhole (upgraded_stream s)
-whole_upgraded s w =
-    let f = w.prefix in
-    record {
-      prefix = record { header = header_upgraded s.header f.header; runs = runs_upgraded s.header s.records f.runs; few = f.few };
-      ended = w.ended;
-    }
+whole_upgraded s w = record {
+  prefix = record { header = header_upgraded s.header w.prefix.header; runs = runs_upgraded s.header s.records w.prefix.runs; few = w.prefix.few };
+  ended = w.ended;
+}
 
 all_upgraded : (ss : List WholeStream) → All IsWhole ss → All IsWhole (map upgraded_stream ss)
-all_upgraded [] whole = All-nil IsWhole
-all_upgraded (s ∷ ss) whole = All-cons IsWhole (upgraded_stream s) (map upgraded_stream ss) (whole_upgraded s (All-head IsWhole s ss whole)) (all_upgraded ss (All-tail IsWhole s ss whole))
+all_upgraded ss whole = All-map IsWhole upgraded_stream ss (λ k d lt. whole_upgraded _ (whole k d lt))
 
 -- ---- their bytes
 
