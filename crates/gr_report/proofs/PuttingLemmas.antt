@@ -7,25 +7,20 @@ use Rattle.std.specs.List.{flat_map}
 use Rattle.std.proofs.lemmas.List.Concat.{flat_map-cons}
 use Rattle.std.proofs.lemmas.List.{at_drop_more, at_drop_all, append-nil, length-drop, take-append-drop, take_all}
 use Rattle.gr_report.specs.declared.putting.WriteFault.{WriteFault}
-use Rattle.gr_report.specs.Putting.{AppendsPrefix, Puts}
-
-pub AppendsPrefix-then : (old mid new : Option (List ℕ)) (a b : List ℕ) → Appends old mid a → AppendsPrefix mid new b → AppendsPrefix old new (a ++ b)
-AppendsPrefix-then old mid new a b h k = (a ++ k.0, k.1, ap (λ (v : List ℕ). a ++ v) k.2 ∙ sym (append_assoc a k.0 k.1), Appends-trans old mid new a k.0 h k.3)
-
-pub AppendsPrefix-more : (old new : Option (List ℕ)) (a b : List ℕ) → AppendsPrefix old new a → AppendsPrefix old new (a ++ b)
-AppendsPrefix-more old new a b k = (k.0, k.1 ++ b, ap (λ (v : List ℕ). v ++ b) k.2 ∙ append_assoc k.0 k.1 b, k.3)
-
-then_by_cases : (old mid new : Option (List ℕ)) (r : Result (Unit {0}) WriteFault) (a b : List ℕ) → Appends old mid a → Puts mid new r b → Puts old new r (a ++ b)
-then_by_cases old mid new (Ok y) a b h k = record { whole = Appends-trans old mid new a b h k.whole; prefix = tt }
-then_by_cases old mid new (Err e) a b h k = record { whole = tt; prefix = AppendsPrefix-then old mid new a b h k.prefix }
+use Rattle.gr_report.specs.Putting.{Puts}
 
 -- a text that was written whole, and then the next
 pub puts_then : {old mid new : Option (List ℕ)} {x : Unit {0}} {r : Result (Unit {0}) WriteFault} {a b : List ℕ} → Puts old mid (Ok x) a → Puts mid new r b → Puts old new r (a ++ b)
-puts_then h k = then_by_cases _ _ _ _ _ _ h.whole k
+puts_then {r = Ok y} h k = record { whole = Appends-trans _ _ _ _ _ h.whole k.whole; prefix = tt }
+puts_then {r = Err e} {a = a} h k =
+    let p = k.prefix in
+    record { whole = tt; prefix = (a ++ p.0, p.1, ap (λ (v : List ℕ). a ++ v) p.2 ∙ sym (append_assoc a p.0 p.1), Appends-trans _ _ _ _ _ h.whole p.3) }
 
 -- a text that failed, before another that is due
 pub puts_more : {old new : Option (List ℕ)} {e : WriteFault} {a : List ℕ} (b : List ℕ) → Puts old new (Err e) a → Puts old new (Err e) (a ++ b)
-puts_more b h = record { whole = tt; prefix = AppendsPrefix-more _ _ _ b h.prefix }
+puts_more b h =
+    let p = h.prefix in
+    record { whole = tt; prefix = (p.0, p.1 ++ b, ap (λ (v : List ℕ). v ++ b) p.2 ∙ append_assoc p.0 p.1 b, p.3) }
 
 -- an error that is passed on
 pub puts_err : {old new : Option (List ℕ)} {e : WriteFault} {a : List ℕ} (r : Result (Unit {0}) WriteFault) → IsErr r → Puts old new (Err e) a → Puts old new r a
