@@ -1,6 +1,6 @@
 -- The unmatched acquires, found one after the other.
-use Rattle.std.proofs.Common.{◌≡◌, ◌≢◌, ◌⊎◌, ℕ, ◌+◌, ◌<◌, ◌≤◌, List, [], ◌∷◌, ◌++◌, length, Some, None, refl, sym, ap, ◌∙◌, subst, inl, inr, ⊎_elim, arith, eq-or-lt_of_le, Any, Contains, Option, get_or}
-use Rattle.std.proofs.lemmas.Bool.{cases_eq, cases_lt}
+use Rattle.std.proofs.Common.{◌≡◌, ◌≢◌, ◌⊎◌, ℕ, ◌+◌, ◌<◌, ◌≤◌, List, [], ◌∷◌, ◌++◌, length, Some, None, refl, sym, ap, ◌∙◌, subst, inl, inr, ⊎_elim, arith, Any, Contains, Option, get_or}
+use Rattle.std.proofs.lemmas.Bool.{cases_eq}
 use Rattle.std.proofs.lemmas.List.Elements.{Contains-get_or}
 use Rattle.gr_model.specs.declared.event.Event.{Event}
 use Rattle.gr_model.specs.declared.event.EventId.{EventId}
@@ -16,7 +16,7 @@ use Rattle.gr_model.specs.Streams.{ArePrefixes, Streams, event_at, size_of, word
 use Rattle.gr_model.proofs.Cuts.{same_event}
 use Rattle.gr_clocks.specs.Counts.{Counts, count_of}
 use Rattle.gr_order.specs.Acquires.{AreUnmatchedBefore, IsElsewhere, IsGroundedFrontier, IsItemBefore}
-use Rattle.gr_barriers.proofs.Lists.{listed_push, listed_same, none_listed}
+use Rattle.gr_barriers.proofs.Lists.{listed_push, listed_same}
 use Rattle.gr_steps.proofs.Deciding.{by_cases, option_dec, word_dec}
 use Rattle.gr_steps.proofs.EventRecords.{group_of_event, item_of_event}
 
@@ -62,13 +62,9 @@ module _ (s : Streams) (f : EventId) (names : List Name) (word : Option Word) (n
 module _ (s : Streams) where
   one_event : (e f : EventId) → IsUnmatchedAcquire s e → IsUnmatchedAcquire s f → e.at ≡ f.at → e ≡ f
   one_event e f a b at =
-      ⊎_elim
-      (λ (lt : e.index < f.index). absurd (a.held (b.before e at lt)))
-      (λ (ge : f.index ≤ e.index). ⊎_elim
-      (λ (same : f.index ≡ e.index). same_event e f at (sym same))
-      (λ (lt : f.index < e.index). absurd (b.held (a.before f (sym at) lt)))
-      (eq-or-lt_of_le ge))
-      (cases_lt e.index f.index)
+      let below : ¬ (e.index < f.index) = λ lt. a.held (b.before e at lt) in
+      let above : ¬ (f.index < e.index) = λ lt. b.held (a.before f (sym at) lt) in
+      same_event e f at (omega arith)
 
   pub one_acquire : (u v : Unmatched) → IsUnmatchedEntry s u → IsUnmatchedEntry s v → u.event.at ≡ v.event.at → u ≡ v
   one_acquire u v a b at =
@@ -85,13 +81,9 @@ module _ (s : Streams) (frontier : Counts) (prefix : IsGroundedFrontier s fronti
   only_next e unmatched at =
       let count : count_of frontier e.at ≡ index = ap (count_of frontier) at ∙ sym is in
       let this : EventId = record { at = e.at; index = index } in
-      ⊎_elim
-      (λ (lt : e.index < index). absurd (unmatched.held ((prefix e).1 (omega arith))))
-      (λ (ge : index ≤ e.index). ⊎_elim
-      (λ (same : index ≡ e.index). same_event e next at (sym same))
-      (λ (past : index < e.index). let below : index < count_of frontier e.at = (prefix this).0 (unmatched.before this refl past) in absurd (omega arith))
-      (eq-or-lt_of_le ge))
-      (cases_lt e.index index)
+      let below : ¬ (e.index < index) = λ lt. unmatched.held ((prefix e).1 (omega arith)) in
+      let above : ¬ (index < e.index) = λ past. let over = (prefix this).0 (unmatched.before this refl past) in omega arith in
+      same_event e next at (omega arith)
 
   pub none_there : event_at s next ≡ None → (u : Unmatched) → IsUnmatchedEntry s u → u.event.at ≢ item
   none_there none u unmatched at =
@@ -124,9 +116,6 @@ module _ (s : Streams) (frontier : Counts) (prefix : IsGroundedFrontier s fronti
 
 -- ---- the list
 
-item_at : ℕ → ℕ → ItemId
-item_at g i = record { group = g; item = i }
-
 before_more : (g i : ℕ) (at : ItemId) → IsItemBefore g i at → IsItemBefore g (i + 1) at
 before_more g i at (inl lower) = inl lower
 before_more g i at (inr here) = inr (here.0, let lt : at.item < i + 1 = omega (arith, here.1) in lt)
@@ -142,13 +131,6 @@ before_cases g i at (inr here) =
 module _ (s : Streams) where
   abbrev Found : ℕ → ℕ → Unmatched → Type 0
   Found g i u = IsUnmatchedEntry s u × IsItemBefore g i u.event.at
-
-  pub none_found : AreUnmatchedBefore s 0 0 []
-  none_found = none_listed UnmatchedBelow (Found 0 0) (λ u p. nothing u.event.at p.1)
-    where
-      nothing : (at : ItemId) → IsItemBefore 0 0 at → ⊥
-      nothing at (inl lower) = omega arith
-      nothing at (inr here) = let over : at.item < 0 = here.1 in omega arith
 
   module _ (g i : ℕ) (us : List Unmatched) (found : AreUnmatchedBefore s g i us) where
     -- an item that has none

@@ -1,7 +1,6 @@
 -- A record that is taken and whose event is handled at once: the two steps, one behind the other.
-use Rattle.std.proofs.Common.{◌≡◌, ◌≢◌, ◌⊎◌, ℕ, zero, suc, ◌+◌, ◌<◌, ◌≤◌, false, List, [], ◌∷◌, ◌++◌, length, Some, None, drop, slice_get, not, refl, sym, ap, ◌∙◌, subst, inl, inr, ⊎_elim, arith, append-nil}
+use Rattle.std.proofs.Common.{◌≡◌, ◌≢◌, ◌⊎◌, ℕ, zero, suc, ◌+◌, ◌<◌, false, List, [], ◌∷◌, ◌++◌, length, Some, None, drop, slice_get, not, refl, sym, ap, ◌∙◌, subst, inl, inr, ⊎_elim, arith, append-nil}
 use Rattle.std.proofs.Math.ListN.{drop_of_length-le}
-use Rattle.std.proofs.lemmas.Bool.{cases_lt}
 use Rattle.std.proofs.lemmas.List.{length_push}
 use Rattle.std.proofs.lemmas.Option.{slice_get-get_or, slice_get_within}
 use Rattle.gr_model.specs.declared.event.Event.{Event}
@@ -26,7 +25,7 @@ use Rattle.gr_order.specs.States.{IsOrderState}
 use Rattle.gr_order.specs.Waiting.{IsKept}
 use Rattle.gr_order.proofs.HeldLemmas.{ready_can_count, taken_first}
 use Rattle.gr_order.proofs.ReadyLemmas.{ready_plain}
-use Rattle.gr_order.proofs.StateLemmas.{after_handle, item_cases, tick_here, tick_there, took}
+use Rattle.gr_order.proofs.StateLemmas.{after_handle, item_cases, tick_more, tick_stays, took}
 use Rattle.gr_order.proofs.TakenLemmas.{one_if}
 use Rattle.gr_order.proofs.WaitLemmas.{adds_here, adds_none, trace_grows}
 
@@ -53,7 +52,7 @@ others_at_once s g x prefixes can on d own there =
     only zero at = refl
     only (suc k) at = cc
 
-module _ (q : Sequence) (frontier : Counts) (windows : Table) (held : ℕ) (kept : IsKept q frontier windows held) (g : ℕ) (x : Event) where
+module _ {q : Sequence} {frontier : Counts} {windows : Table} {held : ℕ} (kept : IsKept q frontier windows held) (g : ℕ) (x : Event) where
   abbrev e : EventId
   e = next_of q.taken g x
 
@@ -70,13 +69,11 @@ module _ (q : Sequence) (frontier : Counts) (windows : Table) (held : ℕ) (kept
   module _ (none : slice_get (window_of windows e.at) 0 ≡ None) where
     count_is : count_of frontier e.at ≡ length (trace_of q.taken e.at)
     count_is =
-        let most : count_of frontier e.at ≤ length (trace_of q.taken e.at) = taken_first q frontier held kept.state e.at in
-        ⊎_elim
-        (λ (lt : count_of frontier e.at < length (trace_of q.taken e.at)).
-        let at = slice_get-get_or (trace_of q.taken e.at) (count_of frontier e.at) x lt in
-        absurd (let both : None ≡ Some _ = sym none ∙ (first_waits q.taken frontier windows kept.waits next refl ∙ at) in cc))
-        (λ (ge : length (trace_of q.taken e.at) ≤ count_of frontier e.at). omega (arith, most, ge))
-        (cases_lt (count_of frontier e.at) (length (trace_of q.taken e.at)))
+        let most = taken_first kept.state e.at in
+        let all : ¬ (count_of frontier e.at < length (trace_of q.taken e.at)) = λ lt.
+            let at = slice_get-get_or (trace_of q.taken e.at) (count_of frontier e.at) x lt in
+            let first = first_waits q.taken frontier windows kept.waits next refl in cc in
+        omega arith
 
     -- nothing of the item waits
     pub goes_at_once : CanTake q.taken g x → IsMereAccess x → GoesAtOnce q g x
@@ -122,24 +119,24 @@ module _ (q : Sequence) (frontier : Counts) (windows : Table) (held : ℕ) (kept
     module _ (prefixes : ArePrefixes more) where
       -- the record was taken
       taken_state : IsOrderState (record { taken = more; handled = q.handled }) frontier (held + 1)
-      taken_state = took q frontier held kept.state g x more prefixes go.can refl (held + 1) (ap (λ n. held + n) (sym (ap (λ b. one_if (not b)) go.access.ends)))
+      taken_state = took kept.state g x more prefixes go.can refl (held + 1) (ap (λ n. held + n) (sym (ap (λ b. one_if (not b)) go.access.ends)))
 
       pub count_can_grow : count_of frontier e.at ≢ LARGEST_COUNT
-      count_can_grow = ready_can_count (record { taken = more; handled = q.handled }) frontier (held + 1) taken_state e ready_at_once
+      count_can_grow = ready_can_count taken_state e ready_at_once
 
       module _ (new : Counts) (tick : IsTick frontier e.at new) (items : List EventId) (is : items ≡ q.handled ++ e ∷ []) where
         -- and handled
         after : IsOrderState (record { taken = more; handled = items }) new held
-        after = after_handle (record { taken = more; handled = q.handled }) frontier (held + 1) taken_state e ready_at_once new items held tick is refl
+        after = after_handle taken_state e ready_at_once new items held tick is refl
 
         still_waits : (i : ItemId) → window_of windows i ≡ drop (count_of new i) (trace_of more i)
         still_waits i = ⊎_elim
             (λ (same : i ≡ e.at). subst (λ j. window_of windows j ≡ drop (count_of new j) (trace_of more j)) (sym same)
-            (let counted : count_of new e.at ≡ count_of frontier e.at + 1 = tick.counts e.at ∙ ap (λ n. count_of frontier e.at + n) (tick_here e.at e.at refl) in
+            (let counted = tick_more tick in
             let size : length (trace_of more e.at) ≡ length (trace_of q.taken e.at) + 1 = ap length longer ∙ length_push (trace_of q.taken e.at) x in
             none_waits ∙ sym (drop_of_length-le (trace_of more e.at) (omega (arith, counted, size, count_at_once)))))
             (λ (apart : i ≡ e.at → ⊥).
-            let count : count_of frontier i ≡ count_of new i = sym (tick.counts i ∙ (ap (λ n. count_of frontier i + n) (tick_there e.at i (λ here. apart (sym here))) ∙ omega arith)) in
+            let count = sym (tick_stays tick i (λ here. apart (sym here))) in
             let trace : trace_of q.taken i ≡ trace_of more i = sym (trace_grows q.taken g x kept.state.sequence.prefixes go.can i ∙ (ap (λ l. trace_of q.taken i ++ l) (adds_none g x i apart) ∙ append-nil (trace_of q.taken i))) in
             kept.waits.each i ∙ (ap (λ n. drop n (trace_of q.taken i)) count ∙ ap (drop (count_of new i)) trace))
             (item_cases i e.at)

@@ -1,5 +1,5 @@
 -- What is kept where a group comes.
-use Rattle.std.proofs.Common.{◌≡◌, ◌↔◌, ℕ, ◌<◌, List, [], length, get_or, not, map, drop, filter, refl, sym, ap, ◌∙◌, subst, arith}
+use Rattle.std.proofs.Common.{◌≡◌, ◌↔◌, ℕ, ◌<◌, List, [], length, get_or, not, drop, filter, refl, sym, ap, ◌∙◌, subst, arith}
 use Rattle.std.proofs.lemmas.List.{get_or_past}
 use Rattle.std.proofs.Math.ListN.{get_or-map}
 use Rattle.gr_model.specs.declared.event.ItemId.{ItemId}
@@ -18,15 +18,12 @@ use Rattle.gr_order.specs.States.{counted_in}
 use Rattle.gr_order.specs.Waiting.{IsKept}
 use Rattle.gr_order.proofs.SumLemmas.{items_put, items_same, sum_put_again}
 
-module _ (q : Sequence) (frontier : Counts) (windows : Table) (held : ℕ) (kept : IsKept q frontier windows held) (g n : ℕ) (can : CanAdd q.taken g n) where
+module _ {q : Sequence} {frontier : Counts} {windows : Table} {held : ℕ} (kept : IsKept q frontier windows held) (g n : ℕ) (can : CanAdd q.taken g n) where
   prefixes : ArePrefixes q.taken
   prefixes = kept.state.sequence.prefixes
 
   pub absent_count : get_or (sizes_of frontier) g 0 ≡ 0
   absent_count = ap (λ (l : List ℕ). get_or l g 0) kept.state.shape ∙ can.none
-
-  pub absent_window : get_or (map length windows) g 0 ≡ 0
-  absent_window = ap (λ (l : List ℕ). get_or l g 0) kept.waits.shape ∙ can.none
 
   -- nothing of the group is counted
   none_counted : (k : ℕ) → count_of frontier (item_of g k) ≡ 0

@@ -1,6 +1,5 @@
 -- An instance to which all items came stays as it is: whether it is divergent, and why.
-use Rattle.std.proofs.Common.{◌≡◌, ℕ, ◌<◌, ◌≤◌, Bool, List, [], Some, None, slice_get, filter, filter_map, length, sym, ap, ◌∙◌, subst, inl, inr, ⊎_elim, arith}
-use Rattle.std.proofs.lemmas.Bool.{cases_lt}
+use Rattle.std.proofs.Common.{◌≡◌, ℕ, ◌<◌, Bool, List, [], Some, None, slice_get, filter, filter_map, length, sym, ap, ◌∙◌, subst, inl, inr, ⊎_elim, arith}
 use Rattle.std.proofs.lemmas.List.{get_or_past}
 use Rattle.std.proofs.lemmas.List.Elements.{filter_map-append}
 use Rattle.gr_model.specs.declared.event.Event.{Event}
@@ -19,6 +18,10 @@ pub none_missing : (s : Streams) (g k : ℕ) → HaveAllCome s g k → (complete
 none_missing s g k came complete missing =
     let there = came.1 missing.1.1 missing.1.4 in
     let clash : Some there.0 ≡ None = sym there.1 ∙ missing.1.5 in cc
+
+-- a group that has items is there
+pub size_there : (s : Streams) (g : ℕ) → 0 < size_of s g → g < length s.sizes
+size_there s g some = grind (arith, get_or_past)
 
 -- ---- the same arrivals
 
@@ -71,12 +74,6 @@ module _ (s t : Streams) (grows : Grows s t) (g k : ℕ) (came : HaveAllCome s g
       let same : mine.0 ≡ a = (let both : Some mine.0 ≡ Some a = sym (arrived_on i mine.0 mine.1) ∙ at.1 in cc) in
       (within, mine.1 ∙ ap (λ (b : Mark). Some b) same)
 
-  there_in : (u : Streams) → 0 < size_of u g → g < length u.sizes
-  there_in u some = ⊎_elim
-      (λ (lt : g < length u.sizes). lt)
-      (λ (past : length u.sizes ≤ g). absurd (let none : size_of u g ≡ 0 = get_or_past u.sizes g 0 past in omega (arith, none, some)))
-      (cases_lt g (length u.sizes))
-
   abbrev whole_s : Bool
   whole_s = is_complete (list_of s g)
 
@@ -93,14 +90,14 @@ module _ (s t : Streams) (grows : Grows s t) (g k : ℕ) (came : HaveAllCome s g
 
   pub divergence_stays : (c : DivergenceCause) → IsDivergence s (record { group = g; instance = k; cause = c }) → IsDivergence t (record { group = g; instance = k; cause = c })
   divergence_stays c is = record {
-    group = there_in t came_on.0;
+    group = size_there t g came_on.0;
     divergent = divergent_to is.divergent;
     cause = cause_so (size_of s g) (size_of t g) (arrivals s g k) (arrivals t g k) to_more from_more whole_s whole_t (none_missing s g k came whole_s) (none_missing t g k came_on whole_t) c is.cause;
   }
 
   pub divergence_was : (c : DivergenceCause) → IsDivergence t (record { group = g; instance = k; cause = c }) → IsDivergence s (record { group = g; instance = k; cause = c })
   divergence_was c is = record {
-    group = there_in s came.0;
+    group = size_there s g came.0;
     divergent = divergent_from is.divergent;
     cause = cause_so (size_of t g) (size_of s g) (arrivals t g k) (arrivals s g k) from_more to_more whole_t whole_s (none_missing t g k came_on whole_t) (none_missing s g k came whole_s) c is.cause;
   }

@@ -1,8 +1,7 @@
 -- What is forgotten, where records are taken, events handled, and groups come.
-use Rattle.std.proofs.Common.{◌≡◌, ◌≢◌, ◌⊎◌, ℕ, ◌+◌, ◌<◌, ◌≤◌, List, [], ◌∷◌, ◌++◌, length, Option, Some, None, false, is_some, get_or, max, set, slice_get, refl, sym, ap, ◌∙◌, subst, inl, inr, ⊎_elim, arith}
-use Rattle.std.specs.Prelude.{MatchOption}
+use Rattle.std.proofs.Common.{◌≡◌, ◌≢◌, ◌⊎◌, ℕ, ◌+◌, ◌<◌, ◌≤◌, List, [], ◌∷◌, ◌++◌, length, Some, get_or, set, slice_get, refl, sym, ap, ◌∙◌, subst, inl, inr, ⊎_elim, arith}
 use Rattle.std.proofs.lemmas.Bool.{cases_eq, cases_lt}
-use Rattle.std.proofs.lemmas.List.{get_or-set_other, get_or-set_same, get_or_past, length-set}
+use Rattle.std.proofs.lemmas.List.{get_or-set_other, get_or-set_same, length-set}
 use Rattle.gr_model.specs.declared.event.Event.{Event}
 use Rattle.gr_model.specs.declared.event.EventId.{EventId}
 use Rattle.gr_model.specs.declared.event.ItemId.{ItemId}
@@ -10,28 +9,28 @@ use Rattle.gr_model.specs.declared.report.Divergence.{Divergence}
 use Rattle.gr_model.specs.Barriers.{IsDivergent, arrivals, is_barrier, mark_of}
 use Rattle.gr_model.specs.Groups as model
 use Rattle.gr_model.specs.Groups.{CanAdd, put}
-use Rattle.gr_model.specs.Instances.{HasDivergenceCause}
 use Rattle.gr_model.specs.LawfulOrders.{IsIn}
 use Rattle.gr_model.specs.Reports.{DivergenceBelow, IsDivergence, Lists}
 use Rattle.gr_model.specs.Streams.{ArePrefixes, Grows, Streams, is_complete, list_of, place_of, size_of, trace_of}
 use Rattle.gr_model.proofs.Causes.{one_cause}
 use Rattle.gr_model.proofs.GroupLaws.{group_grows, prefixes_with_group}
 use Rattle.gr_model.proofs.GrowthLaws.{not_both, stands_grows}
-use Rattle.gr_model.proofs.Places.{filter_map-place}
+use Rattle.gr_model.proofs.Places.{filter_map-place, place-filter_map}
 use Rattle.gr_model.proofs.PutLemmas.{length_put, put_other, put_same}
 use Rattle.gr_steps.proofs.BarrierPlaces.{places_from-once}
 use Rattle.gr_steps.proofs.EventRecords.{item_of_event}
 use Rattle.gr_clocks.specs.Counts.{Counts, IsTick, count_of}
-use Rattle.gr_clocks.specs.Tables.{item_of}
-use Rattle.gr_lanes.specs.Remembered.{HaveAllCome, IsAllRemembered, IsDecided, IsEventRemembered, IsRemembered, IsWhole, Remembered, decided_of, deciding, forgetting, forgotten_of, remembering, with_group}
+use Rattle.gr_clocks.specs.Tables.{IsBeyond, item_of}
+use Rattle.gr_lanes.specs.Remembered.{HaveAllCome, IsDecided, IsEventRemembered, IsRemembered, IsWhole, Remembered, decided_of, deciding, forgetting, forgotten_of, remembering, with_group}
 use Rattle.gr_lanes.specs.Takes.{CanTake, with_record}
 use Rattle.gr_lanes.proofs.Growth.{record_grows}
-use Rattle.gr_lanes.proofs.InstanceLemmas.{barrier_mark, some_mark}
+use Rattle.gr_lanes.proofs.InstanceLemmas.{barrier_mark}
 use Rattle.gr_barriers.proofs.Lists.{listed_push, listed_same, none_listed}
 use Rattle.gr_order.specs.Forgetting.{ForgetsHandled, ForgetsLeast, ForgetsNext, ForgetsPassed, HaveAllPassed, IsForgetting}
 use Rattle.gr_order.specs.Readiness.{IsNextInstance}
 use Rattle.gr_order.specs.States.{AreBelowFrontier, TicksItems}
-use Rattle.gr_order.proofs.DecidedLemmas.{came_on, divergence_stays, divergence_was, size_stays}
+use Rattle.gr_order.proofs.StateLemmas.{within_or_beyond}
+use Rattle.gr_order.proofs.DecidedLemmas.{came_on, divergence_stays, divergence_was, size_stays, size_there}
 
 -- each item's count is at least what it was
 abbrev pub AreMore : Counts → Counts → Type 0
@@ -61,23 +60,21 @@ came_place s g k i came within = let a = came.1 i within in filter_map-place mar
 -- ---- more records come, and more is handled
 
 module _ (old : Remembered) (t : Streams) (before after : Counts) (grows : Grows old.streams t) (prefixes : ArePrefixes t) (counts : AreMore before after) (was : IsForgetting old before) where
-  -- an instance that was forgotten
-  module _ (g k : ℕ) (below : k < forgotten_of old g) where
-    met : HaveAllCome old.streams g k
-    met = was.decided.came g k below
+  decided_on : {g : ℕ} (d : Divergence) → IsDecided old g d → IsDivergence t d
+  decided_on d is = divergence_stays old.streams t grows d.group d.instance (was.decided.came d.group d.instance (rw is.group is.below)) d.cause is.divergence
 
-    met_on : HaveAllCome t g k
-    met_on = came_on old.streams t grows g k met
+  decided_was : {g : ℕ} (d : Divergence) → d.group ≡ g → d.instance < forgotten_of old g → IsDivergence t d → IsDivergence old.streams d
+  decided_was d group below is = divergence_was old.streams t grows d.group d.instance (was.decided.came d.group d.instance (rw group below)) d.cause is
 
-  decided_on : (g h : ℕ) (d : Divergence) → h ≡ g → d.group ≡ g → d.instance < forgotten_of old h → IsDivergence old.streams d → IsDivergence t d
-  decided_on g h d same group below is = divergence_stays old.streams t grows d.group d.instance (met d.group d.instance (let there : forgotten_of old d.group ≡ forgotten_of old h = ap (forgotten_of old) (group ∙ sym same) in omega (arith, below, there))) d.cause is
-
-  decided_was : (g h : ℕ) (d : Divergence) → h ≡ g → d.group ≡ g → d.instance < forgotten_of old h → IsDivergence t d → IsDivergence old.streams d
-  decided_was g h d same group below is = divergence_was old.streams t grows d.group d.instance (met d.group d.instance (let there : forgotten_of old d.group ≡ forgotten_of old h = ap (forgotten_of old) (group ∙ sym same) in omega (arith, below, there))) d.cause is
+  -- as many are forgotten of a group, and the same are kept
+  still_listed : (counts : List ℕ) (lists : List (List Divergence)) (g : ℕ) → get_or counts g 0 ≡ forgotten_of old g → Lists DivergenceBelow (IsDecided (record { streams = t; forgotten = counts; decided = lists }) g) (decided_of old g)
+  still_listed counts lists g count = listed_same DivergenceBelow (IsDecided old g) (IsDecided (record { streams = t; forgotten = counts; decided = lists }) g) (decided_of old g) (was.decided.lists g)
+      (λ d is. record { divergence = decided_on d is; group = is.group; below = rw count is.below })
+      (λ d is. let below = rw count at is.below in record { divergence = decided_was d is.group below is.divergence; group = is.group; below = below })
 
   handled_on : (e : EventId) (k : ℕ) → place_of t is_barrier e.at k ≡ Some e.index → k < forgotten_of old e.at.group → e.index < count_of after e.at
   handled_on e k at below =
-      let came = met e.at.group k below in
+      let came = was.decided.came e.at.group k below in
       let size = size_stays old.streams t grows e.at.group k came in
       let item = barrier_item t prefixes e k at in
       let stood = came_place old.streams e.at.group k e.at.item came (omega (arith, item, size)) in
@@ -93,10 +90,8 @@ module _ (old : Remembered) (t : Streams) (before after : Counts) (grows : Grows
   forgets_grown count = record {
     decided = record {
       groups = record { forgotten = was.decided.groups.forgotten ∙ sym count; decided = was.decided.groups.decided ∙ sym count };
-      came = λ g k below. met_on g k below;
-      lists = λ g. listed_same DivergenceBelow (IsDecided old g) (IsDecided (remembering old t) g) (decided_of old g) (was.decided.lists g)
-          (λ d is. record { divergence = decided_on g g d refl is.group is.below is.divergence; group = is.group; below = is.below })
-          (λ d is. record { divergence = decided_was g g d refl is.group is.below is.divergence; group = is.group; below = is.below });
+      came = λ g k below. came_on old.streams t grows g k (was.decided.came g k below);
+      lists = λ g. still_listed old.forgotten old.decided g refl;
     };
     handled = handled_on;
   }
@@ -105,9 +100,6 @@ module _ (old : Remembered) (t : Streams) (before after : Counts) (grows : Grows
   module _ (g n : ℕ) (is : t ≡ model.with_group old.streams g n) where
     abbrev grown : Remembered
     grown = record { streams = t; forgotten = put 0 old.forgotten g 0; decided = put [] old.decided g [] }
-
-    lengths : (l m : ℕ) → l ≡ max m (g + 1) → m ≡ length old.streams.sizes → l ≡ length t.sizes
-    lengths l m is_max same = is_max ∙ (ap (λ c. max c (g + 1)) same ∙ sym (ap (λ (u : Streams). length u.sizes) is ∙ length_put 0 old.streams.sizes g n))
 
     below_was : (h k : ℕ) → k < forgotten_of grown h → (h ≢ g) × (k < forgotten_of old h)
     below_was h k below = ⊎_elim
@@ -118,24 +110,20 @@ module _ (old : Remembered) (t : Streams) (before after : Counts) (grows : Grows
     lists_grown : (h : ℕ) → Lists DivergenceBelow (IsDecided grown h) (decided_of grown h)
     lists_grown h = ⊎_elim
         (λ (same : h ≡ g).
-        let none : decided_of grown h ≡ [] = ap (λ m. get_or (put [] old.decided g []) m []) same ∙ put_same [] old.decided g [] in
-        subst (Lists DivergenceBelow (IsDecided grown h)) (sym none) (none_listed DivergenceBelow (IsDecided grown h) (λ d is. (below_was h d.instance is.below).0 same)))
+        rw (ap (λ m. get_or (put [] old.decided g []) m []) same ∙ put_same [] old.decided g [])
+        (none_listed DivergenceBelow (IsDecided grown h) (λ d is. (below_was h d.instance is.below).0 same)))
         (λ (apart : h ≡ g → ⊥).
-        let kept : decided_of grown h ≡ decided_of old h = put_other [] old.decided g [] h apart in
-        let count : forgotten_of grown h ≡ forgotten_of old h = put_other 0 old.forgotten g 0 h apart in
-        subst (Lists DivergenceBelow (IsDecided grown h)) (sym kept) (listed_same DivergenceBelow (IsDecided old h) (IsDecided grown h) (decided_of old h) (was.decided.lists h)
-        (λ d is_old. record { divergence = decided_on h h d refl is_old.group is_old.below is_old.divergence; group = is_old.group; below = (let below = is_old.below in omega (arith, below, count)) })
-        (λ d is_new. let below = (below_was h d.instance is_new.below).1 in record { divergence = decided_was h h d refl is_new.group below is_new.divergence; group = is_new.group; below = below })))
+        rw (put_other [] old.decided g [] h apart) (still_listed (put 0 old.forgotten g 0) (put [] old.decided g []) h (put_other 0 old.forgotten g 0 h apart)))
         (cases_eq h g)
 
     pub forgets_coming : IsForgetting grown after
     forgets_coming = record {
       decided = record {
         groups = record {
-          forgotten = lengths (length (put 0 old.forgotten g 0)) (length old.forgotten) (length_put 0 old.forgotten g 0) was.decided.groups.forgotten;
-          decided = lengths (length (put [] old.decided g [])) (length old.decided) (length_put [] old.decided g []) was.decided.groups.decided;
+          forgotten = omega (arith, length_put 0 old.forgotten g 0, length_put 0 old.streams.sizes g n, was.decided.groups.forgotten, ap (λ (u : Streams). length u.sizes) is);
+          decided = omega (arith, length_put [] old.decided g [], length_put 0 old.streams.sizes g n, was.decided.groups.decided, ap (λ (u : Streams). length u.sizes) is);
         };
-        came = λ h k below. met_on h k (below_was h k below).1;
+        came = λ h k below. came_on old.streams t grows h k (was.decided.came h k (below_was h k below).1);
         lists = lists_grown;
       };
       handled = λ e k at below. handled_on e k at (below_was e.at.group k below).1;
@@ -144,21 +132,16 @@ module _ (old : Remembered) (t : Streams) (before after : Counts) (grows : Grows
 -- a record is taken
 pub forgets_taken : (old new : Remembered) (g : ℕ) (x : Event) → ArePrefixes old.streams → CanTake old.streams g x → new ≡ remembering old (with_record old.streams g x) → ArePrefixes new.streams → (before after : Counts) → AreMore before after → IsForgetting old before → IsForgetting new after
 forgets_taken old new g x prefixes can is prefixes_new before after counts was =
-    subst (λ (r : Remembered). IsForgetting r after) (sym is)
-    (forgets_grown old (with_record old.streams g x) before after (record_grows old.streams g x prefixes can) (subst (λ (r : Remembered). ArePrefixes r.streams) is prefixes_new) counts was refl)
+    rw is (forgets_grown old (with_record old.streams g x) before after (record_grows old.streams g x prefixes can) (rw is at prefixes_new) counts was refl)
 
 -- a group comes
 pub forgets_with_group : (old new : Remembered) (g n : ℕ) → ArePrefixes old.streams → CanAdd old.streams g n → new ≡ with_group old g n → (before after : Counts) → ((i : ItemId) → count_of after i ≡ count_of before i) → IsForgetting old before → IsForgetting new after
 forgets_with_group old new g n prefixes can is before after counts was =
-    subst (λ (r : Remembered). IsForgetting r after) (sym is)
-    (forgets_coming old (model.with_group old.streams g n) before after (group_grows old.streams g n prefixes can) (prefixes_with_group old.streams g n prefixes can) (λ i. let same = counts i in omega (arith, same)) was g n refl)
+    rw is (forgets_coming old (model.with_group old.streams g n) before after (group_grows old.streams g n prefixes can) (prefixes_with_group old.streams g n prefixes can) (λ i. omega (arith, counts i)) was g n refl)
 
 -- more is handled
 pub forgets_on : (r : Remembered) → (before after : Counts) → AreMore before after → IsForgetting r before → IsForgetting r after
-forgets_on r before after counts was = record {
-  decided = was.decided;
-  handled = λ e k at below. let counted = was.handled e k at below in let more = counts e.at in omega (arith, counted, more);
-}
+forgets_on r before after counts was = record { decided = was.decided; handled = λ e k at below. omega (arith, was.handled e k at below, counts e.at) }
 
 pub tick_counts : (before : Counts) (i : ItemId) (after : Counts) → IsTick before i after → AreMore before after
 tick_counts before i after tick j = let counts = tick.counts j in omega (arith, counts)
@@ -173,10 +156,7 @@ next_remembered r frontier forgets e behind k at = ⊎_elim
 
 -- what the clock counts was handled
 pub forgets_as : (r : Remembered) (order : List EventId) (frontier : Counts) → AreBelowFrontier order frontier → IsForgetting r frontier → ForgetsHandled r order
-forgets_as r order frontier first forgets = record {
-  decided = forgets.decided;
-  handled = λ e k at below. (first e).1 (forgets.handled e k at below);
-}
+forgets_as r order frontier first forgets = record { decided = forgets.decided; handled = λ e k at below. (first e).1 (forgets.handled e k at below) }
 
 pub unhandled_remembered : (r : Remembered) (order : List EventId) → ForgetsHandled r order → (e : EventId) → ¬ IsIn order e → IsEventRemembered r e
 unhandled_remembered r order forgets e out k at = ⊎_elim
@@ -187,29 +167,20 @@ unhandled_remembered r order forgets e out k at = ⊎_elim
 pub barrier_remembered : (r : Remembered) (order : List EventId) → ForgetsHandled r order → (i : ItemId) (k : ℕ) → ((p : ℕ) → place_of r.streams is_barrier i k ≡ Some p → ¬ IsIn order (record { at = i; index = p })) → IsRemembered r i k
 barrier_remembered r order forgets i k out p at = unhandled_remembered r order forgets (record { at = i; index = p }) (out p at) k at
 
--- where nothing was handled nothing is forgotten
-pub none_forgotten : (r : Remembered) (order : List EventId) → order ≡ [] → ForgetsHandled r order → IsAllRemembered r
-none_forgotten r order none forgets i k = barrier_remembered r order forgets i k (λ p at there. nowhere (subst (λ (l : List EventId). IsIn l (record { at = i; index = p })) none there))
-  where
-    nowhere : {e : EventId} → IsIn [] e → ⊥
-    nowhere there = let at = there.1 in cc
-
 -- ---- the least instance remembered is forgotten
 
 -- those who have passed have come
 pub passed_came : (s : Streams) (frontier : Counts) (g k : ℕ) → HaveAllPassed s frontier g k → HaveAllCome s g k
-passed_came s frontier g k passed = (
-  passed.0,
-  λ i lt.
-      let mine = passed.1 i lt in
-      let mark = barrier_mark 0 (trace_of s (record { group = g; item = i })) k mine.0 mine.1 in
-      let some = some_mark (mark_of mark.1) mark.5 in
-      (some.0, mark.4 ∙ some.1),
-)
+passed_came s frontier g k passed =
+    (passed.0, λ i lt. let mine = passed.1 i lt in place-filter_map mark_of 0 (trace_of s (record { group = g; item = i })) k mine.0 mine.1)
 
-pub if_none : {A : Type 0} (B : ℕ → Type 0) (o : Option ℕ) → is_some o ≡ false → MatchOption o A B → A
-if_none B None none holds = holds
-if_none B (Some x) none holds = absurd cc
+-- one of these counts is greater by one
+module _ (counts : List ℕ) (g : ℕ) (there : g < length counts) where
+  raised_cases : (h k : ℕ) → k < get_or (set counts g (get_or counts g 0 + 1)) h 0 → (k < get_or counts h 0) ⊎ ((h ≡ g) × (k ≡ get_or counts g 0))
+  raised_cases h k below = grind (arith, get_or-set_same, get_or-set_other)
+
+  raised_most : (h k : ℕ) → k < get_or counts h 0 → k < get_or (set counts g (get_or counts g 0 + 1)) h 0
+  raised_most h k below = grind (arith, get_or-set_same, get_or-set_other)
 
 module _ (old : Remembered) (prefixes : ArePrefixes old.streams) (frontier : Counts) (was : IsForgetting old frontier) (g : ℕ) (passed : HaveAllPassed old.streams frontier g (forgotten_of old g)) where
   abbrev least : ℕ
@@ -219,87 +190,78 @@ module _ (old : Remembered) (prefixes : ArePrefixes old.streams) (frontier : Cou
   counts = set old.forgotten g (least + 1)
 
   within : g < length old.streams.sizes
-  within = ⊎_elim
-      (λ (lt : g < length old.streams.sizes). lt)
-      (λ (past : length old.streams.sizes ≤ g). absurd (let none : size_of old.streams g ≡ 0 = get_or_past old.streams.sizes g 0 past in let some = passed.0 in omega (arith, none, some)))
-      (cases_lt g (length old.streams.sizes))
+  within = size_there old.streams g passed.0
 
   one_more : get_or counts g 0 ≡ least + 1
   one_more = get_or-set_same old.forgotten g (least + 1) 0 (omega (arith, within, was.decided.groups.forgotten))
 
   -- below the new count: one that was forgotten, or the least that was remembered
   below_cases : (h k : ℕ) → k < get_or counts h 0 → (k < forgotten_of old h) ⊎ ((h ≡ g) × (k ≡ least))
-  below_cases h k below = ⊎_elim
-      (λ (here : h ≡ g).
-      let count : get_or counts h 0 ≡ least + 1 = ap (λ m. get_or counts m 0) here ∙ one_more in
-      let same : forgotten_of old h ≡ least = ap (forgotten_of old) here in
-      ⊎_elim (λ (lt : k < forgotten_of old h). inl lt) (λ (ge : forgotten_of old h ≤ k). inr (here, (let last : k ≡ least = omega (arith, ge, below, count, same) in last))) (cases_lt k (forgotten_of old h)))
-      (λ (apart : h ≡ g → ⊥). inl (subst (λ m. k < m) (get_or-set_other old.forgotten g h (least + 1) 0 apart) below))
-      (cases_eq h g)
+  below_cases = raised_cases old.forgotten g (omega (arith, within, was.decided.groups.forgotten))
 
   still_below : (h k : ℕ) → k < forgotten_of old h → k < get_or counts h 0
-  still_below h k below = ⊎_elim
-      (λ (here : h ≡ g).
-      let count : get_or counts h 0 ≡ least + 1 = ap (λ m. get_or counts m 0) here ∙ one_more in
-      let same : forgotten_of old h ≡ least = ap (forgotten_of old) here in omega (arith, below, count, same))
-      (λ (apart : h ≡ g → ⊥). subst (λ m. k < m) (sym (get_or-set_other old.forgotten g h (least + 1) 0 apart)) below)
-      (cases_eq h g)
+  still_below = raised_most old.forgotten g (omega (arith, within, was.decided.groups.forgotten))
 
   all_came : HaveAllCome old.streams g least
   all_came = passed_came old.streams frontier g least passed
 
   came_more : (h k : ℕ) → k < get_or counts h 0 → HaveAllCome old.streams h k
-  came_more h k below = ⊎_elim
-      (λ (lt : k < forgotten_of old h). was.decided.came h k lt)
-      (λ (last : (h ≡ g) × (k ≡ least)). subst (λ m. HaveAllCome old.streams m k) (sym last.0) (subst (HaveAllCome old.streams g) (sym last.1) all_came))
-      (below_cases h k below)
+  came_more h k below = ⊎_elim (was.decided.came h k) (λ (last : (h ≡ g) × (k ≡ least)). rw (last.0, last.1) all_came) (below_cases h k below)
 
   handled_more : (e : EventId) (k : ℕ) → place_of old.streams is_barrier e.at k ≡ Some e.index → k < get_or counts e.at.group 0 → e.index < count_of frontier e.at
   handled_more e k at below = ⊎_elim (λ (lt : k < forgotten_of old e.at.group). was.handled e k at lt) (λ (last : (e.at.group ≡ g) × (k ≡ least)). counted last.0 last.1) (below_cases e.at.group k below)
     where
       counted : e.at.group ≡ g → k ≡ least → e.index < count_of frontier e.at
       counted group number =
-          let item : e.at.item < size_of old.streams g = subst (λ m. e.at.item < size_of old.streams m) group (barrier_item old.streams prefixes e k at) in
+          let item = rw group at (barrier_item old.streams prefixes e k at) in
           let same : item_of g e.at.item ≡ e.at = λ d. record { group = sym group d; item = e.at.item } in
           let mine = subst (λ (i : ItemId). (p : ℕ) × (place_of old.streams is_barrier i least ≡ Some p) × (p < count_of frontier i)) same (passed.1 e.at.item item) in
           let index : mine.0 ≡ e.index = (let both : Some mine.0 ≡ Some e.index = sym mine.1 ∙ (ap (place_of old.streams is_barrier e.at) (sym number) ∙ at) in cc) in
           let below_count = mine.2 in
           omega (arith, index, below_count)
 
-  forgotten_groups : length counts ≡ length old.streams.sizes
-  forgotten_groups = length-set old.forgotten g (least + 1) ∙ was.decided.groups.forgotten
+  abbrev more : List (List Divergence) → Remembered
+  more lists = record { streams = old.streams; forgotten = counts; decided = lists }
 
-  -- it is not divergent
-  forgets_plain : ¬ IsDivergent old.streams g least → IsForgetting (forgetting old g) frontier
-  forgets_plain plain = record {
+  -- of a group of which no instance more is divergent the same are kept
+  still_kept : (lists : List (List Divergence)) (h : ℕ) → ((d : Divergence) → IsDivergence old.streams d → d.group ≡ h → (h ≡ g) × (d.instance ≡ least) → ⊥) → Lists DivergenceBelow (IsDecided (more lists) h) (decided_of old h)
+  still_kept lists h none = listed_same DivergenceBelow (IsDecided old h) (IsDecided (more lists) h) (decided_of old h) (was.decided.lists h)
+      (λ d is. record { divergence = is.divergence; group = is.group; below = still_below h d.instance is.below })
+      (λ d is. record {
+        divergence = is.divergence;
+        group = is.group;
+        below = ⊎_elim (λ (lt : d.instance < forgotten_of old h). lt) (λ (last : (h ≡ g) × (d.instance ≡ least)). absurd (none d is.divergence is.group last)) (below_cases h d.instance is.below);
+      })
+
+  forgets_more : (lists : List (List Divergence)) → length lists ≡ length old.streams.sizes → ((h : ℕ) → Lists DivergenceBelow (IsDecided (more lists) h) (get_or lists h [])) → IsForgetting (more lists) frontier
+  forgets_more lists size listed = record {
     decided = record {
-      groups = record { forgotten = forgotten_groups; decided = was.decided.groups.decided };
+      groups = record { forgotten = length-set old.forgotten g (least + 1) ∙ was.decided.groups.forgotten; decided = size };
       came = came_more;
-      lists = λ h. listed_same DivergenceBelow (IsDecided old h) (IsDecided (forgetting old g) h) (decided_of old h) (was.decided.lists h)
-          (λ d is. record { divergence = is.divergence; group = is.group; below = still_below h d.instance is.below })
-          (λ d is. record {
-            divergence = is.divergence;
-            group = is.group;
-            below = ⊎_elim
-                (λ (lt : d.instance < forgotten_of old h). lt)
-                (λ (last : (h ≡ g) × (d.instance ≡ least)). absurd (plain (subst (λ m. IsDivergent old.streams m least) (is.group ∙ last.0) (subst (IsDivergent old.streams d.group) last.1 is.divergence.divergent))))
-                (below_cases h d.instance is.below);
-          });
+      lists = listed;
     };
     handled = handled_more;
   }
 
+  -- it is not divergent
+  forgets_plain : ¬ IsDivergent old.streams g least → IsForgetting (forgetting old g) frontier
+  forgets_plain plain = forgets_more old.decided was.decided.groups.decided
+      (λ h. still_kept old.decided h (λ d is group last. plain (rw (group ∙ last.0, last.1) at is.divergent)))
+
   -- it is, and kept as this divergence
   module _ (d : Divergence) (is : IsDivergence old.streams d) (group : d.group ≡ g) (instance : d.instance ≡ least) where
+    abbrev lists : List (List Divergence)
+    lists = set old.decided g (decided_of old g ++ d ∷ [])
+
     abbrev kept : Remembered
-    kept = record { streams = old.streams; forgotten = counts; decided = set old.decided g (decided_of old g ++ d ∷ []) }
+    kept = more lists
 
     is_this : (e : Divergence) → IsDivergence old.streams e → e.group ≡ g → e.instance ≡ least → e ≡ d
     is_this e is_too group_too instance_too =
         let same_group : e.group ≡ d.group = group_too ∙ sym group in
         let same_instance : e.instance ≡ d.instance = instance_too ∙ sym instance in
         let s = old.streams in
-        let cause = subst (λ n. HasDivergenceCause (is_complete (list_of s n)) (size_of s n) (arrivals s n d.instance) e.cause) same_group (subst (λ n. HasDivergenceCause (is_complete (list_of s e.group)) (size_of s e.group) (arrivals s e.group n) e.cause) same_instance is_too.cause) in
+        let cause = rw (same_group, same_instance) at is_too.cause in
         let same : e.cause ≡ d.cause = one_cause (is_complete (list_of s d.group)) (size_of s d.group) (arrivals s d.group d.instance) e.cause d.cause cause is.cause in
         λ i. record { group = same_group i; instance = same_instance i; cause = same i }
 
@@ -316,31 +278,14 @@ module _ (old : Remembered) (prefixes : ArePrefixes old.streams) (frontier : Cou
     lists_kept : (h : ℕ) → Lists DivergenceBelow (IsDecided kept h) (decided_of kept h)
     lists_kept h = ⊎_elim
         (λ (here : h ≡ g).
-        let same : decided_of kept g ≡ decided_of old g ++ d ∷ [] = get_or-set_same old.decided g (decided_of old g ++ d ∷ []) [] (omega (arith, within, was.decided.groups.decided)) in
-        subst (λ m. Lists DivergenceBelow (IsDecided kept m) (decided_of kept m)) (sym here) (subst (Lists DivergenceBelow (IsDecided kept g)) (sym same) lists_here))
+        rw (here, get_or-set_same old.decided g (decided_of old g ++ d ∷ []) [] (omega (arith, within, was.decided.groups.decided))) lists_here)
         (λ (apart : h ≡ g → ⊥).
-        let same : decided_of kept h ≡ decided_of old h = get_or-set_other old.decided g h (decided_of old g ++ d ∷ []) [] apart in
-        subst (Lists DivergenceBelow (IsDecided kept h)) (sym same) (listed_same DivergenceBelow (IsDecided old h) (IsDecided kept h) (decided_of old h) (was.decided.lists h)
-        (λ e is_old. record { divergence = is_old.divergence; group = is_old.group; below = still_below h e.instance is_old.below })
-        (λ e is_new. record {
-          divergence = is_new.divergence;
-          group = is_new.group;
-          below = ⊎_elim (λ (lt : e.instance < forgotten_of old h). lt) (λ (last : (h ≡ g) × (e.instance ≡ least)). absurd (apart last.0)) (below_cases h e.instance is_new.below);
-        })))
+        rw (get_or-set_other old.decided g h (decided_of old g ++ d ∷ []) [] apart) (still_kept lists h (λ e is_new here last. apart last.0)))
         (cases_eq h g)
 
-    forgets_kept : IsForgetting kept frontier
-    forgets_kept = record {
-      decided = record {
-        groups = record { forgotten = forgotten_groups; decided = length-set old.decided g (decided_of old g ++ d ∷ []) ∙ was.decided.groups.decided };
-        came = came_more;
-        lists = lists_kept;
-      };
-      handled = handled_more;
-    }
-
     forgets_decided : IsForgetting (deciding old d) frontier
-    forgets_decided = subst (λ n. IsForgetting (record { streams = old.streams; forgotten = set old.forgotten n (forgotten_of old n + 1); decided = set old.decided n (decided_of old n ++ d ∷ []) }) frontier) (sym group) forgets_kept
+    forgets_decided = subst (λ n. IsForgetting (record { streams = old.streams; forgotten = set old.forgotten n (forgotten_of old n + 1); decided = set old.decided n (decided_of old n ++ d ∷ []) }) frontier) (sym group)
+        (forgets_more lists (length-set old.decided g (decided_of old g ++ d ∷ []) ∙ was.decided.groups.decided) lists_kept)
 
   pub forgets_least : (new : Remembered) → ForgetsLeast old g new → IsForgetting new frontier
   forgets_least new (inl plain) = subst (λ (r : Remembered). IsForgetting r frontier) (sym plain.0) (forgets_plain plain.1)
@@ -374,14 +319,11 @@ next_came s frontier g k next = (next.some, λ i within. (next.mark, (next.each 
 module _ (old : Remembered) (prefixes : ArePrefixes old.streams) (before after : Counts) (g n : ℕ) (size : n ≡ size_of old.streams g) (ticks : TicksItems before g n after) (was : IsForgetting old before) where
   more_counted : AreMore before after
   more_counted i = ⊎_elim
-      (λ (here : i.group ≡ g). ⊎_elim
-      (λ (below : i.item < n).
-      let same : item_of g i.item ≡ i = λ d. record { group = sym here d; item = i.item } in
-      let more : count_of after i ≡ count_of before i + 1 = subst (λ (j : ItemId). count_of after j ≡ count_of before j + 1) same (ticks.items i.item below) in omega (arith, more))
-      (λ (past : n ≤ i.item). let same = ticks.others i (inr past) in omega (arith, same))
-      (cases_lt i.item n))
-      (λ (apart : i.group ≡ g → ⊥). let same = ticks.others i (inl apart) in omega (arith, same))
-      (cases_eq i.group g)
+      (λ (here : (i.group ≡ g) × (i.item < n)).
+      let same : item_of g i.item ≡ i = λ d. record { group = sym here.0 d; item = i.item } in
+      let more = subst (λ (j : ItemId). count_of after j ≡ count_of before j + 1) same (ticks.items i.item here.1) in omega (arith, more))
+      (λ (beyond : IsBeyond g n i). omega (arith, ticks.others i beyond))
+      (within_or_beyond g n i)
 
   on : IsForgetting old after
   on = forgets_on old before after more_counted was

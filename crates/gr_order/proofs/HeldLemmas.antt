@@ -22,7 +22,7 @@ use Rattle.gr_order.proofs.StateLemmas.{item_cases, item_there, tick_here, tick_
 use Rattle.gr_order.proofs.SumLemmas.{group_more, item_more, items_at_most}
 use Rattle.gr_order.proofs.TakenLemmas.{events_most, taken_events, trace_most}
 
-module _ (q : Sequence) (frontier : Counts) (held : ℕ) (state : IsOrderState q frontier held) where
+module _ {q : Sequence} {frontier : Counts} {held : ℕ} (state : IsOrderState q frontier held) where
   abbrev traces : ItemId → ℕ
   traces i = length (trace_of q.taken i)
 
@@ -72,7 +72,7 @@ module _ (q : Sequence) (frontier : Counts) (held : ℕ) (state : IsOrderState q
     is_taken = slice_get_within (trace_of q.taken e.at) e.index ready.event.0 ready.event.1
 
     ready_item : HasItem q.taken.sizes e.at
-    ready_item = item_there q frontier held state e ready
+    ready_item = item_there state e ready
 
     pub ready_can_count : count_of frontier e.at ≢ LARGEST_COUNT
     ready_can_count full =

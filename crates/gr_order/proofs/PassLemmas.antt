@@ -1,31 +1,30 @@
 -- An order stays one where the next events of a group's items are handled, as an instance meets.
-use Rattle.std.proofs.Common.{◌≡◌, ◌⊎◌, ℕ, ◌+◌, ◌<◌, ◌≤◌, List, ◌++◌, ◌∷◌, [], append_assoc, length, Some, slice_get, get_or, refl, sym, ap, ◌∙◌, subst, inl, inr, ⊎_elim, arith}
+use Rattle.std.proofs.Common.{◌≡◌, ◌⊎◌, ℕ, ◌+◌, ◌<◌, ◌≤◌, List, ◌++◌, ◌∷◌, [], append_assoc, length, Some, slice_get, refl, sym, ap, ◌∙◌, subst, inl, inr, ⊎_elim, arith}
 use Rattle.std.proofs.lemmas.Bool.{cases_eq, cases_lt}
-use Rattle.std.proofs.lemmas.List.{get_or_past, length-append}
+use Rattle.std.proofs.lemmas.List.{length-append}
 use Rattle.std.proofs.lemmas.List.FromFn.{get_or-map-range_with_len, length-map-range_with_len, map-range_with_len_more}
 use Rattle.std.proofs.lemmas.Option.{get_or_from_slice_get, slice_get_within}
 use Rattle.gr_model.specs.declared.event.EventId.{EventId}
 use Rattle.gr_model.specs.declared.event.ItemId.{ItemId}
 use Rattle.gr_model.specs.Barriers.{StandsIn}
-use Rattle.gr_model.specs.Instances.{Mark}
 use Rattle.gr_model.specs.LawfulOrders.{IsIn, IsLawful}
-use Rattle.gr_model.specs.Shapes.{HasItem}
 use Rattle.gr_model.specs.Streams.{size_of, trace_of}
 use Rattle.gr_model.proofs.Places.{slice_get-append}
 use Rattle.gr_model.proofs.Cuts.{same_event}
 use Rattle.gr_clocks.specs.declared.clock.TheConstants.{LARGEST_COUNT}
-use Rattle.gr_clocks.specs.Counts.{Counts, IsTick, count_of, sizes_of}
+use Rattle.gr_clocks.specs.Counts.{Counts, IsTick, count_of}
 use Rattle.gr_clocks.specs.Tables.{IsBeyond, item_of}
-use Rattle.gr_steps.specs.Steps.{AreBarriers, CanMeet, IsMeeting}
+use Rattle.gr_steps.specs.Steps.{AreBarriers, CanMeet}
 use Rattle.gr_steps.proofs.Meeting.{lawful_meet}
 use Rattle.gr_steps.proofs.Orders.{at_behind, split_last, there_is}
 use Rattle.gr_order.specs.Readiness.{IsNextInstance}
 use Rattle.gr_order.specs.Sequences.{MeetsInstance, MeetsNext, Sequence}
 use Rattle.gr_order.specs.States.{AreBelowFrontier, IsOrderState, TicksItems, counted_in, next_event, next_events}
+use Rattle.gr_order.proofs.DecidedLemmas.{size_there}
 use Rattle.gr_order.proofs.HeldLemmas.{group_is_held}
 use Rattle.gr_order.proofs.MeetLemmas.{meets_next}
 use Rattle.gr_lanes.proofs.InstanceLemmas.{barrier_mark}
-use Rattle.gr_order.proofs.StateLemmas.{tick_here, tick_there}
+use Rattle.gr_order.proofs.StateLemmas.{tick_more, tick_stays, within_or_beyond}
 use Rattle.gr_order.proofs.SumLemmas.{group_more}
 use Rattle.gr_order.proofs.TakenLemmas.{trace_most}
 
@@ -41,32 +40,20 @@ one_event_more frontier g n index is before =
     append_assoc before (next_events frontier g n) (event_of (item_of g n) index ∷ [])
     ∙ ap (λ (l : List EventId). before ++ l) (ap (λ (m : ℕ). next_events frontier g n ++ (event_of (item_of g n) m ∷ [])) is ∙ sym more)
 
--- no item counts more yet
-pub none_ticked : (c : Counts) (g : ℕ) → TicksItems c g 0 c
-none_ticked c g = record { shape = refl; items = λ k lt. absurd (omega arith); others = λ j beyond. refl }
-
 module _ (old now : Counts) (g n : ℕ) (ticks : TicksItems old g n now) where
   pub item_waits : count_of now (item_of g n) ≡ count_of old (item_of g n)
   item_waits = ticks.others (item_of g n) (inr (omega arith))
-
-  pub item_is_there : g < length (sizes_of old) → n < get_or (sizes_of old) g 0 → HasItem (sizes_of now) (item_of g n)
-  item_is_there group item = subst (λ sizes. HasItem sizes (item_of g n)) (sym ticks.shape) (group, item)
 
   pub one_tick_more : (new : Counts) → IsTick now (item_of g n) new → TicksItems old g (n + 1) new
   one_tick_more new tick = record {
     shape = tick.shape ∙ ticks.shape;
     items = λ k lt. ⊎_elim
-        (λ (here : k ≡ n). subst (λ m. count_of new (item_of g m) ≡ count_of old (item_of g m) + 1) (sym here) (tick.counts (item_of g n) ∙ (ap (λ m. count_of now (item_of g n) + m) (tick_here (item_of g n) (item_of g n) refl) ∙ ap (λ m. m + 1) item_waits)))
-        (λ (apart : k ≡ n → ⊥).
-        let still : count_of new (item_of g k) ≡ count_of now (item_of g k) = stays (item_of g k) (λ same. apart (ap (λ (i : ItemId). i.item) (sym same))) in
-        still ∙ ticks.items k (omega arith))
+        (λ (here : k ≡ n). rw here (tick_more tick ∙ ap (λ m. m + 1) item_waits))
+        (λ (apart : k ≡ n → ⊥). tick_stays tick (item_of g k) (λ same. apart (ap (λ (i : ItemId). i.item) (sym same))) ∙ ticks.items k (omega arith))
         (cases_eq k n);
-    others = λ j beyond. stays j (λ same. is_beyond j same beyond) ∙ ticks.others j (⊎_elim (λ group. inl group) (λ (past : n + 1 ≤ j.item). inr (omega arith)) beyond);
+    others = λ j beyond. tick_stays tick j (λ same. is_beyond j same beyond) ∙ ticks.others j (⊎_elim (λ group. inl group) (λ (past : n + 1 ≤ j.item). inr (omega arith)) beyond);
   }
     where
-      stays : (j : ItemId) → (item_of g n ≡ j → ⊥) → count_of new j ≡ count_of now j
-      stays j apart = tick.counts j ∙ (ap (λ m. count_of now j + m) (tick_there (item_of g n) j apart) ∙ omega arith)
-
       is_beyond : (j : ItemId) → item_of g n ≡ j → IsBeyond g (n + 1) j → ⊥
       is_beyond j same (inl group) = group (ap (λ (i : ItemId). i.group) (sym same))
       is_beyond j same (inr past) = let item : n ≡ j.item = ap (λ (i : ItemId). i.item) same in omega arith
@@ -92,20 +79,13 @@ module _ (frontier : Counts) (g n : ℕ) where
   -- ---- the handled events and the clock behind them
 
   module _ (order : List EventId) (first : AreBelowFrontier order frontier) (new : Counts) (ticks : TicksItems frontier g n new) where
-    -- whether an item is one of those that tick
-    cases_of : (j : ItemId) → ((j.group ≡ g) × (j.item < n)) ⊎ IsBeyond g n j
-    cases_of j = ⊎_elim
-        (λ (here : j.group ≡ g). ⊎_elim (λ (lt : j.item < n). inl (here, lt)) (λ (ge : n ≤ j.item). inr (inr ge)) (cases_lt j.item n))
-        (λ (apart : j.group ≡ g → ⊥). inr (inl apart))
-        (cases_eq j.group g)
-
     count_here : (j : ItemId) → j.group ≡ g → j.item < n → count_of new j ≡ count_of frontier j + 1
     count_here j here lt =
         let same : item_of g j.item ≡ j = λ d. record { group = sym here d; item = j.item } in
         subst (λ i. count_of new i ≡ count_of frontier i + 1) same (ticks.items j.item lt)
 
     grows : (j : ItemId) → count_of frontier j ≤ count_of new j
-    grows j = ⊎_elim (λ (here : (j.group ≡ g) × (j.item < n)). let now = count_here j here.0 here.1 in omega arith) (λ (beyond : IsBeyond g n j). let same = ticks.others j beyond in omega arith) (cases_of j)
+    grows j = ⊎_elim (λ (here : (j.group ≡ g) × (j.item < n)). let now = count_here j here.0 here.1 in omega arith) (λ (beyond : IsBeyond g n j). let same = ticks.others j beyond in omega arith) (within_or_beyond g n j)
 
     counted : (e : EventId) → IsIn (order ++ next_events frontier g n) e → e.index < count_of new e.at
     counted e (p, at) = ⊎_elim
@@ -130,23 +110,23 @@ module _ (frontier : Counts) (g n : ℕ) where
         let now = count_here e.at here.0 here.1 in
         ⊎_elim (λ (below : e.index < count_of frontier e.at). was_there e below) (λ (ge : count_of frontier e.at ≤ e.index). is_next e here.0 here.1 (omega arith)) (cases_lt e.index (count_of frontier e.at)))
         (λ (beyond : IsBeyond g n e.at). let same = ticks.others e.at beyond in was_there e (omega arith))
-        (cases_of e.at)
+        (within_or_beyond g n e.at)
 
     pub first_behind : AreBelowFrontier (order ++ next_events frontier g n) new
     first_behind e = (counted e, found e)
 
 -- ---- an instance meets
 
-module _ (q : Sequence) (frontier : Counts) (held : ℕ) (state : IsOrderState q frontier held) (g k : ℕ) (a : Mark) (meeting : IsMeeting q.taken q.handled g k a) where
-  next : IsNextInstance q.taken frontier g k
-  next = meets_next q.taken q.handled frontier state.first g k a meeting
+module _ {q : Sequence} {frontier : Counts} {held : ℕ} (state : IsOrderState q frontier held) (g : ℕ) (can : CanMeet q.taken q.handled g) where
+  next : IsNextInstance q.taken frontier g can.0
+  next = meets_next q.taken q.handled frontier state.first g can.0 can.1 can.2
 
   pub group_there : g < length q.taken.sizes
-  group_there = ⊎_elim (λ (lt : g < length q.taken.sizes). lt) (λ (past : length q.taken.sizes ≤ g). absurd (let none : size_of q.taken g ≡ 0 = get_or_past q.taken.sizes g 0 past in let some = next.some in omega arith)) (cases_lt g (length q.taken.sizes))
+  group_there = size_there q.taken g next.some
 
   pub below_trace : (i : ℕ) → i < size_of q.taken g → count_of frontier (item_of g i) < length (trace_of q.taken (item_of g i))
   below_trace i lt =
-      let there = barrier_mark 0 (trace_of q.taken (item_of g i)) k (count_of frontier (item_of g i)) (next.each i lt).place in
+      let there = barrier_mark 0 (trace_of q.taken (item_of g i)) can.0 (count_of frontier (item_of g i)) (next.each i lt).place in
       let within : there.0 < length (trace_of q.taken (item_of g i)) = slice_get_within (trace_of q.taken (item_of g i)) there.0 there.1 there.3 in
       omega (arith, there.2, within)
 
@@ -154,19 +134,19 @@ module _ (q : Sequence) (frontier : Counts) (held : ℕ) (state : IsOrderState q
   below_largest i lt = let below = below_trace i lt in let most = trace_most q.taken state.sequence.prefixes (item_of g i) group_there in omega arith
 
   pub barriers_are_held : size_of q.taken g ≤ held
-  barriers_are_held = group_is_held q frontier held state g group_there below_trace
+  barriers_are_held = group_is_held state g group_there below_trace
 
-  are_barriers : AreBarriers q.taken g k (next_events frontier g (size_of q.taken g))
+  are_barriers : AreBarriers q.taken g can.0 (next_events frontier g (size_of q.taken g))
   are_barriers = record {
     count = next_count frontier g (size_of q.taken g);
     each = λ i b at.
         let is = next_is frontier g (size_of q.taken g) i b at in
-        subst (λ (x : EventId). (x.at.item ≡ i) × StandsIn q.taken x g k) (sym is.1) (refl, record { group = refl; item = is.0; place = (next.each i is.0).place });
+        subst (λ (x : EventId). (x.at.item ≡ i) × StandsIn q.taken x g can.0) (sym is.1) (refl, record { group = refl; item = is.0; place = (next.each i is.0).place });
   }
 
   -- so do the next events of the group, with the clock that counts them
-  pub passes : (new : Counts) (items : List EventId) → TicksItems frontier g (size_of q.taken g) new → items ≡ q.handled ++ next_events frontier g (size_of q.taken g) → MeetsInstance q g k (record { taken = q.taken; handled = items })
-  passes new items ticks is = record { taken = refl; meets = record { mark = a; meeting = meeting; barriers = next_events frontier g (size_of q.taken g); are = are_barriers; order = is } }
+  pub passes : (new : Counts) (items : List EventId) → TicksItems frontier g (size_of q.taken g) new → items ≡ q.handled ++ next_events frontier g (size_of q.taken g) → MeetsInstance q g can.0 (record { taken = q.taken; handled = items })
+  passes new items ticks is = record { taken = refl; meets = record { mark = can.1; meeting = can.2; barriers = next_events frontier g (size_of q.taken g); are = are_barriers; order = is } }
 
   pub after_pass : (new : Counts) (items : List EventId) (less : ℕ) → TicksItems frontier g (size_of q.taken g) new → items ≡ q.handled ++ next_events frontier g (size_of q.taken g) → less + size_of q.taken g ≡ held → IsOrderState (record { taken = q.taken; handled = items }) new less
   after_pass new items less ticks is rest =
@@ -178,7 +158,7 @@ module _ (q : Sequence) (frontier : Counts) (held : ℕ) (state : IsOrderState q
       let taken = state.rest in record {
         sequence = record {
           prefixes = state.sequence.prefixes;
-          lawful = subst (IsLawful q.taken) (sym is) (lawful_meet q.taken state.sequence.prefixes q.handled state.sequence.lawful g k a meeting (next_events frontier g (size_of q.taken g)) are_barriers);
+          lawful = subst (IsLawful q.taken) (sym is) (lawful_meet q.taken state.sequence.prefixes q.handled state.sequence.lawful g can.0 can.1 can.2 (next_events frontier g (size_of q.taken g)) are_barriers);
         };
         shape = ticks.shape ∙ state.shape;
         first = subst (λ (l : List EventId). AreBelowFrontier l new) (sym is) (first_behind frontier g (size_of q.taken g) q.handled state.first new ticks);
@@ -203,8 +183,8 @@ module _ {q : Sequence} {frontier : Counts} {held g n : ℕ} {items : List Event
   ticked = subst (λ (m : ℕ). TicksItems frontier g m new) p.size p.ticks
 
   pub state_behind : IsOrderState (record { taken = q.taken; handled = items }) new less
-  state_behind = after_pass q frontier held p.state g p.can.0 p.can.1 p.can.2 new items less ticked order (let size = p.size in let rest = p.rest in omega arith)
+  state_behind = after_pass p.state g p.can new items less ticked order (let size = p.size in let rest = p.rest in omega arith)
 
   -- the same of the sequence by another name
   pub meets_behind : (old : Sequence) → q ≡ old → MeetsNext old g (record { taken = q.taken; handled = items })
-  meets_behind old is = subst (λ (v : Sequence). MeetsNext v g (record { taken = q.taken; handled = items })) is (λ k a meeting. passes q frontier held p.state g k a meeting new items ticked order)
+  meets_behind old is = subst (λ (v : Sequence). MeetsNext v g (record { taken = q.taken; handled = items })) is (λ k a meeting. passes p.state g (k, a, meeting) new items ticked order)

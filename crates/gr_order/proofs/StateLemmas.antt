@@ -20,6 +20,7 @@ use Rattle.gr_model.proofs.Places.{slice_get-append}
 use Rattle.gr_model.proofs.Cuts.{same_event}
 use Rattle.gr_clocks.specs.Rows.{same_item}
 use Rattle.gr_clocks.specs.Counts.{Counts, IsTick, IsZero, count_of, tick_at}
+use Rattle.gr_clocks.specs.Tables.{IsBeyond}
 use Rattle.gr_clocks.proofs.RowLemmas.{same_items}
 use Rattle.gr_lanes.specs.Takes.{CanTake, nothing_taken, with_record}
 use Rattle.gr_lanes.proofs.Growth.{record_grows}
@@ -47,7 +48,7 @@ new_state sizes taken is prefixes frontier clock items none =
     nowhere there = let at = there.1 in cc
 
 -- a record is taken
-module _ (q : Sequence) (frontier : Counts) (held : ℕ) (state : IsOrderState q frontier held) where
+module _ {q : Sequence} {frontier : Counts} {held : ℕ} (state : IsOrderState q frontier held) where
   pub took : (g : ℕ) (x : Event) (new : Streams) → ArePrefixes new → CanTake q.taken g x → new ≡ with_record q.taken g x → (more : ℕ) → more ≡ held + one_if (not (is_end x)) → IsOrderState (record { taken = new; handled = q.handled }) frontier more
   took g x new prefixes can is more counts =
       let events : event_count new ≡ event_count q.taken + one_if (not (is_end x)) = ap (λ (s : Streams). event_count s) is ∙ events_more q.taken g x state.sequence.prefixes can in
@@ -75,11 +76,7 @@ pub tick_here : (i j : ItemId) → i ≡ j → tick_at i j ≡ 1
 tick_here i j same = ap tick_if (same_true i j same)
 
 pub tick_there : (i j : ItemId) → (i ≡ j → ⊥) → tick_at i j ≡ 0
-tick_there i j apart = by_test (same_item i j) refl
-  where
-    by_test : (b : Bool) → same_item i j ≡ b → tick_at i j ≡ 0
-    by_test true t = absurd (apart (same_items i j t))
-    by_test false f = ap tick_if f
+tick_there i j apart = grind (arith, same_items i j)
 
 in_more : (order : List EventId) (e d : EventId) → IsIn (order ++ e ∷ []) d → IsIn order d ⊎ (d ≡ e)
 in_more order e d (p, at) = ⊎_elim (λ before. inl (p, before)) (λ (last : (i : ℕ) × (p ≡ length order + i) × (slice_get (e ∷ []) i ≡ Some d)). inr (only last.0 last.2)) (split_last order (e ∷ []) p d at)
@@ -98,7 +95,19 @@ item_cases i j = elim (same_item i j) as (λ b. same_item i j ≡ b → (i ≡ j
   | false ↦ λ f. inr (λ same. true≢false (sym (same_true i j same) ∙ f))
 ] refl
 
-module _ (q : Sequence) (frontier : Counts) (held : ℕ) (state : IsOrderState q frontier held) (e : EventId) (ready : IsReady q.taken q.handled e) where
+-- what a clock counts behind a tick
+module _ {old : Counts} {i : ItemId} {new : Counts} (tick : IsTick old i new) where
+  pub tick_more : count_of new i ≡ count_of old i + 1
+  tick_more = omega (arith, tick.counts i, tick_here i i refl)
+
+  pub tick_stays : (j : ItemId) → (i ≡ j → ⊥) → count_of new j ≡ count_of old j
+  tick_stays j apart = omega (arith, tick.counts j, tick_there i j apart)
+
+-- an item is one of the first n of a group, or beyond them
+pub within_or_beyond : (g n : ℕ) (j : ItemId) → ((j.group ≡ g) × (j.item < n)) ⊎ IsBeyond g n j
+within_or_beyond g n j = grind arith
+
+module _ {q : Sequence} {frontier : Counts} {held : ℕ} (state : IsOrderState q frontier held) (e : EventId) (ready : IsReady q.taken q.handled e) where
   abbrev counts : ItemId → ℕ
   counts i = count_of frontier i
 
@@ -108,13 +117,13 @@ module _ (q : Sequence) (frontier : Counts) (held : ℕ) (state : IsOrderState q
   first_more : (new : Counts) → IsTick frontier e.at new → AreBelowFrontier (q.handled ++ e ∷ []) new
   first_more new tick d = ⊎_elim
       (λ (here : e.at ≡ d.at).
-      let now : count_of new d.at ≡ e.index + 1 = tick.counts d.at ∙ (ap (λ n. count_of frontier d.at + n) (tick_here e.at d.at here) ∙ ap (λ n. n + 1) (ap (count_of frontier) (sym here) ∙ sym index_is)) in
+      let now = rw here at (tick_more tick) in
       let was : count_of frontier d.at ≡ e.index = ap (count_of frontier) (sym here) ∙ sym index_is in (
         λ h. ⊎_elim (λ old. let lt = (state.first d).0 old in omega arith) (λ (same : d ≡ e). let i : d.index ≡ e.index = ap (λ (x : EventId). x.index) same in omega arith) (in_more q.handled e d h),
         λ lt. more_in q.handled e d (⊎_elim (λ (below : d.index < e.index). inl ((state.first d).1 (omega arith))) (λ (ge : e.index ≤ d.index). inr (same_event d e (sym here) (omega arith))) (cases_lt d.index e.index)),
       ))
       (λ (apart : e.at ≡ d.at → ⊥).
-      let now : count_of new d.at ≡ count_of frontier d.at = tick.counts d.at ∙ (ap (λ n. count_of frontier d.at + n) (tick_there e.at d.at apart) ∙ omega arith) in (
+      let now = tick_stays tick d.at apart in (
         λ h. ⊎_elim (λ old. let lt = (state.first d).0 old in omega arith) (λ (same : d ≡ e). absurd (apart (ap (λ (x : EventId). x.at) (sym same)))) (in_more q.handled e d h),
         λ lt. more_in q.handled e d (inl ((state.first d).1 (omega arith))),
       ))
@@ -129,8 +138,7 @@ module _ (q : Sequence) (frontier : Counts) (held : ℕ) (state : IsOrderState q
       let rest = state.rest in
       let more : counted_in new q.taken.sizes ≡ counted_in frontier q.taken.sizes + 1 =
       item_more counts (λ j. count_of new j) q.taken.sizes e.at item_there
-      (let ticks = tick.counts e.at in let here = tick_here e.at e.at refl in omega arith)
-      (λ j apart. let ticks = tick.counts j in let none = tick_there e.at j apart in omega arith) in
+      (tick_more tick) (tick_stays tick) in
       let handled = state.counts in record {
         sequence = record { prefixes = state.sequence.prefixes; lawful = subst (IsLawful q.taken) (sym is) (lawful_handle q.taken q.handled state.sequence.lawful e ready) };
         shape = tick.shape ∙ state.shape;

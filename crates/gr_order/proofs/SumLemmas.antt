@@ -123,7 +123,7 @@ items_at_most f h sizes most =
 
 -- ---- a group comes
 
-total_none : (f : ℕ → ℕ) (a n : ℕ) → ((k : ℕ) → a ≤ k → k < a + n → f k ≡ 0) → total f a n ≡ 0
+pub total_none : (f : ℕ → ℕ) (a n : ℕ) → ((k : ℕ) → a ≤ k → k < a + n → f k ≡ 0) → total f a n ≡ 0
 total_none f a zero none = refl
 total_none f a (suc n) none = let first = none a (omega arith) (omega arith) in let rest = total_none f (a + 1) n (λ k ge lt. none k (omega arith) (omega arith)) in omega arith
 

@@ -15,7 +15,7 @@ use Rattle.gr_model.specs.Streams.{ArePrefixes, Streams, is_of, list_of, size_of
 use Rattle.gr_model.proofs.ListsOfRecords.{length-filter_le}
 use Rattle.gr_lanes.specs.Takes.{CanTake, nothing_taken, with_record}
 use Rattle.gr_order.specs.Sequences.{event_count}
-use Rattle.gr_order.proofs.SumLemmas.{group_sum, items_sum, sum_places, total, total_more, total_same}
+use Rattle.gr_order.proofs.SumLemmas.{group_sum, items_sum, sum_places, total, total_more, total_none, total_same}
 
 -- how many events a list has, ends aside
 abbrev pub events_in : List Event → ℕ
@@ -46,11 +46,7 @@ abbrev AreWithin : ℕ → List Event → Type 0
 AreWithin n list = (p : ℕ) (x : Event) → slice_get list p ≡ Some x → x.item < n
 
 pub group_events : (n : ℕ) (list : List Event) → AreWithin n list → total (λ i. length (filter (is_of i) list)) 0 n ≡ events_in list
-group_events n [] within = none 0 n
-  where
-    none : (a n : ℕ) → total (λ i. 0) a n ≡ 0
-    none a zero = refl
-    none a (suc n) = let rest = none (a + 1) n in omega arith
+group_events n [] within = total_none (λ i. 0) 0 n (λ k ge lt. refl)
 group_events n (x ∷ list) within =
     let rest = group_events n list (λ p y at. within (suc p) y at) in
     let more : total (λ i. length (filter (is_of i) (x ∷ list))) 0 n ≡ total (λ i. length (filter (is_of i) list)) 0 n + one_if (not (is_end x)) =

@@ -1,6 +1,7 @@
 -- The events that wait, where a record is taken, and where events are handled.
-use Rattle.std.proofs.Common.{◌≡◌, ◌⊎◌, ℕ, zero, suc, ◌+◌, ◌-◌, ◌<◌, ◌≤◌, add-one, Bool, true, false, not, ◌&&◌, ◌==◌, cond, List, [], ◌∷◌, ◌++◌, length, map, drop, take, get_or, filter, refl, sym, ap, ◌∙◌, subst, inl, inr, ⊎_elim, arith, append-nil}
-use Rattle.std.proofs.lemmas.Bool.{cases_eq, cases_lt, eq-eqb, ne_eqb}
+use Rattle.std.proofs.Common.{◌≡◌, ◌⊎◌, ℕ, zero, suc, ◌+◌, ◌-◌, ◌<◌, true, false, ◌&&◌, cond, List, [], ◌∷◌, ◌++◌, length, map, drop, take, get_or, filter, refl, sym, ap, ◌∙◌, subst, ⊎_elim, arith, append-nil}
+use Rattle.std.proofs.lemmas.Bool.Decides.{nat_tests}
+use Rattle.std.proofs.lemmas.Bool.{cases_eq, eq-eqb, ne_eqb}
 use Rattle.std.proofs.lemmas.List.{drop-append-le, length-map}
 use Rattle.gr_model.specs.declared.event.Event.{Event}
 use Rattle.gr_model.specs.declared.event.EventId.{EventId}
@@ -12,41 +13,29 @@ use Rattle.gr_clocks.specs.Counts.{Counts, IsTick, count_of}
 use Rattle.gr_clocks.specs.Tables.{IsBeyond, item_of}
 use Rattle.gr_lanes.specs.Takes.{CanTake, nothing_taken, with_record}
 use Rattle.gr_lanes.proofs.Growth.{here, other}
-use Rattle.gr_lanes.proofs.IndexLemmas.{end_is_of, trace_more}
+use Rattle.gr_lanes.proofs.IndexLemmas.{trace_more}
 use Rattle.gr_windows.specs.Windows.{AreWaiting, Changes, DropsItems, IsEmpty, Table, window_of}
 use Rattle.gr_windows.proofs.WindowLemmas.{drop_none, drop_one, take_pushed}
 use Rattle.gr_order.specs.Sequences.{Sequence}
 use Rattle.gr_order.specs.States.{AreBelowFrontier, TicksItems}
 use Rattle.gr_order.specs.Waiting.{AreSame, IsKept, Keeps, added, is_at}
 use Rattle.gr_order.proofs.HeldLemmas.{taken_first}
-use Rattle.gr_order.proofs.StateLemmas.{item_cases, tick_here, tick_there}
+use Rattle.gr_order.proofs.StateLemmas.{item_cases, tick_more, tick_stays, within_or_beyond}
 
 -- ---- what a record adds
-
-and_false : (b : Bool) → (b && false) ≡ false
-and_false true = refl
-and_false false = refl
 
 none_added : (g : ℕ) (x : Event) (i : ItemId) → is_at g x i ≡ false → added g x i ≡ []
 none_added g x i is = ap (λ b. cond b (x ∷ []) []) is
 
 pub end_adds_none : (g : ℕ) (x : Event) (i : ItemId) → is_end x ≡ true → added g x i ≡ []
-end_adds_none g x i end = none_added g x i (ap (λ b. (i.group == g) && b) (end_is_of x i.item end) ∙ and_false (i.group == g))
+end_adds_none g x i end = grind (arith, nat_tests)
 
 pub adds_here : (g : ℕ) (x : Event) → is_end x ≡ false → added g x (item_of g x.item) ≡ x ∷ []
-adds_here g x on =
-    let is : is_at g x (item_of g x.item) ≡ true =
-    ap (λ b. b && is_of x.item x) (eq-eqb g g refl) ∙ (ap (λ b. b && not (is_end x)) (eq-eqb x.item x.item refl) ∙ ap not on) in
-    ap (λ b. cond b (x ∷ []) []) is
+adds_here g x on = grind (arith, nat_tests)
 
 pub adds_none : (g : ℕ) (x : Event) (i : ItemId) → (i ≡ item_of g x.item → ⊥) → added g x i ≡ []
-adds_none g x i apart = none_added g x i (⊎_elim
-    (λ (group : i.group ≡ g). ⊎_elim
-    (λ (item : x.item ≡ i.item). absurd (apart (λ d. record { group = group d; item = sym item d })))
-    (λ (differs : x.item ≡ i.item → ⊥). ap (λ b. (i.group == g) && (b && not (is_end x))) (ne_eqb x.item i.item differs) ∙ and_false (i.group == g))
-    (cases_eq x.item i.item))
-    (λ (differs : i.group ≡ g → ⊥). ap (λ b. b && is_of i.item x) (ne_eqb i.group g differs))
-    (cases_eq i.group g))
+adds_none g x i apart =
+    let neither : i.group ≡ g → i.item ≡ x.item → ⊥ = λ p q. apart (λ d. record { group = p d; item = q d }) in grind (arith, nat_tests)
 
 pub keeps_end : (w : Table) (g : ℕ) (x : Event) → is_end x ≡ true → Keeps w g x w
 keeps_end w g x end = record { shape = refl; each = λ i. sym (ap (λ l. window_of w i ++ l) (end_adds_none g x i end) ∙ append-nil (window_of w i)) }
@@ -86,7 +75,7 @@ trace_grows s g x prefixes can i = ⊎_elim
     ap (filter (is_of i.item)) (other s g x prefixes can i.group apart) ∙ sym (ap (λ l. trace_of s i ++ l) none ∙ append-nil (trace_of s i)))
     (cases_eq i.group g)
 
-module _ (q : Sequence) (frontier : Counts) (windows : Table) (held : ℕ) (kept : IsKept q frontier windows held) where
+module _ {q : Sequence} {frontier : Counts} {windows : Table} {held : ℕ} (kept : IsKept q frontier windows held) where
   pub item_is_kept : (g : ℕ) (x : Event) → CanTake q.taken g x → HasItem (map length windows) (item_of g x.item)
   item_is_kept g x can = subst (λ sizes. HasItem sizes (item_of g x.item)) (sym kept.waits.shape) (can.group, can.item)
 
@@ -95,7 +84,7 @@ module _ (q : Sequence) (frontier : Counts) (windows : Table) (held : ℕ) (kept
     shape = keeps.shape ∙ kept.waits.shape;
     each = λ i.
         keeps.each i ∙ (ap (λ l. l ++ added g x i) (kept.waits.each i)
-        ∙ (sym (drop-append-le (count_of frontier i) (trace_of q.taken i) (added g x i) (taken_first q frontier held kept.state i))
+        ∙ (sym (drop-append-le (count_of frontier i) (trace_of q.taken i) (added g x i) (taken_first kept.state i))
         ∙ ap (drop (count_of frontier i)) (sym (trace_grows q.taken g x kept.state.sequence.prefixes can i))));
   })
 
@@ -104,43 +93,31 @@ module _ (q : Sequence) (frontier : Counts) (windows : Table) (held : ℕ) (kept
 
   -- ---- events are handled
 
+  -- the first event of an item that waits goes
+  next_drop : (i : ItemId) (c : ℕ) (w : List Event) → c ≡ count_of frontier i + 1 → w ≡ drop 1 (window_of windows i) → w ≡ drop c (trace_of q.taken i)
+  next_drop i c w more is =
+      let count : suc (count_of frontier i) ≡ c = omega (arith, more) in
+      is ∙ (ap (drop 1) (kept.waits.each i) ∙ (drop_one (count_of frontier i) (trace_of q.taken i) ∙ ap (λ n. drop n (trace_of q.taken i)) count))
+
   pub waits_less : (e : EventId) (new : Counts) → IsTick frontier e.at new → (now : Table) → Changes windows e.at (drop 1 (window_of windows e.at)) now → AreWaiting q.taken new now
   waits_less e new tick now changes = record {
     shape = changes.shape ∙ kept.waits.shape;
     each = λ i. ⊎_elim
-        (λ (same : i ≡ e.at). subst (λ j. window_of now j ≡ drop (count_of new j) (trace_of q.taken j)) (sym same) first)
-        (λ (apart : i ≡ e.at → ⊥).
-        let count : count_of frontier i ≡ count_of new i = sym (tick.counts i ∙ (ap (λ n. count_of frontier i + n) (tick_there e.at i (λ here. apart (sym here))) ∙ omega arith)) in
-        changes.others i apart ∙ (kept.waits.each i ∙ ap (λ n. drop n (trace_of q.taken i)) count))
+        (λ (same : i ≡ e.at). rw same (next_drop e.at (count_of new e.at) (window_of now e.at) (tick_more tick) changes.item))
+        (λ (apart : i ≡ e.at → ⊥). changes.others i apart ∙ (kept.waits.each i ∙ ap (λ n. drop n (trace_of q.taken i)) (sym (tick_stays tick i (λ here. apart (sym here))))))
         (item_cases i e.at);
   }
-    where
-      first : window_of now e.at ≡ drop (count_of new e.at) (trace_of q.taken e.at)
-      first =
-          let count : suc (count_of frontier e.at) ≡ count_of new e.at = sym (tick.counts e.at ∙ (ap (λ n. count_of frontier e.at + n) (tick_here e.at e.at refl) ∙ add-one (count_of frontier e.at))) in
-          changes.item ∙ (ap (drop 1) (kept.waits.each e.at) ∙ (drop_one (count_of frontier e.at) (trace_of q.taken e.at) ∙ ap (λ n. drop n (trace_of q.taken e.at)) count))
 
   pub waits_behind : (g n : ℕ) (new : Counts) → TicksItems frontier g n new → (now : Table) → DropsItems windows g n now → AreWaiting q.taken new now
   waits_behind g n new ticks now drops = record {
     shape = drops.shape ∙ kept.waits.shape;
-    each = λ i. ⊎_elim (λ (here : (i.group ≡ g) × (i.item < n)). first i here.0 here.1) (λ (beyond : IsBeyond g n i). drops.others i beyond ∙ (kept.waits.each i ∙ ap (λ m. drop m (trace_of q.taken i)) (sym (ticks.others i beyond)))) (cases_of i);
+    each = λ i. ⊎_elim (λ (here : (i.group ≡ g) × (i.item < n)). first i here.0 here.1) (λ (beyond : IsBeyond g n i). drops.others i beyond ∙ (kept.waits.each i ∙ ap (λ m. drop m (trace_of q.taken i)) (sym (ticks.others i beyond)))) (within_or_beyond g n i);
   }
     where
-      cases_of : (j : ItemId) → ((j.group ≡ g) × (j.item < n)) ⊎ IsBeyond g n j
-      cases_of j = ⊎_elim
-          (λ (here : j.group ≡ g). ⊎_elim (λ (lt : j.item < n). inl (here, lt)) (λ (ge : n ≤ j.item). inr (inr ge)) (cases_lt j.item n))
-          (λ (apart : j.group ≡ g → ⊥). inr (inl apart))
-          (cases_eq j.group g)
-
-      first_of : (k : ℕ) → k < n → window_of now (item_of g k) ≡ drop (count_of new (item_of g k)) (trace_of q.taken (item_of g k))
-      first_of k lt =
-          let count : suc (count_of frontier (item_of g k)) ≡ count_of new (item_of g k) = sym (ticks.items k lt ∙ add-one (count_of frontier (item_of g k))) in
-          drops.items k lt ∙ (ap (drop 1) (kept.waits.each (item_of g k)) ∙ (drop_one (count_of frontier (item_of g k)) (trace_of q.taken (item_of g k)) ∙ ap (λ m. drop m (trace_of q.taken (item_of g k))) count))
-
       first : (j : ItemId) → j.group ≡ g → j.item < n → window_of now j ≡ drop (count_of new j) (trace_of q.taken j)
       first j group lt =
           let same : item_of g j.item ≡ j = λ d. record { group = sym group d; item = j.item } in
-          subst (λ i. window_of now i ≡ drop (count_of new i) (trace_of q.taken i)) same (first_of j.item lt)
+          subst (λ i. window_of now i ≡ drop (count_of new i) (trace_of q.taken i)) same (next_drop (item_of g j.item) (count_of new (item_of g j.item)) (window_of now (item_of g j.item)) (ticks.items j.item lt) (drops.items j.item lt))
 
   pub group_is_kept : (g : ℕ) → g < length q.taken.sizes → g < length windows
   group_is_kept g there = omega (arith, there, ap length kept.waits.shape, length-map windows (λ (row : List (List Event)). length row))
@@ -149,13 +126,12 @@ module _ (q : Sequence) (frontier : Counts) (windows : Table) (held : ℕ) (kept
   waits_as c first = record { shape = kept.waits.shape; each = λ i. kept.waits.each i ∙ ap (λ n. drop n (trace_of q.taken i)) (same i) }
     where
       same : (i : ItemId) → count_of frontier i ≡ count_of c i
-      same i = ⊎_elim
-          (λ (lt : count_of frontier i < count_of c i). absurd (let e : EventId = record { at = i; index = count_of frontier i } in let over = (kept.state.first e).0 ((first e).1 lt) in omega arith))
-          (λ (ge : count_of c i ≤ count_of frontier i). ⊎_elim
-          (λ (less : count_of c i < count_of frontier i). absurd (let e : EventId = record { at = i; index = count_of c i } in let over = (first e).0 ((kept.state.first e).1 less) in omega arith))
-          (λ (le : count_of frontier i ≤ count_of c i). omega arith)
-          (cases_lt (count_of c i) (count_of frontier i)))
-          (cases_lt (count_of frontier i) (count_of c i))
+      same i =
+          let mine : EventId = record { at = i; index = count_of frontier i } in
+          let theirs : EventId = record { at = i; index = count_of c i } in
+          let least : ¬ (count_of frontier i < count_of c i) = λ lt. let over = (kept.state.first mine).0 ((first mine).1 lt) in omega arith in
+          let most : ¬ (count_of c i < count_of frontier i) = λ lt. let over = (first theirs).0 ((kept.state.first theirs).1 lt) in omega arith in
+          omega arith
 
 -- nothing was taken
 pub none_wait : (sizes : List ℕ) (taken : Streams) → taken ≡ nothing_taken sizes → (frontier : Counts) (w : Table) → IsEmpty sizes w → AreWaiting taken frontier w

@@ -1,5 +1,4 @@
-use Rattle.std.proofs.Common.{◌≡◌, ◌∙◌, ℕ, List, ap, arith, slice_index}
-use Rattle.gr_model.specs.Streams.{size_of}
+use Rattle.std.proofs.Common.{arith}
 use Rattle.gr_order.proofs.Acquiring.{group_done, item_with, item_without}
 use Rattle.gr_order.proofs.acquires.add_group.Goals as goal
 use Rattle.gr_order.proofs.acquires.add_group.Goals.{in-Some+in_ok-push, in_default}
@@ -17,5 +16,5 @@ loop-item-preserved g c =
 pub returns : goal.returns
 returns g c =
     let s = c.args.lanes.now.streams in
-    let size : c.items-item-end.result ≡ size_of s c.args.group = c.items-item-end.ensures.size ∙ ap (λ (sizes : List ℕ). slice_index sizes c.args.group) c.shape.ensures.sizes in
+    let size = rw c.shape.ensures.sizes at c.items-item-end.ensures.size in
     group_done s c.args.group c.loop-item.item c.loop-item.list.items c.loop-item.invariant c.shape.ensures.prefixes (omega arith)

@@ -1,7 +1,7 @@
-use Rattle.std.proofs.Common.{◌≡◌, Ok, Err, arith, inl, inr, refl, subst}
+use Rattle.std.proofs.Common.{◌≡◌, Ok, Err, inl, inr, refl}
 use Rattle.std.specs.Prelude.{OnErr, OnOk}
 use Rattle.gr_model.specs.declared.report.Divergence.{Divergence}
-use Rattle.gr_model.specs.Barriers.{IsDivergent, arrivals}
+use Rattle.gr_model.specs.Barriers.{arrivals}
 use Rattle.gr_model.specs.Streams.{is_complete, list_of, size_of}
 use Rattle.gr_model.proofs.Causes.{cause_diverges}
 use Rattle.gr_lanes.specs.Remembered.{deciding, forgotten_of}
@@ -14,10 +14,6 @@ forget-requires g c = passed_came c.args.lanes.now.streams c.args.frontier.now c
 
 pub decide-requires : goal.decide-requires
 decide-requires g c = passed_came c.args.lanes.now.streams c.args.frontier.now c.args.group (forgotten_of c.args.lanes.now c.args.group) (c.have_all_passed.ensures c.if-not-have_all_passed.false)
-
-pub returns-in-None : goal.returns-in-None
-returns-in-None g c =
-    inr (c.have_all_passed.ensures c.if-not-have_all_passed.false, inl (c.forget.ensures.forgotten, subst (λ n. ¬ IsDivergent c.args.lanes.now.streams c.args.group n) c.forgotten-instance.ensures c.in-None.ensures))
 
 pub returns-in-Some : goal.returns-in-Some
 returns-in-Some g c =
@@ -42,9 +38,3 @@ returns-in-Some-2 g c =
       | Ok x ↦ λ ok err. inr (passed, inr (d, ok, record { group = c.requires; divergent = cause_diverges (is_complete (list_of s group)) (size_of s group) (arrivals s group d.instance) d.cause cause; cause = cause }, refl, c.forgotten-instance.ensures))
       | Err x ↦ λ ok err. inl err
     ] c.decide.ensures.ok c.decide.ensures.err
-
-pub returns-then-not-have_all_passed : goal.returns-then-not-have_all_passed
-returns-then-not-have_all_passed g c = inl refl
-
-pub cause-requires-clause-remembered : goal.cause-requires-clause-remembered
-cause-requires-clause-remembered g c = omega (arith, c.forgotten-instance.ensures)

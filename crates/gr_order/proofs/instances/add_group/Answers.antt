@@ -1,7 +1,6 @@
-use Rattle.std.proofs.Common.{◌∙◌, ◌++◌, Bool, List, ap, arith, subst, sym}
+use Rattle.std.proofs.Common.{◌∙◌, ◌++◌, List, ap, arith, subst, sym}
 use Rattle.gr_model.specs.declared.report.Divergence.{Divergence}
 use Rattle.gr_model.specs.Barriers.{arrivals}
-use Rattle.gr_model.specs.Instances.{HasDivergenceCause, IsDivergentOf}
 use Rattle.gr_model.specs.Reports.{IsDivergence}
 use Rattle.gr_model.specs.Streams.{size_of}
 use Rattle.gr_barriers.specs.Listings.{AreListedBefore}
@@ -15,8 +14,7 @@ loop-instance-init g c =
     let s = c.args.lanes.now.streams in
     let group = c.args.group in
     let items = c.in_ok-extend_from_slice.ensures.items ∙ ap (λ (ds : List Divergence). c.args.list.now.items ++ ds) c.decided.ensures in
-    subst (λ n. AreListedBefore (IsDivergence s) group n c.extend_from_slice.new.self.items) (sym c.forgotten-instance.ensures)
-    (subst (AreListedBefore (IsDivergence s) group (forgotten_of c.args.lanes.now group)) (sym items) (decided_found c.args.lanes.now c.requires.decided group c.args.list.now.items c.requires.before))
+    rw c.forgotten-instance.ensures (subst (AreListedBefore (IsDivergence s) group (forgotten_of c.args.lanes.now group)) (sym items) (decided_found c.args.lanes.now c.requires.decided group c.args.list.now.items c.requires.before))
 
 pub returns-then-is_empty : goal.returns-then-is_empty
 returns-then-is_empty g c =
@@ -32,9 +30,9 @@ loop-instance-preserved g c =
     let arrived = arrivals s c.args.group k in
     elim c.match-cause.branch [
       | in-Some+in_ok-push w ↦ rw (w.list-is, w.in_ok-push.ensures.items) (found_with s c.args.group k c.loop-instance.list.items c.loop-instance.invariant c.requires.group w.in-Some.cause
-          (subst (λ (complete : Bool). HasDivergenceCause complete size arrived w.in-Some.cause) c.is_complete.ensures (w.in-Some.ensures size arrived c.summary-came.ensures)))
+          (rw (← c.is_complete.ensures) (w.in-Some.ensures size arrived c.summary-came.ensures)))
       | in_default w ↦ rw w.list-is (found_without s c.args.group k c.loop-instance.list.items c.loop-instance.invariant
-          (subst (λ (complete : Bool). ¬ IsDivergentOf complete size arrived) c.is_complete.ensures (w.in_default.ensures size arrived c.summary-came.ensures)))
+          (rw (← c.is_complete.ensures) (w.in_default.ensures size arrived c.summary-came.ensures)))
     ]
 
 pub returns : goal.returns

@@ -8,9 +8,6 @@ use Rattle.gr_steps.proofs.EventRecords.{group_of_event}
 pub is_divergent-requires-clause-group : goal.is_divergent-requires-clause-group
 is_divergent-requires-clause-group g c = group_of_event c.args.lanes.now.streams c.requires.prefixes c.args.event c.args.taken.now c.requires.there
 
-pub is_divergent-requires-clause-remembered : goal.is_divergent-requires-clause-remembered
-is_divergent-requires-clause-remembered g c = c.requires.remembered c.in-Some.number c.in-Some.ensures
-
 pub returns-in-Some : goal.returns-in-Some
 returns-in-Some g c =
     let s = c.args.lanes.now.streams in (

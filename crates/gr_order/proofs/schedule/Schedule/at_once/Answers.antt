@@ -1,33 +1,28 @@
 use Rattle.std.proofs.Common.{◌∙◌, ap, subst, sym}
-use Rattle.gr_model.specs.declared.event.EventId.{EventId}
 use Rattle.gr_lanes.specs.Takes.{next_of, with_record}
 use Rattle.gr_steps.specs.Steps.{IsReady}
-use Rattle.gr_order.specs.AtOnce.{GoesAtOnce}
 use Rattle.gr_order.specs.Sequences.{Sequence}
 use Rattle.gr_order.proofs.AtOnceLemmas.{goes_at_once, next_is, not_at_once, ready_at_once}
 use Rattle.gr_order.proofs.schedule.Schedule.at_once.Goals as goal
 
 pub returns-in-None-waiting-clause-goes : goal.returns-in-None-waiting-clause-goes
 returns-in-None-waiting-clause-goes g c =
-    let q : Sequence = record { taken = c.self.inside.lanes.streams; handled = c.self.inside.handled } in
     let none = sym c.waiting.ensures ∙ c.in-None-waiting.is in
-    let go = goes_at_once q c.self.inside.frontier c.self.inside.windows c.self.inside.held c.self.invariant.kept c.args.group c.args.event.now none c.in-None.ensures.fault (c.is_mere_access.ensures.0 c.if-not-is_mere_access.false) in (
-      subst (λ (v : Sequence). GoesAtOnce v c.args.group c.args.event.now) c.self.view_is go,
-      next_is q c.self.inside.frontier c.self.inside.windows c.self.inside.held c.self.invariant.kept c.args.group c.args.event.now none c.get.result c.get.ensures.count ∙ ap (λ (v : Sequence). next_of v.taken c.args.group c.args.event.now) c.self.view_is,
+    let go = goes_at_once c.self.invariant.kept c.args.group c.args.event.now none c.in-None.ensures.fault (c.is_mere_access.ensures.0 c.if-not-is_mere_access.false) in (
+      rw (← c.self.view_is) go,
+      next_is c.self.invariant.kept c.args.group c.args.event.now none c.get.result c.get.ensures.count ∙ ap (λ (v : Sequence). next_of v.taken c.args.group c.args.event.now) c.self.view_is,
     )
 
 pub returns-in-None-waiting-clause-ready : goal.returns-in-None-waiting-clause-ready
 returns-in-None-waiting-clause-ready g c =
     let q : Sequence = record { taken = c.self.inside.lanes.streams; handled = c.self.inside.handled } in
     let none = sym c.waiting.ensures ∙ c.in-None-waiting.is in
-    let go = goes_at_once q c.self.inside.frontier c.self.inside.windows c.self.inside.held c.self.invariant.kept c.args.group c.args.event.now none c.in-None.ensures.fault (c.is_mere_access.ensures.0 c.if-not-is_mere_access.false) in
-    let is = next_is q c.self.inside.frontier c.self.inside.windows c.self.inside.held c.self.invariant.kept c.args.group c.args.event.now none c.get.result c.get.ensures.count in
-    let ready = ready_at_once q c.self.inside.frontier c.self.inside.windows c.self.inside.held c.self.invariant.kept c.args.group c.args.event.now go in
-    let e : EventId = record { at = record { group = c.args.group; item = c.args.event.now.item }; index = c.get.result } in
-    subst (λ (v : Sequence). IsReady (with_record v.taken c.args.group c.args.event.now) v.handled e) c.self.view_is (subst (IsReady (with_record q.taken c.args.group c.args.event.now) q.handled) (sym is) ready)
+    let go = goes_at_once c.self.invariant.kept c.args.group c.args.event.now none c.in-None.ensures.fault (c.is_mere_access.ensures.0 c.if-not-is_mere_access.false) in
+    let is = next_is c.self.invariant.kept c.args.group c.args.event.now none c.get.result c.get.ensures.count in
+    let ready = ready_at_once c.self.invariant.kept c.args.group c.args.event.now go in
+    rw (← c.self.view_is) (subst (IsReady (with_record q.taken c.args.group c.args.event.now) q.handled) (sym is) ready)
 
 pub returns-in-Some-waiting-clause-goes : goal.returns-in-Some-waiting-clause-goes
 returns-in-Some-waiting-clause-goes g c =
-    let q : Sequence = record { taken = c.self.inside.lanes.streams; handled = c.self.inside.handled } in
-    let not = not_at_once q c.self.inside.frontier c.self.inside.windows c.self.inside.held c.self.invariant.kept c.args.group c.args.event.now c.in-Some-waiting.field-0 (sym c.waiting.ensures ∙ c.in-Some-waiting.is) in
-    subst (λ (v : Sequence). ¬ GoesAtOnce v c.args.group c.args.event.now) c.self.view_is not
+    let not = not_at_once c.self.invariant.kept c.args.group c.args.event.now c.in-Some-waiting.field-0 (sym c.waiting.ensures ∙ c.in-Some-waiting.is) in
+    rw (← c.self.view_is) not

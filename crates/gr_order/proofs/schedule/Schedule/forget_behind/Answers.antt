@@ -1,13 +1,8 @@
-use Rattle.std.proofs.Common.{length, subst, sym}
-use Rattle.std.specs.Prelude.{◌<◌}
+use Rattle.std.proofs.Common.{subst, sym}
 use Rattle.gr_model.specs.Streams.{Streams}
-use Rattle.gr_order.specs.Sequences.{Sequence}
 use Rattle.gr_order.specs.Waiting.{IsKept}
 use Rattle.gr_order.proofs.ForgetLemmas.{forgets_passed, passed_streams}
 use Rattle.gr_order.proofs.schedule.Schedule.forget_behind.Goals as goal
-
-pub forget_if_passed-requires : goal.forget_if_passed-requires
-forget_if_passed-requires g c = subst (λ (v : Sequence). c.args.group < length v.taken.sizes) (sym c.self.view_is) c.requires
 
 pub invariant_of-self : goal.invariant_of-self
 invariant_of-self g c = record {

@@ -1,8 +1,6 @@
-use Rattle.std.proofs.Common.{◌∙◌, refl, sym, subst}
+use Rattle.std.proofs.Common.{◌∙◌, refl, sym}
 use Rattle.gr_model.specs.declared.event.EventId.{EventId}
-use Rattle.gr_steps.specs.Steps.{CanHandle}
 use Rattle.gr_clocks.specs.Counts.{count_of}
-use Rattle.gr_order.specs.Sequences.{Sequence}
 use Rattle.gr_order.proofs.ReadyLemmas.{ready_plain}
 use Rattle.gr_windows.proofs.WindowLemmas.{first_waits}
 use Rattle.gr_order.proofs.schedule.Schedule.is_free.Goals as goal
@@ -13,4 +11,4 @@ returns-in-Some g c free =
     let there = sym (first_waits c.self.inside.lanes.streams c.self.inside.frontier c.self.inside.windows c.self.invariant.kept.waits e refl) ∙ sym c.in-Some.ensures in
     let plain = c.is_plain.ensures free in
     let ready = ready_plain c.self.inside.lanes.streams c.self.inside.handled c.self.invariant.kept.state.sequence.lawful c.self.inside.frontier c.self.invariant.kept.state.first e refl c.in-Some.event there plain.0 plain.1 in
-    subst (λ (q : Sequence). CanHandle q.taken q.handled c.args.item) c.self.view_is (e, refl, ready)
+    rw (← c.self.view_is) (e, refl, ready)

@@ -1,8 +1,6 @@
 use Rattle.gr_order.proofs.ForgetLemmas.{next_remembered}
-use Rattle.std.proofs.Common.{arith, ◌∙◌, refl, sym, subst, true≢false}
+use Rattle.std.proofs.Common.{arith, ◌∙◌, refl, sym, true≢false}
 use Rattle.gr_model.specs.declared.event.EventId.{EventId}
-use Rattle.gr_steps.specs.Steps.{CanHandle, IsReady}
-use Rattle.gr_order.specs.Sequences.{Sequence}
 use Rattle.gr_order.proofs.ReadyLemmas.{none_next, not_next, ready_if}
 use Rattle.gr_windows.proofs.WindowLemmas.{first_waits}
 use Rattle.gr_order.proofs.schedule.Schedule.next.Goals as goal
@@ -21,18 +19,18 @@ pub returns-in-None-clause-next : goal.returns-in-None-clause-next
 returns-in-None-clause-next g c =
     let e : EventId = record { at = c.args.item; index = c.get-index.result } in
     let none = none_next c.self.inside.lanes.streams c.self.inside.handled c.self.invariant.kept.state.sequence.lawful c.self.inside.frontier c.self.invariant.kept.state.first e c.get-index.ensures.count (sym (first_waits c.self.inside.lanes.streams c.self.inside.frontier c.self.inside.windows c.self.invariant.kept.waits e c.get-index.ensures.count) ∙ sym c.in-None.ensures) in
-    subst (λ (q : Sequence). ¬ CanHandle q.taken q.handled c.args.item) c.self.view_is none
+    rw (← c.self.view_is) none
 
 pub returns-else-is_ready-clause-next : goal.returns-else-is_ready-clause-next
 returns-else-is_ready-clause-next g c =
     let e : EventId = record { at = c.args.item; index = c.get-index.result } in
     let none = not_next c.self.inside.lanes.streams c.self.inside.handled c.self.invariant.kept.state.sequence.lawful c.self.inside.frontier c.self.invariant.kept.state.first e c.get-index.ensures.count c.in-Some.taken (sym (first_waits c.self.inside.lanes.streams c.self.inside.frontier c.self.inside.windows c.self.invariant.kept.waits e c.get-index.ensures.count) ∙ sym c.in-Some.ensures)
     (λ ready. true≢false (sym (c.is_ready.ensures.1 ready) ∙ c.if-is_ready.false)) in
-    subst (λ (q : Sequence). ¬ CanHandle q.taken q.handled c.args.item) c.self.view_is none
+    rw (← c.self.view_is) none
 
 pub returns-then-is_ready-clause-next : goal.returns-then-is_ready-clause-next
 returns-then-is_ready-clause-next g c =
     let e : EventId = record { at = c.args.item; index = c.get-index.result } in
     let parts = c.is_ready.ensures.0 c.if-is_ready.true in
     let ready = ready_if c.self.inside.lanes.streams c.self.inside.handled c.self.invariant.kept.state.sequence.lawful c.self.inside.frontier c.self.invariant.kept.state.first e c.get-index.ensures.count c.in-Some.taken (sym (first_waits c.self.inside.lanes.streams c.self.inside.frontier c.self.inside.windows c.self.invariant.kept.waits e c.get-index.ensures.count) ∙ sym c.in-Some.ensures) parts.0 parts.1 in
-    (refl, subst (λ (q : Sequence). IsReady q.taken q.handled e) c.self.view_is ready)
+    (refl, rw (← c.self.view_is) ready)

@@ -1,9 +1,6 @@
 use Rattle.gr_model.specs.declared.event.EventId.{EventId}
 use Rattle.gr_order.proofs.ForgetLemmas.{next_remembered}
-use Rattle.std.proofs.Common.{arith, ◌∙◌, ap, Some, subst, sym}
-use Rattle.gr_model.specs.Instances.{Mark}
-use Rattle.gr_steps.specs.Steps.{CanMeet, IsMeeting}
-use Rattle.gr_order.specs.Sequences.{Sequence}
+use Rattle.std.proofs.Common.{arith, ◌∙◌, ap, Some, sym}
 use Rattle.gr_order.proofs.MeetLemmas.{is_numbered, numbered_meets}
 use Rattle.gr_order.proofs.schedule.Schedule.next_meeting.Goals as goal
 
@@ -14,11 +11,8 @@ barrier_number-requires g c =
 
 pub unreachable-requires : goal.unreachable-requires
 unreachable-requires g c =
-    let can = subst (λ (q : Sequence). CanMeet q.taken q.handled c.args.group) (sym c.self.view_is) c.requires in
-    is_numbered c.self.inside.lanes.streams c.self.inside.handled c.self.inside.frontier c.self.invariant.kept.state.first c.args.group can (λ k at. c.in-None.ensures k (at ∙ ap Some (sym c.get-index.ensures.count)))
+    is_numbered c.self.inside.lanes.streams c.self.inside.handled c.self.inside.frontier c.self.invariant.kept.state.first c.args.group (rw (← c.self.view_is) at c.requires) (λ k at. c.in-None.ensures k (at ∙ ap Some (sym c.get-index.ensures.count)))
 
 pub returns-clause-meeting : goal.returns-clause-meeting
 returns-clause-meeting g c =
-    let can = subst (λ (q : Sequence). CanMeet q.taken q.handled c.args.group) (sym c.self.view_is) c.requires in
-    subst (λ (q : Sequence). (a : Mark) × IsMeeting q.taken q.handled c.args.group c.in-Some.instance a) c.self.view_is
-    (numbered_meets c.self.inside.lanes.streams c.self.inside.handled c.self.inside.frontier c.self.invariant.kept.state.first c.args.group can c.in-Some.instance (c.in-Some.ensures ∙ ap Some c.get-index.ensures.count))
+    rw (← c.self.view_is) (numbered_meets c.self.inside.lanes.streams c.self.inside.handled c.self.inside.frontier c.self.invariant.kept.state.first c.args.group (rw (← c.self.view_is) at c.requires) c.in-Some.instance (c.in-Some.ensures ∙ ap Some c.get-index.ensures.count))

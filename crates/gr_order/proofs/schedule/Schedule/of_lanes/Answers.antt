@@ -1,6 +1,3 @@
-use Rattle.std.proofs.Common.{List, ℕ, subst}
-use Rattle.gr_clocks.specs.Counts.{IsZero}
-use Rattle.gr_windows.specs.Windows.{IsEmpty}
 use Rattle.gr_order.proofs.ForgetLemmas.{whole_forgets}
 use Rattle.gr_order.proofs.StateLemmas.{new_state}
 use Rattle.gr_order.proofs.WaitLemmas.{none_wait}
@@ -9,8 +6,8 @@ use Rattle.gr_order.proofs.schedule.Schedule.of_lanes.Goals as goal
 pub invariant_of-result : goal.invariant_of-result
 invariant_of-result g c =
     let sizes = c.args.lanes.streams.sizes in
-    let zero = subst (λ (l : List ℕ). IsZero l c.in-Ok.clock) c.shape.ensures.sizes c.in-Ok.ensures.zero in
-    let empty = subst (λ (l : List ℕ). IsEmpty l c.in_ok-windows.windows) c.shape-2.ensures.sizes c.in_ok-windows.ensures in record {
+    let zero = rw c.shape.ensures.sizes at c.in-Ok.ensures.zero in
+    let empty = rw c.shape-2.ensures.sizes at c.in_ok-windows.ensures in record {
       kept = record {
         state = new_state sizes c.args.lanes.streams c.requires.nothing c.shape.ensures.prefixes c.in-Ok.clock zero c.new-handled.result c.new-handled.ensures;
         waits = none_wait sizes c.args.lanes.streams c.requires.nothing c.in-Ok.clock c.in_ok-windows.windows empty;

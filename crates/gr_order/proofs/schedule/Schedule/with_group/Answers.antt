@@ -1,7 +1,7 @@
 use Rattle.gr_lanes.specs.Remembered.{Remembered}
-use Rattle.std.proofs.Common.{◌∙◌, ap, sym, subst}
+use Rattle.std.proofs.Common.{ap}
 use Rattle.gr_model.specs.Groups.{CanAdd}
-use Rattle.gr_order.specs.Sequences.{Sequence, with_group}
+use Rattle.gr_order.specs.Sequences.{Sequence}
 use Rattle.gr_order.proofs.ForgetLemmas.{forgets_with_group}
 use Rattle.gr_order.proofs.ComingLemmas.{kept_with_group}
 use Rattle.gr_order.proofs.schedule.Schedule.with_group.Goals as goal
@@ -9,13 +9,8 @@ use Rattle.gr_order.proofs.schedule.Schedule.with_group.Goals as goal
 pub invariant_of-result : goal.invariant_of-result
 invariant_of-result g c =
     let q : Sequence = record { taken = c.self.inside.lanes.streams; handled = c.self.inside.handled } in
-    let can : CanAdd q.taken c.args.group c.args.items = subst (λ (r : Sequence). CanAdd r.taken c.args.group c.args.items) (sym c.self.view_is) c.requires in
+    let can : CanAdd q.taken c.args.group c.args.items = rw (← c.self.view_is) at c.requires in
     record {
-      kept = kept_with_group q c.self.inside.frontier c.self.inside.windows c.self.inside.held c.self.invariant.kept c.args.group c.args.items can c.in_ok-lanes.lanes.streams (ap (λ (r : Remembered). r.streams) c.in_ok-lanes.ensures.comes) c.in-Ok.counts c.in-Ok.ensures.adds c.in_ok-windows.windows c.in_ok-windows.ensures;
+      kept = kept_with_group c.self.invariant.kept c.args.group c.args.items can c.in_ok-lanes.lanes.streams (ap (λ (r : Remembered). r.streams) c.in_ok-lanes.ensures.comes) c.in-Ok.counts c.in-Ok.ensures.adds c.in_ok-windows.windows c.in_ok-windows.ensures;
       forgets = forgets_with_group c.self.inside.lanes c.in_ok-lanes.lanes c.args.group c.args.items c.self.invariant.kept.state.sequence.prefixes can c.in_ok-lanes.ensures.comes c.self.inside.frontier c.in-Ok.counts (λ i. c.in-Ok.ensures.adds.counts i) c.self.invariant.forgets;
     }
-
-pub returns : goal.returns
-returns g c =
-    ap (λ (r : Remembered). let q : Sequence = record { taken = r.streams; handled = c.self.inside.handled } in q) c.in_ok-lanes.ensures.comes
-    ∙ ap (λ (q : Sequence). with_group q c.args.group c.args.items) c.self.view_is
