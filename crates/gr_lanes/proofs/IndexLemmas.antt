@@ -1,6 +1,8 @@
 -- What one record more makes of the index of each item.
 use Rattle.std.proofs.Common.{◌≡◌, ℕ, zero, suc, ◌+◌, ◌-◌, ◌<◌, ◌≤◌, Bool, true, false, not, ◌&&◌, ◌==◌, cond, List, [], ◌∷◌, ◌++◌, length, filter, Some, None, Err, nat_cmp, slice_get, get_or, set, take, is_some, Option, sub-one, refl, sym, ap, ◌∙◌, subst, ⊎_elim, arith, append-nil, IsTrue}
 use Rattle.std.proofs.lemmas.Bool.{cases_lt, cases_eq, eq-eqb, ne_eqb, false_from_ne_true}
+use Rattle.std.proofs.lemmas.Bool.Decides.{nat_tests}
+use Rattle.std.proofs.lemmas.Grind.{common_steps}
 use Rattle.std.proofs.lemmas.List.{get_or-set_other, get_or-set_same, get_or-take, get_or_past, length-set, length-take-le, length_push}
 use Rattle.std.proofs.lemmas.List.Elements.{filter-append}
 use Rattle.std.proofs.lemmas.Option.{get_or_from_slice_get, slice_get-get_or, slice_get_past, slice_get_within}
@@ -12,70 +14,38 @@ use Rattle.gr_model.specs.declared.limits.TheConstants.{MOST_RECORDS}
 use Rattle.gr_model.specs.Access.{is_release}
 use Rattle.gr_model.specs.Barriers.{is_barrier}
 use Rattle.gr_model.specs.declared.event.Kind.{Kind}
-use Rattle.gr_model.specs.declared.event.Kind.TheVariants.{Read, Write, Load, Store, Rmw, Barrier, End}
+use Rattle.gr_model.specs.declared.event.Kind.TheVariants.{End}
 use Rattle.gr_model.specs.Events.{IsEventOk, is_end, is_end_kind}
 use Rattle.gr_model.specs.Streams.{IsPrefix, AreGood, Streams, event_at, is_complete, is_of, place_of, places_from, trace_of}
-use Rattle.gr_model.proofs.Places.{places_from-append}
+use Rattle.gr_model.proofs.ListsOfRecords.{length-filter_le}
+use Rattle.gr_model.proofs.Places.{places_from-append, places_from-there}
 use Rattle.gr_model.proofs.StreamPrefixes.{prefix_push}
 use Rattle.gr_lanes.specs.Indices.{EndsCut, Index, end_in, end_of, end_of_kind, index_of, no_index, with_if, with_event, indexed, record_of, AreIndices, AreRising, Closes, IsNumberKept, IsPlaceKept, IsSpent}
 
 -- an element more at the end of a list
 pub places_more : {X : Type 0} (test : X → Bool) (xs : List X) (x : X) → places_from test 0 (xs ++ x ∷ []) ≡ with_if (test x) (places_from test 0 xs) (length xs)
-places_more test xs x =
-    places_from-append test 0 xs (x ∷ []) ∙ elim (test x) as (λ b. places_from test 0 xs ++ cond b ((0 + length xs) ∷ []) [] ≡ with_if b (places_from test 0 xs) (length xs)) [
-      | true ↦ ap (λ n. places_from test 0 xs ++ n ∷ []) (omega arith)
-      | false ↦ append-nil (places_from test 0 xs)
-    ]
+places_more test xs x = grind (arith, places_from-append, append-nil)
 
 pub filter_more : {X : Type 0} (test : X → Bool) (xs : List X) (x : X) → filter test (xs ++ x ∷ []) ≡ with_if (test x) (filter test xs) x
-filter_more test xs x =
-    filter-append test xs (x ∷ []) ∙ elim (test x) as (λ b. filter test xs ++ cond b (x ∷ []) [] ≡ with_if b (filter test xs) x) [
-      | true ↦ refl
-      | false ↦ append-nil (filter test xs)
-    ]
+filter_more test xs x = grind (arith, filter-append, append-nil)
 
 pub trace_more : (list : List Event) (x : Event) (i : ℕ) → filter (is_of i) (list ++ x ∷ []) ≡ filter (is_of i) list ++ cond (is_of i x) (x ∷ []) []
 trace_more list x i = filter-append (is_of i) list (x ∷ [])
 
 pub length-places : {X : Type 0} (test : X → Bool) (n : ℕ) (xs : List X) → length (places_from test n xs) ≡ length (filter test xs)
 length-places test n [] = refl
-length-places test n (x ∷ xs) =
-    elim (test x) as (λ b. length (cond b (n ∷ places_from test (suc n) xs) (places_from test (suc n) xs)) ≡ length (cond b (x ∷ filter test xs) (filter test xs))) [
-      | true ↦ ap suc (length-places test (suc n) xs)
-      | false ↦ length-places test (suc n) xs
-    ]
+length-places test n (x ∷ xs) = grind (arith, length-places test (suc n) xs)
 
 pub few-places : {X : Type 0} (test : X → Bool) (n : ℕ) (xs : List X) → length (places_from test n xs) ≤ length xs
-few-places test n [] = omega arith
-few-places test n (x ∷ xs) =
-    let rest = few-places test (suc n) xs in
-    elim (test x) as (λ b. length (cond b (n ∷ places_from test (suc n) xs) (places_from test (suc n) xs)) ≤ suc (length xs)) [
-      | true ↦ omega arith
-      | false ↦ omega arith
-    ]
+few-places test n xs = omega (arith, length-places test n xs, length-filter_le test xs)
 
 -- the record is none of the item's
 pub index_other : (list : List Event) (x : Event) (i : ℕ) → is_of i x ≡ false → index_of (list ++ x ∷ []) i ≡ index_of list i
-index_other list x i other =
-    let trace : filter (is_of i) (list ++ x ∷ []) ≡ filter (is_of i) list = trace_more list x i ∙ (ap (λ b. filter (is_of i) list ++ cond b (x ∷ []) []) other ∙ append-nil (filter (is_of i) list)) in
-    λ d. record { count = length (trace d); releases = places_from is_release 0 (trace d); barriers = places_from is_barrier 0 (trace d); released = filter is_release (trace d); arrived = filter is_barrier (trace d) }
+index_other list x i other = rw (filter_more (is_of i) list x, other)
 
 -- the record is one of the item's
 pub index_here : (list : List Event) (x : Event) (i : ℕ) → is_of i x ≡ true → index_of (list ++ x ∷ []) i ≡ with_event (index_of list i) x (is_release x) (is_barrier x)
-index_here list x i mine =
-    let trace : filter (is_of i) (list ++ x ∷ []) ≡ filter (is_of i) list ++ x ∷ [] = trace_more list x i ∙ ap (λ b. filter (is_of i) list ++ cond b (x ∷ []) []) mine in
-    let releases = marked is_release trace in
-    let barriers = marked is_barrier trace in
-    let released = picked is_release trace in
-    let arrived = picked is_barrier trace in
-    let count : length (filter (is_of i) (list ++ x ∷ [])) ≡ length (filter (is_of i) list) + 1 = ap length trace ∙ length_push (filter (is_of i) list) x in
-    λ d. record { count = count d; releases = releases d; barriers = barriers d; released = released d; arrived = arrived d }
-  where
-    marked : (test : Event → Bool) → filter (is_of i) (list ++ x ∷ []) ≡ filter (is_of i) list ++ x ∷ [] → places_from test 0 (filter (is_of i) (list ++ x ∷ [])) ≡ with_if (test x) (places_from test 0 (filter (is_of i) list)) (length (filter (is_of i) list))
-    marked test trace = ap (places_from test 0) trace ∙ places_more test (filter (is_of i) list) x
-
-    picked : (test : Event → Bool) → filter (is_of i) (list ++ x ∷ []) ≡ filter (is_of i) list ++ x ∷ [] → filter test (filter (is_of i) (list ++ x ∷ [])) ≡ with_if (test x) (filter test (filter (is_of i) list)) x
-    picked test trace = ap (filter test) trace ∙ filter_more test (filter (is_of i) list) x
+index_here list x i mine = simp (filter_more, mine, places_more, length_push)
 
 -- ---- the lanes of a group
 
@@ -86,23 +56,20 @@ end_is_of x i end = elim (x.item == i) as (λ b. (b && not (is_end x)) ≡ false
 is_of_item : (x : Event) (i : ℕ) → is_end x ≡ false → is_of i x ≡ (x.item == i)
 is_of_item x i on = elim (x.item == i) as (λ b. (b && not (is_end x)) ≡ b) [ true ↦ ap not on | false ↦ refl ]
 
-module _ {size forgotten : ℕ} (lanes : List Index) (list : List Event) (x : Event) (are : AreIndices size forgotten lanes list) (ok : IsEventOk x size) (open_list : ¬ IsTrue (is_complete list)) where
+module _ {size forgotten : ℕ} {lanes : List Index} {list : List Event} (x : Event) (are : AreIndices size forgotten lanes list) (ok : IsEventOk x size) (open_list : ¬ IsTrue (is_complete list)) where
   pub item_there : x.item < length lanes
   item_there = omega (arith, ok.0, are.whole open_list)
 
   pub few_events : (get_or lanes x.item no_index).count < 4_294_967_295
   few_events =
-      let same : (get_or lanes x.item no_index).count ≡ length (filter (is_of x.item) list) = ap (λ (l : Index). l.count) (are.each x.item item_there) in
-      omega (arith, few-places (is_of x.item) 0 list, length-places (is_of x.item) 0 list, are.prefix.few)
+      let same = ap (λ (l : Index). l.count) (are.each x.item item_there) in
+      omega (arith, same, few-places (is_of x.item) 0 list, length-places (is_of x.item) 0 list, are.prefix.few)
 
   abbrev event : Index
   event = with_event (get_or lanes x.item no_index) x (is_release x) (is_barrier x)
 
   pub size_more : length (indexed lanes x) ≡ length lanes
-  size_more = elim (is_end x) as (λ b. length (cond b lanes (set lanes x.item event)) ≡ length lanes) [
-    | true ↦ refl
-    | false ↦ length-set lanes x.item event
-  ]
+  size_more = grind (arith, length-set)
 
   pub indices_more : length list < MOST_RECORDS → AreIndices size forgotten (indexed lanes x) (list ++ x ∷ [])
   indices_more room = record {
@@ -170,39 +137,20 @@ indices_forget {size} {forgotten} {lanes} {list} are came = record {
 -- an item that the group lacks has no events
 none_of : (i : ℕ) (l : List Event) → ((p : ℕ) (x : Event) → slice_get l p ≡ Some x → x.item < i) → filter (is_of i) l ≡ []
 none_of i [] all = refl
-none_of i (x ∷ l) all =
-    let lt = all 0 x refl in
-    let other : is_of i x ≡ false = ap (λ b. b && not (is_end x)) (ne_eqb x.item i (λ e. omega arith)) in
-    ap (λ b. cond b (x ∷ filter (is_of i) l) (filter (is_of i) l)) other ∙ none_of i l (λ p y at. all (suc p) y at)
+none_of i (x ∷ l) all = grind (arith, nat_tests, all 0 x refl, none_of i l (λ p y at. all (suc p) y at))
 
 pub no_trace : (n : ℕ) (list : List Event) → IsPrefix n list → (i : ℕ) → n ≤ i → filter (is_of i) list ≡ []
 no_trace n list prefix i beyond = none_of i list (λ p x at. let ok = (prefix.good p x at).0.0 in omega arith)
 
 at_least : {X : Type 0} (test : X → Bool) (i : ℕ) (xs : List X) (b : ℕ) → b < length (places_from test i xs) → i ≤ get_or (places_from test i xs) b 0
-at_least test i [] b within = absurd (omega arith)
-at_least {X} test i (x ∷ xs) b within =
-    elim (test x) as (λ t. b < length (cond t (i ∷ places_from test (suc i) xs) (places_from test (suc i) xs)) → i ≤ get_or (cond t (i ∷ places_from test (suc i) xs) (places_from test (suc i) xs)) b 0) [
-      | true ↦ λ w. here b w (λ c v. at_least test (suc i) xs c v)
-      | false ↦ λ w. let rest = at_least test (suc i) xs b w in omega arith
-    ] within
-  where
-    here : (c : ℕ) → c < suc (length (places_from test (suc i) xs)) → ((d : ℕ) → d < length (places_from test (suc i) xs) → suc i ≤ get_or (places_from test (suc i) xs) d 0) → i ≤ get_or (i ∷ places_from test (suc i) xs) c 0
-    here zero w rest = omega arith
-    here (suc c) w rest = let r = rest c (omega arith) in omega arith
-
-rising_here : (i : ℕ) (rest : List ℕ) → ((b : ℕ) → b < length rest → suc i ≤ get_or rest b 0) → AreRising rest → AreRising (i ∷ rest)
-rising_here i rest least rises zero zero le within = omega arith
-rising_here i rest least rises zero (suc b) le within = let l = least b (omega arith) in omega arith
-rising_here i rest least rises (suc a) zero le within = absurd (omega arith)
-rising_here i rest least rises (suc a) (suc b) le within = rises a b (omega arith) (omega arith)
+at_least test i xs b within =
+    let place = places_from-there test i xs b (get_or (places_from test i xs) b 0) (slice_get-get_or (places_from test i xs) b 0 within) in omega (arith, place.2)
 
 pub places_rise : {X : Type 0} (test : X → Bool) (i : ℕ) (xs : List X) → AreRising (places_from test i xs)
 places_rise test i [] a b le within = absurd (omega arith)
-places_rise test i (x ∷ xs) a b le within =
-    elim (test x) as (λ t. AreRising (cond t (i ∷ places_from test (suc i) xs) (places_from test (suc i) xs))) [
-      | true ↦ rising_here i (places_from test (suc i) xs) (λ b w. at_least test (suc i) xs b w) (places_rise test (suc i) xs)
-      | false ↦ places_rise test (suc i) xs
-    ] a b le within
+places_rise test i (x ∷ xs) zero b le within = grind (arith, common_steps, at_least test (suc i) xs, places_rise test (suc i) xs)
+places_rise test i (x ∷ xs) (suc a) zero le within = absurd (omega arith)
+places_rise test i (x ∷ xs) (suc a) (suc b) le within = grind (arith, common_steps, places_rise test (suc i) xs)
 
 -- a binary search that finds no place finds none because there is none
 pub not_found : (xs : List ℕ) (x i : ℕ) → IsBinarySearchResult (λ y. nat_cmp y x) xs (Err i) → AreRising xs → (k : ℕ) → slice_get xs k ≡ Some x → ⊥
@@ -213,11 +161,11 @@ not_found xs x i search rises k at =
     ⊎_elim (λ (lt : k < i). let below = missed.1 k lt in omega arith) (λ (ge : i ≤ k). let above = missed.2 k ge within in omega arith) (cases_lt k i)
 
 -- where all items came to the least instance that is not forgotten, those whose lanes are there did
-pub came_at : {size forgotten : ℕ} (lanes : List Index) (list : List Event) → AreIndices size forgotten lanes list → ((i : ℕ) → i < size → (p : ℕ) × (slice_get (places_from is_barrier 0 (filter (is_of i) list)) forgotten ≡ Some p)) → (i : ℕ) → i < length lanes → (p : ℕ) × (slice_get (get_or lanes i no_index).barriers forgotten ≡ Some p)
-came_at {size} {forgotten} lanes list are came i there = subst (λ (l : Index). (p : ℕ) × (slice_get l.barriers forgotten ≡ Some p)) (sym (are.each i there)) (came i (omega (arith, there, are.few)))
+pub came_at : {size forgotten : ℕ} {lanes : List Index} {list : List Event} → AreIndices size forgotten lanes list → ((i : ℕ) → i < size → (p : ℕ) × (slice_get (places_from is_barrier 0 (filter (is_of i) list)) forgotten ≡ Some p)) → (i : ℕ) → i < length lanes → (p : ℕ) × (slice_get (get_or lanes i no_index).barriers forgotten ≡ Some p)
+came_at are came i there = rw (are.each i there) (came i (omega (arith, there, are.few)))
 
 -- each item has its index, also one that the group lacks, which has no events; or it has gone
-module _ {size forgotten : ℕ} (lanes : List Index) (list : List Event) (are : AreIndices size forgotten lanes list) (i : ℕ) where
+module _ {size forgotten : ℕ} {lanes : List Index} {list : List Event} (are : AreIndices size forgotten lanes list) (i : ℕ) where
   abbrev lane : Index
   lane = get_or lanes i no_index
 
@@ -225,10 +173,7 @@ module _ {size forgotten : ℕ} (lanes : List Index) (list : List Event) (are : 
   barriers = places_from is_barrier 0 (filter (is_of i) list)
 
   lacking : length lanes ≤ i → size ≤ i → lane ≡ index_of list i
-  lacking past beyond =
-      let none : [] ≡ filter (is_of i) list = sym (no_trace size list are.prefix i beyond) in
-      let same : no_index ≡ index_of list i = λ d. record { count = length (none d); releases = places_from is_release 0 (none d); barriers = places_from is_barrier 0 (none d); released = filter is_release (none d); arrived = filter is_barrier (none d) } in
-      get_or_past lanes i no_index past ∙ same
+  lacking past beyond = get_or_past lanes i no_index past ∙ rw (no_trace size list are.prefix i beyond)
 
   by_lane : {B : Type 0} → (lane ≡ index_of list i → B) → (lane ≡ no_index → IsSpent forgotten (index_of list i) → B) → B
   by_lane there gone = ⊎_elim
@@ -263,11 +208,6 @@ module _ {size forgotten : ℕ} (lanes : List Index) (list : List Event) (are : 
 
   -- the barriers: of an item that has gone they are forgotten
 
-  pub number_kept : (n : ℕ) → IsNumberKept forgotten barriers n → IsNumberKept forgotten lane.barriers n
-  number_kept n kept = by_lane
-      (λ there. subst (λ (l : Index). IsNumberKept forgotten l.barriers n) (sym there) kept)
-      (λ none spent. subst (λ (l : Index). IsNumberKept forgotten l.barriers n) (sym none) (λ p at. cc))
-
   past_all : IsSpent forgotten (index_of list i) → (n : ℕ) → IsNumberKept forgotten barriers n → length barriers ≤ n
   past_all spent n kept = ⊎_elim
       (λ (lt : n < length barriers). let least = kept (get_or barriers n 0) (slice_get-get_or barriers n 0 lt) in absurd (omega (arith, lt, least, spent.barriers)))
@@ -286,29 +226,20 @@ module _ {size forgotten : ℕ} (lanes : List Index) (list : List Event) (are : 
       ∙ sym (slice_get_past (filter is_barrier (filter (is_of i) list)) n (omega (arith, past_all spent n kept, length-places is_barrier 0 (filter (is_of i) list)))))
 
   pub place_kept : (p : ℕ) → IsPlaceKept forgotten barriers p → IsPlaceKept forgotten lane.barriers p
-  place_kept p kept = by_lane
-      (λ there. subst (λ (l : Index). IsPlaceKept forgotten l.barriers p) (sym there) kept)
-      (λ none spent. subst (λ (l : Index). IsPlaceKept forgotten l.barriers p) (sym none) (λ k at. cc))
+  place_kept p kept = by_lane (λ there. rw there kept) (λ none spent. rw none (λ k at. cc))
 
   pub number_at : (p : ℕ) → IsPlaceKept forgotten barriers p → (k : ℕ) → slice_get lane.barriers k ≡ Some p → slice_get barriers k ≡ Some p
-  number_at p kept k at = by_lane
-      (λ there. subst (λ (l : Index). slice_get l.barriers k ≡ Some p) there at)
-      (λ none spent. absurd (let lacks : slice_get [] k ≡ Some p = subst (λ (l : Index). slice_get l.barriers k ≡ Some p) none at in cc))
+  number_at p kept k at = by_lane (λ there. rw there at at) (λ none spent. absurd (let lacks = rw none at at in cc))
 
   pub number_of : (p : ℕ) → IsPlaceKept forgotten barriers p → (k : ℕ) → slice_get barriers k ≡ Some p → slice_get lane.barriers k ≡ Some p
-  number_of p kept k at = by_lane
-      (λ there. subst (λ (l : Index). slice_get l.barriers k ≡ Some p) (sym there) at)
-      (λ none spent. absurd (let within = slice_get_within barriers k p at in omega (arith, within, kept k at, spent.barriers)))
+  number_of p kept k at = by_lane (λ there. rw there at)
+      (λ none spent. absurd (omega (arith, slice_get_within barriers k p at, kept k at, spent.barriers)))
 
   pub few_barriers : length lane.barriers < 4_294_967_296
-  few_barriers = by_lane
-      (λ there. subst (λ (l : Index). length l.barriers < 4_294_967_296) (sym there) (few_that is_barrier))
-      (λ none spent. subst (λ (l : Index). length l.barriers < 4_294_967_296) (sym none) (omega arith))
+  few_barriers = by_lane (λ there. rw there (few_that is_barrier)) (λ none spent. rw none (omega arith))
 
   pub barriers_rise : AreRising lane.barriers
-  barriers_rise = by_lane
-      (λ there. subst (λ (l : Index). AreRising l.barriers) (sym there) (places_rise is_barrier 0 (filter (is_of i) list)))
-      (λ none spent. subst (λ (l : Index). AreRising l.barriers) (sym none) (λ a b le within. absurd (omega arith)))
+  barriers_rise = by_lane (λ there. rw there (places_rise is_barrier 0 (filter (is_of i) list))) (λ none spent. rw none (λ a b le within. absurd (omega arith)))
 
   pub counts_at : ((length lanes ≤ i) × (i < size) → ⊥) → length lane.barriers ≡ length (filter is_barrier (filter (is_of i) list))
   counts_at isnt =
@@ -321,7 +252,7 @@ module _ {size forgotten : ℕ} (lanes : List Index) (list : List Event) (are : 
 -- ---- the records of releases and barriers
 
 -- the k-th element that passes a test is the one at the k-th place
-record_place : {X : Type 0} (test : X → Bool) (i : ℕ) (xs : List X) (k n : ℕ) → slice_get (places_from test i xs) k ≡ Some n → (j : ℕ) × (n ≡ i + j) × (slice_get (filter test xs) k ≡ slice_get xs j)
+pub record_place : {X : Type 0} (test : X → Bool) (i : ℕ) (xs : List X) (k n : ℕ) → slice_get (places_from test i xs) k ≡ Some n → (j : ℕ) × (n ≡ i + j) × (slice_get (filter test xs) k ≡ slice_get xs j)
 record_place test i [] k n e = cc
 record_place {X} test i (x ∷ xs) k n e =
     elim (test x) as (λ b. slice_get (cond b (i ∷ places_from test (suc i) xs) (places_from test (suc i) xs)) k ≡ Some n → (j : ℕ) × (n ≡ i + j) × (slice_get (cond b (x ∷ filter test xs) (filter test xs)) k ≡ slice_get (x ∷ xs) j)) [
@@ -342,31 +273,13 @@ record_is s test i k n place =
 -- ---- ends
 
 some_is_end : (k : Kind) → is_some (end_of_kind k) ≡ is_end_kind k
-some_is_end Read = refl
-some_is_end Write = refl
-some_is_end (Load scope order) = refl
-some_is_end (Store scope order) = refl
-some_is_end (Rmw scope order) = refl
-some_is_end (Barrier global local) = refl
-some_is_end (End cut) = refl
+some_is_end k = grind arith
 
 pub none_unless_end : (k : Kind) → is_end_kind k ≡ false → end_of_kind k ≡ None
-none_unless_end Read isnt = refl
-none_unless_end Write isnt = refl
-none_unless_end (Load scope order) isnt = refl
-none_unless_end (Store scope order) isnt = refl
-none_unless_end (Rmw scope order) isnt = refl
-none_unless_end (Barrier global local) isnt = refl
-none_unless_end (End cut) isnt = cc
+none_unless_end k isnt = grind arith
 
 cut_kind : (k : Kind) → end_of_kind k ≡ Some true → k ≡ End true
-cut_kind Read e = cc
-cut_kind Write e = cc
-cut_kind (Load scope order) e = cc
-cut_kind (Store scope order) e = cc
-cut_kind (Rmw scope order) e = cc
-cut_kind (Barrier global local) e = cc
-cut_kind (End cut) e = cc
+cut_kind k e = grind arith
 
 -- a list with an end is whole
 pub end_is_complete : (list : List Event) → is_some (end_in list) ≡ is_complete list

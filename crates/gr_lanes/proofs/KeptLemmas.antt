@@ -1,24 +1,23 @@
 -- The indices of a group's items, by what is kept of them.
-use Rattle.std.proofs.Common.{◌≡◌, ℕ, zero, suc, ◌+◌, ◌-◌, ◌<◌, ◌≤◌, Bool, true, false, List, [], ◌∷◌, ◌++◌, length, map, get_or, set, drop, take, refl, sym, ap, ◌∙◌, subst, ⊎_elim, arith, ltb, Some, None, slice_get, cond, not, append_assoc, inl, inr, is_some, true≢false}
-use Rattle.std.specs.Prelude.{◌||◌, ◌&&◌}
+use Rattle.std.proofs.Common.{◌≡◌, ℕ, zero, suc, ◌+◌, ◌-◌, ◌<◌, ◌≤◌, Bool, true, false, List, [], ◌∷◌, length, map, get_or, set, drop, take, refl, sym, ap, ◌∙◌, subst, ⊎_elim, arith, ltb, Some, slice_get, cond}
 use Rattle.gr_model.specs.declared.event.Space.TheVariants.{Global}
-use Rattle.std.proofs.lemmas.Bool.{cases_eq, cases_lt, ltb-false, ltb-true}
-use Rattle.std.proofs.lemmas.Option.{slice_get-get_or, slice_get-map, slice_get_past, slice_get_within}
+use Rattle.std.proofs.lemmas.Bool.{cases_eq, cases_lt, ltb-true}
+use Rattle.std.proofs.lemmas.Bool.Decides.{nat_tests}
+use Rattle.std.proofs.lemmas.Option.{gets, slice_get-get_or, slice_get-map, slice_get_within}
 use Rattle.std.specs.List.{list_all}
-use Rattle.std.proofs.lemmas.List.Folds.{list_all_at}
-use Rattle.std.specs.Prelude.{option_map}
-use Rattle.std.proofs.lemmas.List.{drop_more, get_or-map, get_or_append_left, get_or_at, get_or_past, get_or_push, get_or_read, get_or-set_other, get_or-set_same, get_or-take, length-map, length-take-le, length_push, length-set, map-set, map_more, set_at, take-map}
+use Rattle.std.proofs.Math.ListN.{get_or-map as map_at, replicate}
+use Rattle.std.proofs.lemmas.List.Sums.{AllPass-from_list_all}
+use Rattle.std.proofs.lemmas.List.{get_or-map, get_or_read, get_or-set_other, get_or-set_same, get_or-take, length-map, length-take-le, length-set, map-set, take-map}
 use Rattle.gr_model.specs.declared.event.Event.{Event}
 use Rattle.gr_lanes.specs.declared.bare.Bare.{Bare}
-use Rattle.gr_model.specs.declared.event.Kind.{Kind}
-use Rattle.gr_model.specs.declared.event.Kind.TheVariants.{Read, Write, Load, Store, Rmw, Barrier, End}
-use Rattle.gr_model.specs.Access.{is_release, is_release_kind}
-use Rattle.gr_model.specs.Barriers.{is_barrier, mark_of_kind}
-use Rattle.gr_model.specs.Events.{is_end, is_end_kind}
+use Rattle.gr_model.specs.declared.event.Kind.TheVariants.{Read}
+use Rattle.gr_model.specs.Access.{is_release}
+use Rattle.gr_model.specs.Barriers.{is_barrier}
+use Rattle.gr_model.specs.Events.{is_end}
 use Rattle.gr_lanes.specs.Takes.{IsMereAccess}
 use Rattle.gr_lanes.specs.Indices.{AreRising, Closes, Index, IsNumberKept, IsSpent, indexed, no_index, with_barrier, with_event}
-use Rattle.gr_lanes.specs.Kept.{AreLanes, Arrives, CameWith, GroupIndex, HasNothing, IsLane, Kept, NoneDiffersIn, forgetting_one, is_as_first, kept_with, nothing_kept, of_item, with_indices}
-use Rattle.gr_lanes.proofs.LaneLemmas.{barrier_at, barriers_count, lane_forgets, lane_more, lane_with, rising_rest, said_alike, said_count}
+use Rattle.gr_lanes.specs.Kept.{AreLanes, Arrives, CameWith, GroupIndex, HasNothing, IsLane, Kept, NoneDiffersIn, forgetting_one, is_as_first, kept_with, nothing_kept, with_indices}
+use Rattle.gr_lanes.proofs.LaneLemmas.{barrier_at, barriers_count, lane_forgets, lane_more, rising_rest, said_alike, said_count}
 
 -- what contracts see of lanes
 abbrev pub indices_of : List Kept → List Index
@@ -29,20 +28,12 @@ seen_of forgotten ks = record { indices = indices_of ks; forgotten = forgotten }
 
 -- the index of an item
 pub index_is : (ks : List Kept) (j : ℕ) → get_or (indices_of ks) j no_index ≡ (get_or ks j nothing_kept).index
-index_is [] j = refl
-index_is (k ∷ ks) zero = refl
-index_is (k ∷ ks) (suc j) = index_is ks j
+index_is ks j = map_at (λ (k : Kept). k.index) ks j nothing_kept
 
 -- what was read of the lanes, at the place that is the item's
 module _ {forgotten : ℕ} {ks read : List Kept} (same : read ≡ ks) {i j : ℕ} (here : j ≡ i) {s : GroupIndex} (view : seen_of forgotten ks ≡ s) where
   item_index : get_or s.indices i no_index ≡ (get_or ks i nothing_kept).index
   item_index = ap (λ (l : GroupIndex). get_or l.indices i no_index) (sym view) ∙ index_is ks i
-
-  -- no such item: it has no events
-  pub lacks_item : false ≡ ltb j (length read) → get_or s.indices i no_index ≡ no_index
-  lacks_item beyond =
-      let past = ltb-false j (length read) (sym beyond) in
-      item_index ∙ ap (λ (k : Kept). k.index) (get_or_past ks i nothing_kept (omega (arith, ap length same, here, past)))
 
   module _ {lane : Kept} (there : true ≡ ltb j (length read)) (reads : lane ≡ get_or read j lane) where
     lane_is : lane ≡ get_or ks i nothing_kept
@@ -76,39 +67,18 @@ module _ {forgotten : ℕ} {ks read : List Kept} (same : read ≡ ks) {i j : ℕ
       pub rising_read : AreRising (get_or s.indices i no_index).barriers → AreRising lane.barriers
       rising_read rises = subst AreRising (sym (lane_kept are).places) (rising_rest forgotten lane.index.barriers (subst (λ (l : Index). AreRising l.barriers) lane_index rises))
 
--- the index of an event is not found where there are no places
-pub not_among : (places : List ℕ) → places ≡ [] → (k n : ℕ) → slice_get places k ≡ Some n → ⊥
-not_among places none k n at = let lacks : slice_get places k ≡ None = ap (λ l. slice_get l k) none in cc
-
 -- ---- an instance
 
 abbrev no_bare : Bare
 no_bare = record { kind = Read; space = Global; word = 0 }
 
+came_with : (forgotten : ℕ) (firsts : List Bare) (n : ℕ) → forgotten ≤ n → (ended : Bool) (d : Bare) (i : ℕ) (k : Kept) → IsLane forgotten firsts i k → is_as_first n ended k ≡ true → CameWith (slice_get k.index.arrived n) (slice_get k.index.barriers n) ended i (get_or firsts (n - forgotten) d)
+came_with forgotten firsts n kept ended d i k lane is = grind (arith, nat_tests, gets, said_count lane, said_alike lane n kept, slice_get-map, lane.within)
+
 module _ (forgotten : ℕ) (firsts : List Bare) (ks : List Kept) (are : AreLanes forgotten firsts ks) {s : GroupIndex} (view : seen_of forgotten ks ≡ s) (n : ℕ) (kept : forgotten ≤ n) (ended : Bool) (all : list_all (λ k. is_as_first n ended k) ks ≡ true) where
   -- what the first of the instance said
   abbrev first : Bare
   first = get_or firsts (n - forgotten) no_bare
-
-  came_with : (i : ℕ) (k : Kept) → IsLane forgotten firsts i k → is_as_first n ended k ≡ true → CameWith (slice_get k.index.arrived n) (slice_get k.index.barriers n) ended i first
-  came_with i k lane is = by_alike (ltb n k.alike) refl is
-    where
-      by_rest : (b c : Bool) → ended ≡ b → ltb (n - k.alike) (length k.apart) ≡ c → k.alike ≤ n → (not b && not c) ≡ true → (ended ≡ false) × (slice_get k.index.barriers n ≡ None)
-      by_rest false false open_end none behind holds =
-          let past = ltb-false (n - k.alike) (length k.apart) none in
-          (open_end, slice_get_past k.index.barriers n (omega (arith, past, behind, said_count lane)))
-      by_rest false true open_end some behind holds = absurd cc
-      by_rest true c end some behind holds = absurd cc
-
-      by_alike : (a : Bool) → ltb n k.alike ≡ a → (a || (not ended && not (ltb (n - k.alike) (length k.apart)))) ≡ true → CameWith (slice_get k.index.arrived n) (slice_get k.index.barriers n) ended i first
-      by_alike true below holds =
-          let lt = ltb-true n k.alike below in
-          inl (sym (said_alike lane n kept lt) ∙ (slice_get-map (of_item i) firsts (n - forgotten) ∙ ap (option_map (of_item i)) (slice_get-get_or firsts (n - forgotten) no_bare (omega (arith, lt, kept, lane.within)))))
-      by_alike false behind holds = inr (by_rest ended (ltb (n - k.alike) (length k.apart)) refl refl (ltb-false n k.alike behind) holds)
-
-  passes : (i : ℕ) → i < length ks → (b : Bool) → is_as_first n ended (get_or ks i nothing_kept) ≡ b → is_as_first n ended (get_or ks i nothing_kept) ≡ true
-  passes i there true is = is
-  passes i there false is = absurd (true≢false (sym all ∙ list_all_at (λ k. is_as_first n ended k) ks i nothing_kept there is))
 
   pub none_differs_in : NoneDiffersIn s.indices n ended
   none_differs_in = subst (λ (l : GroupIndex). NoneDiffersIn l.indices n ended) view (
@@ -116,7 +86,7 @@ module _ (forgotten : ℕ) (firsts : List Bare) (ks : List Kept) (are : AreLanes
     λ i within.
         let there : i < length ks = omega (arith, within, length-map ks (λ (k : Kept). k.index)) in
         subst (λ (l : Index). CameWith (slice_get l.arrived n) (slice_get l.barriers n) ended i first) (sym (index_is ks i))
-        (came_with i (get_or ks i nothing_kept) (are i there) (passes i there (is_as_first n ended (get_or ks i nothing_kept)) refl)),
+        (came_with forgotten firsts n kept ended no_bare i (get_or ks i nothing_kept) (are i there) (AllPass-from_list_all (λ k. is_as_first n ended k) ks all i nothing_kept there)),
   )
 
 -- ---- an event more
@@ -131,18 +101,7 @@ module _ {forgotten : ℕ} (firsts : List Bare) (ks : List Kept) (are : AreLanes
   index_was : get_or s.indices x.item no_index ≡ old.index
   index_was = ap (λ (l : GroupIndex). get_or l.indices x.item no_index) (sym view) ∙ (index_is ks x.item ∙ ap (λ (k : Kept). k.index) (ap (λ n. get_or ks n nothing_kept) (sym here) ∙ sym old_is))
 
-  pub few_events : (get_or s.indices x.item no_index).count < 4_294_967_295 → old.index.count < 4_294_967_295
-  few_events few = subst (λ (l : Index). l.count < 4_294_967_295) index_was few
-
-  pub lane_here : IsLane forgotten firsts x.item old
-  lane_here = subst (λ n. IsLane forgotten firsts n old) here (subst (IsLane forgotten firsts j) (sym old_is) (are j item_there))
-
   module _ (new : Kept) where
-    lanes_set : (firsts' : List Bare) → ((i : ℕ) (k : Kept) → IsLane forgotten firsts i k → IsLane forgotten firsts' i k) → IsLane forgotten firsts' x.item new → AreLanes forgotten firsts' (set ks j new)
-    lanes_set firsts' others own i there = ⊎_elim
-        (λ (same : i ≡ j). subst (λ n. IsLane forgotten firsts' n (get_or (set ks j new) n nothing_kept)) (sym same) (subst (IsLane forgotten firsts' j) (sym (get_or-set_same ks j new nothing_kept item_there)) (subst (λ n. IsLane forgotten firsts' n new) (sym here) own)))
-        (λ (apart : i ≡ j → ⊥). subst (IsLane forgotten firsts' i) (sym (get_or-set_other ks j i new nothing_kept apart)) (others i (get_or ks i nothing_kept) (are i (omega (arith, there, length-set ks j new)))))
-        (cases_eq i j)
 
     seen_set : (index : Index) → new.index ≡ index → seen_of forgotten (set ks j new) ≡ with_indices s (set s.indices x.item index)
     seen_set index is =
@@ -155,29 +114,17 @@ module _ {forgotten : ℕ} (firsts : List Bare) (ks : List Kept) (are : AreLanes
       arrives_with = seen_set (with_event (get_or s.indices x.item no_index) x false true) (arrives.index ∙ ap (λ l. with_event l x false true) (sym index_was))
 
       pub arrives_lanes : AreLanes forgotten firsts' (set ks j new)
-      arrives_lanes = lanes_set firsts' (λ i k lane. subst (λ f. IsLane forgotten f i k) (sym arrives.grown) (lane_more lane arrives.more)) arrives.lane
+      arrives_lanes i there = ⊎_elim
+          (λ (same : i ≡ j). rw (same, get_or-set_same ks j new nothing_kept item_there, here) arrives.lane)
+          (λ (apart : i ≡ j → ⊥). rw (get_or-set_other ks j i new nothing_kept apart, arrives.grown) (lane_more (are i (omega (arith, there, length-set ks j new))) arrives.more))
+          (cases_eq i j)
 
     -- an event that is none
     module _ (release : Bool) (is : new ≡ kept_with old x release) where
       pub event_with : seen_of forgotten (set ks j new) ≡ with_indices s (set s.indices x.item (with_event (get_or s.indices x.item no_index) x release false))
       event_with = seen_set (with_event (get_or s.indices x.item no_index) x release false) (ap (λ (k : Kept). k.index) is ∙ ap (λ l. with_event l x release false) (sym index_was))
 
-      pub event_lanes : AreLanes forgotten firsts (set ks j new)
-      event_lanes = lanes_set firsts (λ i k lane. lane) (subst (IsLane forgotten firsts x.item) (sym is) (lane_with lane_here x release))
-
 -- ---- an instance is forgotten
-
--- one lane more was written
-pub one_written : (f : Kept → Kept) (was now : List Kept) (n : ℕ) → n < length was → now ≡ map f (take n was) ++ drop n was → (any new : Kept) → new ≡ f (get_or now n any) → set now n new ≡ map f (take (n + 1) was) ++ drop (n + 1) was
-one_written f was now n lt so_far any new is =
-    let done = map f (take n was) in
-    let here = get_or was n nothing_kept in
-    let rest = drop (n + 1) was in
-    let count : length done ≡ n = length-map (take n was) f ∙ length-take-le n was (omega (arith, lt)) in
-    let split : now ≡ done ++ here ∷ rest = so_far ∙ ap (λ l. done ++ l) (drop_more was n nothing_kept lt) in
-    let value : new ≡ f here = is ∙ ap f (ap (λ l. get_or l n any) split ∙ get_or_at done here rest any n count) in
-    ap (λ l. set l n new) split ∙ (set_at done here rest new n count ∙ (ap (λ x. done ++ x ∷ rest) value
-    ∙ (sym (append_assoc done (f here ∷ []) rest) ∙ ap (λ l. l ++ rest) (sym (map_more f was n nothing_kept lt)))))
 
 module _ {forgotten : ℕ} (firsts : List Bare) (ks : List Kept) (are : AreLanes forgotten firsts ks) {s : GroupIndex} (view : seen_of forgotten ks ≡ s) {new : List Kept} (is : new ≡ map (forgetting_one forgotten) ks) where
   pub forgets_seen : seen_of (forgotten + 1) new ≡ record { indices = s.indices; forgotten = s.forgotten + 1 }
@@ -220,15 +167,6 @@ module _ {forgotten : ℕ} (firsts : List Bare) (ks : List Kept) (are : AreLanes
 
 -- ---- what a record is
 
-barrier_kind : (k : Kind) (w : ℕ) → is_some (mark_of_kind k w) ≡ true → (is_end_kind k ≡ false) × (is_release_kind k ≡ false)
-barrier_kind Read w is = cc
-barrier_kind Write w is = cc
-barrier_kind (Load scope order) w is = cc
-barrier_kind (Store scope order) w is = cc
-barrier_kind (Rmw scope order) w is = cc
-barrier_kind (Barrier global local) w is = (refl, refl)
-barrier_kind (End cut) w is = cc
-
 module _ (s : List Index) (x : Event) where
   abbrev more : Bool → Bool → List Index
   more release barrier = set s x.item (with_event (get_or s x.item no_index) x release barrier)
@@ -239,22 +177,15 @@ module _ (s : List Index) (x : Event) where
   pub indexed_access : IsMereAccess x → more false false ≡ indexed s x
   indexed_access mere = ap (λ b. more b false) (sym mere.release) ∙ indexed_event mere.ends mere.barrier
 
-  pub indexed_barrier : is_barrier x ≡ true → with_barrier s x ≡ indexed s x
-  indexed_barrier is =
-      let kind = barrier_kind x.kind x.word is in
-      ap (λ b. more b true) (sym kind.1) ∙ (ap (more (is_release x)) (sym is) ∙ ap (λ b. cond b s (more (is_release x) (is_barrier x))) (sym kind.0))
-
 -- ---- no events
 
-pub one_lane_more : (old new : List Kept) → ((i : ℕ) → get_or old i nothing_kept ≡ nothing_kept) → new ≡ old ++ nothing_kept ∷ [] → (i : ℕ) → get_or new i nothing_kept ≡ nothing_kept
-one_lane_more old new none is i =
-    ap (λ l. get_or l i nothing_kept) is ∙ ⊎_elim
-    (λ (lt : i < length old). get_or_append_left old (nothing_kept ∷ []) nothing_kept i lt ∙ none i)
-    (λ (ge : length old ≤ i). ⊎_elim
-    (λ (is_last : length old ≡ i). get_or_push old nothing_kept nothing_kept i is_last)
-    (λ apart. get_or_past (old ++ nothing_kept ∷ []) i nothing_kept (omega (arith, length_push old nothing_kept, apart)))
-    (cases_eq (length old) i))
-    (cases_lt i (length old))
+lanes_none : (n i : ℕ) → get_or (replicate n nothing_kept) i nothing_kept ≡ nothing_kept
+lanes_none zero i = refl
+lanes_none (suc n) zero = refl
+lanes_none (suc n) (suc i) = lanes_none n i
 
-pub new_lanes : (firsts : List Bare) (ks : List Kept) → ((i : ℕ) → get_or ks i nothing_kept ≡ nothing_kept) → AreLanes 0 firsts ks
-new_lanes firsts ks none i there = subst (IsLane 0 firsts i) (sym (none i)) (record { places = refl; saying = refl; records = refl; passed = omega arith; least = omega arith; within = omega arith; few = omega arith })
+pub none_kept : (n : ℕ) {ks : List Kept} → ks ≡ replicate n nothing_kept → (i : ℕ) → get_or ks i nothing_kept ≡ nothing_kept
+none_kept n is i = ap (λ l. get_or l i nothing_kept) is ∙ lanes_none n i
+
+pub new_lanes : (firsts : List Bare) (n : ℕ) {ks : List Kept} → ks ≡ replicate n nothing_kept → AreLanes 0 firsts ks
+new_lanes firsts n is i there = rw (none_kept n is i) (record { places = refl; saying = refl; records = refl; passed = omega arith; least = omega arith; within = omega arith; few = omega arith })

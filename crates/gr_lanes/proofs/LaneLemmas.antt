@@ -1,34 +1,27 @@
 -- What a lane keeps of an item's barriers.
-use Rattle.std.proofs.Common.{◌≡◌, ℕ, zero, suc, ◌+◌, ◌-◌, ◌<◌, ◌≤◌, ◌==◌, Bool, true, false, List, [], ◌∷◌, ◌++◌, length, map, get_or, take, drop, refl, sym, ap, ◌∙◌, subst, arith, append-nil, append_assoc, cond, Some, slice_get}
+use Rattle.std.proofs.Common.{◌≡◌, ℕ, suc, ◌+◌, ◌-◌, ◌<◌, ◌≤◌, ◌==◌, Bool, true, false, List, [], ◌∷◌, ◌++◌, length, map, take, drop, refl, sym, ap, ◌∙◌, subst, arith, append-nil, append_assoc, cond, slice_get}
 use Rattle.std.proofs.lemmas.Bool.{eqb-false, eqb-true}
-use Rattle.std.proofs.lemmas.Option.{get_or_from_slice_get, slice_get-map, slice_get_within}
+use Rattle.std.proofs.lemmas.Grind.{common_steps}
+use Rattle.std.proofs.lemmas.Option.{gets, slice_get-map}
 use Rattle.std.specs.Prelude.{option_map}
-use Rattle.std.proofs.lemmas.List.{drop-append-le, drop-drop, drop-map, get_or-drop, get_or_push, length-append, length-drop, length-map, length-take-le, length_push, map-append, take-append-le, take_more}
+use Rattle.std.proofs.lemmas.List.{drop-append-le, drop-drop, drop-map, get_or-drop, length-append, length-drop, length-map, length-take-le, length_push, map-append, take-append-le}
 use Rattle.gr_model.specs.declared.event.Event.{Event}
 use Rattle.gr_lanes.specs.declared.bare.Bare.{Bare}
 use Rattle.gr_lanes.specs.Indices.{AreRising, with_event}
-use Rattle.gr_lanes.specs.Kept.{Arrives, IsLane, Kept, alike_more, apart_more, bare_of, forgetting_one, kept_with, of_item}
+use Rattle.gr_lanes.specs.Kept.{Arrives, IsLane, Kept, apart_more, bare_of, forgetting_one, of_item}
 
 get-drop : {X : Type 0} (n : ℕ) (xs : List X) (k : ℕ) → slice_get (drop n xs) k ≡ slice_get xs (n + k)
-get-drop zero xs k = (let e : k ≡ 0 + k = omega arith in ap (slice_get xs) e)
-get-drop (suc n) [] k = refl
-get-drop (suc n) (x ∷ xs) k = get-drop n xs k ∙ (let e : suc (n + k) ≡ suc n + k = omega arith in ap (slice_get (x ∷ xs)) e)
+get-drop n xs k = grind (arith, common_steps, gets)
 
 alike_at : (firsts apart : List Bare) (a n : ℕ) → a ≤ length firsts → n < a → slice_get firsts n ≡ slice_get (take a firsts ++ apart) n
-alike_at firsts apart zero n within below = absurd (omega arith)
-alike_at [] apart (suc a) n within below = absurd (omega arith)
-alike_at (x ∷ firsts) apart (suc a) zero within below = refl
-alike_at (x ∷ firsts) apart (suc a) (suc n) within below = alike_at firsts apart a n (omega arith) (omega arith)
+alike_at firsts apart a n within below = grind (arith, common_steps, gets)
 
 apart_at : (firsts apart : List Bare) (a m : ℕ) → a ≤ length firsts → slice_get apart m ≡ slice_get (take a firsts ++ apart) (a + m)
-apart_at firsts apart zero m within = ap (slice_get apart) (omega arith)
-apart_at [] apart (suc a) m within = absurd (omega arith)
-apart_at (x ∷ firsts) apart (suc a) m within = apart_at firsts apart a m (omega arith) ∙ ap (slice_get (x ∷ take a firsts ++ apart)) (let n : suc (a + m) ≡ suc a + m = omega arith in n)
+apart_at firsts apart a m within = grind (arith, common_steps, gets)
 
 -- the first of those that were said is forgotten, which is the first of the firsts
 alike_goes : (firsts apart : List Bare) (m : ℕ) → suc m ≤ length firsts → drop 1 (take (suc m) firsts ++ apart) ≡ take m (drop 1 firsts) ++ apart
-alike_goes [] apart m within = absurd (omega arith)
-alike_goes (x ∷ firsts) apart m within = refl
+alike_goes firsts apart m within = grind (arith, common_steps)
 
 pub rising_rest : (n : ℕ) (places : List ℕ) → AreRising places → AreRising (drop n places)
 rising_rest n places rises i j le within =
@@ -73,10 +66,6 @@ module _ {forgotten : ℕ} {firsts : List Bare} {i : ℕ} {k : Kept} (lane : IsL
     within = omega (arith, lane.within, length-append firsts more);
     few = lane.few;
   }
-
-  -- nor does an event that is no barrier
-  pub lane_with : (x : Event) (release : Bool) → IsLane forgotten firsts i (kept_with k x release)
-  lane_with x release = record { places = lane.places; saying = lane.saying; records = lane.records; passed = lane.passed; least = lane.least; within = lane.within; few = omega (arith, lane.few) }
 
   -- one instance more is forgotten, to which the item came
   pub lane_forgets : forgotten < length k.index.barriers → IsLane (forgotten + 1) (drop 1 firsts) i (forgetting_one forgotten k)
@@ -129,29 +118,10 @@ module _ {forgotten : ℕ} (x : Event) (bare : x.names ≡ []) {k : Kept} where
     few = omega (arith, lane.few, length_push k.index.barriers k.index.count);
   }
 
-  lane_alike : {firsts : List Bare} → IsLane forgotten firsts x.item k → k.apart ≡ [] → k.alike - forgotten < length firsts → get_or firsts (k.alike - forgotten) (bare_of x) ≡ bare_of x → IsLane forgotten firsts x.item (alike_more k x)
-  lane_alike {firsts} lane none there first =
-      let a : k.alike + 1 - forgotten ≡ k.alike - forgotten + 1 = omega (arith, lane.least) in
-      let taken = ap (λ n. take n firsts) a ∙ (take_more firsts (k.alike - forgotten) (bare_of x) there ∙ ap (λ b. take (k.alike - forgotten) firsts ++ b ∷ []) first) in
-      lane_grows lane (k.alike + 1) k.apart
-      (ap (λ l. take (k.alike + 1 - forgotten) firsts ++ l) none ∙ (append-nil (take (k.alike + 1 - forgotten) firsts) ∙ (taken
-      ∙ ap (λ l. l ++ bare_of x ∷ []) (sym (ap (λ l. take (k.alike - forgotten) firsts ++ l) none ∙ append-nil (take (k.alike - forgotten) firsts))))))
-      (omega (arith, lane.least)) (omega (arith, there, lane.least))
-
   arrives_as : {firsts firsts' : List Bare} {new now : Kept} (more : List Bare) → firsts' ≡ firsts ++ more → IsLane forgotten firsts' x.item now → now.index ≡ with_event k.index x false true → new ≡ now → Arrives forgotten firsts firsts' k new x
   arrives_as {firsts} {firsts'} more grown lane index is = record { more = more; grown = grown; lane = subst (IsLane forgotten firsts' x.item) (sym is) lane; index = ap (λ (l : Kept). l.index) is ∙ index }
 
   module _ {firsts : List Bare} (lane : IsLane forgotten firsts x.item k) {new : Kept} where
-    pub arrives_alike : k.apart ≡ [] → slice_get firsts (k.alike - forgotten) ≡ Some (bare_of x) → new ≡ alike_more k x → Arrives forgotten firsts firsts k new x
-    arrives_alike none first is =
-        arrives_as [] (sym (append-nil firsts))
-        (lane_alike lane none (slice_get_within firsts (k.alike - forgotten) (bare_of x) first) (get_or_from_slice_get firsts (k.alike - forgotten) (bare_of x) (bare_of x) first)) refl is
-
-    pub arrives_first : k.apart ≡ [] → k.alike - forgotten ≡ length firsts → {firsts' : List Bare} → firsts' ≡ firsts ++ bare_of x ∷ [] → new ≡ alike_more k x → Arrives forgotten firsts firsts' k new x
-    arrives_first none last {firsts'} grown is =
-        arrives_as (bare_of x ∷ []) grown
-        (subst (λ f. IsLane forgotten f x.item (alike_more k x)) (sym grown)
-        (lane_alike (lane_more lane (bare_of x ∷ [])) none (omega (arith, last, length_push firsts (bare_of x))) (get_or_push firsts (bare_of x) (bare_of x) (k.alike - forgotten) (sym last)))) refl is
 
     pub arrives_apart : new ≡ apart_more k x → Arrives forgotten firsts firsts k new x
     arrives_apart is =

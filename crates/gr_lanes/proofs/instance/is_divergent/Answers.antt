@@ -1,16 +1,13 @@
-use Rattle.std.proofs.Common.{◌≡◌, ◌∙◌, ◌+◌, Bool, List, ℕ, ap, arith, refl, slice_index, subst, sym, true≢false}
+use Rattle.std.proofs.Common.{◌≡◌, ◌∙◌, ◌+◌, arith, refl, sym, true≢false}
 use Rattle.gr_model.specs.Barriers.{arrivals}
-use Rattle.gr_model.specs.Instances.{IsDivergentOf}
 use Rattle.gr_model.specs.Streams.{size_of}
 use Rattle.gr_barriers.proofs.SummaryLemmas.{nobody_diverges}
 use Rattle.gr_lanes.proofs.InstanceLemmas.{diverges_still, not_divergent}
 use Rattle.gr_lanes.proofs.instance.is_divergent.Goals as goal
 
 pub returns-then-none_differs : goal.returns-then-none_differs
-returns-then-none_differs g c = (
-  λ no. absurd cc,
-  λ divergent. absurd (not_divergent c.args.lanes.now.streams c.args.group c.args.number (c.none_differs.ensures c.if-none_differs.true) divergent),
-)
+returns-then-none_differs g c =
+    (λ no. absurd cc, λ divergent. absurd (not_divergent c.args.lanes.now.streams c.args.group c.args.number (c.none_differs.ensures c.if-none_differs.true) divergent))
 
 pub loop-item-init : goal.loop-item-init
 loop-item-init g c =
@@ -28,16 +25,14 @@ returns-then-is_divergent g c =
     let s = c.args.lanes.now.streams in
     let arrived = arrivals s c.args.group c.args.number in
     let more = c.adding-summary.ensures c.loop-item.item arrived c.loop-item.invariant.0 (sym c.arrival.ensures) in
-    let size : c.items-item-end.result ≡ size_of s c.args.group = c.items-item-end.ensures.size ∙ ap (λ (sizes : List ℕ). slice_index sizes c.args.group) c.shape.ensures.sizes in
+    let size = rw c.shape.ensures.sizes at c.items-item-end.ensures.size in
     let divergent = diverges_still c.is_complete-ended.result (c.loop-item.item + 1) (size_of s c.args.group) arrived (omega (arith, size, c.loop-item-test.true)) ((c.is_divergent.ensures (c.loop-item.item + 1) arrived more).0 c.if-is_divergent.true) in
-    (λ yes. subst (λ (ended : Bool). IsDivergentOf ended (size_of s c.args.group) arrived) c.is_complete-ended.ensures divergent, λ _. refl)
+    (λ yes. rw (← c.is_complete-ended.ensures) divergent, λ _. refl)
 
 pub returns : goal.returns
 returns g c =
     let s = c.args.lanes.now.streams in
     let arrived = arrivals s c.args.group c.args.number in
-    let size : c.items-item-end.result ≡ size_of s c.args.group = c.items-item-end.ensures.size ∙ ap (λ (sizes : List ℕ). slice_index sizes c.args.group) c.shape.ensures.sizes in
-    let whole : size_of s c.args.group ≡ c.loop-item.item = omega (arith, size, c.loop-item-test.false) in (
-      λ no. absurd (true≢false (sym no)),
-      λ divergent. absurd (c.loop-item.invariant.1 (subst (λ (n : ℕ). IsDivergentOf c.is_complete-ended.result n arrived) whole (subst (λ (ended : Bool). IsDivergentOf ended (size_of s c.args.group) arrived) (sym c.is_complete-ended.ensures) divergent))),
-    )
+    let size = rw c.shape.ensures.sizes at c.items-item-end.ensures.size in
+    let whole : size_of s c.args.group ≡ c.loop-item.item = omega (arith, size, c.loop-item-test.false) in
+    (λ no. absurd (true≢false (sym no)), λ divergent. absurd (c.loop-item.invariant.1 (rw whole at (rw (← c.is_complete-ended.ensures) at divergent))))

@@ -1,19 +1,13 @@
-use Rattle.std.proofs.Common.{◌∙◌, ◌<◌, ◌≤◌, ap, arith}
-use Rattle.std.specs.Prelude.{filter, length}
-use Rattle.gr_model.specs.Barriers.{is_barrier}
-use Rattle.gr_model.specs.Streams.{is_of}
-use Rattle.gr_lanes.specs.Indices.{GroupList}
+use Rattle.std.proofs.Common.{◌<◌, ◌≤◌, ◌∙◌, arith, length}
 use Rattle.gr_lanes.proofs.IndexLemmas.{counts_at, counts_gone, few_barriers}
-use Rattle.gr_lanes.proofs.group.Group.barrier_count.Goals as goal
 use Rattle.gr_lanes.proofs.group.Group.barrier_count.Goals.{else-item-self-via-else-item-self, else-item-self-via-then-item-self+else-len-from}
+use Rattle.gr_lanes.proofs.group.Group.barrier_count.Goals as goal
 
 pub barrier_count-requires : goal.barrier_count-requires
-barrier_count-requires g c = record { few = few_barriers c.self.inside.items.indices c.self.inside.list c.self.invariant.indices c.args.item }
+barrier_count-requires g c = record { few = few_barriers c.self.invariant.indices c.args.item }
 
 pub returns-then-len-from : goal.returns-then-len-from
-returns-then-len-from g c =
-    c.forgotten.ensures ∙ (counts_gone c.self.inside.items.indices c.self.inside.list c.self.invariant.indices c.args.item (omega (arith, c.if-len-from.true, c.len.ensures, c.from.ensures)) c.if-item-self.true
-    ∙ ap (λ (v : GroupList). length (filter is_barrier (filter (is_of c.args.item) v.list))) c.self.view_is)
+returns-then-len-from g c = rw (← c.self.view_is) (c.forgotten.ensures ∙ counts_gone c.self.invariant.indices c.args.item (omega (arith, c.if-len-from.true, c.len.ensures, c.from.ensures)) c.if-item-self.true)
 
 pub returns : goal.returns
 returns g c =
@@ -21,4 +15,4 @@ returns g c =
       | else-item-self-via-then-item-self+else-len-from w ↦ λ gone. omega (arith, gone.0, w.if-len-from.false, w.len.ensures, w.from.ensures)
       | else-item-self-via-else-item-self w ↦ λ gone. omega (arith, gone.1, w.if-item-self.false)
     ] in
-    c.barrier_count.ensures ∙ (counts_at c.self.inside.items.indices c.self.inside.list c.self.invariant.indices c.args.item isnt ∙ ap (λ (v : GroupList). length (filter is_barrier (filter (is_of c.args.item) v.list))) c.self.view_is)
+    rw (← c.self.view_is) (c.barrier_count.ensures ∙ counts_at c.self.invariant.indices c.args.item isnt)

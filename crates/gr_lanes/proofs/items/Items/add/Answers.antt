@@ -1,14 +1,8 @@
 use Rattle.std.proofs.Common.{◌∙◌, ap, false, get_or, set}
 use Rattle.gr_lanes.specs.Indices.{no_index, with_event}
 use Rattle.gr_lanes.specs.Kept.{with_indices}
-use Rattle.gr_lanes.proofs.KeptLemmas.{event_lanes, event_with, few_events, indexed_event}
+use Rattle.gr_lanes.proofs.KeptLemmas.{event_with, indexed_event}
 use Rattle.gr_lanes.proofs.items.Items.add.Goals as goal
-
-pub add-requires : goal.add-requires
-add-requires g c = record { few = few_events c.self.inside.firsts.items c.self.inside.lanes.items c.self.invariant c.args.event.now c.from.ensures c.self.view_is c.requires.item c.index_mut.ensures.value c.requires.few }
-
-pub invariant_of-self-2 : goal.invariant_of-self-2
-invariant_of-self-2 g c = event_lanes c.self.inside.firsts.items c.self.inside.lanes.items c.self.invariant c.args.event.now c.from.ensures c.self.view_is c.requires.item c.index_mut.ensures.value c.add.new.self c.is_release.result c.in_ok-add.ensures.ok
 
 pub returns-clause-ok : goal.returns-clause-ok
 returns-clause-ok g c =

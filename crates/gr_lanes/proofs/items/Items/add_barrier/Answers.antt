@@ -1,11 +1,5 @@
-use Rattle.gr_lanes.proofs.KeptLemmas.{arrives_lanes, arrives_with, few_events, lane_here}
+use Rattle.gr_lanes.proofs.KeptLemmas.{arrives_lanes, arrives_with}
 use Rattle.gr_lanes.proofs.items.Items.add_barrier.Goals as goal
-
-pub arrive-requires-clause-few : goal.arrive-requires-clause-few
-arrive-requires-clause-few g c = few_events c.self.inside.firsts.items c.self.inside.lanes.items c.self.invariant c.args.event.now c.from.ensures c.self.view_is c.requires.item c.index_mut.ensures.value c.requires.few
-
-pub arrive-requires-clause-lane : goal.arrive-requires-clause-lane
-arrive-requires-clause-lane g c = lane_here c.self.inside.firsts.items c.self.inside.lanes.items c.self.invariant c.args.event.now c.from.ensures c.self.view_is c.requires.item c.index_mut.ensures.value
 
 pub invariant_of-self-2 : goal.invariant_of-self-2
 invariant_of-self-2 g c = arrives_lanes c.self.inside.firsts.items c.self.inside.lanes.items c.self.invariant c.args.event.now c.from.ensures c.self.view_is c.requires.item c.index_mut.ensures.value c.arrive.new.self c.arrive.new.firsts.items c.in_ok-arrive.ensures.ok

@@ -1,9 +1,8 @@
 use Rattle.std.proofs.Common.{◌∙◌, ◌+◌, ◌-◌, ◌≤◌, ap, arith, sym}
-use Rattle.std.specs.Prelude.{◌≡◌, slice_get, slice_index_or}
+use Rattle.std.specs.Prelude.{◌≡◌, slice_get}
 use Rattle.std.proofs.lemmas.Option.{slice_get_within}
-use Rattle.gr_lanes.specs.Indices.{Index, no_index}
 use Rattle.gr_lanes.specs.Kept.{GroupIndex}
-use Rattle.gr_lanes.proofs.KeptLemmas.{barrier_read, count_read, lacks_item, not_among, rising_read}
+use Rattle.gr_lanes.proofs.KeptLemmas.{barrier_read, count_read, rising_read}
 use Rattle.gr_lanes.proofs.items.Items.barrier_number.Goals as goal
 
 pub barrier_place-requires-clause-few : goal.barrier_place-requires-clause-few
@@ -16,9 +15,6 @@ pub overflow_add-result : goal.overflow_add-result
 overflow_add-result g c =
     let within = slice_get_within c.in-Some.lane.now.barriers c.in-Some-barrier_place.place c.args.index c.in-Some-barrier_place.ensures in
     omega (arith, within, count_read c.deref.ensures.value c.from.ensures c.self.view_is c.in-Some.ensures.lookup.0 c.in-Some.ensures.lookup.1 c.self.invariant, c.requires.few)
-
-pub returns-in-None : goal.returns-in-None
-returns-in-None g c k at = not_among (slice_index_or c.args.self.now.indices c.args.item no_index).barriers (ap (λ (l : Index). l.barriers) (lacks_item c.deref.ensures.value c.from.ensures c.self.view_is c.in-None.ensures.lookup.0)) k c.args.index at
 
 pub returns-in-None-barrier_place : goal.returns-in-None-barrier_place
 returns-in-None-barrier_place g c k at =

@@ -1,5 +1,4 @@
-use Rattle.std.proofs.Common.{◌∙◌, ◌<◌, ◌≤◌, ℕ, List, ap, arith, get_or, length, subst}
-use Rattle.gr_lanes.specs.Kept.{HasNothing, Kept, nothing_kept}
+use Rattle.std.proofs.Common.{◌∙◌, ◌≤◌, ap, arith, length}
 use Rattle.gr_lanes.proofs.KeptLemmas.{left_closes, left_lanes}
 use Rattle.gr_lanes.proofs.items.Items.close.Goals as goal
 
@@ -12,4 +11,4 @@ pub returns-clause-lanes : goal.returns-clause-lanes
 returns-clause-lanes g c =
     let within : c.lanes_left-left.result ≤ length c.self.inside.lanes.items = omega (arith, c.lanes_left-left.ensures.within, ap length c.deref.ensures.value) in
     left_closes c.self.inside.firsts.items c.self.inside.lanes.items c.self.invariant c.lanes_left-left.result within (c.shrink_to_fit.ensures.items ∙ c.truncate.ensures.items) c.self.view_is
-    (subst (λ (l : List Kept). (i : ℕ) → c.lanes_left-left.result ≤ i → i < length l → HasNothing (get_or l i nothing_kept)) c.deref.ensures.value c.lanes_left-left.ensures.spent)
+    (rw c.deref.ensures.value at c.lanes_left-left.ensures.spent)

@@ -1,8 +1,6 @@
-use Rattle.std.proofs.Common.{◌∙◌, ◌+◌, ◌≡◌, List, ap, arith, length, map, subst, sym}
-use Rattle.std.specs.Vec.{with_items}
+use Rattle.std.proofs.Common.{◌∙◌, ◌≡◌, ap, arith, length, map}
 use Rattle.std.proofs.lemmas.List.{length-map, with_items_is}
-use Rattle.gr_lanes.specs.declared.bare.Bare.{Bare}
-use Rattle.gr_lanes.specs.Kept.{AreLanes, GroupIndex, forgetting_one}
+use Rattle.gr_lanes.specs.Kept.{forgetting_one}
 use Rattle.gr_lanes.proofs.KeptLemmas.{forgets_lanes, forgets_seen}
 use Rattle.gr_lanes.proofs.items.Items.forget.Goals as goal
 
@@ -12,7 +10,7 @@ invariant_of-self g c =
     let forgotten = c.self.inside.forgotten in
     let is = c.forget_one.ensures ∙ ap (map (forgetting_one forgotten)) c.deref_mut.ensures.value in
     let count : length c.forget_one.new.lanes ≡ lanes.len = omega (arith, ap length is, length-map lanes.items (forgetting_one forgotten), lanes.ok.0) in
-    subst (λ (f : List Bare). AreLanes (forgotten + 1) f (with_items lanes c.forget_one.new.lanes).items) (sym c.pop_front.ensures.rest)
+    rw c.pop_front.ensures.rest
     (forgets_lanes c.self.inside.firsts.items lanes.items c.self.invariant c.self.view_is (with_items_is lanes c.forget_one.new.lanes count ∙ is) c.requires.came)
 
 pub returns : goal.returns
@@ -22,6 +20,3 @@ returns g c =
     let is = c.forget_one.ensures ∙ ap (map (forgetting_one forgotten)) c.deref_mut.ensures.value in
     let count : length c.forget_one.new.lanes ≡ lanes.len = omega (arith, ap length is, length-map lanes.items (forgetting_one forgotten), lanes.ok.0) in
     forgets_seen c.self.inside.firsts.items lanes.items c.self.invariant c.self.view_is (with_items_is lanes c.forget_one.new.lanes count ∙ is)
-
-pub forget_one-requires : goal.forget_one-requires
-forget_one-requires g c = record { few = omega (arith, c.requires.few, ap (λ (s : GroupIndex). s.forgotten) c.self.view_is) }

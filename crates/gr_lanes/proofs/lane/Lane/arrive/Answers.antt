@@ -7,6 +7,3 @@ returns-then-not-is_empty-clause-ok g c = arrives_apart c.args.event.now c.requi
 
 pub add_alike-requires-clause-alike : goal.add_alike-requires-clause-alike
 add_alike-requires-clause-alike g c = omega (arith, said_count c.requires.lane, c.requires.lane.few)
-
-pub returns-in_ok-add_apart-in-Some-clause-ok : goal.returns-in_ok-add_apart-in-Some-clause-ok
-returns-in_ok-add_apart-in-Some-clause-ok g c = arrives_apart c.args.event.now c.requires.bare c.requires.lane c.in_ok-add_apart-in-Some.ensures.ok

@@ -3,13 +3,13 @@ use Rattle.gr_lanes.proofs.GroupLemmas.{all_came, decided_groups, decided_is, fe
 use Rattle.gr_lanes.proofs.lanes.Lanes.decide.Goals as goal
 
 pub decide-requires-clause-came : goal.decide-requires-clause-came
-decide-requires-clause-came g c = all_came c.self.inside.shape c.self.inside.groups.items c.self.invariant c.args.self.now c.self.view_is c.from.result c.args.divergence.group c.from.ensures c.index_mut.result.now c.index_mut.ensures.value c.requires
+decide-requires-clause-came g c = all_came c.self.invariant c.self.view_is c.from.ensures c.index_mut.ensures.value c.requires
 
 pub decide-requires-clause-few : goal.decide-requires-clause-few
-decide-requires-clause-few g c = few_forgotten c.self.inside.shape c.self.inside.groups.items c.self.invariant c.args.self.now c.self.view_is c.from.result c.args.divergence.group c.from.ensures c.index_mut.result.now c.index_mut.ensures.value c.requires
+decide-requires-clause-few g c = few_forgotten c.self.invariant c.self.view_is c.from.ensures c.index_mut.ensures.value c.requires
 
 pub invariant_of-self-2 : goal.invariant_of-self-2
-invariant_of-self-2 g c = decided_groups c.self.inside.shape c.self.inside.groups.items c.self.invariant c.args.self.now c.self.view_is c.from.result c.args.divergence.group c.from.ensures c.index_mut.result.now c.index_mut.ensures.value c.requires c.args.divergence c.decide.new.self c.in_ok-decide.ensures.ok
+invariant_of-self-2 g c = decided_groups c.self.invariant c.self.view_is c.from.ensures c.index_mut.ensures.value c.requires c.args.divergence refl c.in_ok-decide.ensures.ok
 
 pub returns-clause-ok : goal.returns-clause-ok
-returns-clause-ok g c = decided_is c.self.inside.shape c.self.inside.groups.items c.self.invariant c.args.self.now c.self.view_is c.from.result c.args.divergence.group c.from.ensures c.index_mut.result.now c.index_mut.ensures.value c.requires c.args.divergence c.decide.new.self c.in_ok-decide.ensures.ok refl
+returns-clause-ok g c = decided_is c.self.invariant c.self.view_is c.from.ensures c.index_mut.ensures.value c.requires c.args.divergence refl c.in_ok-decide.ensures.ok
