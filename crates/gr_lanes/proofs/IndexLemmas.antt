@@ -1,11 +1,11 @@
 -- What one record more makes of the index of each item.
-use Rattle.std.proofs.Common.{◌≡◌, ℕ, zero, suc, ◌+◌, ◌-◌, ◌<◌, ◌≤◌, Bool, true, false, not, ◌&&◌, ◌==◌, cond, List, [], ◌∷◌, ◌++◌, length, filter, Some, None, Err, nat_cmp, slice_get, get_or, set, take, is_some, Option, sub-one, refl, sym, ap, ◌∙◌, subst, ⊎_elim, arith, append-nil, IsTrue}
+use Rattle.std.proofs.Common.{◌≡◌, ℕ, zero, suc, ◌+◌, ◌-◌, ◌<◌, ◌≤◌, Bool, true, false, not, ◌&&◌, ◌==◌, cond, List, [], ◌∷◌, ◌++◌, length, filter, Some, None, Err, nat_cmp, slice_get, get_or, set, take, is_some, sub-one, refl, sym, ap, ◌∙◌, subst, ⊎_elim, arith, append-nil, IsTrue}
 use Rattle.std.proofs.lemmas.Bool.{cases_lt, cases_eq, eq-eqb, ne_eqb, false_from_ne_true}
 use Rattle.std.proofs.lemmas.Bool.Decides.{nat_tests}
 use Rattle.std.proofs.lemmas.Grind.{common_steps}
 use Rattle.std.proofs.lemmas.List.{get_or-set_other, get_or-set_same, get_or-take, get_or_past, length-set, length-take-le, length_push}
 use Rattle.std.proofs.lemmas.List.Elements.{filter-append}
-use Rattle.std.proofs.lemmas.Option.{get_or_from_slice_get, slice_get-get_or, slice_get_past, slice_get_within}
+use Rattle.std.proofs.lemmas.Option.{gets, slice_get-get_or, slice_get_past, slice_get_within}
 use Rattle.std.proofs.lemmas.List.Sorted.{searched}
 use Rattle.std.specs.List.Sorted.{IsBinarySearchResult}
 use Rattle.gr_model.specs.declared.event.Event.{Event}
@@ -16,7 +16,7 @@ use Rattle.gr_model.specs.Barriers.{is_barrier}
 use Rattle.gr_model.specs.declared.event.Kind.{Kind}
 use Rattle.gr_model.specs.declared.event.Kind.TheVariants.{End}
 use Rattle.gr_model.specs.Events.{IsEventOk, is_end, is_end_kind}
-use Rattle.gr_model.specs.Streams.{IsPrefix, AreGood, Streams, event_at, is_complete, is_of, place_of, places_from, trace_of}
+use Rattle.gr_model.specs.Streams.{IsPrefix, AreGood, Streams, event_at, is_complete, is_of, place_of, places_from}
 use Rattle.gr_model.proofs.ListsOfRecords.{length-filter_le}
 use Rattle.gr_model.proofs.Places.{places_from-append, places_from-there}
 use Rattle.gr_model.proofs.StreamPrefixes.{prefix_push}
@@ -81,9 +81,7 @@ module _ {size forgotten : ℕ} {lanes : List Index} {list : List Event} (x : Ev
   }
     where
       here : is_end x ≡ false → get_or (set lanes x.item event) x.item no_index ≡ index_of (list ++ x ∷ []) x.item
-      here on =
-          get_or-set_same lanes x.item event no_index item_there ∙ (ap (λ l. with_event l x (is_release x) (is_barrier x)) (are.each x.item item_there)
-          ∙ sym (index_here list x x.item (is_of_item x x.item on ∙ eq-eqb x.item x.item refl)))
+      here on = grind (arith, common_steps, get_or-set_same, item_there, index_here, is_of_item, eq-eqb)
 
       other : is_end x ≡ false → (i : ℕ) → (i ≡ x.item → ⊥) → i < length lanes → get_or (set lanes x.item event) i no_index ≡ index_of (list ++ x ∷ []) i
       other on i apart within = get_or-set_other lanes x.item i event no_index apart ∙ (are.each i within ∙ sym (index_other list x i (is_of_item x i on ∙ ne_eqb x.item i (λ e. apart (sym e)))))
@@ -152,13 +150,17 @@ places_rise test i (x ∷ xs) zero b le within = grind (arith, common_steps, at_
 places_rise test i (x ∷ xs) (suc a) zero le within = absurd (omega arith)
 places_rise test i (x ∷ xs) (suc a) (suc b) le within = grind (arith, common_steps, places_rise test (suc i) xs)
 
+-- where the first so many are not asked for, the number is none of them
+pub number_least : (forgotten n : ℕ) (places : List ℕ) → forgotten ≤ length places → IsNumberKept forgotten places n → forgotten ≤ n
+number_least forgotten n places passed kept = ⊎_elim
+    (λ (lt : n < forgotten). kept (get_or places n 0) (slice_get-get_or places n 0 (omega arith)))
+    (λ (ge : forgotten ≤ n). ge)
+    (cases_lt n forgotten)
+
 -- a binary search that finds no place finds none because there is none
 pub not_found : (xs : List ℕ) (x i : ℕ) → IsBinarySearchResult (λ y. nat_cmp y x) xs (Err i) → AreRising xs → (k : ℕ) → slice_get xs k ≡ Some x → ⊥
 not_found xs x i search rises k at =
-    let missed = searched xs x (Err i) search rises in
-    let within : k < length xs = slice_get_within xs k x at in
-    let value : get_or xs k 0 ≡ x = get_or_from_slice_get xs k x 0 at in
-    ⊎_elim (λ (lt : k < i). let below = missed.1 k lt in omega arith) (λ (ge : i ≤ k). let above = missed.2 k ge within in omega arith) (cases_lt k i)
+    let missed = searched xs x (Err i) search rises in grind (arith, gets, missed.1 k, missed.2 k)
 
 -- where all items came to the least instance that is not forgotten, those whose lanes are there did
 pub came_at : {size forgotten : ℕ} {lanes : List Index} {list : List Event} → AreIndices size forgotten lanes list → ((i : ℕ) → i < size → (p : ℕ) × (slice_get (places_from is_barrier 0 (filter (is_of i) list)) forgotten ≡ Some p)) → (i : ℕ) → i < length lanes → (p : ℕ) × (slice_get (get_or lanes i no_index).barriers forgotten ≡ Some p)
@@ -176,13 +178,7 @@ module _ {size forgotten : ℕ} {lanes : List Index} {list : List Event} (are : 
   lacking past beyond = get_or_past lanes i no_index past ∙ rw (no_trace size list are.prefix i beyond)
 
   by_lane : {B : Type 0} → (lane ≡ index_of list i → B) → (lane ≡ no_index → IsSpent forgotten (index_of list i) → B) → B
-  by_lane there gone = ⊎_elim
-      (λ (lt : i < length lanes). there (are.each i lt))
-      (λ (past : length lanes ≤ i). ⊎_elim
-      (λ (within : i < size). gone (get_or_past lanes i no_index past) (are.gone i past within))
-      (λ (beyond : size ≤ i). there (lacking past beyond))
-      (cases_lt i size))
-      (cases_lt i (length lanes))
+  by_lane there gone = grind (arith, get_or_past, lacking, are.each i, are.gone i)
 
   few_that : (test : Event → Bool) → length (places_from test 0 (filter (is_of i) list)) < 4_294_967_296
   few_that test = omega (arith, few-places test 0 (filter (is_of i) list), length-places (is_of i) 0 list, few-places (is_of i) 0 list, are.prefix.few)
@@ -209,15 +205,10 @@ module _ {size forgotten : ℕ} {lanes : List Index} {list : List Event} (are : 
   -- the barriers: of an item that has gone they are forgotten
 
   past_all : IsSpent forgotten (index_of list i) → (n : ℕ) → IsNumberKept forgotten barriers n → length barriers ≤ n
-  past_all spent n kept = ⊎_elim
-      (λ (lt : n < length barriers). let least = kept (get_or barriers n 0) (slice_get-get_or barriers n 0 lt) in absurd (omega (arith, lt, least, spent.barriers)))
-      (λ (ge : length barriers ≤ n). ge)
-      (cases_lt n (length barriers))
+  past_all spent n kept = omega (arith, spent.barriers, number_least forgotten n barriers (omega (arith, spent.barriers)) kept)
 
   pub barrier_place_at : (n : ℕ) → IsNumberKept forgotten barriers n → slice_get lane.barriers n ≡ slice_get barriers n
-  barrier_place_at n kept = by_lane
-      (ap (λ (l : Index). slice_get l.barriers n))
-      (λ none spent. ap (λ (l : Index). slice_get l.barriers n) none ∙ sym (slice_get_past barriers n (past_all spent n kept)))
+  barrier_place_at n kept = grind (arith, gets, are.each i, are.gone i, lacking, get_or_past, past_all)
 
   pub barrier_event_at : (n : ℕ) → IsNumberKept forgotten barriers n → slice_get lane.arrived n ≡ slice_get (filter is_barrier (filter (is_of i) list)) n
   barrier_event_at n kept = by_lane
@@ -242,9 +233,7 @@ module _ {size forgotten : ℕ} {lanes : List Index} {list : List Event} (are : 
   barriers_rise = by_lane (λ there. rw there (places_rise is_barrier 0 (filter (is_of i) list))) (λ none spent. rw none (λ a b le within. absurd (omega arith)))
 
   pub counts_at : ((length lanes ≤ i) × (i < size) → ⊥) → length lane.barriers ≡ length (filter is_barrier (filter (is_of i) list))
-  counts_at isnt =
-      let is : lane ≡ index_of list i = ⊎_elim (are.each i) (λ (past : length lanes ≤ i). ⊎_elim (λ (within : i < size). absurd (isnt (past, within))) (lacking past) (cases_lt i size)) (cases_lt i (length lanes)) in
-      ap (λ (l : Index). length l.barriers) is ∙ length-places is_barrier 0 (filter (is_of i) list)
+  counts_at isnt = grind (arith, lacking, length-places, are.each i)
 
   pub counts_gone : length lanes ≤ i → i < size → forgotten ≡ length (filter is_barrier (filter (is_of i) list))
   counts_gone past within = sym (are.gone i past within).barriers ∙ length-places is_barrier 0 (filter (is_of i) list)
@@ -265,10 +254,7 @@ record_place {X} test i (x ∷ xs) k n e =
     here (suc m) at rest = let h = rest m at in (suc h.0, omega (arith, h.1), h.2)
 
 pub record_is : (s : Streams) (test : Event → Bool) (i : ItemId) (k n : ℕ) → place_of s test i k ≡ Some n → record_of s test i k ≡ event_at s (record { at = i; index = n })
-record_is s test i k n place =
-    let h = record_place test 0 (trace_of s i) k n place in
-    let same : h.0 ≡ n = omega (arith, h.1) in
-    h.2 ∙ ap (slice_get (trace_of s i)) same
+record_is s test i k n place = grind (arith, common_steps, record_place)
 
 -- ---- ends
 
@@ -300,11 +286,7 @@ end_in-last (y ∷ z ∷ xs) x e = end_in-last (z ∷ xs) x (rw sub-one (rw sub-
 
 -- a list that is not whole has no end, with one more record that is none too
 pub none_more : (list : List Event) (x : Event) → ¬ IsTrue (is_complete list) → is_end x ≡ false → end_in (list ++ x ∷ []) ≡ end_in list
-none_more list x open_list isnt = end_pushed list x ∙ (none_unless_end x.kind isnt ∙ sym (none_if_open (end_in list) (λ some. open_list (sym (end_is_complete list) ∙ some))))
-  where
-    none_if_open : (o : Option Bool) → ¬ IsTrue (is_some o) → o ≡ None
-    none_if_open None open_end = refl
-    none_if_open (Some cut) open_end = absurd (open_end refl)
+none_more list x open_list isnt = grind (arith, end_pushed list x, none_unless_end x.kind isnt, end_is_complete list)
 
 -- ---- cut streams
 

@@ -1,10 +1,13 @@
 -- The indices of a group's items, by what is kept of them.
-use Rattle.std.proofs.Common.{◌≡◌, ℕ, zero, suc, ◌+◌, ◌-◌, ◌<◌, ◌≤◌, Bool, true, false, List, [], ◌∷◌, length, map, get_or, set, drop, take, refl, sym, ap, ◌∙◌, subst, ⊎_elim, arith, ltb, Some, slice_get, cond}
+use Rattle.std.proofs.Common.{◌≡◌, ℕ, zero, suc, ◌+◌, ◌-◌, ◌<◌, ◌≤◌, Bool, true, false, List, length, map, get_or, set, drop, take, refl, sym, ap, ◌∙◌, subst, ⊎_elim, arith, ltb, Some, slice_get, cond}
+use Rattle.std.proofs.lemmas.Grind.{common_steps}
 use Rattle.gr_model.specs.declared.event.Space.TheVariants.{Global}
-use Rattle.std.proofs.lemmas.Bool.{cases_eq, cases_lt, ltb-true}
+use Rattle.std.proofs.lemmas.Bool.{cases_eq, ltb-true}
 use Rattle.std.proofs.lemmas.Bool.Decides.{nat_tests}
-use Rattle.std.proofs.lemmas.Option.{gets, slice_get-get_or, slice_get-map, slice_get_within}
+use Rattle.std.proofs.lemmas.Option.{gets, slice_get-map, slice_get_within}
 use Rattle.std.specs.List.{list_all}
+use Rattle.std.proofs.lemmas.Simd.{map-map}
+use Rattle.gr_lanes.proofs.IndexLemmas.{number_least}
 use Rattle.std.proofs.Math.ListN.{get_or-map as map_at, replicate}
 use Rattle.std.proofs.lemmas.List.Sums.{AllPass-from_list_all}
 use Rattle.std.proofs.lemmas.List.{get_or-map, get_or_read, get_or-set_other, get_or-set_same, get_or-take, length-map, length-take-le, length-set, map-set, take-map}
@@ -37,9 +40,7 @@ module _ {forgotten : ℕ} {ks read : List Kept} (same : read ≡ ks) {i j : ℕ
 
   module _ {lane : Kept} (there : true ≡ ltb j (length read)) (reads : lane ≡ get_or read j lane) where
     lane_is : lane ≡ get_or ks i nothing_kept
-    lane_is =
-        let lt = ltb-true j (length read) (sym there) in
-        get_or_read ks i lane (omega (arith, ap length same, here, lt)) (reads ∙ (ap (λ l. get_or l j lane) same ∙ ap (λ n. get_or ks n lane) here)) nothing_kept
+    lane_is = grind (arith, common_steps, ltb-true, get_or_read)
 
     pub lane_index : get_or s.indices i no_index ≡ lane.index
     lane_index = item_index ∙ ap (λ (k : Kept). k.index) (sym lane_is)
@@ -50,13 +51,8 @@ module _ {forgotten : ℕ} {ks read : List Kept} (same : read ≡ ks) {i j : ℕ
     module _ {firsts : List Bare} (are : AreLanes forgotten firsts ks) where
       -- a barrier's number may be asked for: it is not forgotten where it is one of the item's
       pub number_kept : (n : ℕ) → IsNumberKept s.forgotten (get_or s.indices i no_index).barriers n → forgotten ≤ n
-      number_kept n kept = ⊎_elim
-          (λ (lt : n < forgotten).
-          let there = slice_get-get_or lane.index.barriers n 0 (omega (arith, lt, (lane_kept are).passed)) in
-          let least = kept (get_or lane.index.barriers n 0) (ap (λ (l : Index). slice_get l.barriers n) lane_index ∙ there) in
-          omega (arith, least, ap (λ (l : GroupIndex). l.forgotten) view))
-          (λ (ge : forgotten ≤ n). ge)
-          (cases_lt n forgotten)
+      number_kept n kept = number_least forgotten n lane.index.barriers (lane_kept are).passed
+          (λ p at. let least = kept p (ap (λ (l : Index). slice_get l.barriers n) lane_index ∙ at) in omega (arith, least, ap (λ (l : GroupIndex). l.forgotten) view))
 
       pub barrier_read : (n : ℕ) → forgotten ≤ n → slice_get lane.barriers (n - forgotten) ≡ slice_get (get_or s.indices i no_index).barriers n
       barrier_read n le = barrier_at (lane_kept are) n le ∙ ap (λ (l : Index). slice_get l.barriers n) (sym lane_index)
@@ -104,9 +100,7 @@ module _ {forgotten : ℕ} (firsts : List Bare) (ks : List Kept) (are : AreLanes
   module _ (new : Kept) where
 
     seen_set : (index : Index) → new.index ≡ index → seen_of forgotten (set ks j new) ≡ with_indices s (set s.indices x.item index)
-    seen_set index is =
-        let all = map-set (λ (k : Kept). k.index) ks j new ∙ (ap (set (indices_of ks) j) is ∙ ap (λ n. set (indices_of ks) n index) here) in
-        ap (λ l. with_indices (seen_of forgotten ks) l) all ∙ ap (λ (l : GroupIndex). with_indices l (set l.indices x.item index)) view
+    seen_set index is = grind (arith, common_steps, map-set)
 
     -- a barrier
     module _ (firsts' : List Bare) (arrives : Arrives forgotten firsts firsts' old new x) where
@@ -128,11 +122,7 @@ module _ {forgotten : ℕ} (firsts : List Bare) (ks : List Kept) (are : AreLanes
 
 module _ {forgotten : ℕ} (firsts : List Bare) (ks : List Kept) (are : AreLanes forgotten firsts ks) {s : GroupIndex} (view : seen_of forgotten ks ≡ s) {new : List Kept} (is : new ≡ map (forgetting_one forgotten) ks) where
   pub forgets_seen : seen_of (forgotten + 1) new ≡ record { indices = s.indices; forgotten = s.forgotten + 1 }
-  forgets_seen = ap (seen_of (forgotten + 1)) is ∙ (ap (λ l. record { indices = l; forgotten = forgotten + 1 }) (indices_stay ks) ∙ ap (λ (l : GroupIndex). record { indices = l.indices; forgotten = l.forgotten + 1 }) view)
-    where
-      indices_stay : (ls : List Kept) → indices_of (map (forgetting_one forgotten) ls) ≡ indices_of ls
-      indices_stay [] = refl
-      indices_stay (l ∷ ls) = ap (λ t. l.index ∷ t) (indices_stay ls)
+  forgets_seen = ap (seen_of (forgotten + 1)) is ∙ (ap (λ l. record { indices = l; forgotten = forgotten + 1 }) (map-map (λ (k : Kept). k.index) (forgetting_one forgotten) ks) ∙ ap (λ (l : GroupIndex). record { indices = l.indices; forgotten = l.forgotten + 1 }) view)
 
   pub forgets_lanes : ((i : ℕ) → i < length s.indices → (p : ℕ) × (slice_get (get_or s.indices i no_index).barriers s.forgotten ≡ Some p)) → AreLanes (forgotten + 1) (drop 1 firsts) new
   forgets_lanes came = subst (AreLanes (forgotten + 1) (drop 1 firsts)) (sym is) each
