@@ -117,8 +117,7 @@ module _ (s : Streams) (frontier : Counts) (prefix : IsGroundedFrontier s fronti
 -- ---- the list
 
 before_more : (g i : ℕ) (at : ItemId) → IsItemBefore g i at → IsItemBefore g (i + 1) at
-before_more g i at (inl lower) = inl lower
-before_more g i at (inr here) = inr (here.0, let lt : at.item < i + 1 = omega (arith, here.1) in lt)
+before_more g i at p = grind arith
 
 before_cases : (g i : ℕ) (at : ItemId) → IsItemBefore g (i + 1) at → IsItemBefore g i at ⊎ (at ≡ record { group = g; item = i })
 before_cases g i at (inl lower) = inl (inl lower)
@@ -162,8 +161,7 @@ module _ (s : Streams) where
     group_done prefixes all = listed_same UnmatchedBelow (Found g i) (Found (g + 1) 0) us found (λ u p. (p.0, earlier u.event.at p.1)) (λ u p. (p.0, later u p.0 p.1))
       where
         earlier : (at : ItemId) → IsItemBefore g i at → IsItemBefore (g + 1) 0 at
-        earlier at (inl lower) = inl (let lt : at.group < g + 1 = omega arith in lt)
-        earlier at (inr here) = inl (let lt : at.group < g + 1 = omega (arith, here.0) in lt)
+        earlier at p = grind arith
 
         later : (u : Unmatched) → IsUnmatchedEntry s u → IsItemBefore (g + 1) 0 u.event.at → IsItemBefore g i u.event.at
         later u p (inr past) = let over : u.event.at.item < 0 = past.1 in absurd (omega arith)

@@ -1,5 +1,6 @@
 -- A record that is taken and whose event is handled at once: the two steps, one behind the other.
-use Rattle.std.proofs.Common.{◌≡◌, ◌≢◌, ◌⊎◌, ℕ, zero, suc, ◌+◌, ◌<◌, false, List, [], ◌∷◌, ◌++◌, length, Some, None, drop, slice_get, not, refl, sym, ap, ◌∙◌, subst, inl, inr, ⊎_elim, arith, append-nil}
+use Rattle.std.proofs.Common.{◌≡◌, ◌≢◌, ◌⊎◌, ℕ, ◌+◌, ◌<◌, false, List, [], ◌∷◌, ◌++◌, length, Some, None, drop, slice_get, not, refl, sym, ap, ◌∙◌, subst, ⊎_elim, arith, append-nil}
+use Rattle.std.proofs.lemmas.Grind.{common_steps}
 use Rattle.std.proofs.Math.ListN.{drop_of_length-le}
 use Rattle.std.proofs.lemmas.List.{length_push}
 use Rattle.std.proofs.lemmas.Option.{slice_get-get_or, slice_get_within}
@@ -38,19 +39,7 @@ there_at_once s g x prefixes can on =
 
 -- and each other event of its item was there
 pub others_at_once : (s : Streams) (g : ℕ) (x : Event) → ArePrefixes s → CanTake s g x → is_end x ≡ false → (d : EventId) → d.at ≡ (next_of s g x).at → IsEvent (with_record s g x) d → IsEvent s d ⊎ (d ≡ next_of s g x)
-others_at_once s g x prefixes can on d own there =
-    let i : ItemId = record { group = g; item = x.item } in
-    let longer : trace_of (with_record s g x) i ≡ trace_of s i ++ x ∷ [] = trace_grows s g x prefixes can i ∙ ap (λ l. trace_of s i ++ l) (adds_here g x on) in
-    let at : slice_get (trace_of s i ++ x ∷ []) d.index ≡ Some there.0 = subst (λ l. slice_get l d.index ≡ Some there.0) longer (subst (λ j. slice_get (trace_of (with_record s g x) j) d.index ≡ Some there.0) own there.1) in
-    ⊎_elim
-    (λ was. inl (there.0, subst (λ j. slice_get (trace_of s j) d.index ≡ Some there.0) (sym own) was))
-    (λ (last : (k : ℕ) × (d.index ≡ length (trace_of s i) + k) × (slice_get (x ∷ []) k ≡ Some there.0)).
-    inr (same_event d (next_of s g x) own (let first = only last.0 last.2 in omega (arith, last.1, first))))
-    (split_last (trace_of s i) (x ∷ []) d.index there.0 at)
-  where
-    only : (k : ℕ) → {y : Event} → slice_get (x ∷ []) k ≡ Some y → k ≡ 0
-    only zero at = refl
-    only (suc k) at = cc
+others_at_once s g x prefixes can on d own there = grind (arith, common_steps, trace_grows, adds_here, same_event, slice_get_within, split_last)
 
 module _ {q : Sequence} {frontier : Counts} {windows : Table} {held : ℕ} (kept : IsKept q frontier windows held) (g : ℕ) (x : Event) where
   abbrev e : EventId

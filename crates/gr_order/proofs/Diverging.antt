@@ -1,7 +1,6 @@
 -- The divergent instances, found one after the other.
-use Rattle.std.proofs.Common.{◌≡◌, ◌⊎◌, ℕ, zero, suc, ◌+◌, ◌<◌, ◌≤◌, List, [], ◌∷◌, ◌++◌, length, filter, filter_map, Some, None, slice_get, inl, inr, arith}
-use Rattle.std.specs.List.{cons_option}
-use Rattle.std.proofs.lemmas.Option.{slice_get_past}
+use Rattle.std.proofs.Common.{◌≡◌, ◌⊎◌, ℕ, ◌+◌, ◌<◌, ◌≤◌, List, [], ◌∷◌, ◌++◌, length, filter, filter_map, None, slice_get, inl, inr, arith}
+use Rattle.std.proofs.lemmas.Option.{gets, slice_get_past}
 use Rattle.gr_model.specs.declared.event.Event.{Event}
 use Rattle.gr_model.specs.declared.report.Divergence.{Divergence}
 use Rattle.gr_model.specs.declared.report.DivergenceCause.{DivergenceCause}
@@ -20,19 +19,11 @@ use Rattle.gr_lanes.specs.Remembered.{AreDecided, IsDecided, Remembered, decided
 -- ---- how far instances go
 
 none_later : {X : Type 0} (xs : List X) (k n : ℕ) → k ≤ n → slice_get xs k ≡ None → slice_get xs n ≡ None
-none_later [] k n le none = slice_get_past [] n (omega arith)
-none_later (x ∷ xs) zero n le none = cc
-none_later (x ∷ xs) (suc k) zero le none = absurd (omega arith)
-none_later (x ∷ xs) (suc k) (suc n) le none = none_later xs k n (omega arith) none
+none_later xs k n le none = grind (arith, gets)
 
 few_marks : (xs : List Event) → length (filter_map mark_of xs) ≤ length xs
 few_marks [] = omega arith
-few_marks (x ∷ xs) =
-    let rest = few_marks xs in
-    elim (mark_of x) as (λ o. length (cons_option o (filter_map mark_of xs)) ≤ suc (length xs)) [
-      | None ↦ omega arith
-      | Some a ↦ omega arith
-    ]
+few_marks (x ∷ xs) = grind (arith, few_marks xs)
 
 pub nobody_later : (s : Streams) (g k : ℕ) → NobodyCame (size_of s g) (arrivals s g k) → (n : ℕ) → k ≤ n → NobodyCame (size_of s g) (arrivals s g n)
 nobody_later s g k none n le i within = none_later (filter_map mark_of (trace_of s (record { group = g; item = i }))) k n le (none i within)

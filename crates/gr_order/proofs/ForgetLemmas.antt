@@ -1,6 +1,7 @@
 -- What is forgotten, where records are taken, events handled, and groups come.
 use Rattle.std.proofs.Common.{◌≡◌, ◌≢◌, ◌⊎◌, ℕ, ◌+◌, ◌<◌, ◌≤◌, List, [], ◌∷◌, ◌++◌, length, Some, get_or, set, slice_get, refl, sym, ap, ◌∙◌, subst, inl, inr, ⊎_elim, arith}
-use Rattle.std.proofs.lemmas.Bool.{cases_eq, cases_lt}
+use Rattle.std.proofs.lemmas.Grind.{common_steps}
+use Rattle.std.proofs.lemmas.Bool.{cases_eq}
 use Rattle.std.proofs.lemmas.List.{get_or-set_other, get_or-set_same, length-set}
 use Rattle.gr_model.specs.declared.event.Event.{Event}
 use Rattle.gr_model.specs.declared.event.EventId.{EventId}
@@ -20,7 +21,7 @@ use Rattle.gr_model.proofs.PutLemmas.{length_put, put_other, put_same}
 use Rattle.gr_steps.proofs.BarrierPlaces.{places_from-once}
 use Rattle.gr_steps.proofs.EventRecords.{item_of_event}
 use Rattle.gr_clocks.specs.Counts.{Counts, IsTick, count_of}
-use Rattle.gr_clocks.specs.Tables.{IsBeyond, item_of}
+use Rattle.gr_clocks.specs.Tables.{item_of}
 use Rattle.gr_lanes.specs.Remembered.{HaveAllCome, IsDecided, IsEventRemembered, IsRemembered, IsWhole, Remembered, decided_of, deciding, forgetting, forgotten_of, remembering, with_group}
 use Rattle.gr_lanes.specs.Takes.{CanTake, with_record}
 use Rattle.gr_lanes.proofs.Growth.{record_grows}
@@ -102,10 +103,7 @@ module _ (old : Remembered) (t : Streams) (before after : Counts) (grows : Grows
     grown = record { streams = t; forgotten = put 0 old.forgotten g 0; decided = put [] old.decided g [] }
 
     below_was : (h k : ℕ) → k < forgotten_of grown h → (h ≢ g) × (k < forgotten_of old h)
-    below_was h k below = ⊎_elim
-        (λ (same : h ≡ g). absurd (let none : forgotten_of grown h ≡ 0 = ap (λ m. get_or (put 0 old.forgotten g 0) m 0) same ∙ put_same 0 old.forgotten g 0 in omega (arith, below, none)))
-        (λ (apart : h ≡ g → ⊥). (apart, let same = put_other 0 old.forgotten g 0 h apart in omega (arith, below, same)))
-        (cases_eq h g)
+    below_was h k below = grind (arith, common_steps, put_same, put_other)
 
     lists_grown : (h : ℕ) → Lists DivergenceBelow (IsDecided grown h) (decided_of grown h)
     lists_grown h = ⊎_elim
@@ -149,20 +147,14 @@ tick_counts before i after tick j = let counts = tick.counts j in omega (arith, 
 -- ---- what is asked for is remembered
 
 pub next_remembered : (r : Remembered) (frontier : Counts) → IsForgetting r frontier → (e : EventId) → count_of frontier e.at ≤ e.index → IsEventRemembered r e
-next_remembered r frontier forgets e behind k at = ⊎_elim
-    (λ (below : k < forgotten_of r e.at.group). absurd (let counted = forgets.handled e k at below in omega (arith, counted, behind)))
-    (λ (le : forgotten_of r e.at.group ≤ k). le)
-    (cases_lt k (forgotten_of r e.at.group))
+next_remembered r frontier forgets e behind k at = grind (arith, common_steps)
 
 -- what the clock counts was handled
 pub forgets_as : (r : Remembered) (order : List EventId) (frontier : Counts) → AreBelowFrontier order frontier → IsForgetting r frontier → ForgetsHandled r order
 forgets_as r order frontier first forgets = record { decided = forgets.decided; handled = λ e k at below. (first e).1 (forgets.handled e k at below) }
 
 pub unhandled_remembered : (r : Remembered) (order : List EventId) → ForgetsHandled r order → (e : EventId) → ¬ IsIn order e → IsEventRemembered r e
-unhandled_remembered r order forgets e out k at = ⊎_elim
-    (λ (below : k < forgotten_of r e.at.group). absurd (out (forgets.handled e k at below)))
-    (λ (le : forgotten_of r e.at.group ≤ k). le)
-    (cases_lt k (forgotten_of r e.at.group))
+unhandled_remembered r order forgets e out k at = grind (arith, common_steps)
 
 pub barrier_remembered : (r : Remembered) (order : List EventId) → ForgetsHandled r order → (i : ItemId) (k : ℕ) → ((p : ℕ) → place_of r.streams is_barrier i k ≡ Some p → ¬ IsIn order (record { at = i; index = p })) → IsRemembered r i k
 barrier_remembered r order forgets i k out p at = unhandled_remembered r order forgets (record { at = i; index = p }) (out p at) k at
@@ -309,21 +301,14 @@ forgets_streams old new frontier g (inr next) = ap (λ (r : Remembered). r.strea
 
 -- the least one remembered is the next one, where the first item's next event is its barrier of that number
 pub least_is_next : (s : Streams) (frontier : Counts) (g k least : ℕ) → IsNextInstance s frontier g k → place_of s is_barrier (record { group = g; item = 0 }) least ≡ Some (count_of frontier (record { group = g; item = 0 })) → IsNextInstance s frontier g least
-least_is_next s frontier g k least next place =
-    let same : k ≡ least = places_from-once is_barrier 0 (trace_of s (record { group = g; item = 0 })) (count_of frontier (record { group = g; item = 0 })) k least (next.each 0 next.some).place place in
-    subst (IsNextInstance s frontier g) same next
+least_is_next s frontier g k least next place = grind (arith, common_steps, places_from-once)
 
 pub next_came : (s : Streams) (frontier : Counts) (g k : ℕ) → IsNextInstance s frontier g k → HaveAllCome s g k
 next_came s frontier g k next = (next.some, λ i within. (next.mark, (next.each i within).mark))
 
 module _ (old : Remembered) (prefixes : ArePrefixes old.streams) (before after : Counts) (g n : ℕ) (size : n ≡ size_of old.streams g) (ticks : TicksItems before g n after) (was : IsForgetting old before) where
   more_counted : AreMore before after
-  more_counted i = ⊎_elim
-      (λ (here : (i.group ≡ g) × (i.item < n)).
-      let same : item_of g i.item ≡ i = λ d. record { group = sym here.0 d; item = i.item } in
-      let more = subst (λ (j : ItemId). count_of after j ≡ count_of before j + 1) same (ticks.items i.item here.1) in omega (arith, more))
-      (λ (beyond : IsBeyond g n i). omega (arith, ticks.others i beyond))
-      (within_or_beyond g n i)
+  more_counted i = grind (arith, common_steps, within_or_beyond)
 
   on : IsForgetting old after
   on = forgets_on old before after more_counted was

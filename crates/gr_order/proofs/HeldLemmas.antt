@@ -1,5 +1,6 @@
 -- What was taken is handled or held, and what is ready is held.
 use Rattle.std.proofs.Common.{◌≡◌, ◌≢◌, ℕ, ◌+◌, ◌-◌, ◌<◌, ◌≤◌, Bool, cond, length, refl, sym, ap, subst, ⊎_elim, arith}
+use Rattle.std.proofs.lemmas.Grind.{common_steps}
 use Rattle.std.specs.List.{sum_by}
 use Rattle.std.specs.Prelude.{◌==◌}
 use Rattle.std.proofs.lemmas.Bool.{cases_eq, cases_lt, eq-eqb, ne_eqb}
@@ -75,10 +76,7 @@ module _ {q : Sequence} {frontier : Counts} {held : ℕ} (state : IsOrderState q
     ready_item = item_there state e ready
 
     pub ready_can_count : count_of frontier e.at ≢ LARGEST_COUNT
-    ready_can_count full =
-        let most = trace_most q.taken state.sequence.prefixes e.at ready_item.0 in
-        let index = index_is in
-        let taken = is_taken in omega arith
+    ready_can_count full = grind (arith, common_steps, trace_most, ready_item, index_is, is_taken)
 
     pub ready_is_held : 1 ≤ held
     ready_is_held =
@@ -103,9 +101,7 @@ module _ {q : Sequence} {frontier : Counts} {held : ℕ} (state : IsOrderState q
     none_there j apart = ap (λ (b : Bool). cond b 1 0) (ne_eqb j.group g apart)
 
     is_next : (j : ItemId) → HasItem q.taken.sizes j → j.group ≡ g → counts j < traces j
-    is_next j has here =
-        let same : item_of g j.item ≡ j = λ d. record { group = sym here d; item = j.item } in
-        subst (λ (i : ItemId). counts i < traces i) same (next j.item (subst (λ (n : ℕ). j.item < size_of q.taken n) here has.1))
+    is_next j has here = grind (arith, common_steps)
 
     pub group_is_held : size_of q.taken g ≤ held
     group_is_held =

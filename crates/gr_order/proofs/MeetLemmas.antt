@@ -1,5 +1,6 @@
 -- The next instance of a group, by the next events of its items.
 use Rattle.std.proofs.Common.{◌≡◌, ℕ, ◌<◌, ◌≤◌, List, Some, None, Option, slice_get, is_some, true, length, refl, sym, ap, ◌∙◌, subst, ⊎_elim, arith, eq-or-lt_of_le}
+use Rattle.std.proofs.lemmas.Grind.{common_steps}
 use Rattle.std.specs.Prelude.{MatchOption}
 use Rattle.std.proofs.lemmas.Bool.{cases_lt}
 use Rattle.std.proofs.lemmas.List.{get_or_past}
@@ -66,11 +67,7 @@ module _ (s : Streams) (frontier : Counts) (g : ℕ) where
 
 module _ (s : Streams) (order : List EventId) (frontier : Counts) (first_ones : AreBelowFrontier order frontier) (g : ℕ) where
   stands_at : (k : ℕ) (b : EventId) → IsNextInstance s frontier g k → StandsIn s b g k → b.index ≡ count_of frontier b.at
-  stands_at k b h stands =
-      let item : item_at g b.at.item ≡ b.at = λ d. record { group = sym stands.group d; item = b.at.item } in
-      let next = h.each b.at.item stands.item in
-      let here : Some b.index ≡ Some (count_of frontier b.at) = sym stands.place ∙ (ap (λ (i : ItemId). place_of s is_barrier i k) (sym item) ∙ (next.place ∙ ap (λ (i : ItemId). Some (count_of frontier i)) item)) in
-      cc
+  stands_at k b h stands = grind (arith, common_steps)
 
   pub next_meets : (k : ℕ) → IsNextInstance s frontier g k → (a : Mark) × IsMeeting s order g k a
   next_meets k h = (

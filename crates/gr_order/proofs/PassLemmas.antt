@@ -1,6 +1,7 @@
 -- An order stays one where the next events of a group's items are handled, as an instance meets.
 use Rattle.std.proofs.Common.{◌≡◌, ◌⊎◌, ℕ, ◌+◌, ◌<◌, ◌≤◌, List, ◌++◌, ◌∷◌, [], append_assoc, length, Some, slice_get, refl, sym, ap, ◌∙◌, subst, inl, inr, ⊎_elim, arith}
-use Rattle.std.proofs.lemmas.Bool.{cases_eq, cases_lt}
+use Rattle.std.proofs.lemmas.Grind.{common_steps}
+use Rattle.std.proofs.lemmas.Bool.{cases_eq}
 use Rattle.std.proofs.lemmas.List.{length-append}
 use Rattle.std.proofs.lemmas.List.FromFn.{get_or-map-range_with_len, length-map-range_with_len, map-range_with_len_more}
 use Rattle.std.proofs.lemmas.Option.{get_or_from_slice_get, slice_get_within}
@@ -80,9 +81,7 @@ module _ (frontier : Counts) (g n : ℕ) where
 
   module _ (order : List EventId) (first : AreBelowFrontier order frontier) (new : Counts) (ticks : TicksItems frontier g n new) where
     count_here : (j : ItemId) → j.group ≡ g → j.item < n → count_of new j ≡ count_of frontier j + 1
-    count_here j here lt =
-        let same : item_of g j.item ≡ j = λ d. record { group = sym here d; item = j.item } in
-        subst (λ i. count_of new i ≡ count_of frontier i + 1) same (ticks.items j.item lt)
+    count_here j here lt = grind (arith, common_steps)
 
     grows : (j : ItemId) → count_of frontier j ≤ count_of new j
     grows j = ⊎_elim (λ (here : (j.group ≡ g) × (j.item < n)). let now = count_here j here.0 here.1 in omega arith) (λ (beyond : IsBeyond g n j). let same = ticks.others j beyond in omega arith) (within_or_beyond g n j)
@@ -105,12 +104,7 @@ module _ (frontier : Counts) (g n : ℕ) where
         (length order + e.at.item, at_behind order (next_events frontier g n) e.at.item e (next_at e.at.item lt ∙ ap Some same))
 
     found : (e : EventId) → e.index < count_of new e.at → IsIn (order ++ next_events frontier g n) e
-    found e lt = ⊎_elim
-        (λ (here : (e.at.group ≡ g) × (e.at.item < n)).
-        let now = count_here e.at here.0 here.1 in
-        ⊎_elim (λ (below : e.index < count_of frontier e.at). was_there e below) (λ (ge : count_of frontier e.at ≤ e.index). is_next e here.0 here.1 (omega arith)) (cases_lt e.index (count_of frontier e.at)))
-        (λ (beyond : IsBeyond g n e.at). let same = ticks.others e.at beyond in was_there e (omega arith))
-        (within_or_beyond g n e.at)
+    found e lt = grind (arith, common_steps, count_here, was_there, is_next, within_or_beyond)
 
     pub first_behind : AreBelowFrontier (order ++ next_events frontier g n) new
     first_behind e = (counted e, found e)
@@ -125,10 +119,7 @@ module _ {q : Sequence} {frontier : Counts} {held : ℕ} (state : IsOrderState q
   group_there = size_there q.taken g next.some
 
   pub below_trace : (i : ℕ) → i < size_of q.taken g → count_of frontier (item_of g i) < length (trace_of q.taken (item_of g i))
-  below_trace i lt =
-      let there = barrier_mark 0 (trace_of q.taken (item_of g i)) can.0 (count_of frontier (item_of g i)) (next.each i lt).place in
-      let within : there.0 < length (trace_of q.taken (item_of g i)) = slice_get_within (trace_of q.taken (item_of g i)) there.0 there.1 there.3 in
-      omega (arith, there.2, within)
+  below_trace i lt = grind (arith, common_steps, barrier_mark, next, slice_get_within)
 
   pub below_largest : (i : ℕ) → i < size_of q.taken g → count_of frontier (item_of g i) < LARGEST_COUNT
   below_largest i lt = let below = below_trace i lt in let most = trace_most q.taken state.sequence.prefixes (item_of g i) group_there in omega arith

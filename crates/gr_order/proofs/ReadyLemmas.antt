@@ -1,5 +1,6 @@
 -- Instances and releases, by what is looked at.
 use Rattle.std.proofs.Common.{Contains, ◌≡◌, ℕ, ◌<◌, true, false, true≢false, List, [], Some, None, slice_get, is_some, refl, sym, ap, ◌∙◌, subst, arith, option_and_then}
+use Rattle.std.proofs.lemmas.Grind.{common_steps}
 use Rattle.std.specs.Prelude.{All}
 use Rattle.std.proofs.lemmas.List.Elements.{All-contains, All-contains_itself, All-weaker}
 use Rattle.gr_model.specs.declared.event.Event.{Event}
@@ -55,9 +56,7 @@ module _ (s : Streams) (frontier : Counts) (group : ℕ) (x : Event) (n : Name) 
   released_if handled word = record { release = record { at = n.at; index = index }; item = refl; place = place; word = word; handled = handled }
 
   pub released_only : IsReleased s frontier group x n → event_word group x ≡ word_at s (record { at = n.at; index = index })
-  released_only r =
-      let same : r.release.index ≡ index = let is : Some r.release.index ≡ Some index = sym r.place ∙ place in cc in
-      r.word ∙ ap (word_at s) (same_event r.release (record { at = n.at; index = index }) r.item same)
+  released_only r = grind (arith, common_steps, same_event)
 
 -- ---- the next event of an item
 

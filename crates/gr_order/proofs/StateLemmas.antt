@@ -1,5 +1,6 @@
 -- An order stays one where a record is taken, and where an event is handled.
-use Rattle.std.proofs.Common.{◌≡◌, ◌⊎◌, ℕ, ◌+◌, ◌<◌, ◌≤◌, List, [], ◌∷◌, ◌++◌, length, Some, slice_get, refl, sym, ap, ◌∙◌, subst, inl, inr, ⊎_elim, arith, Bool, true, false, cond, zero, suc, true≢false}
+use Rattle.std.proofs.Common.{◌≡◌, ◌⊎◌, ℕ, ◌+◌, ◌<◌, ◌≤◌, List, [], ◌∷◌, ◌++◌, length, Some, refl, sym, ap, ◌∙◌, subst, inl, inr, ⊎_elim, arith, Bool, true, cond}
+use Rattle.std.proofs.lemmas.Grind.{common_steps}
 use Rattle.std.specs.Prelude.{◌==◌, ◌&&◌, not}
 use Rattle.std.proofs.lemmas.Bool.{cases_lt, eq-eqb}
 use Rattle.std.proofs.lemmas.List.{length_push}
@@ -79,21 +80,14 @@ pub tick_there : (i j : ItemId) → (i ≡ j → ⊥) → tick_at i j ≡ 0
 tick_there i j apart = grind (arith, same_items i j)
 
 in_more : (order : List EventId) (e d : EventId) → IsIn (order ++ e ∷ []) d → IsIn order d ⊎ (d ≡ e)
-in_more order e d (p, at) = ⊎_elim (λ before. inl (p, before)) (λ (last : (i : ℕ) × (p ≡ length order + i) × (slice_get (e ∷ []) i ≡ Some d)). inr (only last.0 last.2)) (split_last order (e ∷ []) p d at)
-  where
-    only : (i : ℕ) → slice_get (e ∷ []) i ≡ Some d → d ≡ e
-    only zero h = let same : e ≡ d = cc in sym same
-    only (suc i) h = cc
+in_more order e d (p, at) = grind (arith, common_steps, split_last)
 
 more_in : (order : List EventId) (e d : EventId) → IsIn order d ⊎ (d ≡ e) → IsIn (order ++ e ∷ []) d
 more_in order e d (inl (p, at)) = (p, slice_get-append order (e ∷ []) p d at)
 more_in order e d (inr same) = (length order + 0, at_behind order (e ∷ []) 0 d (ap Some (sym same)))
 
 pub item_cases : (i j : ItemId) → (i ≡ j) ⊎ (i ≡ j → ⊥)
-item_cases i j = elim (same_item i j) as (λ b. same_item i j ≡ b → (i ≡ j) ⊎ (i ≡ j → ⊥)) [
-  | true ↦ λ t. inl (same_items i j t)
-  | false ↦ λ f. inr (λ same. true≢false (sym (same_true i j same) ∙ f))
-] refl
+item_cases i j = grind (arith, common_steps, same_items, same_true)
 
 -- what a clock counts behind a tick
 module _ {old : Counts} {i : ItemId} {new : Counts} (tick : IsTick old i new) where

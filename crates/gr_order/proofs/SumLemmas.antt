@@ -1,5 +1,6 @@
 -- Sums over the items of a shape, and over the lists of groups.
 use Rattle.std.proofs.Common.{◌≡◌, ℕ, zero, suc, ◌+◌, ◌-◌, ◌<◌, ◌≤◌, List, [], ◌∷◌, length, map, get_or, refl, sym, ap, ◌∙◌, subst, ⊎_elim, arith}
+use Rattle.std.proofs.lemmas.Grind.{common_steps}
 use Rattle.std.specs.List.{flat_map, range_with_len, sum_by}
 use Rattle.std.proofs.lemmas.Bool.{cases_eq}
 use Rattle.std.proofs.lemmas.List.Concat.{flat_map-cons}
@@ -71,17 +72,11 @@ abbrev pub group_sum : (ItemId → ℕ) → List ℕ → ℕ → ℕ
 group_sum h sizes g = total (λ k. h (item_of g k)) 0 (get_or sizes g 0)
 
 pub items_sum : (h : ItemId → ℕ) (sizes : List ℕ) → sum_by h (items_of sizes) ≡ total (group_sum h sizes) 0 (length sizes)
-items_sum h sizes =
-    let f : ℕ → List ItemId = λ g. map (λ k. item_of g k) (range_with_len 0 (get_or sizes g 0)) in
-    sum_flat h f (range_with_len 0 (length sizes))
-    ∙ (sum_range (λ g. sum_by h (f g)) 0 (length sizes) ∙ total_same (group_sum h sizes) (λ g. sum_by h (f g)) 0 (length sizes) (λ g ge lt. sum_map h (λ k. item_of g k) 0 (get_or sizes g 0)))
+items_sum h sizes = grind (arith, common_steps, sum_flat, sum_range, total_same, sum_map)
 
 module _ (f h : ItemId → ℕ) (sizes : List ℕ) where
   pub items_same : ((i : ItemId) → HasItem sizes i → h i ≡ f i) → sum_by h (items_of sizes) ≡ sum_by f (items_of sizes)
-  items_same same =
-      items_sum h sizes
-      ∙ (total_same (group_sum f sizes) (group_sum h sizes) 0 (length sizes) (λ g ge within. total_same (λ k. f (item_of g k)) (λ k. h (item_of g k)) 0 (get_or sizes g 0) (λ k from lt. same (item_of g k) (omega arith, omega arith)))
-      ∙ sym (items_sum f sizes))
+  items_same same = grind (arith, common_steps, items_sum, total_same)
 
   -- the items of one group count more
   more_in : (g c : ℕ) → g < length sizes → group_sum h sizes g ≡ group_sum f sizes g + c → ((j : ItemId) → (j.group ≡ g → ⊥) → h j ≡ f j) → sum_by h (items_of sizes) ≡ sum_by f (items_of sizes) + c

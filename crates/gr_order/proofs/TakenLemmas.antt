@@ -1,5 +1,6 @@
 -- How many events were taken: of each item, of each group, and in all.
-use Rattle.std.proofs.Common.{◌≡◌, ℕ, zero, suc, ◌+◌, ◌*◌, ◌<◌, ◌≤◌, Bool, true, false, not, ◌&&◌, cond, List, [], ◌∷◌, ◌++◌, length, filter, map, Some, slice_get, refl, sym, ap, ◌∙◌, arith}
+use Rattle.std.proofs.Common.{◌≡◌, ℕ, zero, suc, ◌+◌, ◌*◌, ◌<◌, ◌≤◌, Bool, not, ◌&&◌, List, [], ◌∷◌, length, filter, map, Some, slice_get, refl, sym, ap, ◌∙◌, arith}
+use Rattle.std.proofs.lemmas.Grind.{common_steps}
 use Rattle.std.specs.Int.{from_bool}
 use Rattle.std.specs.List.{sum_by}
 use Rattle.std.proofs.lemmas.Bool.{eq-eqb, ne_eqb}
@@ -25,14 +26,10 @@ abbrev pub one_if : Bool → ℕ
 one_if b = from_bool b
 
 pub one_at_most : (b : Bool) → one_if b ≤ 1
-one_at_most true = omega arith
-one_at_most false = omega arith
+one_at_most b = grind arith
 
 filter_one : (test : Event → Bool) (x : Event) (list : List Event) → length (filter test (x ∷ list)) ≡ one_if (test x) + length (filter test list)
-filter_one test x list = elim (test x) as (λ b. length (cond b (x ∷ filter test list) (filter test list)) ≡ one_if b + length (filter test list)) [
-  | true ↦ omega arith
-  | false ↦ omega arith
-]
+filter_one test x list = grind arith
 
 -- an event is one of its item alone, and an end of none
 of_other : (x : Event) (i : ℕ) → (i ≡ x.item → ⊥) → one_if (is_of i x) ≡ 0
@@ -66,14 +63,7 @@ taken_events s prefixes =
 
 -- one record more
 pub events_more : (s : Streams) (g : ℕ) (x : Event) → ArePrefixes s → CanTake s g x → event_count (with_record s g x) ≡ event_count s + one_if (not (is_end x))
-events_more s g x prefixes can =
-    let grown : events_in (list_of s g ++ x ∷ []) ≡ events_in (list_of s g) + one_if (not (is_end x)) =
-    ap (λ (l : List Event). length l) (filter-append (λ y. not (is_end y)) (list_of s g) (x ∷ [])) ∙ (length-append (filter (λ y. not (is_end y)) (list_of s g)) (filter (λ y. not (is_end y)) (x ∷ [])) ∙ last) in
-    let there : g < length s.lists = omega (arith, prefixes.count, can.group) in
-    let sum = sum_by-set events_in s.lists g (list_of s g ++ x ∷ []) [] there in omega arith
-  where
-    last : events_in (list_of s g) + length (filter (λ y. not (is_end y)) (x ∷ [])) ≡ events_in (list_of s g) + one_if (not (is_end x))
-    last = let one = filter_one (λ y. not (is_end y)) x [] in omega arith
+events_more s g x prefixes can = grind (arith, common_steps, filter-append, length-append, sum_by-set, filter_one)
 
 pub no_events : (sizes : List ℕ) → event_count (nothing_taken sizes) ≡ 0
 no_events [] = refl
@@ -88,9 +78,7 @@ total_most f a (suc n) most =
     let rest = total_most f (a + 1) n (λ k from lt. most k (omega arith) (omega arith)) in omega arith
 
 pub trace_most : (s : Streams) → ArePrefixes s → (i : ItemId) → i.group < length s.sizes → length (trace_of s i) ≤ 16777216
-trace_most s prefixes i there =
-    let few : length (list_of s i.group) ≤ MOST_RECORDS = (prefixes.each i.group there).few in
-    let part = length-filter_le (is_of i.item) (list_of s i.group) in omega arith
+trace_most s prefixes i there = grind (arith, common_steps, length-filter_le)
 
 pub events_most : (s : Streams) → ArePrefixes s → event_count s ≤ 1099494850560
 events_most s prefixes =

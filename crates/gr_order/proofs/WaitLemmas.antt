@@ -1,26 +1,32 @@
 -- The events that wait, where a record is taken, and where events are handled.
-use Rattle.std.proofs.Common.{◌≡◌, ◌⊎◌, ℕ, zero, suc, ◌+◌, ◌-◌, ◌<◌, true, false, ◌&&◌, cond, List, [], ◌∷◌, ◌++◌, length, map, drop, take, get_or, filter, refl, sym, ap, ◌∙◌, subst, ⊎_elim, arith, append-nil}
+use Rattle.std.proofs.Common.{◌≡◌, ◌⊎◌, ℕ, ◌+◌, ◌-◌, ◌<◌, true, false, cond, List, [], ◌∷◌, ◌++◌, length, map, slice_get, Option, drop, take, filter, refl, sym, ap, ◌∙◌, subst, ⊎_elim, arith, append-nil}
+use Rattle.std.proofs.lemmas.Grind.{common_steps}
 use Rattle.std.proofs.lemmas.Bool.Decides.{nat_tests}
-use Rattle.std.proofs.lemmas.Bool.{cases_eq, eq-eqb, ne_eqb}
+use Rattle.std.proofs.lemmas.Bool.{eq-eqb, ne_eqb}
+use Rattle.std.proofs.Math.ListN.{get_or-map}
 use Rattle.std.proofs.lemmas.List.{drop-append-le, length-map}
 use Rattle.gr_model.specs.declared.event.Event.{Event}
 use Rattle.gr_model.specs.declared.event.EventId.{EventId}
 use Rattle.gr_model.specs.declared.event.ItemId.{ItemId}
 use Rattle.gr_model.specs.Events.{is_end}
 use Rattle.gr_model.specs.Shapes.{HasItem}
-use Rattle.gr_model.specs.Streams.{ArePrefixes, Streams, is_of, list_of, trace_of}
+use Rattle.gr_model.specs.Streams.{ArePrefixes, Streams, event_at, is_of, trace_of}
 use Rattle.gr_clocks.specs.Counts.{Counts, IsTick, count_of}
 use Rattle.gr_clocks.specs.Tables.{IsBeyond, item_of}
 use Rattle.gr_lanes.specs.Takes.{CanTake, nothing_taken, with_record}
 use Rattle.gr_lanes.proofs.Growth.{here, other}
 use Rattle.gr_lanes.proofs.IndexLemmas.{trace_more}
 use Rattle.gr_windows.specs.Windows.{AreWaiting, Changes, DropsItems, IsEmpty, Table, window_of}
-use Rattle.gr_windows.proofs.WindowLemmas.{drop_none, drop_one, take_pushed}
+use Rattle.gr_windows.proofs.WindowLemmas.{drop_none, drop_one, first_waits, take_pushed}
 use Rattle.gr_order.specs.Sequences.{Sequence}
 use Rattle.gr_order.specs.States.{AreBelowFrontier, TicksItems}
 use Rattle.gr_order.specs.Waiting.{AreSame, IsKept, Keeps, added, is_at}
 use Rattle.gr_order.proofs.HeldLemmas.{taken_first}
 use Rattle.gr_order.proofs.StateLemmas.{item_cases, tick_more, tick_stays, within_or_beyond}
+
+-- the first event of an item that waits is the next one
+pub first_is : {s : Streams} {frontier : Counts} {windows : Table} → AreWaiting s frontier windows → (i : ItemId) {n : ℕ} → n ≡ count_of frontier i → {o p : Option Event} → o ≡ slice_get (window_of windows i) 0 → o ≡ p → event_at s (record { at = i; index = n }) ≡ p
+first_is {s} {frontier} {windows} waiting i {n} count waits is = sym (first_waits s frontier windows waiting (record { at = i; index = n }) count) ∙ (sym waits ∙ is)
 
 -- ---- what a record adds
 
@@ -41,39 +47,18 @@ pub keeps_end : (w : Table) (g : ℕ) (x : Event) → is_end x ≡ true → Keep
 keeps_end w g x end = record { shape = refl; each = λ i. sym (ap (λ l. window_of w i ++ l) (end_adds_none g x i end) ∙ append-nil (window_of w i)) }
 
 pub keeps_event : (old : Table) (g : ℕ) (x : Event) (new : Table) → is_end x ≡ false → Changes old (item_of g x.item) (window_of old (item_of g x.item) ++ x ∷ []) new → Keeps old g x new
-keeps_event old g x new on changes = record {
-  shape = changes.shape;
-  each = λ i. ⊎_elim
-      (λ (same : i ≡ item_of g x.item). subst (λ j. window_of new j ≡ window_of old j ++ added g x j) (sym same) (changes.item ∙ sym (ap (λ l. window_of old (item_of g x.item) ++ l) (adds_here g x on))))
-      (λ (apart : i ≡ item_of g x.item → ⊥). changes.others i apart ∙ sym (ap (λ l. window_of old i ++ l) (adds_none g x i apart) ∙ append-nil (window_of old i)))
-      (item_cases i (item_of g x.item));
-}
+keeps_event old g x new on changes = grind (arith, common_steps, adds_here, adds_none, append-nil, item_cases)
 
 pub forgets_end : (before : Table) (g : ℕ) (x : Event) (w : Table) → is_end x ≡ true → Keeps before g x w → AreSame before w
 forgets_end before g x w end keeps = record { shape = keeps.shape; each = λ i. keeps.each i ∙ (ap (λ l. window_of before i ++ l) (end_adds_none g x i end) ∙ append-nil (window_of before i)) }
 
 pub forgets_event : (before : Table) (g : ℕ) (x : Event) (old new : Table) → is_end x ≡ false → Keeps before g x old → Changes old (item_of g x.item) (take (length (window_of old (item_of g x.item)) - 1) (window_of old (item_of g x.item))) new → AreSame before new
-forgets_event before g x old new on keeps changes =
-    let grew : window_of old (item_of g x.item) ≡ window_of before (item_of g x.item) ++ x ∷ [] = keeps.each (item_of g x.item) ∙ ap (λ l. window_of before (item_of g x.item) ++ l) (adds_here g x on) in record {
-      shape = changes.shape ∙ keeps.shape;
-      each = λ i. ⊎_elim
-          (λ (same : i ≡ item_of g x.item). subst (λ j. window_of new j ≡ window_of before j) (sym same) (changes.item ∙ (ap (λ (l : List Event). take (length l - 1) l) grew ∙ take_pushed (window_of before (item_of g x.item)) x)))
-          (λ (apart : i ≡ item_of g x.item → ⊥). changes.others i apart ∙ (keeps.each i ∙ (ap (λ l. window_of before i ++ l) (adds_none g x i apart) ∙ append-nil (window_of before i))))
-          (item_cases i (item_of g x.item));
-    }
+forgets_event before g x old new on keeps changes = grind (arith, common_steps, adds_here, take_pushed, adds_none, append-nil, item_cases)
 
 -- ---- a record is taken
 
 pub trace_grows : (s : Streams) (g : ℕ) (x : Event) → ArePrefixes s → CanTake s g x → (i : ItemId) → trace_of (with_record s g x) i ≡ trace_of s i ++ added g x i
-trace_grows s g x prefixes can i = ⊎_elim
-    (λ (same : i.group ≡ g).
-    let list : list_of (with_record s g x) i.group ≡ list_of s i.group ++ x ∷ [] = ap (list_of (with_record s g x)) same ∙ (here s g x prefixes can ∙ ap (λ n. list_of s n ++ x ∷ []) (sym same)) in
-    let test : is_at g x i ≡ is_of i.item x = ap (λ b. b && is_of i.item x) (eq-eqb i.group g same) in
-    ap (filter (is_of i.item)) list ∙ (trace_more (list_of s i.group) x i.item ∙ sym (ap (λ b. trace_of s i ++ cond b (x ∷ []) []) test)))
-    (λ (apart : i.group ≡ g → ⊥).
-    let none : added g x i ≡ [] = none_added g x i (ap (λ b. b && is_of i.item x) (ne_eqb i.group g apart)) in
-    ap (filter (is_of i.item)) (other s g x prefixes can i.group apart) ∙ sym (ap (λ l. trace_of s i ++ l) none ∙ append-nil (trace_of s i)))
-    (cases_eq i.group g)
+trace_grows s g x prefixes can i = grind (arith, common_steps, here, eq-eqb, trace_more, none_added, ne_eqb, other, append-nil)
 
 module _ {q : Sequence} {frontier : Counts} {windows : Table} {held : ℕ} (kept : IsKept q frontier windows held) where
   pub item_is_kept : (g : ℕ) (x : Event) → CanTake q.taken g x → HasItem (map length windows) (item_of g x.item)
@@ -95,9 +80,7 @@ module _ {q : Sequence} {frontier : Counts} {windows : Table} {held : ℕ} (kept
 
   -- the first event of an item that waits goes
   next_drop : (i : ItemId) (c : ℕ) (w : List Event) → c ≡ count_of frontier i + 1 → w ≡ drop 1 (window_of windows i) → w ≡ drop c (trace_of q.taken i)
-  next_drop i c w more is =
-      let count : suc (count_of frontier i) ≡ c = omega (arith, more) in
-      is ∙ (ap (drop 1) (kept.waits.each i) ∙ (drop_one (count_of frontier i) (trace_of q.taken i) ∙ ap (λ n. drop n (trace_of q.taken i)) count))
+  next_drop i c w more is = grind (arith, common_steps, drop_one)
 
   pub waits_less : (e : EventId) (new : Counts) → IsTick frontier e.at new → (now : Table) → Changes windows e.at (drop 1 (window_of windows e.at)) now → AreWaiting q.taken new now
   waits_less e new tick now changes = record {
@@ -137,10 +120,5 @@ module _ {q : Sequence} {frontier : Counts} {windows : Table} {held : ℕ} (kept
 pub none_wait : (sizes : List ℕ) (taken : Streams) → taken ≡ nothing_taken sizes → (frontier : Counts) (w : Table) → IsEmpty sizes w → AreWaiting taken frontier w
 none_wait sizes taken is frontier w empty = subst (λ (s : Streams). AreWaiting s frontier w) (sym is) (record {
   shape = empty.shape;
-  each = λ i. empty.none i ∙ sym (drop_none (count_of frontier i) (trace_of (nothing_taken sizes) i) (ap (filter (is_of i.item)) (none_at sizes i.group)));
+  each = λ i. empty.none i ∙ sym (drop_none (count_of frontier i) (trace_of (nothing_taken sizes) i) (ap (filter (is_of i.item)) (get_or-map (λ (n : ℕ). let none : List Event = [] in none) sizes i.group 0)));
 })
-  where
-    none_at : (l : List ℕ) (g : ℕ) → get_or (map (λ (n : ℕ). let none : List Event = [] in none) l) g [] ≡ []
-    none_at [] g = refl
-    none_at (n ∷ l) zero = refl
-    none_at (n ∷ l) (suc g) = none_at l g

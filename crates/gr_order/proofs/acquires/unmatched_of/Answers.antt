@@ -1,41 +1,34 @@
-use Rattle.std.proofs.Common.{◌≡◌, ◌∙◌, Some, ap, arith, length, option_and_then, refl, sym}
+use Rattle.std.proofs.Common.{◌≡◌, ◌∙◌, ap, arith, length, option_and_then, refl, sym}
 use Rattle.std.proofs.lemmas.Bool.{eqb-false, eqb-true}
-use Rattle.gr_model.specs.declared.event.EventId.{EventId}
 use Rattle.gr_model.specs.Access.{event_word}
-use Rattle.gr_model.specs.Streams.{event_at}
-use Rattle.gr_windows.proofs.WindowLemmas.{first_waits}
+use Rattle.gr_order.proofs.WaitLemmas.{first_is}
 use Rattle.gr_order.proofs.Acquiring.{names_are, none_named, none_there, this_is}
 use Rattle.gr_order.proofs.acquires.unmatched_of.Goals as goal
 
 pub cause-requires-clause-names : goal.cause-requires-clause-names
 cause-requires-clause-names g c =
-    let e : EventId = record { at = c.args.item; index = c.get.result } in
-    let at : event_at c.args.lanes.now.streams e ≡ Some c.in_ok-taken.taken = sym (first_waits c.args.lanes.now.streams c.args.frontier.now c.args.windows.now c.requires.waiting e c.get.ensures.count) ∙ (sym c.waiting.ensures ∙ c.in_ok-taken.was) in
+    let at = first_is c.requires.waiting c.args.item c.get.ensures.count c.waiting.ensures c.in_ok-taken.was in
     c.as_slice-names.ensures.names ∙ sym (names_are c.args.lanes.now.streams c.args.frontier.now c.requires.grounded c.args.item c.get.result c.get.ensures.count c.in_ok-taken.taken at)
 
 pub cause-requires-clause-word : goal.cause-requires-clause-word
 cause-requires-clause-word g c =
-    let e : EventId = record { at = c.args.item; index = c.get.result } in
-    let at : event_at c.args.lanes.now.streams e ≡ Some c.in_ok-taken.taken = sym (first_waits c.args.lanes.now.streams c.args.frontier.now c.args.windows.now c.requires.waiting e c.get.ensures.count) ∙ (sym c.waiting.ensures ∙ c.in_ok-taken.was) in
+    let at = first_is c.requires.waiting c.args.item c.get.ensures.count c.waiting.ensures c.in_ok-taken.was in
     c.word_of.ensures ∙ sym (ap (option_and_then (event_word c.args.item.group)) at)
 
 pub returns-in_err-taken : goal.returns-in_err-taken
 returns-in_err-taken g c =
-    let e : EventId = record { at = c.args.item; index = c.get.result } in
     rw c.from_residual.ensures
-    (none_there c.args.lanes.now.streams c.args.frontier.now c.requires.grounded c.args.item c.get.result c.get.ensures.count (sym (first_waits c.args.lanes.now.streams c.args.frontier.now c.args.windows.now c.requires.waiting e c.get.ensures.count) ∙ (sym c.waiting.ensures ∙ c.in_err-taken.was)))
+    (none_there c.args.lanes.now.streams c.args.frontier.now c.requires.grounded c.args.item c.get.result c.get.ensures.count (first_is c.requires.waiting c.args.item c.get.ensures.count c.waiting.ensures c.in_err-taken.was))
 
 pub returns-then-is_empty : goal.returns-then-is_empty
 returns-then-is_empty g c =
-    let e : EventId = record { at = c.args.item; index = c.get.result } in
-    let at : event_at c.args.lanes.now.streams e ≡ Some c.in_ok-taken.taken = sym (first_waits c.args.lanes.now.streams c.args.frontier.now c.args.windows.now c.requires.waiting e c.get.ensures.count) ∙ (sym c.waiting.ensures ∙ c.in_ok-taken.was) in
+    let at = first_is c.requires.waiting c.args.item c.get.ensures.count c.waiting.ensures c.in_ok-taken.was in
     let none : length c.in_ok-taken.taken.names ≡ 0 = ap length (sym c.as_slice-names.ensures.names) ∙ eqb-true (length c.as_slice-names.result.now) 0 (sym c.is_empty.ensures ∙ c.if-is_empty.true) in
     none_named c.args.lanes.now.streams c.args.frontier.now c.requires.grounded c.args.item c.get.result c.get.ensures.count c.in_ok-taken.taken at none
 
 pub returns : goal.returns
 returns g c =
-    let e : EventId = record { at = c.args.item; index = c.get.result } in
-    let at : event_at c.args.lanes.now.streams e ≡ Some c.in_ok-taken.taken = sym (first_waits c.args.lanes.now.streams c.args.frontier.now c.args.windows.now c.requires.waiting e c.get.ensures.count) ∙ (sym c.waiting.ensures ∙ c.in_ok-taken.was) in
+    let at = first_is c.requires.waiting c.args.item c.get.ensures.count c.waiting.ensures c.in_ok-taken.was in
     let count : length c.as_slice-names.result.now ≡ length c.in_ok-taken.taken.names = ap length c.as_slice-names.ensures.names in
     let some : length c.as_slice-names.result.now ≡ 0 → ⊥ = eqb-false (length c.as_slice-names.result.now) 0 (sym c.is_empty.ensures ∙ c.if-is_empty.false) in (
       refl,

@@ -1,9 +1,9 @@
 use Rattle.gr_model.specs.declared.event.EventId.{EventId}
 use Rattle.gr_order.proofs.ForgetLemmas.{next_remembered}
 use Rattle.std.proofs.Common.{arith, ◌≡◌, ◌∙◌, ℕ, Some, ap, refl, sym, true≢false}
-use Rattle.gr_windows.proofs.WindowLemmas.{first_waits}
+use Rattle.gr_order.proofs.WaitLemmas.{first_is}
 use Rattle.gr_model.specs.Barriers.{is_barrier, mark_of}
-use Rattle.gr_model.specs.Streams.{event_at, place_of}
+use Rattle.gr_model.specs.Streams.{place_of}
 use Rattle.gr_clocks.specs.Counts.{count_of}
 use Rattle.gr_order.proofs.MeetLemmas.{come, first_there, is_mark, item_at, next_if, next_of, next_only}
 use Rattle.gr_order.proofs.ready.next_instance.Goals as goal
@@ -14,7 +14,7 @@ pub returns-in-None : goal.returns-in-None
 returns-in-None g c k h =
     let s = c.args.lanes.now.streams in
     let group = c.args.group in
-    first_there s c.args.frontier.now group k h (sym (first_waits s c.args.frontier.now c.args.windows.now c.requires.waiting (next_of c.args.frontier.now (item_at group 0)) refl) ∙ sym c.in-None.ensures)
+    first_there s c.args.frontier.now group k h (first_is c.requires.waiting (item_at group 0) refl c.in-None.ensures refl)
 
 pub barrier_number-requires : goal.barrier_number-requires
 barrier_number-requires g c =
@@ -30,7 +30,7 @@ pub all_stand_next-requires-clause-come : goal.all_stand_next-requires-clause-co
 all_stand_next-requires-clause-come g c =
     let s = c.args.lanes.now.streams in
     let group = c.args.group in
-    let at : event_at s (next_of c.args.frontier.now (item_at group 0)) ≡ Some c.in-Some.mine = sym (first_waits s c.args.frontier.now c.args.windows.now c.requires.waiting (next_of c.args.frontier.now (item_at group 0)) refl) ∙ sym c.in-Some.ensures in
+    let at = first_is c.requires.waiting (item_at group 0) refl c.in-Some.ensures refl in
     let place : place_of s is_barrier (item_at group 0) c.in-Some-barrier_number.number ≡ Some (count_of c.args.frontier.now (item_at group 0)) = c.in-Some-barrier_number.ensures ∙ ap (λ (n : ℕ). Some n) c.get-index.ensures.count in
     come s c.args.frontier.now group c.requires.prefixes c.in-Some.mine at c.in-Some-barrier_number.number place
 
@@ -38,7 +38,7 @@ pub returns-then-all_stand_next : goal.returns-then-all_stand_next
 returns-then-all_stand_next g c =
     let s = c.args.lanes.now.streams in
     let group = c.args.group in
-    let at : event_at s (next_of c.args.frontier.now (item_at group 0)) ≡ Some c.in-Some.mine = sym (first_waits s c.args.frontier.now c.args.windows.now c.requires.waiting (next_of c.args.frontier.now (item_at group 0)) refl) ∙ sym c.in-Some.ensures in
+    let at = first_is c.requires.waiting (item_at group 0) refl c.in-Some.ensures refl in
     let place : place_of s is_barrier (item_at group 0) c.in-Some-barrier_number.number ≡ Some (count_of c.args.frontier.now (item_at group 0)) = c.in-Some-barrier_number.ensures ∙ ap (λ (n : ℕ). Some n) c.get-index.ensures.count in
     let mark = some_mark (mark_of c.in-Some.mine) (is_mark s c.args.frontier.now group c.requires.prefixes c.in-Some.mine at c.in-Some-barrier_number.number place) in
     next_if s c.args.frontier.now group c.requires.prefixes c.in-Some.mine at c.in-Some-barrier_number.number place mark.0 mark.1
@@ -48,6 +48,6 @@ pub returns-else-all_stand_next : goal.returns-else-all_stand_next
 returns-else-all_stand_next g c k h =
     let s = c.args.lanes.now.streams in
     let group = c.args.group in
-    let at : event_at s (next_of c.args.frontier.now (item_at group 0)) ≡ Some c.in-Some.mine = sym (first_waits s c.args.frontier.now c.args.windows.now c.requires.waiting (next_of c.args.frontier.now (item_at group 0)) refl) ∙ sym c.in-Some.ensures in
+    let at = first_is c.requires.waiting (item_at group 0) refl c.in-Some.ensures refl in
     let place : place_of s is_barrier (item_at group 0) c.in-Some-barrier_number.number ≡ Some (count_of c.args.frontier.now (item_at group 0)) = c.in-Some-barrier_number.ensures ∙ ap (λ (n : ℕ). Some n) c.get-index.ensures.count in
     true≢false (sym (c.all_stand_next.ensures.1 (next_only s c.args.frontier.now group c.requires.prefixes c.in-Some.mine at c.in-Some-barrier_number.number place k h)) ∙ c.if-all_stand_next.false)

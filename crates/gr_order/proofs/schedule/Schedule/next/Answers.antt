@@ -2,13 +2,11 @@ use Rattle.gr_order.proofs.ForgetLemmas.{next_remembered}
 use Rattle.std.proofs.Common.{arith, ◌∙◌, refl, sym, true≢false}
 use Rattle.gr_model.specs.declared.event.EventId.{EventId}
 use Rattle.gr_order.proofs.ReadyLemmas.{none_next, not_next, ready_if}
-use Rattle.gr_windows.proofs.WindowLemmas.{first_waits}
+use Rattle.gr_order.proofs.WaitLemmas.{first_is}
 use Rattle.gr_order.proofs.schedule.Schedule.next.Goals as goal
 
 pub is_ready-requires-clause-there : goal.is_ready-requires-clause-there
-is_ready-requires-clause-there g c =
-    let e : EventId = record { at = c.args.item; index = c.get-index.result } in
-    sym (first_waits c.self.inside.lanes.streams c.self.inside.frontier c.self.inside.windows c.self.invariant.kept.waits e c.get-index.ensures.count) ∙ sym c.in-Some.ensures
+is_ready-requires-clause-there g c = first_is c.self.invariant.kept.waits c.args.item c.get-index.ensures.count c.in-Some.ensures refl
 
 pub is_ready-requires-clause-remembered : goal.is_ready-requires-clause-remembered
 is_ready-requires-clause-remembered g c =
@@ -18,13 +16,12 @@ is_ready-requires-clause-remembered g c =
 pub returns-in-None-clause-next : goal.returns-in-None-clause-next
 returns-in-None-clause-next g c =
     let e : EventId = record { at = c.args.item; index = c.get-index.result } in
-    let none = none_next c.self.inside.lanes.streams c.self.inside.handled c.self.invariant.kept.state.sequence.lawful c.self.inside.frontier c.self.invariant.kept.state.first e c.get-index.ensures.count (sym (first_waits c.self.inside.lanes.streams c.self.inside.frontier c.self.inside.windows c.self.invariant.kept.waits e c.get-index.ensures.count) ∙ sym c.in-None.ensures) in
-    rw (← c.self.view_is) none
+    rw (← c.self.view_is) (none_next c.self.inside.lanes.streams c.self.inside.handled c.self.invariant.kept.state.sequence.lawful c.self.inside.frontier c.self.invariant.kept.state.first e c.get-index.ensures.count (first_is c.self.invariant.kept.waits c.args.item c.get-index.ensures.count c.in-None.ensures refl))
 
 pub returns-else-is_ready-clause-next : goal.returns-else-is_ready-clause-next
 returns-else-is_ready-clause-next g c =
     let e : EventId = record { at = c.args.item; index = c.get-index.result } in
-    let none = not_next c.self.inside.lanes.streams c.self.inside.handled c.self.invariant.kept.state.sequence.lawful c.self.inside.frontier c.self.invariant.kept.state.first e c.get-index.ensures.count c.in-Some.taken (sym (first_waits c.self.inside.lanes.streams c.self.inside.frontier c.self.inside.windows c.self.invariant.kept.waits e c.get-index.ensures.count) ∙ sym c.in-Some.ensures)
+    let none = not_next c.self.inside.lanes.streams c.self.inside.handled c.self.invariant.kept.state.sequence.lawful c.self.inside.frontier c.self.invariant.kept.state.first e c.get-index.ensures.count c.in-Some.taken (first_is c.self.invariant.kept.waits c.args.item c.get-index.ensures.count c.in-Some.ensures refl)
     (λ ready. true≢false (sym (c.is_ready.ensures.1 ready) ∙ c.if-is_ready.false)) in
     rw (← c.self.view_is) none
 
@@ -32,5 +29,5 @@ pub returns-then-is_ready-clause-next : goal.returns-then-is_ready-clause-next
 returns-then-is_ready-clause-next g c =
     let e : EventId = record { at = c.args.item; index = c.get-index.result } in
     let parts = c.is_ready.ensures.0 c.if-is_ready.true in
-    let ready = ready_if c.self.inside.lanes.streams c.self.inside.handled c.self.invariant.kept.state.sequence.lawful c.self.inside.frontier c.self.invariant.kept.state.first e c.get-index.ensures.count c.in-Some.taken (sym (first_waits c.self.inside.lanes.streams c.self.inside.frontier c.self.inside.windows c.self.invariant.kept.waits e c.get-index.ensures.count) ∙ sym c.in-Some.ensures) parts.0 parts.1 in
+    let ready = ready_if c.self.inside.lanes.streams c.self.inside.handled c.self.invariant.kept.state.sequence.lawful c.self.inside.frontier c.self.invariant.kept.state.first e c.get-index.ensures.count c.in-Some.taken (first_is c.self.invariant.kept.waits c.args.item c.get-index.ensures.count c.in-Some.ensures refl) parts.0 parts.1 in
     (refl, rw (← c.self.view_is) ready)
