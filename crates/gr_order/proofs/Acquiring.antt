@@ -86,21 +86,14 @@ module _ (s : Streams) (frontier : Counts) (prefix : IsGroundedFrontier s fronti
       same_event e next at (omega arith)
 
   pub none_there : event_at s next ≡ None → (u : Unmatched) → IsUnmatchedEntry s u → u.event.at ≢ item
-  none_there none u unmatched at =
-      let same = only_next u.event unmatched.unmatched at in
-      let event = unmatched.unmatched.event in
-      let clash : None ≡ Some event.0 = sym none ∙ (ap (event_at s) (sym same) ∙ event.1) in
-      cc
+  none_there none u unmatched at = grind (arith, only_next u.event)
 
   module _ (x : Event) (at_next : event_at s next ≡ Some x) where
     pub names_are : names_at s next ≡ x.names
     names_are = ap names_of at_next
 
     pub none_named : length x.names ≡ 0 → (u : Unmatched) → IsUnmatchedEntry s u → u.event.at ≢ item
-    none_named none u unmatched at =
-        let named : HasName s next unmatched.unmatched.name = subst (λ e. HasName s e unmatched.unmatched.name) (only_next u.event unmatched.unmatched at) unmatched.unmatched.named in
-        let there = subst (λ xs. Contains xs unmatched.unmatched.name) names_are named in
-        omega (arith, there.1)
+    none_named none u unmatched at = grind (arith, only_next u.event, names_are)
 
     pub this_is : 0 < length x.names → (c : AcquireCause) → HasAcquireCause s next c → IsUnmatchedEntry s (record { event = next; cause = c })
     this_is some c cause = record {

@@ -15,9 +15,7 @@ use Rattle.gr_lanes.specs.Remembered.{HaveAllCome}
 
 -- where all came nobody is missing
 pub none_missing : (s : Streams) (g k : ℕ) → HaveAllCome s g k → (complete : Bool) → ¬ IsMissing complete (size_of s g) (arrivals s g k)
-none_missing s g k came complete missing =
-    let there = came.1 missing.1.1 missing.1.4 in
-    let clash : Some there.0 ≡ None = sym there.1 ∙ missing.1.5 in cc
+none_missing s g k came complete missing = grind (arith, came.1 missing.1.1)
 
 -- a group that has items is there
 pub size_there : (s : Streams) (g : ℕ) → 0 < size_of s g → g < length s.sizes
@@ -68,11 +66,7 @@ module _ (s t : Streams) (grows : Grows s t) (g k : ℕ) (came : HaveAllCome s g
   to_more i a at = (subst (λ n. i < n) size_stays at.0, arrived_on i a at.1)
 
   from_more : (i : ℕ) (a : Mark) → HasArrived (size_of t g) (arrivals t g k) i a → HasArrived (size_of s g) (arrivals s g k) i a
-  from_more i a at =
-      let within : i < size_of s g = omega (arith, at.0, size_stays) in
-      let mine = came.1 i within in
-      let same : mine.0 ≡ a = (let both : Some mine.0 ≡ Some a = sym (arrived_on i mine.0 mine.1) ∙ at.1 in cc) in
-      (within, mine.1 ∙ ap (λ (b : Mark). Some b) same)
+  from_more i a at = grind (arith, came.1 i, arrived_on, size_stays, at)
 
   abbrev whole_s : Bool
   whole_s = is_complete (list_of s g)

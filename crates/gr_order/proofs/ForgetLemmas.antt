@@ -1,5 +1,5 @@
 -- What is forgotten, where records are taken, events handled, and groups come.
-use Rattle.std.proofs.Common.{◌≡◌, ◌≢◌, ◌⊎◌, ℕ, ◌+◌, ◌<◌, ◌≤◌, List, [], ◌∷◌, ◌++◌, length, Some, get_or, set, slice_get, refl, sym, ap, ◌∙◌, subst, inl, inr, ⊎_elim, arith}
+use Rattle.std.proofs.Common.{◌≡◌, ◌≢◌, ◌⊎◌, ℕ, ◌+◌, ◌<◌, ◌≤◌, List, [], ◌∷◌, ◌++◌, length, Some, get_or, set, refl, sym, ap, ◌∙◌, subst, inl, inr, ⊎_elim, arith}
 use Rattle.std.proofs.lemmas.Grind.{common_steps}
 use Rattle.std.proofs.lemmas.Bool.{cases_eq}
 use Rattle.std.proofs.lemmas.List.{get_or-set_other, get_or-set_same, length-set}
@@ -49,10 +49,7 @@ whole_forgets r frontier whole = record {
 
 -- a barrier is one of an item that is there
 barrier_item : (s : Streams) → ArePrefixes s → (e : EventId) (k : ℕ) → place_of s is_barrier e.at k ≡ Some e.index → e.at.item < size_of s e.at.group
-barrier_item s prefixes e k at =
-    let there = barrier_mark 0 (trace_of s e.at) k e.index at in
-    let index : e.index ≡ there.0 = omega (arith, there.2) in
-    item_of_event s prefixes e there.1 (ap (slice_get (trace_of s e.at)) index ∙ there.3)
+barrier_item s prefixes e k at = grind (arith, barrier_mark 0 (trace_of s e.at) k e.index at, item_of_event s prefixes e)
 
 -- where all came each has a barrier there
 came_place : (s : Streams) (g k i : ℕ) → HaveAllCome s g k → i < size_of s g → (p : ℕ) × (place_of s is_barrier (record { group = g; item = i }) k ≡ Some p)

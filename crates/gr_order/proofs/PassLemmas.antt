@@ -4,7 +4,7 @@ use Rattle.std.proofs.lemmas.Grind.{common_steps}
 use Rattle.std.proofs.lemmas.Bool.{cases_eq}
 use Rattle.std.proofs.lemmas.List.{length-append}
 use Rattle.std.proofs.lemmas.List.FromFn.{get_or-map-range_with_len, length-map-range_with_len, map-range_with_len_more}
-use Rattle.std.proofs.lemmas.Option.{get_or_from_slice_get, slice_get_within}
+use Rattle.std.proofs.lemmas.Option.{gets, get_or_from_slice_get, slice_get_within}
 use Rattle.gr_model.specs.declared.event.EventId.{EventId}
 use Rattle.gr_model.specs.declared.event.ItemId.{ItemId}
 use Rattle.gr_model.specs.Barriers.{StandsIn}
@@ -17,7 +17,7 @@ use Rattle.gr_clocks.specs.Counts.{Counts, IsTick, count_of}
 use Rattle.gr_clocks.specs.Tables.{IsBeyond, item_of}
 use Rattle.gr_steps.specs.Steps.{AreBarriers, CanMeet}
 use Rattle.gr_steps.proofs.Meeting.{lawful_meet}
-use Rattle.gr_steps.proofs.Orders.{at_behind, split_last, there_is}
+use Rattle.gr_steps.proofs.Orders.{at_behind, split_last}
 use Rattle.gr_order.specs.Readiness.{IsNextInstance}
 use Rattle.gr_order.specs.Sequences.{MeetsInstance, MeetsNext, Sequence}
 use Rattle.gr_order.specs.States.{AreBelowFrontier, IsOrderState, TicksItems, counted_in, next_event, next_events}
@@ -73,9 +73,7 @@ module _ (frontier : Counts) (g n : ℕ) where
       )
 
   next_at : (i : ℕ) → i < n → slice_get (next_events frontier g n) i ≡ Some (next_event frontier (item_of g i))
-  next_at i lt =
-      let there = there_is (next_events frontier g n) i (subst (λ l. i < l) (sym next_count) lt) in
-      there.1 ∙ ap Some (next_is i there.0 there.1).1
+  next_at i lt = grind (arith, gets, next_count, next_is i)
 
   -- ---- the handled events and the clock behind them
 
@@ -87,12 +85,7 @@ module _ (frontier : Counts) (g n : ℕ) where
     grows j = ⊎_elim (λ (here : (j.group ≡ g) × (j.item < n)). let now = count_here j here.0 here.1 in omega arith) (λ (beyond : IsBeyond g n j). let same = ticks.others j beyond in omega arith) (within_or_beyond g n j)
 
     counted : (e : EventId) → IsIn (order ++ next_events frontier g n) e → e.index < count_of new e.at
-    counted e (p, at) = ⊎_elim
-        (λ (before : slice_get order p ≡ Some e). let old = (first e).0 (p, before) in let more = grows e.at in omega arith)
-        (λ (behind : (i : ℕ) × (p ≡ length order + i) × (slice_get (next_events frontier g n) i ≡ Some e)).
-        let is = next_is behind.0 e behind.2 in
-        subst (λ (x : EventId). x.index < count_of new x.at) (sym is.1) (let now = ticks.items behind.0 is.0 in omega arith))
-        (split_last order (next_events frontier g n) p e at)
+    counted e (p, at) = grind (arith, split_last, grows, next_is, ticks.items)
 
     was_there : (e : EventId) → e.index < count_of frontier e.at → IsIn (order ++ next_events frontier g n) e
     was_there e lt = let there = (first e).1 lt in (there.0, slice_get-append order (next_events frontier g n) there.0 e there.1)

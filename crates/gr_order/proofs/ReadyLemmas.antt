@@ -42,9 +42,7 @@ module _ (s : Streams) (prefixes : ArePrefixes s) (e : EventId) (x : Event) (at 
   stands_there k place = record { group = refl; item = item_of_event s prefixes e x at; place = place }
 
   pub passes_if : (k : ℕ) → place_of s is_barrier e.at k ≡ Some e.index → IsDivergent s e.at.group k → MayPass s e
-  passes_if k place divergent h l stands =
-      let same = same_instance s e e.at.group k h l (stands_there k place) stands in
-      subst (λ n. IsDivergent s h n) same.1 (subst (λ n. IsDivergent s n k) same.0 divergent)
+  passes_if k place divergent h l stands = grind (arith, same_instance s e e.at.group k, stands_there)
 
   pub passes_only : (k : ℕ) → place_of s is_barrier e.at k ≡ Some e.index → MayPass s e → IsDivergent s e.at.group k
   passes_only k place may = may e.at.group k (stands_there k place)

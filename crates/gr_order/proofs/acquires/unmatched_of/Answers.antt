@@ -2,13 +2,8 @@ use Rattle.std.proofs.Common.{◌≡◌, ◌∙◌, ap, arith, length, option_an
 use Rattle.std.proofs.lemmas.Bool.{eqb-false, eqb-true}
 use Rattle.gr_model.specs.Access.{event_word}
 use Rattle.gr_order.proofs.WaitLemmas.{first_is}
-use Rattle.gr_order.proofs.Acquiring.{names_are, none_named, none_there, this_is}
+use Rattle.gr_order.proofs.Acquiring.{none_named, none_there, this_is}
 use Rattle.gr_order.proofs.acquires.unmatched_of.Goals as goal
-
-pub cause-requires-clause-names : goal.cause-requires-clause-names
-cause-requires-clause-names g c =
-    let at = first_is c.requires.waiting c.args.item c.get.ensures.count c.waiting.ensures c.in_ok-taken.was in
-    c.as_slice-names.ensures.names ∙ sym (names_are c.args.lanes.now.streams c.args.frontier.now c.requires.grounded c.args.item c.get.result c.get.ensures.count c.in_ok-taken.taken at)
 
 pub cause-requires-clause-word : goal.cause-requires-clause-word
 cause-requires-clause-word g c =

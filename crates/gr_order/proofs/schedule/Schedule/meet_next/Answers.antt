@@ -1,4 +1,4 @@
-use Rattle.std.proofs.Common.{◌≡◌, ◌-◌, ◌<◌, ap, arith, length}
+use Rattle.std.proofs.Common.{◌≡◌, ◌-◌, arith}
 use Rattle.gr_order.proofs.ForgetLemmas.{forgets_met, forgets_streams}
 use Rattle.gr_order.proofs.MeetLemmas.{meets_next}
 use Rattle.gr_order.proofs.PassLemmas.{Passing, barriers_are_held, below_largest, group_there, meets_behind, state_behind}
@@ -57,16 +57,6 @@ invariant_of-self g c =
 pub returns-clause-step : goal.returns-clause-step
 returns-clause-step g c =
     rw (streams_stay g c) (meets_behind (at_hand g c) c.args.self.now c.self.view_is)
-
-pub items-size-requires : goal.items-size-requires
-items-size-requires g c =
-    let there : c.args.group < length c.self.inside.lanes.streams.sizes = group_there c.self.invariant.kept.state c.args.group (rw (← c.self.view_is) at c.requires) in
-    omega (arith, there, ap length c.shape.ensures.sizes)
-
-pub count_next_events-requires-clause-group : goal.count_next_events-requires-clause-group
-count_next_events-requires-clause-group g c =
-    let there : c.args.group < length c.self.inside.lanes.streams.sizes = group_there c.self.invariant.kept.state c.args.group (rw (← c.self.view_is) at c.requires) in
-    omega (arith, there, ap length c.self.invariant.kept.state.shape)
 
 pub returns-clause-sequence : goal.returns-clause-sequence
 returns-clause-sequence g c = (invariant_of-self g c).kept.state.sequence
