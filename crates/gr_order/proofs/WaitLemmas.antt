@@ -1,5 +1,5 @@
 -- The events that wait, where a record is taken, and where events are handled.
-use Rattle.std.proofs.Common.{◌≡◌, ◌⊎◌, ℕ, ◌+◌, ◌-◌, ◌<◌, true, false, cond, List, [], ◌∷◌, ◌++◌, length, map, slice_get, Option, drop, take, filter, refl, sym, ap, ◌∙◌, subst, ⊎_elim, arith, append-nil}
+use Rattle.std.proofs.Common.{◌≡◌, ◌⊎◌, ℕ, ◌+◌, ◌-◌, ◌<◌, true, false, cond, List, [], ◌∷◌, ◌++◌, length, map, slice_get, Option, drop, take, filter, sym, ap, ◌∙◌, subst, ⊎_elim, arith, append-nil}
 use Rattle.std.proofs.lemmas.Grind.{common_steps}
 use Rattle.std.proofs.lemmas.Bool.Decides.{nat_tests}
 use Rattle.std.proofs.lemmas.Bool.{eq-eqb, ne_eqb}
@@ -42,9 +42,6 @@ adds_here g x on = grind (arith, nat_tests)
 pub adds_none : (g : ℕ) (x : Event) (i : ItemId) → (i ≡ item_of g x.item → ⊥) → added g x i ≡ []
 adds_none g x i apart =
     let neither : i.group ≡ g → i.item ≡ x.item → ⊥ = λ p q. apart (λ d. record { group = p d; item = q d }) in grind (arith, nat_tests)
-
-pub keeps_end : (w : Table) (g : ℕ) (x : Event) → is_end x ≡ true → Keeps w g x w
-keeps_end w g x end = record { shape = refl; each = λ i. sym (ap (λ l. window_of w i ++ l) (end_adds_none g x i end) ∙ append-nil (window_of w i)) }
 
 pub keeps_event : (old : Table) (g : ℕ) (x : Event) (new : Table) → is_end x ≡ false → Changes old (item_of g x.item) (window_of old (item_of g x.item) ++ x ∷ []) new → Keeps old g x new
 keeps_event old g x new on changes = grind (arith, common_steps, adds_here, adds_none, append-nil, item_cases)
