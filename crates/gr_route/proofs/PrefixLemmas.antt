@@ -8,6 +8,10 @@ pub nil_prefix : {T : Type 0} (xs ys : List T) → xs ++ ys ≡ [] → xs ≡ []
 nil_prefix [] ys e = refl
 nil_prefix (x ∷ xs) ys e = absurd (cc)
 
+pub nil_back : {T : Type 0} (xs ys : List T) → xs ++ ys ≡ [] → ys ≡ []
+nil_back [] ys e = e
+nil_back (x ∷ xs) ys e = absurd (cc)
+
 pub not_nil : {T : Type 0} (xs : List T) (y : T) (ys : List T) → xs ++ y ∷ ys ≢ []
 not_nil [] y ys e = cc
 not_nil (x ∷ xs) y ys e = cc

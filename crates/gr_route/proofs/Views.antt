@@ -1,9 +1,9 @@
 -- What holds of each seat's view, where one view changes or one is added.
-use Rattle.std.proofs.Common.{◌≡◌, ◌≢◌, ℕ, zero, suc, false, true, true≢false, List, [], ◌∷◌, ◌++◌, length, set, sym, refl, ap, ◌∙◌, subst, ⊎_elim}
+use Rattle.std.proofs.Common.{◌≡◌, ◌≢◌, ℕ, zero, suc, false, true, true≢false, List, [], ◌∷◌, ◌++◌, length, set, sym, refl, ◌∙◌, subst, ⊎_elim}
 use mathlib.Core.Option.{Option, some, none, some-injective, some-ne-none}
 use lib.ListN.{get_elem?}
 use Rattle.crossbeam_queue.specs.Fifo.{Learns}
-use Rattle.crossbeam_queue.proofs.Lists.{at_set, at_snoc}
+use Rattle.crossbeam_queue.proofs.Lists.{at_set}
 use Rattle.gr_route.specs.Rooms.{AgreesWith}
 
 module _ {V : Type 0} where
@@ -14,19 +14,14 @@ module _ {V : Type 0} where
   each_set F views pass w mine others j u at = ⊎_elim (λ (x : (j ≡ pass) × (w ≡ u)). subst (λ (y : ℕ × V). F y.0 y.1) (λ i. (sym x.0 i, x.1 i)) mine)
       (λ (x : (j ≢ pass) × (get_elem? views j ≡ some u)). others j u x.0 x.1) (at_set views pass j w u at)
 
-  at_end : (views : List V) (a b : V) (j : ℕ) → get_elem? views j ≢ some b → get_elem? (views ++ a ∷ []) j ≡ some b → j ≡ length views
-  at_end [] a b zero new at = refl
-  at_end [] a b (suc j) new at = absurd (some-ne-none b (sym at))
-  at_end (x ∷ xs) a b zero new at = absurd (new at)
-  at_end (x ∷ xs) a b (suc j) new at = ap suc (at_end xs a b j new at)
-
-  pub each_snoc : (F : ℕ → V → Type 0) (views : List V) (w : V) → Each (λ j u. F j u × (w ≢ u)) views → F (length views) w → Each F (views ++ w ∷ [])
-  each_snoc F views w old new j u at = ⊎_elim (λ there. (old j u there).0)
-      (λ (same : w ≡ u). subst (λ (y : ℕ × V). F y.0 y.1) (λ i. (sym (at_end views w u j (λ there. (old j u there).1 same) at) i, same i)) new) (at_snoc views w u j at)
-
   pub each_one : (F : ℕ → V → Type 0) (w : V) → F 0 w → Each F (w ∷ [])
   each_one F w f zero u at = subst (λ y. F 0 y) (some-injective w u at) f
   each_one F w f (suc j) u at = absurd (some-ne-none u (sym at))
+
+  pub each_snoc : (F : ℕ → V → Type 0) (views : List V) (w : V) → Each F views → F (length views) w → Each F (views ++ w ∷ [])
+  each_snoc F [] w old new j u at = each_one F w new j u at
+  each_snoc F (x ∷ xs) w old new zero u at = old zero u at
+  each_snoc F (x ∷ xs) w old new (suc j) u at = each_snoc (λ k. F (suc k)) xs w (λ k. old (suc k)) new j u at
 
 -- what is so of a view that was replaced
 pub set_there : {V : Type 0} (views : List V) (pass : ℕ) (v w : V) → get_elem? views pass ≡ some v → get_elem? (set views pass w) pass ≡ some w

@@ -5,11 +5,4 @@ pub ruled-requires-clause-rule : goal.ruled-requires-clause-rule
 ruled-requires-clause-rule g c = begins
 
 pub invariant_of-seat : goal.invariant_of-seat
-invariant_of-seat g c =
-    let all = begun _ _ c.in_ok-queue.ensures.3 c.none.ensures in
-    record {
-      idle = c.in_ok-queue.ensures.1.1;
-      known = all.0;
-      left = all.1;
-      agrees = all.2;
-    }
+invariant_of-seat g c = begun _ _ c.in_ok-queue.ensures.1.1 c.in_ok-queue.ensures.3 c.none.ensures
