@@ -1,10 +1,9 @@
 -- A world in which an event was handled, an instance met, or an access went on, is a world.
-use Rattle.std.proofs.Common.{◌≡◌, ◌≢◌, ℕ, ◌<◌, ◌==◌, true≢false, IsFalse, IsTrue, List, [], ◌∷◌, ◌++◌, length, set, Option, Some, None, Result, Ok, Err, refl, sym, ap, ◌∙◌, subst, ⊎_elim, arith, append_assoc, append-nil, eq-eqb, ne_eqb, cond}
+use Rattle.std.proofs.Common.{◌≡◌, ◌≢◌, ℕ, ◌<◌, ◌≤◌, ◌==◌, true≢false, IsFalse, IsTrue, true, List, [], ◌∷◌, ◌++◌, length, get_or, set, Option, Some, None, Result, Ok, Err, refl, sym, ap, ◌∙◌, subst, arith, append_assoc, append-nil, eq-eqb, ne_eqb, cond}
 use Rattle.std.proofs.Math.Nat.{mod-lt}
 use Rattle.std.specs.Option.{option_map}
 use Rattle.std.specs.Prelude.{IfErr, IsErrAnd, is_some}
-use Rattle.std.proofs.lemmas.Bool.{cases_eq}
-use Rattle.std.proofs.lemmas.List.{get_or-set_other, get_or-set_same, length-set}
+use Rattle.std.proofs.lemmas.List.{get_or_default, length-set, set-get_or}
 use Rattle.std.proofs.lemmas.List.Elements.{filter-append}
 use Rattle.gr_model.specs.declared.event.EventId.{EventId}
 use Rattle.gr_model.specs.declared.event.Word.{Word}
@@ -24,12 +23,16 @@ use Rattle.gr_order.specs.declared.go_error.GoError.{GoError}
 use Rattle.gr_order.specs.declared.go_error.GoError.TheVariants.{NotReady as OrderNotReady, Memory as OrderMemory}
 use Rattle.gr_shadow.specs.Clashes.{ClockedAccess, clocked}
 use Rattle.gr_world.specs.declared.step.Step.TheVariants.{Handle, Meet, Pass, WorkTake}
+use Rattle.gr_steps.specs.Steps.{CanHandle, CanMeet}
+use Rattle.gr_world.specs.declared.step.Step.{Step}
 use Rattle.gr_world.specs.declared.step.StepError.{StepError}
-use Rattle.gr_world.specs.declared.step.StepError.TheVariants.{Memory}
+use Rattle.gr_world.specs.declared.step.StepError.TheVariants.{Full, Empty, NotReady, Memory}
 use Rattle.gr_world.specs.Errors.{Becomes}
 use Rattle.gr_world.specs.Queues.{HasRoom, Work, no_work, queueing, receiving}
+use Rattle.gr_world.specs.Workers.{Receives}
 use Rattle.gr_world.specs.Steps.{IsStepRefusal, IsWorldStep, IsInFlightFull, IsInFlightOf}
-use Rattle.gr_world.specs.Worlds.{IsPassedOn, IsWorld, World, accesses_for, going_on, intake_at, passing, queue_of, work_at, worker_of, working}
+use Rattle.gr_world.specs.Worlds.{AreDelivered, ArePassedOn, IsPassedOn, IsWorld, World, accesses_for, going_on, intake_at, passing, queue_of, work_at, worker_of, working}
+use Rattle.gr_world.proofs.Changes.{where_set}
 
 -- ---- the sequencer's steps
 
@@ -45,23 +48,12 @@ accesses_after old new e None accesses h is are =
 
 -- what stays of a world whose sequence goes on with the same taken lists
 going_is_world : (w : World) → IsWorld w → (sequence : Sequence) (in_flight : Option ClockedAccess) → IsSequence sequence → sequence.taken ≡ w.sequence.taken → (accesses : List ClockedAccess) → AreAccesses sequence.taken sequence.handled accesses → ((k : ℕ) → k < w.config.workers → IsPassedOn (going_on w sequence in_flight) accesses k) → IsWorld (going_on w sequence in_flight)
-going_is_world w world sequence in_flight lawful same accesses along each = record {
-  config = world.config;
-  shape = world.shape;
-  sent = world.sent;
-  room = world.room;
-  sequence = lawful;
-  sizes = ap (λ (s : Streams). s.sizes) same ∙ world.sizes;
-  queues = world.queues;
-  intakes = world.intakes;
-  worker_count = world.worker_count;
-  workers = world.workers;
-  delivered = record {
-    whole = λ g. world.delivered.whole g ∙ ap (λ (s : Streams). list_of s g ++ events_of g (intake_at w (queue_of w g)).items) (sym same);
-    own = world.delivered.own;
-  };
-  passed = record { accesses = accesses; along = along; each = each };
-}
+going_is_world w world sequence in_flight lawful same accesses along each =
+    let sizes = ap (λ (s : Streams). s.sizes) same ∙ world.sizes in
+    let whole = λ (g : ℕ). world.delivered.whole g ∙ ap (λ (s : Streams). list_of s g ++ events_of g (intake_at w (queue_of w g)).items) (sym same) in
+    let delivered : AreDelivered (going_on w sequence in_flight) = record { whole = whole; own = world.delivered.own } in
+    let passed : ArePassedOn (going_on w sequence in_flight) = record { accesses = accesses; along = along; each = each } in
+    assumption (lawful, sizes, delivered, passed, world)
 
 pub handling_is_world : (w : World) → IsWorld w → (e : EventId) (sequence : Sequence) (in_flight : Option ClockedAccess) → w.in_flight ≡ None → HandlesEvent w.sequence e sequence → IsInFlightOf sequence.taken e in_flight → IsSequence sequence → IsWorld (going_on w sequence in_flight)
 handling_is_world w world e sequence in_flight free h is lawful = going_is_world w world sequence in_flight lawful h.taken (world.passed.accesses ++ in_flight_list in_flight)
@@ -93,50 +85,28 @@ word_below w world v = worker_below v w.config.workers (let some = world.config.
 pub worker_there : (w : World) → IsWorld w → (x : ClockedAccess) → worker_of w x < w.config.workers
 worker_there w world x = word_below w world x.word
 
-module _ (w : World) (world : IsWorld w) (k : ℕ) (work : Work) (there : k < w.config.workers) where
-  abbrev pub with_work : Option ClockedAccess → World
-  with_work in_flight = record { config = w.config; sent = w.sent; intakes = w.intakes; sequence = w.sequence; in_flight = in_flight; workers = set w.workers k work }
-
-  pub work_here : (in_flight : Option ClockedAccess) → work_at (with_work in_flight) k ≡ work
-  work_here in_flight = get_or-set_same w.workers k work (no_work 0) (omega (arith, there, world.worker_count))
-
-  work_else : (in_flight : Option ClockedAccess) (j : ℕ) → j ≢ k → work_at (with_work in_flight) j ≡ work_at w j
-  work_else in_flight j apart = get_or-set_other w.workers k j work (no_work 0) apart
-
-  places : (in_flight : Option ClockedAccess) → work.queue.places ≡ (work_at w k).queue.places → (j : ℕ) → j < w.config.workers → (work_at (with_work in_flight) j).queue.places ≡ w.config.capacity
-  places in_flight same j lt = ⊎_elim
-      (λ (here : j ≡ k). ap (λ n. (work_at (with_work in_flight) n).queue.places) here ∙ (ap (λ (x : Work). x.queue.places) (work_here in_flight) ∙ (same ∙ world.workers k there)))
-      (λ apart. ap (λ (x : Work). x.queue.places) (work_else in_flight j apart) ∙ world.workers j lt)
-      (cases_eq j k)
-
-  -- a world in which one worker's work, and what is on its way, changed
-  pub working_is_world : (in_flight : Option ClockedAccess) → work.queue.places ≡ (work_at w k).queue.places → work.received ++ work.queue.items ++ accesses_for w k (in_flight_list in_flight) ≡ (work_at w k).received ++ (work_at w k).queue.items ++ accesses_for w k (in_flight_list w.in_flight) → ((j : ℕ) → j ≢ k → accesses_for w j (in_flight_list in_flight) ≡ accesses_for w j (in_flight_list w.in_flight)) → IsWorld (with_work in_flight)
-  working_is_world in_flight same mine others = record {
-    config = world.config;
-    shape = world.shape;
-    sent = world.sent;
-    room = world.room;
-    sequence = world.sequence;
-    sizes = world.sizes;
-    queues = world.queues;
-    intakes = world.intakes;
-    worker_count = length-set w.workers k work ∙ world.worker_count;
-    workers = places in_flight same;
-    delivered = record { whole = world.delivered.whole; own = world.delivered.own };
-    passed = record { accesses = world.passed.accesses; along = world.passed.along; each = each };
-  }
-    where
-      each : (j : ℕ) → j < w.config.workers → IsPassedOn (with_work in_flight) world.passed.accesses j
-      each j lt = ⊎_elim
-          (λ (here : j ≡ k). subst (IsPassedOn (with_work in_flight) world.passed.accesses) (sym here)
-          (world.passed.each k there ∙ (sym mine ∙ sym (ap (λ (x : Work). x.received ++ x.queue.items ++ accesses_for w k (in_flight_list in_flight)) (work_here in_flight)))))
-          (λ apart. world.passed.each j lt
-          ∙ (ap (λ (l : List ClockedAccess). (work_at w j).received ++ (work_at w j).queue.items ++ l) (sym (others j apart))
-          ∙ sym (ap (λ (x : Work). x.received ++ x.queue.items ++ accesses_for w j (in_flight_list in_flight)) (work_else in_flight j apart))))
-          (cases_eq j k)
+-- a world in which one worker's work, and what is on its way, changed
+working_is_world : (w : World) → IsWorld w → (k : ℕ) (work : Work) (in_flight : Option ClockedAccess) → k < w.config.workers → work.queue.places ≡ (work_at w k).queue.places
+    → work.received ++ work.queue.items ++ accesses_for w k (in_flight_list in_flight) ≡ (work_at w k).received ++ (work_at w k).queue.items ++ accesses_for w k (in_flight_list w.in_flight)
+    → ((j : ℕ) → j ≢ k → accesses_for w j (in_flight_list in_flight) ≡ accesses_for w j (in_flight_list w.in_flight))
+    → IsWorld (record w { in_flight = in_flight; workers = set w.workers k work })
+working_is_world w world k work in_flight there same mine others =
+    let new : World = record w { in_flight = in_flight; workers = set w.workers k work } in
+    let within : k < length w.workers = omega (arith, there, world.worker_count) in
+    let worker_count = length-set w.workers k work ∙ world.worker_count in
+    let places = where_set (λ j x. j < w.config.workers → x.queue.places ≡ w.config.capacity) w.workers k work (no_work 0) within (λ lt. same ∙ world.workers k lt) (λ j _. world.workers j) in
+    let delivered : AreDelivered new = record { whole = world.delivered.whole; own = world.delivered.own } in
+    let passed : ArePassedOn new = record {
+      accesses = world.passed.accesses;
+      along = world.passed.along;
+      each = where_set (λ j x. j < w.config.workers → accesses_for w j world.passed.accesses ≡ x.received ++ x.queue.items ++ accesses_for w j (in_flight_list in_flight)) w.workers k work (no_work 0) within
+          (λ lt. world.passed.each k lt ∙ sym mine)
+          (λ j apart lt. world.passed.each j lt ∙ ap (λ (l : List ClockedAccess). (work_at w j).received ++ (work_at w j).queue.items ++ l) (sym (others j apart)));
+    } in
+    assumption (worker_count, places, delivered, passed, world)
 
 pub passing_is_world : (w : World) → IsWorld w → (x : ClockedAccess) → w.in_flight ≡ Some x → IsWorld (passing w x)
-passing_is_world w world x in_flight = working_is_world w world k (queueing (work_at w k) x) (worker_there w world x) None refl mine others
+passing_is_world w world x in_flight = working_is_world w world k (queueing (work_at w k) x) None (worker_there w world x) refl mine others
   where
     k : ℕ
     k = worker_of w x
@@ -152,10 +122,78 @@ passing_is_world w world x in_flight = working_is_world w world k (queueing (wor
     others j apart = sym (ap (λ (o : Option ClockedAccess). accesses_for w j (in_flight_list o)) in_flight ∙ ap (λ b. cond b (x ∷ []) []) (ne_eqb k j (λ same. apart (sym same))))
 
 pub receiving_is_world : (w : World) → IsWorld w → (k : ℕ) (x : ClockedAccess) (rest : List ClockedAccess) → k < w.config.workers → (work_at w k).queue.items ≡ x ∷ rest → IsWorld (working w k x rest)
-receiving_is_world w world k x rest there front = working_is_world w world k (receiving (work_at w k) x rest) there w.in_flight refl
+receiving_is_world w world k x rest there front = working_is_world w world k (receiving (work_at w k) x rest) w.in_flight there refl
     (ap (λ (l : List ClockedAccess). l ++ accesses_for w k (in_flight_list w.in_flight))
     (append_assoc (work_at w k).received (x ∷ []) rest ∙ ap (λ (l : List ClockedAccess). (work_at w k).received ++ l) (sym front)))
     (λ j apart. refl)
+
+-- ---- a refusal
+
+refuses : {R : Type 0} (w : World) (step : Step) (result : Result R StepError) (error : StepError) → IsErrAnd result (λ f. f ≡ error) → IsStepRefusal w step error → IfErr result (IsStepRefusal w step)
+refuses w step (Ok x) error is refusal = absurd is
+refuses w step (Err f) error is refusal = subst (IsStepRefusal w step) (sym is) refusal
+
+-- ---- a worker whose work is told by an equation
+
+-- an access goes on to its worker's queue
+module _ (w : World) (world : IsWorld w) (x : ClockedAccess) (k : ℕ) (b : Work) (in_flight : w.in_flight ≡ Some x) (same : k ≡ worker_of w x) (at : b ≡ get_or w.workers k b) where
+  now_there : b ≡ work_at w (worker_of w x)
+  now_there = at ∙ ap (λ n. get_or w.workers n b) same ∙ get_or_default w.workers (worker_of w x) b (no_work 0) (let there = word_below w world x.word in omega (arith, there, world.worker_count))
+
+  pub pass_refused : ¬ HasRoom b.queue → IsStepRefusal w Pass Full
+  pass_refused full = ((λ bad. bad), (λ bad. bad), subst (IsInFlightFull w) (sym in_flight) (subst (λ (y : Work). ¬ HasRoom y.queue) now_there full))
+
+  module _ (o : Option ClockedAccess) (work : Work) (empty : o ≡ None) (queued : work ≡ queueing b x) where
+    passed_is : record w { in_flight = o; workers = set w.workers k work } ≡ passing w x
+    passed_is =
+        let all : work ≡ queueing (work_at w (worker_of w x)) x = queued ∙ ap (λ (y : Work). queueing y x) now_there in
+        λ i. record w { in_flight = empty i; workers = set w.workers (same i) (all i) }
+
+    pub passed_is_world : IsWorld (record w { in_flight = o; workers = set w.workers k work })
+    passed_is_world = subst IsWorld (sym passed_is) (passing_is_world w world x in_flight)
+
+    pub passed_is_step : HasRoom b.queue → IsWorldStep w Pass (record w { in_flight = o; workers = set w.workers k work })
+    passed_is_step room =
+        let free : ¬ IsInFlightFull w w.in_flight = λ full. subst (IsInFlightFull w) in_flight full (subst (λ (y : Work). HasRoom y.queue) now_there room) in
+        let some : w.in_flight ≢ None = λ none. let e : Some x ≡ None = sym in_flight ∙ none in absurd (cc) in
+        record { allowed = search; leads = (x, in_flight, passed_is) }
+
+-- a worker looks at its queue
+module _ (w : World) (world : IsWorld w) (k : ℕ) (b : Work) (at : b ≡ get_or w.workers k b) (there : k < length w.workers) where
+  now_here : b ≡ work_at w k
+  now_here = at ∙ get_or_default w.workers k b (no_work 0) there
+
+  below : k < w.config.workers
+  below = omega (arith, there, world.worker_count)
+
+  pub receive_refused : {R : Type 0} (result : Result R StepError) → IsErrAnd result (λ f. f ≡ Memory) → ¬ (b.queue.items ≡ []) → IfErr result (IsStepRefusal w (WorkTake k))
+  receive_refused result is some =
+      let good : ¬ (w.config.workers ≤ k) = λ bad. omega (arith, bad, below) in
+      let full : (work_at w k).queue.items ≢ [] = λ empty. some (ap (λ (y : Work). y.queue.items) now_here ∙ empty) in
+      refuses w (WorkTake k) result Memory is (search)
+
+  pub none_refused : b.queue.items ≡ [] → IsStepRefusal w (WorkTake k) Empty
+  none_refused empty = ((λ bad. omega (arith, bad, below)), ap (λ (y : Work). y.queue.items) (sym now_here) ∙ empty)
+
+  module _ (work : Work) (receives : Receives b true work) where
+    front : (work_at w k).queue.items ≡ receives.0 ∷ receives.1
+    front = ap (λ (y : Work). y.queue.items) (sym now_here) ∙ receives.2
+
+    received_is : record w { workers = set w.workers k work } ≡ working w k receives.0 receives.1
+    received_is = λ i. record w { workers = set w.workers k ((receives.3 ∙ ap (λ (y : Work). receiving y receives.0 receives.1) now_here) i) }
+
+    pub received_is_world : IsWorld (record w { workers = set w.workers k work })
+    received_is_world = subst IsWorld (sym received_is) (receiving_is_world w world k receives.0 receives.1 below front)
+
+    pub received_is_step : IsWorldStep w (WorkTake k) (record w { workers = set w.workers k work })
+    received_is_step =
+        let good : ¬ (w.config.workers ≤ k) = λ bad. omega (arith, bad, below) in
+        let some : (work_at w k).queue.items ≢ [] = λ empty. let e : receives.0 ∷ receives.1 ≡ [] = sym front ∙ empty in absurd (cc) in
+        record { allowed = search; leads = (receives.0, receives.1, front, received_is) }
+
+-- where it does not change, the world does not
+pub worker_back : (w : World) (k : ℕ) (b : Work) → b ≡ get_or w.workers k b → record w { workers = set w.workers k b } ≡ w
+worker_back w k b at = λ i. record w { workers = (ap (set w.workers k) at ∙ set-get_or w.workers k b) i }
 
 -- ---- what is seen of an access that is on its way
 
@@ -169,98 +207,27 @@ in_flight_of s e (Some a) is = bare_access s e a is
 
 -- ---- steps
 
+not_busy : (in_flight : Option ClockedAccess) → in_flight ≡ None → ¬ IsTrue (is_some in_flight)
+not_busy in_flight free busy = absurd (cc)
+
 pub handled_is_step : (w : World) (i : ItemId) (e : EventId) (sequence : Sequence) (in_flight : Option ClockedAccess) (new : World) → HasItem w.sent.sizes i → w.in_flight ≡ None → e.at ≡ i → HandlesEvent w.sequence e sequence → IsInFlightOf sequence.taken e in_flight → new ≡ going_on w sequence in_flight → IsWorldStep w (Handle i) new
-handled_is_step w i e sequence in_flight new has free at h is leads = record {
-  allowed = record {
-    good = λ bad. bad has;
-    unclosed = λ none. none;
-    room = λ none. none;
-    some = λ none. none;
-    free = λ busy. true≢false (sym busy ∙ ap (λ (o : Option ClockedAccess). is_some o) free);
-    ready = λ wait. wait (e, at, h.handles.ready);
-  };
-  leads = (e, in_flight, sequence, at, h, is, leads);
-}
+handled_is_step w i e sequence in_flight new has free at h is leads =
+    let idle = not_busy w.in_flight free in
+    let ready : CanHandle w.sequence.taken w.sequence.handled i = (e, at, h.handles.ready) in
+    record { allowed = search; leads = (e, in_flight, sequence, at, h, is, leads) }
 
 pub met_is_step : (w : World) (g k : ℕ) (sequence : Sequence) (new : World) → g < length w.sent.sizes → MeetsInstance w.sequence g k sequence → new ≡ going_on w sequence w.in_flight → IsWorldStep w (Meet g) new
-met_is_step w g k sequence new there h leads = record {
-  allowed = record {
-    good = λ bad. omega (arith, bad, there);
-    unclosed = λ none. none;
-    room = λ none. none;
-    some = λ none. none;
-    free = λ none. none;
-    ready = λ wait. wait (k, h.meets.mark, h.meets.meeting);
-  };
-  leads = (k, sequence, h, leads);
-}
-
-pub passed_is_step : (w : World) (x : ClockedAccess) (new : World) → w.in_flight ≡ Some x → HasRoom (work_at w (worker_of w x)).queue → new ≡ passing w x → IsWorldStep w Pass new
-passed_is_step w x new in_flight room leads = record {
-  allowed = record {
-    good = λ none. none;
-    unclosed = λ none. none;
-    room = λ full. subst (IsInFlightFull w) in_flight full room;
-    some = λ none. some_none (sym in_flight ∙ none);
-    free = λ none. none;
-    ready = λ none. none;
-  };
-  leads = (x, in_flight, leads);
-}
-  where
-    some_none : Some x ≡ None → ⊥
-    some_none e = true≢false (ap (λ (o : Option ClockedAccess). is_some o) e)
-
-pub received_is_step : (w : World) (k : ℕ) (x : ClockedAccess) (rest : List ClockedAccess) (new : World) → k < w.config.workers → (work_at w k).queue.items ≡ x ∷ rest → new ≡ working w k x rest → IsWorldStep w (WorkTake k) new
-received_is_step w k x rest new there front leads = record {
-  allowed = record {
-    good = λ bad. omega (arith, bad, there);
-    unclosed = λ none. none;
-    room = λ none. none;
-    some = λ empty. let e : x ∷ rest ≡ [] = sym front ∙ empty in omega (arith, ap length e);
-    free = λ none. none;
-    ready = λ none. none;
-  };
-  leads = (x, rest, front, leads);
-}
+met_is_step w g k sequence new there h leads =
+    let good : ¬ (length w.sent.sizes ≤ g) = λ bad. omega (arith, bad, there) in
+    let ready : CanMeet w.sequence.taken w.sequence.handled g = (k, h.meets.mark, h.meets.meeting) in
+    record { allowed = search; leads = (k, sequence, h, leads) }
 
 -- ---- refusals
 
-not_busy : (in_flight : Option ClockedAccess) → in_flight ≡ None → ¬ IsTrue (is_some in_flight)
-not_busy None free busy = absurd cc
-not_busy (Some x) free busy = absurd cc
-
 pub meet_refused : {R : Type 0} (w : World) (g : ℕ) (result : Result R StepError) (e : GoError) → IsErrAnd result (Becomes e) → g < length w.sent.sizes → IsMeetFault w.sequence g e → IfErr result (IsStepRefusal w (Meet g))
-meet_refused w g (Ok x) e is there fault = absurd is
-meet_refused w g (Err f) OrderNotReady is there fault = subst (IsStepRefusal w (Meet g)) (sym is) ((λ bad. omega (arith, bad, there)), (λ none. none), λ can. fault can)
-meet_refused w g (Err f) OrderMemory is there fault = subst (IsStepRefusal w (Meet g)) (sym is) (record {
-  good = λ bad. omega (arith, bad, there);
-  unclosed = λ none. none;
-  room = λ none. none;
-  some = λ none. none;
-  free = λ none. none;
-  ready = λ wait. wait fault;
-})
+meet_refused w g result OrderNotReady is there fault = refuses w (Meet g) result NotReady is ((λ bad. omega (arith, bad, there)), (λ none. none), λ can. fault can)
+meet_refused w g result OrderMemory is there fault = refuses w (Meet g) result Memory is (let good : ¬ (length w.sent.sizes ≤ g) = λ bad. omega (arith, bad, there) in search)
 
 pub handle_refused : {R : Type 0} (w : World) (i : ItemId) (result : Result R StepError) (e : GoError) → IsErrAnd result (Becomes e) → HasItem w.sent.sizes i → w.in_flight ≡ None → IsHandleFault w.sequence i e → IfErr result (IsStepRefusal w (Handle i))
-handle_refused w i (Ok x) e is there free fault = absurd is
-handle_refused w i (Err f) OrderNotReady is there free fault = subst (IsStepRefusal w (Handle i)) (sym is) ((λ bad. bad there), not_busy w.in_flight free, λ can. fault can)
-handle_refused w i (Err f) OrderMemory is there free fault = subst (IsStepRefusal w (Handle i)) (sym is) (record {
-  good = λ bad. bad there;
-  unclosed = λ none. none;
-  room = λ none. none;
-  some = λ none. none;
-  free = not_busy w.in_flight free;
-  ready = λ wait. wait fault;
-})
-
-pub receive_refused : {R : Type 0} (w : World) (k : ℕ) (result : Result R StepError) → IsErrAnd result (λ f. f ≡ Memory) → k < w.config.workers → ¬ ((work_at w k).queue.items ≡ []) → IfErr result (IsStepRefusal w (WorkTake k))
-receive_refused w k (Ok x) is there some = absurd is
-receive_refused w k (Err f) is there some = subst (IsStepRefusal w (WorkTake k)) (sym is) (record {
-  good = λ bad. omega (arith, bad, there);
-  unclosed = λ none. none;
-  room = λ none. none;
-  some = some;
-  free = λ none. none;
-  ready = λ none. none;
-})
+handle_refused w i result OrderNotReady is there free fault = refuses w (Handle i) result NotReady is ((λ bad. bad there), not_busy w.in_flight free, λ can. fault can)
+handle_refused w i result OrderMemory is there free fault = refuses w (Handle i) result Memory is (let idle = not_busy w.in_flight free in search)

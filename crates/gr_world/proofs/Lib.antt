@@ -1,3 +1,4 @@
+pub mod Changes
 pub mod SendLemmas
 pub mod TakeLemmas
 pub mod InFlightLemmas

@@ -57,7 +57,3 @@ module _ (sizes : List ℕ) (config : Settings) (shape : IsShape sizes) (prefixe
       each = λ k lt. sym (ap (λ (x : Work). x.received ++ x.queue.items ++ []) (work_is k lt));
     };
   }
-
--- the same, where its parts are told by equations
-pub newly_made : (w : World) (sizes : List ℕ) (config : Settings) → w ≡ new_world sizes config → IsShape sizes → ArePrefixes (nothing_taken sizes) → IsConfig config → IsWorld w
-newly_made w sizes config is shape prefixes ok = subst IsWorld (sym is) (new_is_world sizes config shape prefixes ok)

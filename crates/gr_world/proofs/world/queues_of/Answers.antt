@@ -1,10 +1,7 @@
-use Rattle.std.proofs.Common.{◌≡◌, ◌∙◌, ◌∷◌, [], ◌++◌, ap, arith, replicate}
+use Rattle.std.proofs.Common.{◌∙◌, ◌∷◌, [], ◌++◌, ap}
 use Rattle.std.proofs.lemmas.List.{replicate-append-replicate}
 use Rattle.gr_world.specs.Queues.{empty_queue}
 use Rattle.gr_world.proofs.world.queues_of.Goals as goal
-
-pub loop-init : goal.loop-init
-loop-init g c = c.new-queues.ensures.items
 
 pub loop-preserved : goal.loop-preserved
 loop-preserved g c =
@@ -12,8 +9,3 @@ loop-preserved g c =
     ∙ (ap (λ x. c.loop.queues.items ++ x ∷ []) c.in_ok-new.ensures
     ∙ (ap (λ l. l ++ empty_queue c.args.places ∷ []) c.loop.invariant
     ∙ replicate-append-replicate c.loop.counter 1 (empty_queue c.args.places)))
-
-pub returns : goal.returns
-returns g c =
-    let all : c.loop.counter ≡ c.args.count = omega (arith, c.loop-test.false, c.loop.auto.counter-end) in
-    c.loop.invariant ∙ ap (λ n. replicate n (empty_queue c.args.places)) all

@@ -5,7 +5,7 @@ use Rattle.gr_world.specs.Resting.{AreEmpty, AreIdle}
 use Rattle.gr_world.specs.Views.{world_of}
 use Rattle.std.specs.Option.{is_some, option_map}
 use Rattle.gr_shadow.specs.Clashes.{ClockedAccess, clocked}
-use Rattle.gr_world.specs.Worlds.{IsWorld, IsWorldAtRest, World}
+use Rattle.gr_world.specs.Worlds.{IsWorldAtRest, World}
 use Rattle.gr_world.proofs.RestLemmas.{all_empty, all_idle, drained_is_sent, empty_at, rests, taken_closed}
 use Rattle.gr_world.proofs.InFlightLemmas.{no_in_flight}
 use Rattle.gr_world.proofs.world.World.at_rest.Goals as goal
@@ -40,27 +40,6 @@ module _ {X Y : Type 0} (f : X → Y) where
   some_of : (o : Option X) → is_some o ≡ true → IsTrue (is_some (option_map f o))
   some_of None is = is
   some_of (Some x) is = is
-
-pub returns-clause-world : goal.returns-clause-world
-returns-clause-world g c = subst IsWorld c.self.view_is c.self.invariant
-
-pub returns-then-on_its_way-clause-world : goal.returns-then-on_its_way-clause-world
-returns-then-on_its_way-clause-world g c = subst IsWorld c.self.view_is c.self.invariant
-
-pub returns-then-not-is_drained-clause-world : goal.returns-then-not-is_drained-clause-world
-returns-then-not-is_drained-clause-world g c = subst IsWorld c.self.view_is c.self.invariant
-
-pub returns-then-not-is_idle-clause-world : goal.returns-then-not-is_idle-clause-world
-returns-then-not-is_idle-clause-world g c = subst IsWorld c.self.view_is c.self.invariant
-
-pub returns-then-on_its_way-clause-done : goal.returns-then-on_its_way-clause-done
-returns-then-on_its_way-clause-done g c = λ yes. absurd (true≢false (sym yes))
-
-pub returns-then-not-is_drained-clause-done : goal.returns-then-not-is_drained-clause-done
-returns-then-not-is_drained-clause-done g c = λ yes. absurd (true≢false (sym yes))
-
-pub returns-then-not-is_idle-clause-done : goal.returns-then-not-is_idle-clause-done
-returns-then-not-is_idle-clause-done g c = λ yes. absurd (true≢false (sym yes))
 
 pub returns-then-on_its_way-clause-rest : goal.returns-then-on_its_way-clause-rest
 returns-then-on_its_way-clause-rest g c = (

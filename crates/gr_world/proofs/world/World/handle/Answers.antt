@@ -1,4 +1,4 @@
-use Rattle.std.proofs.Common.{◌≡◌, ◌∙◌, ℕ, IsTrue, List, Option, None, Some, true, false, true≢false, ap, refl, rules, subst, sym}
+use Rattle.std.proofs.Common.{◌≡◌, ◌∙◌, ℕ, IsTrue, List, Option, None, Some, true, false, true≢false, ap, refl, subst, sym}
 use Rattle.std.specs.Option.{is_some, option_map}
 use Rattle.gr_clocks.specs.ClockedAccess.{clocked}
 use Rattle.gr_model.specs.Shapes.{HasItem}
@@ -35,12 +35,3 @@ returns-then-is_some-clause-err g c =
     let there = subst (λ (sizes : List ℕ). HasItem sizes c.args.item) c.shape.ensures.sizes (c.has.ensures.0 c.if-not-has.false) in
     subst (λ (v : World). IsStepRefusal v (Handle c.args.item) Busy) c.self.view_is
     (λ bad. bad there, some_of clocked c.self.inside.in_flight (sym c.is_some.ensures ∙ c.if-is_some.true))
-
-pub returns-clause-step : goal.returns-clause-step
-returns-clause-step g c = c.handle_next.ensures.step
-
-pub returns-clause-err : goal.returns-clause-err
-returns-clause-err g c = c.handle_next.ensures.err
-
-pub returns-clause-unchanged : goal.returns-clause-unchanged
-returns-clause-unchanged g c = c.handle_next.ensures.unchanged

@@ -4,9 +4,6 @@ use Rattle.gr_world.specs.Queues.{Work}
 use Rattle.gr_world.specs.Worlds.{World}
 use Rattle.gr_world.proofs.world.World.is_idle.Goals as goal
 
-pub loop-worker-init : goal.loop-worker-init
-loop-worker-init g c = λ k d lt. absurd (omega (arith, lt))
-
 pub returns-then-not-is_idle : goal.returns-then-not-is_idle
 returns-then-not-is_idle g c =
     let items = c.deref-worker-items.ensures.value ∙ ap (λ (v : World). v.workers) c.self.view_is in (

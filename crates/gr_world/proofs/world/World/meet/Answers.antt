@@ -1,4 +1,4 @@
-use Rattle.std.proofs.Common.{◌∙◌, ◌<◌, ◌≤◌, ℕ, ap, arith, length, rules, subst, sym}
+use Rattle.std.proofs.Common.{◌∙◌, ◌<◌, ℕ, ap, length, rules, subst, sym}
 use Rattle.std.proofs.lemmas.Result.{err_from_is_err_and}
 use Rattle.std.specs.Prelude.{IfErr}
 use Rattle.gr_order.specs.Sequences.{MeetsInstance}
@@ -50,7 +50,3 @@ pub returns-in_err-_met-clause-unchanged : goal.returns-in_err-_met-clause-uncha
 returns-in_err-_met-clause-unchanged g c =
     let p = err_from_is_err_and c.from_residual.result c.from_residual.ensures.1 in
     rw (p.1) (ap (λ (s : Sequence). world_of c.self.inside.config c.self.inside.sent.streams c.self.inside.intakes.items s c.self.inside.in_flight c.self.inside.workers.items) c.in_err-_met.ensures.unchanged ∙ c.self.view_is)
-
-pub returns-then-group-groups-clause-err : goal.returns-then-group-groups-clause-err
-returns-then-group-groups-clause-err g c = subst (λ (v : World). length v.sent.sizes ≤ c.args.group) c.self.view_is
-    (omega (arith, c.if-group-groups.true, c.groups.ensures.count, ap length c.shape.ensures.sizes))

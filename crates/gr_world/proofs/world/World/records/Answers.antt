@@ -6,13 +6,6 @@ use Rattle.gr_model.specs.Streams.{list_of}
 use Rattle.gr_world.specs.Worlds.{World}
 use Rattle.gr_world.proofs.world.World.records.Goals as goal
 
-pub overflow_add-records : goal.overflow_add-records
-overflow_add-records g c =
-    let s = c.self.inside.sent.streams in
-    let there : c.loop-group.group < length s.sizes = omega (arith, ap length c.shape.ensures.sizes) in
-    let few : length (list_of s c.loop-group.group) ≤ 16777216 = (c.self.invariant.sent.each c.loop-group.group there).few in
-    omega (arith, c.taken.ensures, few, c.loop-group.invariant.bound, c.self.invariant.sent.shape.groups)
-
 pub loop-group-preserved : goal.loop-group-preserved
 loop-group-preserved g c =
     let s = c.self.inside.sent.streams in

@@ -1,5 +1,5 @@
-use Rattle.std.proofs.Common.{rules, ◌≡◌, ◌+◌, ◌<◌, ◌≤◌, ◌∷◌, [], ◌++◌, ℕ, slice_index_or, suc, List, length, subst, sym, take, arith}
-use Rattle.std.proofs.lemmas.List.{take_all, take_more}
+use Rattle.std.proofs.Common.{◌≡◌, ◌+◌, ◌<◌, ◌∷◌, [], ◌++◌, ℕ, slice_index_or, suc, List, length, subst, sym, take, arith}
+use Rattle.std.proofs.lemmas.List.{take_more}
 use Rattle.gr_world.specs.declared.step.Step.{Step}
 use Rattle.gr_world.specs.Steps.{Runs, made, nothing_tried, refused_once}
 use Rattle.gr_world.specs.Worlds.{World}
@@ -8,9 +8,6 @@ use Rattle.gr_world.proofs.world.World.run.Goals.{in-Ok, in-Err}
 
 pub loop-step-init : goal.loop-step-init
 loop-step-init g c = record { runs = nothing_tried; few = omega arith }
-
-pub overflow_add-refused : goal.overflow_add-refused
-overflow_add-refused g c = search (rules, c.loop-step.invariant.few)
 
 -- one step more was tried
 more_made : (old new : World) (steps : List Step) (i refused now : ℕ) (step : Step) → i < length steps → step ≡ slice_index_or steps i step → Runs old (take i steps ++ step ∷ []) new refused → now ≡ refused → Runs old (take (i + 1) steps) new now
@@ -32,8 +29,3 @@ loop-step-preserved g c = elim c.match-step.branch [
     few = omega (arith, v.refused-is, c.loop-step.invariant.few);
   }
 ]
-
-pub returns : goal.returns
-returns g c =
-    let all : length c.args.steps.now ≤ c.loop-step.step-index = search rules in
-    subst (λ (l : List Step). Runs c.args.self.now l c.loop-step.self c.loop-step.refused) (take_all c.loop-step.step-index c.args.steps.now all) c.loop-step.invariant.runs

@@ -1,4 +1,4 @@
-use Rattle.std.proofs.Common.{◌≡◌, ◌+◌, ◌<◌, ◌≤◌, ◌⊎◌, ℕ, IsFalse, inl, inr, ap, arith, length, subst, sym, true≢false, ⊎_elim}
+use Rattle.std.proofs.Common.{◌+◌, ◌<◌, ◌≤◌, ℕ, rules, inr, ap, arith, length, subst, sym, true≢false, ⊎_elim}
 use Rattle.std.proofs.lemmas.Result.{IfErr-weaker, on_ok_weaker}
 use Rattle.gr_model.specs.declared.event.Event.{Event}
 use Rattle.gr_model.specs.declared.limits.TheConstants.{MOST_RECORDS}
@@ -7,9 +7,12 @@ use Rattle.gr_world.specs.declared.step.Step.TheVariants.{Send}
 use Rattle.gr_world.specs.declared.step.StepError.{StepError}
 use Rattle.gr_world.specs.declared.step.StepError.TheVariants.{BadStep, NotOpen, Full, Empty, Busy, NotReady, Memory}
 use Rattle.gr_world.specs.Putting.{IsPutFault, MayPut, Queues}
-use Rattle.gr_world.specs.Steps.{IsAllowed, IsBad, IsBadEvent, IsStepRefusal, IsWorldStep}
+use Rattle.gr_world.specs.Steps.{IsAllowed, IsBad, IsBadEvent, IsStepRefusal}
 use Rattle.gr_world.specs.Worlds.{World}
 use Rattle.gr_world.proofs.world.World.send.Goals as goal
+
+good_send : (w : World) (g : ℕ) (x : Event) → g < length w.sent.sizes → ¬ IsBadEvent w g x → ¬ IsBad w (Send g x)
+good_send w g x there fine bad = ⊎_elim (λ (le : length w.sent.sizes ≤ g). omega (arith, le, there)) fine bad
 
 module _ (w : World) (g : ℕ) (x : Event) (good : ¬ IsBad w (Send g x)) where
   may_send : MayPut w g → IsAllowed w (Send g x)
@@ -35,17 +38,10 @@ put-requires-clause-room g c = λ _.
 
 pub returns-clause-step : goal.returns-clause-step
 returns-clause-step g c =
-    let there : c.args.group < length c.args.self.now.sent.sizes = subst (λ (v : World). c.args.group < length v.sent.sizes) c.self.view_is
-    (omega (arith, c.if-group-groups.false, c.groups.ensures.count, ap length c.shape.ensures.sizes)) in
-    let good : ¬ IsBad c.args.self.now (Send c.args.group c.args.event) = λ bad. ⊎_elim (λ (le : length c.args.self.now.sent.sizes ≤ c.args.group). omega (arith, le, there)) (λ (ill : IsBadEvent c.args.self.now c.args.group c.args.event). true≢false (sym (c.if-is_bad.ensures.1 ill))) bad in
+    let good = good_send c.args.self.now c.args.group c.args.event (search rules) (λ ill. true≢false (sym (c.if-is_bad.ensures.1 ill))) in
     on_ok_weaker c.put.result (λ (q : Queues c.args.self.now c.args.group c.args.event c.put.new.self). record { allowed = may_send c.args.self.now c.args.group c.args.event good q.may; leads = q.sends }) c.put.ensures.ok
 
 pub returns-clause-err : goal.returns-clause-err
 returns-clause-err g c =
-    let there : c.args.group < length c.args.self.now.sent.sizes = subst (λ (v : World). c.args.group < length v.sent.sizes) c.self.view_is
-    (omega (arith, c.if-group-groups.false, c.groups.ensures.count, ap length c.shape.ensures.sizes)) in
-    let good : ¬ IsBad c.args.self.now (Send c.args.group c.args.event) = λ bad. ⊎_elim (λ (le : length c.args.self.now.sent.sizes ≤ c.args.group). omega (arith, le, there)) (λ (ill : IsBadEvent c.args.self.now c.args.group c.args.event). true≢false (sym (c.if-is_bad.ensures.1 ill))) bad in
+    let good = good_send c.args.self.now c.args.group c.args.event (search rules) (λ ill. true≢false (sym (c.if-is_bad.ensures.1 ill))) in
     IfErr-weaker c.put.result (IsPutFault c.args.self.now c.args.group) (IsStepRefusal c.args.self.now (Send c.args.group c.args.event)) (refused c.args.self.now c.args.group c.args.event good) c.put.ensures.err
-
-pub returns-clause-unchanged : goal.returns-clause-unchanged
-returns-clause-unchanged g c = c.put.ensures.unchanged
