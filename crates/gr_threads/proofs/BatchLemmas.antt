@@ -62,32 +62,23 @@ module _ (s : Sending) (w : List Event) (n : ℕ) (e : Event) (is : IsBatchSende
   more_room : length more < s.records
   more_room = let room = may.room in let count = is.count in omega (arith, room, more_length, count)
 
+  -- of all of them these are sent, and the others wait
+  all_so : (sent v : List Event) → sent ++ v ≡ more → IsFalse (is_complete sent) → IsBatchSender (record s { sent = sent }) v (n + 1)
+  all_so sent v all unended = record {
+    count = sym (ap length all ∙ more_length);
+    unended = λ _. record {
+      before = unended;
+      stream = subst (IsPrefix s.items) (sym all) more_stream;
+      after = ap is_complete all ∙ more_unended;
+      room = subst (λ (l : List Event). length l < s.records) (sym all) more_room;
+    };
+    ended = λ ended. absurd (true≢false (sym ended ∙ unended));
+  }
+
   -- it was sent after those that waited
   pub sent_so : (t : Sending) (v : List Event) → t ≡ record (with_waiting s w) { sent = more } → v ≡ [] → IsBatchSender t v (n + 1)
-  sent_so t v now none =
-      let all : more ++ [] ≡ more = append-nil more in
-      subst (λ (y : Sending × List Event). IsBatchSender y.0 y.1 (n + 1)) (λ i. (sym now i, sym none i)) record {
-        count = sym (ap length all ∙ more_length);
-        unended = λ _. record {
-          before = more_unended;
-          stream = subst (IsPrefix s.items) (sym all) more_stream;
-          after = ap is_complete all ∙ more_unended;
-          room = subst (λ (l : List Event). length l < s.records) (sym all) more_room;
-        };
-        ended = λ ended. absurd (true≢false (sym ended ∙ more_unended));
-      }
+  sent_so t v now none = subst (λ (y : Sending × List Event). IsBatchSender y.0 y.1 (n + 1)) (λ i. (sym now i, sym none i)) (all_so more [] (append-nil more) more_unended)
 
   -- it waits with the others
   pub waits_so : (v : List Event) → v ≡ w ++ e ∷ [] → IsBatchSender s v (n + 1)
-  waits_so v now =
-      let all : s.sent ++ (w ++ e ∷ []) ≡ more = sym (append_assoc s.sent w (e ∷ [])) in
-      subst (λ (l : List Event). IsBatchSender s l (n + 1)) (sym now) record {
-        count = sym (ap length all ∙ more_length);
-        unended = λ _. record {
-          before = before;
-          stream = subst (IsPrefix s.items) (sym all) more_stream;
-          after = ap is_complete all ∙ more_unended;
-          room = subst (λ (l : List Event). length l < s.records) (sym all) more_room;
-        };
-        ended = λ ended. absurd (true≢false (sym ended ∙ before));
-      }
+  waits_so v now = subst (λ (l : List Event). IsBatchSender s l (n + 1)) (sym now) (all_so s.sent (w ++ e ∷ []) (sym (append_assoc s.sent w (e ∷ []))) before)
