@@ -1,5 +1,5 @@
 -- What is known where an event that names nothing is handled as soon as its record is taken.
-use Rattle.std.proofs.Common.{◌≡◌, ◌≢◌, ℕ, ◌<◌, length, List, [], ◌∷◌, ◌++◌, false, true≢false, Some, refl, ap, ◌∙◌, sym, subst}
+use Rattle.std.proofs.Common.{arith, ◌≡◌, ℕ, ◌<◌, length, List, [], ◌∷◌, ◌++◌, false, refl, ap, ◌∙◌, sym, subst}
 use Rattle.gr_model.specs.declared.event.Event.{Event}
 use Rattle.gr_model.specs.declared.event.EventId.{EventId}
 use Rattle.gr_model.specs.declared.event.Name.{Name}
@@ -10,7 +10,6 @@ use Rattle.gr_model.specs.Counts.{Sees}
 use Rattle.gr_model.specs.Streams.{Streams, event_at, list_of}
 use Rattle.gr_steps.specs.Steps.{IsReady}
 use Rattle.gr_steps.proofs.StepGrowth.{lawful_grows}
-use Rattle.gr_clocks.specs.declared.clock.TheConstants.{LARGEST_COUNT}
 use Rattle.gr_clocks.specs.Counts.{Counts, CountsOneMore, count_of}
 use Rattle.gr_clocks.specs.ItemClocks.{ItemClocks, Ticks, clock_in}
 use Rattle.gr_closure.specs.Accesses.{CountsJust}
@@ -19,9 +18,9 @@ use Rattle.gr_lanes.proofs.Growth.{prefixes_grow, record_grows}
 use Rattle.gr_order.specs.AtOnce.{GoesAtOnce}
 use Rattle.gr_order.specs.Sequences.{IsSequence, Sequence}
 use Rattle.gr_order.proofs.AtOnceLemmas.{there_at_once}
-use Rattle.gr_sequencer.specs.Known.{CountWhatIsKnown, IsKnown, IsNextAtOnce, Known, KnowsOrLearns, snapshot_at}
+use Rattle.gr_sequencer.specs.Known.{CountWhatIsKnown, IsKnown, IsNextAtOnce, Known}
 use Rattle.gr_sequencer.specs.Sources.{AreSources}
-use Rattle.gr_sequencer.proofs.EventSteps.{known_or_learned_alone, known_or_learned_room, known_or_learned_sees, learns_nothing_steps, snapshots_longer, steps_true}
+use Rattle.gr_sequencer.proofs.EventSteps.{known_or_learned_alone, known_or_learned_sees, learns_nothing_steps, snapshots_longer, steps_true}
 use Rattle.gr_sequencer.proofs.KnownGrowth.{known_grows}
 use Rattle.gr_sequencer.proofs.Teaching.{AreSourcesOf, sources_all, sources_none}
 
@@ -32,17 +31,11 @@ module _ (q : Sequence) (g : ℕ) (x : Event) (known : Known) (e : EventId) (is 
   no_sources : AreSources more e []
   no_sources = sources_all more e x is.there [] (subst (λ (names : List Name). AreSourcesOf more e names []) (sym is.names) (sources_none more e))
 
-  -- its item's clock counts what it knows
-  own_counts : (m : Space) (c : Counts) → c ≡ clock_in known.clocks m e.at → CountsJust c (KnowsOrLearns more q.handled m e)
-  own_counts m c same = known_or_learned_alone more q.handled known e is.next m c no_sources same
-
-  -- and can grow
-  pub room_at_once : (m : Space) (c : Counts) → c ≡ clock_in known.clocks m e.at → count_of c e.at ≢ LARGEST_COUNT
-  room_at_once m c same = known_or_learned_room more q.handled known e is.next m c (own_counts m c same)
-
-  -- with one event more it counts what is seen
-  pub sees_at_once : (m : Space) (c n : Counts) → c ≡ clock_in known.clocks m e.at → CountsOneMore c e.at n → CountsJust n (Sees more m e)
-  sees_at_once m c n same tick = known_or_learned_sees more q.handled known e is.next m c n (own_counts m c same) tick
+  -- with one event more its item's clock counts what is seen
+  pub sees_at_once : (m : Space) (n : Counts) → CountsOneMore (clock_in known.clocks m e.at) e.at n → CountsJust n (Sees more m e)
+  sees_at_once m n tick =
+      let c = clock_in known.clocks m e.at in
+      known_or_learned_sees more q.handled known e is.next m (count_of c) (known_or_learned_alone more q.handled known e is.next m c no_sources refl) (count_of n) tick.counts
 
   -- the clocks where the item's have one event more
   pub known_at_once : (new : ItemClocks) → Ticks known.clocks e.at new → CountWhatIsKnown more (q.handled ++ e ∷ []) new
@@ -68,6 +61,5 @@ pub known_behind : (q : Sequence) (g : ℕ) (x : Event) (known : Known) (e : Eve
     → CountWhatIsKnown (with_record q.taken g x) (q.handled ++ e ∷ []) now.clocks → IsKnown (with_record q.taken g x) (q.handled ++ e ∷ []) now
 known_behind q g x known e is plain now same clocks = record {
   clocks = clocks;
-  snapshots = snapshots_longer (with_record q.taken g x) q.handled known e is.next now.snapshots (λ r other. ap (λ s. snapshot_at s r) same)
-      (λ y at releases. let own : y ≡ x = let both : Some y ≡ Some x = sym at ∙ is.there in cc in absurd (true≢false (sym releases ∙ (ap is_release own ∙ plain))));
+  snapshots = snapshots_longer (with_record q.taken g x) q.handled known e is.next now.snapshots (λ r other. cc) (λ y at releases. absurd (grind (arith, is.there)));
 }

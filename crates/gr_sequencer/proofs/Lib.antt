@@ -1,5 +1,4 @@
 pub mod SeenCounts
-pub mod KeptLemmas
 pub mod KnownGrowth
 pub mod EventSteps
 pub mod GroupSteps

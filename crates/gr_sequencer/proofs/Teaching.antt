@@ -1,7 +1,8 @@
 -- What an event learns from the releases that it names.
-use Rattle.std.proofs.Common.{◌≡◌, ◌≢◌, ◌⊎◌, ◌↔◌, ℕ, ◌+◌, ◌<◌, ◌≤◌, All, Contains, List, [], ◌∷◌, ◌++◌, length, get_or, map, take, Some, IsTrue, refl, sym, ap, ◌∙◌, subst, inl, inr, ⊎_elim, slice_get, suc, arith}
+use mathlib.Core.List.{map-map}
+use Rattle.std.proofs.Common.{◌≡◌, ◌≢◌, ◌⊎◌, ◌↔◌, ℕ, ◌+◌, ◌<◌, ◌≤◌, All, Contains, List, [], ◌∷◌, ◌++◌, length, get_or, map, take, Some, IsTrue, refl, sym, ap, ◌∙◌, subst, inl, ⊎_elim, suc, arith}
 use Rattle.std.proofs.lemmas.List.Elements.{All-push, Contains-append_left, Contains-push, Contains-push_cases}
-use Rattle.std.proofs.lemmas.List.{get_or-map, length-append, length-map}
+use Rattle.std.proofs.lemmas.List.{length-append}
 use Rattle.std.proofs.Math.Seq.{take-suc}
 use Rattle.gr_model.specs.declared.event.Event.{Event}
 use Rattle.gr_model.specs.declared.event.EventId.{EventId}
@@ -12,7 +13,7 @@ use Rattle.gr_model.specs.Counts.{Sees}
 use Rattle.gr_model.specs.HappensBefore.{IsInclusive}
 use Rattle.gr_model.specs.LawfulOrders.{IsIn}
 use Rattle.gr_model.specs.Names.{HasName, Matches, MatchesBy, names_of, release_place}
-use Rattle.gr_model.specs.Streams.{Streams, event_at, trace_of, word_at}
+use Rattle.gr_model.specs.Streams.{Streams, event_at, word_at}
 use Rattle.gr_model.specs.Waits.{for_release}
 use Rattle.gr_model.proofs.Places.{places_from-there}
 use Rattle.gr_model.proofs.Cuts.{same_event}
@@ -23,7 +24,6 @@ use Rattle.gr_clocks.specs.ItemClocks.{ReleaseClock, AreOfOneWord, clocks_left}
 use Rattle.gr_clocks.proofs.ReleaseLemmas.{left_elsewhere, left_here}
 use Rattle.gr_sequencer.specs.Known.{IsSnapshotOf}
 use Rattle.gr_sequencer.specs.Sources.{AreSources, IsSource, LearnsNothing, LearnsBy}
-use Rattle.gr_sequencer.proofs.SeenCounts.{below_max}
 use Rattle.gr_sequencer.proofs.Spaces.{space_cases}
 
 module _ (s : Streams) (order : List EventId) (e r : EventId) (x given : Event) (n : Name) (event : event_at s e ≡ Some x) (named : Contains x.names n) (item : r.at ≡ n.at) (place : release_place s n ≡ Some r.index) (there : event_at s r ≡ Some given) (ready : IsReady s order e) where
@@ -45,12 +45,7 @@ module _ (s : Streams) (order : List EventId) (e r : EventId) (x given : Event) 
   release_handled = ready.waits r (for_release matches)
 
   pub given_releases : IsTrue (is_release given)
-  given_releases =
-      let is = places_from-there is_release 0 (trace_of s n.at) n.release r.index place in
-      let index : r.index ≡ is.0 = omega (arith, is.2) in
-      let at : slice_get (trace_of s n.at) r.index ≡ Some is.1 = ap (slice_get (trace_of s n.at)) index ∙ is.3 in
-      let same : is.1 ≡ given = let e : Some is.1 ≡ Some given = sym at ∙ ap (λ i. slice_get (trace_of s i) r.index) (sym item) ∙ there in cc in
-      subst (λ y. IsTrue (is_release y)) same is.4
+  given_releases = grind (arith, places_from-there)
 
   -- what the event learns by this name, it learns from this release
   from_release : (m : Space) (d : EventId) (l : LearnsBy s m e n d) → l.release ≡ r
@@ -85,36 +80,24 @@ pub record AreSourcesOf (s : Streams) (e : EventId) (names : List Name) (sources
 
 module _ (s : Streams) (e : EventId) where
   pub sources_none : AreSourcesOf s e [] []
-  sources_none = record {
-    few = omega arith;
-    words = λ k d below. absurd (omega (arith, below));
-    counts = λ m d. (λ below. absurd (omega (arith, below)), λ l. absurd (let some = l.1.1 in omega (arith, some)));
-  }
+  sources_none = grind arith
 
   module _ (names : List Name) (n : Name) where
     longer : (m : Space) (d : EventId) → LearnsFrom s m e (names ++ n ∷ []) d ↔ (LearnsFrom s m e names d ⊎ LearnsBy s m e n d)
     longer m d = (
-      λ l.
-          ⊎_elim
-          (λ had. inl (l.0, had, l.2))
-          (λ (same : n ≡ l.0). inr (subst (λ o. LearnsBy s m e o d) (sym same) l.2))
-          (Contains-push_cases names n l.0 l.1),
-      λ h.
-          ⊎_elim
-          (λ l. (l.0, Contains-append_left names (n ∷ []) l.0 l.1, l.2))
-          (λ l. (n, Contains-push names n, l))
-          h,
+      λ l. grind (arith, Contains-push_cases names n l.0 l.1),
+      ⊎_elim (λ l. (l.0, Contains-append_left names (n ∷ []) l.0 l.1, l.2)) (λ l. (n, Contains-push names n, l)),
     )
 
     module _ (sources : List ReleaseClock) (are : AreSourcesOf s e names sources) where
       -- a name from whose release nothing is learned
       pub sources_same : LearnsNothing s e n → AreSourcesOf s e (names ++ n ∷ []) sources
       sources_same none = record {
-        few = let size = length-append names (n ∷ []) in omega (arith, are.few, size);
+        few = grind (arith, length-append names (n ∷ []));
         words = are.words;
         counts = λ m d. (
           λ below. (longer m d).1 (inl ((are.counts m d).0 below)),
-          λ l. ⊎_elim (λ had. (are.counts m d).1 had) (λ by. absurd (none m d by)) ((longer m d).0 l),
+          λ l. ⊎_elim (are.counts m d).1 (λ by. absurd (none m d by)) ((longer m d).0 l),
         );
       }
 
@@ -132,69 +115,31 @@ module _ (s : Streams) (e : EventId) where
           in_its_memory : (m : Space) (d : EventId) → m ≡ memory_of l.word → (d.index < all m d) ↔ LearnsFrom s m e (names ++ n ∷ []) d
           in_its_memory m d same =
               let most = left_here m sources l d.at same in
-              let by : (d.index < count_of l.clock d.at) ↔ LearnsBy s m e n d = subst (λ o. (d.index < count_of l.clock d.at) ↔ LearnsBy s o e n d) (sym same) (is.counts d) in (
-                λ below.
-                    (longer m d).1 (⊎_elim
-                    (λ had. inl ((are.counts m d).0 had))
-                    (λ has. inr (by.0 has))
-                    (below_max d.index (greatest_count (clocks_left m sources) d.at) (count_of l.clock d.at) (omega (arith, below, most)))),
-                λ learned.
-                    ⊎_elim
-                    (λ had. let under = (are.counts m d).1 had in omega (arith, under, most))
-                    (λ has. let under = by.1 has in omega (arith, under, most))
-                    ((longer m d).0 learned),
+              let by : (d.index < count_of l.clock d.at) ↔ LearnsBy s m e n d = rw same (is.counts d) in (
+                λ below. (longer m d).1 (grind (arith, (are.counts m d).0, by.0)),
+                λ learned. grind (arith, (longer m d).0 learned, (are.counts m d).1, by.1),
               )
 
           in_another : (m : Space) (d : EventId) → m ≢ memory_of l.word → (d.index < all m d) ↔ LearnsFrom s m e (names ++ n ∷ []) d
           in_another m d other =
               let same = left_elsewhere m sources l d.at other in (
-                λ below. (longer m d).1 (inl ((are.counts m d).0 (omega (arith, below, same)))),
-                λ learned.
-                    ⊎_elim
-                    (λ had. let under = (are.counts m d).1 had in omega (arith, under, same))
-                    (λ by. absurd (is.others m d other by))
-                    ((longer m d).0 learned),
+                λ below. (longer m d).1 (inl ((are.counts m d).0 (omega arith))),
+                λ learned. grind (arith, (longer m d).0 learned, (are.counts m d).1, is.others m d other),
               )
 
   -- all names
   pub sources_all : (x : Event) → event_at s e ≡ Some x → (sources : List ReleaseClock) → AreSourcesOf s e x.names sources → AreSources s e sources
-  sources_all x event sources are = record {
-    words = are.words;
-    counts = λ m d. (
-      λ below. let l = (are.counts m d).0 below in record { release = l.2.release; matches = record { name = l.0; by = l.2.by }; inclusive = l.2.inclusive; seen = l.2.seen },
-      λ l. (are.counts m d).1 (l.matches.name, subst (λ names. Contains names l.matches.name) (ap names_of event) l.matches.by.named, record { release = l.release; by = l.matches.by; inclusive = l.inclusive; seen = l.seen }),
-    );
-  }
+  sources_all x event sources are = grind arith
 
   -- they are all on the event's word
   pub of_one_word : (sources : List ReleaseClock) → All (λ l. word_at s e ≡ Some l.word) sources → AreOfOneWord sources
   of_one_word [] words = tt
-  of_one_word (l ∷ sources) words = one_word l sources words
-    where
-      one_word : (l : ReleaseClock) (sources : List ReleaseClock) → All (λ r. word_at s e ≡ Some r.word) (l ∷ sources) → All (λ r. r.word ≡ l.word) sources
-      one_word l sources words k d below =
-          let first : word_at s e ≡ Some l.word = words 0 l (omega arith) in
-          let this : word_at s e ≡ Some (get_or sources k d).word = words (suc k) d (omega (arith, below)) in
-          let both : Some (get_or sources k d).word ≡ Some l.word = sym this ∙ first in
-          cc
+  of_one_word (l ∷ sources) words = λ k d below. grind (arith, words 0 l, words (suc k) d)
 
 -- the names up to the next one
 pub next_names : (names read : List Name) (p : ℕ) (d : Name) → read ≡ names → p < length read → take (p + 1) names ≡ take p names ++ get_or read p d ∷ []
-next_names names read p d same below =
-    let there : p < length names = subst (λ ns. p < length ns) same below in
-    ap (λ n. take n names) (let next : p + 1 ≡ suc p = omega arith in next) ∙ take-suc names p d there ∙ ap (λ ns. take p names ++ get_or ns p d ∷ []) (sym same)
+next_names names read p d same below = grind (arith, take-suc)
 
--- what holds of all releases holds of all references to them
-pub each_referred : {X : Type 0} (release : X → ReleaseClock) (P : ReleaseClock → Type 0) (xs : List X) (sources : List ReleaseClock) → map release xs ≡ sources → All P sources → All (λ x. P (release x)) xs
-each_referred release P xs sources same all k d below =
-    let within : k < length sources = let size = length-map xs release in subst (λ ls. k < length ls) same (omega (arith, below, size)) in
-    let at : get_or sources k (release d) ≡ release (get_or xs k d) = ap (λ ls. get_or ls k (release d)) (sym same) ∙ get_or-map release xs k d (release d) below in
-    subst P at (all k (release d) within)
-
--- and so of their clocks
+-- the clocks of releases are those of all references to them
 pub clocks_referred : {X : Type 0} (release : X → ReleaseClock) (xs : List X) (sources : List ReleaseClock) → map release xs ≡ sources → map (λ x. (release x).clock) xs ≡ map (λ (l : ReleaseClock). l.clock) sources
-clocks_referred release xs sources same = twice xs ∙ ap (map (λ (l : ReleaseClock). l.clock)) same
-  where
-    twice : (ys : List _) → map (λ y. (release y).clock) ys ≡ map (λ (l : ReleaseClock). l.clock) (map release ys)
-    twice [] = refl
-    twice (y ∷ ys) = let rest = twice ys in ap (λ cs. (release y).clock ∷ cs) rest
+clocks_referred release xs sources same = rw (← same, map-map)
