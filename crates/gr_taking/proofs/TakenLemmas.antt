@@ -1,33 +1,21 @@
 -- What a sequencer has taken, and what stands for the accesses that it answers.
-use Rattle.std.proofs.Common.{◌≡◌, ℕ, zero, suc, List, [], ◌∷◌, map, get_or, refl, sym, subst, arith}
+use Rattle.std.proofs.Common.{◌≡◌, ℕ, zero, suc, List, [], ◌∷◌, map, get_or, refl, arith}
 use Rattle.std.proofs.lemmas.List.{length-map}
 use Rattle.gr_model.specs.declared.event.Event.{Event}
-use Rattle.gr_model.specs.Streams.{Streams, AreAccepted, IsPrefix}
+use Rattle.gr_model.specs.Streams.{Streams, AreAccepted}
 use Rattle.gr_model.proofs.GroupLaws.{part_of_shape}
 use Rattle.gr_steps.proofs.Orders.{lawful_empty}
-use Rattle.gr_lanes.specs.Takes.{CanTake, IsTakeFault, nothing_taken, with_record}
-use Rattle.gr_lanes.specs.declared.seq_error.SeqError.{SeqError}
-use Rattle.gr_lanes.specs.declared.seq_error.SeqError.TheVariants.{AfterEnd, Memory, UnknownGroup, UnknownItem}
+use Rattle.gr_lanes.specs.Takes.{CanTake, nothing_taken, with_record}
 use Rattle.gr_lanes.proofs.Growth.{record_grows}
 use Rattle.gr_order.specs.Sequences.{IsDone, IsSequence, Sequence, nothing, taking}
 use Rattle.gr_closure.proofs.Growing.{accesses_stay}
 use Rattle.gr_clocks.specs.ClockedAccess.{ClockedAccess}
 use Rattle.gr_taking.specs.Along.{IsAlong, IsAlongWhole}
 
--- what may be taken is refused only where memory runs out
-pub only_memory : (s : Streams) (g : ℕ) (x : Event) (e : SeqError) → CanTake s g x → IsTakeFault s g x e → e ≡ Memory
-only_memory s g x UnknownGroup can past = absurd (omega (arith, can.group))
-only_memory s g x (AfterEnd h) can (same, group, ended) = absurd (can.before_end ended)
-only_memory s g x UnknownItem can (group, open_list, past) = absurd (omega (arith, can.item))
-only_memory s g x Memory can fault = refl
-
 -- the accesses along the order stay so where a record is taken
 pub along_stays : {X : Type 0} (stands : List ClockedAccess → X → Type 0) (q new : Sequence) (g : ℕ) (x : Event) (v : X) → IsSequence q → CanTake q.taken g x → new ≡ taking q g x → IsAlong stands q v → IsAlong stands new v
-along_stays stands q new g x v sequence can is along = subst (λ (p : Sequence). IsAlong stands p v) (sym is) (
-  along.0,
-  accesses_stay q.taken (with_record q.taken g x) (record_grows q.taken g x sequence.prefixes can) q.handled along.0 sequence.lawful along.1,
-  along.2,
-)
+along_stays stands q new g x v sequence can is along =
+    rw is (along.0, accesses_stay q.taken (with_record q.taken g x) (record_grows q.taken g x sequence.prefixes can) q.handled along.0 sequence.lawful along.1, along.2)
 
 -- ---- nothing was taken
 
@@ -39,23 +27,23 @@ empty_at [] i = refl
 empty_at (x ∷ xs) zero = refl
 empty_at (x ∷ xs) (suc i) = empty_at xs i
 
-pub nothing_is_sequence : (s : Streams) (q : Sequence) → AreAccepted s → q ≡ nothing s.sizes → IsSequence q
-nothing_is_sequence s q accepted is = subst IsSequence (sym is) (record {
+pub nothing_is_sequence : (s : Streams) → AreAccepted s → IsSequence (nothing s.sizes)
+nothing_is_sequence s accepted = record {
   prefixes = record {
     shape = part_of_shape s.sizes accepted.shape;
     count = length-map s.sizes (λ n. []);
-    each = λ g within. subst (IsPrefix (get_or s.sizes g 0)) (sym (empty_at s.sizes g)) (record { few = omega arith; good = λ p x at. cc });
+    each = λ g within. rw (empty_at s.sizes g) (record { few = omega arith; good = λ p x at. cc });
   };
   lawful = lawful_empty (nothing_taken s.sizes);
-})
+}
 
 -- ---- all was taken
 
 -- where no step is left, the handled events are a lawful order of all grounded ones
 pub whole_at_end : {X : Type 0} (stands : List ClockedAccess → X → Type 0) (s : Streams) (q : Sequence) (v : X) → q.taken ≡ s → IsDone q → IsSequence q → IsAlong stands q v → IsAlongWhole stands s v
-whole_at_end stands s q v taken done sequence along = subst (λ (t : Streams). IsAlongWhole stands t v) taken (record {
+whole_at_end stands s q v taken done sequence along = rw (← taken) (record {
   order = q.handled;
-  whole = record { lawful = sequence.lawful; whole = λ e grounded. (done.grounded e).1 grounded };
+  whole = record { lawful = sequence.lawful; whole = λ e. (done.grounded e).1 };
   accesses = along.0;
   are = along.1;
   stands = along.2;

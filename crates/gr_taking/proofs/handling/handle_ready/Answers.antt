@@ -1,26 +1,17 @@
-use Rattle.std.proofs.Common.{◌∙◌, ◌++◌, refl}
+use Rattle.std.proofs.Common.{◌++◌, ◌∙◌}
 use Rattle.gr_sequencer.specs.Answers.{IsStep}
 use Rattle.gr_taking.specs.Along.{accesses_of}
 use Rattle.gr_taking.proofs.StepLemmas.{accesses_step, fewer_left, taken_stays}
 use Rattle.gr_taking.proofs.handling.handle_ready.Goals as goal
 
-pub loop-step-init : goal.loop-step-init
-loop-step-init g c = record { taken = refl; along = c.requires }
-
 pub loop-step-smaller : goal.loop-step-smaller
-loop-step-smaller g c =
-    let step : IsStep c.loop-step.sequencer c.step.new.self c.in-Some.step = rw c.in-Some.is at c.in_ok-step.ensures.some in
-    fewer_left c.loop-step.sequencer c.step.new.self c.in-Some.step step c.step.ensures.sequence
+loop-step-smaller g c = fewer_left _ _ c.in-Some.step (rw c.in-Some.is at c.in_ok-step.ensures.some) c.step.ensures.sequence
 
 pub loop-step-preserved : goal.loop-step-preserved
 loop-step-preserved g c =
     let step : IsStep c.loop-step.sequencer c.step.new.self c.in-Some.step = rw c.in-Some.is at c.in_ok-step.ensures.some in
     let before = c.loop-step.invariant.along in
     record {
-      taken = taken_stays c.loop-step.sequencer c.step.new.self c.in-Some.step step ∙ c.loop-step.invariant.taken;
-      along = (
-        before.0 ++ accesses_of c.in-Some.step,
-        accesses_step c.loop-step.sequencer c.step.new.self c.in-Some.step before.0 step before.1,
-        c.in_ok-give.ensures before.0 before.2,
-      );
+      taken = taken_stays _ _ c.in-Some.step step ∙ c.loop-step.invariant.taken;
+      along = (before.0 ++ accesses_of c.in-Some.step, accesses_step _ _ c.in-Some.step before.0 step before.1, c.in_ok-give.ensures before.0 before.2);
     }

@@ -3,9 +3,6 @@ use Rattle.gr_taking.proofs.RoundLemmas.{HadTurn, round_begins, round_goes_on, r
 use Rattle.gr_taking.proofs.rounds.take_round.Goals.{else-branch, then-branch}
 use Rattle.gr_taking.proofs.rounds.take_round.Goals as goal
 
-pub bounds-sources-place : goal.bounds-sources-place
-bounds-sources-place g c = omega (arith, c.loop-place-test.true, c.loop-place.auto.sources)
-
 pub loop-place-init : goal.loop-place-init
 loop-place-init g c = record {
   round = round_begins g.S.Source.header g.S.Source.group_of g.S.Source.coming c.args.sequencer.now.taken c.args.sources.now;
@@ -16,8 +13,7 @@ loop-place-init g c = record {
 pub take_turn-requires-clause-may : goal.take_turn-requires-clause-may
 take_turn-requires-clause-may g c =
     let within : c.loop-place.place < length c.loop-place.sources = omega (arith, c.loop-place-test.true, c.loop-place.auto.sources) in
-    round_may g.S.Source.header g.S.Source.group_of g.S.Source.coming c.args.sequencer.now.taken c.loop-place.sequencer.taken c.args.sources.now c.loop-place.sources c.loop-place.place c.index-sources-place.result c.loop-place.took within
-    c.requires.may c.loop-place.invariant.sequence.prefixes.count c.loop-place.invariant.round
+    round_may g.S.Source.header g.S.Source.group_of g.S.Source.coming _ _ _ _ _ c.index-sources-place.result _ within c.requires.may c.loop-place.invariant.sequence.prefixes.count c.loop-place.invariant.round
 
 pub loop-place-preserved : goal.loop-place-preserved
 loop-place-preserved g c =
@@ -28,20 +24,8 @@ loop-place-preserved g c =
       | else-branch w ↦ inr (w.took-is, told.turn.none w.if-branch.false)
     ] in
     record {
-      round = round_goes_on g.S.Source.header g.S.Source.group_of g.S.Source.coming c.args.sequencer.now.taken c.loop-place.sequencer.taken c.args.sources.now c.loop-place.sources c.loop-place.place c.index-sources-place.result c.loop-place.took within
+      round = round_goes_on g.S.Source.header g.S.Source.group_of g.S.Source.coming _ _ _ _ _ c.index-sources-place.result _ within
           c.requires.may c.loop-place.invariant.sequence.prefixes.count c.loop-place.invariant.round c.if-branch.took c.take_turn.new.sequencer.taken c.take_turn.new.source told.turn.from told.header turn;
       sequence = told.sequence;
       along = told.along;
     }
-
-pub returns-clause-come : goal.returns-clause-come
-returns-clause-come g c = c.loop-place.invariant.round.same
-
-pub returns-clause-sizes : goal.returns-clause-sizes
-returns-clause-sizes g c = c.loop-place.invariant.round.sizes
-
-pub returns-clause-some : goal.returns-clause-some
-returns-clause-some g c = c.loop-place.invariant.round.some
-
-pub returns-clause-none : goal.returns-clause-none
-returns-clause-none g c = λ none k d lt. c.loop-place.invariant.round.none none k d (omega (arith, lt, c.loop-place-test.false, c.loop-place.auto.sources))
