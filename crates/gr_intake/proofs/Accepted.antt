@@ -14,13 +14,10 @@ use Rattle.gr_model.specs.Events.{is_end, IsEventOk}
 use Rattle.gr_model.specs.Streams.{AreGood, IsAccepted, is_complete}
 use Rattle.gr_record.specs.declared.error.RecordError.{RecordError}
 use Rattle.gr_record.specs.declared.error.RecordError.TheVariants as errors
-use Rattle.gr_record.specs.declared.layout.TheConstants.{HEADER_LENGTH}
 use Rattle.gr_record.specs.Versions.{record_length}
 use Rattle.gr_record.specs.Fronts.{Records, behind, step, records_of, records_at}
-use Rattle.gr_record.specs.declared.stop.Stop.{Stop}
 use Rattle.gr_record.specs.declared.stop.Stop.TheVariants.{AtEnd, AtFault, Inside}
-use Rattle.gr_record.specs.Reading.{event_at, header_at}
-use Rattle.gr_record.specs.WholeStreams as record_spec
+use Rattle.gr_record.specs.Reading.{event_at}
 use Rattle.gr_record.specs.WholeStreams.{whole, up_to, front_header_at, front_records_at}
 use Rattle.gr_record.specs.declared.header.Header.{Header}
 use Rattle.gr_record.specs.declared.fault.Fault.{Fault}
@@ -56,11 +53,7 @@ pub record AreRead (items most : ℕ) (events : List Event) : Type 0 where
 
 module _ (items : ℕ) where
   pub one_end : (most : ℕ) (e : Event) → IsEventOk e items → is_end e ≡ true → AreRead items (suc most) (e ∷ [])
-  one_end most e ok end = record { few = omega arith; good = good; ended = end }
-    where
-      good : AreGood items (e ∷ [])
-      good zero x at = let same : e ≡ x = let h : Some e ≡ Some x = at in cc in (subst (λ y. IsEventOk y items) same ok, λ _. refl)
-      good (suc p) x at = cc
+  one_end most e ok end = grind arith
 
   pub one_more : (most : ℕ) (e : Event) (es : List Event) → IsEventOk e items → is_end e ≡ false → AreRead items most es → AreRead items (suc most) (e ∷ es)
   one_more most e [] ok on rest = absurd (true≢false (sym rest.ended))
@@ -72,16 +65,10 @@ module _ (items : ℕ) where
 
   -- what is read behind an event is read without it
   behind_parts : (e : Event) (r : Records) (events : List Event) (rest : List ℕ) → up_to r.stop (e ∷ r.events) r.rest ≡ Ok (events, rest) → (events ≡ e ∷ r.events) × (whole r ≡ Ok (r.events, rest))
-  behind_parts e r events rest h = parts r.stop h
-    where
-      parts : (s : Stop) → up_to s (e ∷ r.events) r.rest ≡ Ok (events, rest) → (events ≡ e ∷ r.events) × (up_to s r.events r.rest ≡ Ok (r.events, rest))
-      parts AtEnd k = let p = same_done {X = List Event × List ℕ} (e ∷ r.events, r.rest) (events, rest) k in (ap (λ x. x.0) (sym p), ap (λ x. done (r.events, x.1)) p)
-      parts Inside k = cc
-      parts (AtFault d) k = cc
+  behind_parts e r events rest h = grind arith
 
   no_more : (b : Bool) (bytes : List ℕ) (events : List Event) (rest : List ℕ) → whole (record { events = []; rest = bytes; stop = cond b Inside (AtFault errors.TooManyRecords) }) ≡ Ok (events, rest) → ⊥
-  no_more true bytes events rest h = cc
-  no_more false bytes events rest h = cc
+  no_more short bytes events rest h = grind arith
 
 module _ (head : Header) where
   abbrev size : ℕ
@@ -106,8 +93,7 @@ module _ (head : Header) where
           subst (AreRead head.items (suc most)) (sym p.0) (one_more head.items most e next.events ok on (later next.events p.1))
 
       by_event : (r : Result Event RecordError) → event_at head (take size bytes) ≡ r → size ≤ length bytes → whole (step size r bytes next) ≡ Ok (events, rest) → ((es : List Event) → whole next ≡ Ok (es, rest) → AreRead head.items most es) → AreRead head.items (suc most) events
-      by_event (Err d) is long h later = cc
-      by_event (Ok e) is long h later = by_end e (is_end e) refl (is_ok bytes e long is) h later
+      by_event r is long h later = grind (arith, by_end, is_ok)
 
       by_length : (b : Bool) → ltb (length bytes) size ≡ b → whole (cond b (record { events = []; rest = bytes; stop = Inside }) (step size (event_at head (take size bytes)) bytes next)) ≡ Ok (events, rest) → ((es : List Event) → whole next ≡ Ok (es, rest) → AreRead head.items most es) → AreRead head.items (suc most) events
       by_length true e h later = cc
@@ -120,11 +106,7 @@ prefix_read h bytes events rest e = records_read h MOST_RECORDS bytes events res
 -- ---- several streams
 
 none_at : {X : Type 0} (p : X → Bool) (xs : List X) (i : ℕ) (d : X) → i < length xs → list_any p xs ≡ false → p (get_or xs i d) ≡ false
-none_at p xs i d lt none =
-    elim (p (get_or xs i d)) as (λ b. p (get_or xs i d) ≡ b → b ≡ false) [
-      | true ↦ λ e. absurd (true≢false (sym (list_any_at p xs i d lt e) ∙ none))
-      | false ↦ λ e. refl
-    ] refl
+none_at p xs i d lt none = grind (arith, list_any_at)
 
 -- one more stream, of another group and of the same launch
 pub with_one : (seen : List Flat) (f : Flat) → AreStreams seen → IsAccepted f.header.items f.events → list_any (λ s. s.header.group == f.header.group) seen ≡ false → list_any (λ s. not (s.header.launch == f.header.launch)) seen ≡ false → AreStreams (seen ++ f ∷ [])
@@ -184,8 +166,7 @@ joined_are (suc n) seen bytes are out h =
     by_stream (Ok (f, rest)) is k later = later f rest (stream_is_one seen bytes are f rest is) k
 
     by_length : (b : Bool) → cond b (all seen) (joined_spec.◌>>=◌ {Y = List Flat} (stream_at seen bytes) (λ s. joined_at n (seen ++ s.0 ∷ []) s.1)) ≡ Ok out → ((f : Flat) (rest : List ℕ) → AreStreams (seen ++ f ∷ []) → joined_at n (seen ++ f ∷ []) rest ≡ Ok out → AreStreams out) → AreStreams out
-    by_length true k later = subst AreStreams (same_all seen out k) are
-    by_length false k later = by_stream (stream_at seen bytes) refl k later
+    by_length b k later = grind (arith, by_stream, same_all)
 
 pub none_are : AreStreams []
 none_are = record { accepted = λ k d lt. absurd (omega arith); groups = λ i j d before lt. absurd (omega arith); launch = λ i j d before lt. absurd (omega arith) }

@@ -1,5 +1,5 @@
 -- Records that wait: one more, and the first of them.
-use Rattle.std.proofs.Common.{◌≡◌, ◌⊎◌, ℕ, zero, suc, ◌+◌, ◌<◌, ◌≤◌, Bool, true, false, cond, List, [], ◌∷◌, ◌++◌, length, drop, filter, get_or, set, refl, sym, ap, ◌∙◌, subst, arith, inl, inr, append-nil, append_assoc, eqb-true}
+use Rattle.std.proofs.Common.{◌≡◌, ◌⊎◌, ℕ, zero, suc, ◌+◌, ◌<◌, ◌≤◌, Bool, true, false, cond, List, [], ◌∷◌, ◌++◌, length, drop, filter, get_or, set, refl, sym, ap, ◌∙◌, subst, arith, append-nil, append_assoc, eqb-true}
 use Rattle.std.specs.Prelude.{◌==◌}
 use Rattle.std.specs.List.{flat_map}
 use Rattle.std.proofs.lemmas.List.{drop_all, drop_more, drop-append-le, length-append, length-drop, get_or-set_other, get_or_append_left, length-set}
@@ -21,9 +21,7 @@ no_names [] none = refl
 no_names (n ∷ names) none = let zero_long = eqb-true (suc (length names)) 0 none in absurd (omega (arith, zero_long))
 
 pub named-append : (ss ts : List Short) (ns ms : List (List Name)) → AreNamed ss ns → AreNamed ts ms → AreNamed (ss ++ ts) (ns ++ ms)
-named-append ss ts ns ms are more =
-    let all = filter-append (λ (s : Short). s.has_names) ss ts in
-    omega (arith, ap length all, length-append (filter (λ (s : Short). s.has_names) ss) (filter (λ (s : Short). s.has_names) ts), length-append ns ms, are, more)
+named-append ss ts ns ms are more = grind (arith, filter-append, length-append)
 
 pub listed-append : (ss ts : List Short) (ns ms : List (List Name)) → AreNamed ss ns → listed (ss ++ ts) (ns ++ ms) ≡ listed ss ns ++ listed ts ms
 unfolding listed
@@ -34,27 +32,17 @@ listed-append (s ∷ ss) ts ns ms are = by_names s.has_names ns are (λ rest. li
     by_names : (b : Bool) (ns : List (List Name)) → length ns ≡ length (cond b (s ∷ filter (λ t. t.has_names) ss) (filter (λ t. t.has_names) ss))
         → ((rest : List (List Name)) → AreNamed ss rest → listed (ss ++ ts) (rest ++ ms) ≡ listed ss rest ++ listed ts ms)
         → with_names s (first_names b (ns ++ ms)) ∷ listed (ss ++ ts) (behind_names b (ns ++ ms)) ≡ with_names s (first_names b ns) ∷ listed ss (behind_names b ns) ++ listed ts ms
-    by_names true [] count later = absurd (omega (arith, count))
-    by_names true (n ∷ ns) count later = ap (λ (x : List Event). with_names s n ∷ x) (later ns (omega (arith, count)))
-    by_names false ns count later = ap (λ (x : List Event). with_names s [] ∷ x) (later ns count)
+    by_names b ns count later = grind arith
 
 -- a record more
 module _ (ss : List Short) (ns : List (List Name)) (are : AreNamed ss ns) (e : Event) where
   pub listed_plain : e.names ≡ [] → listed (ss ++ short_of e false ∷ []) ns ≡ listed ss ns ++ e ∷ []
   unfolding listed
-  listed_plain none =
-      ap (listed (ss ++ short_of e false ∷ [])) (sym (append-nil ns)) ∙ (listed-append ss (short_of e false ∷ []) ns [] are
-      ∙ ap (λ (x : List Event). listed ss ns ++ x) (λ d. record { item = e.item; kind = e.kind; space = e.space; word = e.word; names = sym none d } ∷ []))
-
-  pub named_plain : AreNamed (ss ++ short_of e false ∷ []) ns
-  named_plain = subst (AreNamed (ss ++ short_of e false ∷ [])) (append-nil ns) (named-append ss (short_of e false ∷ []) ns [] are refl)
+  listed_plain none = grind (arith, append-nil ns, listed-append ss (short_of e false ∷ []) ns [] are)
 
   pub listed_naming : listed (ss ++ short_of e true ∷ []) (ns ++ e.names ∷ []) ≡ listed ss ns ++ e ∷ []
   unfolding listed
   listed_naming = listed-append ss (short_of e true ∷ []) ns (e.names ∷ []) are
-
-  pub named_naming : AreNamed (ss ++ short_of e true ∷ []) (ns ++ e.names ∷ [])
-  named_naming = named-append ss (short_of e true ∷ []) ns (e.names ∷ []) are refl
 
 -- the same, of what is left behind those that were read
 module _ (shorts : List Short) (read : ℕ) (names : List (List Name)) (names_read : ℕ) (are : AreNamed (drop read shorts) (drop names_read names)) (within : read ≤ length shorts) {old : List Event} (view : listed (drop read shorts) (drop names_read names) ≡ old) (e : Event) (s : Short) (shorts' : List Short) (grown : shorts' ≡ shorts ++ s ∷ []) where
@@ -62,16 +50,10 @@ module _ (shorts : List Short) (read : ℕ) (names : List (List Name)) (names_re
   left = ap (drop read) grown ∙ drop-append-le read shorts (s ∷ []) within
 
   pub plain_pushed : s ≡ short_of e false → e.names ≡ [] → listed (drop read shorts') (drop names_read names) ≡ old ++ e ∷ []
-  plain_pushed is none =
-      let now : drop read shorts' ≡ drop read shorts ++ short_of e false ∷ [] = left ∙ ap (λ (x : Short). drop read shorts ++ x ∷ []) is in
-      ap (λ (ss : List Short). listed ss (drop names_read names)) now ∙ (listed_plain (drop read shorts) (drop names_read names) are e none ∙ ap (λ (l : List Event). l ++ e ∷ []) view)
+  plain_pushed is none = grind (arith, left, listed_plain)
 
   pub naming_pushed : s ≡ short_of e true → (names' : List (List Name)) → names_read ≤ length names → names' ≡ names ++ e.names ∷ [] → listed (drop read shorts') (drop names_read names') ≡ old ++ e ∷ []
-  naming_pushed is names' below more =
-      let now : drop read shorts' ≡ drop read shorts ++ short_of e true ∷ [] = left ∙ ap (λ (x : Short). drop read shorts ++ x ∷ []) is in
-      let lists : drop names_read names' ≡ drop names_read names ++ e.names ∷ [] = ap (drop names_read) more ∙ drop-append-le names_read names (e.names ∷ []) below in
-      ap (λ (ss : List Short). listed ss (drop names_read names')) now ∙ (ap (listed (drop read shorts ++ short_of e true ∷ [])) lists
-      ∙ (listed_naming (drop read shorts) (drop names_read names) are e ∙ ap (λ (l : List Event). l ++ e ∷ []) view))
+  naming_pushed is names' below more = grind (arith, drop-append-le, left, listed_naming)
 
 -- the first record that is left
 module _ (shorts : List Short) (read : ℕ) (lists : List (List Name)) (are : AreNamed (drop read shorts) lists) (s : Short) (within : read < length shorts) (reads : s ≡ get_or shorts read s) where
@@ -83,31 +65,21 @@ module _ (shorts : List Short) (read : ℕ) (lists : List (List Name)) (are : Ar
 
   -- a list of names is there, where it has some
   pub names_there : s.has_names ≡ true → 0 < length lists
-  names_there has =
-      let count : length lists ≡ suc (length (filter (λ (t : Short). t.has_names) (drop (read + 1) shorts))) =
-      all_named ∙ ap (λ b. length (cond b (s ∷ filter (λ (t : Short). t.has_names) (drop (read + 1) shorts)) (filter (λ (t : Short). t.has_names) (drop (read + 1) shorts)))) has in
-      omega (arith, count)
+  names_there has = grind (arith, all_named)
 
   pub behind_named : AreNamed (drop (read + 1) shorts) (behind_names s.has_names lists)
-  behind_named = by_names s.has_names all_named
-    where
-      by_names : (b : Bool) → length lists ≡ length (cond b (s ∷ filter (λ (t : Short). t.has_names) (drop (read + 1) shorts)) (filter (λ (t : Short). t.has_names) (drop (read + 1) shorts))) → AreNamed (drop (read + 1) shorts) (behind_names b lists)
-      by_names true count = omega (arith, count, length-drop 1 lists)
-      by_names false count = count
+  behind_named = grind (arith, all_named, length-drop)
 
   pub first_listed : listed (drop read shorts) lists ≡ with_names s (first_names s.has_names lists) ∷ listed (drop (read + 1) shorts) (behind_names s.has_names lists)
   unfolding listed
   first_listed = ap (λ (ss : List Short). listed ss lists) front
 
   pub first_taken : (e : Event) (names : List Name) (after : List Event) → e ≡ with_names s names → names ≡ first_names s.has_names lists → after ≡ listed (drop (read + 1) shorts) (behind_names s.has_names lists) → listed (drop read shorts) lists ≡ e ∷ after
-  first_taken e names after is named rest =
-      first_listed ∙ (ap (λ (x : List Name). with_names s x ∷ listed (drop (read + 1) shorts) (behind_names s.has_names lists)) (sym named)
-      ∙ (ap (λ (x : Event). x ∷ listed (drop (read + 1) shorts) (behind_names s.has_names lists)) (sym is) ∙ ap (λ (l : List Event). e ∷ l) (sym rest)))
+  first_taken e names after is named rest = grind (arith, first_listed)
 
   -- the same of one that names none
   pub first_plain : s.has_names ≡ false → (e : Event) (after : List Event) → e ≡ with_names s [] → after ≡ listed (drop (read + 1) shorts) lists → listed (drop read shorts) lists ≡ e ∷ after
-  first_plain none e after is rest =
-      first_taken e [] after is (sym (ap (λ b. first_names b lists) none)) (rest ∙ sym (ap (λ b. listed (drop (read + 1) shorts) (behind_names b lists)) none))
+  first_plain none e after is rest = grind (arith, first_taken)
 
   pub behind_plain : s.has_names ≡ false → AreNamed (drop (read + 1) shorts) lists
   behind_plain none = subst (λ b. AreNamed (drop (read + 1) shorts) (behind_names b lists)) none behind_named
@@ -133,9 +105,7 @@ last_piece [] k d q e last is = absurd (omega (arith, last))
 last_piece (p ∷ []) zero d q e last is = append-nil q ∙ (is ∙ ap (λ (w : List Event). w ++ e ∷ []) (sym (append-nil p)))
 last_piece (p ∷ []) (suc k) d q e last is = absurd (omega (arith, last))
 last_piece (p ∷ o ∷ pieces) zero d q e last is = absurd (omega (arith, last))
-last_piece (p ∷ o ∷ pieces) (suc k) d q e last is =
-    ap (λ (w : List Event). p ++ w) (last_piece (o ∷ pieces) k d q e (omega (arith, last)) is)
-    ∙ sym (append_assoc p (waiting_in (o ∷ pieces)) (e ∷ []))
+last_piece (p ∷ o ∷ pieces) (suc k) d q e last is = grind (arith, append_assoc, last_piece (o ∷ pieces) k d q e (omega (arith, last)) is)
 
 -- the first record of the first piece that has one is the first of all
 pub first_piece : (pieces : List (List Event)) (k : ℕ) (d q : List Event) (e : Event) → k < length pieces → ((j : ℕ) → j < k → get_or pieces j [] ≡ []) → get_or pieces k d ≡ e ∷ q → waiting_in pieces ≡ e ∷ waiting_in (set pieces k q)
@@ -156,20 +126,12 @@ nothing_in (p ∷ pieces) (suc k) le read =
 
 -- the pieces of a backlog, where one without records may have been added behind them
 pub pieces_grow : (old new : List (List Event)) (first : ℕ) → ArePieces old first → (new ≡ old) ⊎ (new ≡ old ++ [] ∷ []) → ArePieces new first
-pieces_grow old new first are (inl same) = subst (λ (ps : List (List Event)). ArePieces ps first) (sym same) are
-pieces_grow old new first are (inr more) = subst (λ (ps : List (List Event)). ArePieces ps first) (sym more) (record {
-  below = omega (arith, are.below, length-append old ([] ∷ []));
-  read = λ k lt. get_or_append_left old ([] ∷ []) [] k (omega (arith, lt, are.below)) ∙ are.read k lt;
-})
+pieces_grow old new first are grown = grind (arith, get_or_append_left, length-append)
 
 -- and nothing else waits then
 pub waiting_grows : (old new : List (List Event)) → (new ≡ old) ⊎ (new ≡ old ++ [] ∷ []) → waiting_in new ≡ waiting_in old
-waiting_grows old new (inl same) = ap (λ (ps : List (List Event)). waiting_in ps) same
-waiting_grows old new (inr more) = ap (λ (ps : List (List Event)). waiting_in ps) more ∙ empty_piece old
+waiting_grows old new grown = grind (arith, empty_piece)
 
 -- the pieces, where one is written that is read next or behind it
 pub piece_written : (ps : List (List Event)) (first k next : ℕ) (q : List Event) → ArePieces ps first → k < length ps → next ≤ first → next ≤ k → ArePieces (set ps k q) next
-piece_written ps first k next q are lt less le = record {
-  below = omega (arith, length-set ps k q, less, are.below);
-  read = λ j before. get_or-set_other ps k j q [] (λ equal. omega (arith, equal, before, le)) ∙ are.read j (omega (arith, before, less));
-}
+piece_written ps first k next q are lt less le = grind (arith, length-set, get_or-set_other)

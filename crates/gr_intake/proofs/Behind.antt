@@ -1,8 +1,8 @@
 -- What the bytes behind those that were read add: a header, a record, and bytes that are no whole one.
-use Rattle.std.proofs.Common.{◌≡◌, ℕ, zero, suc, ◌+◌, ◌-◌, ◌<◌, ◌≤◌, Bool, true, false, cond, List, [], ◌∷◌, ◌++◌, length, take, drop, Option, Some, None, Result, Ok, Err, refl, sym, ap, ◌∙◌, subst, arith, inl, inr, ltb, append-nil, append_assoc, eqb-true, ◌≢◌}
+use Rattle.std.proofs.Common.{◌≡◌, ℕ, zero, suc, ◌+◌, ◌-◌, ◌<◌, ◌≤◌, Bool, true, false, cond, List, [], ◌∷◌, ◌++◌, length, take, drop, Option, Some, None, Result, Ok, Err, refl, sym, ap, ◌∙◌, subst, arith, inl, inr, append-nil, append_assoc, eqb-true, ◌≢◌}
 use Rattle.std.specs.Prelude.{not, ◌==◌}
 use Rattle.std.specs.List.{list_any}
-use Rattle.std.proofs.lemmas.Bool.{cases_lt, eqb-false, le-ltb, lt-ltb, ltb-false, ne_eqb}
+use Rattle.std.proofs.lemmas.Bool.{cases_lt, eqb-false, le-ltb, lt-ltb, ne_eqb}
 use Rattle.std.proofs.lemmas.List.{drop_at, length-append, length-drop, take-append-drop, take_at}
 use Rattle.gr_model.specs.declared.event.Event.{Event}
 use Rattle.gr_model.specs.declared.limits.TheConstants.{MOST_RECORDS}
@@ -15,7 +15,6 @@ use Rattle.gr_record.specs.declared.header.Header.{Header}
 use Rattle.gr_record.specs.declared.header.Version.{Version}
 use Rattle.gr_record.specs.declared.layout.TheConstants.{HEADER_LENGTH}
 use Rattle.gr_record.specs.declared.stop.Stop.{Stop}
-use Rattle.gr_record.specs.declared.stop.Stop.TheVariants.{AtEnd, AtFault, Inside}
 use Rattle.gr_record.specs.Fronts.{Records, behind, records_at, records_of, step}
 use Rattle.gr_record.specs.Reading as reading_spec
 use Rattle.gr_record.specs.Reading.{event_at, header_at}
@@ -56,12 +55,7 @@ module _ (unit rest : List ℕ) (all : length unit ≡ HEADER_LENGTH) where
 
 module _ (size : ℕ) (read : List ℕ → Result Event RecordError) where
   step_rest : (r : Result Event RecordError) (bytes : List ℕ) (next : Records) → length next.rest ≤ length bytes → length (step size r bytes next).rest ≤ length bytes
-  step_rest (Err e) bytes next le = omega arith
-  step_rest (Ok e) bytes next le = by_end (is_end e)
-    where
-      by_end : (b : Bool) → length (cond b (record { events = e ∷ []; rest = drop size bytes; stop = AtEnd }) (behind e next)).rest ≤ length bytes
-      by_end true = omega (arith, length-drop size bytes)
-      by_end false = le
+  step_rest r bytes next le = grind (arith, length-drop)
 
   rest_no_longer : (most : ℕ) (bytes : List ℕ) → length (records_at size read most bytes).rest ≤ length bytes
   unfolding records_at
@@ -74,16 +68,11 @@ module _ (size : ℕ) (read : List ℕ → Result Event RecordError) where
       ]
 
 up_to_rest : (s : Stop) (events : List Event) (rest : List ℕ) (x : List Event × List ℕ) → up_to s events rest ≡ Ok x → x.1 ≡ rest
-up_to_rest AtEnd events rest x is = ap (λ y. y.1) (sym (same_done {X = List Event × List ℕ} (events, rest) x is))
-up_to_rest Inside events rest x is = absurd cc
-up_to_rest (AtFault e) events rest x is = absurd cc
+up_to_rest s events rest x is = grind arith
 
 records_shorter : (h : Header) (bytes : List ℕ) (x : List Event × List ℕ) → front_records_at h bytes ≡ Ok x → length x.1 ≤ length bytes
 unfolding front_records_at
-records_shorter h bytes x is =
-    let r = records_of h MOST_RECORDS bytes in
-    let same = up_to_rest r.stop r.events r.rest x is in
-    omega (arith, ap length same, rest_no_longer (record_length h.version) (event_at h) MOST_RECORDS bytes)
+records_shorter h bytes x is = grind (arith, up_to_rest, rest_no_longer)
 
 -- ---- the bound of how many streams may follow
 
@@ -97,9 +86,7 @@ module _ (seen : List Flat) (bytes : List ℕ) where
   by_records : (h : Header) (middle : List ℕ) → length middle < length bytes → (r : Result (List Event × List ℕ) RecordError) → front_records_at h middle ≡ r
       → Shorter (joined_spec.◌>>=◌ {Y = Flat × List ℕ} (at_place (length seen) r) (λ x. Ok (record { header = h; events = x.0 }, x.1)))
   by_records h middle less (Err d) is f rest k = absurd cc
-  by_records h middle less (Ok x) is f rest k =
-      let same : x.1 ≡ rest = ap (λ y. y.1) (same_found (record { header = h; events = x.0 }, x.1) (f, rest) k) in
-      omega (arith, less, records_shorter h middle x is, ap length same)
+  by_records h middle less (Ok x) is f rest k = grind (arith, same_found, records_shorter)
 
   by_seen : (h : Header) (middle : List ℕ) → length middle < length bytes → (a b : Bool)
       → Shorter (cond a (Err (faults.SameGroup (length seen))) (cond b (Err (faults.OtherLaunch (length seen))) (joined_spec.◌>>=◌ {Y = Flat × List ℕ} (at_place (length seen) (front_records_at h middle)) (λ x. Ok (record { header = h; events = x.0 }, x.1)))))
@@ -118,15 +105,7 @@ module _ (seen : List Flat) (bytes : List ℕ) where
 
 header_shorter : (bytes : List ℕ) (x : Header × List ℕ) → front_header_at bytes ≡ Ok x → length x.1 < length bytes
 unfolding front_header_at
-header_shorter bytes x is = by_length (ltb (length bytes) HEADER_LENGTH) refl is
-  where
-    by_read : HEADER_LENGTH ≤ length bytes → (r : Result Header RecordError) → record_spec.◌>>=◌ {Y = Header × List ℕ} r (λ h. Ok (h, drop HEADER_LENGTH bytes)) ≡ Ok x → length x.1 < length bytes
-    by_read long (Err e) k = absurd cc
-    by_read long (Ok h) k = let same : drop HEADER_LENGTH bytes ≡ x.1 = ap (λ y. y.1) (same_done {X = Header × List ℕ} (h, drop HEADER_LENGTH bytes) x k) in omega (arith, long, length-drop HEADER_LENGTH bytes, ap length same)
-
-    by_length : (b : Bool) → ltb (length bytes) HEADER_LENGTH ≡ b → cond b (Err errors.Truncated) (record_spec.◌>>=◌ {Y = Header × List ℕ} (header_at bytes) (λ h. Ok (h, drop HEADER_LENGTH bytes))) ≡ Ok x → length x.1 < length bytes
-    by_length true e k = absurd cc
-    by_length false e k = by_read (ltb-false (length bytes) HEADER_LENGTH e) (header_at bytes) k
+header_shorter bytes x is = grind arith
 
 stream_shorter : (seen : List Flat) (bytes : List ℕ) → Shorter seen bytes (stream_at seen bytes)
 unfolding stream_at
@@ -187,16 +166,12 @@ module _ (seen : List Flat) (unit rest : List ℕ) (all : length unit ≡ HEADER
 
     pub same_group_refused : list_any (λ s. s.header.group == h.group) seen ≡ true → read_behind seen None (unit ++ rest) ≡ Err (faults.SameGroup (length seen))
     unfolding stream_at
-    same_group_refused t =
-        let stream : stream_at seen (unit ++ rest) ≡ Err (faults.SameGroup (length seen)) = rw (front, t) refl in
-        one_bound some_bound.0 some_bound.1 ∙ rw stream refl
+    same_group_refused t = grind (arith, front, one_bound some_bound.0 some_bound.1, some_bound)
 
     module _ (fresh : list_any (λ s. s.header.group == h.group) seen ≡ false) where
       pub other_launch_refused : list_any (λ s. not (s.header.launch == h.launch)) seen ≡ true → read_behind seen None (unit ++ rest) ≡ Err (faults.OtherLaunch (length seen))
       unfolding stream_at
-      other_launch_refused t =
-          let stream : stream_at seen (unit ++ rest) ≡ Err (faults.OtherLaunch (length seen)) = rw (front, fresh, t) refl in
-          one_bound some_bound.0 some_bound.1 ∙ rw stream refl
+      other_launch_refused t = grind (arith, front, one_bound some_bound.0 some_bound.1, some_bound)
 
       abbrev ends : Result (List Event × List ℕ) RecordError → Result (List Flat) Fault
       ends x = joined_spec.◌>>=◌ {Y = List Flat} (at_place (length seen) x) (λ r. joined_at (length r.1) (seen ++ record { header = h; events = r.0 } ∷ []) r.1)
@@ -211,10 +186,7 @@ module _ (seen : List Flat) (unit rest : List ℕ) (all : length unit ≡ HEADER
           by_records_read : (x : Result (List Event × List ℕ) RecordError) → front_records_at h rest ≡ x
               → joined_spec.◌>>=◌ {Y = List Flat} (joined_spec.◌>>=◌ {Y = Flat × List ℕ} (at_place (length seen) x) (λ r. Ok (record { header = h; events = r.0 }, r.1))) (with_stream some_bound.0 seen)
               ≡ ends (whole (behind_events [] (records_of h (MOST_RECORDS - 0) rest)))
-          by_records_read (Err e) k = ap ends (sym k ∙ whole_is h rest)
-          by_records_read (Ok (events, after)) k =
-              let less = records_shorter h rest (events, after) k in
-              same_bound some_bound.0 (length after) (seen ++ record { header = h; events = events } ∷ []) after (omega (arith, less, some_bound.2)) (omega arith) ∙ ap ends (sym k ∙ whole_is h rest)
+          by_records_read x k = grind (arith, records_shorter, same_bound, some_bound, whole_is)
 
 -- bytes that are no whole header
 pub nothing_follows : (seen : List Flat) → read_behind seen None [] ≡ Ok seen
@@ -290,34 +262,15 @@ module _ (unit : List ℕ) (all : length unit ≡ HEADER_LENGTH) where
   front_alone = ap front_header_at (sym (append-nil unit)) ∙ front_of_unit unit [] all
 
   pub header_found : (h : Header) (rest : List ℕ) → front_header_at unit ≡ Ok (h, rest) → header_at unit ≡ Ok h
-  header_found h rest is = by_read (header_at unit) (sym front_alone ∙ is)
-    where
-      by_read : (r : Result Header RecordError) → record_spec.◌>>=◌ {Y = Header × List ℕ} r (λ x. Ok (x, [])) ≡ Ok (h, rest) → r ≡ Ok h
-      by_read (Err e) k = absurd cc
-      by_read (Ok x) k = ap (λ y. Ok y) (ap (λ y. y.0) (same_done {X = Header × List ℕ} (x, []) (h, rest) k))
+  header_found h rest is = grind (arith, front_alone, same_done)
 
   pub header_failed : (e : RecordError) → front_header_at unit ≡ Err e → header_at unit ≡ Err e
-  header_failed e is = by_read (header_at unit) (sym front_alone ∙ is)
-    where
-      by_read : (r : Result Header RecordError) → record_spec.◌>>=◌ {Y = Header × List ℕ} r (λ x. Ok (x, [])) ≡ Err e → r ≡ Err e
-      by_read (Err d) k = cc
-      by_read (Ok x) k = absurd cc
+  header_failed e is = grind (arith, front_alone)
 
 -- ---- what the next record says
 
 pub next_found : (h : Header) (n : ℕ) (unit : List ℕ) (e : Event) → next_event_at h n unit ≡ Ok e → (n ≢ MOST_RECORDS) × (event_at h unit ≡ Ok e)
-next_found h n unit e is = by_count (n == MOST_RECORDS) refl is
-  where
-    by_count : (b : Bool) → (n == MOST_RECORDS) ≡ b → cond b (Err errors.TooManyRecords) (event_at h unit) ≡ Ok e → (n ≢ MOST_RECORDS) × (event_at h unit ≡ Ok e)
-    by_count true k found = absurd cc
-    by_count false k found = (eqb-false n MOST_RECORDS k, found)
+next_found h n unit e is = grind (arith, eqb-false)
 
 pub next_failed : (seen : List Flat) (f : Flat) (unit rest : List ℕ) (d : RecordError) → length unit ≡ record_length f.header.version → length f.events ≤ MOST_RECORDS → next_event_at f.header (length f.events) unit ≡ Err d → read_behind seen (Some f) (unit ++ rest) ≡ Err (faults.Stream (length seen) d)
-next_failed seen f unit rest d all few is = by_count (length f.events == MOST_RECORDS) refl is
-  where
-    by_count : (b : Bool) → (length f.events == MOST_RECORDS) ≡ b → cond b (Err errors.TooManyRecords) (event_at f.header unit) ≡ Err d → read_behind seen (Some f) (unit ++ rest) ≡ Err (faults.Stream (length seen) d)
-    by_count true k failed =
-        let full : MOST_RECORDS ≤ length f.events = omega (arith, eqb-true (length f.events) MOST_RECORDS k) in
-        let same : errors.TooManyRecords ≡ d = cc in
-        too_many seen f unit rest all full ∙ ap (λ (x : RecordError). Err (faults.Stream (length seen) x)) same
-    by_count false k failed = record_refused seen f unit rest all (let other = eqb-false (length f.events) MOST_RECORDS k in omega (arith, other, few)) d failed
+next_failed seen f unit rest d all few is = grind (arith, eqb-false, eqb-true, record_refused, too_many)

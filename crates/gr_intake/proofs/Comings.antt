@@ -1,10 +1,11 @@
 -- Streams as far as they have come, where a stream begins, a record comes, and a stream ends.
-use Rattle.std.proofs.Common.{◌≡◌, ◌≢◌, ◌⊎◌, ℕ, zero, suc, ◌+◌, ◌*◌, ◌<◌, ◌≤◌, Bool, true, false, true≢false, List, [], ◌∷◌, ◌++◌, length, slice_index, sum, All, Contains, Option, Some, None, Ok, Err, refl, sym, ap, ◌∙◌, subst, arith, inl, inr, ⊎_elim, append-nil, append_assoc}
+use Rattle.std.proofs.Common.{◌≡◌, ◌≢◌, ◌⊎◌, ℕ, zero, suc, ◌+◌, ◌<◌, ◌≤◌, Bool, true, false, List, [], ◌∷◌, ◌++◌, length, slice_index, Contains, Option, Some, None, Ok, Err, refl, sym, ap, ◌∙◌, subst, arith, ⊎_elim, append-nil, append_assoc}
 use Rattle.std.specs.Prelude.{not, ◌==◌, ◌||◌, option_map}
 use Rattle.std.specs.List.{list_any}
 use Rattle.std.proofs.lemmas.Bool.{cases_lt, eqb-false, or_parts}
-use Rattle.std.proofs.lemmas.List.{get_or-set_other, get_or-set_same, get_or_append_left, length-append, map-append}
-use Rattle.std.proofs.lemmas.List.Sums.{sum_by-cons}
+use Rattle.std.proofs.lemmas.List.{get_or-set_other, get_or-set_same, length-append, map-append}
+use Rattle.std.proofs.lemmas.List.Elements.{Contains-append_left, Contains-push, Contains-push_cases}
+use Rattle.std.proofs.lemmas.List.Sums.{sum_by-le}
 use Rattle.gr_model.specs.declared.event.Event.{Event}
 use Rattle.gr_model.specs.declared.limits.TheConstants.{MOST_ITEMS_OF_A_GROUP, MOST_RECORDS}
 use Rattle.gr_model.specs.Events.{IsEventOk, is_end}
@@ -21,7 +22,7 @@ use Rattle.gr_shadow.specs.Launches.{LaunchKept}
 use Rattle.gr_shadow.specs.Launches.{StandsForLaunch}
 use Rattle.gr_model.proofs.PutLemmas.{all_put, length_put, put_other, put_same, sum_put}
 use Rattle.gr_closure.specs.AccessesAlong.AreAccesses.{of_none}
-use Rattle.gr_lanes.specs.Takes.{CanTake, nothing_taken, with_record}
+use Rattle.gr_lanes.specs.Takes.{CanTake, with_record}
 use Rattle.gr_record.proofs.Places.{header_group, header_items}
 use Rattle.gr_record.specs.declared.error.RecordError.TheVariants.{Truncated}
 use Rattle.gr_record.specs.declared.fault.Fault.TheVariants as faults
@@ -54,15 +55,10 @@ apart_of g (c ∷ cs) none = let parts = or_parts (c.header.group == g) (list_an
 
 pub come_stays : (s t : Streams) (g : ℕ) (cs : List Coming) → Apart g cs → ((h : ℕ) → h ≢ g → list_of t h ≡ list_of s h) → come t cs ≡ come s cs
 come_stays s t g [] apart same = refl
-come_stays s t g (c ∷ cs) apart same =
-    let one : come_of t c ≡ come_of s c = ap (λ (list : List Event). record { header = c.header; events = list ++ c.waiting }) (same c.header.group apart.0) in
-    ap (λ (f : Flat). f ∷ come t cs) one ∙ ap (λ (fs : List Flat). come_of s c ∷ fs) (come_stays s t g cs apart.1 same)
+come_stays s t g (c ∷ cs) apart same = grind (arith, come_stays s t g cs apart.1 same)
 
 pub come_as_before : (s t : Streams) (cs : List Coming) → ((h : ℕ) → list_of t h ≡ list_of s h) → come t cs ≡ come s cs
-come_as_before s t [] same = refl
-come_as_before s t (c ∷ cs) same =
-    let one : come_of t c ≡ come_of s c = ap (λ (list : List Event). record { header = c.header; events = list ++ c.waiting }) (same c.header.group) in
-    ap (λ (f : Flat). f ∷ come t cs) one ∙ ap (λ (fs : List Flat). come_of s c ∷ fs) (come_as_before s t cs same)
+come_as_before s t cs same = grind arith
 
 -- what is asked of the headers is asked of the streams as they have come
 pub any_come : (test : Header → Bool) (s : Streams) (cs : List Coming) → list_any (λ f. test f.header) (come s cs) ≡ list_any (λ c. test c.header) cs
@@ -70,29 +66,6 @@ any_come test s [] = refl
 any_come test s (c ∷ cs) = ap (λ b. test c.header || b) (any_come test s cs)
 
 -- ---- headers
-
-contains_first : {X : Type 0} (x : X) (xs : List X) → Contains (x ∷ xs) x
-contains_first x xs = (0, omega arith, refl)
-
-contains_behind : {X : Type 0} (x y : X) (xs : List X) → Contains xs y → Contains (x ∷ xs) y
-contains_behind x y xs has = (suc has.0, omega (arith, has.1), has.2)
-
-pub contains_left : {X : Type 0} (xs ys : List X) (y : X) → Contains xs y → Contains (xs ++ ys) y
-contains_left xs ys y has = (has.0, omega (arith, has.1, length-append xs ys), get_or_append_left xs ys y has.0 has.1 ∙ has.2)
-
-pub contains_last : {X : Type 0} (xs : List X) (y : X) → Contains (xs ++ y ∷ []) y
-contains_last [] y = contains_first y []
-contains_last (x ∷ xs) y = contains_behind x y (xs ++ y ∷ []) (contains_last xs y)
-
-pub contains_push : {X : Type 0} (xs : List X) (x y : X) → Contains (xs ++ x ∷ []) y → Contains xs y ⊎ (x ≡ y)
-contains_push [] x y (zero, lt, is) = inr is
-contains_push [] x y (suc k, lt, is) = absurd (omega (arith, lt))
-contains_push (z ∷ xs) x y (zero, lt, is) = inl (0, omega arith, is)
-contains_push (z ∷ xs) x y (suc k, lt, is) =
-    ⊎_elim
-    (λ has. inl (contains_behind z y xs has))
-    (λ same. inr same)
-    (contains_push xs x y (k, omega (arith, lt), is))
 
 pub headers_push : (cs : List Coming) (c : Coming) → headers_of (cs ++ c ∷ []) ≡ headers_of cs ++ c.header ∷ []
 headers_push cs c = map-append (λ (x : Coming). x.header) cs (c ∷ [])
@@ -103,14 +76,6 @@ apart_headers g (c ∷ cs) apart h (zero, lt, is) = λ same. apart.0 (ap (λ (x 
 apart_headers g (c ∷ cs) apart h (suc k, lt, is) = apart_headers g cs apart.1 h (k, omega (arith, lt), is)
 
 -- ---- a stream begins
-
-sum_bound : (xs : List ℕ) → All (λ n. n ≤ MOST_ITEMS_OF_A_GROUP) xs → sum xs ≤ MOST_ITEMS_OF_A_GROUP * length xs
-sum_bound [] all = omega arith
-sum_bound (x ∷ xs) all =
-    let first : x ≤ MOST_ITEMS_OF_A_GROUP = all 0 0 (omega arith) in
-    let rest = sum_bound xs (λ k d lt. all (suc k) d (omega (arith, lt))) in
-    let more : sum (x ∷ xs) ≡ x + sum xs = sum_by-cons (λ (m : ℕ). m) x xs in
-    omega (arith, first, rest, more)
 
 module _ (s : Streams) (cs : List Coming) (h : Header) (groups : AreGroupsOf s.sizes (headers_of cs)) (apart : Apart h.group cs) (is : IsHeader h) where
   none_there : size_of s h.group ≡ 0
@@ -123,7 +88,7 @@ module _ (s : Streams) (cs : List Coming) (h : Header) (groups : AreGroupsOf s.s
     size = (is.some, header_items h is);
     total =
         let sizes = put 0 s.sizes h.group h.items in
-        let bound = sum_bound sizes (all_put (λ n. n ≤ MOST_ITEMS_OF_A_GROUP) s.sizes h.group h.items (omega arith) (header_items h is) part.each) in
+        let bound = sum_by-le (λ (n : ℕ). n) MOST_ITEMS_OF_A_GROUP sizes (all_put (λ n. n ≤ MOST_ITEMS_OF_A_GROUP) s.sizes h.group h.items (omega arith) (header_items h is) part.each) in
         omega (arith, bound, sum_put s.sizes h.group h.items none_there, length_put 0 s.sizes h.group h.items, part.groups, header_group h is);
   }
 
@@ -136,14 +101,14 @@ module _ (s : Streams) (cs : List Coming) (h : Header) (groups : AreGroupsOf s.s
             let old = groups.there x was in
             (omega (arith, count, old.0), put_other 0 s.sizes h.group h.items x.group (apart_headers h.group cs apart x was) ∙ old.1))
             (λ (same : h ≡ x). subst (λ (y : Header). (y.group < length (put 0 s.sizes h.group h.items)) × (slice_index (put 0 s.sizes h.group h.items) y.group ≡ y.items)) same (omega (arith, count), put_same 0 s.sizes h.group h.items))
-            (contains_push (headers_of cs) h x has);
+            (Contains-push_cases (headers_of cs) h x has);
         top = λ g lt. ⊎_elim
-            (λ (within : g < length s.sizes). let old = groups.top g within in (old.0, contains_left (headers_of cs) (h ∷ []) old.0 old.1, old.2))
-            (λ (past : length s.sizes ≤ g). (h, contains_last (headers_of cs) h, omega (arith, past, lt, count)))
+            (λ (within : g < length s.sizes). let old = groups.top g within in (old.0, Contains-append_left (headers_of cs) (h ∷ []) old.0 old.1, old.2))
+            (λ (past : length s.sizes ≤ g). (h, Contains-push (headers_of cs) h, omega (arith, past, lt, count)))
             (cases_lt g (length s.sizes));
         others = λ g other.
-            let apart_now : g ≢ h.group = λ same. other h (contains_last (headers_of cs) h) (sym same) in
-            put_other 0 s.sizes h.group h.items g apart_now ∙ groups.others g (λ x was. other x (contains_left (headers_of cs) (h ∷ []) x was));
+            let apart_now : g ≢ h.group = λ same. other h (Contains-push (headers_of cs) h) (sym same) in
+            put_other 0 s.sizes h.group h.items g apart_now ∙ groups.others g (λ x was. other x (Contains-append_left (headers_of cs) (h ∷ []) x was));
       }
 
 -- ---- a record comes
@@ -163,11 +128,7 @@ open_left items (x ∷ es) more goes = (goes.0, open_left items es more goes.1)
 
 -- a record may be taken behind records without an end
 pub can_take_open : (s : Streams) (g items : ℕ) (more : List Event) (e : Event) → g < length s.sizes → size_of s g ≡ items → AreOpen items (list_of s g ++ more) → IsEventOk e items → CanTake s g e
-can_take_open s g items more e there size goes ok = record {
-  group = there;
-  before_end = λ ended. true≢false (let t : is_complete (list_of s g) ≡ true = ended in sym t ∙ open_not_complete items (list_of s g) (open_left items (list_of s g) more goes));
-  item = subst (λ n. e.item < n) (sym size) ok.0;
-}
+can_take_open s g items more e there size goes ok = grind (arith, open_left, open_not_complete)
 
 closed_read : (items : ℕ) (es : List Event) (e : Event) → AreOpen items es → IsEventOk e items → is_end e ≡ true → AreRead items (suc (length es)) (es ++ e ∷ [])
 closed_read items [] e goes ok end = one_end items 0 e ok end
@@ -180,21 +141,11 @@ stream_closes seen f e are next room ok end =
     with_one seen (with_event f e) are (record { few = omega (arith, read.few, room); good = read.good; ended = read.ended }) next.group next.launch
 
 pub next_goes_on : (seen : List Flat) (f : Flat) (e : Event) → IsNext seen f → length f.events < MOST_RECORDS → IsEventOk e f.header.items → is_end e ≡ false → IsNext seen (with_event f e)
-next_goes_on seen f e next room ok on = record {
-  header = next.header;
-  group = next.group;
-  launch = next.launch;
-  few = omega (arith, length-append f.events (e ∷ []), room);
-  events = open_push f.header.items f.events e next.events ok on;
-}
+next_goes_on seen f e next room ok on = grind (arith, length-append, open_push)
 
 -- a record is taken, or waits
 pub taken_comes : (s t : Streams) (c d : Coming) (e : Event) → c.header.group < length s.lists → t ≡ with_record s c.header.group e → c.waiting ≡ [] → d ≡ c → come_of t d ≡ with_event (come_of s c) e
-taken_comes s t c d e there is none same =
-    let list : list_of t c.header.group ≡ list_of s c.header.group ++ e ∷ [] = ap (λ (u : Streams). list_of u c.header.group) is ∙ get_or-set_same s.lists c.header.group (list_of s c.header.group ++ e ∷ []) [] there in
-    ap (come_of t) same
-    ∙ ap (λ (es : List Event). record { header = c.header; events = es })
-    (ap (λ (w : List Event). list_of t c.header.group ++ w) none ∙ (append-nil (list_of t c.header.group) ∙ (list ∙ ap (λ (w : List Event). w ++ e ∷ []) (sym (ap (λ (w : List Event). list_of s c.header.group ++ w) none ∙ append-nil (list_of s c.header.group))))))
+taken_comes s t c d e there is none same = grind (arith, append-nil, get_or-set_same)
 
 pub waiting_comes : (s : Streams) (c d : Coming) (e : Event) → d ≡ record { header = c.header; waiting = c.waiting ++ e ∷ [] } → come_of s d ≡ with_event (come_of s c) e
 waiting_comes s c d e is = ap (come_of s) is ∙ ap (λ (es : List Event). record { header = c.header; events = es }) (sym (append_assoc (list_of s c.header.group) c.waiting (e ∷ [])))
@@ -208,10 +159,7 @@ one_more_counts f g e n count is = omega (arith, count, ap (λ (x : Flat). lengt
 -- ---- nothing was read
 
 no_sequence : IsSequence (nothing [])
-no_sequence = record {
-  prefixes = record { shape = part_of_none; count = refl; each = λ g within. absurd (omega (arith, within)) };
-  lawful = lawful_empty (nothing_taken []);
-}
+no_sequence = grind (arith, lawful_empty, part_of_none)
 
 pub nothing_is_read : (q : Sequence) (kept : LaunchKept) (cs : List Coming) → q ≡ nothing [] → StandsForLaunch [] kept → cs ≡ [] → IsRead q kept cs None
 nothing_is_read q kept cs is stands none =
@@ -236,10 +184,8 @@ module _ (q : Sequence) (kept : LaunchKept) (cs : List Coming) (h : Header) (rea
   may_come = can_begin q.taken cs h (groups_are q.taken cs read.groups) apart is read.sequence.prefixes.shape
 
   begun_sequence : IsSequence (orders.with_group q h.group h.items)
-  begun_sequence = record {
-    prefixes = prefixes_with_group q.taken h.group h.items read.sequence.prefixes may_come;
-    lawful = lawful_grows q.taken (with_group q.taken h.group h.items) (group_grows q.taken h.group h.items read.sequence.prefixes may_come) q.handled read.sequence.lawful;
-  }
+  begun_sequence =
+      grind (arith, prefixes_with_group q.taken h.group h.items read.sequence.prefixes may_come, lawful_grows q.taken (with_group q.taken h.group h.items) (group_grows q.taken h.group h.items read.sequence.prefixes may_come) q.handled read.sequence.lawful, group_grows q.taken h.group h.items read.sequence.prefixes may_come, may_come)
 
   -- the streams that came whole are as they were
   pub whole_stay : come (orders.with_group q h.group h.items).taken cs ≡ come q.taken cs
@@ -248,8 +194,7 @@ module _ (q : Sequence) (kept : LaunchKept) (cs : List Coming) (h : Header) (rea
   -- nothing has come of the new one
   pub none_come : come_of (orders.with_group q h.group h.items).taken (record { header = h; waiting = [] }) ≡ record { header = h; events = [] }
   none_come =
-      ap (λ (es : List Event). record { header = h; events = es })
-      (append-nil (list_of (with_group q.taken h.group h.items) h.group) ∙ (list_stays q.taken h.group h.items h.group ∙ nothing_came q.taken h.group h.items read.sequence.prefixes may_come))
+      grind (arith, append-nil (list_of (with_group q.taken h.group h.items) h.group), list_stays q.taken h.group h.items h.group, nothing_came q.taken h.group h.items read.sequence.prefixes may_come, may_come)
 
   pub begins : list_any (λ f. f.header.group == h.group) (come q.taken cs) ≡ false → list_any (λ f. not (f.header.launch == h.launch)) (come q.taken cs) ≡ false → IsRead (orders.with_group q h.group h.items) kept cs (Some (record { header = h; waiting = [] }))
   begins group launch = record {
@@ -305,32 +250,19 @@ module _ (q new : Sequence) (kept after : LaunchKept) (cs : List Coming) (c d : 
   whole_stay_so = come_stays q.taken new.taken c.header.group cs (apart_from q.taken c.header.group cs read.next.group) others
 
   groups_stay : AreGroupsOf new.taken.sizes (headers_of (cs ++ d ∷ []))
-  groups_stay =
-      let headers : headers_of (cs ++ d ∷ []) ≡ headers_of (cs ++ c ∷ []) = headers_push cs d ∙ (ap (λ (h : Header). headers_of cs ++ h ∷ []) same_header ∙ sym (headers_push cs c)) in
-      subst (λ (hs : List Header). AreGroupsOf new.taken.sizes hs) (sym headers) (subst (λ (ns : List ℕ). AreGroupsOf ns (headers_of (cs ++ c ∷ []))) (sym sizes) read.groups)
+  groups_stay = grind (arith, headers_push, same_header)
 
   -- it goes on behind another record than an end
   pub goes_further : is_end e ≡ false → IsRead new after cs (Some d)
-  goes_further on = record {
-    sequence = sequence;
-    shadows = shadows;
-    streams = subst AreStreams (sym whole_stay_so) read.streams;
-    groups = groups_stay;
-    next = subst (λ (f : Flat). IsNext (come new.taken cs) f) (sym came) (subst (λ (seen : List Flat). IsNext seen (with_event (come_of q.taken c) e)) (sym whole_stay_so) (next_goes_on (come q.taken cs) (come_of q.taken c) e read.next room ok on));
-  }
+  goes_further on = grind (arith, whole_stay_so, groups_stay, next_goes_on (come q.taken cs) (come_of q.taken c) e read.next room ok on)
 
   -- the streams that came whole behind an end
   pub whole_closes : come new.taken (cs ++ d ∷ []) ≡ come q.taken cs ++ with_event (come_of q.taken c) e ∷ []
   whole_closes = map-append (come_of new.taken) cs (d ∷ []) ∙ (ap (λ (fs : List Flat). fs ++ come_of new.taken d ∷ []) whole_stay_so ∙ ap (λ (f : Flat). come q.taken cs ++ f ∷ []) came)
 
   pub closes : is_end e ≡ true → IsRead new after (cs ++ d ∷ []) None
-  closes end = record {
-    sequence = sequence;
-    shadows = shadows;
-    streams = subst AreStreams (sym whole_closes) (stream_closes (come q.taken cs) (come_of q.taken c) e read.streams read.next room ok end);
-    groups = subst (λ (xs : List Coming). AreGroupsOf new.taken.sizes (headers_of xs)) (sym (append-nil (cs ++ d ∷ []))) groups_stay;
-    next = tt;
-  }
+  closes end =
+      grind (arith, whole_closes, stream_closes (come q.taken cs) (come_of q.taken c) e read.streams read.next room ok end, append-nil (cs ++ d ∷ []), groups_stay)
 
 -- ---- one reading behind another
 
@@ -338,8 +270,4 @@ pub stays_put : {Z : Type 0} (i : Intake Z) (bytes : List ℕ) → IsIntake i �
 stays_put i bytes is = record { intake = is; goes = λ more. refl; left = ([], refl) }
 
 pub moves_on : {Z : Type 0} (i j k : Intake Z) (a b c : List ℕ) → Moves i a j b → Moves j b k c → Moves i a k c
-moves_on i j k a b c first then = record {
-  intake = then.intake;
-  goes = λ more. first.goes more ∙ then.goes more;
-  left = (first.left.0 ++ then.left.0, first.left.1 ∙ (ap (λ (x : List ℕ). first.left.0 ++ x) then.left.1 ∙ sym (append_assoc first.left.0 then.left.0 c)));
-}
+moves_on i j k a b c first then = grind (arith, append_assoc first.left.0 then.left.0 c)

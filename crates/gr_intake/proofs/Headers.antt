@@ -1,5 +1,5 @@
 -- Whether a group has come, and of which launch the streams are, without a look at each stream.
-use Rattle.std.proofs.Common.{◌≡◌, ℕ, suc, ◌<◌, Bool, true, false, None, Some, slice_get, List, [], ◌∷◌, ◌++◌, append-nil, All, AllPairs, Contains, get_or, length, sym, ap, ◌∙◌, subst, refl, arith, inl, inr}
+use Rattle.std.proofs.Common.{◌≡◌, ℕ, suc, ◌<◌, true, false, None, Some, slice_get, List, [], ◌∷◌, ◌++◌, append-nil, All, AllPairs, Contains, length, sym, ap, ◌∙◌, subst, refl, arith, inl, inr}
 use Rattle.std.specs.Prelude.{not, ◌==◌}
 use Rattle.std.specs.List.{list_any}
 use Rattle.std.proofs.lemmas.Bool.{cases_Bool, eq-eqb, eqb-true, ne_eqb}
@@ -9,7 +9,6 @@ use Rattle.gr_model.specs.Streams.{Streams, size_of}
 use Rattle.gr_record.specs.declared.header.Header.{Header}
 use Rattle.gr_intake.specs.Waiting.{Coming}
 use Rattle.gr_intake.specs.Intakes.{AreGroupsOf, come, come_of, headers_of, list_in}
-use Rattle.gr_intake.specs.Joined.{Flat}
 use Rattle.gr_intake.specs.Laws.{AreStreams}
 use Rattle.gr_intake.proofs.Comings.{apart_headers, apart_of}
 use Rattle.gr_intake.proofs.Judged.{size_of_stream, stream_of_header}
@@ -52,9 +51,7 @@ AreOfOneLaunch cs = AllPairs (λ c d. c.header.launch ≡ d.header.launch) cs
 
 pub launches : (s : Streams) (cs : List Coming) → AreStreams (come s cs) → AreOfOneLaunch cs
 launches s cs are i j d lt within =
-    let first = get_or-map (come_of s) cs i d (come_of s d) (omega (arith, lt, within)) in
-    let second = get_or-map (come_of s) cs j d (come_of s d) within in
-    sym (ap (λ (f : Flat). f.header.launch) first) ∙ are.launch i j (come_of s d) lt (omega (arith, within, length-map cs (come_of s))) ∙ ap (λ (f : Flat). f.header.launch) second
+    grind (arith, get_or-map (come_of s) cs i d (come_of s d) (omega (arith, lt, within)), get_or-map (come_of s) cs j d (come_of s d) within, length-map cs (come_of s))
 
 none_other : (launch : ℕ) (cs : List Coming) → All (λ c. c.header.launch ≡ launch) cs → list_any (λ c. not (c.header.launch == launch)) cs ≡ false
 none_other launch [] same = refl
@@ -72,6 +69,4 @@ first_of_other launch c cs same =
 
 pub of_first : (launch : ℕ) (cs : List Coming) (c : Coming) → AreOfOneLaunch cs → slice_get cs 0 ≡ Some c → list_any (λ c. not (c.header.launch == launch)) cs ≡ not (c.header.launch == launch)
 of_first launch [] c same at = absurd cc
-of_first launch (d ∷ cs) c same at =
-    let is : d ≡ c = cc in
-    subst (λ (x : Coming). list_any (λ y. not (y.header.launch == launch)) (d ∷ cs) ≡ not (x.header.launch == launch)) is (first_of_other launch d cs same)
+of_first launch (d ∷ cs) c same at = grind (arith, first_of_other)

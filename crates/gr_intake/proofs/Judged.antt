@@ -1,11 +1,10 @@
 -- The launch whose streams have come, or why there is none: the sizes of its groups tell.
-use Rattle.std.proofs.Common.{◌≡◌, ◌≢◌, ◌⊎◌, ℕ, zero, suc, ◌+◌, ◌<◌, ◌≤◌, List, [], ◌∷◌, ◌++◌, length, map, get_or, slice_index, All, Contains, Option, Some, None, Result, Ok, Err, IsErrAnd, IfErr, refl, sym, ap, ◌∙◌, subst, arith, inl, inr, ⊎_elim, true≢false, eq-or-lt_of_le, append-nil}
+use Rattle.std.proofs.Common.{◌≡◌, ◌≢◌, ◌⊎◌, ℕ, zero, suc, ◌+◌, ◌<◌, List, [], ◌∷◌, ◌++◌, length, map, slice_index, All, Contains, Option, Some, None, refl, sym, ap, ◌∙◌, subst, arith, inl, inr, ⊎_elim, true≢false, append-nil}
 use Rattle.std.proofs.lemmas.Bool.{cases_eq}
 use Rattle.std.proofs.lemmas.Grind.{get_or_default_zero}
 use Rattle.std.proofs.lemmas.List.Elements.{All-contains}
 use Rattle.std.proofs.lemmas.Option.{slice_get-get_or}
 use Rattle.gr_model.specs.declared.event.Event.{Event}
-use Rattle.gr_model.specs.declared.shape.ShapeError.TheVariants.{BadItems, NoGroups, TooManyGroups, TooManyItems}
 use Rattle.gr_model.specs.Shapes.{IsPartOfShape, IsShape}
 use Rattle.gr_model.specs.Streams.{AreAccepted, IsAccepted, Streams, list_of, size_of}
 use Rattle.gr_record.specs.declared.fault.Fault.{Fault}
@@ -24,24 +23,9 @@ use Rattle.gr_intake.specs.Waiting.{Coming}
 abbrev pub AreSomeBelow : List ℕ → ℕ → Type 0
 AreSomeBelow sizes n = (k : ℕ) → k < n → slice_index sizes k ≢ 0
 
--- the same of one group more
-pub one_more_some : (sizes : List ℕ) (n : ℕ) → AreSomeBelow sizes n → slice_index sizes n ≢ 0 → AreSomeBelow sizes (n + 1)
-one_more_some sizes n below here k lt = ⊎_elim
-    (λ (same : k ≡ n). λ none. here (ap (slice_index sizes) (sym same) ∙ none))
-    (λ (before : k < n). below k before)
-    (eq-or-lt_of_le (let le : k ≤ n = omega (arith, lt) in le))
-
 -- sizes of a part of a shape are a shape where there is a group, and none is without items
 pub shape_of_part : (sizes : List ℕ) → IsPartOfShape sizes → length sizes ≢ 0 → AreSomeBelow sizes (length sizes) → IsShape sizes
-shape_of_part sizes part some below = record {
-  some = omega (arith, some);
-  groups = part.groups;
-  each = λ k d lt.
-      let same : get_or sizes k d ≡ slice_index sizes k = get_or_default_zero sizes k d lt in
-      let items : slice_index sizes k ≢ 0 = below k lt in
-      (omega (arith, same, items), part.each k d lt);
-  total = part.total;
-}
+shape_of_part sizes part some below = grind (arith, get_or_default_zero)
 
 -- ---- streams and their headers
 
@@ -101,9 +85,7 @@ module _ (s : Streams) (cs : List Coming) (groups : AreGroupsOf s.sizes (headers
 
 -- where no stream goes on, the groups are those of the streams that came whole
 pub groups_between : {Z : Type 0} (sizes : List ℕ) (cs : List Coming) (current : Option (Open Z)) → current ≡ None → AreGroupsOf sizes (headers_of (cs ++ list_in (coming_in current))) → AreGroupsOf sizes (headers_of cs)
-groups_between {Z} sizes cs current none groups =
-    let same : headers_of (cs ++ list_in (coming_in current)) ≡ headers_of cs = ap (λ (o : Option (Open Z)). headers_of (cs ++ list_in (coming_in o))) none ∙ ap headers_of (append-nil cs) in
-    subst (AreGroupsOf sizes) same groups
+groups_between {Z} sizes cs current none groups = grind (arith, append-nil)
 
 -- ---- a gap
 
@@ -141,28 +123,7 @@ module _ (s : Streams) (cs : List Coming) (count : length s.lists ≡ length s.s
 
   -- why the sizes are those of no launch is why the streams are none
   pub gap_is_launch_fault : (f : Fault) → IsGap s.sizes f → IsLaunchFault (come s cs) f
-  gap_is_launch_fault (faults.Shape NoGroups) gap = (s, launch_of_none gap, gap)
-  gap_is_launch_fault (faults.Shape TooManyGroups) gap = absurd gap
-  gap_is_launch_fault (faults.Shape (BadItems g)) gap = absurd gap
-  gap_is_launch_fault (faults.Shape TooManyItems) gap = absurd gap
-  gap_is_launch_fault (faults.MissingGroup g) gap = missing_group g gap
-  gap_is_launch_fault (faults.Stream place error) gap = absurd gap
-  gap_is_launch_fault (faults.SameGroup place) gap = absurd gap
-  gap_is_launch_fault (faults.OtherLaunch place) gap = absurd gap
-  gap_is_launch_fault (faults.BadLine line) gap = absurd gap
-  gap_is_launch_fault faults.NoEnd gap = absurd gap
-  gap_is_launch_fault (faults.LongStream line) gap = absurd gap
-  gap_is_launch_fault faults.Read gap = absurd gap
-  gap_is_launch_fault faults.Write gap = absurd gap
-  gap_is_launch_fault faults.Memory gap = absurd gap
-  gap_is_launch_fault faults.Threads gap = absurd gap
-
--- ---- out of memory
-
--- where memory runs out, that is a fault of a launch
-pub memory_is_launch_fault : {R : Type 0} (seen : List Flat) (result : Result R Fault) → IsErrAnd result (λ f. f ≡ faults.Memory) → IfErr result (IsLaunchFault seen)
-memory_is_launch_fault seen (Ok r) is = absurd is
-memory_is_launch_fault seen (Err f) is = subst (IsLaunchFault seen) (sym is) tt
+  gap_is_launch_fault f gap = grind (arith, launch_of_none, missing_group)
 
 -- ---- the launch
 
@@ -208,10 +169,4 @@ module _ (s : Streams) (cs : List Coming) (count : length s.lists ≡ length s.s
 
 -- the streams that have come are a launch where all that waited of them was taken, and its lists are accepted
 pub launch_taken : (s t : Streams) (cs ds : List Coming) → come t ds ≡ come s cs → t.sizes ≡ s.sizes → length t.lists ≡ length t.sizes → AreGroupsOf s.sizes (headers_of cs) → AreStreams (come s cs) → All (λ c. c.waiting ≡ []) ds → IsShape s.sizes → IsLaunchOf (come s cs) t × AreAccepted t
-launch_taken s t cs ds same sizes count groups are none shape =
-    let before : AreGroupsOf s.sizes (headers_of ds) = subst (AreGroupsOf s.sizes) (sym (same_headers t s ds cs same)) groups in
-    let groups_now : AreGroupsOf t.sizes (headers_of ds) = subst (λ (n : List ℕ). AreGroupsOf n (headers_of ds)) (sym sizes) before in
-    let shape_now : IsShape t.sizes = subst IsShape (sym sizes) shape in (
-      subst (λ (seen : List Flat). IsLaunchOf seen t) same (taken_is_launch t ds count groups_now none shape_now),
-      taken_is_accepted t ds count groups_now none shape_now (subst AreStreams (sym same) are),
-    )
+launch_taken s t cs ds same sizes count groups are none shape = grind (arith, same_headers t s ds cs same, taken_is_launch, taken_is_accepted)

@@ -1,4 +1,5 @@
-use Rattle.std.proofs.Common.{◌≡◌, ◌<◌, [], ◌++◌, ℕ, Contains, List, Some, None, true≢false, ap, sym, subst, ◌∙◌, length, refl, arith, drop, append_assoc}
+use Rattle.std.proofs.Common.{◌≡◌, ◌<◌, ◌++◌, ℕ, Contains, List, Some, None, ap, sym, subst, ◌∙◌, length, refl, arith, drop, append_assoc}
+use Rattle.std.proofs.lemmas.List.Elements.{Contains-push}
 use Rattle.std.proofs.lemmas.List.{drop_at, length-append, length-map, length-take-le}
 use Rattle.gr_record.specs.InputFaults.{Fails}
 use Rattle.gr_model.specs.declared.limits.TheConstants.{MOST_RECORDS}
@@ -13,7 +14,7 @@ use Rattle.gr_record.proofs.Places.{bytes_drop}
 use Rattle.gr_intake.specs.Intakes.{come, come_of, headers_of, next_event_at, read_behind}
 use Rattle.gr_intake.specs.Joined.{Flat}
 use Rattle.gr_intake.proofs.Behind.{next_failed, next_found, split_more, split_whole, stream_ends, stream_goes_on}
-use Rattle.gr_intake.proofs.Comings.{closes, contains_last, goes_further, headers_push, whole_closes, whole_stay_so}
+use Rattle.gr_intake.proofs.Comings.{closes, goes_further, headers_push, whole_closes, whole_stay_so}
 use Rattle.gr_intake.proofs.Faults.{fault_at-fails}
 use Rattle.gr_intake.proofs.intake.take_records.Goals as goal
 
@@ -57,13 +58,13 @@ pub take-requires-clause-there : goal.take-requires-clause-there
 take-requires-clause-there g c =
     let cs = c.args.streams.now in
     let b = c.loop-rest.current.backlog in
-    (c.loop-rest.invariant.read.groups.there b.header (subst (λ (hs : List Header). Contains hs b.header) (sym (headers_push cs b)) (contains_last (headers_of cs) b.header))).0
+    (c.loop-rest.invariant.read.groups.there b.header (subst (λ (hs : List Header). Contains hs b.header) (sym (headers_push cs b)) (Contains-push (headers_of cs) b.header))).0
 
 pub take-requires-clause-size : goal.take-requires-clause-size
 take-requires-clause-size g c =
     let cs = c.args.streams.now in
     let b = c.loop-rest.current.backlog in
-    (c.loop-rest.invariant.read.groups.there b.header (subst (λ (hs : List Header). Contains hs b.header) (sym (headers_push cs b)) (contains_last (headers_of cs) b.header))).1
+    (c.loop-rest.invariant.read.groups.there b.header (subst (λ (hs : List Header). Contains hs b.header) (sym (headers_push cs b)) (Contains-push (headers_of cs) b.header))).1
 
 pub returns-then-is_end-clause-ends : goal.returns-then-is_end-clause-ends
 returns-then-is_end-clause-ends g c = λ ended.
@@ -147,95 +148,7 @@ loop-rest-preserved g c =
       size = c.loop-rest.invariant.size ∙ ap (λ (x : Flat). record_length x.header.version) (sym came);
     }
 
-pub loop-rest-init : goal.loop-rest-init
-loop-rest-init g c =
-    let size = c.record_length-size.ensures.length ∙ ap (λ (h : Header). record_length h.version) c.header.ensures in
-    record { read = c.requires.read; kept = c.requires.kept; goes = λ more. refl; left = ([], refl); size = size }
-
-pub read-requires : goal.read-requires
-read-requires g c =
-    let rest = c.loop-rest.rest.now in
-    ap length c.split_at.ensures.front ∙ (length-take-le _ rest (omega (arith, c.loop-rest-test.true)) ∙ c.loop-rest.invariant.size)
-
-pub of_stream-requires : goal.of_stream-requires
-of_stream-requires g c = tt
-
-pub returns-in-Err-clause-stays : goal.returns-in-Err-clause-stays
-returns-in-Err-clause-stays g c = tt
-
-pub returns-in-Err-clause-ends : goal.returns-in-Err-clause-ends
-returns-in-Err-clause-ends g c = tt
-
-pub returns-in-Err-clause-goes : goal.returns-in-Err-clause-goes
-returns-in-Err-clause-goes g c = tt
-
-pub returns-in-Err-clause-left : goal.returns-in-Err-clause-left
-returns-in-Err-clause-left g c = tt
-
-pub returns-in-Err-clause-values : goal.returns-in-Err-clause-values
-returns-in-Err-clause-values g c = c.of_stream.ensures.values
-
-pub take-requires-clause-kept : goal.take-requires-clause-kept
-take-requires-clause-kept g c = c.loop-rest.invariant.kept
-
 pub take-requires-clause-few : goal.take-requires-clause-few
 take-requires-clause-few g c =
     let found = next_found c.loop-rest.current.backlog.header c.loop-rest.current.count c.split_at.result.0.now c.in-Ok.event (sym c.read.ensures ∙ c.in-Ok.is) in
     omega (arith, c.loop-rest.invariant.kept.count, found.0, c.loop-rest.invariant.read.next.few)
-
-pub take-requires-clause-events : goal.take-requires-clause-events
-take-requires-clause-events g c = c.loop-rest.invariant.read.next.events
-
-pub take-requires-clause-sequence : goal.take-requires-clause-sequence
-take-requires-clause-sequence g c = c.loop-rest.invariant.read.sequence
-
-pub take-requires-clause-shadows : goal.take-requires-clause-shadows
-take-requires-clause-shadows g c = c.loop-rest.invariant.read.shadows
-
-pub returns-in_default-clause-stays : goal.returns-in_default-clause-stays
-returns-in_default-clause-stays g c = tt
-
-pub returns-in_default-clause-ends : goal.returns-in_default-clause-ends
-returns-in_default-clause-ends g c = tt
-
-pub returns-in_default-clause-goes : goal.returns-in_default-clause-goes
-returns-in_default-clause-goes g c = tt
-
-pub returns-in_default-clause-left : goal.returns-in_default-clause-left
-returns-in_default-clause-left g c = tt
-
-pub returns-in_default-clause-fault : goal.returns-in_default-clause-fault
-returns-in_default-clause-fault g c = λ more. tt
-
-pub returns-in_default-clause-values : goal.returns-in_default-clause-values
-returns-in_default-clause-values g c = (λ same. cc, λ same. cc, λ same. cc)
-
-pub returns-then-is_end-clause-stays : goal.returns-then-is_end-clause-stays
-returns-then-is_end-clause-stays g c = λ on. absurd (true≢false on)
-
-pub returns-then-is_end-clause-fault : goal.returns-then-is_end-clause-fault
-returns-then-is_end-clause-fault g c = tt
-
-pub returns-then-is_end-clause-values : goal.returns-then-is_end-clause-values
-returns-then-is_end-clause-values g c = tt
-
-pub loop-rest-smaller : goal.loop-rest-smaller
-loop-rest-smaller g c = omega (arith, c.split_at.ensures.back_len, c.record_length-size.ensures.some, c.loop-rest-test.true)
-
-pub returns-clause-stays : goal.returns-clause-stays
-returns-clause-stays g c = λ on. record { read = c.loop-rest.invariant.read; as_kept = c.loop-rest.invariant.kept; short = omega (arith, c.loop-rest-test.false, c.loop-rest.invariant.size) }
-
-pub returns-clause-ends : goal.returns-clause-ends
-returns-clause-ends g c = λ ended. absurd (true≢false (sym ended))
-
-pub returns-clause-goes : goal.returns-clause-goes
-returns-clause-goes g c = c.loop-rest.invariant.goes
-
-pub returns-clause-left : goal.returns-clause-left
-returns-clause-left g c = (c.loop-rest.invariant.left.0, c.loop-rest.invariant.left.1, λ ended. absurd (true≢false (sym ended)))
-
-pub returns-clause-fault : goal.returns-clause-fault
-returns-clause-fault g c = tt
-
-pub returns-clause-values : goal.returns-clause-values
-returns-clause-values g c = tt

@@ -1,9 +1,6 @@
-use Rattle.std.proofs.Common.{◌∙◌, ap, length, refl, sum, sym}
+use Rattle.std.proofs.Common.{◌∙◌, ap, length, refl, sum}
 use Rattle.gr_intake.proofs.Reporting.{races_are_listed}
 use Rattle.gr_intake.proofs.reports.report_of.Goals as goal
-
-pub records_of-requires-clause-groups : goal.records_of-requires-clause-groups
-records_of-requires-clause-groups g c = c.groups-2.ensures.count ∙ (ap length c.shape-shape.ensures.sizes ∙ sym c.requires.sequence.prefixes.count)
 
 pub returns : goal.returns
 returns g c =

@@ -1,8 +1,8 @@
-use Rattle.std.proofs.Common.{◌≡◌, ◌≤◌, ◌∷◌, ◌++◌, [], List, ap, set, sym, subst, ◌∙◌, arith, rules}
+use Rattle.std.proofs.Common.{◌≡◌, ◌≤◌, ◌∷◌, ◌++◌, [], List, ap, set, ◌∙◌, arith, rules}
 use Rattle.std.proofs.lemmas.List.{set-get_or}
 use Rattle.std.proofs.lemmas.Result.{err_from_is_err_and}
 use Rattle.gr_model.specs.declared.event.Event.{Event}
-use Rattle.gr_intake.specs.Waiting.{ArePieces, Coming}
+use Rattle.gr_intake.specs.Waiting.{Coming}
 use Rattle.gr_intake.proofs.Backlogs.{coming, last_piece, piece_written, pieces_grow, waiting_grows, waiting_in}
 use Rattle.gr_intake.proofs.backlog.Backlog.push.Goals as goal
 
@@ -23,11 +23,6 @@ invariant_of-self-2 g c =
     let less : c.min-self-inside.result ≤ first = search rules in
     let before : c.min-self-inside.result ≤ c.in_ok-last.last = search rules in
     piece_written pieces first c.in_ok-last.last c.min-self-inside.result c.push.new.self (pieces_grow c.self.inside.pieces.items pieces first c.self.invariant c.in_ok-last.ensures.grown) (omega (arith, c.in_ok-last.ensures.place)) less before
-
--- where memory runs out the backlog is as it was
-
-pub invariant_of-self : goal.invariant_of-self
-invariant_of-self g c = subst (λ (ps : List (List Event)). ArePieces ps c.self.inside.first) (sym c.in_err-last.ensures.unchanged) c.self.invariant
 
 pub returns-in_err-last-clause-err : goal.returns-in_err-last-clause-err
 returns-in_err-last-clause-err g c =

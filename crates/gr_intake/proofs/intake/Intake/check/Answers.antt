@@ -51,6 +51,3 @@ has_other_launch-requires g c =
     let cs = c.args.self.now.streams.items in
     let read = none_goes_on c.args.self.now c.requires.none c.requires.intake in
     subst AreOfOneLaunch (sym c.deref.ensures.value) (launches s cs read.streams)
-
-pub returns-clause-launch : goal.returns-clause-launch
-returns-clause-launch g c = ap (λ (xs : List Coming). list_any (λ x. not (x.header.launch == c.args.header.launch)) xs) (sym c.deref.ensures.value) ∙ (sym c.has_other_launch.ensures ∙ c.if-has_other_launch.false)

@@ -1,21 +1,9 @@
 use Rattle.std.proofs.Common.{◌≡◌, ◌∷◌, ◌++◌, [], ℕ, List, Bool, Option, Some, None, ap, sym, subst, ◌∙◌, length, arith, false}
 use Rattle.std.proofs.lemmas.List.{length-append}
-use Rattle.std.proofs.lemmas.Result.{err_from_is_err_and}
-use Rattle.gr_record.specs.InputFaults.{Fails}
 use Rattle.gr_intake.specs.declared.open.Open.{Open}
 use Rattle.gr_intake.specs.Intakes.{IsRead, Moves, come, come_of, goes_on, read_behind, read_on}
 use Rattle.gr_intake.specs.Waiting.{Coming}
 use Rattle.gr_intake.proofs.intake.Intake.go_on.Goals as goal
-
-pub returns-in_err-ended-clause-fault : goal.returns-in_err-ended-clause-fault
-returns-in_err-ended-clause-fault g c =
-    let p = err_from_is_err_and c.from_residual.result c.from_residual.ensures.1 in
-    rw (p.1, p.2) (subst (λ (cs : List Coming). (more : List ℕ) → Fails c.in_err-ended.field-0.0 (read_behind (come c.args.self.now.sequencer.taken cs) (Some (come_of c.args.self.now.sequencer.taken c.args.current.backlog)) (c.args.bytes.now ++ more))) c.as_slice.ensures.value c.in_err-ended.ensures.fault)
-
-pub returns-in_err-ended-clause-values : goal.returns-in_err-ended-clause-values
-returns-in_err-ended-clause-values g c =
-    let p = err_from_is_err_and c.from_residual.result c.from_residual.ensures.1 in
-    rw (p.1, p.2) c.in_err-ended.ensures.values
 
 pub returns-then-not-ended-clause-moves : goal.returns-then-not-ended-clause-moves
 returns-then-not-ended-clause-moves g c =

@@ -4,8 +4,7 @@ use Rattle.gr_record.specs.declared.header.Header.{Header}
 use Rattle.gr_taking.specs.Sources.{MayCome, come_from}
 use Rattle.gr_intake.specs.Intakes.{IsGap, come}
 use Rattle.gr_intake.specs.Waiting.{Coming}
-use Rattle.gr_intake.proofs.Judged.{gap_is_launch_fault, groups_between, launch_taken, memory_is_launch_fault}
-use Rattle.gr_intake.proofs.Faults.{memory_is_of_values}
+use Rattle.gr_intake.proofs.Judged.{gap_is_launch_fault, groups_between, launch_taken}
 use Rattle.gr_intake.proofs.Sources.{come_as, streams_may_come}
 use Rattle.gr_intake.proofs.intake.Intake.report.Goals as goal
 
@@ -24,18 +23,6 @@ take_all-requires-clause-may g c =
     let groups = groups_between i.sequencer.taken.sizes i.streams.items i.current c.requires.whole read.groups in
     subst (λ (cs : List Coming). MayCome (λ (h : Header). h.group) i.sequencer.taken.sizes (come_from (λ (b : Coming). b.header) (λ (h : Header). h.group) (λ (b : Coming). b.waiting) i.sequencer.taken cs)) (sym c.as_mut_slice.ensures.value)
     (streams_may_come i.sequencer.taken i.streams.items read.streams groups)
-
-pub returns-in_err-take_all-clause-fault : goal.returns-in_err-take_all-clause-fault
-returns-in_err-take_all-clause-fault g c = memory_is_launch_fault (come c.args.self.now.sequencer.taken c.args.self.now.streams.items) c.from_residual.result c.from_residual.ensures.1
-
-pub returns-in_err-take_all-clause-values : goal.returns-in_err-take_all-clause-values
-returns-in_err-take_all-clause-values g c = memory_is_of_values c.from_residual.result c.from_residual.ensures.1
-
-pub returns-in_err-report_of-clause-fault : goal.returns-in_err-report_of-clause-fault
-returns-in_err-report_of-clause-fault g c = memory_is_launch_fault (come c.args.self.now.sequencer.taken c.args.self.now.streams.items) c.from_residual-in_err-report_of.result c.from_residual-in_err-report_of.ensures.1
-
-pub returns-in_err-report_of-clause-values : goal.returns-in_err-report_of-clause-values
-returns-in_err-report_of-clause-values g c = memory_is_of_values c.from_residual-in_err-report_of.result c.from_residual-in_err-report_of.ensures.1
 
 pub returns-clause-report : goal.returns-clause-report
 returns-clause-report g c =

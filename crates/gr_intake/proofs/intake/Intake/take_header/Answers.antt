@@ -1,4 +1,4 @@
-use Rattle.std.proofs.Common.{◌≡◌, ◌++◌, [], ℕ, List, ap, sym, subst, ◌∙◌, length, refl, arith}
+use Rattle.std.proofs.Common.{◌≡◌, ◌++◌, ℕ, List, ap, sym, subst, ◌∙◌, length, arith}
 use Rattle.std.proofs.lemmas.List.{length-take-le}
 use Rattle.std.proofs.lemmas.Result.{err_from_is_err_and}
 use Rattle.gr_record.specs.InputFaults.{Fails}
@@ -8,14 +8,7 @@ use Rattle.gr_record.proofs.Found.{read_header_is_spelled}
 use Rattle.gr_record.proofs.FoundPrefixes.{bytes_take}
 use Rattle.gr_intake.specs.Intakes.{behind}
 use Rattle.gr_intake.proofs.Behind.{split_more, split_whole}
-use Rattle.gr_intake.proofs.Faults.{memory_fails_behind}
 use Rattle.gr_intake.proofs.intake.Intake.take_header.Goals as goal
-
-pub returns-then-bytes-lt-HEADER_LENGTH-clause-moves : goal.returns-then-bytes-lt-HEADER_LENGTH-clause-moves
-returns-then-bytes-lt-HEADER_LENGTH-clause-moves g c = record { intake = c.requires.intake; goes = λ more. refl; left = ([], refl) }
-
-pub header_of-requires-clause-all : goal.header_of-requires-clause-all
-header_of-requires-clause-all g c = ap length c.split_at.ensures.front ∙ length-take-le HEADER_LENGTH c.args.bytes.now (omega (arith, c.if-bytes-lt-HEADER_LENGTH.false))
 
 pub begin-requires-clause-header : goal.begin-requires-clause-header
 begin-requires-clause-header g c =
@@ -32,14 +25,6 @@ returns-in_err-header-clause-fault g c =
     let bytes = c.args.bytes.now in
     let p = err_from_is_err_and c.from_residual.result c.from_residual.ensures.1 in
     rw (p.1, p.2) (λ more. subst (λ (b : List ℕ). Fails c.in_err-header.field-0.0 (behind c.args.self.now b)) (sym (split_more HEADER_LENGTH bytes unit rest more c.split_at.ensures.front c.split_at.ensures.back)) (c.in_err-header.ensures.fault (rest ++ more)))
-
-pub returns-in_err-header-clause-values : goal.returns-in_err-header-clause-values
-returns-in_err-header-clause-values g c =
-    let p = err_from_is_err_and c.from_residual.result c.from_residual.ensures.1 in
-    rw (p.1, p.2) c.in_err-header.ensures.values
-
-pub returns-in_err-begin-clause-fault : goal.returns-in_err-begin-clause-fault
-returns-in_err-begin-clause-fault g c = memory_fails_behind c.from_residual-in_err-begin.result c.args.self.now c.args.bytes.now c.from_residual-in_err-begin.ensures.1
 
 pub returns-clause-moves : goal.returns-clause-moves
 returns-clause-moves g c =
