@@ -25,6 +25,8 @@ enum Content<T, A: Allocator> {
 #[derive(Drop)]
 pub struct Batch<T, A: Allocator = Global> {
     content: Content<T, A>,
+    // A hint: these work-groups have ended.
+    ended: Option<Vec<u16, A>>,
 }
 
 impl<T, A: Allocator> Model for Batch<T, A> {
@@ -45,6 +47,7 @@ impl<T: Drop, A: Allocator> Batch<T, A> {
     {
         Batch {
             content: Content::One(value),
+            ended: None,
         }
     }
 
@@ -58,7 +61,26 @@ impl<T: Drop, A: Allocator> Batch<T, A> {
         }
         Some(Batch {
             content: Content::Several(values),
+            ended: None,
         })
+    }
+
+    /// The batch, with the hint that these work-groups have ended: of none of them a value comes after this batch.
+    pub fn with_ended(self, ended: Option<Vec<u16, A>>) -> Batch<T, A>
+        ensures { result ≡ self }
+    {
+        Batch {
+            content: self.content,
+            ended,
+        }
+    }
+
+    /// The work-groups that have ended.
+    pub fn ended(&self) -> &[u16] {
+        match &self.ended {
+            None => &[],
+            Some(groups) => groups,
+        }
     }
 
     /// How many values there are: at least one.
@@ -98,7 +120,8 @@ impl<T: Drop, A: Allocator> Batch<T, A> {
 
     /// The list that held the values, where there were several. They are let go.
     pub fn into_list(self) -> Option<Vec<T, A>> {
-        match self.content {
+        let Batch { content, ended: _ } = self;
+        match content {
             Content::One(_) => None,
             Content::Several(mut values) => {
                 values.clear();
@@ -111,7 +134,8 @@ impl<T: Drop, A: Allocator> Batch<T, A> {
     pub fn into_first(self) -> T
         ensures { (others : List T) × (self ≡ result ∷ others) }
     {
-        match self.content {
+        let Batch { content, ended: _ } = self;
+        match content {
             Content::One(value) => value,
             Content::Several(values) => {
                 let mut values = values.into_iter();
@@ -129,7 +153,8 @@ impl<T: Drop, A: Allocator> Batch<T, A> {
         requires { rest.old ≡ [] }
         ensures { self ≡ result ∷ rest.new }
     {
-        match self.content {
+        let Batch { content, ended: _ } = self;
+        match content {
             Content::One(value) => value,
             Content::Several(values) => {
                 rest.values = values.into_iter();

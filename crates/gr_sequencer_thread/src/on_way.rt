@@ -123,6 +123,15 @@ fn pass_each<R: Wait, A: Allocator>(
     count
 }
 
+/// Has the first so many workers know that a group has ended.
+fn note_end<A: Allocator + Copy>(alloc: A, ways: &mut Vec<Way<A>, A>, workers: u16, group: u16)
+    ensures { ways.new.items ≡ ways.old.items }
+{
+    for worker in 0..ways.len().min(usize::from(workers)) {
+        ways[worker].note_end(alloc, group);
+    }
+}
+
 /// Has each access be on its way, of a run that is set up so, and of which these have been passed on.
 #[derive(Drop)]
 pub(crate) struct Passing<A: Allocator = Global> {
@@ -147,7 +156,9 @@ impl<A: Allocator + Copy> Keeper<A> for Passing<A> {
         Ok(())
     }
 
-    fn close(&self, _kept: &mut OnWay<A>, _group: u16)
-        ensures { (accesses : List ClockedAccess) → AreSplit self.now.config.workers (given_of self.now.outlets.value.items) accesses _kept.old → AreSplit self.now.config.workers (given_of self.now.outlets.value.items) accesses _kept.new }
-    {}
+    fn close(&self, kept: &mut OnWay<A>, group: u16)
+        ensures { (accesses : List ClockedAccess) → AreSplit self.now.config.workers (given_of self.now.outlets.value.items) accesses kept.old → AreSplit self.now.config.workers (given_of self.now.outlets.value.items) accesses kept.new }
+    {
+        note_end(kept.alloc, &mut kept.ways, self.config.workers(), group);
+    }
 }

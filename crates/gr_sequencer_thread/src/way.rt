@@ -34,6 +34,8 @@ pub(crate) struct Way<A: Allocator = Global> {
     waiting: Outbox<Work<A>, A>,
     /// Lists to be filled.
     lists: VecDeque<Vec<Work<A>, A>, A>,
+    /// A hint for the next batch: these work-groups have ended.
+    ended: Option<Vec<u16, A>>,
 }
 
 impl<A: Allocator> Model for Way<A> {
@@ -66,8 +68,13 @@ impl<A: Allocator> Way<A> {
         ensures queue { outlet.new.queue ≡ outlet.old.queue }
         ensures open { IsFalse (is_stopped outlet.new.pushed) }
     {
-        let Some(batch) = take_first(&mut self.refused, &mut self.batches, &mut self.waiting, all)
-        else {
+        let Some(batch) = take_first(
+            &mut self.refused,
+            &mut self.batches,
+            &mut self.waiting,
+            &mut self.ended,
+            all,
+        ) else {
             return 0;
         };
         let count = batch.len();
@@ -115,6 +122,7 @@ fn take_first<A: Allocator>(
     refused: &mut Option<Batch<Work<A>, A>>,
     batches: &mut VecDeque<Batch<Work<A>, A>, A>,
     waiting: &mut Outbox<Work<A>, A>,
+    ended: &mut Option<Vec<u16, A>>,
     all: bool,
 ) -> Option<Batch<Work<A>, A>>
     ensures some { IfSome result (λ batch. work_on_way refused.old batches.old.items waiting.old ≡ batch ++ work_on_way None batches.new.items waiting.new) }
@@ -126,9 +134,22 @@ fn take_first<A: Allocator>(
     }
     match batches.pop_front() {
         Some(batch) => Some(batch),
-        None if all => waiting.take(),
+        None if all => take_waiting(waiting, ended),
         None => None,
     }
+}
+
+/// Takes out those that wait for more as a batch, with the hint which groups have ended.
+fn take_waiting<A: Allocator>(
+    waiting: &mut Outbox<Work<A>, A>,
+    ended: &mut Option<Vec<u16, A>>,
+) -> Option<Batch<Work<A>, A>>
+    ensures some { IfSome result (λ batch. batch ≡ waiting.old) }
+    ensures none { IfNone result (waiting.old ≡ []) }
+    ensures empty { waiting.new ≡ [] }
+{
+    let batch = waiting.take()?;
+    Some(batch.with_ended(ended.take()))
 }
 
 /// Makes a batch of those that wait for more.
@@ -138,12 +159,13 @@ fn take_first<A: Allocator>(
 fn close<A: Allocator>(
     batches: &mut VecDeque<Batch<Work<A>, A>, A>,
     waiting: &mut Outbox<Work<A>, A>,
+    ended: &mut Option<Vec<u16, A>>,
 ) -> Result<(), Memory>
     ensures same { OnOk result ((refused : Option (List (AnyWork A))) → work_on_way refused batches.new.items waiting.new ≡ work_on_way refused batches.old.items waiting.old) }
     ensures unchanged { OnErr result (batches.new.items ≡ batches.old.items) }
     ensures none { waiting.new ≡ [] }
 {
-    if let Some(batch) = waiting.take() {
+    if let Some(batch) = take_waiting(waiting, ended) {
         batches.push_back(batch)?;
     }
     Ok(())
@@ -168,6 +190,23 @@ impl<A: Allocator + Copy> Way<A> {
             batches: VecDeque::new(alloc),
             waiting: Outbox::new(),
             lists: VecDeque::new(alloc),
+            ended: None,
+        }
+    }
+
+    /// Has the worker know, with the next batch, that a group has ended. It is a hint: where there is no memory it is left out.
+    pub(crate) fn note_end(&mut self, alloc: A, group: u16)
+        ensures { self.new ≡ self.old }
+    {
+        match &mut self.ended {
+            None => {
+                let mut ended = Vec::new(alloc);
+                let _ = ended.push(group);
+                self.ended = Some(ended);
+            }
+            Some(ended) => {
+                let _ = ended.push(group);
+            }
         }
     }
 
@@ -193,7 +232,7 @@ impl<A: Allocator + Copy> Way<A> {
         requires { (access : AnyAccess A) × (work ≡ OfAccess access) }
         ensures { OnOk result (self.new ≡ self.old ++ work ∷ []) }
     {
-        close(&mut self.batches, &mut self.waiting)?;
+        close(&mut self.batches, &mut self.waiting, &mut self.ended)?;
         lend(&mut self.lists, &mut self.waiting);
         if let Err(_) = self.waiting.add(alloc, work) {
             return Err(Memory);

@@ -65,16 +65,13 @@ fn give_up<A: Allocator + Copy>(local: &mut Option<Shadows<A>>)
 fn apply_to<A: Allocator + Copy>(
     local: &mut Option<Shadows<A>>,
     access: &Access<A>,
-) -> Result<(), Memory>
+) -> Result<Option<Word>, Memory>
     ensures stands { (accesses : List ClockedAccess) → StandsForLocal accesses (Some local.old) → OnOk result (StandsForLocal (accesses ++ clocked access.now ∷ []) (Some local.new)) }
     ensures err { OnErr result (local.new ≡ local.old) }
 {
     match local {
         None => Err(Memory),
-        Some(shadows) => {
-            shadows.apply(access)?;
-            Ok(())
-        }
+        Some(shadows) => shadows.apply(access),
     }
 }
 
@@ -122,7 +119,7 @@ impl<A: Allocator + Copy> LaunchShadows<A> {
     }
 
     /// Adds the next access to a group's local words.
-    fn apply_local(&mut self, group: u16, access: &Access<A>) -> Result<(), Memory>
+    fn apply_local(&mut self, group: u16, access: &Access<A>) -> Result<Option<Word>, Memory>
         requires { is_local_of group access.now.word ≡ true }
         ensures stands { (accesses : List ClockedAccess) → StandsForLaunch accesses self.old → OnOk result (StandsForLaunch (accesses ++ clocked access.now ∷ []) self.new) }
         ensures err { (accesses : List ClockedAccess) → StandsForLaunch accesses self.old → OnErr result (StandsForLaunch accesses self.new) }
@@ -131,19 +128,19 @@ impl<A: Allocator + Copy> LaunchShadows<A> {
         apply_to(&mut self.local[usize::from(group)], access)
     }
 
-    /// Adds the next access.
+    /// Adds the next access. Answers its word if that becomes hit by it, as `Shadows` does.
     ///
     /// # Errors
     /// `Memory` if an allocation is refused, or the shadows of the word were given up. The accesses are then those before the call.
-    pub fn apply(&mut self, access: &Access<A>) -> Result<(), Memory>
+    pub fn apply(&mut self, access: &Access<A>) -> Result<Option<Word>, Memory>
         ensures stands { (accesses : List ClockedAccess) → StandsForLaunch accesses self.old → OnOk result (StandsForLaunch (accesses ++ clocked access.now ∷ []) self.new) }
         ensures err { (accesses : List ClockedAccess) → StandsForLaunch accesses self.old → OnErr result (StandsForLaunch accesses self.new) }
     {
         match access.word {
             Word::Local(group, _) => self.apply_local(group, access),
             Word::Global(_) => {
-                self.global.apply(access)?;
-                Ok(())
+                let hit = self.global.apply(access)?;
+                Ok(hit)
             }
         }
     }

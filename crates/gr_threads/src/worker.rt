@@ -8,7 +8,7 @@ ghost use Rattle.std.specs.Arc.{arc_value};
 ghost use Rattle.gr_clocks.specs.ClockedAccess.{ClockedAccess, clocked};
 ghost use Rattle.gr_model.specs.Reports.{Lists, WordBelow};
 ghost use Rattle.gr_shadow.specs.Clashes.{IsHitIn};
-ghost use Rattle.gr_shadow.specs.StandsFor.{StandsFor};
+ghost use Rattle.gr_shadow.specs.Launches.{StandsForLaunch};
 ghost use Rattle.gr_route.specs.WorkRule.{is_stopped};
 ghost use Rattle.gr_threads.specs.Given.{accesses_in};
 
@@ -19,7 +19,7 @@ use gr_model::event::Word;
 use gr_model::memory::Memory;
 use gr_route::batch::Batch;
 use gr_route::work::{GiverSeat, Work, WorkQueue, WorkerSeat};
-use gr_shadow::shadows::Shadows;
+use gr_shadow::launch::LaunchShadows;
 use std::alloc::{Allocator, Global};
 use std::marker::Model;
 use std::sync::{Arc, Wait};
@@ -51,7 +51,7 @@ pub struct WorkerEnd<A: Allocator = Global> {
     queue: Arc<WorkQueue<A>, A>,
     seat: WorkerSeat<A>,
     // None where memory ran out.
-    shadows: Option<Shadows<A>>,
+    shadows: Option<LaunchShadows<A>>,
 }
 
 impl<A: Allocator> Model for WorkerEnd<A> {
@@ -59,14 +59,14 @@ impl<A: Allocator> Model for WorkerEnd<A> {
     ghost use Rattle.std.specs.Arc.{arc_value};
     ghost use Rattle.gr_route.specs.WorkRule.{is_stopped};
     ghost use Rattle.gr_route.specs.WorkSeats.{Worker as WorkerLists};
-    ghost use Rattle.gr_shadow.specs.StandsFor.{StandsFor};
+    ghost use Rattle.gr_shadow.specs.Launches.{StandsForLaunch};
     ghost use Rattle.gr_threads.specs.Given.{accesses_in};
 
     ghost Value = { WorkerLists A };
 
     ghost view = { λ w. w.seat };
 
-    ghost invariant = { λ w. (w.seat.queue ≡ (arc_value w.queue).queue) × IsTrue (is_stopped w.seat.popped) × IfSome w.shadows (StandsFor (accesses_in w.seat.popped)) };
+    ghost invariant = { λ w. (w.seat.queue ≡ (arc_value w.queue).queue) × IsTrue (is_stopped w.seat.popped) × IfSome w.shadows (StandsForLaunch (accesses_in w.seat.popped)) };
 }
 
 impl<A: Allocator> Worker<A> {
@@ -86,12 +86,12 @@ impl<A: Allocator> Worker<A> {
 
 /// Gives shadows an access, if memory never ran out before. They are gone where it runs out now.
 fn shade<A: Allocator + Copy, W: Watch>(
-    shadows: Option<Shadows<A>>,
+    shadows: Option<LaunchShadows<A>>,
     number: u16,
     access: &Access<A>,
     watch: &Arc<W, A>,
-) -> Option<Shadows<A>>
-    ensures { (accesses : List ClockedAccess) → IfSome shadows (StandsFor accesses) → IfSome result (StandsFor (accesses ++ clocked access.now ∷ [])) }
+) -> Option<LaunchShadows<A>>
+    ensures { (accesses : List ClockedAccess) → IfSome shadows (StandsForLaunch accesses) → IfSome result (StandsForLaunch (accesses ++ clocked access.now ∷ [])) }
 {
     let mut shadows = shadows?;
     watch.at_access(number);
@@ -107,12 +107,12 @@ fn shade<A: Allocator + Copy, W: Watch>(
 
 /// The same of work, which may be no access.
 fn shade_work<A: Allocator + Copy, W: Watch>(
-    shadows: Option<Shadows<A>>,
+    shadows: Option<LaunchShadows<A>>,
     number: u16,
     work: &Work<A>,
     watch: &Arc<W, A>,
-) -> Option<Shadows<A>>
-    ensures { (accesses : List ClockedAccess) → IfSome shadows (StandsFor accesses) → IfSome result (StandsFor (accesses ++ accesses_in (work.now ∷ []))) }
+) -> Option<LaunchShadows<A>>
+    ensures { (accesses : List ClockedAccess) → IfSome shadows (StandsForLaunch accesses) → IfSome result (StandsForLaunch (accesses ++ accesses_in (work.now ∷ []))) }
 {
     match work {
         Work::Access(access) => shade(shadows, number, access, watch),
@@ -122,12 +122,12 @@ fn shade_work<A: Allocator + Copy, W: Watch>(
 
 /// The same of the work of a batch.
 fn shade_all<A: Allocator + Copy, W: Watch>(
-    shadows: Option<Shadows<A>>,
+    shadows: Option<LaunchShadows<A>>,
     number: u16,
     batch: &Batch<Work<A>, A>,
     watch: &Arc<W, A>,
-) -> Option<Shadows<A>>
-    ensures { (accesses : List ClockedAccess) → IfSome shadows (StandsFor accesses) → IfSome result (StandsFor (accesses ++ accesses_in batch.now)) }
+) -> Option<LaunchShadows<A>>
+    ensures { (accesses : List ClockedAccess) → IfSome shadows (StandsForLaunch accesses) → IfSome result (StandsForLaunch (accesses ++ accesses_in batch.now)) }
 {
     let mut shadows = shadows;
     for place in 0..batch.len() {
@@ -137,6 +137,33 @@ fn shade_all<A: Allocator + Copy, W: Watch>(
         }
     }
     shadows
+}
+
+/// Gives up the shadows of the local words of groups that have ended.
+fn close_all<A: Allocator + Copy>(shadows: &mut LaunchShadows<A>, ended: &[u16])
+    ensures { (accesses : List ClockedAccess) → StandsForLaunch accesses shadows.old → StandsForLaunch accesses shadows.new }
+{
+    for group in ended {
+        shadows.close(*group);
+    }
+}
+
+/// The same of a batch, after which the groups that it says have ended are given up.
+fn shade_batch<A: Allocator + Copy, W: Watch>(
+    shadows: Option<LaunchShadows<A>>,
+    number: u16,
+    batch: &Batch<Work<A>, A>,
+    watch: &Arc<W, A>,
+) -> Option<LaunchShadows<A>>
+    ensures { (accesses : List ClockedAccess) → IfSome shadows (StandsForLaunch accesses) → IfSome result (StandsForLaunch (accesses ++ accesses_in batch.now)) }
+{
+    match shade_all(shadows, number, batch, watch) {
+        None => None,
+        Some(mut shadows) => {
+            close_all(&mut shadows, batch.ended());
+            Some(shadows)
+        }
+    }
 }
 
 /// Gives the list of a batch back, to be filled again. Its accesses are let go.
@@ -165,7 +192,7 @@ pub fn work<R: Wait + Clock, A: Allocator + Copy, W: Watch>(
         queue,
         mut seat,
     } = worker;
-    let mut shadows = Some(Shadows::new(alloc));
+    let mut shadows = Some(LaunchShadows::new(alloc));
     let idle = Idle::new();
     for _ in rt.forever() {
         let Some(batch) = queue.pop_all(rt, &mut seat) else {
@@ -173,7 +200,7 @@ pub fn work<R: Wait + Clock, A: Allocator + Copy, W: Watch>(
             continue;
         };
         idle.reset();
-        shadows = shade_all(shadows, number, &batch, watch);
+        shadows = shade_batch(shadows, number, &batch, watch);
         if let Work::Stop = batch.last() {
             return WorkerEnd {
                 queue,

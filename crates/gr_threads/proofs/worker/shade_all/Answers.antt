@@ -2,13 +2,13 @@ use Rattle.std.proofs.Common.{◌≡◌, ◌∙◌, ◌+◌, ◌++◌, ◌∷◌
 use Rattle.std.proofs.lemmas.List.{drop_all}
 use Rattle.gr_clocks.specs.ClockedAccess.{ClockedAccess}
 use Rattle.gr_route.specs.declared.work.Work.{Work}
-use Rattle.gr_shadow.specs.StandsFor.{StandsFor}
+use Rattle.gr_shadow.specs.Launches.{StandsForLaunch}
 use Rattle.gr_threads.specs.Given.{accesses_in}
 use Rattle.gr_threads.proofs.Givens.{more_given}
 use Rattle.gr_threads.proofs.worker.shade_all.Goals as goal
 
 pub loop-place-init : goal.loop-place-init
-loop-place-init g c = ([], refl, (λ accesses was. subst (λ (l : List ClockedAccess). IfSome c.args.shadows (StandsFor l)) (sym (append-nil accesses)) was))
+loop-place-init g c = ([], refl, (λ accesses was. subst (λ (l : List ClockedAccess). IfSome c.args.shadows (StandsForLaunch l)) (sym (append-nil accesses)) was))
 
 pub loop-place-preserved : goal.loop-place-preserved
 loop-place-preserved g c =
@@ -20,7 +20,7 @@ loop-place-preserved g c =
       done ++ work ∷ [],
       c.loop-place.invariant.1 ∙ ap (λ l. done ++ l) next ∙ sym (append_assoc done (work ∷ []) rest),
       (λ accesses was.
-          subst (λ (l : List ClockedAccess). IfSome c.shade_work-shadows.result (StandsFor l)) (append_assoc accesses (accesses_in done) (accesses_in (work ∷ [])) ∙ ap (λ l. accesses ++ l) (sym (more_given done (work ∷ []))))
+          subst (λ (l : List ClockedAccess). IfSome c.shade_work-shadows.result (StandsForLaunch l)) (append_assoc accesses (accesses_in done) (accesses_in (work ∷ [])) ∙ ap (λ l. accesses ++ l) (sym (more_given done (work ∷ []))))
           (c.shade_work-shadows.ensures (accesses ++ accesses_in done) (c.loop-place.invariant.2 accesses was))),
     )
 
@@ -29,4 +29,4 @@ returns g c accesses was =
     let done = c.loop-place.invariant.0 in
     let batch = c.args.batch.now in
     let all : done ≡ batch = sym (c.loop-place.invariant.1 ∙ ap (λ l. done ++ l) (drop_all c.loop-place.place batch (omega (arith, c.loop-place-test.false, c.len-place-end.ensures.count))) ∙ append-nil done) in
-    subst (λ (l : List (Work g.row.A.Denot)). IfSome c.loop-place.shadows (StandsFor (accesses ++ accesses_in l))) all (c.loop-place.invariant.2 accesses was)
+    subst (λ (l : List (Work g.row.A.Denot)). IfSome c.loop-place.shadows (StandsForLaunch (accesses ++ accesses_in l))) all (c.loop-place.invariant.2 accesses was)

@@ -4,7 +4,7 @@ use Rattle.gr_route.specs.declared.work.Work.{Work}
 use Rattle.gr_route.specs.declared.work.Work.TheVariants.{Stop}
 use Rattle.gr_route.specs.WorkRule.{is_stopped}
 use Rattle.gr_route.specs.WorkSeats.{Worker}
-use Rattle.gr_shadow.specs.StandsFor.{StandsFor}
+use Rattle.gr_shadow.specs.Launches.{StandsForLaunch}
 use Rattle.gr_threads.specs.Given.{accesses_in}
 use Rattle.gr_threads.proofs.Givens.{more_given, stop_stops}
 use Rattle.gr_threads.proofs.worker.work.Goals as goal
@@ -17,7 +17,7 @@ loop-preserved g c =
     let given : accesses_in c.pop_all.new.worker.popped ≡ accesses_in was ++ accesses_in batch = ap accesses_in popped ∙ more_given was batch in (
       search rules,
       search rules,
-      subst (λ (l : List ClockedAccess). IfSome c.shade_all-shadows.result (StandsFor l)) (sym given) (c.shade_all-shadows.ensures (accesses_in was) c.loop.invariant.2),
+      subst (λ (l : List ClockedAccess). IfSome c.shade_batch-shadows.result (StandsForLaunch l)) (sym given) (c.shade_batch-shadows.ensures (accesses_in was) c.loop.invariant.2),
     )
 
 pub invariant_of-result : goal.invariant_of-result
@@ -31,5 +31,5 @@ invariant_of-result g c =
     let given : accesses_in c.pop_all.new.worker.popped ≡ accesses_in was ++ accesses_in batch = ap accesses_in popped ∙ more_given was batch in (
       search rules,
       stopped,
-      subst (λ (l : List ClockedAccess). IfSome c.shade_all-shadows.result (StandsFor l)) (sym given) (c.shade_all-shadows.ensures (accesses_in was) c.loop.invariant.2),
+      subst (λ (l : List ClockedAccess). IfSome c.shade_batch-shadows.result (StandsForLaunch l)) (sym given) (c.shade_batch-shadows.ensures (accesses_in was) c.loop.invariant.2),
     )
