@@ -5,7 +5,7 @@ use Rattle.std.proofs.lemmas.Bool.Decides.{nat_tests}
 use Rattle.std.proofs.lemmas.Grind.{common_steps}
 use Rattle.std.proofs.lemmas.List.{get_or-set_other, get_or-set_same, get_or-take, get_or_past, length-set, length-take-le, length_push}
 use Rattle.std.proofs.lemmas.List.Elements.{filter-append}
-use Rattle.std.proofs.lemmas.Option.{gets, slice_get-get_or, slice_get_past, slice_get_within}
+use Rattle.std.proofs.lemmas.Option.{gets, slice_get-get_or, slice_get_within}
 use Rattle.std.proofs.lemmas.List.Sorted.{searched}
 use Rattle.std.specs.List.Sorted.{IsBinarySearchResult}
 use Rattle.gr_model.specs.declared.event.Event.{Event}
@@ -211,10 +211,7 @@ module _ {size forgotten : ℕ} {lanes : List Index} {list : List Event} (are : 
   barrier_place_at n kept = grind (arith, gets, are.each i, are.gone i, lacking, get_or_past, past_all)
 
   pub barrier_event_at : (n : ℕ) → IsNumberKept forgotten barriers n → slice_get lane.arrived n ≡ slice_get (filter is_barrier (filter (is_of i) list)) n
-  barrier_event_at n kept = by_lane
-      (ap (λ (l : Index). slice_get l.arrived n))
-      (λ none spent. ap (λ (l : Index). slice_get l.arrived n) none
-      ∙ sym (slice_get_past (filter is_barrier (filter (is_of i) list)) n (omega (arith, past_all spent n kept, length-places is_barrier 0 (filter (is_of i) list)))))
+  barrier_event_at n kept = grind (arith, gets, are.each i, are.gone i, lacking, get_or_past, past_all, length-places)
 
   pub place_kept : (p : ℕ) → IsPlaceKept forgotten barriers p → IsPlaceKept forgotten lane.barriers p
   place_kept p kept = by_lane (λ there. rw there kept) (λ none spent. rw none (λ k at. cc))

@@ -1,5 +1,5 @@
 -- Instances, by the barriers that are found.
-use Rattle.std.proofs.Common.{◌≡◌, ℕ, zero, suc, ◌+◌, ◌<◌, ◌≤◌, Bool, true, List, [], ◌∷◌, Option, Some, None, slice_get, filter, filter_map, is_some, false, ◌⊎◌, refl, sym, ap, ◌∙◌, subst, inl, inr, ⊎_elim, arith, true≢false}
+use Rattle.std.proofs.Common.{◌≡◌, ℕ, zero, suc, ◌+◌, ◌<◌, ◌≤◌, Bool, true, List, [], ◌∷◌, Option, Some, None, slice_get, filter, filter_map, is_some, false, ◌⊎◌, refl, sym, ap, ◌∙◌, inl, inr, ⊎_elim, arith, true≢false}
 use Rattle.std.specs.Prelude.{MatchOption}
 use Rattle.gr_model.specs.declared.event.Event.{Event}
 use Rattle.gr_model.specs.Barriers.{IsDivergent, arrivals, is_barrier, mark_of}
@@ -8,7 +8,7 @@ use Rattle.gr_model.specs.Streams.{Streams, is_complete, list_of, places_from, s
 use Rattle.gr_model.proofs.Places.{filter_map-place, places_from-there}
 use Rattle.gr_lanes.proofs.IndexLemmas.{record_place}
 use Rattle.gr_lanes.specs.Instances.{HasCome}
-use Rattle.gr_lanes.specs.Kept.{CameWith, NoneDiffers, of_item}
+use Rattle.gr_lanes.specs.Kept.{NoneDiffers, of_item}
 
 -- the k-th barrier of a list gives the k-th mark
 abbrev pub GivesMark : ℕ → List Event → ℕ → ℕ → Type 0
@@ -31,10 +31,7 @@ barrier_mark i xs k n e =
 
 -- and where there is none there is no mark
 pub no_mark : (i : ℕ) (xs : List Event) (k : ℕ) → slice_get (places_from is_barrier i xs) k ≡ None → slice_get (filter_map mark_of xs) k ≡ None
-no_mark i xs k e = elim (slice_get (filter_map mark_of xs) k) as (λ o. slice_get (filter_map mark_of xs) k ≡ o → o ≡ None) [
-  | None ↦ λ is. refl
-  | Some a ↦ λ is. let at = filter_map-place mark_of i xs k a is in let place = at.1 in cc
-] refl
+no_mark i xs k e = grind (arith, filter_map-place mark_of i xs k)
 
 -- ---- instances
 
@@ -60,14 +57,7 @@ module _ (s : Streams) (g n : ℕ) (mark : Option Mark) (came : (i : ℕ) → i 
 module _ (s : Streams) (g n : ℕ) (none : NoneDiffers s g n) where
   -- an item came with one mark, or it did not come, and more may
   came_with : (i : ℕ) → i < size_of s g → ((arrivals s g n i ≡ mark_of (of_item i none.0)) × (is_some (mark_of (of_item i none.0)) ≡ true)) ⊎ ((is_complete (list_of s g) ≡ false) × (arrivals s g n i ≡ None))
-  came_with i within = by_case (none.1 i within)
-    where
-      xs : List Event
-      xs = trace_of s (record { group = g; item = i })
-
-      by_case : CameWith (slice_get (filter is_barrier xs) n) (slice_get (places_from is_barrier 0 xs) n) (is_complete (list_of s g)) i none.0 → ((arrivals s g n i ≡ mark_of (of_item i none.0)) × (is_some (mark_of (of_item i none.0)) ≡ true)) ⊎ ((is_complete (list_of s g) ≡ false) × (arrivals s g n i ≡ None))
-      by_case (inl is) = inl (subst (λ (o : Option Event). MatchOption o (slice_get (filter_map mark_of xs) n ≡ None) (λ y. (slice_get (filter_map mark_of xs) n ≡ mark_of y) × (is_some (mark_of y) ≡ true))) is (record_mark xs n))
-      by_case (inr lacks) = inr (lacks.0, no_mark 0 xs n lacks.1)
+  came_with i within = grind (arith, none.1 i within, record_mark (trace_of s (record { group = g; item = i })) n, no_mark 0 (trace_of s (record { group = g; item = i })) n)
 
   mark_is : (i : ℕ) (a : Mark) → HasArrived (size_of s g) (arrivals s g n) i a → Some a ≡ mark_of (of_item i none.0)
   mark_is = one_mark s g n (mark_of (of_item 0 none.0)) came_with

@@ -24,9 +24,7 @@ alike_goes : (firsts apart : List Bare) (m : ℕ) → suc m ≤ length firsts �
 alike_goes firsts apart m within = grind (arith, common_steps)
 
 pub rising_rest : (n : ℕ) (places : List ℕ) → AreRising places → AreRising (drop n places)
-rising_rest n places rises i j le within =
-    let at = rises (n + i) (n + j) (omega arith) (omega (arith, length-drop n places, within)) in
-    omega (arith, at, get_or-drop n places i 0, get_or-drop n places j 0)
+rising_rest n places rises i j le within = grind (arith, length-drop, get_or-drop)
 
 module _ {forgotten : ℕ} {firsts : List Bare} {i : ℕ} {k : Kept} (lane : IsLane forgotten firsts i k) where
   abbrev all_said : List Bare
@@ -51,9 +49,7 @@ module _ {forgotten : ℕ} {firsts : List Bare} {i : ℕ} {k : Kept} (lane : IsL
   said_alike n le below = same_record firsts (n - forgotten) (n - forgotten) (alike_at firsts k.apart (k.alike - forgotten) (n - forgotten) lane.within (omega (arith, le, below))) ∙ said_at n le
 
   pub said_apart : (n : ℕ) → k.alike ≤ n → slice_get (map (of_item i) k.apart) (n - k.alike) ≡ slice_get k.index.arrived n
-  said_apart n behind =
-      same_record k.apart (n - k.alike) (n - forgotten) (apart_at firsts k.apart (k.alike - forgotten) (n - k.alike) lane.within ∙ ap (slice_get all_said) (omega (arith, behind, lane.least)))
-      ∙ said_at n (omega (arith, behind, lane.least))
+  said_apart n behind = grind (arith, said_at n, same_record k.apart (n - k.alike) (n - forgotten), apart_at firsts k.apart (k.alike - forgotten) (n - k.alike), lane.within, lane.least)
 
   -- firsts more change nothing
   pub lane_more : (more : List Bare) → IsLane forgotten (firsts ++ more) i k
