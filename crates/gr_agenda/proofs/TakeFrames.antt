@@ -5,7 +5,6 @@ use Rattle.std.proofs.lemmas.List.{get_or-set_same, get_or-set_other}
 use Rattle.gr_model.proofs.Sending.{is_complete-push}
 use Rattle.gr_model.specs.declared.event.Kind.{Kind}
 use Rattle.gr_model.specs.Instances.{HasArrived, IsDivergentOf, Mark}
-use Rattle.gr_lanes.specs.Indices.{with_if}
 use Rattle.gr_lanes.specs.Takes.{CanTake, next_of, with_record}
 use Rattle.gr_lanes.proofs.Growth.{record_grows}
 use Rattle.gr_lanes.proofs.IndexLemmas.{length-places, no_trace, places_more}
@@ -284,10 +283,7 @@ module _ (s : Streams) (g : ℕ) (x : Event) (prefixes : ArePrefixes s) (can : C
       else_arrival n i apart = grind (arith, more, own_marks, get_before, own, own_mark, count_marks, other, own_trace, common_steps, gets)
 
       pub own_place : place_of more is_barrier own brought ≡ Some e.index
-      own_place =
-          let more_places : places_from is_barrier 0 (trace_of more own) ≡ places_from is_barrier 0 (trace_of s own) ++ length (trace_of s own) ∷ [] = ap (places_from is_barrier 0) own_longer ∙ (places_more is_barrier (trace_of s own) x ∙ ap (λ b. with_if b (places_from is_barrier 0 (trace_of s own)) (length (trace_of s own))) barrier) in
-          let count : brought ≡ length (places_from is_barrier 0 (trace_of s own)) + 0 = let same = length-places is_barrier 0 (trace_of s own) in omega (arith, same) in
-          ap (λ l. slice_get l brought) more_places ∙ (ap (slice_get (places_from is_barrier 0 (trace_of s own) ++ length (trace_of s own) ∷ [])) count ∙ at_behind (places_from is_barrier 0 (trace_of s own)) (length (trace_of s own) ∷ []) 0 (length (trace_of s own)) refl)
+      own_place  = grind (arith, more, own, own_longer, places_more, brought, length-places, at_behind, common_steps, gets)
 
       -- where that is not divergent behind it, the barrier alone is new
       module _ (undiverged : ¬ IsDivergent more g brought) where

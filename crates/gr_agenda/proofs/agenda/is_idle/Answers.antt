@@ -1,4 +1,4 @@
-use Rattle.std.proofs.Common.{◌≡◌, ◌∙◌, Option, None, Some, false, not, true≢false, ap, refl, subst, sym}
+use Rattle.std.proofs.Common.{◌≡◌, ◌∙◌, Option, None, false, not, ap, refl, subst, sym, arith}
 use Rattle.std.specs.Option.{is_some}
 use Rattle.gr_clocks.specs.Counts.{count_of}
 use Rattle.gr_order.proofs.ReadyLemmas.{none_next}
@@ -9,8 +9,7 @@ use Rattle.gr_agenda.proofs.Named.{next_there}
 use Rattle.gr_agenda.proofs.agenda.is_idle.Goals as goal
 
 none_of : {X : Type 0} (o : Option X) → is_some o ≡ false → o ≡ None
-none_of None is = refl
-none_of (Some x) is = absurd (true≢false is)
+none_of o is = grind arith
 
 pub returns-in-Item-clause-none : goal.returns-in-Item-clause-none
 returns-in-Item-clause-none g c idle =
