@@ -72,11 +72,15 @@ module _ (form : Form) (v : Version) where
     abbrev size : ℕ
     size = record_length v
 
+    completes : (r : Records) → records_at size read (most - i) bytes ≡ r → Completes all whole first output r bytes
+    completes r is = subst (λ (x : Records). Completes all whole first output x bytes) is so_far
+
     -- nothing more is read
     stays : (r : Records) → records_at size read (most - i) bytes ≡ r → r.events ≡ [] → left_by r ≡ None → IsTold all whole first output None
     stays r is none left =
         let same : output_with output r bytes ≡ output = ap (λ (es : List Event). output ++ flat_map (formed_event form v) (all_sited v es bytes)) none ∙ append-nil output in
-        record { records = sym same ∙ (ap (λ (x : Records). output_with output x bytes) (sym is) ∙ so_far.records); behind = sym left ∙ (ap left_by (sym is) ∙ so_far.behind) }
+        let c = completes r is in
+        record { records = sym same ∙ c.records; behind = sym left ∙ c.behind }
 
     pub stops_short : length bytes < size → IsTold all whole first output None
     stops_short lt = stays _ (short size read (most - i) bytes lt) refl refl
@@ -100,20 +104,17 @@ module _ (form : Form) (v : Version) where
       -- the end
       pub ended : (e : Event) → read (take size bytes) ≡ Ok e → is_end e ≡ true → IsTold all whole first (output ++ formed_event form v (sited v e (take size bytes))) (Some (drop size bytes))
       ended e is end =
-          let at = rw end at (one_more (Ok e) is) in
+          let c = completes _ (rw end at (one_more (Ok e) is)) in
           let one = formed_event form v (sited v e (take size bytes)) in
           let line : output ++ (one ++ []) ≡ output ++ one = ap (λ (x : List ℕ). output ++ x) (append-nil one) in
-          record { records = sym line ∙ (ap (λ (x : Records). output_with output x bytes) (sym at) ∙ so_far.records); behind = ap left_by (sym at) ∙ so_far.behind }
+          record { records = sym line ∙ c.records; behind = c.behind }
 
       -- any other record
       pub goes_on : (e : Event) → read (take size bytes) ≡ Ok e → is_end e ≡ false → Completes all whole first (output ++ formed_event form v (sited v e (take size bytes))) (records_at size read (most - (i + 1)) (drop size bytes)) (drop size bytes)
       goes_on e is end =
-          let at = rw end at (one_more (Ok e) is) in
+          let c = completes _ (rw end at (one_more (Ok e) is)) in
           let further = records_at size read (most - (i + 1)) (drop size bytes) in
-          record {
-            records = append_assoc output (formed_event form v (sited v e (take size bytes))) (flat_map (formed_event form v) (all_sited v further.events (drop size bytes))) ∙ (ap (λ (x : Records). output_with output x bytes) (sym at) ∙ so_far.records);
-            behind = ap left_by (sym at) ∙ so_far.behind;
-          }
+          record { records = append_assoc output (formed_event form v (sited v e (take size bytes))) (flat_map (formed_event form v) (all_sited v further.events (drop size bytes))) ∙ c.records; behind = c.behind }
 
 -- the lines of a header and of the records behind it are those of what stands before a fault
 pub front_text : (bytes : List ℕ) (h : Header) (mid text done new : List ℕ) (line : SitedLine) → front_header_at bytes ≡ Ok (h, mid) → line ≡ header_line h → done ≡ text ++ whole_line line

@@ -1,6 +1,6 @@
 -- The bytes of whole streams are dumped and their text is packed; and what is packed is dumped again, what is dumped packed again.
 use Rattle.std.proofs.Common.{◌≡◌, ℕ, zero, suc, ◌+◌, ◌≤◌, false, List, [], ◌∷◌, ◌++◌, length, drop, All, Result, Ok, refl, sym, ap, ◌∙◌, append_assoc, arith, inl, inr, IsTrue, true≢false, ◌-◌, ◌^◌, ◌<◌, true, map}
-use Rattle.std.specs.Prelude.{◌==◌, nat_le, nat_lt, ⊤}
+use Rattle.std.specs.Prelude.{◌==◌, ⊤}
 use Rattle.std.proofs.lemmas.Bool.{le-ltb, ne_eqb, cases_Bool, and_parts, ltb-true, lt-leb}
 use Rattle.std.proofs.lemmas.List.Elements.{All-head, All-tail}
 use Rattle.std.proofs.lemmas.List.{take_at, drop_at, length-append, append-nil}
@@ -114,10 +114,7 @@ unfolding lines_of
 line_before [] rest h = refl
 line_before (b ∷ l) rest h =
     let p = and_parts _ _ h in
-    let lt : 10 < b = ltb-true 10 b p.0 in
-    let other : (b == 10) ≡ false = ne_eqb b 10 (λ e. absurd (omega arith)) in
-    let ih = line_before l rest p.1 in
-    rw (other, ih) refl
+    rw (ne_eqb b 10 (λ e. absurd (omega (arith, ltb-true 10 b p.0))), line_before l rest p.1) refl
 
 abbrev IsAnySaid : SitedLine → Type 0
 IsAnySaid x = IsSaid Four x.line × (x.site < 2 ^ 16)
@@ -159,9 +156,9 @@ records_back [] n h left rest few runs complete le behind = absurd (true≢false
 records_back (r ∷ rs) n h left rest few runs complete le behind =
     let e = r.event in
     let read = sited_text_is_read h.version (record_line r) ((event_said h.items (most_items h.version) e few runs.0.event, runs.0.range), runs.0.site) in
-    let there : nat_le h.items e.item ≡ false = lt-leb h.items e.item runs.0.event.ok.0 in
-    let room : nat_lt (places h.version) (length e.names) ≡ false = le-ltb _ _ runs.0.names in
-    let some : (left == 0) ≡ false = ne_eqb left 0 (λ none. absurd (omega arith)) in
+    let there = lt-leb h.items e.item runs.0.event.ok.0 in
+    let room = le-ltb (places h.version) (length e.names) runs.0.names in
+    let some = ne_eqb left 0 (λ none. absurd (omega arith)) in
     elim (cases_Bool (is_end e)) [
       | inl end ↦
           let none : rs ≡ [] = runs.1 end in
