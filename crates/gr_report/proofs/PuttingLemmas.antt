@@ -70,18 +70,9 @@ module _ {X : Type 0} (f : X → List ℕ) (xs : List X) (i : ℕ) (d : X) (old 
 
   pub lines_fail : (e : WriteFault) → i < length xs → Puts mid new (Err e) (f (get_or xs i d)) → Puts old new (Err e) text
   lines_fail e lt h =
-      let a = f (get_or xs i d) in
       let rest = flat_map f (drop (i + 1) xs) in
-      let k = h.prefix in
-      record {
-        whole = tt;
-        prefix = (
-          so_far.0 ++ k.0,
-          k.1 ++ rest,
-          so_far.1 ∙ ap (λ (v : List ℕ). so_far.0 ++ v) (flat_map-drop f xs i d lt ∙ ap (λ (v : List ℕ). v ++ rest) k.2 ∙ append_assoc k.0 k.1 rest) ∙ sym (append_assoc so_far.0 k.0 (k.1 ++ rest)),
-          Appends-trans old mid new so_far.0 k.0 so_far.2 k.3,
-        );
-      }
+      let due : Puts old new (Err e) (so_far.0 ++ (f (get_or xs i d) ++ rest)) = puts_then {x = tt} (record { whole = so_far.2; prefix = tt }) (puts_more rest h) in
+      rw (so_far.1, flat_map-drop f xs i d lt) due
 
   pub lines_end : length xs ≤ i → Puts old mid (Ok tt) text
   lines_end le =
