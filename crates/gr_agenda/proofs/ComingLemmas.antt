@@ -63,7 +63,7 @@ module _ (q : Sequence) (g n : ℕ) (prefixes : ArePrefixes q.taken) (lawful : I
       (cases_eq h g)
 
   takes : Takes q.taken more q.handled (λ d. ⊥)
-  takes  = search (arith, group_grows, same_trace, divergent_was)
+  takes = search (arith, group_grows, same_trace, divergent_was)
 
   never : ⊥ → ⊥
   never e = e

@@ -59,7 +59,7 @@ module _ {Z : Type 0} (q : Sequence) (is : IsSequence q) (t t2 : Steps) (lists l
     h2 = h ++ e ∷ []
 
     adds_event : Adds s h h2 (λ x. x ≡ e) (λ i. i ≡ e.at)
-    adds_event  = grind (arith, slice_get-append, h, e, split_last)
+    adds_event = grind (arith, slice_get-append, h, e, split_last)
 
     module _ (item : Has t2 (Item e.at)) (group : CanMeet s h2 e.at.group → Has t2 (Group e.at.group))
         (others : (n : Name) (i : ItemId) → IsWaiting lists n i → Has t2 (Item i) ⊎ IsWaiting lists2 n i)

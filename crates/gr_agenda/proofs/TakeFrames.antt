@@ -283,7 +283,7 @@ module _ (s : Streams) (g : ℕ) (x : Event) (prefixes : ArePrefixes s) (can : C
       else_arrival n i apart = grind (arith, more, own_marks, get_before, own, own_mark, count_marks, other, own_trace, common_steps, gets)
 
       pub own_place : place_of more is_barrier own brought ≡ Some e.index
-      own_place  = grind (arith, more, own, own_longer, places_more, brought, length-places, at_behind, common_steps, gets)
+      own_place = grind (arith, more, own, own_longer, places_more, brought, length-places, at_behind, common_steps, gets)
 
       -- where that is not divergent behind it, the barrier alone is new
       module _ (undiverged : ¬ IsDivergent more g brought) where

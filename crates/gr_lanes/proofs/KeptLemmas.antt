@@ -98,7 +98,6 @@ module _ {forgotten : ℕ} (firsts : List Bare) (ks : List Kept) (are : AreLanes
   index_was = ap (λ (l : GroupIndex). get_or l.indices x.item no_index) (sym view) ∙ (index_is ks x.item ∙ ap (λ (k : Kept). k.index) (ap (λ n. get_or ks n nothing_kept) (sym here) ∙ sym old_is))
 
   module _ (new : Kept) where
-
     seen_set : (index : Index) → new.index ≡ index → seen_of forgotten (set ks j new) ≡ with_indices s (set s.indices x.item index)
     seen_set index is = grind (arith, common_steps, map-set)
 

@@ -118,7 +118,6 @@ module _ {forgotten : ℕ} (x : Event) (bare : x.names ≡ []) {k : Kept} where
   arrives_as {firsts} {firsts'} more grown lane index is = record { more = more; grown = grown; lane = subst (IsLane forgotten firsts' x.item) (sym is) lane; index = ap (λ (l : Kept). l.index) is ∙ index }
 
   module _ {firsts : List Bare} (lane : IsLane forgotten firsts x.item k) {new : Kept} where
-
     pub arrives_apart : new ≡ apart_more k x → Arrives forgotten firsts firsts k new x
     arrives_apart is =
         arrives_as [] (sym (append-nil firsts))

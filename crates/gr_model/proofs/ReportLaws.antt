@@ -51,9 +51,9 @@ items_are_there : (sizes : List ℕ) → All (HasItem sizes) (items_of sizes)
 items_are_there sizes =
     let items : ℕ → List ItemId = λ g. map (λ i. record { group = g; item = i }) (range_with_len 0 (slice_index sizes g)) in
     All-flat_map (HasItem sizes) items (range_with_len 0 (length sizes)) (All-weaker (λ g. g < length sizes) (λ g. All (HasItem sizes) (items g))
-        (λ g there. All-map (HasItem sizes) (λ i. record { group = g; item = i }) (range_with_len 0 (slice_index sizes g))
-        (All-weaker (λ i. i < slice_index sizes g) (λ i. HasItem sizes (record { group = g; item = i })) (λ i below. (there, below)) _ (below_range (slice_index sizes g))))
-        _ (below_range (length sizes)))
+    (λ g there. All-map (HasItem sizes) (λ i. record { group = g; item = i }) (range_with_len 0 (slice_index sizes g))
+    (All-weaker (λ i. i < slice_index sizes g) (λ i. HasItem sizes (record { group = g; item = i })) (λ i below. (there, below)) _ (below_range (slice_index sizes g))))
+    _ (below_range (length sizes)))
 
 one_held : (s : Streams) (m n : ℕ) → IsHeld s m → IsHeld s n → m ≡ n
 one_held s m n a b = grind (arith, sum_same, number_one, items_are_there)

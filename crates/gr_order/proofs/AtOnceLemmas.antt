@@ -60,8 +60,8 @@ module _ {q : Sequence} {frontier : Counts} {windows : Table} {held : ℕ} (kept
     count_is =
         let most = taken_first kept.state e.at in
         let all : ¬ (count_of frontier e.at < length (trace_of q.taken e.at)) = λ lt.
-            let at = slice_get-get_or (trace_of q.taken e.at) (count_of frontier e.at) x lt in
-            let first = first_waits q.taken frontier windows kept.waits next refl in cc in
+        let at = slice_get-get_or (trace_of q.taken e.at) (count_of frontier e.at) x lt in
+        let first = first_waits q.taken frontier windows kept.waits next refl in cc in
         omega arith
 
     -- nothing of the item waits

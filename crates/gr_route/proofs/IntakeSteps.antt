@@ -159,8 +159,7 @@ splits pass g n p s js within vacant some_items items views h at =
           (λ same. let zero = sym (changed_here h.size g n k same) ∙ none in absurd (omega (arith, zero, some_items)))
           (λ other. let old = h.unseated k (sym (size_else k other) ∙ none) in (held_else k other ∙ old.0, old.1));
       fits = each_snoc F vs (seat_of g n [])
-          (each_set F views pass left
-          (
+          (each_set F views pass left (
             (λ q. none_holds q),
             (λ _. (
               mine.0,

@@ -1,3 +1,4 @@
+pub mod Changes
 pub mod WayLemmas
 pub mod TakeLemmas
 pub mod StepLemmas

@@ -2,7 +2,8 @@
 use Rattle.std.proofs.Common.{◌≡◌, ◌∙◌, ◌++◌, ℕ, List, length, take, drop, append-nil, refl, sym, ap, arith}
 use Rattle.std.proofs.lemmas.List.{drop_all, length-map, take_all}
 use Rattle.gr_route.specs.IntakeSeats.{Taker}
-use Rattle.gr_sequencer_thread.specs.Feeds.{Feed, IsSameRun}
+use Rattle.gr_route.specs.WorkSeats.{Giver}
+use Rattle.gr_sequencer_thread.specs.Feeds.{Feed, IsSameRun, intakes_of, works_of}
 
 pub goes_on : {A : Type 0} (f : Feed A) → IsSameRun f f
 goes_on f = record { config = refl; sizes = refl; intakes = refl; works = refl }
@@ -10,8 +11,11 @@ goes_on f = record { config = refl; sizes = refl; intakes = refl; works = refl }
 pub goes_further : {A : Type 0} (f g h : Feed A) → IsSameRun f g → IsSameRun g h → IsSameRun f h
 goes_further f g h first then = record { config = then.config ∙ first.config; sizes = then.sizes ∙ first.sizes; intakes = then.intakes ∙ first.intakes; works = then.works ∙ first.works }
 
-pub same_count : {A : Type 0} (f g : Feed A) → IsSameRun f g → length g.takers ≡ length f.takers
-same_count f g same = sym (length-map g.takers (λ (t : Taker). t.queue)) ∙ (ap length same.intakes ∙ length-map f.takers (λ (t : Taker). t.queue))
+pub same_takers : (was now : List Taker) → intakes_of now ≡ intakes_of was → length now ≡ length was
+same_takers was now queues = sym (length-map now (λ (t : Taker). t.queue)) ∙ (ap length queues ∙ length-map was (λ (t : Taker). t.queue))
+
+pub same_givers : {A : Type 0} (was now : List (Giver A)) → works_of now ≡ works_of was → length now ≡ length was
+same_givers {A} was now queues = sym (length-map now (λ (u : Giver A). u.queue)) ∙ (ap length queues ∙ length-map was (λ (u : Giver A). u.queue))
 
 -- a list that was lent whole is what came back
 pub whole_back : {X : Type 0} (n : ℕ) (was now : List X) → length was ≡ n → length now ≡ length was → take n (now ++ drop (length now) was) ≡ now

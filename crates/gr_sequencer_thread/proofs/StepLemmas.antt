@@ -15,6 +15,7 @@ use Rattle.gr_route.specs.WorkRule.{is_stopped}
 use Rattle.gr_route.specs.WorkSeats.{Giver}
 use Rattle.gr_threads.specs.Given.{accesses_in}
 use Rattle.gr_threads.proofs.Givens.{more_given}
+use Rattle.gr_sequencer_thread.proofs.Changes.{where_set}
 use Rattle.gr_sequencer_thread.specs.Feeds.{AreOpen, AreSplit, accesses_for, accesses_on_way, given_of, towards}
 
 pub worker_below : (w : Word) (workers : ℕ) → 0 < workers → worker_number w workers < workers
@@ -27,27 +28,21 @@ module _ (workers : ℕ) (given : List (List ClockedAccess)) (accesses : List Cl
   abbrev more : List (List ClockedAccess)
   more = set on_way k (w ++ x ∷ [])
 
-  own : k < workers → accesses_for workers k (accesses ++ x ∷ []) ≡ get_or given k [] ++ get_or more k []
+  own : k < workers → accesses_for workers k (accesses ++ x ∷ []) ≡ get_or given k [] ++ (w ++ x ∷ [])
   own lt =
       filter-append (λ (y : ClockedAccess). worker_number y.word workers == k) accesses (x ∷ [])
       ∙ (ap (λ b. accesses_for workers k accesses ++ cond b (x ∷ []) []) (eq-eqb (worker_number x.word workers) k (sym to))
-      ∙ (ap (λ (l : List ClockedAccess). l ++ x ∷ []) (split k lt)
-      ∙ (append_assoc (get_or given k []) (get_or on_way k []) (x ∷ [])
-      ∙ (ap (λ (l : List ClockedAccess). get_or given k [] ++ (l ++ x ∷ [])) (get_or_default on_way k [] w there ∙ sym at)
-      ∙ ap (λ (l : List ClockedAccess). get_or given k [] ++ l) (sym (get_or-set_same on_way k (w ++ x ∷ []) [] there))))))
+      ∙ (ap (λ (l : List ClockedAccess). l ++ x ∷ []) (split k lt ∙ ap (λ (l : List ClockedAccess). get_or given k [] ++ l) (get_or_default on_way k [] w there ∙ sym at))
+      ∙ append_assoc (get_or given k []) w (x ∷ [])))
 
-  others : (j : ℕ) → j < workers → j ≢ k → accesses_for workers j (accesses ++ x ∷ []) ≡ get_or given j [] ++ get_or more j []
-  others j lt apart =
+  others : (j : ℕ) → j ≢ k → j < workers → accesses_for workers j (accesses ++ x ∷ []) ≡ get_or given j [] ++ get_or on_way j []
+  others j apart lt =
       filter-append (λ (y : ClockedAccess). worker_number y.word workers == j) accesses (x ∷ [])
       ∙ (ap (λ b. accesses_for workers j accesses ++ cond b (x ∷ []) []) (ne_eqb (worker_number x.word workers) j (λ same. apart (sym same ∙ sym to)))
-      ∙ (append-nil (accesses_for workers j accesses)
-      ∙ (split j lt ∙ ap (λ (l : List ClockedAccess). get_or given j [] ++ l) (sym (get_or-set_other on_way k j (w ++ x ∷ []) [] apart)))))
+      ∙ (append-nil (accesses_for workers j accesses) ∙ split j lt))
 
   pub split_more : AreSplit workers given (accesses ++ x ∷ []) more
-  split_more j lt = ⊎_elim
-      (λ (same : j ≡ k). subst (λ n. accesses_for workers n (accesses ++ x ∷ []) ≡ get_or given n [] ++ get_or more n []) (sym same) (own (subst (λ n. n < workers) same lt)))
-      (λ apart. others j lt apart)
-      (cases_eq j k)
+  split_more = where_set (λ j l. j < workers → accesses_for workers j (accesses ++ x ∷ []) ≡ get_or given j [] ++ l) on_way k (w ++ x ∷ []) [] there own others
 
 -- ---- some are passed on to a worker
 
@@ -59,12 +54,9 @@ module _ {A : Type 0} (givers : List (Giver A)) (ways : List (List (Work A))) (k
   on_way_at ws u lt is = get_or-map accesses_in ws k u [] lt ∙ ap accesses_in is
 
   pub still_open : IsFalse (is_stopped o'.pushed) → AreOpen givers → AreOpen (set givers k o')
-  still_open unstopped free j d lt = ⊎_elim
-      (λ (same : j ≡ k).
-      ap (λ n. is_stopped (get_or (set givers k o') n d).pushed) same
-      ∙ (ap (λ (g : Giver A). is_stopped g.pushed) (get_or-set_same givers k o' d there) ∙ unstopped))
-      (λ apart. ap (λ (g : Giver A). is_stopped g.pushed) (get_or-set_other givers k j o' d apart) ∙ free j d (let len = length-set givers k o' in omega (arith, lt, len)))
-      (cases_eq j k)
+  still_open unstopped free j d lt =
+      let len = length-set givers k o' in
+      where_set (λ i u. i < length givers → IsFalse (is_stopped u.pushed)) givers k o' d there (λ _. unstopped) (λ i _. free i d) j (omega (arith, lt, len))
 
   module _ (within : k < length ways) (w w' : List (Work A)) (mine : w ≡ get_or ways k w) (moved : o'.pushed ++ w' ≡ o.pushed ++ w) where
     own_towards : towards (set givers k o') (set ways k w') k ≡ towards givers ways k

@@ -1,18 +1,21 @@
 -- What was popped may come, and what was taken of it is in the end all that was popped.
-use Rattle.std.proofs.Common.{◌≡◌, ◌≢◌, ◌==◌, ℕ, ◌<◌, ◌≤◌, ◌%◌, List, [], ◌∷◌, ◌++◌, length, get_or, set, cond, refl, sym, ap, ◌∙◌, subst, ⊎_elim, arith, append_assoc, append-nil, length-append, eq-eqb, ne_eqb}
+use Rattle.std.proofs.Common.{◌≡◌, ◌≢◌, ◌==◌, Bool, false, ℕ, ◌<◌, ◌≤◌, ◌%◌, List, [], ◌∷◌, ◌++◌, length, get_or, set, cond, refl, sym, ap, ◌∙◌, subst, ⊎_elim, arith, append_assoc, append-nil, length-append, eq-eqb, ne_eqb}
 use Rattle.std.proofs.Math.ListN.{get_or-eq_default}
 use Rattle.std.proofs.lemmas.Bool.{cases_eq, cases_lt}
-use Rattle.std.proofs.lemmas.List.{get_or-map, get_or-set_other, get_or-set_same, get_or_default, length-map, length-set}
+use Rattle.std.proofs.lemmas.List.{get_or-map, get_or-set_same, get_or_default, length-map, length-set}
 use Rattle.std.specs.List.{All}
 use Rattle.gr_model.specs.declared.event.Event.{Event}
 use Rattle.gr_model.specs.declared.event.Sent.{Sent}
 use Rattle.gr_model.specs.Configs.{Settings}
 use Rattle.gr_model.specs.Streams.{IsPrefix, Streams, events_of, list_of, size_of}
 use Rattle.gr_model.proofs.Sending.{events_append, events_else, events_here}
+use Rattle.gr_clocks.specs.ClockedAccess.{ClockedAccess}
+use Rattle.gr_order.specs.Sequences.{Sequence}
 use Rattle.gr_route.specs.Batches.{sent_by}
 use Rattle.gr_route.specs.IntakeSeats.{IsDelivery, Taker, popped_of}
 use Rattle.gr_taking.specs.Sources.{ListedRecords, MayCome, come_of}
-use Rattle.gr_sequencer_thread.specs.Feeds.{ArePopped, AreSeated, AreTaken, come_in}
+use Rattle.gr_sequencer_thread.specs.Feeds.{ArePopped, AreSeated, AreTaken, Feed, IsFeed, IsGood, come_in}
+use Rattle.gr_sequencer_thread.proofs.Changes.{where_set}
 
 -- the seat after events of a group were popped
 abbrev pub popping : Taker → ℕ → List Event → Taker
@@ -44,11 +47,11 @@ come_at taken coming g f b lt = get_or-map (come_one taken) coming g b f lt
 -- ---- events of a group are popped
 
 module _ (config : Settings) (sizes : List ℕ) (takers : List Taker) (seated : AreSeated config sizes takers) (q : ℕ) (t : Taker) (at : t ≡ get_or takers q t) (there : q < config.queues) (queues : length takers ≡ config.queues) (n : ℕ) (es : List Event) (some : 0 < length es) (delivery : IsDelivery (popping t n es)) where
+  within : q < length takers
+  within = omega (arith, there, queues)
+
   popped_here : popped_of (popping t n es) n ≡ popped_of t n ++ es
   popped_here = events_append n t.popped (sent_by n es) ∙ ap (λ (l : List Event). popped_of t n ++ l) (sent_here n es)
-
-  popped_else : (h : ℕ) → h ≢ n → popped_of (popping t n es) h ≡ popped_of t h
-  popped_else h apart = events_append h t.popped (sent_by n es) ∙ (ap (λ (l : List Event). popped_of t h ++ l) (sent_else h n es apart) ∙ append-nil (popped_of t h))
 
   has_seat : get_or t.sizes n 0 ≢ 0
   has_seat none =
@@ -71,74 +74,49 @@ module _ (config : Settings) (sizes : List ℕ) (takers : List Taker) (seated : 
       (λ (ge : length sizes ≤ n). absurd (has_seat (size_is ∙ get_or-eq_default sizes 0 ge)))
       (cases_lt n (length sizes))
 
-  seat_here : (d : Taker) → get_or (set takers q (popping t n es)) q d ≡ popping t n es
-  seat_here d = get_or-set_same takers q (popping t n es) d (omega (arith, there, queues))
+  -- what was popped of each group: these events more, if they are of the group
+  popped_now : (h : ℕ) (d : Taker) → popped_of (get_or (set takers q (popping t n es)) (h % config.queues) d) h ≡ popped_of (get_or takers (h % config.queues) d) h ++ events_of h (sent_by n es)
+  popped_now h d = where_set (λ p u. p ≡ h % config.queues → popped_of u h ≡ popped_of (get_or takers p d) h ++ events_of h (sent_by n es)) takers q (popping t n es) d within
+      (λ _. events_append h t.popped (sent_by n es) ∙ ap (λ (u : Taker). popped_of u h ++ events_of h (sent_by n es)) (at ∙ get_or_default takers q t d within))
+      (λ p apart mine. sym (ap (λ (l : List Event). popped_of (get_or takers p d) h ++ l) (sent_else h n es (λ same. apart (mine ∙ ap (λ m. m % config.queues) same ∙ queue_is))) ∙ append-nil (popped_of (get_or takers p d) h)))
+      (h % config.queues)
+      refl
 
-  seat_else : (p : ℕ) (d : Taker) → p ≢ q → get_or (set takers q (popping t n es)) p d ≡ get_or takers p d
-  seat_else p d apart = get_or-set_other takers q p (popping t n es) d apart
+  own_now : (d : Taker) → popped_of (get_or (set takers q (popping t n es)) (n % config.queues) d) n ≡ popped_of (get_or takers (n % config.queues) d) n ++ es
+  own_now d = popped_now n d ∙ ap (λ (l : List Event). popped_of (get_or takers (n % config.queues) d) n ++ l) (sent_here n es)
 
-  -- what was popped of the events' group
-  own_before : (d : Taker) → popped_of (get_or takers (n % config.queues) d) n ≡ popped_of t n
-  own_before d = ap (λ m. popped_of (get_or takers m d) n) queue_is ∙ ap (λ (u : Taker). popped_of u n) (get_or_default takers q d t (omega (arith, there, queues)) ∙ sym at)
-
-  own_after : (d : Taker) → popped_of (get_or (set takers q (popping t n es)) (n % config.queues) d) n ≡ popped_of t n ++ es
-  own_after d = ap (λ m. popped_of (get_or (set takers q (popping t n es)) m d) n) queue_is ∙ (ap (λ (u : Taker). popped_of u n) (seat_here d) ∙ popped_here)
-
-  -- and of other groups
   others : (h : ℕ) (d : Taker) → h ≢ n → popped_of (get_or takers (h % config.queues) d) h ≡ popped_of (get_or (set takers q (popping t n es)) (h % config.queues) d) h
-  others h d apart = ⊎_elim
-      (λ (same : h % config.queues ≡ q).
-      ap (λ n. popped_of (get_or takers n d) h) same
-      ∙ (ap (λ (u : Taker). popped_of u h) (get_or_default takers q d t (omega (arith, there, queues)) ∙ sym at)
-      ∙ (sym (popped_else h apart)
-      ∙ (sym (ap (λ (u : Taker). popped_of u h) (seat_here d))
-      ∙ ap (λ m. popped_of (get_or (set takers q (popping t n es)) m d) h) (sym same)))))
-      (λ other. ap (λ (u : Taker). popped_of u h) (sym (seat_else (h % config.queues) d other)))
-      (cases_eq (h % config.queues) q)
+  others h d apart = sym (popped_now h d ∙ ap (λ (l : List Event). popped_of (get_or takers (h % config.queues) d) h ++ l) (sent_else h n es apart) ∙ append-nil (popped_of (get_or takers (h % config.queues) d) h))
 
   -- the events join those that are to be taken
   module _ (taken : Streams) (same : taken.sizes ≡ sizes) (coming : List ListedRecords) (are : ArePopped config taken coming takers) (b : ListedRecords) (mine : b ≡ get_or coming n b) where
     there_now : n < length coming
     there_now = omega (arith, are.count, ap length same, group_there)
 
-    abbrev joined : List ListedRecords
-    joined = set coming n (behind b es)
-
-    came : (d : Taker) → come_one taken b ≡ (n, popped_of t n)
+    came : (d : Taker) → come_one taken b ≡ (n, popped_of (get_or takers (n % config.queues) d) n)
     came d =
         let f = come_one taken b in
-        ap (come_one taken) mine
-        ∙ (sym (come_at taken coming n f b there_now)
-        ∙ (are.each n f d (omega (arith, there_now, are.count)) ∙ ap (λ (l : List Event). (n, l)) (own_before d)))
+        ap (come_one taken) mine ∙ (sym (come_at taken coming n f b there_now) ∙ are.each n f d (omega (arith, there_now, are.count)))
 
-    here : (f : ℕ × List Event) (d : Taker) → get_or (come_in taken joined) n f ≡ (n, popped_of (get_or (set takers q (popping t n es)) (n % config.queues) d) n)
-    here f d =
-        come_at taken joined n f b (omega (arith, there_now, length-set coming n (behind b es)))
-        ∙ (ap (come_one taken) (get_or-set_same coming n (behind b es) b there_now)
-        ∙ (ap (λ (l : List Event). (b.group, l)) (sym (append_assoc (list_of taken b.group) b.records (es)))
-        ∙ (ap (λ (x : ℕ × List Event). (x.0, x.1 ++ es)) (came d)
-        ∙ ap (λ (l : List Event). (n, l)) (sym (own_after d)))))
-
-    elsewhere : (g : ℕ) (f : ℕ × List Event) (d : Taker) → g < length taken.sizes → g ≢ n → get_or (come_in taken joined) g f ≡ (g, popped_of (get_or (set takers q (popping t n es)) (g % config.queues) d) g)
-    elsewhere g f d lt apart =
-        come_at taken joined g f b (omega (arith, lt, are.count, length-set coming n (behind b es)))
-        ∙ (ap (come_one taken) (get_or-set_other coming n g (behind b es) b apart)
-        ∙ (sym (come_at taken coming g f b (omega (arith, lt, are.count)))
-        ∙ (are.each g f d lt ∙ ap (λ (l : List Event). (g, l)) (others g d apart))))
-
-    own_size : get_or t.sizes n 0 ≡ size_of taken n
-    own_size = size_is ∙ ap (λ (l : List ℕ). get_or l n 0) (sym same)
+    each : (g : ℕ) (f : ℕ × List Event) (d : Taker) → g < length taken.sizes → get_or (come_in taken (set coming n (behind b es))) g f ≡ (g, popped_of (get_or (set takers q (popping t n es)) (g % config.queues) d) g)
+    each g f d lt =
+        come_at taken (set coming n (behind b es)) g f b (omega (arith, lt, are.count, length-set coming n (behind b es)))
+        ∙ where_set (λ h c. h < length taken.sizes → come_one taken c ≡ (h, popped_of (get_or (set takers q (popping t n es)) (h % config.queues) d) h)) coming n (behind b es) b there_now
+        (λ _. ap (λ (l : List Event). (b.group, l)) (sym (append_assoc (list_of taken b.group) b.records es)) ∙ (ap (λ (x : ℕ × List Event). (x.0, x.1 ++ es)) (came d) ∙ ap (λ (l : List Event). (n, l)) (sym (own_now d))))
+        (λ h apart below. sym (come_at taken coming h f b (omega (arith, below, are.count))) ∙ (are.each h f d below ∙ ap (λ (l : List Event). (h, l)) (others h d apart)))
+        g lt
 
     own_prefix : (d : Taker) → IsPrefix (size_of taken n) (popped_of (get_or (set takers q (popping t n es)) (n % config.queues) d) n)
-    own_prefix d = subst (IsPrefix (size_of taken n)) (popped_here ∙ sym (own_after d)) (subst (λ m. IsPrefix m (popped_of (popping t n es) n)) own_size (delivery.streams n))
+    own_prefix d =
+        let popped : popped_of (popping t n es) n ≡ popped_of (get_or (set takers q (popping t n es)) (n % config.queues) d) n =
+        ap (λ (u : Taker). popped_of u n) (sym (ap (λ m. get_or (set takers q (popping t n es)) m d) queue_is ∙ get_or-set_same takers q (popping t n es) d within)) in
+        let size : get_or t.sizes n 0 ≡ size_of taken n = size_is ∙ ap (λ (l : List ℕ). get_or l n 0) (sym same) in
+        subst (λ (y : ℕ × List Event). IsPrefix y.0 y.1) (λ i. (size i, popped i)) (delivery.streams n)
 
-    pub still_popped : ArePopped config taken joined (set takers q (popping t n es))
+    pub still_popped : ArePopped config taken (set coming n (behind b es)) (set takers q (popping t n es))
     still_popped = record {
       count = length-set coming n (behind b es) ∙ are.count;
-      each = λ g f d lt. ⊎_elim
-          (λ (own : g ≡ n). subst (λ m. get_or (come_in taken joined) m f ≡ (m, popped_of (get_or (set takers q (popping t n es)) (m % config.queues) d) m)) (sym own) (here f d))
-          (λ apart. elsewhere g f d lt apart)
-          (cases_eq g n);
+      each = each;
       prefixes = λ g d lt. ⊎_elim
           (λ (own : g ≡ n). subst (λ m. IsPrefix (size_of taken m) (popped_of (get_or (set takers q (popping t n es)) (m % config.queues) d) m)) (sym own) (own_prefix d))
           (λ apart. subst (IsPrefix (size_of taken g)) (others g d apart) (are.prefixes g d lt))
@@ -146,14 +124,39 @@ module _ (config : Settings) (sizes : List ℕ) (takers : List Taker) (seated : 
     }
 
   pub still_seated : AreSeated config sizes (set takers q (popping t n es))
-  still_seated p g d lt = ⊎_elim
-      (λ (same : p ≡ q).
-      ap (λ m. get_or (get_or (set takers q (popping t n es)) m d).sizes g 0) same
-      ∙ (ap (λ (u : Taker). get_or u.sizes g 0) (seat_here d ∙ refl)
-      ∙ (ap (λ (u : Taker). get_or u.sizes g 0) at
-      ∙ (seated q g t there ∙ ap (λ n. cond (g % config.queues == n) (get_or sizes g 0) 0) (sym same)))))
-      (λ apart. ap (λ (u : Taker). get_or u.sizes g 0) (seat_else p d apart) ∙ seated p g d lt)
-      (cases_eq p q)
+  still_seated p g d = where_set (λ p u. p < config.queues → get_or u.sizes g 0 ≡ cond (g % config.queues == p) (get_or sizes g 0) 0) takers q (popping t n es) d within
+      (λ lt. ap (λ (u : Taker). get_or u.sizes g 0) at ∙ seated q g t lt) (λ p _. seated p g d) p
+
+-- a feed for which they were popped
+pub popped_feed : {A : Type 0} (f : Feed A) → IsFeed f → (q : ℕ) (t u : Taker) (n : ℕ) (es : List Event) (coming : List ListedRecords) (failed : Bool)
+    → t ≡ get_or f.takers q t → q < length f.takers → 0 < length es → u ≡ popping t n es → IsDelivery u → length coming ≡ length f.coming
+    → (failed ≡ false → (f.failed ≡ false) × ((b : ListedRecords) → b ≡ get_or f.coming n b → coming ≡ set f.coming n (behind b es)))
+    → IsFeed (record f { takers = set f.takers q u; coming = coming; failed = failed })
+popped_feed f is q t u n es coming failed at lt some now delivered count noted =
+    let delivery = subst IsDelivery now delivered in
+    let there : q < f.config.queues = omega (arith, lt, is.queues) in
+    let b : ListedRecords = get_or f.coming n (record { group = 0; records = [] }) in
+    let within = group_there f.config f.sizes f.takers is.seated q t at there is.queues n es some delivery in
+    let mine : b ≡ get_or f.coming n b = get_or_default f.coming n (record { group = 0; records = [] }) b (omega (arith, within, is.backlogs)) in
+    let seated = subst (λ (v : Taker). AreSeated f.config f.sizes (set f.takers q v)) (sym now) (still_seated f.config f.sizes f.takers is.seated q t at there is.queues n es some delivery) in
+    record {
+      config = is.config;
+      queues = length-set f.takers q u ∙ is.queues;
+      worker_count = is.worker_count;
+      backlogs = count ∙ is.backlogs;
+      seated = seated;
+      unstopped = is.unstopped;
+      good = λ still.
+          let told = noted still in
+          let was = is.good told.0 in
+          let popped = still_popped f.config f.sizes f.takers is.seated q t at there is.queues n es some delivery f.sequence.taken was.same f.coming was.popped b mine in
+          record {
+            same = was.same;
+            sequence = was.sequence;
+            popped = subst (λ (y : List ListedRecords × Taker). ArePopped f.config f.sequence.taken y.0 (set f.takers q y.1)) (λ i. (sym (told.1 b mine) i, sym now i)) popped;
+            passed = was.passed;
+          };
+    }
 
 -- ---- the groups take turns
 
@@ -202,3 +205,16 @@ module _ (config : Settings) (taken : Streams) (coming : List ListedRecords) (ta
           ap (list_of taken) (sym (ap (λ (x : ℕ × List Event). x.0) is))
           ∙ (sym (ap (λ (l : List Event). list_of taken b.group ++ l) empty ∙ append-nil (list_of taken b.group))
           ∙ ap (λ (x : ℕ × List Event). x.1) is)
+
+-- a feed of whose groups some of what was popped was taken
+pub taken_feed : {A : Type 0} (f : Feed A) → IsFeed f → (sequence : Sequence) (coming : List ListedRecords) (on_way : List (List ClockedAccess)) (failed : Bool) → length coming ≡ length f.coming → (failed ≡ false → IsGood (record f { sequence = sequence; coming = coming; on_way = on_way; failed = failed }))
+    → IsFeed (record f { sequence = sequence; coming = coming; on_way = on_way; failed = failed })
+taken_feed f is sequence coming on_way failed count good = record {
+  config = is.config;
+  queues = is.queues;
+  worker_count = is.worker_count;
+  backlogs = count ∙ is.backlogs;
+  seated = is.seated;
+  unstopped = is.unstopped;
+  good = good;
+}

@@ -267,35 +267,41 @@ stands_at p e (suc most) place bytes fits k =
     by_rest x one (k, at, more) =
         let s = stream_found place bytes fits x one in
         let w = stands_whole place bytes x one in
-        let lines_are = lines_more most bytes (Some x.1) w.behind ∙ ap (λ (v : List SitedLine). v ++ lines_before most x.1) w.lines in
-        (k + 1, omega (arith, at), record {
-          streams = x.0 ∷ more.streams;
-          whole = All-cons IsWhole x.0 more.streams s.whole more.whole;
-          count = omega (arith, more.count);
-          rest = more.rest;
-          parts = s.spelled ∙ ap (λ (v : List ℕ). stream_spelling x.0.header x.0.records ++ v) more.parts ∙ sym (append_assoc (stream_spelling x.0.header x.0.records) (bytes_of more.streams) more.rest);
-          lines = more.lines;
-          front = more.front;
-          is =
-              ap (flat_map whole_line) lines_are ∙ flat_map-append whole_line (parts_in x.0) (lines_before most x.1) ∙ ap (λ (v : List ℕ). flat_map whole_line (parts_in x.0) ++ v) more.is
-              ∙ sym (append_assoc (flat_map whole_line (parts_in x.0)) (text_of more.streams) (flat_map whole_line more.lines))
-              ∙ ap (λ (v : List ℕ). v ++ flat_map whole_line more.lines) (sym (flat_map-append whole_line (parts_in x.0) (flat_map parts_in more.streams)));
-        })
+        let lines_are = lines_more most bytes (Some x.1) w.behind ∙ ap (λ (v : List SitedLine). v ++ lines_before most x.1) w.lines in (
+          k + 1,
+          omega (arith, at),
+          record {
+            streams = x.0 ∷ more.streams;
+            whole = All-cons IsWhole x.0 more.streams s.whole more.whole;
+            count = omega (arith, more.count);
+            rest = more.rest;
+            parts = s.spelled ∙ ap (λ (v : List ℕ). stream_spelling x.0.header x.0.records ++ v) more.parts ∙ sym (append_assoc (stream_spelling x.0.header x.0.records) (bytes_of more.streams) more.rest);
+            lines = more.lines;
+            front = more.front;
+            is =
+                ap (flat_map whole_line) lines_are ∙ flat_map-append whole_line (parts_in x.0) (lines_before most x.1) ∙ ap (λ (v : List ℕ). flat_map whole_line (parts_in x.0) ++ v) more.is
+                ∙ sym (append_assoc (flat_map whole_line (parts_in x.0)) (text_of more.streams) (flat_map whole_line more.lines))
+                ∙ ap (λ (v : List ℕ). v ++ flat_map whole_line more.lines) (sym (flat_map-append whole_line (parts_in x.0) (flat_map parts_in more.streams)));
+          },
+        )
 
     by_stream : (stream_at place bytes ≡ Err (faults.Stream p e)) ⊎ ((x : Found) × (stream_at place bytes ≡ Ok x) × ((streams_at most (place + 1) x.1 >>= λ ys. Ok (x.0 ∷ ys)) ≡ Err (faults.Stream p e)))
         → ((rest : List ℕ) → AreBytes rest → streams_at most (place + 1) rest ≡ Err (faults.Stream p e) → StandsFrom (place + 1) p e most rest) → StandsFrom place p e (suc most) bytes
     by_stream (inl refused) later =
-        let s = stands_refused place bytes fits p e refused in
-        (0, omega (arith, s.at), record {
-          streams = [];
-          whole = All-nil IsWhole;
-          count = refl;
-          rest = bytes;
-          parts = refl;
-          lines = (front_at bytes).lines;
-          front = s.stands;
-          is = ap (flat_map whole_line) (lines_more most bytes None s.none_left ∙ append-nil (front_at bytes).lines);
-        })
+        let s = stands_refused place bytes fits p e refused in (
+          0,
+          omega (arith, s.at),
+          record {
+            streams = [];
+            whole = All-nil IsWhole;
+            count = refl;
+            rest = bytes;
+            parts = refl;
+            lines = (front_at bytes).lines;
+            front = s.stands;
+            is = ap (flat_map whole_line) (lines_more most bytes None s.none_left ∙ append-nil (front_at bytes).lines);
+          },
+        )
     by_stream (inr (x, one, k)) later =
         elim (bind_err (streams_at most (place + 1) x.1) (λ ys. Ok (x.0 ∷ ys)) (faults.Stream p e) k) [
           | inl refused ↦ by_rest x one (later x.1 (stream_found place bytes fits x one).fits refused)

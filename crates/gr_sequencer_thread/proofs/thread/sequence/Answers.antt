@@ -1,18 +1,11 @@
 use Rattle.std.proofs.Common.{◌≡◌, ◌∙◌, ◌++◌, List, None, arith, ap, sym, subst, length, take, drop}
-use Rattle.std.proofs.lemmas.List.{length-map}
 use Rattle.gr_route.specs.IntakeSeats.{Taker}
 use Rattle.gr_route.specs.WorkRule.{is_stopped}
 use Rattle.gr_route.specs.WorkSeats.{Giver}
 use Rattle.gr_sequencer_thread.specs.Ends.{Begin, End, IsEnd, begin_line, end_line}
 use Rattle.gr_sequencer_thread.specs.Feeds.{AreOpen, intakes_of, works_of}
-use Rattle.gr_sequencer_thread.proofs.SameRuns.{whole_back}
+use Rattle.gr_sequencer_thread.proofs.SameRuns.{same_givers, same_takers, whole_back}
 use Rattle.gr_sequencer_thread.proofs.thread.sequence.Goals as goal
-
-same_takers : (was now : List Taker) → intakes_of now ≡ intakes_of was → length now ≡ length was
-same_takers was now queues = sym (length-map now (λ (t : Taker). t.queue)) ∙ (ap length queues ∙ length-map was (λ (t : Taker). t.queue))
-
-same_givers : {Z : Type 0} (was now : List (Giver Z)) → works_of now ≡ works_of was → length now ≡ length was
-same_givers {Z} was now queues = sym (length-map now (λ (u : Giver Z). u.queue)) ∙ (ap length queues ∙ length-map was (λ (u : Giver Z). u.queue))
 
 pub returns-in-Ok : goal.returns-in-Ok
 returns-in-Ok g c = c.run.ensures ∙ (c.new-feed.ensures ∙ ap (λ (b : Begin g.row.A.Denot). begin_line b) c.begin.view_is)

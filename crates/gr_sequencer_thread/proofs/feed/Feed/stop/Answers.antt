@@ -2,7 +2,6 @@ use Rattle.std.proofs.Common.{◌≡◌, ◌∙◌, List, [], Option, None, Some
 use Rattle.std.specs.List.{All}
 use Rattle.std.specs.Option.{option_map}
 use Rattle.std.specs.Prelude.{IfSome, OnSome}
-use Rattle.std.proofs.lemmas.List.{length-map}
 use Rattle.gr_clocks.specs.ClockedAccess.{ClockedAccess}
 use Rattle.gr_model.specs.Reports.{IsReportButRaces, WholeReport}
 use Rattle.gr_model.specs.Streams.{AreComplete}
@@ -13,7 +12,7 @@ use Rattle.gr_report.specs.Whole.{whole_of}
 use Rattle.gr_route.specs.WorkSeats.{Giver}
 use Rattle.gr_sequencer_thread.specs.Ends.{End, IsEnd, IsFound, end_line, feed_line}
 use Rattle.gr_sequencer_thread.specs.Feeds.{AreOpen, ArePassedOn, Feed, IsOver, IsWhole, given_of, intakes_of, works_of}
-use Rattle.gr_sequencer_thread.proofs.SameRuns.{whole_back}
+use Rattle.gr_sequencer_thread.proofs.SameRuns.{same_givers, whole_back}
 use Rattle.gr_sequencer_thread.proofs.StepLemmas.{split_whole}
 use Rattle.gr_sequencer_thread.proofs.TakeLemmas.{all_taken}
 use Rattle.gr_sequencer_thread.proofs.feed.Feed.stop.Goals as goal
@@ -33,7 +32,7 @@ of-requires g c =
     let slice : c.deref_mut.result.now ≡ was = c.deref_mut.ensures.value in
     let queues : works_of now ≡ works_of was = c.stop_all.ensures.queues ∙ ap works_of slice in
     let given : given_of now ≡ given_of was = c.stop_all.ensures.given ∙ ap given_of slice in
-    let count : length now ≡ length was = sym (length-map now (λ (u : Giver g.row.A.Denot). u.queue)) ∙ (ap length queues ∙ length-map was (λ (u : Giver g.row.A.Denot). u.queue)) in
+    let count = same_givers was now queues in
     let len : length was ≡ c.self.inside.outlets.len = sym (ap length slice) ∙ c.deref_mut.ensures.len in
     let whole : c.self.inside.failed ≡ false → IsWhole config seq takers now = λ f.
     let good = c.self.invariant.good f in
@@ -74,7 +73,7 @@ returns g c =
     let now = c.stop_all.new.outlets in
     let slice : c.deref_mut.result.now ≡ was = c.deref_mut.ensures.value in
     let queues : works_of now ≡ works_of was = c.stop_all.ensures.queues ∙ ap works_of slice in
-    let count : length now ≡ length was = sym (length-map now (λ (u : Giver g.row.A.Denot). u.queue)) ∙ (ap length queues ∙ length-map was (λ (u : Giver g.row.A.Denot). u.queue)) in
+    let count = same_givers was now queues in
     let len : length was ≡ c.self.inside.outlets.len = sym (ap length slice) ∙ c.deref_mut.ensures.len in
     let works = ap works_of (whole_back c.self.inside.outlets.len was now len count) ∙ queues in
     ap (λ (e : End g.row.A.Denot). end_line e) c.of.ensures

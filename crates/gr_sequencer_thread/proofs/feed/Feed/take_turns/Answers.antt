@@ -3,7 +3,7 @@ use Rattle.gr_taking.specs.Along.{IsAlong}
 use Rattle.gr_taking.specs.Sources.{ListedRecords, MayCome}
 use Rattle.gr_sequencer_thread.specs.Feeds.{AreSplit, Feed, IsFeed, come_in, given_of, intakes_of, works_of}
 use Rattle.gr_sequencer_thread.proofs.SameRuns.{whole_back}
-use Rattle.gr_sequencer_thread.proofs.TakeLemmas.{may_come_now, popped_moves}
+use Rattle.gr_sequencer_thread.proofs.TakeLemmas.{may_come_now, popped_moves, taken_feed}
 use Rattle.gr_sequencer_thread.proofs.feed.Feed.take_turns.Goals as goal
 
 pub take_round-requires-clause-may : goal.take_round-requires-clause-may
@@ -28,24 +28,12 @@ invariant_of-self g c =
     let now = c.take_round.new.sources in
     let count : length now ≡ length was = c.take_round.auto.sources ∙ ap length c.as_mut_slice.ensures.value in
     let len : length was ≡ c.self.inside.backlogs.len = sym (ap length c.as_mut_slice.ensures.value) ∙ c.as_mut_slice.ensures.len in
-    let popped = popped_moves c.self.inside.config c.self.inside.sequencer.taken was c.self.inside.inlets.items good.popped c.take_round.new.sequencer.taken now
-    (told.come ∙ ap (come_in c.self.inside.sequencer.taken) c.as_mut_slice.ensures.value) told.sizes in
+    let come = told.come ∙ ap (come_in c.self.inside.sequencer.taken) c.as_mut_slice.ensures.value in
+    let popped = popped_moves c.self.inside.config c.self.inside.sequencer.taken was c.self.inside.inlets.items good.popped c.take_round.new.sequencer.taken now come told.sizes in
+    let passed = subst (λ o. IsAlong (AreSplit c.self.inside.config.workers (given_of o.items)) c.take_round.new.sequencer c.take_round.new.kept) c.of.ensures told.along in
     subst (λ (l : List ListedRecords). IsFeed {A = g.row.A.Denot} (record { config = c.self.inside.config; sizes = c.self.inside.shape; sequence = c.take_round.new.sequencer; takers = c.self.inside.inlets.items; givers = c.self.inside.outlets.items; coming = l; on_way = c.take_round.new.kept; failed = c.self.inside.failed }))
     (sym (c.look_at-left.ensures ∙ whole_back c.self.inside.backlogs.len was now len count))
-    (record {
-      config = c.self.invariant.config;
-      queues = c.self.invariant.queues;
-      worker_count = c.self.invariant.worker_count;
-      backlogs = count ∙ c.self.invariant.backlogs;
-      seated = c.self.invariant.seated;
-      unstopped = c.self.invariant.unstopped;
-      good = λ f. record {
-        same = told.sizes ∙ good.same;
-        sequence = told.sequence;
-        popped = popped;
-        passed = subst (λ o. IsAlong (AreSplit c.self.inside.config.workers (given_of o.items)) c.take_round.new.sequencer c.take_round.new.kept) c.of.ensures told.along;
-      };
-    })
+    (taken_feed _ c.self.invariant _ _ _ _ count (λ _. record { same = told.sizes ∙ good.same; sequence = told.sequence; popped = popped; passed = passed }))
 
 pub invariant_of-self-in-Err : goal.invariant_of-self-in-Err
 invariant_of-self-in-Err g c =
@@ -55,15 +43,7 @@ invariant_of-self-in-Err g c =
     let len : length was ≡ c.self.inside.backlogs.len = sym (ap length c.as_mut_slice.ensures.value) ∙ c.as_mut_slice.ensures.len in
     subst (λ (l : List ListedRecords). IsFeed {A = g.row.A.Denot} (record { config = c.self.inside.config; sizes = c.self.inside.shape; sequence = c.take_round.new.sequencer; takers = c.self.inside.inlets.items; givers = c.self.inside.outlets.items; coming = l; on_way = c.take_round.new.kept; failed = true }))
     (sym (whole_back c.self.inside.backlogs.len was now len count))
-    (record {
-      config = c.self.invariant.config;
-      queues = c.self.invariant.queues;
-      worker_count = c.self.invariant.worker_count;
-      backlogs = count ∙ c.self.invariant.backlogs;
-      seated = c.self.invariant.seated;
-      unstopped = c.self.invariant.unstopped;
-      good = λ f. absurd (true≢false f);
-    })
+    (taken_feed _ c.self.invariant _ _ _ true count (λ failed. absurd (true≢false failed)))
 
 pub returns : goal.returns
 returns g c = record {

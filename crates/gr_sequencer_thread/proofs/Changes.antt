@@ -1,0 +1,10 @@
+-- What is so of each item of a list, where one item changed.
+use Rattle.std.proofs.Common.{◌≡◌, ◌≢◌, ℕ, ◌<◌, List, length, get_or, set, sym, subst, ⊎_elim}
+use Rattle.std.proofs.lemmas.Bool.{cases_eq}
+use Rattle.std.proofs.lemmas.List.{get_or-set_other, get_or-set_same}
+
+pub where_set : {X : Type 0} (P : ℕ → X → Type 0) (xs : List X) (i : ℕ) (x d : X) → i < length xs → P i x → ((k : ℕ) → k ≢ i → P k (get_or xs k d)) → (k : ℕ) → P k (get_or (set xs i x) k d)
+where_set P xs i x d there here others k = ⊎_elim
+    (λ (same : k ≡ i). subst (λ n. P n (get_or (set xs i x) n d)) (sym same) (subst (P i) (sym (get_or-set_same xs i x d there)) here))
+    (λ apart. subst (P k) (sym (get_or-set_other xs i k x d apart)) (others k apart))
+    (cases_eq k i)
