@@ -1,8 +1,8 @@
 -- Accesses of one tag and class, of each item the one with the greatest index.
-use Rattle.std.proofs.Common.{◌≡◌, ◌⊎◌, ℕ, ◌≤◌, Bool, true, false, cond, Contains, List, [], ◌∷◌, ◌++◌, Option, None, Some, arith, map, refl, sym, ◌∙◌, subst, inl, inr, ⊎_elim}
+use Rattle.std.proofs.Common.{◌≡◌, ◌==◌, eqb, if◌then◌else◌, ◌⊎◌, ℕ, ◌≤◌, Bool, true, false, cond, Contains, List, [], ◌∷◌, ◌++◌, Option, None, Some, arith, map, refl, sym, ap, ◌∙◌, subst, inl, inr, ⊎_elim}
 use Rattle.std.specs.List.{find}
 use Rattle.std.specs.Map.{lookup}
-use Rattle.std.specs.Option.{unwrap_or}
+use Rattle.std.specs.Option.{option_eq, unwrap_or}
 use Rattle.std.proofs.lemmas.Bool.Decides.{nat_tests}
 use Rattle.std.proofs.lemmas.List.Elements.{Contains-append_left, Contains-push, Contains-push_cases}
 use Rattle.std.proofs.lemmas.List.Folds.{list_any_at}
@@ -16,7 +16,7 @@ use Rattle.gr_clocks.proofs.RowLemmas.{same_items}
 use Rattle.gr_shadow.specs.Clashes.{ClockedAccess, event_of}
 use Rattle.gr_shadow.proofs.KeepsLemmas.{Contains-first, Contains-rest, find_is, find_told}
 use Rattle.gr_explain.proofs.Lists.{first_or_rest}
-use Rattle.gr_explain.specs.Alike.{AlikeEvents, IsChosen, IsInPlaceOf, KeepsEvents, are_of_groups, entry_event, event_clashes, greatest, is_sought}
+use Rattle.gr_explain.specs.Alike.{AlikeEvents, AreOfOnly, IsChosen, IsInPlaceOf, KeepsEvents, are_of_groups, entry_event, event_clashes, greatest, is_sought, only_with}
 
 -- ---- exempt in whatever groups
 
@@ -30,6 +30,27 @@ no_clash c y e is = grind (arith, exempt_apart c y.class e.at.group y.item.group
 pub none_clashes : (two : Bool) (c : Class) (y : ClockedAccess) (events : List EventId) → exempt c 0 y.class 1 ≡ true → find (is_sought two c y) events ≡ None
 none_clashes two c y [] is = refl
 none_clashes two c y (e ∷ events) is = grind (arith, no_clash c y e is, none_clashes two c y events is)
+
+-- none of these is of another group
+none_of_other : (c : Class) (y : ClockedAccess) (e : EventId) → e.at.group ≡ y.item.group → is_sought true c y e ≡ false
+none_of_other c y e same = grind (arith, nat_tests)
+
+none_of_others : (two : Bool) (c : Class) (y : ClockedAccess) (events : List EventId) → ((e : EventId) → Contains events e → e.at.group ≡ y.item.group) → two ≡ true → find (is_sought two c y) events ≡ None
+none_of_others two c y [] of is = refl
+none_of_others two c y (e ∷ events) of is = grind (arith, is, none_of_other c y e (of e (Contains-first e events)), none_of_others two c y events (λ d there. of d (Contains-rest e events d there)) is)
+
+pub none_of_only : (two : Bool) (c : Class) (y : ClockedAccess) (events : List EventId) (only : Option ℕ) → AreOfOnly only events → option_eq eqb only (Some y.item.group) ≡ true → two ≡ true → find (is_sought two c y) events ≡ None
+none_of_only two c y events None of same is = absurd cc
+none_of_only two c y events (Some g) of same is = none_of_others two c y events (λ e there. let here = of e there in grind (arith, nat_tests, same, here)) is
+
+-- one more event
+pub only_kept : (only : Option ℕ) (old new : List EventId) (e : EventId) → AreOfOnly only old → ((d : EventId) → Contains new d → Contains (old ++ e ∷ []) d) → AreOfOnly (only_with only e.at.group) new
+only_kept None old new e of each = tt
+only_kept (Some g) old new e of each = by_test (g == e.at.group) refl
+  where
+    by_test : (b : Bool) → (g == e.at.group) ≡ b → AreOfOnly (if b then Some g else None) new
+    by_test true same = λ d there. ⊎_elim (λ was. of d was) (λ (last : e ≡ d). grind (arith, nat_tests, same, last)) (Contains-push_cases old e d (each d there))
+    by_test false same = tt
 
 -- ---- which event is chosen
 
@@ -142,8 +163,11 @@ module _ (i : ItemId) (n v : ℕ) where
       by false f rest is = keeps_cons (entry_event x) (events_of (insert_entry same_key entries i v)) (events_of entries ++ new ∷ []) (rest is)
 
 -- of the item of an access the greatest index is kept, and of each other item what was
-pub added : (entries : List (ItemId × ℕ)) (i : ItemId) (n : ℕ) → KeepsEvents (events_of (insert_entry same_key entries i (greatest (lookup (same_key i) entries) n))) (events_of entries ++ record { at = i; index = n } ∷ [])
+added : (entries : List (ItemId × ℕ)) (i : ItemId) (n : ℕ) → KeepsEvents (events_of (insert_entry same_key entries i (greatest (lookup (same_key i) entries) n))) (events_of entries ++ record { at = i; index = n } ∷ [])
 added entries i n = kept_in i n (greatest (lookup (same_key i) entries) n) entries (greatest_is (lookup (same_key i) entries) n)
+
+pub inserted : (entries after : List (ItemId × ℕ)) (i : ItemId) (n v : ℕ) → v ≡ greatest (lookup (same_key i) entries) n → after ≡ insert_entry same_key entries i v → KeepsEvents (events_of after) (events_of entries ++ record { at = i; index = n } ∷ [])
+inserted entries after i n v value is = subst (λ (l : List (ItemId × ℕ)). KeepsEvents (events_of l) (events_of entries ++ record { at = i; index = n } ∷ [])) (sym (is ∙ ap (insert_entry same_key entries i) value)) (added entries i n)
 
 -- ---- clashes
 

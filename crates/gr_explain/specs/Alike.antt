@@ -12,6 +12,14 @@ pub record AlikeEvents : Type 0 where
   pub class : Class
   pub events : List EventId
 
+-- events are of this group, if one is known of which all are
+abbrev pub AreOfOnly : Option ℕ → List EventId → Type 0
+AreOfOnly only events = IfSome only (λ g. (e : EventId) → Contains events e → e.at.group ≡ g)
+
+abbrev pub only_with : Option ℕ → ℕ → Option ℕ
+only_with None g = None
+only_with (Some kept) g = if kept == g then Some kept else None
+
 abbrev pub no_events : ℕ → Class → AlikeEvents
 no_events tag class = record { tag = tag; class = class; events = [] }
 

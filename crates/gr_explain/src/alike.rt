@@ -23,16 +23,20 @@ use std::marker::Model;
 pub(crate) struct Alike<A: Allocator = Global> {
     tag: u128,
     class: Class,
+    /// The work-group of all of them, if they are of one.
+    only: Option<u16>,
     indexes: IndexMap<ItemId, u32, BuildHasherDefault<FoldHasher>, A>,
 }
 
 impl<A: Allocator> Model for Alike<A> {
     ghost use Rattle.std.specs.Prelude.{map};
-    ghost use Rattle.gr_explain.specs.Alike.{AlikeEvents, entry_event};
+    ghost use Rattle.gr_explain.specs.Alike.{AlikeEvents, AreOfOnly, entry_event};
 
     ghost Value = { AlikeEvents };
 
     ghost view = { λ s. record { tag = s.tag; class = s.class; events = map entry_event s.indexes.entries } };
+
+    ghost invariant = { λ s. AreOfOnly s.only (map entry_event s.indexes.entries) };
 }
 
 /// The greater of an index and one that was kept, if there is one.
@@ -45,14 +49,25 @@ fn greatest(kept: Option<u32>, index: u32) -> u32
     }
 }
 
+/// The group of all events, if they are of one, where one of a group comes.
+fn only_with(only: Option<u16>, group: u16) -> Option<u16>
+    ensures { result ≡ spec.only_with only group }
+{
+    match only {
+        None => None,
+        Some(kept) => { if kept == group { only } else { None } }
+    }
+}
+
 impl<A: Allocator + Copy> Alike<A> {
-    /// No accesses of a tag and a class.
-    pub(crate) fn new(alloc: A, tag: u128, class: Class) -> Alike<A>
+    /// No accesses of a tag and a class. The first one will be of this group.
+    pub(crate) fn new(alloc: A, tag: u128, class: Class, group: u16) -> Alike<A>
         ensures { result ≡ no_events tag class }
     {
         Alike {
             tag,
             class,
+            only: Some(group),
             indexes: IndexMap::new(alloc),
         }
     }
@@ -96,6 +111,9 @@ impl<A: Allocator> Alike<A> {
         if exempt(self.class, 0, access.class, 1) {
             return None;
         }
+        if two && self.only == Some(access.item.group) {
+            return None;
+        }
         self.find_clashing(access, two)
     }
 
@@ -131,6 +149,7 @@ impl<A: Allocator> Alike<A> {
         let kept = self.indexes.get(&access.item).copied();
         self.indexes
             .insert(access.item, greatest(kept, access.index))?;
+        self.only = only_with(self.only, access.item.group);
         Ok(())
     }
 }

@@ -173,7 +173,7 @@ fn keep<A: Allocator + Copy>(
     match place_of(lists, access, tag) {
         Some(place) => lists[place].add(access, tag),
         None => {
-            let mut alike = Alike::new(*lists.allocator(), tag, access.class);
+            let mut alike = Alike::new(*lists.allocator(), tag, access.class, access.item.group);
             alike.add(access, tag)?;
             lists.push(alike)?;
             Ok(())
