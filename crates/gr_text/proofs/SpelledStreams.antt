@@ -116,12 +116,9 @@ line_before (b ∷ l) rest h =
     let p = and_parts _ _ h in
     rw (ne_eqb b 10 (λ e. absurd (omega (arith, ltb-true 10 b p.0))), line_before l rest p.1) refl
 
-abbrev IsAnySaid : SitedLine → Type 0
-IsAnySaid x = IsSaid Four x.line × (x.site < 2 ^ 16)
-
 abbrev AreSaid : List SitedLine → Type 0
 AreSaid [] = ⊤
-AreSaid (x ∷ xs) = IsAnySaid x × AreSaid xs
+AreSaid (x ∷ xs) = (IsSaid Four x.line × (x.site < 2 ^ 16)) × AreSaid xs
 
 said-append : (xs ys : List SitedLine) → AreSaid xs → AreSaid ys → AreSaid (xs ++ ys)
 said-append [] ys h k = k

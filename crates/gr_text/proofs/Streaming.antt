@@ -164,9 +164,6 @@ module _ (form : Form) (prefix : List ℕ) (stop i : ℕ) (bytes : List ℕ) (to
 abbrev Found : Type 0
 Found = WholeStream × List ℕ
 
-header_long : (h : Header) → 1 ≤ length (header_spelling h)
-header_long h = omega arith
-
 -- ---- one whole stream
 
 pub record StreamFound (bytes : List ℕ) (x : Found) : Type 0 where
@@ -191,7 +188,7 @@ stream_found place bytes fits x e =
       whole = record { prefix = record { header = hf.header; runs = ef.runs; few = ef.few }; ended = ap is_complete (events_sited h.version es mid) ∙ ef.ended };
       spelled = hf.parts ∙ ap (λ (v : List ℕ). header_spelling h ++ v) ef.parts ∙ sym (append_assoc (header_spelling h) (events_spelling h.version rs) after);
       fits = ef.fits;
-      shorter = omega (arith, ap length hf.parts, ap length ef.parts, length-append (header_spelling h) mid, length-append (events_spelling h.version rs) after, header_long h);
+      shorter = omega (arith, ap length hf.parts, ap length ef.parts, length-append (header_spelling h) mid, length-append (events_spelling h.version rs) after);
     } in
     let same : (record { header = h; records = rs }, after) ≡ x = cc records.2 in
     subst (StreamFound bytes) same one
