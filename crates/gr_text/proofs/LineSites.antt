@@ -157,10 +157,6 @@ unspaced_back front =
 
 -- ---- the number of a site
 
-site_again : (site : ℕ) → site < 2 ^ 16 → (site == 0) ≡ false → site_said (decimal site) ≡ Some site
-unfolding site_said
-site_again site lt some = rw (short_again site lt, some) refl
-
 site_found : (word : List ℕ) (site : ℕ) → site_said word ≡ Some site → (word ≡ decimal site) × (site < 2 ^ 16) × ((site == 0) ≡ false)
 unfolding site_said
 site_found word site h =
@@ -182,13 +178,13 @@ plain_end v l said =
     rw (cut, text_is_read v l said) refl
 
 sited_end : (v : Version) (e : Event) (site : ℕ) → IsSaid v (lines.Event e) → site < 2 ^ 16 → (site == 0) ≡ false → has_sites v ≡ true → sited_said v (line_text (lines.Event e) ++ 32 ∷ 64 ∷ decimal site) ≡ Some (record { line = lines.Event e; site = site })
-unfolding sited_said
+unfolding sited_said site_said
 sited_end v e site said lt some has =
     let text = line_text (lines.Event e) in
     let before = text ++ 32 ∷ [] in
     let plain : ArePlain before = plain-append text (32 ∷ []) (line_plain v (lines.Event e) said) refl in
     let cut = first_back 64 before (Some (decimal site)) (plain_without before plain) in
-    rw (← append_assoc text (32 ∷ []) (64 ∷ decimal site), cut, has, site_again site lt some, unspaced_back text, text_is_read v (lines.Event e) said) refl
+    rw (← append_assoc text (32 ∷ []) (64 ∷ decimal site), cut, has, short_again site lt, some, unspaced_back text, text_is_read v (lines.Event e) said) refl
 
 pub sited_text_is_read : SitedTextIsRead
 sited_text_is_read v l (said, ok) = by_site l.line l.site (l.site == 0) refl said ok
@@ -203,8 +199,7 @@ sited_text_is_read v l (said, ok) = by_site l.line l.site (l.site == 0) refl sai
         ]
 
 event_is : (l : Line) (e : Event) → event_in l ≡ Some e → l ≡ lines.Event e
-event_is (lines.Header h) e k = absurd cc
-event_is (lines.Event d) e k = ap (λ (x : Event). lines.Event x) (some_is d e k)
+event_is l e k = grind arith
 
 pub sited_read_is_text : SitedReadIsText
 unfolding sited_said

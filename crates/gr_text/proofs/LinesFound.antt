@@ -237,11 +237,8 @@ line_of_event v bytes rest item x e first said check =
     subst (λ (y : Event). IsSaid v (lines.Event y) × (bytes ≡ line_text (lines.Event y))) (some_is x e g.1)
     ((record { ok = (ltb-true _ _ p.0, said.naming, said.ok p.1); word = said.word }, (naming_found v x.kind x.names q.1).1), first ∙ said.text)
 
-some_items : (v : Version) → 0 < most_items v
-some_items v = grind arith
-
 end_is_said : (v : Version) (cut : Bool) → IsSaid v (lines.Event (end_of cut))
-end_is_said v cut = (record { ok = (some_items v, tt, (refl, refl, refl)); word = omega arith }, λ k d lt. absurd (omega arith))
+end_is_said v cut = (record { ok = (grind arith, tt, (refl, refl, refl)); word = omega arith }, λ k d lt. absurd (omega arith))
 
 end_found : (rest : Option (List ℕ)) (e : Event) → end_said rest ≡ Some e → (cut : Bool) × (end_of cut ≡ e) × (codes "end" ++ behind_space rest ≡ line_text (lines.Event (end_of cut)))
 end_found None e h = (false, some_is (end_of false) e h, refl)
