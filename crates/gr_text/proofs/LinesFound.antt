@@ -34,16 +34,13 @@ bind_some None f y e = absurd cc
 bind_some (Some x) f y e = (x, refl, e)
 
 at_end_some : {X : Type 0} (rest : Option (List ℕ)) (o : Option X) (y : X) → at_end rest o ≡ Some y → (rest ≡ None) × (o ≡ Some y)
-at_end_some None o y e = (refl, e)
-at_end_some (Some rest) o y e = absurd cc
+at_end_some rest o y e = grind arith
 
 pub guard_some : {X : Type 0} (b : Bool) (o : Option X) (y : X) → cond b o None ≡ Some y → (b ≡ true) × (o ≡ Some y)
-guard_some true o y e = (refl, e)
-guard_some false o y e = absurd cc
+guard_some b o y e = grind arith
 
 pub unless_some : {X : Type 0} (b : Bool) (o : Option X) (y : X) → cond b None o ≡ Some y → (b ≡ false) × (o ≡ Some y)
-unless_some true o y e = absurd cc
-unless_some false o y e = (refl, e)
+unless_some b o y e = grind arith
 
 choose : {X : Type 0} (b : Bool) (o p : Option X) (y : X) → cond b o p ≡ Some y → (G : Type 0) → (b ≡ true → o ≡ Some y → G) → (p ≡ Some y → G) → G
 choose true o p y e G this that = this refl e

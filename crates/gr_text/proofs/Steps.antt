@@ -36,12 +36,10 @@ bind_err (Ok x) f d e = inr (x, refl, e)
 bind_err (Err c) f d e = let same : c ≡ d = cc in inl (ap (λ z. Err z) same)
 
 pub at_place_ok : {X : Type 0} (place : ℕ) (r : Result X RecordError) (x : X) → at_place place r ≡ Ok x → r ≡ Ok x
-at_place_ok place (Ok y) x e = let same : y ≡ x = cc in ap (λ z. Ok z) same
-at_place_ok place (Err d) x e = absurd cc
+at_place_ok place r x e = grind arith
 
 pub at_place_err : {X : Type 0} (place : ℕ) (r : Result X RecordError) (p : ℕ) (d : RecordError) → at_place place r ≡ Err (faults.Stream p d) → (place ≡ p) × (r ≡ Err d)
-at_place_err place (Ok y) p d e = absurd cc
-at_place_err place (Err c) p d e = let same : c ≡ d = cc in (cc, ap (λ z. Err z) same)
+at_place_err place r p d e = grind arith
 
 -- in a record's own row
 pub record_bind_ok : {X Y : Type 0} (r : Result X RecordError) (f : X → Result Y RecordError) (y : Y) → record_spec.◌>>=◌ r f ≡ Ok y → (x : X) × (r ≡ Ok x) × (f x ≡ Ok y)
@@ -49,13 +47,11 @@ record_bind_ok (Ok x) f y e = (x, refl, e)
 record_bind_ok (Err d) f y e = absurd cc
 
 pub record_bind_err : {X Y : Type 0} (r : Result X RecordError) (view : X → Y) (d : RecordError) → record_spec.◌>>=◌ r (λ x. Ok (view x)) ≡ Err d → r ≡ Err d
-record_bind_err (Ok x) view d e = absurd cc
-record_bind_err (Err c) view d e = let same : c ≡ d = cc in ap (λ z. Err z) same
+record_bind_err r view d e = grind arith
 
 -- a test before a row
 pub unless_ok : {X F : Type 0} (b : Bool) (d : F) (r : Result X F) (y : X) → cond b (Err d) r ≡ Ok y → (b ≡ false) × (r ≡ Ok y)
-unless_ok true d r y e = absurd cc
-unless_ok false d r y e = (refl, e)
+unless_ok b d r y e = grind arith
 
 -- records up to an end are whole, and others are refused
 pub up_to_ok : (stop : Stop) (events : List Event) (rest : List ℕ) (x : List Event × List ℕ) → up_to stop events rest ≡ Ok x → (stop ≡ AtEnd) × (events ≡ x.0) × (rest ≡ x.1)
