@@ -33,8 +33,7 @@ each_some None P h = tt
 each_some (Some x) P h = h x refl
 
 pub none_of : {X : Type 0} (o : Option X) → ((x : X) → o ≡ Some x → ⊥) → o ≡ None
-none_of None h = refl
-none_of (Some x) h = absurd (h x refl)
+none_of o h = grind arith
 
 -- what is neither the text of the number that was parsed, nor of any other, says none
 pub number_none : (word : List ℕ) → ((n : ℕ) → n < 2 ^ 32 → word ≡ decimal n → ⊥) → number_of word ≡ None

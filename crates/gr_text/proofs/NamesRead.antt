@@ -1,5 +1,5 @@
 -- The names behind an acquire's order, one after the other, as a loop reads them.
-use Rattle.std.proofs.Common.{◌≡◌, ℕ, suc, ◌+◌, ◌-◌, ◌<◌, ◌≤◌, List, [], ◌∷◌, ◌++◌, take, Option, Some, None, refl, sym, ap, ◌∙◌, append_assoc, arith}
+use Rattle.std.proofs.Common.{◌≡◌, ℕ, suc, ◌+◌, ◌-◌, ◌<◌, ◌≤◌, List, [], ◌∷◌, ◌++◌, take, Option, Some, None, sym, ap, ◌∙◌, append_assoc, arith}
 use Rattle.std.proofs.lemmas.List.{append-nil}
 use Rattle.gr_model.specs.declared.event.Name.{Name}
 use Rattle.gr_text.specs.LineReading.{◌>>=◌, name_said, names_said}
@@ -12,8 +12,7 @@ abbrev pub names_behind : List Name → ℕ → Option (List Name) → Option (L
 names_behind names place o = names_before (take place names) o
 
 regroup : (prefix : List Name) (n : Name) (o : Option (List Name)) → names_before prefix (o >>= λ names. Some (n ∷ names)) ≡ names_before (prefix ++ n ∷ []) o
-regroup prefix n (Some names) = ap (λ (x : List Name). Some x) (sym (append_assoc prefix (n ∷ []) names))
-regroup prefix n None = refl
+regroup prefix n o = grind (arith, append_assoc)
 
 module _ (prefix : List Name) (place : ℕ) (total : Option (List Name)) where
   pub over : names_before prefix (names_said None (4 - place)) ≡ total → Some prefix ≡ total

@@ -1,5 +1,5 @@
 -- What a text says, line by line, as a loop reads it.
-use Rattle.std.proofs.Common.{◌≡◌, ℕ, ◌+◌, List, [], ◌∷◌, ◌++◌, Option, Some, None, Result, Ok, Err, refl, sym, ap, ◌∙◌, append_assoc}
+use Rattle.std.proofs.Common.{◌≡◌, arith, ℕ, ◌+◌, List, [], ◌∷◌, ◌++◌, Option, Some, None, Result, Ok, Err, refl, sym, ap, ◌∙◌, append_assoc}
 use Rattle.std.specs.Prelude.{IfSome, IfOk}
 use Rattle.std.proofs.lemmas.List.{append-nil}
 use Rattle.gr_record.specs.declared.header.Header.{Header}
@@ -40,8 +40,7 @@ abbrev pub bytes_behind : List ℕ → Version → Result (List SitedLine) Fault
 bytes_behind prefix v r = r >>= λ xs. Ok (prefix ++ lines_bytes v xs)
 
 regroup : (prefix : List ℕ) (v : Version) (x : SitedLine) (r : Result (List SitedLine) Fault) → bytes_behind prefix v (r >>= λ xs. Ok (x ∷ xs)) ≡ bytes_behind (prefix ++ line_bytes v x) (version_behind v x.line) r
-regroup prefix v x (Ok xs) = ap (λ (w : List ℕ). Ok w) (sym (append_assoc prefix (line_bytes v x) (lines_bytes (version_behind v x.line) xs)))
-regroup prefix v x (Err f) = refl
+regroup prefix v x r = grind (arith, append_assoc)
 
 module _ (prefix : List ℕ) (n : ℕ) (place : Place) (total : Result (List ℕ) Fault) where
   pub over_outside : bytes_behind prefix (version_at place) (said_from n place []) ≡ total → place ≡ Outside → total ≡ Ok prefix

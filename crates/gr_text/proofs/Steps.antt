@@ -1,5 +1,5 @@
 -- Rows of steps, each of which may fail, and what is known where the row came to its end.
-use Rattle.std.proofs.Common.{◌≡◌, ◌⊎◌, ℕ, ◌-◌, ◌<◌, ◌≤◌, Bool, true, false, cond, List, length, Option, Some, None, Result, Ok, Err, refl, ap, arith, inl, inr}
+use Rattle.std.proofs.Common.{◌≡◌, ◌⊎◌, ℕ, ◌-◌, ◌<◌, ◌≤◌, Bool, true, false, cond, List, length, Option, Some, None, Result, Ok, Err, refl, arith}
 use Rattle.std.specs.Prelude.{IfOk}
 use Rattle.std.proofs.lemmas.Bool.{or_parts, eqb-false, leb-false, ltb-false}
 use Rattle.gr_model.specs.declared.event.Event.{Event}
@@ -32,8 +32,7 @@ bind_ok (Ok x) f y e = (x, refl, e)
 bind_ok (Err d) f y e = absurd cc
 
 pub bind_err : {X Y : Type 0} (r : Result X Fault) (f : X → Result Y Fault) (d : Fault) → (r >>= f) ≡ Err d → (r ≡ Err d) ⊎ ((x : X) × (r ≡ Ok x) × (f x ≡ Err d))
-bind_err (Ok x) f d e = inr (x, refl, e)
-bind_err (Err c) f d e = let same : c ≡ d = cc in inl (ap (λ z. Err z) same)
+bind_err r f d e = grind arith
 
 pub at_place_ok : {X : Type 0} (place : ℕ) (r : Result X RecordError) (x : X) → at_place place r ≡ Ok x → r ≡ Ok x
 at_place_ok place r x e = grind arith

@@ -126,8 +126,7 @@ nothing_left zero place bytes e = refl
 nothing_left (suc most) place bytes e = rw e refl
 
 regroup : (form : Form) (prefix : List ℕ) (s : WholeStream) (r : Result (List WholeStream) Fault) → texts_behind form prefix (r >>= λ ss. Ok (s ∷ ss)) ≡ texts_behind form (prefix ++ formed form s) r
-regroup form prefix s (Ok ss) = ap (λ (v : List ℕ). Ok v) (sym (append_assoc prefix (formed form s) (flat_map (formed form) ss)))
-regroup form prefix s (Err f) = refl
+regroup form prefix s r = grind (arith, append_assoc)
 
 module _ (form : Form) (prefix : List ℕ) (stop i : ℕ) (bytes : List ℕ) (total : Result (List ℕ) Fault) (so_far : texts_behind form prefix (streams_at (stop - i) i bytes) ≡ total) where
   pub ends : (length bytes == 0) ≡ true → total ≡ Ok prefix
