@@ -1,24 +1,16 @@
 -- One stream, and the bytes that follow it.
-use Rattle.std.proofs.Common.{◌≡◌, ℕ, ◌-◌, ◌≤◌, Bool, true, false, cond, List, [], ◌++◌, length, take, drop, Result, Ok, Err, refl, sym, ap, ◌∙◌, subst, arith, ltb, append-nil, append_assoc, eqb-true}
+use Rattle.std.proofs.Common.{◌≡◌, ℕ, ◌-◌, ◌≤◌, Bool, true, false, cond, List, [], ◌++◌, length, Result, Ok, Err, refl, sym, ap, ◌∙◌, subst, arith, append-nil, append_assoc, eqb-true}
 use Rattle.std.specs.Prelude.{not, ◌==◌, if◌then◌else◌}
 use Rattle.std.specs.List.{list_any}
-use Rattle.std.proofs.lemmas.Bool.{ltb-false}
 use Rattle.std.proofs.lemmas.List.{length-take, nil_from_length, take-append-drop}
 use Rattle.gr_model.specs.declared.event.Event.{Event}
-use Rattle.gr_model.specs.declared.limits.TheConstants.{MOST_RECORDS}
 use Rattle.gr_record.specs.declared.error.RecordError.{RecordError}
 use Rattle.gr_record.specs.declared.error.RecordError.TheVariants as errors
 use Rattle.gr_record.specs.declared.fault.Fault.{Fault}
 use Rattle.gr_record.specs.declared.fault.Fault.TheVariants as faults
 use Rattle.gr_record.specs.declared.header.Header.{Header}
 use Rattle.gr_record.specs.declared.layout.TheConstants.{HEADER_LENGTH}
-use Rattle.gr_record.specs.declared.stop.Stop.{Stop}
-use Rattle.gr_record.specs.declared.stop.Stop.TheVariants.{AtEnd, AtFault, Inside}
-use Rattle.gr_record.specs.Fronts.{Records, records_of}
-use Rattle.gr_record.specs.Reading.{event_at, header_at}
-use Rattle.gr_record.specs.Versions.{record_length}
-use Rattle.gr_record.specs.WholeStreams as record_spec
-use Rattle.gr_record.specs.WholeStreams.{front_header_at, front_records_at, up_to, whole}
+use Rattle.gr_record.specs.WholeStreams.{front_header_at, front_records_at, whole}
 use Rattle.gr_record.proofs.Growing.{grown, records_grow}
 use Rattle.gr_intake.specs.Joined.{Flat, ◌>>=◌, at_place, stream_at}
 use Rattle.gr_intake.proofs.Accepted.{found, same_found}
@@ -45,37 +37,19 @@ same_done x y e = cc
 
 pub header_long : (bytes : List ℕ) (x : Header × List ℕ) → front_header_at bytes ≡ Ok x → HEADER_LENGTH ≤ length bytes
 unfolding front_header_at
-header_long bytes x is = by_length (ltb (length bytes) HEADER_LENGTH) refl is
-  where
-    by_length : (b : Bool) → ltb (length bytes) HEADER_LENGTH ≡ b → cond b (Err errors.Truncated) (record_spec.◌>>=◌ {Y = Header × List ℕ} (header_at bytes) (λ h. Ok (h, drop HEADER_LENGTH bytes))) ≡ Ok x → HEADER_LENGTH ≤ length bytes
-    by_length true e k = absurd cc
-    by_length false e k = ltb-false (length bytes) HEADER_LENGTH e
+header_long bytes x is = grind arith
 
 module _ (unit tail more : List ℕ) (all : length unit ≡ HEADER_LENGTH) (h : Header) (behind : List ℕ) where
   unit_on : front_header_at (unit ++ tail) ≡ Ok (h, behind) → front_header_at ((unit ++ tail) ++ more) ≡ Ok (h, behind ++ more)
-  unit_on is = ap front_header_at (append_assoc unit tail more) ∙ (front_of_unit unit (tail ++ more) all ∙ by_header (header_at unit) (sym (front_of_unit unit tail all) ∙ is))
-    where
-      by_header : (r : Result Header RecordError) → record_spec.◌>>=◌ {Y = Header × List ℕ} r (λ x. Ok (x, tail)) ≡ Ok (h, behind) → record_spec.◌>>=◌ {Y = Header × List ℕ} r (λ x. Ok (x, tail ++ more)) ≡ Ok (h, behind ++ more)
-      by_header (Err d) k = absurd cc
-      by_header (Ok x) k = ap (λ (y : Header × List ℕ). done (y.0, y.1 ++ more)) (same_done {X = Header × List ℕ} (x, tail) (h, behind) k)
+  unit_on is = grind (arith, append_assoc, front_of_unit, behind, same_done)
 
 header_on : (bytes more : List ℕ) (h : Header) (behind : List ℕ) → front_header_at bytes ≡ Ok (h, behind) → front_header_at (bytes ++ more) ≡ Ok (h, behind ++ more)
 header_on bytes more h behind is =
-    let long = header_long bytes (h, behind) is in
-    let parts = take-append-drop HEADER_LENGTH bytes in
-    let all : length (take HEADER_LENGTH bytes) ≡ HEADER_LENGTH = omega (arith, length-take HEADER_LENGTH bytes, long) in
-    subst (λ (v : List ℕ). front_header_at (v ++ more) ≡ Ok (h, behind ++ more)) parts (unit_on (take HEADER_LENGTH bytes) (drop HEADER_LENGTH bytes) more all h behind (ap front_header_at parts ∙ is))
+    grind (arith, header_long bytes (h, behind) is, behind, take-append-drop HEADER_LENGTH bytes, length-take HEADER_LENGTH bytes, unit_on)
 
 records_on : (h : Header) (bytes more : List ℕ) (events : List Event) → front_records_at h bytes ≡ Ok (events, []) → front_records_at h (bytes ++ more) ≡ Ok (events, more)
 unfolding front_records_at
-records_on h bytes more events is =
-    let r = records_of h MOST_RECORDS bytes in
-    ap whole (records_grow (record_length h.version) (event_at h) more MOST_RECORDS bytes) ∙ by_stop r.stop r.events r.rest (λ n. records_of h (MOST_RECORDS - n) (r.rest ++ more)) is
-  where
-    by_stop : (stop : Stop) (es : List Event) (rest : List ℕ) (further : ℕ → Records) → up_to stop es rest ≡ Ok (events, []) → whole (grown stop (record { events = es; rest = rest; stop = stop }) further more) ≡ Ok (events, more)
-    by_stop Inside es rest further k = absurd cc
-    by_stop AtEnd es rest further k = ap (λ (y : List Event × List ℕ). done (y.0, y.1 ++ more)) (same_done {X = List Event × List ℕ} (es, rest) (events, []) k)
-    by_stop (AtFault e) es rest further k = absurd cc
+records_on h bytes more events is = grind (arith, records_grow, grown, same_done)
 
 -- of bytes that begin with a stream, no other stream is the whole
 pub alone : (bytes more : List ℕ) (f g : Flat) → IsStreamOf bytes f → IsStreamOf (bytes ++ more) g → (f ≡ g) × (more ≡ [])
@@ -120,11 +94,7 @@ module _ (seen : List Flat) where
 
   pub only_on : (bytes : List ℕ) (f : Flat) → IsStreamOf bytes f → only_stream_at seen bytes ≡ checked f
   unfolding only_stream_at
-  only_on bytes f is = ap (λ (r : Result (Flat × List ℕ) Fault). r >>= only) (ap (stream_at seen) (sym (append-nil bytes)) ∙ stream_on bytes [] f is) ∙ by_checked (checked f)
-    where
-      by_checked : (r : Result Flat Fault) → (r >>= followed []) >>= only ≡ r
-      by_checked (Ok g) = refl
-      by_checked (Err e) = refl
+  only_on bytes f is = grind (arith, append-nil bytes, stream_on bytes [] f is)
 
   abbrev stream : Flat → Result Flat Fault
   stream f = Ok f
@@ -135,18 +105,7 @@ module _ (seen : List Flat) where
   -- what is read as the only stream of the bytes is read as their first
   pub only_read : (bytes : List ℕ) (f : Flat) → only_stream_at seen bytes ≡ Ok f → stream_at seen bytes ≡ Ok (f, [])
   unfolding only_stream_at
-  only_read bytes f is = by_stream (stream_at seen bytes) is
-    where
-      by_rest : (g : Flat) (rest : List ℕ) (b : Bool) → (length rest == 0) ≡ b → cond b (stream g) (Err (faults.Stream (length seen) errors.AfterEnd)) ≡ stream f → found (g, rest) ≡ found (f, [])
-      by_rest g rest true none k =
-          let same = same_stream g f k in
-          let empty = nil_from_length rest (eqb-true (length rest) 0 none) in
-          λ i. found (same i, empty i)
-      by_rest g rest false none k = absurd cc
-
-      by_stream : (r : Result (Flat × List ℕ) Fault) → (r >>= only) ≡ Ok f → r ≡ Ok (f, [])
-      by_stream (Err e) k = absurd cc
-      by_stream (Ok (g, rest)) k = by_rest g rest (length rest == 0) refl k
+  only_read bytes f is = grind (arith, found, same_stream, nil_from_length, eqb-true)
 
   module _ (bytes : List ℕ) (f : Flat) (rest : List ℕ) where
     by_records : (h : Header) (behind : List ℕ) → front_header_at bytes ≡ Ok (h, behind) → (r : Result (List Event × List ℕ) RecordError) → front_records_at h behind ≡ r → (at_place (length seen) r >>= kept h) ≡ Ok (f, rest) → BeginsWith bytes f rest

@@ -1,7 +1,5 @@
 -- Inputs are the streams of a launch in whatever order.
-use Rattle.std.proofs.Common.{◌≡◌, ◌≢◌, ℕ, Bool, true, false, cond, List, [], ◌∷◌, ◌++◌, length, map, get_or, All, AllPairs, Contains, IsPermutation, Result, Ok, Err, refl, sym, ap, ◌∙◌, subst, arith, inl, inr, append-nil, append_assoc, eq-eqb, ne_eqb}
-use Rattle.std.specs.Prelude.{not, ◌==◌}
-use Rattle.std.specs.List.{list_any}
+use Rattle.std.proofs.Common.{◌≡◌, ◌≢◌, ℕ, List, [], ◌∷◌, ◌++◌, map, get_or, All, AllPairs, Contains, IsPermutation, Result, Ok, Err, refl, sym, ap, ◌∙◌, subst, arith, append-nil, append_assoc}
 use Rattle.std.proofs.lemmas.Bool.{cases_lt}
 use Rattle.std.proofs.lemmas.List.{get_or_append_left, length-append}
 use Rattle.std.proofs.lemmas.List.Folds.{list_any_none}
@@ -9,7 +7,6 @@ use Rattle.std.proofs.lemmas.List.Sorted.{All-permutation, Contains-permutation,
 use Rattle.std.proofs.Math.Seq.{get_or-append_seam}
 use Rattle.gr_model.specs.Streams.{Streams}
 use Rattle.gr_record.specs.declared.fault.Fault.{Fault}
-use Rattle.gr_record.specs.declared.fault.Fault.TheVariants as faults
 use Rattle.gr_record.specs.declared.header.Version.TheVariants.{One}
 use Rattle.gr_intake.specs.Joined.{Flat, ◌>>=◌}
 use Rattle.gr_intake.specs.Launch.{AreApart, IsLaunchOf}
@@ -31,16 +28,7 @@ abbrev launch : Flat → ℕ
 launch f = f.header.launch
 
 one_at : (fs : List Flat) → AreOfOne fs → (x y : Flat) → Contains fs x → Contains fs y → launch x ≡ launch y
-one_at fs one x y (p, lt, is) (q, gt, also) =
-    let there : get_or fs q x ≡ y = same_at fs q x y gt ∙ also in
-    elim (cases_lt p q) [
-      | inl before ↦ ap launch (sym is) ∙ (one p q x before gt ∙ ap launch there)
-      | inr from ↦
-          elim (cases_lt q p) [
-            | inl behind ↦ ap launch (sym is) ∙ (sym (one q p x behind lt) ∙ ap launch there)
-            | inr to ↦ let same : p ≡ q = omega (arith, from, to) in ap launch (sym is ∙ (ap (λ n. get_or fs n x) same ∙ there))
-          ]
-    ]
+one_at fs one x y (p, lt, is) (q, gt, also) = grind (arith, same_at fs q x y gt, cases_lt p q, cases_lt q p)
 
 module _ (fs gs : List Flat) (moved : IsPermutation fs gs) where
   back : (f : Flat) → Contains gs f → Contains fs f
@@ -60,12 +48,7 @@ module _ (fs gs : List Flat) (moved : IsPermutation fs gs) where
 -- ---- what is checked, and when nothing is refused
 
 checked_is : (seen : List Flat) (f g : Flat) → checked seen f ≡ Ok g → g ≡ f
-checked_is seen f g is = by_both (list_any (λ s. s.header.group == f.header.group) seen) (list_any (λ s. not (s.header.launch == f.header.launch)) seen) is
-  where
-    by_both : (a b : Bool) → cond a (Err (faults.SameGroup (length seen))) (cond b (Err (faults.OtherLaunch (length seen))) (Ok f)) ≡ Ok g → g ≡ f
-    by_both true b k = absurd cc
-    by_both false true k = absurd cc
-    by_both false false k = cc
+checked_is seen f g is = grind arith
 
 all_are : (fs seen out : List Flat) → all_checked seen fs ≡ Ok out → out ≡ seen ++ fs
 all_are [] seen out is = sym (same_read seen out is) ∙ sym (append-nil seen)
@@ -76,15 +59,10 @@ all_are (f ∷ fs) seen out is = by_checked (checked seen f) refl is (λ g later
     by_checked (Ok g) one k later = later g k ∙ (append_assoc seen (g ∷ []) fs ∙ ap (λ (x : Flat). seen ++ x ∷ fs) (checked_is seen f g one))
 
 before_it : (R : Flat → Flat → Type 0) (seen : List Flat) (f : Flat) (fs : List Flat) → AllPairs R (seen ++ f ∷ fs) → All (λ s. R s f) seen
-before_it R seen f fs pairs k d lt =
-    let pair = pairs k (length seen) d lt (omega (arith, length-append seen (f ∷ fs))) in
-    subst (λ (x : Flat). R x f) (get_or_append_left seen (f ∷ fs) d k lt) (subst (R (get_or (seen ++ f ∷ fs) k d)) (get_or-append_seam seen f fs d) pair)
+before_it R seen f fs pairs k d lt = grind (arith, length-append seen (f ∷ fs), get_or_append_left seen (f ∷ fs) d k lt, get_or-append_seam seen f fs d)
 
 checked_one : (seen : List Flat) (f : Flat) → All (λ s. s.header.group ≢ f.header.group) seen → All (λ s. launch s ≡ launch f) seen → checked seen f ≡ Ok f
-checked_one seen f other same =
-    let groups = list_any_none (λ s. s.header.group == f.header.group) seen (λ k d lt. ne_eqb _ _ (other k d lt)) in
-    let launches = list_any_none (λ s. not (s.header.launch == f.header.launch)) seen (λ k d lt. ap not (eq-eqb _ _ (same k d lt))) in
-    rw (groups, launches) refl
+checked_one seen f other same = grind (arith, list_any_none)
 
 none_refused : (fs seen : List Flat) → AreApart (seen ++ fs) → AreOfOne (seen ++ fs) → all_checked seen fs ≡ Ok (seen ++ fs)
 none_refused [] seen apart one = ap read (sym (append-nil seen))
@@ -107,10 +85,7 @@ streams_are : (inputs : List (List ℕ)) (fs : List Flat) → AreStreamsOf input
 streams_are [] [] are = refl
 streams_are [] (f ∷ fs) are = absurd are
 streams_are (bytes ∷ inputs) [] are = absurd are
-streams_are (bytes ∷ inputs) (f ∷ fs) are =
-    let first : stream_of bytes ≡ f = ap stream_in (only_on [] bytes f are.0) in
-    let rest = streams_are inputs fs are.1 in
-    λ i. first i ∷ rest i
+streams_are (bytes ∷ inputs) (f ∷ fs) are = grind (arith, only_on [] bytes f are.0, streams_are inputs fs are.1)
 
 pub inputs_in_any_order : InputsInAnyOrder
 inputs_in_any_order inputs others s order (seen, is, of) =

@@ -1,24 +1,18 @@
 -- An input that is read piece by piece.
 use Rattle.std.proofs.Common.{◌≡◌, ℕ, ◌<◌, List, [], ◌++◌, Option, None, Some, Result, Ok, Err, sym, ap, ◌∙◌, subst, append_assoc, append-nil, arith}
-use Rattle.std.specs.Prelude.{IfErr, IfOk, IfSome, IsErrAnd}
+use Rattle.std.specs.Prelude.{IfErr, IfOk, IfSome}
 use Rattle.std.specs.Io.KnownBytes.{Consumes}
 use Rattle.gr_record.specs.declared.fault.Fault.{Fault}
-use Rattle.gr_record.specs.declared.fault.Fault.TheVariants as faults
 use Rattle.gr_record.specs.Faults.{IsOfReading, IsOfValues}
-use Rattle.gr_record.specs.InputFaults.{Fails}
-use Rattle.gr_record.proofs.Outside.{at_any}
 use Rattle.gr_intake.specs.declared.intake.Intake.{Intake}
 use Rattle.gr_intake.specs.declared.open.Open.{Open}
-use Rattle.gr_intake.specs.Intakes.{Moves, behind, come, coming_in, read_behind, unit_at, unit_of}
+use Rattle.gr_intake.specs.Intakes.{Moves, behind, coming_in, unit_at, unit_of}
 use Rattle.gr_intake.specs.Joined.{joined_of}
-use Rattle.gr_intake.specs.Waiting.{Coming}
-use Rattle.gr_intake.proofs.Comings.{between}
 
 -- ---- nothing was read
 
 pub nothing_came : {Z : Type 0} (i : Intake Z) → i.streams.items ≡ [] → i.current ≡ None → (bytes : List ℕ) → joined_of bytes ≡ behind i bytes
-nothing_came i empty none bytes =
-    sym (between i none bytes ∙ ap (λ (cs : List Coming). read_behind (come i.sequencer.taken cs) None bytes) empty)
+nothing_came i empty none bytes = grind arith
 
 pub header_is_next : {Z : Type 0} (i : Intake Z) → i.current ≡ None → 0 < unit_of i
 header_is_next i none = subst (λ (o : Option (Open _)). 0 < unit_at (coming_in o)) (sym none) (omega arith)
@@ -58,14 +52,6 @@ if_err P Q (Ok x) p go = tt
 if_err P Q (Err e) p go = go e p
 
 -- ---- refusals that no input determines
-
-pub memory_fails : {R : Type 0} (result : Result R Fault) (known : Option (List ℕ)) → IsErrAnd result (λ f. f ≡ faults.Memory) → IfErr result (λ f. IfSome known (λ bytes. Fails f (joined_of bytes)))
-memory_fails (Ok x) known is = tt
-memory_fails (Err f) known is = subst (λ (x : Fault). IfSome known (λ bytes. Fails x (joined_of bytes))) (sym is) (at_any known (λ bytes. Fails faults.Memory (joined_of bytes)) (λ xs. tt))
-
-pub memory_is_of_reading : {R : Type 0} (result : Result R Fault) → IsErrAnd result (λ f. f ≡ faults.Memory) → IfErr result IsOfReading
-memory_is_of_reading (Ok x) is = tt
-memory_is_of_reading (Err f) is = subst IsOfReading (sym is) (λ same. cc, λ same. cc)
 
 pub values_are_of_reading : (f : Fault) → IsOfValues f → IsOfReading f
 values_are_of_reading f is = (is.1, is.2)

@@ -13,7 +13,6 @@ use Rattle.gr_record.specs.WholeStreams as record_spec
 use Rattle.gr_record.specs.WholeStreams.{front_header_at, front_records_at}
 use Rattle.gr_replay.specs.declared.joined.Stream.{Stream}
 use Rattle.gr_record.specs.InputFaults.{Fails}
-use Rattle.gr_record.proofs.Outside.{fails_through}
 use Rattle.gr_intake.specs.Joined.{Flat, stream_at, joined_at}
 use Rattle.gr_replay.specs.InMemory.{flats}
 use Rattle.gr_intake.proofs.Faults.{fault_at-fails}
@@ -62,18 +61,12 @@ module _ (seen : List Flat) (stop i : ℕ) (bytes : List ℕ) (total : Result (L
 
   pub is_full : stop ≤ i → total ≡ Ok seen
   unfolding joined_at
-  is_full le =
-      let k : stop - i ≡ 0 = omega arith in
-      let one : joined_at (stop - i) seen bytes ≡ Ok seen = rw k refl in
-      sym so_far ∙ one
+  is_full le = grind arith
 
   module _ (lt : i < stop) (some : (length bytes == 0) ≡ false) where
     pub stream_fails : (f : Fault) → Fails f (stream_at seen bytes) → Fails f total
     unfolding joined_at
-    stream_fails f h =
-        let k : stop - i ≡ suc (stop - (i + 1)) = omega arith in
-        fails_through f (stream_at seen bytes) total h
-        (λ e. let one : joined_at (stop - i) seen bytes ≡ Err f = rw (k, some, e) refl in sym so_far ∙ one)
+    stream_fails f h = grind arith
 
     pub goes_on : (s : Flat) (after : List ℕ) → stream_at seen bytes ≡ Ok (s, after) → joined_at (stop - (i + 1)) (seen ++ s ∷ []) after ≡ total
     unfolding joined_at

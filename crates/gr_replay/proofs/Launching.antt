@@ -144,10 +144,7 @@ these sizes lists = record { sizes = sizes; lists = lists }
 
 -- the sizes of streams and their lists, as a launch has them
 pub launch_is : (xs : List Stream) (sizes : List ℕ) (lists : List (List Event)) → sizes ≡ map (λ s. s.header.items) xs → lists ≡ map (λ s. s.events) xs → these sizes lists ≡ launch_of (flats xs)
-launch_is xs sizes lists is_sizes is_lists =
-    let a : sizes ≡ map (λ (f : Flat). f.header.items) (flats xs) = is_sizes ∙ sym (map-flats (λ f. f.header.items) xs) in
-    let b : lists ≡ map (λ (f : Flat). f.events) (flats xs) = is_lists ∙ sym (map-flats (λ f. f.events) xs) in
-    λ i. record { sizes = a i; lists = b i }
+launch_is xs sizes lists is_sizes is_lists = grind (arith, map-flats)
 
 pub missing_permutation : (seen fs : List Flat) → IsPermutation seen fs → (g : ℕ) → IsLeastMissing fs g → IsLeastMissing seen g
 missing_permutation seen fs perm g h =

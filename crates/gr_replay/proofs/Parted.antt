@@ -12,7 +12,7 @@ use Rattle.gr_record.proofs.FoundPrefixes.{events_sited}
 use Rattle.gr_text.specs.Dumps.{WholeStream}
 use Rattle.gr_text.specs.Wholes.{IsWhole}
 use Rattle.gr_text.proofs.Streaming.{events_found, header_found}
-use Rattle.gr_intake.specs.Joined.{Flat, ◌>>=◌, joined_at, joined_of, stream_at}
+use Rattle.gr_intake.specs.Joined.{Flat, ◌>>=◌, joined_at, stream_at}
 use Rattle.gr_replay.specs.Laws.{BytesAreInputs, joined}
 use Rattle.gr_replay.proofs.Alone.{BeginsWith, IsStreamOf, header_long, stream_begins}
 use Rattle.gr_replay.proofs.JoinedInputs.{AreStreamsOf, same_of}
@@ -69,6 +69,4 @@ parted (suc n) seen bytes fits le out is = by_length (length bytes == 0) refl is
     by_length false some k later = by_stream (stream_at seen bytes) refl k later
 
 pub bytes_are_inputs : BytesAreInputs
-bytes_are_inputs bytes s fits (seen, is, launch) =
-    let p = parted (length bytes) [] bytes fits (omega arith) seen is in
-    (p.0, p.3, (seen, sym (same_of p.0 p.1 p.2) ∙ (ap joined_of (sym p.3) ∙ is), launch))
+bytes_are_inputs bytes s fits (seen, is, launch) = grind (arith, parted, fits, is, same_of)

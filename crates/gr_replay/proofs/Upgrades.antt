@@ -1,12 +1,10 @@
 -- Streams and what they are upgraded to are read as the same launch.
-use Rattle.std.proofs.Common.{◌≡◌, ℕ, suc, ◌<◌, ◌≤◌, Bool, true, false, cond, List, [], ◌∷◌, ◌++◌, length, map, get_or, slice_get, Some, inl, inr, All, Contains, Result, Ok, Err, refl, sym, ap, ◌∙◌, subst, arith, append-nil}
-use Rattle.std.specs.Prelude.{not, ◌==◌, ◌||◌}
+use Rattle.std.proofs.Common.{◌≡◌, ℕ, suc, ◌<◌, ◌≤◌, Bool, List, [], ◌∷◌, ◌++◌, length, map, get_or, slice_get, Some, inl, inr, All, Contains, Result, Ok, Err, refl, sym, ap, ◌∙◌, subst, arith, append-nil}
 use Rattle.std.specs.List.{list_any}
 use Rattle.std.proofs.lemmas.List.{get_or-map, get_or_default, length-map, map_push}
 use Rattle.std.proofs.lemmas.List.Folds.{flat_map-map}
 use Rattle.gr_model.specs.Streams.{Streams}
 use Rattle.gr_record.specs.declared.fault.Fault.{Fault}
-use Rattle.gr_record.specs.declared.fault.Fault.TheVariants as faults
 use Rattle.gr_record.specs.Laws.{AreBytes}
 use Rattle.gr_record.specs.Spelling.{events_spelling}
 use Rattle.gr_record.proofs.Places.{header_items}
@@ -31,10 +29,7 @@ up f = record { header = upgraded_header f.header; events = f.events }
 
 any_up : (test : Flat → Bool) → ((f : Flat) → test (up f) ≡ test f) → (seen : List Flat) → list_any test (map up seen) ≡ list_any test seen
 any_up test same [] = refl
-any_up test same (f ∷ seen) =
-    let first = same f in
-    let rest = any_up test same seen in
-    λ i. first i || rest i
+any_up test same (f ∷ seen) = grind (arith, any_up test same seen)
 
 abbrev one_up : Flat → Result Flat Fault
 one_up f = Ok (up f)
@@ -43,15 +38,7 @@ abbrev pub all_up : List Flat → Result (List Flat) Fault
 all_up fs = Ok (map up fs)
 
 checked_up : (seen : List Flat) (f : Flat) → checked (map up seen) (up f) ≡ checked seen f >>= one_up
-checked_up seen f =
-    rw (any_up (λ s. s.header.group == f.header.group) (λ g. refl) seen, any_up (λ s. not (s.header.launch == f.header.launch)) (λ g. refl) seen, length-map seen up)
-    (by_both (list_any (λ s. s.header.group == f.header.group) seen) (list_any (λ s. not (s.header.launch == f.header.launch)) seen))
-  where
-    by_both : (a b : Bool) → cond a (Err (faults.SameGroup (length seen))) (cond b (Err (faults.OtherLaunch (length seen))) (one_up f))
-        ≡ cond a (Err (faults.SameGroup (length seen))) (cond b (Err (faults.OtherLaunch (length seen))) (Ok f)) >>= one_up
-    by_both true b = refl
-    by_both false true = refl
-    by_both false false = refl
+checked_up seen f = grind (arith, any_up, length-map)
 
 all_checked_up : (seen fs : List Flat) → all_checked (map up seen) (map up fs) ≡ all_checked seen fs >>= all_up
 all_checked_up seen [] = refl
@@ -189,10 +176,7 @@ all_go [] [] are = (tt, tt)
 all_go [] (out ∷ outs) are = absurd are
 all_go (bytes ∷ inputs) [] are = absurd are
 all_go (bytes ∷ inputs) (out ∷ outs) (inl same, are) = let more = all_go inputs outs are in ((stays bytes out (sym same), more.0), (stays out bytes same, more.1))
-all_go (bytes ∷ inputs) (out ∷ outs) (inr (fits, e), are) =
-    let more = all_go inputs outs are in
-    let one = one_goes bytes out fits e in
-    ((one.0, more.0), (one.1, more.1))
+all_go (bytes ∷ inputs) (out ∷ outs) (inr (fits, e), are) = grind (arith, one_goes, all_go inputs outs are)
 
 streams_go : (inputs outs : List (List ℕ)) → AllGo inputs outs → (fs : List Flat) → AreStreamsOf inputs fs → (gs : List Flat) × AreStreamsOf outs gs × (map up fs ≡ map up gs)
 streams_go [] [] go [] are = ([], tt, refl)
@@ -220,11 +204,7 @@ pub sites_are_not_read : SitesAreNotRead
 sites_are_not_read ss ts whole also same = wholes_read ss whole ∙ ap (all_checked []) same ∙ sym (wholes_read ts also)
 
 pub sites_are_not_judged : SitesAreNotJudged
-sites_are_not_judged ss ts r whole also same =
-    let e = sites_are_not_read ss ts whole also same in (
-      (λ x. record { launch = x.launch; spelled = (x.spelled.0, sym e ∙ x.spelled.1, x.spelled.2); accepted = x.accepted; exact = x.exact }),
-      (λ x. record { launch = x.launch; spelled = (x.spelled.0, e ∙ x.spelled.1, x.spelled.2); accepted = x.accepted; exact = x.exact }),
-    )
+sites_are_not_judged ss ts r whole also same = grind (arith, sites_are_not_read)
 
 -- ---- reports
 
