@@ -2,8 +2,6 @@
 use Rattle.std.proofs.Common.{◌≡◌, ℕ, ◌<◌, List, [], ◌++◌, Option, None, Some, Result, Ok, Err, sym, ap, ◌∙◌, subst, append_assoc, append-nil, arith}
 use Rattle.std.specs.Prelude.{IfErr, IfOk, IfSome}
 use Rattle.std.specs.Io.KnownBytes.{Consumes}
-use Rattle.gr_record.specs.declared.fault.Fault.{Fault}
-use Rattle.gr_record.specs.Faults.{IsOfReading, IsOfValues}
 use Rattle.gr_intake.specs.declared.intake.Intake.{Intake}
 use Rattle.gr_intake.specs.declared.open.Open.{Open}
 use Rattle.gr_intake.specs.Intakes.{Moves, behind, coming_in, unit_at, unit_of}
@@ -50,11 +48,6 @@ if_ok P Q (Err e) p go = tt
 pub if_err : {X Y : Type 0} (P Q : Y → Type 0) (r : Result X Y) → IfErr r P → ((y : Y) → P y → Q y) → IfErr r Q
 if_err P Q (Ok x) p go = tt
 if_err P Q (Err e) p go = go e p
-
--- ---- refusals that no input determines
-
-pub values_are_of_reading : (f : Fault) → IsOfValues f → IsOfReading f
-values_are_of_reading f is = (is.1, is.2)
 
 pub if_some : {X : Type 0} (P Q : X → Type 0) (o : Option X) → IfSome o P → ((x : X) → P x → Q x) → IfSome o Q
 if_some P Q None p go = tt

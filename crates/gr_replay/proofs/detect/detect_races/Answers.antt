@@ -5,9 +5,6 @@ use Rattle.gr_model.specs.Streams.{Streams}
 use Rattle.gr_report.specs.Whole.{whole_of}
 use Rattle.gr_replay.proofs.detect.detect_races.Goals as goal
 
-pub follow-requires : goal.follow-requires
-follow-requires g c = c.new-shadows.ensures
-
 pub returns-clause-report : goal.returns-clause-report
 returns-clause-report g c = subst (λ (s : Streams). IfOk c.detection_of.result (λ found. IsReportOf s (whole_of found.report))) c.in_ok-sequencer.ensures.taken c.detection_of.ensures.report
 

@@ -1,12 +1,11 @@
 use Rattle.std.proofs.Common.{◌≡◌, ◌<◌, ◌++◌, [], ℕ, List, Ok, ap, sym, subst, ◌∙◌, length}
-use Rattle.std.proofs.lemmas.List.{append-nil}
 use Rattle.std.proofs.lemmas.Result.{err_from_is_err_and}
 use Rattle.gr_record.specs.InputFaults.{Fails}
 use Rattle.gr_record.proofs.Consuming.{Consumes-none, Consumes-then, Consumes-all}
 use Rattle.gr_record.proofs.Outside.{at_any, at_known, fails}
 use Rattle.gr_intake.specs.Intakes.{behind, come, unit_of}
 use Rattle.gr_intake.specs.Joined.{joined_of}
-use Rattle.gr_replay.proofs.Inputs.{StandsSoFar, all_read, at_consumed, header_is_next, if_err, if_ok, nothing_came, piece_more, piece_taken, values_are_of_reading}
+use Rattle.gr_replay.proofs.Inputs.{StandsSoFar, all_read, at_consumed, header_is_next, if_err, if_ok, nothing_came, piece_more, piece_taken}
 use Rattle.gr_replay.proofs.input.take_input.Goals as goal
 
 pub loop-init : goal.loop-init
@@ -19,27 +18,7 @@ loop-init g c =
       read = ([], Consumes-none _, subst (λ (h : List ℕ). StandsSoFar i h []) (sym c.new-held.ensures.items) (nothing_came i none.0 none.1));
     }
 
-pub finish-requires-clause-short : goal.finish-requires-clause-short
-finish-requires-clause-short g c =
-    let comes = c.in_ok-count.ensures.comes in
-    let none = comes.3 c.if-count-eq0.true in
-    let same : c.as_slice.result.now ≡ c.loop.held.items = c.as_slice.ensures.value ∙ (comes.2 ∙ (ap (λ (b : List ℕ). c.loop.held.items ++ b) none.0 ∙ append-nil c.loop.held.items)) in
-    subst (λ (h : List ℕ). length h < unit_of c.loop.intake) (sym same) c.loop.invariant.short
-
-pub returns-in_err-count-clause-fault : goal.returns-in_err-count-clause-fault
-returns-in_err-count-clause-fault g c =
-    let p = err_from_is_err_and c.from_residual.result c.from_residual.ensures.1 in
-    rw (p.1, p.2) (c.in_err-count.ensures.fault _)
-
-pub returns-in_err-count-clause-reading : goal.returns-in_err-count-clause-reading
-returns-in_err-count-clause-reading g c =
-    let p = err_from_is_err_and c.from_residual.result c.from_residual.ensures.1 in
-    rw (p.1, p.2) c.in_err-count.ensures.reading
-
 -- ---- at the end of the input
-
-pub returns-then-count-eq0-clause-whole : goal.returns-then-count-eq0-clause-whole
-returns-then-count-eq0-clause-whole g c = if_ok _ _ c.finish.result c.finish.ensures.whole (λ _ is. is.0)
 
 pub returns-then-count-eq0-clause-exact : goal.returns-then-count-eq0-clause-exact
 returns-then-count-eq0-clause-exact g c =
@@ -61,9 +40,6 @@ returns-then-count-eq0-clause-fault g c =
     let all : joined_of bytes ≡ behind c.loop.intake c.as_slice.result.now = all_read c.loop.intake c.read_piece.new.held.items bytes so_far ∙ ap (behind c.loop.intake) (sym c.as_slice.ensures.value) in
     if_err _ _ c.finish.result c.finish.ensures.fault (λ f is. at_known _ bytes (λ xs. Fails f (joined_of xs)) ends (fails f (joined_of bytes) (all ∙ is)))
 
-pub returns-then-count-eq0-clause-reading : goal.returns-then-count-eq0-clause-reading
-returns-then-count-eq0-clause-reading g c = if_err _ _ c.finish.result c.finish.ensures.values (λ f is. values_are_of_reading f is)
-
 -- ---- a piece more
 
 pub returns-in_err-take_held-clause-fault : goal.returns-in_err-take_held-clause-fault
@@ -75,11 +51,6 @@ returns-in_err-take_held-clause-fault g c =
     let p = err_from_is_err_and c.from_residual-in_err-take_held.result c.from_residual-in_err-take_held.ensures.1 in
     rw (p.1, p.2) (at_consumed _ _ bytes (λ xs. Fails c.in_err-take_held.field-0.0 (joined_of xs)) (Consumes-then _ _ _ _ _ read.1 comes.1)
     (λ more. subst (Fails c.in_err-take_held.field-0.0) (sym (so_far more)) (c.in_err-take_held.ensures.fault more)))
-
-pub returns-in_err-take_held-clause-reading : goal.returns-in_err-take_held-clause-reading
-returns-in_err-take_held-clause-reading g c =
-    let p = err_from_is_err_and c.from_residual-in_err-take_held.result c.from_residual-in_err-take_held.ensures.1 in
-    rw (p.1, p.2) (values_are_of_reading c.in_err-take_held.field-0.0 c.in_err-take_held.ensures.values)
 
 pub loop-preserved : goal.loop-preserved
 loop-preserved g c =
