@@ -3,7 +3,6 @@ use Rattle.std.proofs.Common.{◌≡◌, ◌⊎◌, ℕ, zero, suc, ◌+◌, ◌
 use Rattle.std.specs.Prelude.{◌==◌}
 use Rattle.std.specs.List.{flat_map}
 use Rattle.std.proofs.lemmas.List.{drop_all, drop_more, drop-append-le, length-append, length-drop, get_or-set_other, get_or_append_left, length-set}
-use Rattle.std.proofs.lemmas.List.Elements.{filter-append}
 use Rattle.gr_model.specs.declared.event.Event.{Event}
 use Rattle.gr_model.specs.declared.event.Name.{Name}
 use Rattle.gr_record.specs.declared.header.Header.{Header}
@@ -19,9 +18,6 @@ coming h waiting = record { header = h; waiting = waiting }
 pub no_names : (names : List Name) → (length names == 0) ≡ true → names ≡ []
 no_names [] none = refl
 no_names (n ∷ names) none = let zero_long = eqb-true (suc (length names)) 0 none in absurd (omega (arith, zero_long))
-
-pub named-append : (ss ts : List Short) (ns ms : List (List Name)) → AreNamed ss ns → AreNamed ts ms → AreNamed (ss ++ ts) (ns ++ ms)
-named-append ss ts ns ms are more = grind (arith, filter-append, length-append)
 
 pub listed-append : (ss ts : List Short) (ns ms : List (List Name)) → AreNamed ss ns → listed (ss ++ ts) (ns ++ ms) ≡ listed ss ns ++ listed ts ms
 unfolding listed

@@ -3,7 +3,7 @@ use Rattle.std.proofs.Common.{◌≡◌, ◌≢◌, ◌⊎◌, ℕ, zero, suc, �
 use Rattle.std.specs.Prelude.{not, ◌==◌, ◌||◌, option_map}
 use Rattle.std.specs.List.{list_any}
 use Rattle.std.proofs.lemmas.Bool.{cases_lt, eqb-false, or_parts}
-use Rattle.std.proofs.lemmas.List.{get_or-set_other, get_or-set_same, length-append, map-append}
+use Rattle.std.proofs.lemmas.List.{get_or-set_same, length-append, map-append}
 use Rattle.std.proofs.lemmas.List.Elements.{Contains-append_left, Contains-push, Contains-push_cases}
 use Rattle.std.proofs.lemmas.List.Sums.{sum_by-le}
 use Rattle.gr_model.specs.declared.event.Event.{Event}
@@ -143,15 +143,9 @@ stream_closes seen f e are next room ok end =
 pub next_goes_on : (seen : List Flat) (f : Flat) (e : Event) → IsNext seen f → length f.events < MOST_RECORDS → IsEventOk e f.header.items → is_end e ≡ false → IsNext seen (with_event f e)
 next_goes_on seen f e next room ok on = grind (arith, length-append, open_push)
 
--- a record is taken, or waits
+-- a record is taken
 pub taken_comes : (s t : Streams) (c d : Coming) (e : Event) → c.header.group < length s.lists → t ≡ with_record s c.header.group e → c.waiting ≡ [] → d ≡ c → come_of t d ≡ with_event (come_of s c) e
 taken_comes s t c d e there is none same = grind (arith, append-nil, get_or-set_same)
-
-pub waiting_comes : (s : Streams) (c d : Coming) (e : Event) → d ≡ record { header = c.header; waiting = c.waiting ++ e ∷ [] } → come_of s d ≡ with_event (come_of s c) e
-waiting_comes s c d e is = ap (come_of s) is ∙ ap (λ (es : List Event). record { header = c.header; events = es }) (sym (append_assoc (list_of s c.header.group) c.waiting (e ∷ [])))
-
-pub others_stay : (s t : Streams) (g : ℕ) (e : Event) → t ≡ with_record s g e → (h : ℕ) → h ≢ g → list_of t h ≡ list_of s h
-others_stay s t g e is h other = ap (λ (u : Streams). list_of u h) is ∙ get_or-set_other s.lists g h (list_of s g ++ e ∷ []) [] other
 
 pub one_more_counts : (f g : Flat) (e : Event) (n : ℕ) → n ≡ length f.events → g ≡ with_event f e → n + 1 ≡ length g.events
 one_more_counts f g e n count is = omega (arith, count, ap (λ (x : Flat). length x.events) is, length-append f.events (e ∷ []))
@@ -265,9 +259,6 @@ module _ (q new : Sequence) (kept after : LaunchKept) (cs : List Coming) (c d : 
       grind (arith, whole_closes, stream_closes (come q.taken cs) (come_of q.taken c) e read.streams read.next room ok end, append-nil (cs ++ d ∷ []), groups_stay)
 
 -- ---- one reading behind another
-
-pub stays_put : {Z : Type 0} (i : Intake Z) (bytes : List ℕ) → IsIntake i → Moves i bytes i bytes
-stays_put i bytes is = record { intake = is; goes = λ more. refl; left = ([], refl) }
 
 pub moves_on : {Z : Type 0} (i j k : Intake Z) (a b c : List ℕ) → Moves i a j b → Moves j b k c → Moves i a k c
 moves_on i j k a b c first then = grind (arith, append_assoc first.left.0 then.left.0 c)

@@ -1,8 +1,8 @@
-use Rattle.std.proofs.Common.{◌<◌, ap, sym, subst, ◌∙◌, arith, length, refl, true≢false}
+use Rattle.std.proofs.Common.{◌<◌, ap, sym, subst, ◌∙◌, arith, length, refl}
 use Rattle.gr_record.specs.declared.header.Header.{Header}
 use Rattle.gr_lanes.specs.Takes.{CanTake, with_record}
 use Rattle.gr_intake.specs.Intakes.{come_of}
-use Rattle.gr_intake.proofs.Comings.{can_take_open, one_more_counts, taken_comes, others_stay, waiting_comes}
+use Rattle.gr_intake.proofs.Comings.{can_take_open, one_more_counts, taken_comes}
 use Rattle.gr_intake.proofs.open.Open.take.Goals as goal
 
 pub take_record-requires-clause-can : goal.take_record-requires-clause-can
@@ -28,21 +28,3 @@ returns-clause-kept g c =
       count = one_more_counts (come_of s b) (come_of c.take_record.new.sequencer.taken b) c.args.event c.args.self.now.count c.requires.kept.count (returns-clause-come g c);
       waits = λ _. c.requires.kept.waits c.if-self.false;
     }
-
-pub returns-then-self-clause-kept : goal.returns-then-self-clause-kept
-returns-then-self-clause-kept g c =
-    let s = c.args.sequencer.now.taken in
-    let b = c.args.self.now.backlog in
-    record {
-      count = one_more_counts (come_of s b) (come_of s c.push.new.self) c.args.event c.args.self.now.count c.requires.kept.count (waiting_comes s b c.push.new.self c.args.event c.in_ok-push.ensures.ok);
-      waits = λ off. absurd (true≢false (sym c.if-self.true ∙ off));
-    }
-
-pub returns-clause-others : goal.returns-clause-others
-returns-clause-others g c =
-    let s = c.args.sequencer.now.taken in
-    let taken = c.in_ok-take_record.ensures.taken ∙ ap (λ (h : Header). with_record s h.group c.args.event) c.header-group.ensures in
-    others_stay s c.take_record.new.sequencer.taken c.args.self.now.backlog.header.group c.args.event taken
-
-pub returns-then-self-clause-come : goal.returns-then-self-clause-come
-returns-then-self-clause-come g c = waiting_comes c.args.sequencer.now.taken c.args.self.now.backlog c.push.new.self c.args.event c.in_ok-push.ensures.ok
