@@ -14,17 +14,7 @@ use Rattle.gr_detector.proofs.SentLemmas.{taken_is_sent}
 
 -- a report with these races
 abbrev pub with_words : WholeReport → List Word → WholeReport
-with_words w races =
-    record {
-      races = races;
-      divergences = w.divergences;
-      unmatched = w.unmatched;
-      cut = w.cut;
-      held = w.held;
-      groups = w.groups;
-      items = w.items;
-      records = w.records;
-    }
+with_words w races = record w { races = races }
 
 pub finished : {A : Type 0} (e : End A) → IsEnd e → (w : WholeReport) → e.report ≡ Some w → (races : List Word) → Lists WordBelow (IsHitAmong (given_of e.givers)) races → (receipts : List Seat) → IsEachOnce (length e.sizes) receipts → ArePopped (pops_of e.takers) receipts → IsReportOf (sent_by e.sizes receipts) (with_words w races)
 finished e is w there races hits receipts once told =
@@ -35,14 +25,6 @@ finished e is w there races hits receipts once told =
     ∙ ap (λ (sizes : List ℕ). sent_by sizes receipts) found.sizes_are in
     subst (λ (s : Streams). IsReportOf s (with_words w races)) sent
     (record {
-      rest = record {
-        divergences = found.report_is.divergences;
-        unmatched = found.report_is.unmatched;
-        cut = found.report_is.cut;
-        held = found.report_is.held;
-        groups = found.report_is.groups;
-        items = found.report_is.items;
-        records = found.report_is.records;
-      };
+      rest = assumption found.report_is;
       races = races_are e.config is.config found.sequence e.takers e.givers is.worker_count found.whole races hits;
     })

@@ -1,5 +1,5 @@
 -- What a run is set up of, one queue, one sender and one worker after another.
-use Rattle.std.proofs.Common.{◌≡◌, ◌≢◌, ◌⊎◌, ℕ, ◌+◌, ◌<◌, ◌≤◌, ◌%◌, List, [], ◌∷◌, ◌++◌, length, get_or, set, cond, Some, slice_get, sym, ap, ◌∙◌, subst, inl, inr, ⊎_elim, arith, eq-eqb, ne_eqb}
+use Rattle.std.proofs.Common.{◌≡◌, ◌≢◌, ◌⊎◌, ℕ, ◌+◌, ◌<◌, ◌≤◌, ◌%◌, List, [], ◌∷◌, ◌++◌, length, get_or, set, cond, Some, slice_get, sym, ap, ◌∙◌, subst, ⊎_elim, arith, eq-eqb, ne_eqb}
 use Rattle.std.proofs.Math.ListN.{get_or-eq_default}
 use Rattle.std.proofs.Math.Nat.{mod-lt}
 use Rattle.std.proofs.lemmas.Bool.{cases_eq, cases_lt}
@@ -15,6 +15,13 @@ use Rattle.gr_sequencer_thread.specs.Feeds.{AreSeated, intakes_of}
 use Rattle.gr_detector.specs.Runs.{AreSendersOf, Run}
 use Rattle.gr_detector.specs.Setups.{AreOpenBelow, AreSeatedBelow, AreUnseated, IsOpenSender}
 
+-- what is so of each element, where one was replaced
+pub where_set : {X : Type 0} (P : ℕ → X → Type 0) (xs : List X) (i : ℕ) (x d : X) → i < length xs → P i x → ((k : ℕ) → k ≢ i → P k (get_or xs k d)) → (k : ℕ) → P k (get_or (set xs i x) k d)
+where_set P xs i x d there here others k = ⊎_elim
+    (λ (same : k ≡ i). subst (λ n. P n (get_or (set xs i x) n d)) (sym same) (subst (P i) (sym (get_or-set_same xs i x d there)) here))
+    (λ apart. subst (P k) (sym (get_or-set_other xs i k x d apart)) (others k apart))
+    (cases_eq k i)
+
 -- what is so of each element is so of each where one more is, of which it is so
 pub each_more : {X : Type 0} (P : X → Type 0) (xs : List X) (x : X) → ((k : ℕ) (d : X) → k < length xs → P (get_or xs k d)) → P x → (k : ℕ) (d : X) → k < length (xs ++ x ∷ []) → P (get_or (xs ++ x ∷ []) k d)
 each_more P xs x each here k d lt = ⊎_elim
@@ -24,10 +31,7 @@ each_more P xs x each here k d lt = ⊎_elim
 
 -- and where one element was replaced by one of which it is so
 pub each_set : {X : Type 0} (P : X → Type 0) (xs : List X) (i : ℕ) (x : X) → ((k : ℕ) (d : X) → k < length xs → P (get_or xs k d)) → P x → i < length xs → (k : ℕ) (d : X) → k < length (set xs i x) → P (get_or (set xs i x) k d)
-each_set P xs i x each here there k d lt = ⊎_elim
-    (λ (same : k ≡ i). subst P (sym (ap (λ n. get_or (set xs i x) n d) same ∙ get_or-set_same xs i x d there)) here)
-    (λ other. subst P (sym (get_or-set_other xs i k x d other)) (each k d (omega (arith, lt, length-set xs i x))))
-    (cases_eq k i)
+each_set P xs i x each here there k d lt = where_set (λ j y. j < length xs → P y) xs i x d there (λ _. here) (λ j _. each j d) k (omega (arith, lt, length-set xs i x))
 
 -- one sender more
 pub open_more : (n : ℕ) (sizes : List ℕ) (intakes : List TableId) (senders : List Sending) (s : Sending) → length senders ≡ n → AreOpenBelow n sizes intakes senders → IsOpenSender sizes intakes n s → AreOpenBelow (n + 1) sizes intakes (senders ++ s ∷ [])
@@ -71,49 +75,34 @@ module _ (n : ℕ) (sizes : List ℕ) (takers : List Taker) (was : AreSeatedBelo
   count : length new ≡ length takers
   count = length-set takers (n % length takers) (seating t n (get_or sizes n 0))
 
-  seat_here : (d : Taker) → get_or new (n % length takers) d ≡ seating t n (get_or sizes n 0)
-  seat_here d = get_or-set_same takers (n % length takers) (seating t n (get_or sizes n 0)) d there
-
-  seat_else : (p : ℕ) (d : Taker) → p ≢ n % length takers → get_or new p d ≡ get_or takers p d
-  seat_else p d apart = get_or-set_other takers (n % length takers) p (seating t n (get_or sizes n 0)) d apart
-
   wide_t : length t.sizes ≡ MOST_GROUPS
   wide_t = ap (λ (u : Taker). length u.sizes) at ∙ was.wide (n % length takers) t there
 
-  -- of another group the seats are as before
-  size_else : (p g : ℕ) (d : Taker) → g ≢ n → get_or (get_or new p d).sizes g 0 ≡ get_or (get_or takers p d).sizes g 0 ⊎ ((p ≡ n % length takers) × (get_or (get_or new p d).sizes g 0 ≡ get_or (get_or takers p t).sizes g 0))
-  size_else p g d apart = ⊎_elim
-      (λ (same : p ≡ n % length takers). inr (same, ap (λ q. get_or (get_or new q d).sizes g 0) same ∙ (ap (λ (u : Taker). get_or u.sizes g 0) (seat_here d) ∙ (get_or-set_other t.sizes n g (get_or sizes n 0) 0 apart ∙ (ap (λ (u : Taker). get_or u.sizes g 0) at ∙ ap (λ q. get_or (get_or takers q t).sizes g 0) (sym same))))))
-      (λ other. inl (ap (λ (u : Taker). get_or u.sizes g 0) (seat_else p d other)))
-      (cases_eq p (n % length takers))
+  -- of another group the seat is as before
+  size_else : (g v : ℕ) → g ≢ n → get_or (get_or takers (n % length takers) t).sizes g 0 ≡ v → get_or (set t.sizes n (get_or sizes n 0)) g 0 ≡ v
+  size_else g v apart is = get_or-set_other t.sizes n g (get_or sizes n 0) 0 apart ∙ (ap (λ (u : Taker). get_or u.sizes g 0) at ∙ is)
 
-  -- so what is so of the old ones for any default is so of the new ones
-  size_as : (p g v : ℕ) (d : Taker) → g ≢ n → ((e : Taker) → get_or (get_or takers p e).sizes g 0 ≡ v) → get_or (get_or new p d).sizes g 0 ≡ v
-  size_as p g v d apart h = ⊎_elim (λ a. a ∙ h d) (λ b. b.1 ∙ h t) (size_else p g d apart)
-
-  size_now : (p : ℕ) (d : Taker) → p ≡ n % length takers → get_or (get_or new p d).sizes n 0 ≡ get_or sizes n 0
-  size_now p d same = ap (λ q. get_or (get_or new q d).sizes n 0) same ∙ (ap (λ (u : Taker). get_or u.sizes n 0) (seat_here d) ∙ get_or-set_same t.sizes n (get_or sizes n 0) 0 (omega (arith, few, wide_t)))
+  -- what is so of the new seat, and of each other as it was, is so of each
+  each : (P : ℕ → Taker → Type 0) → P (n % length takers) (seating t n (get_or sizes n 0)) → ((p : ℕ) (d : Taker) → p < length takers → p ≢ n % length takers → P p (get_or takers p d)) → (p : ℕ) (d : Taker) → p < length new → P p (get_or new p d)
+  each P here others p d lt = where_set (λ q u. q < length takers → P q u) takers (n % length takers) (seating t n (get_or sizes n 0)) d there (λ _. here) (λ q apart below. others q d below apart) p (omega (arith, lt, count))
 
   pub seat_more : AreSeatedBelow (n + 1) sizes new
   seat_more = record {
-    wide = λ p d lt. ⊎_elim
-        (λ (same : p ≡ n % length takers). ap (λ q. length (get_or new q d).sizes) same ∙ (ap (λ (u : Taker). length u.sizes) (seat_here d) ∙ (length-set t.sizes n (get_or sizes n 0) ∙ wide_t)))
-        (λ other. ap (λ (u : Taker). length u.sizes) (seat_else p d other) ∙ was.wide p d (omega (arith, lt, count)))
-        (cases_eq p (n % length takers));
-    seated = λ p g d lt below mine.
-        let mine' : g % length takers ≡ p = ap (λ m. g % m) (sym count) ∙ mine in
-        ⊎_elim
-        (λ (same : g ≡ n). ap (λ h. get_or (get_or new p d).sizes h 0) same ∙ (size_now p d (sym (ap (λ h. h % length takers) (sym same) ∙ mine')) ∙ ap (λ h. get_or sizes h 0) (sym same)))
-        (λ other. size_as p g (get_or sizes g 0) d other (λ e. was.seated p g e (omega (arith, lt, count)) (omega (arith, below, other)) mine'))
-        (cases_eq g n);
-    later = λ p g d lt after. size_as p g 0 d (λ same. omega (arith, after, same)) (λ e. was.later p g e (omega (arith, lt, count)) (omega (arith, after)));
-    others = λ p g d lt not_mine.
-        let not_mine' : g % length takers ≢ p = λ same. not_mine (ap (λ m. g % m) count ∙ same) in
-        ⊎_elim
-        (λ (same : g ≡ n). ap (λ (u : Taker). get_or u.sizes g 0) (seat_else p d (λ here. not_mine' (ap (λ h. h % length takers) same ∙ sym here)))
-        ∙ was.others p g d (omega (arith, lt, count)) not_mine')
-        (λ other. size_as p g 0 d other (λ e. was.others p g e (omega (arith, lt, count)) not_mine'))
-        (cases_eq g n);
+    wide = each (λ p u. length u.sizes ≡ MOST_GROUPS) (length-set t.sizes n (get_or sizes n 0) ∙ wide_t) (λ p d lt _. was.wide p d lt);
+    seated = λ p g d lt below mine. each (λ p u. g % length takers ≡ p → get_or u.sizes g 0 ≡ get_or sizes g 0)
+        (λ own. ⊎_elim
+        (λ (same : g ≡ n). ap (λ h. get_or (set t.sizes n (get_or sizes n 0)) h 0) same ∙ (get_or-set_same t.sizes n (get_or sizes n 0) 0 (omega (arith, few, wide_t)) ∙ ap (λ h. get_or sizes h 0) (sym same)))
+        (λ other. size_else g (get_or sizes g 0) other (was.seated (n % length takers) g t there (omega (arith, below, other)) own))
+        (cases_eq g n))
+        (λ q e within apart own. was.seated q g e within (let other : g ≢ n = λ same. apart (sym own ∙ ap (λ h. h % length takers) same) in omega (arith, below, other)) own)
+        p d lt (ap (λ m. g % m) (sym count) ∙ mine);
+    later = λ p g d lt after. each (λ p u. get_or u.sizes g 0 ≡ 0)
+        (size_else g 0 (λ same. omega (arith, after, same)) (was.later (n % length takers) g t there (omega (arith, after))))
+        (λ q e within _. was.later q g e within (omega (arith, after))) p d lt;
+    others = λ p g d lt not_mine. each (λ p u. g % length takers ≢ p → get_or u.sizes g 0 ≡ 0)
+        (λ not_own. size_else g 0 (λ same. not_own (ap (λ h. h % length takers) same)) (was.others (n % length takers) g t there not_own))
+        (λ q e within _ not_own. was.others q g e within not_own)
+        p d lt (λ same. not_mine (ap (λ m. g % m) count ∙ same));
   }
 
   -- a group that has had no seat has none yet

@@ -1,8 +1,9 @@
-use Rattle.std.proofs.Common.{◌≡◌, ◌∙◌, ◌<◌, ◌%◌, ◌∷◌, [], List, IsTrue, Some, refl, rules, arith, ap, sym, subst, get_or, length}
+use Rattle.std.proofs.Common.{◌≡◌, ◌∙◌, ◌<◌, ◌%◌, ◌∷◌, [], List, IsTrue, refl, rules, arith, ap, sym, subst, get_or, length}
 use Rattle.std.specs.Vec.Iter.{into_iter_items}
 use Rattle.std.proofs.Math.Nat.{mod-lt}
 use Rattle.std.proofs.Math.Seq.{map-set_same}
-use Rattle.std.proofs.lemmas.List.{get_or-map, length-map}
+use Rattle.std.proofs.lemmas.List.{get_or-map, length-map, nil_from_length}
+use Rattle.std.proofs.lemmas.Option.{same_Some}
 use Rattle.gr_model.specs.declared.event.Event.{Event}
 use Rattle.gr_model.specs.declared.event.Sent.{Sent}
 use Rattle.gr_model.specs.Streams.{events_of, is_complete}
@@ -12,13 +13,6 @@ use Rattle.gr_sequencer_thread.specs.Feeds.{intakes_of}
 use Rattle.gr_detector.specs.Settling.{AreHere, ArePopped, IsPopped, popped_at, pops_of}
 use Rattle.gr_detector.proofs.SetupLemmas.{queue_at}
 use Rattle.gr_detector.proofs.joins.join_intakes.Goals as goal
-
-nothing_left : {X : Type 0} (xs : List X) → length xs ≡ 0 → xs ≡ []
-nothing_left [] e = refl
-nothing_left (x ∷ xs) e = absurd (omega (arith, e))
-
-same_some : {X : Type 0} (x y : X) → Some x ≡ Some y → x ≡ y
-same_some x y e = cc
 
 pub loop-receipt-preserved : goal.loop-receipt-preserved
 loop-receipt-preserved g c =
@@ -66,7 +60,7 @@ loop-receipt-smaller g c = omega (arith, c.in-Some.ensures.steps.1)
 pub returns : goal.returns
 returns g c =
     let left = c.loop-receipt.receipt-iterator in
-    let over : into_iter_items left ≡ [] = nothing_left (into_iter_items left) (sym left.rest.ok.0 ∙ c.in-None.ensures.steps.0) in
+    let over : into_iter_items left ≡ [] = nil_from_length (into_iter_items left) (sym left.rest.ok.0 ∙ c.in-None.ensures.steps.0) in
     c.loop-receipt.invariant.3 (subst (ArePopped (pops_of c.args.inlets.now.items)) (sym over) tt)
 
 pub join_back-requires : goal.join_back-requires
@@ -83,8 +77,5 @@ join_back-requires g c =
     let at : item ≡ get_or inlets (c.from.result % length inlets) item = c.index_mut.ensures.value ∙ ap (λ n. get_or inlets (c.from.result % n) item) len in
     let group : c.from.result ≡ r.group = c.from.ensures ∙ c.group.ensures in
     ap (λ (s : Seat). s.queue) c.into_seat.ensures.seat
-    ∙ (same_some r.queue (get_or inlets (r.group % length inlets) item).queue (sym here.0 ∙ queue_at inlets (intakes_of init) r.group item inv.0 some)
+    ∙ (same_Some r.queue (get_or inlets (r.group % length inlets) item).queue (sym here.0 ∙ queue_at inlets (intakes_of init) r.group item inv.0 some)
     ∙ (ap (λ n. (get_or inlets (n % length inlets) item).queue) (sym group) ∙ ap (λ (u : Taker). u.queue) (sym at)))
-
-pub next-requires : goal.next-requires
-next-requires g c = tt

@@ -1,4 +1,5 @@
 use Rattle.std.proofs.Common.{◌≡◌, ◌∙◌, ◌++◌, ◌∷◌, [], List, suc, refl, rules, arith, length, ap, sym, subst, append-nil, append_assoc}
+use Rattle.std.proofs.lemmas.List.{nil_from_length}
 use Rattle.std.specs.Prelude.{IfOk}
 use Rattle.std.specs.Vec.Iter.{into_iter_items}
 use Rattle.gr_model.specs.Reports.{Lists, WordBelow}
@@ -17,10 +18,6 @@ same_head x y xs ys e = cc
 no_queues : {A : Type 0} (givers : List (Giver A)) → works_of givers ≡ [] → givers ≡ []
 no_queues [] e = refl
 no_queues (o ∷ givers) e = absurd (omega (arith, ap length e))
-
-nothing_left : {X : Type 0} (xs : List X) → length xs ≡ 0 → xs ≡ []
-nothing_left [] e = refl
-nothing_left (x ∷ xs) e = absurd (omega (arith, e))
 
 pub loop-worker-init : goal.loop-worker-init
 loop-worker-init g c =
@@ -43,16 +40,13 @@ loop-worker-preserved g c =
 pub returns : goal.returns
 returns g c =
     let old = c.loop-worker.invariant.2 in
-    let over : into_iter_items c.loop-worker.worker-iterator ≡ [] = nothing_left (into_iter_items c.loop-worker.worker-iterator) (sym c.loop-worker.invariant.1 ∙ c.in-None.ensures.steps.0) in
+    let over : into_iter_items c.loop-worker.worker-iterator ≡ [] = nil_from_length (into_iter_items c.loop-worker.worker-iterator) (sym c.loop-worker.invariant.1 ∙ c.in-None.ensures.steps.0) in
     let none : into_iter_items c.loop-worker.left ≡ [] = no_queues (into_iter_items c.loop-worker.left) (sym c.loop-worker.invariant.0 ∙ ap worker_queues over) in
     let all : old.0 ≡ given_of c.args.outlets.items = sym (append-nil old.0) ∙ (ap (λ (l : List (Giver g.row.A.Denot)). old.0 ++ given_of l) (sym none) ∙ old.1) in
     subst (λ (l : List (List ClockedAccess)). IfOk c.loop-worker.words (λ v. Lists WordBelow (IsHitAmong l) v.items)) all old.2
 
 pub loop-worker-smaller : goal.loop-worker-smaller
 loop-worker-smaller g c = omega (arith, c.in-Some.ensures.steps.1)
-
-pub next-requires : goal.next-requires
-next-requires g c = tt
 
 pub settle-more-requires : goal.settle-more-requires
 settle-more-requires g c =
@@ -64,6 +58,6 @@ settle-more-requires g c =
 pub unreachable-requires : goal.unreachable-requires
 unreachable-requires g c =
     let left = c.loop-worker.left in
-    let none : into_iter_items left ≡ [] = nothing_left (into_iter_items left) (sym left.rest.ok.0 ∙ c.in_default.ensures.cases.0) in
+    let none : into_iter_items left ≡ [] = nil_from_length (into_iter_items left) (sym left.rest.ok.0 ∙ c.in_default.ensures.cases.0) in
     let both = ap worker_queues (sym c.in-Some.ensures.steps.0) ∙ (c.loop-worker.invariant.0 ∙ ap works_of none) in
     omega (arith, ap length both)

@@ -21,15 +21,3 @@ loop-preserved g c =
       subst (λ (l : List Taker). AreUnpopped l) (sym pushed) (each_more (λ (u : Taker). u.popped ≡ []) was t inv.1 (ap (λ (u : Taker). u.popped) c.in_ok-new.ensures)),
       subst (λ (l : List Taker). AreUnseated l) (sym pushed) (each_more (λ (u : Taker). u.sizes ≡ no_sizes) was t inv.2 (ap (λ (u : Taker). u.sizes) c.in_ok-new.ensures)),
     )
-
-pub loop-smaller : goal.loop-smaller
-loop-smaller g c = omega (arith, c.loop-test.true)
-
-pub returns-clause-count : goal.returns-clause-count
-returns-clause-count g c = omega (arith, c.loop.invariant.0, c.loop-test.false, c.loop.auto.counter-end, c.queues-end.ensures.number)
-
-pub returns-clause-unpopped : goal.returns-clause-unpopped
-returns-clause-unpopped g c = c.loop.invariant.1
-
-pub returns-clause-unseated : goal.returns-clause-unseated
-returns-clause-unseated g c = c.loop.invariant.2

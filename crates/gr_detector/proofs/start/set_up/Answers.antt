@@ -31,14 +31,5 @@ returns-clause-senders g c =
     subst (λ (b : Begin g.row.A.Denot). AreSendersOf (run_of b) c.in_ok-senders.senders.items) (sym c.new-begin.ensures)
     (senders_are (record { config = c.args.config; sizes = c.args.shape; intakes = intakes_of now }) (intakes_of was) c.in_ok-senders.senders.items queues count c.in_ok-senders.ensures.count c.in_ok-senders.ensures.senders)
 
-pub returns-clause-begin : goal.returns-clause-begin
-returns-clause-begin g c = (ap (λ (b : Begin g.row.A.Denot). b.config) c.new-begin.ensures, ap (λ (b : Begin g.row.A.Denot). b.sizes) c.new-begin.ensures)
-
 pub returns-clause-workers : goal.returns-clause-workers
 returns-clause-workers g c = c.in_ok-outlets.ensures.queues ∙ sym (ap (λ (b : Begin g.row.A.Denot). works_of b.givers) c.new-begin.ensures)
-
-pub returns-clause-none : goal.returns-clause-none
-returns-clause-none g c = (c.in_ok-threads.ensures.items, c.in_ok-ends.ensures.items)
-
-pub returns-clause-room : goal.returns-clause-room
-returns-clause-room g c = (omega (arith, c.len.ensures, c.in_ok-threads.ensures.capacity), omega (arith, c.len-2.ensures, c.in_ok-ends.ensures.capacity))

@@ -1,11 +1,7 @@
-use Rattle.std.proofs.Common.{◌≡◌, ◌∙◌, ◌++◌, ◌∷◌, [], List, append_assoc, append-nil, ap, arith, length, refl, rules, sym, take, take_all, vec_len}
-use Rattle.std.proofs.lemmas.List.{take-append-le}
+use Rattle.std.proofs.Common.{◌≡◌, ◌∙◌, ◌++◌, ◌∷◌, [], List, append_assoc, append-nil, ap, arith, length, rules, sym, take, take_all, vec_len}
+use Rattle.std.proofs.lemmas.List.{take-append-le, nil_from_length}
 use Rattle.std.specs.Vec.Iter.{into_iter_items}
 use Rattle.gr_detector.proofs.start.start_all.Goals as goal
-
-nothing_left : {X : Type 0} (xs : List X) → length xs ≡ 0 → xs ≡ []
-nothing_left [] e = refl
-nothing_left (x ∷ xs) e = absurd (omega (arith, e))
 
 pub loop-worker-preserved : goal.loop-worker-preserved
 loop-worker-preserved g c =
@@ -23,9 +19,6 @@ loop-worker-init g c =
     let len : vec_len c.args.threads ≡ 0 = search rules in
     (ap (λ (l : List _). l ++ into_iter_items c.into_iter-worker-iterator.result) c.requires.none ∙ c.into_iter-worker-iterator.ensures.into_iter_gives.0, omega (arith, len, c.into_iter-worker-iterator.ensures.into_iter_gives.1), c.requires.room)
 
-pub next-requires : goal.next-requires
-next-requires g c = tt
-
 pub start_one-requires : goal.start_one-requires
 start_one-requires g c =
     let is = c.type_bounds in (is.static-R, (is.static-A, (is.static-W, (is.send-R, (is.send-A, (is.send-W, (is.sync-A, (is.sync-W, is.frees-A-Allocator))))))))
@@ -35,9 +28,6 @@ push_reserved-requires g c = omega (arith, c.loop-worker.invariant.1, c.loop-wor
 
 pub loop-worker-smaller : goal.loop-worker-smaller
 loop-worker-smaller g c = omega (arith, c.in-Some.ensures.steps.1)
-
-pub returns-in-None-start_one-clause-all : goal.returns-in-None-start_one-clause-all
-returns-in-None-start_one-clause-all g c = tt
 
 pub returns-in-None-start_one-clause-first : goal.returns-in-None-start_one-clause-first
 returns-in-None-start_one-clause-first g c =
@@ -52,11 +42,5 @@ returns-in-None-start_one-clause-fewer g c = omega (arith, c.loop-worker.invaria
 pub returns-clause-all : goal.returns-clause-all
 returns-clause-all g c =
     let threads = c.loop-worker.threads.items in
-    let over : into_iter_items c.loop-worker.worker-iterator ≡ [] = nothing_left (into_iter_items c.loop-worker.worker-iterator) (sym c.loop-worker.worker-iterator.rest.ok.0 ∙ c.in-None.ensures.steps.0) in
+    let over : into_iter_items c.loop-worker.worker-iterator ≡ [] = nil_from_length (into_iter_items c.loop-worker.worker-iterator) (sym c.loop-worker.worker-iterator.rest.ok.0 ∙ c.in-None.ensures.steps.0) in
     sym (append-nil threads) ∙ (ap (λ (l : List _). threads ++ l) (sym over) ∙ c.loop-worker.invariant.0)
-
-pub returns-clause-first : goal.returns-clause-first
-returns-clause-first g c = tt
-
-pub returns-clause-fewer : goal.returns-clause-fewer
-returns-clause-fewer g c = tt

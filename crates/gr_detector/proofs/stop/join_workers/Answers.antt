@@ -1,13 +1,9 @@
-use Rattle.std.proofs.Common.{◌≡◌, ◌∙◌, ◌++◌, ◌∷◌, [], List, append_assoc, append-nil, ap, arith, length, refl, rules, sym, vec_len}
-use Rattle.std.proofs.lemmas.List.{map_push}
+use Rattle.std.proofs.Common.{◌≡◌, ◌∙◌, ◌++◌, ◌∷◌, [], List, append_assoc, append-nil, ap, arith, rules, sym, vec_len}
+use Rattle.std.proofs.lemmas.List.{map_push, nil_from_length}
 use Rattle.std.specs.Vec.Iter.{into_iter_items}
 use Rattle.atomic_table.specs.Seated.{TableId}
 use Rattle.gr_detector.specs.Runs.{worker_queues}
 use Rattle.gr_detector.proofs.stop.join_workers.Goals as goal
-
-nothing_left : {X : Type 0} (xs : List X) → length xs ≡ 0 → xs ≡ []
-nothing_left [] e = refl
-nothing_left (x ∷ xs) e = absurd (omega (arith, e))
 
 pub loop-worker-preserved : goal.loop-worker-preserved
 loop-worker-preserved g c =
@@ -26,9 +22,6 @@ loop-worker-init g c =
     let len : vec_len c.args.ends ≡ 0 = search rules in
     (ap (λ (l : List _). worker_queues l ++ worker_queues (into_iter_items c.into_iter-worker-iterator.result)) c.requires.none ∙ ap worker_queues c.into_iter-worker-iterator.ensures.into_iter_gives.0, omega (arith, len, c.into_iter-worker-iterator.ensures.into_iter_gives.1), c.requires.room)
 
-pub next-requires : goal.next-requires
-next-requires g c = tt
-
 pub join-requires : goal.join-requires
 join-requires g c κs lives = lives
 
@@ -44,5 +37,5 @@ returns-clause-count g c = omega (arith, c.loop-worker.invariant.1, c.in-None.en
 pub returns-clause-queues : goal.returns-clause-queues
 returns-clause-queues g c =
     let before = worker_queues c.loop-worker.ends.items in
-    let over : into_iter_items c.loop-worker.worker-iterator ≡ [] = nothing_left (into_iter_items c.loop-worker.worker-iterator) (sym c.loop-worker.worker-iterator.rest.ok.0 ∙ c.in-None.ensures.steps.0) in
+    let over : into_iter_items c.loop-worker.worker-iterator ≡ [] = nil_from_length (into_iter_items c.loop-worker.worker-iterator) (sym c.loop-worker.worker-iterator.rest.ok.0 ∙ c.in-None.ensures.steps.0) in
     sym (append-nil before) ∙ (ap (λ l. before ++ worker_queues l) (sym over) ∙ c.loop-worker.invariant.0)

@@ -52,16 +52,10 @@ settle_all-races-requires-clause-stopped g c =
 
 pub returns-in-Some-Ok-clause-once : goal.returns-in-Some-Ok-clause-once
 returns-in-Some-Ok-clause-once g c =
-    let receipts = c.args.receipts.items in
-    let sizes : c.self.inside.sequencer.sizes ≡ c.args.self.sizes = ap (λ (r : Run). r.sizes) c.self.view_is in
-    let groups : c.self.inside.groups ≡ length c.args.self.sizes = c.self.invariant.0 ∙ ap length sizes in
-    let once : IsEachOnce c.self.inside.groups receipts = subst (λ (l : List Seat). IsEachOnce c.self.inside.groups l) c.deref.ensures.value (c.if-not-has_each_once.ensures.0 refl) in
-    subst (λ n. IsEachOnce n receipts) groups once
+    let groups : c.self.inside.groups ≡ length c.args.self.sizes = c.self.invariant.0 ∙ ap (λ (r : Run). length r.sizes) c.self.view_is in
+    subst (λ (y : ℕ × List Seat). IsEachOnce y.0 y.1) (λ i. (groups i, c.deref.ensures.value i)) (c.if-not-has_each_once.ensures.0 refl)
 
 pub returns-clause-refused : goal.returns-clause-refused
 returns-clause-refused g c =
-    let receipts = c.args.receipts.items in
-    let sizes : c.self.inside.sequencer.sizes ≡ c.args.self.sizes = ap (λ (r : Run). r.sizes) c.self.view_is in
-    let groups : c.self.inside.groups ≡ length c.args.self.sizes = c.self.invariant.0 ∙ ap length sizes in
-    let once : IsEachOnce c.self.inside.groups receipts = subst (λ (l : List Seat). IsEachOnce c.self.inside.groups l) c.deref.ensures.value (c.if-not-has_each_once.ensures.0 refl) in
-    subst (λ n. IsEachOnce n receipts) groups once
+    let groups : c.self.inside.groups ≡ length c.args.self.sizes = c.self.invariant.0 ∙ ap (λ (r : Run). length r.sizes) c.self.view_is in
+    subst (λ (y : ℕ × List Seat). IsEachOnce y.0 y.1) (λ i. (groups i, c.deref.ensures.value i)) (c.if-not-has_each_once.ensures.0 refl)
