@@ -10,12 +10,12 @@ use crate::refused::refuse;
 use gr_command::execute::{execute, fail};
 use gr_command::status::USAGE;
 use gr_model::memory::Memory;
+use gr_plan::files::Files;
 use gr_plan::held::Held;
 use gr_plan::plan::plan_of;
+use gr_plan::progress::{Cleared, Watched};
 use gr_plan::reading::Reading;
-use gr_plan::table::Table;
 use gr_plan::told::tell;
-use gr_plan::watched::Cleared;
 use gr_record::fault::Fault;
 use std::alloc::Global;
 use std::io::{BufWriter, ErrorKind, IsTerminal, Write};
@@ -38,31 +38,27 @@ fn words_or_help(
     Ok(words)
 }
 
-/// The first word, or none.
-fn first_of(words: &[String]) -> &str {
-    match words.first() {
-        None => "",
-        Some(word) => word.as_str(),
-    }
-}
-
 /// Does what these words ask for, with this input, and gives the exit status. Only a run in threads uses `handle`.
 fn perform<H>(
     handle: H,
     rt: HostRuntime,
     words: &[String],
     reading: &mut Reading,
-    table: &Table,
+    files: &Files,
     errors: &mut Held,
 ) -> u8
 where
     H: Threads + Wait + Clock + Copy + Send + 'static,
 {
     let alloc = rt.alloc();
-    let Ok(progress) = table.another_progress() else {
+    let Ok(progress) = files.progress.clone() else {
         return fail(&Fault::Memory, errors);
     };
-    let Ok(mut writer) = BufWriter::new(alloc, Cleared::new(io::writer(&rt), progress)) else {
+    let writer = Cleared {
+        writer: io::writer(&rt),
+        progress,
+    };
+    let Ok(mut writer) = BufWriter::new(alloc, writer) else {
         return fail(&Fault::Memory, errors);
     };
     execute(
@@ -70,7 +66,7 @@ where
         alloc,
         words,
         reading,
-        move |name| table.open_watched(rt, name),
+        move |name| Watched::open(files, name),
         &mut writer,
         errors,
     )
@@ -85,20 +81,18 @@ where
         Ok(plan) => plan,
         Err(refusal) => return refuse(&refusal, &mut rt.stderr()),
     };
-    if plan.watch(rt).is_err() {
+    if plan.watch().is_err() {
         return fail(&Fault::Memory, &mut rt.stderr());
     }
-    let asked = match &plan.words {
-        None => words,
-        Some(asked) => asked.as_slice(),
-    };
+    let asked = plan.words.as_ref().map_or(words, |asked| asked.as_slice());
     let mut errors = Held::new(rt.stderr());
-    let (reading, table) = (&mut plan.reading, &plan.files.table);
-    let status = perform(handle, rt, asked, reading, table, &mut errors);
-    if let Some(progress) = &plan.files.table.progress {
+    let (reading, files) = (&mut plan.reading, &plan.files);
+    let status = perform(handle, rt, asked, reading, files, &mut errors);
+    if let Some(progress) = &plan.files.progress {
         progress.clear();
     }
-    let _ = tell(rt, &mut plan, first_of(words), &mut errors);
+    let command = words.first().map_or("", |word| word.as_str());
+    let _ = tell(&mut plan, command, &mut errors);
     if status == 0 {
         let _ = plan.tell_word(&mut errors);
     }

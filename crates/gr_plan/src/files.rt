@@ -3,19 +3,19 @@
 
 use crate::account::Account;
 use crate::line::Line;
-use crate::seen::Seen;
-use crate::sited::Sited;
-use crate::source::Piece;
-use crate::table::Table;
+use crate::progress::Progress;
+use crate::seen::{Seen, Sited};
+use crate::source::{Piece, Source, file_size};
 use gr_model::memory::Memory;
 use gr_record::fault::Fault;
 use gr_record::input::read_all;
+use indexmap::IndexMap;
 use std::alloc::Global;
 use std::fs::{self, File};
+use std::hash::{BuildHasherDefault, FoldHasher};
 use std::io::{self, ErrorKind, Read};
-
-/// How the files of streams end, in a folder.
-const STREAM_ENDING: &str = ".gpurace";
+use std::iter;
+use std::sync::Arc;
 
 /// What a name stands for.
 #[derive(Clone, Copy, PartialEq, Eq)]
@@ -47,16 +47,10 @@ pub fn kind_of(rt: HostRuntime, name: &str) -> Kind {
 
 /// The fault of reading.
 pub fn fault_of(error: &io::Error) -> Fault {
-    if error.kind() == ErrorKind::OutOfMemory {
-        Fault::Memory
-    } else {
-        Fault::Read
+    match error.kind() {
+        ErrorKind::OutOfMemory => Fault::Memory,
+        _ => Fault::Read,
     }
-}
-
-/// A text of its own.
-pub fn copy_of(alloc: Global, text: &str) -> Result<String, Memory> {
-    Ok(String::from_str(alloc, text)?)
 }
 
 /// Texts of their own.
@@ -101,7 +95,7 @@ fn paths_in(rt: HostRuntime, folder: &str, ending: &str) -> Result<Vec<String>, 
 
 /// The paths of the files of streams in a folder, sorted; none where the folder can't be read.
 pub fn paths_of_streams(rt: HostRuntime, folder: &str) -> Result<Vec<String>, Memory> {
-    paths_in(rt, folder, STREAM_ENDING)
+    paths_in(rt, folder, ".gpurace")
 }
 
 /// The first folder in a folder that has files of streams, if there is one: the folder of a launch among others.
@@ -122,22 +116,14 @@ fn side_file(rt: HostRuntime, folder: &str, name: &str) -> Result<Option<String>
 }
 
 /// The file of buffers of a command on these files: that which is given, or the first one of a folder.
-pub fn buffers_of(
-    rt: HostRuntime,
-    line: &Line<'_>,
-    names: &[&str],
-) -> Result<Option<String>, Memory> {
-    if let Some(path) = line.value_of("--buffers") {
-        return Ok(Some(copy_of(rt.alloc(), path)?));
-    }
+pub fn buffers_of(line: &Line<'_>, names: &[&str]) -> Result<Option<String>, Memory> {
+    let mut path = line.path_of("--buffers")?;
     for name in names {
-        if kind_of(rt, name) == Kind::Folder
-            && let Some(path) = side_file(rt, name, "buffers")?
-        {
-            return Ok(Some(path));
+        if path.is_none() && kind_of(line.rt, name) == Kind::Folder {
+            path = side_file(line.rt, name, "buffers")?;
         }
     }
-    Ok(None)
+    Ok(path)
 }
 
 /// The files of streams, one each, for those that are given.
@@ -147,13 +133,13 @@ pub struct Files {
     /// The names, in their order.
     pub names: Vec<String>,
     /// What those open that are no path of a whole file.
-    pub table: Table,
+    pieces: IndexMap<String, Piece, BuildHasherDefault<FoldHasher>>,
+    /// Who reports how far the reading is.
+    pub progress: Option<Arc<Progress>>,
     /// The file of places: that which is given, or the first one of a folder, or its sites.
     pub places: Option<String>,
     /// The file of buffers: that which is given, or the first one of a folder.
     pub buffers: Option<String>,
-    /// Pipes are read as they come, and so have one stream each; else all of a pipe is read at first.
-    may_wait: bool,
     /// The command takes side files.
     pub takes_sides: bool,
     /// Who sees the headers and records.
@@ -168,10 +154,10 @@ impl Files {
         Files {
             rt,
             names: Vec::new(rt.alloc()),
-            table: Table::new(rt.alloc()),
+            pieces: IndexMap::new(rt.alloc()),
+            progress: None,
             places: None,
             buffers: None,
-            may_wait: false,
             takes_sides: false,
             seen: Seen::default(),
             torn: None,
@@ -181,38 +167,50 @@ impl Files {
     /// Adds the streams of the files of a command, and its side files. Where a file is missing all names stay as they are, so that
     /// it is reported as ever.
     pub fn add_all(&mut self, line: &Line<'_>, names: &[&str]) -> Result<(), Fault> {
-        self.may_wait = line.command == "run";
-        self.takes_sides = line.takes_sides();
-        self.places = self.value_of(line, "--places")?;
-        self.buffers = self.value_of(line, "--buffers")?;
         let rt = self.rt;
-        let is_whole = names.iter().all(|name| kind_of(rt, name) != Kind::Missing);
+        self.takes_sides = line.takes_sides();
+        self.places = line.path_of("--places")?;
+        self.buffers = line.path_of("--buffers")?;
+        if names.iter().any(|name| kind_of(rt, name) == Kind::Missing) {
+            self.names = copies_of(rt.alloc(), names)?;
+            return Ok(());
+        }
         for name in names {
-            if is_whole {
-                self.add(name)?;
-            } else {
-                self.add_name(name)?;
-            }
+            self.add(line, name)?;
         }
         Ok(())
     }
 
-    /// The value of an option, if it is there.
-    fn value_of(&self, line: &Line<'_>, option: &str) -> Result<Option<String>, Memory> {
-        let value = line.value_of(option);
-        value
-            .map(|value| copy_of(self.rt.alloc(), value))
-            .transpose()
+    /// Whether a name opens something else than the whole file of this path.
+    pub fn has_piece(&self, name: &str) -> bool {
+        self.pieces.get(name).is_some()
     }
 
-    /// Adds the streams of what is given by this name.
-    fn add(&mut self, name: &str) -> Result<(), Fault> {
+    /// How many bytes a name opens, where that is known.
+    pub fn size_of(&self, name: &str) -> Option<u64> {
+        match self.pieces.get(name) {
+            None => file_size(self.rt, name),
+            Some(piece) => piece.size(),
+        }
+    }
+
+    /// Opens a name: its piece, or else the file of this path.
+    pub fn open(&self, name: &str) -> io::Result<Source> {
+        match self.pieces.get(name) {
+            None => Ok(Source::Whole(File::open(&self.rt, name)?)),
+            Some(piece) => Ok(Source::Piece(piece.open()?)),
+        }
+    }
+
+    /// Adds the streams of what is given by this name. `run` reads pipes as they come, so they have one stream each; else all of a
+    /// pipe is read at first.
+    fn add(&mut self, line: &Line<'_>, name: &str) -> Result<(), Fault> {
         let rt = self.rt;
         match kind_of(rt, name) {
             Kind::Input => self.add_bytes(name, &mut rt.stdin()),
             Kind::File => self.add_file(name),
             Kind::Folder => self.add_folder(name),
-            Kind::Pipe if !self.may_wait => match File::open(&rt, name) {
+            Kind::Pipe if line.command != "run" => match File::open(&rt, name) {
                 Err(_) => Ok(self.add_name(name)?),
                 Ok(mut pipe) => self.add_bytes(name, &mut pipe),
             },
@@ -225,30 +223,39 @@ impl Files {
         let mut account = Account::new(self.rt.alloc(), false);
         account.read(reader, &mut self.seen)?;
         if self.torn.is_none() && account.is_torn() {
-            self.torn = Some(copy_of(self.rt.alloc(), name)?);
+            self.torn = Some(self.copy_of(name)?);
         }
         Ok(account.starts)
     }
 
+    /// A text of its own.
+    fn copy_of(&self, text: &str) -> Result<String, Memory> {
+        Ok(String::from_str(self.rt.alloc(), text)?)
+    }
+
     /// Adds a name as it is.
     fn add_name(&mut self, name: &str) -> Result<(), Memory> {
-        self.names.push(copy_of(self.rt.alloc(), name)?)?;
+        let name = self.copy_of(name)?;
+        self.names.push(name)?;
         Ok(())
     }
 
-    /// Adds a name, and what it opens.
+    /// Has a name open a piece. A name that has one keeps it.
     fn add_piece(&mut self, name: &str, piece: Piece) -> Result<(), Memory> {
-        self.add_name(name)?;
-        self.table.add(self.rt.alloc(), name, piece)
+        if !self.has_piece(name) {
+            let name = self.copy_of(name)?;
+            self.pieces.insert(name, piece)?;
+        }
+        Ok(())
     }
 
     /// Adds the streams that begin at these bytes of what is given by a name.
     fn add_parts(&mut self, name: &str, whole: &Piece, starts: &[u64]) -> Result<(), Memory> {
-        for (number, start) in starts.iter().enumerate() {
-            let end = starts.get(number.saturating_add(1)).copied();
-            let part = whole.part(*start, end.unwrap_or(u64::MAX))?;
-            let name = format!(in self.rt.alloc(); "{name}@{start}")?;
-            self.add_piece(name.as_str(), part)?;
+        let ends = starts.iter().copied().skip(1).chain(iter::once(u64::MAX));
+        for (start, end) in starts.iter().zip(ends) {
+            let part = format!(in self.rt.alloc(); "{name}@{start}")?;
+            self.add_name(part.as_str())?;
+            self.add_piece(part.as_str(), whole.part(*start, end)?)?;
         }
         Ok(())
     }
@@ -259,10 +266,11 @@ impl Files {
         let bytes = read_all(alloc, reader)?;
         let starts = self.starts_of(name, &mut bytes.as_slice())?;
         let whole = Piece::of_bytes(alloc, bytes)?;
-        if starts.len() < 2 {
-            return Ok(self.add_piece(name, whole)?);
+        if starts.len() > 1 {
+            return Ok(self.add_parts(name, &whole, &starts)?);
         }
-        Ok(self.add_parts(name, &whole, starts.as_slice())?)
+        self.add_name(name)?;
+        Ok(self.add_piece(name, whole)?)
     }
 
     /// Adds the streams of the file of this path.
@@ -273,8 +281,8 @@ impl Files {
         };
         match self.starts_of(path, &mut file) {
             Ok(starts) if starts.len() > 1 => {
-                let whole = Piece::of_file(rt, copy_of(rt.alloc(), path)?);
-                Ok(self.add_parts(path, &whole, starts.as_slice())?)
+                let whole = Piece::of_file(rt, self.copy_of(path)?);
+                Ok(self.add_parts(path, &whole, &starts)?)
             }
             Err(Fault::Memory) => Err(Fault::Memory),
             Ok(_) | Err(_) => Ok(self.add_name(path)?),
@@ -292,9 +300,9 @@ impl Files {
             self.add_file(path.as_str())?;
         }
         if let (Some(sited), Some(sites)) = (self.seen.sited.take(), &self.places) {
-            let alloc = self.rt.alloc();
-            let places = Piece::of_bytes(alloc, sited.places)?;
-            self.table.add(alloc, sites.as_str(), places)?;
+            let sites = self.copy_of(sites.as_str())?;
+            let places = Piece::of_bytes(self.rt.alloc(), sited.places)?;
+            self.add_piece(sites.as_str(), places)?;
         }
         Ok(())
     }

@@ -3,19 +3,14 @@
 #![tactic(auto)]
 
 mod account;
-mod files;
+pub mod files;
 pub mod held;
 mod line;
 mod named;
 pub mod plan;
-mod progress;
+pub mod progress;
 pub mod reading;
 mod seen;
-mod sited;
-mod sought;
 mod source;
-pub mod table;
 mod text_fault;
 pub mod told;
-mod unnamed;
-pub mod watched;

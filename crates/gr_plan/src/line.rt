@@ -1,7 +1,6 @@
 //! The words of a command line by what they are: the command, its options, and the others.
 
 use gr_model::memory::Memory;
-use std::alloc::Global;
 
 /// What a command does with the files that it is given.
 #[derive(Clone, Copy)]
@@ -15,12 +14,13 @@ pub enum Taking {
 /// The words of a command line that has a command.
 #[derive(Drop)]
 pub struct Line<'a> {
+    pub rt: HostRuntime,
     /// The command.
     pub command: &'a str,
     /// What it does with its files.
     pub taking: Taking,
-    /// Its options, each with its value after it.
-    options: Vec<&'a str>,
+    /// Its options, each with the word after it, if that is its value.
+    options: Vec<(&'a str, Option<&'a str>)>,
     /// All other words: files, and what stands before them.
     pub values: Vec<&'a str>,
 }
@@ -43,8 +43,7 @@ pub fn is_option(word: &str) -> bool {
 
 /// Whether a word may be meant as a command: it has small letters and hyphens alone.
 pub fn may_be_command(word: &str) -> bool {
-    let mut bytes = word.as_bytes().iter();
-    bytes.all(|byte| matches!(byte, b'a'..=b'z' | b'-'))
+    word.bytes().all(|byte| matches!(byte, b'a'..=b'z' | b'-'))
 }
 
 /// Whether the word after this option is its value.
@@ -58,25 +57,27 @@ fn takes_value(option: &str) -> bool {
 impl<'a> Line<'a> {
     /// The line of a command, after which these words stand.
     pub fn of(
-        alloc: Global,
+        rt: HostRuntime,
         command: &'a str,
         taking: Taking,
         words: &'a [String],
     ) -> Result<Line<'a>, Memory> {
-        let (mut options, mut values) = (Vec::new(alloc), Vec::new(alloc));
-        let (mut is_value, mut is_after_options) = (false, false);
-        for word in words {
-            let word = word.as_str();
-            if !is_value && (is_after_options || !is_option(word)) {
-                values.push(word)?;
-            } else if !is_value && word == "--" {
-                is_after_options = true;
+        let (mut options, mut values) = (Vec::new(rt.alloc()), Vec::new(rt.alloc()));
+        let mut words = words.iter().map(|word| word.as_str());
+        while let Some(word) = words.next() {
+            if word == "--" {
+                values.extend(words)?;
+                break;
+            } else if takes_value(word) {
+                options.push((word, words.next()))?;
+            } else if is_option(word) {
+                options.push((word, None))?;
             } else {
-                is_value = !is_value && takes_value(word);
-                options.push(word)?;
+                values.push(word)?;
             }
         }
         Ok(Line {
+            rt,
             command,
             taking,
             options,
@@ -84,11 +85,17 @@ impl<'a> Line<'a> {
         })
     }
 
-    /// The command and its options.
-    pub fn head(&self, alloc: Global) -> Result<Vec<&'a str>, Memory> {
-        let mut words = Vec::new(alloc);
+    /// The command and its options, with or without those that give a file of buffers.
+    pub fn head(&self, has_buffers: bool) -> Result<Vec<&'a str>, Memory> {
+        let mut words = Vec::new(self.rt.alloc());
         words.push(self.command)?;
-        words.extend_from_slice(self.options.as_slice())?;
+        for (option, value) in &self.options {
+            let gives_buffers = *option == "--buffers" || option.starts_with("--buffers=");
+            if has_buffers || !gives_buffers {
+                words.push(*option)?;
+                words.extend(*value)?;
+            }
+        }
         Ok(words)
     }
 
@@ -96,24 +103,25 @@ impl<'a> Line<'a> {
     pub fn takes_sides(&self) -> bool {
         match self.command {
             "races" | "history" => true,
-            "explain" => self.options.iter().any(|word| *word == "--long"),
+            "explain" => self.options.iter().any(|(option, _)| *option == "--long"),
             _ => false,
         }
     }
 
     /// The value of an option, if it is there.
     pub fn value_of(&self, option: &str) -> Option<&'a str> {
-        let mut words = self.options.iter();
-        while let Some(word) = words.next() {
+        self.options.iter().find_map(|(word, value)| {
             if *word == option {
-                return words.next().copied();
+                return *value;
             }
-            if let Some((name, value)) = word.split_once('=')
-                && name == option
-            {
-                return Some(value);
-            }
-        }
-        None
+            word.strip_prefix(option)?.strip_prefix('=')
+        })
+    }
+
+    /// The path that an option gives, if it is there.
+    pub fn path_of(&self, option: &str) -> Result<Option<String>, Memory> {
+        let path = self.value_of(option);
+        let path = path.map(|path| String::from_str(self.rt.alloc(), path));
+        Ok(path.transpose()?)
     }
 }

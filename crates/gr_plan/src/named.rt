@@ -1,30 +1,37 @@
-//! A word of memory that is given by its name, as `partial[10]`.
+//! A word of memory that is given by its name, as `partial[10]`, and what is told of a name that no word has, or words of several
+//! memories, by the lines of a file of buffers.
 
-use crate::files::{Kind, copy_of, kind_of, read_file};
-use crate::plan::{Refusal, Unnamed};
-use crate::unnamed::{note_of, why_unnamed};
+use crate::files::{Kind, buffers_of, kind_of, launch_in, read_file};
+use crate::line::{Line, Taking};
+use crate::plan::Refusal;
+use crate::told::reason_of;
 use gr_model::event::Word;
 use gr_model::memory::Memory;
-use gr_places::buffers::{BufferLine, read_buffers};
-use gr_places::fault::SideFault;
+use gr_places::buffers::{BufferLine, Element, element_of};
+use gr_places::files::buffers_of as lines_said;
 use gr_places::naming::word_said;
-use gr_record::fault::Fault;
+use gr_text::words::parse_number;
 use std::alloc::Global;
+use std::fs;
+
+/// What is said of a name where no file says which word has it.
+const NO_BUFFERS: &str =
+    "is the name of a word, and there is no file of buffers that says which: give a folder that has one, or --buffers FILE";
+
+/// How many names, or memories, are shown at most.
+const MOST_SHOWN: usize = 8;
 
 /// A name among the words of `explain` or `history`.
 #[derive(Clone, Copy)]
-pub struct Naming<'a> {
-    /// The name, with an index.
-    pub name: &'a str,
+pub struct Naming<'l, 'a> {
+    /// The words.
+    pub line: &'l Line<'a>,
+    /// The name.
+    name: &'a str,
     /// The memory that the word is of, where it is given too.
-    pub space: Option<&'a str>,
+    space: Option<&'a str>,
     /// The files.
-    pub files: &'a [&'a str],
-}
-
-/// Whether a word of the command line has the form of a name.
-fn is_name(word: &str) -> bool {
-    word.ends_with(']') && word.contains('[')
+    pub files: &'l [&'a str],
 }
 
 /// The group whose local memory a word of the command line names.
@@ -32,9 +39,14 @@ fn group_in(word: &str) -> Option<u32> {
     word.strip_prefix('l')?.parse::<u32>().ok()
 }
 
-/// The name among the words, if there is one: after a memory, or the first or the last of the words.
-pub fn naming_in<'a>(words: &'a [&'a str]) -> Option<Naming<'a>> {
-    let (name, space, files) = match words {
+/// The name among the words of a command on a word: after a memory, or else the first or the last of the words, if that is one.
+pub fn naming_by<'l, 'a, F>(line: &'l Line<'a>, is_name: F) -> Option<Naming<'l, 'a>>
+where
+    F: Fn(&str) -> bool,
+    requires { F.IsAlwaysCallable is_name }
+{
+    let (name, space, files) = match line.values.as_slice() {
+        _ if !matches!(line.taking, Taking::Each(2)) => return None,
         [] | [_] => return None,
         [space, name, files @ ..] if *space == "g" || group_in(space).is_some() => {
             (*name, Some(*space), files)
@@ -42,106 +54,210 @@ pub fn naming_in<'a>(words: &'a [&'a str]) -> Option<Naming<'a>> {
         [name, files @ ..] if is_name(name) => (*name, None, files),
         [files @ .., name] => (*name, None, files),
     };
-    is_name(name).then_some(Naming { name, space, files })
-}
-
-/// What stands in place of a name among words that have none: after a memory, or else the first word or the last one, if nothing
-/// is there that it names.
-pub fn bare_in<'a>(rt: HostRuntime, words: &'a [&'a str]) -> Option<Naming<'a>> {
-    let (name, space, files) = match words {
-        [] | [_] => return None,
-        [space, name, files @ ..] if *space == "g" || group_in(space).is_some() => {
-            (*name, Some(*space), files)
-        }
-        [name, files @ ..] if kind_of(rt, name) == Kind::Missing => (*name, None, files),
-        [files @ .., name] => (*name, None, files),
-    };
-    (kind_of(rt, name) == Kind::Missing).then_some(Naming { name, space, files })
-}
-
-/// Whether the words of a line are of this memory.
-fn is_of(line: &BufferLine<'_>, space: Option<&str>) -> bool {
-    match (line.first, space) {
-        (_, None) => true,
-        (Word::Global(_), Some(space)) => space == "g",
-        (Word::Local(group, _), Some(space)) => group_in(space) == Some(u32::from(group)),
-    }
-}
-
-/// Those lines whose words are of this memory.
-pub fn lines_of<'a>(
-    alloc: Global,
-    lines: &[BufferLine<'a>],
-    space: Option<&str>,
-) -> Result<Vec<BufferLine<'a>>, Memory> {
-    let mut of_space = Vec::from_slice(alloc, lines)?;
-    of_space.retain(|line| is_of(line, space));
-    Ok(of_space)
-}
-
-/// What the lines of a file of buffers say.
-fn lines_in(alloc: Global, bytes: &[u8]) -> Result<Vec<BufferLine<'_>>, Refusal> {
-    match read_buffers(alloc, bytes) {
-        Ok(lines) => Ok(lines),
-        Err(SideFault::BadLine(line)) => Err(Refusal::BadBuffers(line)),
-        Err(SideFault::Memory) => Err(Refusal::Run(Fault::Memory)),
-    }
-}
-
-/// That no word has a name, by the lines of a file of buffers.
-fn refusal_of(
-    alloc: Global,
-    naming: &Naming<'_>,
-    buffers: &str,
-    lines: &[BufferLine<'_>],
-) -> Result<Refusal, Memory> {
-    let name = match naming.space {
-        None => copy_of(alloc, naming.name)?,
-        Some(space) => format!(in alloc; "{space} {}", naming.name)?,
-    };
-    Ok(Refusal::NoWord(Unnamed {
+    is_name(name).then_some(Naming {
+        line,
         name,
-        buffers: copy_of(alloc, buffers)?,
-        why: why_unnamed(alloc, lines, naming)?,
-    }))
+        space,
+        files,
+    })
 }
 
-/// The word that a name says, by the lines of a file of buffers, and what is told of the name, if it is in several memories.
-///
-/// # Errors
-/// `NoWord` where no word has the name; `BadBuffers`, or `Run` with `Read` or `Memory`, where the file is not known.
-pub fn word_in(
-    rt: HostRuntime,
-    naming: &Naming<'_>,
-    buffers: &str,
-) -> Result<(Word, Option<String>), Refusal> {
-    let alloc = rt.alloc();
-    let bytes = read_file(rt, buffers)?;
-    let lines = lines_in(alloc, bytes.as_slice())?;
-    let of_space = lines_of(alloc, lines.as_slice(), naming.space)?;
-    match word_said(of_space.as_slice(), naming.name) {
-        Some(word) => {
-            let note = note_of(alloc, of_space.as_slice(), naming.name, word)?;
-            Ok((word, note))
+impl Naming<'_, '_> {
+    /// The buffer that the name speaks of, and the place of the word in it, if it is given as a number.
+    fn parts(&self) -> (&str, Option<u32>) {
+        let open = self.name.strip_suffix(']');
+        match open.and_then(|open| open.rsplit_once('[')) {
+            None => (self.name, None),
+            Some((buffer, index)) => (buffer, parse_number(index.as_bytes())),
         }
-        None => Err(refusal_of(alloc, naming, buffers, lines.as_slice())?),
+    }
+
+    /// Whether the words of a line are of the memory that is given, if one is.
+    fn is_of(&self, line: &BufferLine<'_>) -> bool {
+        match (line.first, self.space) {
+            (_, None) => true,
+            (Word::Global(_), Some(space)) => space == "g",
+            (Word::Local(group, _), Some(space)) => group_in(space) == Some(u32::from(group)),
+        }
+    }
+
+    /// That no word has the name, by the lines of this file of buffers.
+    fn refusal(&self, path: &str, lines: &[BufferLine<'_>]) -> Result<Refusal, Memory> {
+        let (alloc, why) = (self.line.rt.alloc(), self.why_unnamed(lines)?);
+        let name = match self.space {
+            None => String::from_str(alloc, self.name)?,
+            Some(space) => format!(in alloc; "{space} {}", self.name)?,
+        };
+        let text = format!(in alloc; "no word is {name}, by the file of buffers {path}: {why}");
+        Ok(Refusal::Usage(text?))
+    }
+
+    /// Why no word has the name, by the lines of a file of buffers.
+    fn why_unnamed(&self, lines: &[BufferLine<'_>]) -> Result<String, Memory> {
+        let alloc = self.line.rt.alloc();
+        let (buffer, index) = self.parts();
+        let mut named = Vec::from_slice(alloc, lines)?;
+        named.retain(|line| line.name == buffer);
+        let mut of_space = Vec::from_slice(alloc, &named)?;
+        of_space.retain(|line| self.is_of(line));
+        if lines.is_empty() {
+            return Ok(String::from_str(alloc, "it names no buffer")?);
+        } else if named.is_empty() {
+            let names = list_of(alloc, lines, |line| Ok(String::from_str(alloc, line.name)?))?;
+            return Ok(format!(in alloc; "its buffers are {names}")?);
+        } else if of_space.is_empty() {
+            let spaces = spaces_of(alloc, &named)?;
+            return Ok(format!(in alloc; "{buffer} is in {spaces}")?);
+        }
+        let found = element_at(lines, &of_space, index);
+        let Some((word, Element { name, index })) = found else {
+            return size_of(alloc, buffer, &of_space);
+        };
+        let (space, number) = spelling_of(alloc, word)?;
+        Ok(format!(in alloc; "word {space} {number} is {name}[{index}]")?)
+    }
+
+    /// What is told of the name of a word where other memories have a buffer of the name, too.
+    fn note(&self, lines: &[BufferLine<'_>], word: Word) -> Result<Option<String>, Memory> {
+        let alloc = self.line.rt.alloc();
+        let (buffer, _) = self.parts();
+        let mut named = Vec::from_slice(alloc, lines)?;
+        named.retain(|line| line.name == buffer);
+        let (name, space, spaces) = (self.name, space_of(alloc, word)?, spaces_of(alloc, &named)?);
+        if spaces == space {
+            return Ok(None);
+        }
+        Ok(Some(format!(in alloc; "this is {name} of {space}; {buffer} is in {spaces}")?))
+    }
+
+    /// Why a word is not found by the name where there is no file of buffers.
+    fn refusal_without_buffers(&self) -> Result<Refusal, Memory> {
+        let (rt, alloc) = (self.line.rt, self.line.rt.alloc());
+        for name in self.files {
+            if kind_of(rt, name) == Kind::Missing
+                && let Err(error) = fs::metadata(&rt, name)
+            {
+                return Ok(Refusal::NoFile(reason_of(alloc, name, &error)?));
+            }
+            if let Some(launch) = launch_in(rt, name)? {
+                let text = format!(in alloc;
+                    "{name} holds launches; give one of them, such as {launch}"
+                );
+                return Ok(Refusal::Usage(text?));
+            }
+        }
+        let name = self.name;
+        Ok(Refusal::Usage(format!(in alloc; "{name} {NO_BUFFERS}")?))
+    }
+
+    /// The word that the name says, by the file of buffers, and what is told of the name, if it is in several memories.
+    ///
+    /// # Errors
+    /// `Usage` where no word has the name, or there is no file of buffers; `NoFile`; `Fault`, where the file is not known.
+    pub fn word(&self) -> Result<(Word, Option<String>), Refusal> {
+        let rt = self.line.rt;
+        let Some(path) = buffers_of(self.line, self.files)? else {
+            return Err(self.refusal_without_buffers()?);
+        };
+        let bytes = read_file(rt, path.as_str())?;
+        let lines = lines_said(rt.alloc(), &bytes).map_err(|fault| Refusal::Fault(fault))?;
+        let mut of_space = Vec::from_slice(rt.alloc(), &lines).map_err(Memory::from)?;
+        of_space.retain(|line| self.is_of(line));
+        let Some(word) = word_said(&of_space, self.name) else {
+            return Err(self.refusal(path.as_str(), &lines)?);
+        };
+        Ok((word, self.note(&of_space, word)?))
+    }
+
+    /// Refuses what stands in place of a name, where it is the name of a buffer alone. A file of buffers that is not known has none.
+    ///
+    /// # Errors
+    /// `Usage` where a buffer has the name; `Fault` with `Memory`.
+    pub fn check(&self) -> Result<(), Refusal> {
+        let rt = self.line.rt;
+        let Some(path) = buffers_of(self.line, self.files)? else {
+            return Ok(());
+        };
+        let Ok(bytes) = read_file(rt, path.as_str()) else {
+            return Ok(());
+        };
+        match lines_said(rt.alloc(), &bytes) {
+            Ok(lines) if lines.iter().any(|line| line.name == self.name) => {
+                Err(self.refusal(path.as_str(), &lines)?)
+            }
+            Ok(_) | Err(_) => Ok(()),
+        }
     }
 }
 
-/// Refuses what stands in place of a name, where it is the name of a buffer alone. A file of buffers that is not known has none.
-///
-/// # Errors
-/// `NoWord` where a buffer has the name; `Run` with `Memory`.
-pub fn check_bare(rt: HostRuntime, naming: &Naming<'_>, buffers: &str) -> Result<(), Refusal> {
-    let alloc = rt.alloc();
-    let Ok(bytes) = read_file(rt, buffers) else {
-        return Ok(());
-    };
-    let Ok(lines) = lines_in(alloc, bytes.as_slice()) else {
-        return Ok(());
-    };
-    if lines.iter().any(|line| line.name == naming.name) {
-        return Err(refusal_of(alloc, naming, buffers, lines.as_slice())?);
+/// A memory, as the command line has it.
+fn space_of(alloc: Global, word: Word) -> Result<String, Memory> {
+    match word {
+        Word::Global(_) => Ok(String::from_str(alloc, "g")?),
+        Word::Local(group, _) => Ok(format!(in alloc; "l{group}")?),
     }
-    Ok(())
+}
+
+/// The memory and the number of a word, as the command line has them.
+pub fn spelling_of(alloc: Global, word: Word) -> Result<(String, String), Memory> {
+    let (Word::Global(number) | Word::Local(_, number)) = word;
+    Ok((space_of(alloc, word)?, format!(in alloc; "{number}")?))
+}
+
+/// The texts of lines that differ, one after another.
+fn list_of<F>(alloc: Global, lines: &[BufferLine<'_>], text_of: F) -> Result<String, Memory>
+where
+    F: Fn(&BufferLine<'_>) -> Result<String, Memory>,
+    requires { F.IsAlwaysCallable text_of }
+{
+    let mut list = String::new(alloc);
+    let mut shown: Vec<String> = Vec::new(alloc);
+    for line in lines {
+        let next = text_of(line)?;
+        if shown.contains(&next) {
+            continue;
+        }
+        if shown.len() >= MOST_SHOWN {
+            list.push_str(" and others")?;
+            break;
+        }
+        if !shown.is_empty() {
+            list.push_str(", ")?;
+        }
+        list.push_str(next.as_str())?;
+        shown.push(next)?;
+    }
+    Ok(list)
+}
+
+/// The memories that lines are of, one after another.
+fn spaces_of(alloc: Global, lines: &[BufferLine<'_>]) -> Result<String, Memory> {
+    list_of(alloc, lines, |line| space_of(alloc, line.first))
+}
+
+/// The first word at this place of a buffer of these lines, and what it is by all lines of its memory.
+fn element_at<'a>(
+    lines: &[BufferLine<'a>],
+    named: &[BufferLine<'a>],
+    index: Option<u32>,
+) -> Option<(Word, Element<'a>)> {
+    let index = index?;
+    let line = named.iter().find(|line| index < line.words)?;
+    let word = match line.first {
+        Word::Global(first) => Word::Global(first.checked_add(index)?),
+        Word::Local(group, first) => Word::Local(group, first.checked_add(index)?),
+    };
+    Some((word, element_of(lines, word)?))
+}
+
+/// How many words a buffer has, and how they are named.
+fn size_of(alloc: Global, buffer: &str, named: &[BufferLine<'_>]) -> Result<String, Memory> {
+    let words = named.iter().map(|line| line.words).max().unwrap_or(0);
+    let last = words.saturating_sub(1);
+    let text = match words {
+        0 => format!(in alloc; "{buffer} has no words"),
+        1 => format!(in alloc; "{buffer} has one word, {buffer}[0]"),
+        _ => format!(in alloc; "{buffer} has {words} words, {buffer}[0] to {buffer}[{last}]"),
+    };
+    Ok(text?)
 }

@@ -1,29 +1,25 @@
 //! What is done about the words of a command line: the words that `gr_command` is given, its input, and what names open.
 
-use crate::files::{
-    Files, Kind, buffers_of, copies_of, copy_of, kind_of, launch_in, paths_of_streams,
-};
+use crate::files::{Files, Kind, copies_of, kind_of, paths_of_streams};
 use crate::line::{Line, Taking, is_option, may_be_command, taking_of};
-use crate::named::{Naming, bare_in, check_bare, naming_in, word_in};
+use crate::named::{Naming, naming_by, spelling_of};
 use crate::progress::Progress;
 use crate::reading::{Keeping, Reading};
-use crate::sought::Sought;
-use crate::source::file_size;
-use crate::told::reason_of;
+use crate::seen::Sought;
 use clap::error::ErrorKind;
 use gr_arguments::request::Request;
 use gr_arguments::request_of;
-use gr_model::event::Word;
 use gr_model::memory::Memory;
+use gr_places::sides_fault::SidesFault;
 use gr_record::fault::Fault;
 use std::alloc::Global;
-use std::fs;
 use std::io::{self, IsTerminal, Write};
 use std::sync::Arc;
 
 /// What is done about the words of a command line.
 #[derive(Drop)]
 pub struct Plan {
+    pub rt: HostRuntime,
     /// The words in place of those that were given, if they are others.
     pub words: Option<Vec<String>>,
     /// The input.
@@ -37,40 +33,23 @@ pub struct Plan {
 /// Why nothing is done.
 #[derive(Debug, Drop)]
 pub enum Refusal {
-    /// Reading fails, or memory runs out.
-    Run(Fault),
-    /// The line with this number has not the form of a line of buffers.
-    BadBuffers(u64),
-    /// A word is given by this name, and no file of buffers.
-    NoBuffers(String),
+    /// Reading fails, memory runs out, or a line of a file of buffers has not its form.
+    Fault(SidesFault),
     /// A word is given by its name, and a file can't be opened: which, and why.
     NoFile(String),
-    /// A word is given by its name, and this folder holds folders of launches, such as this one.
-    Launches(String, String),
-    /// No word has the name that is asked for.
-    NoWord(Unnamed),
-}
-
-/// A name that no word has.
-#[derive(Debug, Drop)]
-pub struct Unnamed {
-    /// The name, behind the memory that the word is to be of, if that is given.
-    pub name: String,
-    /// The file of buffers that has no such name.
-    pub buffers: String,
-    /// What the file has instead.
-    pub why: String,
+    /// A word is given by a name that is none, or that no file says: why.
+    Usage(String),
 }
 
 impl From<Memory> for Refusal {
     fn from(_error: Memory) -> Refusal {
-        Refusal::Run(Fault::Memory)
+        Refusal::Fault(SidesFault::Run(Fault::Memory))
     }
 }
 
 impl From<Fault> for Refusal {
     fn from(fault: Fault) -> Refusal {
-        Refusal::Run(fault)
+        Refusal::Fault(SidesFault::Run(fault))
     }
 }
 
@@ -80,12 +59,13 @@ impl From<Fault> for Refusal {
 /// Why nothing is done.
 pub fn plan_of(rt: HostRuntime, words: &[String]) -> Result<Plan, Refusal> {
     let mut plan = Plan {
+        rt,
         words: None,
         reading: Reading::new(rt, Vec::new(rt.alloc()), Keeping::Last)?,
         files: Files::new(rt),
         note: None,
     };
-    plan.take_words(rt, words)?;
+    plan.take_words(words)?;
     Ok(plan)
 }
 
@@ -94,11 +74,12 @@ impl Plan {
     ///
     /// # Errors
     /// `Memory`: out of memory.
-    pub fn watch(&mut self, rt: HostRuntime) -> Result<(), Memory> {
+    pub fn watch(&mut self) -> Result<(), Memory> {
+        let rt = self.rt;
         if rt.stderr().is_terminal() {
-            let progress = Arc::new(rt.alloc(), Progress::new(rt, self.size(rt)))?;
+            let progress = Arc::new(rt.alloc(), Progress::new(rt, self.size()))?;
             self.reading.progress = Some(Arc::try_clone(&progress)?);
-            self.files.table.progress = Some(progress);
+            self.files.progress = Some(progress);
         }
         Ok(())
     }
@@ -112,95 +93,76 @@ impl Plan {
         if let Some(sought) = &self.files.seen.sought {
             sought.tell(errors)?;
         }
-        match &self.note {
-            None => Ok(()),
-            Some(note) => writeln!(errors, "gpurace: {note}"),
+        if let Some(note) = &self.note {
+            writeln!(errors, "gpurace: {note}")?;
         }
+        Ok(())
     }
 
     /// How many bytes are read, where that is known.
-    fn size(&self, rt: HostRuntime) -> Option<u64> {
-        let (given, names) = (self.reading.names.as_slice(), self.files.names.as_slice());
+    fn size(&self) -> Option<u64> {
+        let (given, names) = (&self.reading.names, &self.files.names);
         if given.is_empty() && names.is_empty() {
-            return file_size(rt, "/dev/stdin");
+            return self.files.size_of("/dev/stdin");
         }
-        let mut size: u64 = 0;
-        for name in given.iter().chain(names) {
-            size = size.saturating_add(self.files.table.size_of(rt, name.as_str())?);
-        }
-        Some(size)
+        let mut names = given.iter().chain(names);
+        names.try_fold(0_u64, |size, name| {
+            Some(size.saturating_add(self.files.size_of(name.as_str())?))
+        })
     }
 
     /// Takes the words of a command line. They stay as they are, and standard input is the input, where they are no command on
     /// files.
-    fn take_words(&mut self, rt: HostRuntime, words: &[String]) -> Result<(), Refusal> {
-        let Some(line) = line_of(rt, words)? else {
+    fn take_words(&mut self, words: &[String]) -> Result<(), Refusal> {
+        let Some(line) = line_of(self.rt, words)? else {
             return Ok(());
         };
         let Taking::Each(leading) = line.taking else {
-            return Ok(self.take_joined(rt, &line)?);
+            return Ok(self.take_joined(&line)?);
         };
-        let values = line.values.as_slice();
-        if leading == 2
-            && let Some(naming) = naming_in(values)
-        {
-            return self.take_named(rt, &line, &naming);
+        if let Some(naming) = naming_by(&line, |word| word.ends_with(']') && word.contains('[')) {
+            return self.take_named(&naming);
         }
-        if !is_taken(rt.alloc(), words)? {
-            return if leading == 2 {
-                check_names(rt, &line)
-            } else {
-                Ok(())
-            };
+        if is_taken(self.rt.alloc(), words)? {
+            let (before, names) = line.values.split_at(leading.min(line.values.len()));
+            return Ok(self.take_each(&line, before, names)?);
         }
-        let (before, names) = values.split_at(leading.min(values.len()));
-        Ok(self.take_each(rt, &line, before, names)?)
+        match naming_by(&line, |word| kind_of(line.rt, word) == Kind::Missing) {
+            None => Ok(()),
+            Some(naming) => naming.check(),
+        }
     }
 
     /// Takes a command that reads its files as one.
-    fn take_joined(&mut self, rt: HostRuntime, line: &Line<'_>) -> Result<(), Memory> {
+    fn take_joined(&mut self, line: &Line<'_>) -> Result<(), Memory> {
         let keeping = match line.command {
             "pack" => Keeping::Text,
             "replay" => Keeping::Last,
             _ => Keeping::Fault,
         };
-        let names = names_given(rt, line.values.as_slice(), keeping)?;
-        self.reading = Reading::new(rt, names, keeping)?;
-        let words = line.head(rt.alloc())?;
-        self.words = Some(copies_of(rt.alloc(), words.as_slice())?);
+        let names = files_given(self.rt, &line.values, keeping)?;
+        self.reading = Reading::new(self.rt, names, keeping)?;
+        self.words = Some(copies_of(self.rt.alloc(), &line.head(true)?)?);
         Ok(())
     }
 
     /// Takes a command that has a stream from each of these files, before which these words stand.
-    fn take_each(
-        &mut self,
-        rt: HostRuntime,
-        line: &Line<'_>,
-        before: &[&str],
-        names: &[&str],
-    ) -> Result<(), Fault> {
+    fn take_each(&mut self, line: &Line<'_>, before: &[&str], names: &[&str]) -> Result<(), Fault> {
         if let [space, number] = before {
             self.files.seen.sought = Sought::new(space, number);
         }
         self.files.add_all(line, names)?;
-        self.words = Some(words_with(rt.alloc(), line, before, &self.files)?);
+        self.words = Some(words_with(line, before, &self.files)?);
         Ok(())
     }
 
     /// Takes a command on a word that is given by its name.
-    fn take_named(
-        &mut self,
-        rt: HostRuntime,
-        line: &Line<'_>,
-        naming: &Naming<'_>,
-    ) -> Result<(), Refusal> {
-        let Some(buffers) = buffers_of(rt, line, naming.files)? else {
-            return Err(without_buffers(rt, naming)?);
-        };
-        let (word, note) = word_in(rt, naming, buffers.as_str())?;
+    fn take_named(&mut self, naming: &Naming<'_, '_>) -> Result<(), Refusal> {
+        let (word, note) = naming.word()?;
+        let (space, number) = spelling_of(self.rt.alloc(), word)?;
+        let before = [space.as_str(), number.as_str()];
         self.note = note;
-        let (space, number) = spelling_of(rt.alloc(), word)?;
-        Ok(self.take_each(rt, line, &[space.as_str(), number.as_str()], naming.files)?)
+        Ok(self.take_each(naming.line, &before, naming.files)?)
     }
 }
 
@@ -210,91 +172,45 @@ fn line_of<'a>(rt: HostRuntime, words: &'a [String]) -> Result<Option<Line<'a>>,
         return Ok(None);
     };
     let first = first.as_str();
-    let line = match taking_of(first) {
-        Some(taking) => Line::of(rt.alloc(), first, taking, after)?,
+    match taking_of(first) {
+        Some(taking) => Ok(Some(Line::of(rt, first, taking, after)?)),
         None if asks_for_report(rt, words) => {
-            Line::of(rt.alloc(), "replay", Taking::Joined, words)?
+            Ok(Some(Line::of(rt, "replay", Taking::Joined, words)?))
         }
-        None => return Ok(None),
-    };
-    Ok(Some(line))
+        None => Ok(None),
+    }
 }
 
-/// Whether words without a command ask for a report: the first that is not the option of `replay`, if there is one, names a file.
+/// Whether words without a command ask for a report: the first that is not the option of `replay`, if there is one, names a file that
+/// is there, or that is missing and can't be a mistyped command.
 fn asks_for_report(rt: HostRuntime, words: &[String]) -> bool {
-    match words.iter().find(|word| word.as_str() != "--json") {
-        None => true,
-        Some(word) => is_file(rt, word.as_str()),
-    }
+    let mut words = words.iter().map(|word| word.as_str());
+    words.find(|word| *word != "--json").is_none_or(|word| {
+        let is_other = is_option(word) || word == "help" || taking_of(word).is_some();
+        !is_other && (!may_be_command(word) || kind_of(rt, word) != Kind::Missing)
+    })
 }
 
-/// Whether a word in a command's place names a file: one that is there, or that is missing and can't be a mistyped command.
-fn is_file(rt: HostRuntime, word: &str) -> bool {
-    if is_option(word) || word == "help" || taking_of(word).is_some() {
-        return false;
-    }
-    !may_be_command(word) || kind_of(rt, word) != Kind::Missing
-}
-
-/// Why a word is not found by its name where there is no file of buffers.
-fn without_buffers(rt: HostRuntime, naming: &Naming<'_>) -> Result<Refusal, Memory> {
-    let alloc = rt.alloc();
-    for name in naming.files {
-        if kind_of(rt, name) == Kind::Missing
-            && let Err(error) = fs::metadata(&rt, name)
-        {
-            return Ok(Refusal::NoFile(reason_of(alloc, name, &error)?));
-        }
-        if let Some(launch) = launch_in(rt, name)? {
-            return Ok(Refusal::Launches(copy_of(alloc, name)?, launch));
-        }
-    }
-    Ok(Refusal::NoBuffers(copy_of(alloc, naming.name)?))
-}
-
-/// Refuses words that have the name of a buffer in place of that of a word.
-fn check_names(rt: HostRuntime, line: &Line<'_>) -> Result<(), Refusal> {
-    let Some(naming) = bare_in(rt, line.values.as_slice()) else {
-        return Ok(());
-    };
-    match buffers_of(rt, line, naming.files)? {
-        None => Ok(()),
-        Some(buffers) => check_bare(rt, &naming, buffers.as_str()),
-    }
-}
-
-/// The files that names stand for.
-fn names_given(rt: HostRuntime, names: &[&str], keeping: Keeping) -> Result<Vec<String>, Memory> {
+/// The files that names stand for: those of a folder's streams, or the name itself.
+fn files_given(rt: HostRuntime, names: &[&str], keeping: Keeping) -> Result<Vec<String>, Memory> {
     let mut given = Vec::new(rt.alloc());
     for name in names {
-        given.append(&mut files_given(rt, name, keeping)?)?;
+        let mut paths = Vec::new(rt.alloc());
+        if keeping != Keeping::Text && kind_of(rt, name) == Kind::Folder {
+            paths = paths_of_streams(rt, name)?;
+        }
+        if paths.is_empty() {
+            paths.push(String::from_str(rt.alloc(), name)?)?;
+        }
+        given.append(&mut paths)?;
     }
     Ok(given)
 }
 
-/// The files that a name stands for: those of a folder's streams, or the name itself.
-fn files_given(rt: HostRuntime, name: &str, keeping: Keeping) -> Result<Vec<String>, Memory> {
-    if keeping != Keeping::Text && kind_of(rt, name) == Kind::Folder {
-        let paths = paths_of_streams(rt, name)?;
-        if !paths.is_empty() {
-            return Ok(paths);
-        }
-    }
-    copies_of(rt.alloc(), &[name])
-}
-
-/// Whether a request can be met.
-fn is_right(request: Request<'_>) -> bool {
-    match request {
-        Request::Perform(_) | Request::Ask(_) => true,
-        Request::Refuse(_) => false,
-    }
-}
-
-/// Whether the words of a command on files are taken.
+/// Whether the words of a command on files are taken, and ask for something.
 fn is_taken(alloc: Global, words: &[String]) -> Result<bool, Memory> {
     match request_of(alloc, words) {
-        Ok(request) => Ok(is_right(request)),
+        Ok(request) => Ok(!matches!(request, Request::Refuse(_))),
         Err(error) if error.kind() == ErrorKind::OutOfMemory => Err(Memory),
         Err(_) => Ok(false),
     }
@@ -303,55 +219,18 @@ fn is_taken(alloc: Global, words: &[String]) -> Result<bool, Memory> {
 /// The words of a command on these files, after these others. A file of buffers is left out where the command takes no side
 /// files: a word was then given by its name.
 fn words_with<'a>(
-    alloc: Global,
     line: &Line<'a>,
     before: &[&'a str],
     files: &'a Files,
 ) -> Result<Vec<String>, Memory> {
-    let mut words = line.head(alloc)?;
-    if files.takes_sides {
-        push_side(&mut words, line, "--places", &files.places)?;
-        push_side(&mut words, line, "--buffers", &files.buffers)?;
-    } else {
-        drop_buffers(&mut words);
+    let mut words = line.head(files.takes_sides)?;
+    for (option, path) in [("--places", &files.places), ("--buffers", &files.buffers)] {
+        if let (Some(path), None, true) = (path, line.value_of(option), files.takes_sides) {
+            words.extend_from_slice(&[option, path.as_str()])?;
+        }
     }
     words.push("--")?;
     words.extend_from_slice(before)?;
-    for name in &files.names {
-        words.push(name.as_str())?;
-    }
-    copies_of(alloc, words.as_slice())
-}
-
-/// Adds an option with the path of a side file, if there is one and the option is not given.
-fn push_side<'a>(
-    words: &mut Vec<&'a str>,
-    line: &Line<'_>,
-    option: &'static str,
-    path: &'a Option<String>,
-) -> Result<(), Memory> {
-    if let (Some(path), None) = (path, line.value_of(option)) {
-        words.extend_from_slice(&[option, path.as_str()])?;
-    }
-    Ok(())
-}
-
-/// Drops the options that give a file of buffers.
-fn drop_buffers(words: &mut Vec<&str>) {
-    let mut is_value = false;
-    words.retain(|word| {
-        let is_buffers = !is_value && *word == "--buffers";
-        let is_kept = !is_value && !is_buffers && !word.starts_with("--buffers=");
-        is_value = is_buffers;
-        is_kept
-    });
-}
-
-/// The memory and the number of a word, as the command line has them.
-fn spelling_of(alloc: Global, word: Word) -> Result<(String, String), Memory> {
-    let (space, number) = match word {
-        Word::Global(number) => (copy_of(alloc, "g")?, number),
-        Word::Local(group, number) => (format!(in alloc; "l{group}")?, number),
-    };
-    Ok((space, format!(in alloc; "{number}")?))
+    words.extend(files.names.iter().map(|name| name.as_str()))?;
+    copies_of(line.rt.alloc(), &words)
 }

@@ -1,6 +1,12 @@
-//! How far the reading of an input is, reported on standard error where that is a terminal.
+//! How far the reading of an input is, reported on standard error where that is a terminal, and what is read and written under the
+//! eyes of who reports it.
 
-use std::io::{self, Write};
+use crate::files::Files;
+use crate::source::Source;
+use gr_record::header::Version;
+use gr_record::layout::HEADER_LENGTH;
+use std::io::{self, Read, Write};
+use std::sync::Arc;
 use std::sync::atomic::{AtomicU64, Ordering};
 use std::time::{Clock, Duration};
 
@@ -58,18 +64,15 @@ impl Progress {
 
     /// Reports how far the reading is, as many milliseconds after its begin.
     fn tell(&self, passed: u64) -> io::Result<()> {
-        let bytes = self.bytes.load(Ordering::SeqCst);
+        let hundred = self.bytes.load(Ordering::SeqCst).saturating_mul(100);
         let records = self.records.load(Ordering::SeqCst);
         let rate = records.saturating_mul(1000).checked_div(passed);
         let rate = rate.unwrap_or(0);
-        let alloc = self.rt.alloc();
-        let hundred = bytes.saturating_mul(100);
-        let part = match self.total.and_then(|total| hundred.checked_div(total)) {
-            None => String::new(alloc),
-            Some(part) => format!(in alloc; ", {part} %")?,
-        };
-        let part = part.as_str();
-        let text = format!(in alloc; "\r{records} records read{part}, {rate} a second\x1b[K")?;
+        let mut text = format!(in self.rt.alloc(); "\r{records} records read")?;
+        if let Some(part) = self.total.and_then(|total| hundred.checked_div(total)) {
+            write!(text, ", {part} %")?;
+        }
+        write!(text, ", {rate} a second\x1b[K")?;
         self.rt.stderr().write_all(text.as_bytes())
     }
 
@@ -78,5 +81,79 @@ impl Progress {
         if self.next.load(Ordering::SeqCst) != FIRST_TOLD {
             let _ = self.rt.stderr().write_all(CLEAR);
         }
+    }
+}
+
+/// What is read where a name is opened, of which it is reported how far the reading is.
+#[derive(Drop)]
+pub struct Watched {
+    source: Source,
+    progress: Option<Arc<Progress>>,
+    version: Version,
+    read: u64,
+}
+
+/// How many records as many bytes of a stream of this version have.
+fn records_in(version: Version, bytes: u64) -> u64 {
+    bytes.saturating_sub(HEADER_LENGTH as u64) / version.record_length() as u64
+}
+
+impl Watched {
+    /// Opens a name, and has it reported how far the reading is.
+    ///
+    /// # Errors
+    /// Those of the file.
+    pub fn open(files: &Files, name: &str) -> io::Result<Watched> {
+        Ok(Watched {
+            source: files.open(name)?,
+            progress: files.progress.clone()?,
+            version: Version::One,
+            read: 0,
+        })
+    }
+
+    /// Counts bytes that were read.
+    fn count(&mut self, piece: &[u8]) {
+        let Some(progress) = &self.progress else {
+            return;
+        };
+        if self.read == 0 && matches!(piece, [b'G', b'R', b'T', b'2' | b'4', ..]) {
+            // version 4 has records of the same length
+            self.version = Version::Two;
+        }
+        let before = records_in(self.version, self.read);
+        self.read = self.read.saturating_add(piece.len() as u64);
+        let records = records_in(self.version, self.read).saturating_sub(before);
+        progress.add(piece.len() as u64, records);
+    }
+}
+
+impl Read for Watched {
+    fn read(&mut self, buf: &mut [u8]) -> io::Result<usize> {
+        let n = self.source.read(buf)?;
+        self.count(&buf[..n]);
+        Ok(n)
+    }
+}
+
+/// A writer before whose first bytes what was reported of the progress is cleared.
+#[derive(Drop)]
+pub struct Cleared<W: Drop> {
+    /// The writer.
+    pub writer: W,
+    /// Who reports the progress, until it is cleared.
+    pub progress: Option<Arc<Progress>>,
+}
+
+impl<W: Write + Drop> Write for Cleared<W> {
+    fn write(&mut self, buf: &[u8]) -> io::Result<usize> {
+        if let Some(progress) = self.progress.take() {
+            progress.clear();
+        }
+        self.writer.write(buf)
+    }
+
+    fn flush(&mut self) -> io::Result<()> {
+        self.writer.flush()
     }
 }

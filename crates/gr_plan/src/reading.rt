@@ -2,6 +2,7 @@
 
 use crate::account::Account;
 use crate::progress::Progress;
+use crate::seen::Seen;
 use crate::source::Source;
 use gr_model::memory::Memory;
 use std::fs::File;
@@ -65,11 +66,10 @@ impl Reading {
     /// `Memory`: out of memory.
     pub fn new(rt: HostRuntime, names: Vec<String>, keeping: Keeping) -> Result<Reading, Memory> {
         let alloc = rt.alloc();
-        let sources = sources_of(rt, names.as_slice())?;
         let is_text = keeping == Keeping::Text;
         Ok(Reading {
+            sources: sources_of(rt, &names)?,
             names,
-            sources,
             at: 0,
             read: 0,
             begins: Vec::new(alloc),
@@ -87,7 +87,7 @@ impl Reading {
         self.read = self.read.saturating_add(piece.len() as u64);
         let records = match &mut self.account {
             None => 0,
-            Some(account) => account.take(piece)?,
+            Some(account) => account.take(piece, &mut Seen::default())?,
         };
         if let Some(progress) = &self.progress {
             progress.add(piece.len() as u64, records);

@@ -1,10 +1,158 @@
-//! What is seen in the records of files while their streams are looked up.
+//! What is seen in the records of files while their streams are looked up: whether they access the word that is asked for, and where
+//! in the source they stand, by the sites that they tell and the folder's file `sites`.
 
-use crate::sited::Sited;
-use crate::sought::Sought;
+use gr_arguments::words::word_named;
+use gr_model::event::{Event, Kind, Word, word_of};
 use gr_model::memory::Memory;
 use gr_record::header::Header;
-use gr_record::reading::read_event;
+use itoa::Buffer;
+use std::alloc::Global;
+use std::io::{self, Write};
+
+/// The byte of a record at which its site begins.
+const SITE: usize = 6;
+
+/// A word that is asked for, and what of it was met.
+#[derive(Clone, Copy)]
+pub struct Sought {
+    word: Word,
+    is_accessed: bool,
+    /// The group is there whose local memory the word is of.
+    has_group: bool,
+}
+
+impl Sought {
+    /// The word that the command line names so. Nothing of it was met.
+    pub fn new(space: &str, number: &str) -> Option<Sought> {
+        Some(Sought {
+            word: word_named(space, number)?,
+            is_accessed: false,
+            has_group: false,
+        })
+    }
+
+    /// Passes the header of a group's stream.
+    fn begin(&mut self, group: u16) {
+        self.has_group |= matches!(self.word, Word::Local(of, _) if of == group);
+    }
+
+    /// Passes a record of a group.
+    fn pass(&mut self, group: u16, event: &Event) {
+        self.is_accessed |= word_of(group, event) == Some(self.word);
+    }
+
+    /// Reports that there is no such word, where that is so.
+    ///
+    /// # Errors
+    /// Those of the writer.
+    pub fn tell<W: Write>(&self, errors: &mut W) -> io::Result<()> {
+        match self.word {
+            Word::Local(group, _) if !self.has_group => {
+                writeln!(errors, "gpurace: the launch has no group {group}")
+            }
+            _ if self.is_accessed => Ok(()),
+            Word::Global(word) => writeln!(
+                errors,
+                "gpurace: no record accesses word {word} of global memory"
+            ),
+            Word::Local(group, word) => writeln!(
+                errors,
+                "gpurace: no record accesses word {word} of group {group}'s local memory"
+            ),
+        }
+    }
+}
+
+/// Makes the lines of a file of places (docs/FORMATS.md, "Side files") of records as they pass.
+#[derive(Drop)]
+pub struct Sited {
+    /// The file of sites.
+    sites: Vec<u8>,
+    /// Where each line of it begins, and where it ends.
+    lines: Vec<(usize, usize)>,
+    /// Of each item of the group at hand how many records have passed.
+    passed: Vec<u32>,
+    /// Those barriers that have a line.
+    barriers: Vec<u32>,
+    /// The lines of places.
+    pub places: Vec<u8>,
+}
+
+/// Where the lines of a text begin and end, line feeds included.
+fn lines_of(alloc: Global, text: &[u8]) -> Result<Vec<(usize, usize)>, Memory> {
+    let mut lines = Vec::new(alloc);
+    let mut start: usize = 0;
+    for line in text.split_inclusive(|byte| *byte == b'\n') {
+        let end = start.saturating_add(line.len());
+        lines.push((start, end))?;
+        start = end;
+    }
+    Ok(lines)
+}
+
+/// The line of the file of sites, from 0, that a record gives, if it gives one.
+fn site_of(record: &[u8]) -> Option<usize> {
+    match record.get(SITE..)? {
+        [low, high, ..] => usize::from(u16::from_le_bytes([*low, *high])).checked_sub(1),
+        _ => None,
+    }
+}
+
+impl Sited {
+    /// Of a folder whose file of sites has this text. No record has passed.
+    pub fn new(alloc: Global, sites: Vec<u8>) -> Result<Sited, Memory> {
+        Ok(Sited {
+            lines: lines_of(alloc, sites.as_slice())?,
+            sites,
+            passed: Vec::new(alloc),
+            barriers: Vec::new(alloc),
+            places: Vec::new(alloc),
+        })
+    }
+
+    /// Begins the stream of this header.
+    pub fn begin(&mut self, header: &Header) -> Result<(), Memory> {
+        self.passed.clear();
+        self.passed.resize(usize::from(header.items), 0)?;
+        Ok(())
+    }
+
+    /// Adds the line of a group's record, which says this event, if it gives its site. Barriers of one site have one line.
+    pub fn pass(&mut self, group: u16, event: &Event, record: &[u8]) -> Result<(), Memory> {
+        let Some(passed) = self.passed.get_mut(usize::from(event.item)) else {
+            return Ok(());
+        };
+        let index = *passed;
+        *passed = index.saturating_add(1);
+        let site = site_of(record);
+        let Some(place) = site.and_then(|site| self.lines.get(site)).copied() else {
+            return Ok(());
+        };
+        match event.kind {
+            Kind::Barrier { .. } if self.barriers.contains(&event.word) => Ok(()),
+            Kind::Barrier { .. } => {
+                self.barriers.push(event.word)?;
+                self.add_line(&[event.word], place)
+            }
+            _ => self.add_line(&[u32::from(group), u32::from(event.item), index], place),
+        }
+    }
+
+    /// Adds a line that says the place of what has these numbers.
+    fn add_line(&mut self, numbers: &[u32], place: (usize, usize)) -> Result<(), Memory> {
+        for number in numbers {
+            let mut buffer = Buffer::new();
+            self.places
+                .extend_from_slice(buffer.format(*number).as_bytes())?;
+            self.places.push(b' ')?;
+        }
+        let line = self.sites.get(place.0..place.1).unwrap_or(&[]);
+        let place = line.strip_suffix(b"\n").unwrap_or(line);
+        self.places.extend_from_slice(place)?;
+        self.places.push(b'\n')?;
+        Ok(())
+    }
+}
 
 /// Who sees each record.
 #[derive(Drop, Default)]
@@ -32,20 +180,14 @@ impl Seen {
         self.sited.is_none() && self.sought.is_none()
     }
 
-    /// Passes a record of the stream of this header, which is no end.
-    pub fn pass(&mut self, header: &Header, record: &[u8]) -> Result<(), Memory> {
-        if self.is_blind() || record.len() != header.version.record_length() {
-            return Ok(());
-        }
-        let Ok(event) = read_event(*header, record) else {
-            return Ok(());
-        };
+    /// Passes a record of the stream of this header, which says this event and is no end.
+    pub fn pass(&mut self, header: &Header, event: &Event, record: &[u8]) -> Result<(), Memory> {
         if let Some(sought) = &mut self.sought {
-            sought.pass(header.group, &event);
+            sought.pass(header.group, event);
         }
         match &mut self.sited {
             None => Ok(()),
-            Some(sited) => sited.pass(header.group, &event, record),
+            Some(sited) => sited.pass(header.group, event, record),
         }
     }
 }

@@ -6,12 +6,6 @@ use std::fs::{self, File};
 use std::io::{self, Read, Seek, SeekFrom, Stdin};
 use std::sync::Arc;
 
-/// How many bytes the file of a path has.
-pub fn file_size(rt: HostRuntime, path: &str) -> Option<u64> {
-    let metadata = fs::metadata(&rt, path).ok()?;
-    metadata.is_file().then_some(metadata.len())
-}
-
 /// What has the bytes of a piece.
 #[derive(Drop)]
 enum Bytes {
@@ -27,6 +21,12 @@ pub struct Piece {
     bytes: Bytes,
     at: u64,
     end: u64,
+}
+
+/// How many bytes the file of a path has.
+pub fn file_size(rt: HostRuntime, path: &str) -> Option<u64> {
+    let metadata = fs::metadata(&rt, path).ok()?;
+    metadata.is_file().then_some(metadata.len())
 }
 
 impl Piece {
@@ -79,7 +79,7 @@ impl Piece {
 impl Read for Piece {
     fn read(&mut self, buf: &mut [u8]) -> io::Result<usize> {
         let left = self.end.saturating_sub(self.at);
-        let most = buf.len().min(usize::try_from(left).unwrap_or(usize::MAX));
+        let most = buf.len().min(left as usize);
         let n = match &self.bytes {
             Bytes::File(rt, path) => {
                 let mut file = File::open(rt, path.as_str())?;
