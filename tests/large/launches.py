@@ -67,3 +67,12 @@ class LargeLaunches(ProgramTest):
         path = self.put("stream", b"".join(streams))
         ran = self.gpurace("replay", path, preexec_fn=lambda: resource.setrlimit(resource.RLIMIT_AS, (room, room)))
         self.assert_run(ran, report(groups, groups * 256, groups * 769, []), 0)
+
+    def test_local_words_of_groups_that_have_ended_take_no_memory_in_threads(self):
+        """Each of 2,000 groups of 256 items writes 1,024 local words. If all were kept, 512 MiB would be too little for `run`."""
+        groups, room = 2_000, 512 << 20
+        writes = b"".join(access(word % 256, 1, 1, word) for word in range(1_024))
+        streams = (b"GRT3" + header(group, 256)[4:] + writes + END for group in range(groups))
+        path = self.put("stream", b"".join(streams))
+        ran = self.gpurace("run", path, preexec_fn=lambda: resource.setrlimit(resource.RLIMIT_AS, (room, room)))
+        self.assert_run(ran, report(groups, groups * 256, groups * 1_025, []), 0)
