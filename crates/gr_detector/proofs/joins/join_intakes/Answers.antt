@@ -54,9 +54,6 @@ loop-receipt-init g c =
     let gives = c.into_iter-receipt-iterator.ensures.into_iter_gives.0 in
     (refl, refl, subst (AreHere (intakes_of c.args.inlets.now.items)) (sym gives) c.requires.here, λ whole. subst (ArePopped (pops_of c.args.inlets.now.items)) gives whole)
 
-pub loop-receipt-smaller : goal.loop-receipt-smaller
-loop-receipt-smaller g c = omega (arith, c.in-Some.ensures.steps.1)
-
 pub returns : goal.returns
 returns g c =
     let left = c.loop-receipt.receipt-iterator in

@@ -45,9 +45,6 @@ returns g c =
     let all : old.0 ≡ given_of c.args.outlets.items = sym (append-nil old.0) ∙ (ap (λ (l : List (Giver g.row.A.Denot)). old.0 ++ given_of l) (sym none) ∙ old.1) in
     subst (λ (l : List (List ClockedAccess)). IfOk c.loop-worker.words (λ v. Lists WordBelow (IsHitAmong l) v.items)) all old.2
 
-pub loop-worker-smaller : goal.loop-worker-smaller
-loop-worker-smaller g c = omega (arith, c.in-Some.ensures.steps.1)
-
 pub settle-more-requires : goal.settle-more-requires
 settle-more-requires g c =
     let w = c.in-Some.worker in

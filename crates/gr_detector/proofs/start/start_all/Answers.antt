@@ -23,21 +23,12 @@ pub start_one-requires : goal.start_one-requires
 start_one-requires g c =
     let is = c.type_bounds in (is.static-R, (is.static-A, (is.static-W, (is.send-R, (is.send-A, (is.send-W, (is.sync-A, (is.sync-W, is.frees-A-Allocator))))))))
 
-pub push_reserved-requires : goal.push_reserved-requires
-push_reserved-requires g c = omega (arith, c.loop-worker.invariant.1, c.loop-worker.invariant.2, c.in-Some.ensures.steps.1)
-
-pub loop-worker-smaller : goal.loop-worker-smaller
-loop-worker-smaller g c = omega (arith, c.in-Some.ensures.steps.1)
-
 pub returns-in-None-start_one-clause-first : goal.returns-in-None-start_one-clause-first
 returns-in-None-start_one-clause-first g c =
     let threads = c.loop-worker.threads.items in
     let n = vec_len c.loop-worker.threads in
     let len : length threads ≡ n = search rules in
     sym (take_all n threads (omega (arith, len))) ∙ (sym (take-append-le n threads (into_iter_items c.loop-worker.worker-iterator) (omega (arith, len))) ∙ ap (take n) c.loop-worker.invariant.0)
-
-pub returns-in-None-start_one-clause-fewer : goal.returns-in-None-start_one-clause-fewer
-returns-in-None-start_one-clause-fewer g c = omega (arith, c.loop-worker.invariant.1, c.in-Some.ensures.steps.1)
 
 pub returns-clause-all : goal.returns-clause-all
 returns-clause-all g c =

@@ -25,15 +25,6 @@ loop-worker-init g c =
 pub join-requires : goal.join-requires
 join-requires g c κs lives = lives
 
-pub push_reserved-requires : goal.push_reserved-requires
-push_reserved-requires g c = omega (arith, c.loop-worker.invariant.1, c.loop-worker.invariant.2, c.in-Some.ensures.steps.1)
-
-pub loop-worker-smaller : goal.loop-worker-smaller
-loop-worker-smaller g c = omega (arith, c.in-Some.ensures.steps.1)
-
-pub returns-clause-count : goal.returns-clause-count
-returns-clause-count g c = omega (arith, c.loop-worker.invariant.1, c.in-None.ensures.steps.0)
-
 pub returns-clause-queues : goal.returns-clause-queues
 returns-clause-queues g c =
     let before = worker_queues c.loop-worker.ends.items in
