@@ -1,5 +1,4 @@
-//! A word of memory that is given by its name, as `partial[10]`, and what is told of a name that no word has, or words of several
-//! memories, by the lines of a file of buffers.
+//! A word of memory that is given by its name, as `partial[10]`, and what is told of names that no word has, or words of several memories.
 
 use crate::files::{Kind, buffers_of, kind_of, launch_in, read_file};
 use crate::line::{Line, Taking};

@@ -9,7 +9,9 @@ use Rattle.gr_model.specs.declared.event.Name.{Name}
 use Rattle.gr_model.specs.declared.event.Space.{Space}
 use Rattle.gr_model.specs.declared.limits.TheConstants.{MOST_RECORDS}
 use Rattle.gr_model.specs.Events.{IsEventOk, IsKindOk, IsNamingOk, end_of, is_end}
-use Rattle.gr_model.specs.Streams.{AreGood, IsAccepted, is_complete}
+use Rattle.gr_model.specs.Streams.{AreGood, IsAccepted, IsPrefix, is_complete}
+use Rattle.gr_model.proofs.Sending.{is_complete-push}
+use Rattle.gr_model.proofs.StreamPrefixes.{next_ok, next_unended, prefix_prefix}
 use Rattle.gr_streams.specs.Sending.{IsStuck, MayFollow, sent_as, sent_by_kind}
 
 -- ---- each event is sent as it is
@@ -45,49 +47,28 @@ sent_as_they_are items (x ∷ xs) good =
     let rest = sent_as_they_are items xs (tail_good items x xs good) in
     λ k. first k ∷ rest k
 
-prefix_good : (items : ℕ) (before after : List Event) → AreGood items (before ++ after) → map sent_as before ≡ before
-prefix_good items [] after good = refl
-prefix_good items (x ∷ before) after good =
-    let first : sent_as x ≡ x = same_event x items (good zero x refl).0 in
-    let rest = prefix_good items before after (tail_good items x (before ++ after) good) in
-    λ k. first k ∷ rest k
-
--- an event that others follow is no end
-no_end : (items : ℕ) (x e : Event) (after : List Event) → AreGood items (x ∷ e ∷ after) → (b : Bool) → is_end x ≡ b → IsFalse b
-no_end items x e after good true end = let l : 0 + 1 ≡ suc (suc (length after)) = (good zero x refl).1 end in absurd (omega arith)
-no_end items x e after good false end = refl
-
-prefix_open : (items : ℕ) (before : List Event) (e : Event) (after : List Event) → AreGood items (before ++ e ∷ after) → IsFalse (is_complete before)
-prefix_open items [] e after good = refl
-prefix_open items (x ∷ []) e after good = no_end items x e after good (is_end x) refl
-prefix_open items (x ∷ y ∷ before) e after good = prefix_open items (y ∷ before) e after (tail_good items x (y ∷ before ++ e ∷ after) good)
-
-here_good : (items : ℕ) (before : List Event) (e : Event) (after : List Event) → AreGood items (before ++ e ∷ after) → IsEventOk e items
-here_good items [] e after good = (good zero e refl).0
-here_good items (x ∷ before) e after good = here_good items before e after (tail_good items x (before ++ e ∷ after) good)
-
-last_end : (before : List Event) (e : Event) → is_complete (before ++ e ∷ []) ≡ is_end e
-last_end [] e = refl
-last_end (x ∷ []) e = refl
-last_end (x ∷ y ∷ before) e = last_end (y ∷ before) e
-
 -- an event that is no end has another behind it
 one_behind : (before : List Event) (e : Event) (after : List Event) → IsTrue (is_complete (before ++ e ∷ after)) → is_end e ≡ false → 1 ≤ length after
-one_behind before e [] whole open_end = absurd (true≢false (sym whole ∙ (last_end before e ∙ open_end)))
+one_behind before e [] whole open_end = absurd (true≢false (sym whole ∙ (is_complete-push before e ∙ open_end)))
 one_behind before e (x ∷ after) whole open_end = omega arith
 
 pub may_follow : (items : ℕ) (before : List Event) (e : Event) (after : List Event) → IsAccepted items (before ++ e ∷ after) → MayFollow items (map sent_as before) e
 may_follow items before e after list = record {
-  unended = subst (λ (l : List Event). IsFalse (is_complete l)) (sym (prefix_good items before (e ∷ after) list.good)) (prefix_open items before e after list.good);
+  unended = subst (λ (l : List Event). IsFalse (is_complete l)) (sym same) (next_unended items before e after prefix);
   sendable = by_end (is_end e) refl;
 }
   where
+    prefix : IsPrefix items (before ++ e ∷ after)
+    prefix = record { few = list.few; good = list.good }
+
+    same : map sent_as before ≡ before
+    same = sent_as_they_are items before (prefix_prefix items before (e ∷ after) prefix).good
+
     by_end : (b : Bool) → is_end e ≡ b → IsTrue (is_end e) ⊎ ((IsFalse (is_end e) × IsEventOk e items) × (length (map sent_as before) + 1 < MOST_RECORDS))
     by_end true is = inl is
-    by_end false is = inr ((is, here_good items before e after list.good), room)
-      where
-        room : length (map sent_as before) + 1 < MOST_RECORDS
-        room = omega (arith, length-map before sent_as, length-append before (e ∷ after), list.few, one_behind before e after list.ended is)
+    by_end false is =
+        let behind = one_behind before e after list.ended is in
+        inr ((is, next_ok items before e after prefix), omega (arith, length-map before sent_as, length-append before (e ∷ after), list.few, behind))
 
 -- so none was refused
 pub none_refused : (items : ℕ) (events : List Event) → IsAccepted items events → IsStuck items events → ⊥

@@ -34,17 +34,11 @@ one_more_with (x ∷ hs) (y ∷ ls) h l count = ap (λ (fs : List Flat). record 
 
 -- ---- what was read of one input
 
-abbrev a_header : Header → Result Header Fault
-a_header h = Ok h
+abbrev ok : {X : Type 0} → X → Result X Fault
+ok x = Ok x
 
-same_header : (x y : Header) → a_header x ≡ a_header y → x ≡ y
-same_header x y e = cc
-
-abbrev a_list : List Event → Result (List Event) Fault
-a_list l = Ok l
-
-same_list : (x y : List Event) → a_list x ≡ a_list y → x ≡ y
-same_list x y e = cc
+same_ok : {X : Type 0} (x y : X) → ok x ≡ ok y → x ≡ y
+same_ok x y e = cc
 
 pub record HeaderRead (hs : List Header) (bytes : List ℕ) (h : Header) : Type 0 where
   pub rest : List ℕ
@@ -56,12 +50,12 @@ header_read : (hs : List Header) (bytes : List ℕ) (h : Header) → header_behi
 unfolding header_behind
 header_read hs bytes h is = by_prefix (front_header_at bytes) refl is
   where
-    by_seen : (x : Header) (rest : List ℕ) → front_header_at bytes ≡ Ok (x, rest) → (a b : Bool) → list_any (λ s. s.group == x.group) hs ≡ a → list_any (λ s. not (s.launch == x.launch)) hs ≡ b → cond a (Err (faults.SameGroup (length hs))) (cond b (Err (faults.OtherLaunch (length hs))) (a_header x)) ≡ a_header h → HeaderRead hs bytes h
+    by_seen : (x : Header) (rest : List ℕ) → front_header_at bytes ≡ Ok (x, rest) → (a b : Bool) → list_any (λ s. s.group == x.group) hs ≡ a → list_any (λ s. not (s.launch == x.launch)) hs ≡ b → cond a (Err (faults.SameGroup (length hs))) (cond b (Err (faults.OtherLaunch (length hs))) (ok x)) ≡ ok h → HeaderRead hs bytes h
     by_seen x rest prefix true b ga la k = absurd cc
     by_seen x rest prefix false true ga la k = absurd cc
-    by_seen x rest prefix false false ga la k = subst (HeaderRead hs bytes) (same_header x h k) (record { rest = rest; prefix = prefix; group = ga; launch = la })
+    by_seen x rest prefix false false ga la k = subst (HeaderRead hs bytes) (same_ok x h k) (record { rest = rest; prefix = prefix; group = ga; launch = la })
 
-    by_prefix : (r : Result (Header × List ℕ) RecordError) → front_header_at bytes ≡ r → (at_place (length hs) r >>= λ x. unless_seen hs x.0) ≡ a_header h → HeaderRead hs bytes h
+    by_prefix : (r : Result (Header × List ℕ) RecordError) → front_header_at bytes ≡ r → (at_place (length hs) r >>= λ x. unless_seen hs x.0) ≡ ok h → HeaderRead hs bytes h
     by_prefix (Err e) prefix k = absurd cc
     by_prefix (Ok (x, rest)) prefix k = by_seen x rest prefix (list_any (λ s. s.group == x.group) hs) (list_any (λ s. not (s.launch == x.launch)) hs) refl refl k
 
@@ -74,11 +68,11 @@ records_read : (place : ℕ) (bytes : List ℕ) (h : Header) (rest : List ℕ) (
 unfolding events_at
 records_read place bytes h rest events prefix is = by_records (front_records_at h rest) refl (sym (rw prefix refl) ∙ is)
   where
-    by_none : (es : List Event) (after : List ℕ) → front_records_at h rest ≡ Ok (es, after) → (b : Bool) → (length after == 0) ≡ b → cond b (a_list es) (Err (faults.Stream place AfterEnd)) ≡ a_list events → RecordsRead h rest events
-    by_none es after records true none k = subst (RecordsRead h rest) (same_list es events k) (record { after = after; records = records; none = none })
+    by_none : (es : List Event) (after : List ℕ) → front_records_at h rest ≡ Ok (es, after) → (b : Bool) → (length after == 0) ≡ b → cond b (ok es) (Err (faults.Stream place AfterEnd)) ≡ ok events → RecordsRead h rest events
+    by_none es after records true none k = subst (RecordsRead h rest) (same_ok es events k) (record { after = after; records = records; none = none })
     by_none es after records false none k = absurd cc
 
-    by_records : (r : Result (List Event × List ℕ) RecordError) → front_records_at h rest ≡ r → (at_place place r >>= λ x. cond (length x.1 == 0) (a_list x.0) (Err (faults.Stream place AfterEnd))) ≡ a_list events → RecordsRead h rest events
+    by_records : (r : Result (List Event × List ℕ) RecordError) → front_records_at h rest ≡ r → (at_place place r >>= λ x. cond (length x.1 == 0) (ok x.0) (Err (faults.Stream place AfterEnd))) ≡ ok events → RecordsRead h rest events
     by_records (Err e) records k = absurd cc
     by_records (Ok (es, after)) records k = by_none es after records (length after == 0) refl k
 
@@ -91,27 +85,15 @@ one_stream hs ls bytes h events count header list =
 
 -- ---- all inputs
 
-abbrev all_headers : List Header → Result (List Header) Fault
-all_headers hs = Ok hs
-
-same_headers : (x y : List Header) → all_headers x ≡ all_headers y → x ≡ y
-same_headers x y e = cc
-
-abbrev all_lists : List (List Event) → Result (List (List Event)) Fault
-all_lists ls = Ok ls
-
-same_lists : (x y : List (List Event)) → all_lists x ≡ all_lists y → x ≡ y
-same_lists x y e = cc
-
 each_behind : (inputs : List (List ℕ)) (hs hs2 : List Header) (ls ls2 : List (List Event)) → length hs ≡ length ls → headers_behind hs inputs ≡ Ok hs2 → lists_behind ls inputs ≡ Ok ls2 → each_at (streams_with hs ls) inputs ≡ Ok (streams_with hs2 ls2)
 unfolding headers_behind lists_behind each_at
-each_behind [] hs hs2 ls ls2 count headers lists = let a = same_headers hs hs2 headers in let b = same_lists ls ls2 lists in λ i. Ok (streams_with (a i) (b i))
+each_behind [] hs hs2 ls ls2 count headers lists = let a = same_ok hs hs2 headers in let b = same_ok ls ls2 lists in λ i. Ok (streams_with (a i) (b i))
 each_behind (bytes ∷ inputs) hs hs2 ls ls2 count headers lists =
     by_header (header_behind hs bytes) refl headers (events_at (length ls) bytes) refl lists
     (λ h l more lists_more. each_behind inputs (hs ++ h ∷ []) hs2 (ls ++ l ∷ []) ls2 (omega (arith, count, length-append hs (h ∷ []), length-append ls (l ∷ []))) more lists_more)
   where
-    by_header : (r : Result Header Fault) → header_behind hs bytes ≡ r → (r >>= λ h. headers_behind (hs ++ h ∷ []) inputs) ≡ all_headers hs2
-        → (q : Result (List Event) Fault) → events_at (length ls) bytes ≡ q → (q >>= λ l. lists_behind (ls ++ l ∷ []) inputs) ≡ all_lists ls2
+    by_header : (r : Result Header Fault) → header_behind hs bytes ≡ r → (r >>= λ h. headers_behind (hs ++ h ∷ []) inputs) ≡ ok hs2
+        → (q : Result (List Event) Fault) → events_at (length ls) bytes ≡ q → (q >>= λ l. lists_behind (ls ++ l ∷ []) inputs) ≡ ok ls2
         → ((h : Header) (l : List Event) → headers_behind (hs ++ h ∷ []) inputs ≡ Ok hs2 → lists_behind (ls ++ l ∷ []) inputs ≡ Ok ls2 → each_at (streams_with (hs ++ h ∷ []) (ls ++ l ∷ [])) inputs ≡ Ok (streams_with hs2 ls2))
         → (only_stream_at (streams_with hs ls) bytes >>= λ f. each_at (streams_with hs ls ++ f ∷ []) inputs) ≡ Ok (streams_with hs2 ls2)
     by_header (Err e) is k q events j go = absurd cc

@@ -1,10 +1,10 @@
 -- A header at the front of bytes, behind other headers.
-use Rattle.std.proofs.Common.{◌≡◌, ℕ, zero, suc, ◌<◌, ◌≤◌, Bool, true, false, cond, List, [], ◌∷◌, ◌++◌, length, drop, Option, None, Some, Result, Ok, Err, refl, sym, ap, ◌∙◌, subst, arith, inl, inr, append-nil, ltb}
+use Rattle.std.proofs.Common.{◌≡◌, ℕ, ◌<◌, ◌≤◌, Bool, true, false, cond, List, [], ◌∷◌, ◌++◌, length, drop, Option, None, Some, Result, Ok, Err, refl, sym, ap, ◌∙◌, subst, arith, inl, inr, append-nil, ltb}
 use Rattle.std.specs.Prelude.{not, ◌==◌, IfSome}
 use Rattle.std.specs.List.{list_any}
 use Rattle.std.specs.Io.KnownBytes.{Consumes, IsAtEnd, prepend_known}
 use Rattle.std.proofs.lemmas.Bool.{le-ltb, cases_lt, ltb-false}
-use Rattle.std.proofs.lemmas.List.{length-append}
+use Rattle.std.proofs.lemmas.List.{drop_all, length-append}
 use Rattle.gr_record.specs.declared.error.RecordError.{RecordError}
 use Rattle.gr_record.specs.declared.error.RecordError.TheVariants as errors
 use Rattle.gr_record.specs.declared.header.Header.{Header}
@@ -71,12 +71,6 @@ found x = Ok x
 same_found : (x y : Header × List ℕ) → found x ≡ found y → x ≡ y
 same_found x y e = cc
 
-drop_whole : (n : ℕ) (xs : List ℕ) → length xs ≤ n → drop n xs ≡ []
-drop_whole zero [] le = refl
-drop_whole zero (x ∷ xs) le = absurd (omega (arith, le))
-drop_whole (suc n) [] le = refl
-drop_whole (suc n) (x ∷ xs) le = drop_whole n xs (omega (arith, le))
-
 -- bytes that are a header's and no more
 pub is_headed : (prefix : List ℕ) (h : Header) (rest : List ℕ) → length prefix ≤ HEADER_LENGTH → front_header_at prefix ≡ Ok (h, rest) → IsHeaded h prefix
 unfolding front_header_at
@@ -86,7 +80,7 @@ is_headed prefix h rest le found = by_length (ltb (length prefix) HEADER_LENGTH)
     by_header long (Err e) is k = absurd cc
     by_header long (Ok x) is k =
         let same : x ≡ h = ap (λ y. y.0) (same_found (x, drop HEADER_LENGTH prefix) (h, rest) k) in
-        let none : drop HEADER_LENGTH prefix ≡ [] = drop_whole HEADER_LENGTH prefix le in
+        let none : drop HEADER_LENGTH prefix ≡ [] = drop_all HEADER_LENGTH prefix le in
         (rw (le-ltb (length prefix) HEADER_LENGTH long, is, none, same) refl, omega (arith, le, long))
 
     by_length : (b : Bool) → ltb (length prefix) HEADER_LENGTH ≡ b → cond b (Err errors.Truncated) (record_spec.◌>>=◌ {Y = Header × List ℕ} (header_at prefix) (λ x. Ok (x, drop HEADER_LENGTH prefix))) ≡ Ok (h, rest) → IsHeaded h prefix

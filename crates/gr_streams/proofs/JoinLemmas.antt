@@ -1,7 +1,6 @@
 -- The senders and the receipts of streams, one stream after the other.
 use Rattle.std.proofs.Common.{◌≡◌, ◌≢◌, ℕ, suc, ◌+◌, ◌<◌, List, [], ◌∷◌, ◌++◌, length, map, get_or, set, Contains, Option, None, Some}
 use Rattle.std.proofs.Common.{Result, Ok, Err, refl, sym, ap, ◌∙◌, subst, arith, inl, inr}
-use Rattle.std.specs.Prelude.{All}
 use Rattle.std.proofs.lemmas.Bool.{cases_eq, cases_lt}
 use Rattle.std.proofs.Math.Seq.{get_or-append_seam}
 use Rattle.std.proofs.lemmas.List.{get_or-set_other, get_or-set_same, get_or_append_left, get_or_past, length-append}
@@ -57,9 +56,6 @@ served_next h hs senders served =
           (has.0, get_or-set_other senders h.group x.group None None (apart_head h hs served.apart x in_hs) ∙ has.1);
       ready = λ x s in_hs at. served.ready x s (contains_tail h x hs in_hs) (was_there senders h.group lt x.group s at);
     }
-
-pub all_tail : {X : Type 0} (P : X → Type 0) (x : X) (xs : List X) → All P (x ∷ xs) → All P xs
-all_tail P x xs all k d lt = all (suc k) d (omega arith)
 
 -- ---- one more stream
 

@@ -1,12 +1,13 @@
 -- The launch of streams that were sent.
 use Rattle.std.proofs.Common.{◌≡◌, ◌≢◌, ℕ, zero, suc, ◌<◌, cond, List, [], ◌∷◌, length, map, get_or, Contains, Option, None, Some}
 use Rattle.std.proofs.Common.{slice_get, refl, sym, ap, ◌∙◌, subst, arith, eq-eqb, inl, inr, ne_eqb}
-use Rattle.std.specs.Prelude.{All, option_map}
+use Rattle.std.specs.Prelude.{option_map}
 use Rattle.std.specs.List.{range_with_len}
 use Rattle.std.proofs.lemmas.Bool.{cases_lt}
 use Rattle.std.proofs.lemmas.List.{get_or-map, get_or_past, length-map}
+use Rattle.std.proofs.lemmas.List.Elements.{All-cons, All-tail}
 use Rattle.std.proofs.lemmas.List.FromFn.{get_or-map-range_with_len, length-map-range_with_len}
-use Rattle.std.proofs.lemmas.Option.{slice_get-get_or, get_or_from_slice_get}
+use Rattle.std.proofs.lemmas.Option.{slice_get-get_or, slice_get_within, get_or_from_slice_get}
 use Rattle.atomic_table.specs.Seated.{TableId}
 use Rattle.gr_detector.specs.Runs.{AreReceiptsOf, AreSendersOf, IsOfRun, IsSenderOf, Run, sent_by, sent_of}
 use Rattle.gr_model.specs.declared.event.Event.{Event}
@@ -19,14 +20,9 @@ use Rattle.gr_threads.specs.Senders.{Sending}
 use Rattle.gr_steps.proofs.Orders.{there_is}
 use Rattle.gr_streams.specs.Headers.{AreApart, AreHeadersOf, bare, bares, streams_with}
 use Rattle.gr_streams.specs.Sources.{AreKnown, AreOfRun, AreReceiptsFor, AreSenders, AreServed, Begun}
-use Rattle.gr_streams.proofs.JoinLemmas.{all_tail, apart_head, apart_tail, contains_tail}
+use Rattle.gr_streams.proofs.JoinLemmas.{apart_head, apart_tail, contains_tail}
 
 -- ---- senders
-
-inside : (xs : List ℕ) (k x : ℕ) → slice_get xs k ≡ Some x → k < length xs
-inside [] k x e = absurd cc
-inside (y ∷ xs) zero x e = omega arith
-inside (y ∷ xs) (suc k) x e = let lt = inside xs k x e in omega (arith, lt)
 
 -- a header is among the bare streams
 bare_in : (hs : List Header) (h : Header) → Contains hs h → Contains (bares hs) (bare h)
@@ -56,7 +52,7 @@ module _ (run : Run) (senders : List Sending) (are : AreSendersOf run senders) w
   served hs apart launch = record {
     apart = apart;
     there = λ h in_hs.
-        let lt : h.group < length senders = omega (arith, inside run.sizes h.group h.items (size h in_hs), are.count) in
+        let lt : h.group < length senders = omega (arith, slice_get_within run.sizes h.group h.items (size h in_hs), are.count) in
         let at = there_is senders h.group lt in
         let here = get_or_from_slice_get senders h.group at.0 at.0 at.1 in
         (at.0, get_or-map sender senders h.group at.0 None lt ∙ ap sender here);
@@ -71,10 +67,6 @@ module _ (run : Run) (senders : List Sending) (are : AreSendersOf run senders) w
 
 -- ---- receipts
 
-all_head : {X : Type 0} (P : X → Type 0) (x : X) (xs : List X) → P x → All P xs → All P (x ∷ xs)
-all_head P x xs p all zero d lt = p
-all_head P x xs p all (suc k) d lt = all k d (omega (arith, lt))
-
 pub first_is : {X : Type 0} (x y : X) (xs ys : List X) → x ∷ xs ≡ y ∷ ys → x ≡ y
 first_is x y xs ys e = cc
 
@@ -88,9 +80,9 @@ receipts_of_run run (b ∷ bs) (r ∷ rs) all are =
     let group : r.group ≡ b.sender.group = first_is _ _ _ _ are.groups in
     let queue : r.queue ≡ b.sender.queue.queue = first_is _ _ _ _ are.queues in
     let first : IsOfRun run b.sender.group b.sender.queue.queue = all 0 b (omega arith) in
-    all_head (λ (x : Seat). IsOfRun run x.group x.queue) r rs
+    All-cons (λ (x : Seat). IsOfRun run x.group x.queue) r rs
     (subst (λ n. IsOfRun run n r.queue) (sym group) (subst (λ (q : TableId). IsOfRun run b.sender.group q) (sym queue) first))
-    (receipts_of_run run bs rs (all_tail (λ (x : Begun). IsOfRun run x.sender.group x.sender.queue.queue) b bs all) (record { groups = rest_is _ _ _ _ are.groups; queues = rest_is _ _ _ _ are.queues }))
+    (receipts_of_run run bs rs (All-tail (λ (x : Begun). IsOfRun run x.sender.group x.sender.queue.queue) b bs all) (record { groups = rest_is _ _ _ _ are.groups; queues = rest_is _ _ _ _ are.queues }))
 
 -- ---- streams
 
@@ -147,7 +139,7 @@ launch_sent hs sizes rs apart launch same = record {
   each = λ f in_seen.
       let sent = stream_sent hs rs apart same f in_seen in
       let size : slice_get sizes f.header.group ≡ Some f.header.items = subst (λ (l : List ℕ). slice_get l f.header.group ≡ Some f.header.items) launch.2 (launch.1.each (bare f.header) (bare_in hs f.header sent.0)).0 in
-      let lt = inside sizes f.header.group f.header.items size in
+      let lt = slice_get_within sizes f.header.group f.header.items size in
       let lists = map (λ g. sent_of g rs) (range_with_len 0 (length sizes)) in
       let there : f.header.group < length lists = omega (arith, lt, length-map-range_with_len (λ g. sent_of g rs) 0 (length sizes)) in
       (size, slice_get-get_or lists f.header.group [] there ∙ ap (λ (l : List Event). one l) (get_or-map-range_with_len (λ g. sent_of g rs) 0 (length sizes) f.header.group f.header.group [] lt (omega arith) ∙ sent.1));

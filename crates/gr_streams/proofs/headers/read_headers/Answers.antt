@@ -1,9 +1,10 @@
-use Rattle.std.proofs.Common.{◌≡◌, ◌≢◌, ◌∙◌, ◌++◌, ◌∷◌, [], ℕ, List, Ok, Some, ap, arith, append-nil, append_assoc, length, map, refl, rules, subst, sym}
+use Rattle.std.proofs.Common.{◌≡◌, ◌≢◌, ◌∙◌, ◌++◌, ◌∷◌, [], ℕ, List, Ok, ap, arith, append-nil, append_assoc, length, map, refl, rules, subst, sym}
 use Rattle.std.specs.Prelude.{IfSome}
 use Rattle.std.specs.Vec.Iter.{into_iter_items}
-use Rattle.std.proofs.lemmas.List.{map-append, map_push}
+use Rattle.std.proofs.lemmas.List.{nil_from_length, map-append, map_push}
 use Rattle.std.proofs.lemmas.List.Elements.{All-push}
 use Rattle.std.proofs.lemmas.List.Quantifiers.{all_pairs_push}
+use Rattle.std.proofs.lemmas.Option.{same_Some}
 use Rattle.std.proofs.lemmas.Result.{err_from_is_err_and}
 use Rattle.gr_record.specs.InputFaults.{Fails}
 use Rattle.gr_record.specs.declared.header.Header.{Header}
@@ -14,16 +15,9 @@ use Rattle.gr_streams.specs.declared.source.Source.{Source}
 use Rattle.gr_streams.proofs.HeadingLemmas.{header_refused, known_so_far, no_headers, one_more_header, one_more_known}
 use Rattle.gr_streams.proofs.headers.read_headers.Goals as goal
 
-nothing_left : {X : Type 0} (xs : List X) → length xs ≡ 0 → xs ≡ []
-nothing_left [] e = refl
-nothing_left (x ∷ xs) e = absurd (omega (arith, e))
-
 -- what was yielded is all, where nothing is left
 all_yielded : {X : Type 0} (ys left all : List X) → ys ++ left ≡ all → length left ≡ 0 → ys ≡ all
-all_yielded ys left all is none = sym (append-nil ys) ∙ (ap (λ (l : List _). ys ++ l) (sym (nothing_left left none)) ∙ is)
-
-same_some : {X : Type 0} (x y : X) → Some x ≡ Some y → x ≡ y
-same_some x y e = cc
+all_yielded ys left all is none = sym (append-nil ys) ∙ (ap (λ (l : List _). ys ++ l) (sym (nil_from_length left none)) ∙ is)
 
 pub loop-reader-init : goal.loop-reader-init
 loop-reader-init g c =
@@ -74,14 +68,11 @@ loop-reader-preserved g c =
           (λ inputs. headers_of inputs ≡ Ok (hs ++ s.header ∷ []))
           inv.headers c.in_ok-source.ensures.header (λ xs b ys none read is.
           let behind = λ (l : List (List ℕ)). headers_of (xs ++ b ∷ l) ≡ Ok (hs ++ s.header ∷ []) in
-          subst behind (same_some [] ys none) (one_more_header xs hs read b s.header is)));
+          subst behind (same_Some [] ys none) (one_more_header xs hs read b s.header is)));
     })
 
 pub loop-reader-smaller : goal.loop-reader-smaller
 loop-reader-smaller g c = omega (arith, c.in-Some.ensures.steps.1)
-
-pub next-requires : goal.next-requires
-next-requires g c = tt
 
 pub keep-requires : goal.keep-requires
 keep-requires g c κs lives = lives
@@ -105,6 +96,3 @@ returns-clause-known g c =
     let left = c.loop-reader.reader-iterator in
     let all = all_yielded c.loop-reader.yielded (into_iter_items left) c.args.readers.items c.loop-reader.invariant.left (sym left.rest.ok.0 ∙ c.in-None.ensures.steps.0) in
     subst (λ (l : List g.row.T.Denot). AreKnown (map g.T.Read.remaining l) (map (known_of g.T.Read.remaining) c.loop-reader.sources.items)) all c.loop-reader.invariant.known
-
-pub returns-clause-headed : goal.returns-clause-headed
-returns-clause-headed g c = c.loop-reader.invariant.headed

@@ -2,23 +2,19 @@ use Rattle.std.proofs.Common.{◌≡◌, ◌∙◌, ◌+◌, ◌++◌, ◌∷◌
 use Rattle.std.proofs.Common.{append-nil, append_assoc, ap, arith, length, map, refl, rules, subst, sym}
 use Rattle.std.specs.Prelude.{All}
 use Rattle.std.specs.Vec.Iter.{into_iter_items}
-use Rattle.std.proofs.lemmas.List.{length-append, length-map, map_push}
-use Rattle.std.proofs.lemmas.List.Elements.{All-push}
+use Rattle.std.proofs.lemmas.List.{nil_from_length, length-append, length-map, map_push}
+use Rattle.std.proofs.lemmas.List.Elements.{All-push, All-tail}
 use Rattle.gr_detector.specs.Runs.{IsOfRun}
 use Rattle.gr_record.specs.declared.header.Header.{Header}
 use Rattle.gr_threads.specs.Senders.{Sending}
 use Rattle.gr_streams.specs.Sources.{AreBegun, AreServed, Begun, HasSender, IsHeaded, IsReady, known_of}
 use Rattle.gr_streams.specs.declared.source.Source.{Source}
-use Rattle.gr_streams.proofs.JoinLemmas.{all_tail, contains_head, has_place, placed_next, served_next, was_there}
+use Rattle.gr_streams.proofs.JoinLemmas.{contains_head, has_place, placed_next, served_next, was_there}
 use Rattle.gr_streams.proofs.joins.start_all.Goals as goal
-
-nothing_left : {X : Type 0} (xs : List X) → length xs ≡ 0 → xs ≡ []
-nothing_left [] e = refl
-nothing_left (x ∷ xs) e = absurd (omega (arith, e))
 
 -- what was yielded is all, where nothing is left
 all_yielded : {X : Type 0} (ys left all : List X) → ys ++ left ≡ all → length left ≡ 0 → ys ≡ all
-all_yielded ys left all is none = sym (append-nil ys) ∙ (ap (λ (l : List _). ys ++ l) (sym (nothing_left left none)) ∙ is)
+all_yielded ys left all is none = sym (append-nil ys) ∙ (ap (λ (l : List _). ys ++ l) (sym (nil_from_length left none)) ∙ is)
 
 -- the first of the sources that are left is headed, and has a sender
 abbrev headers_in : {T : Type 0} → List (Source T) → List Header
@@ -98,7 +94,7 @@ loop-source-preserved g c =
     let of_header = ap (λ (x : Begun). x.sender.group) c.start.ensures ∙ is_ready.group in
     record {
       left = append_assoc c.loop-source.yielded (s ∷ []) rest ∙ (ap (λ l. c.loop-source.yielded ++ l) (sym items) ∙ inv.left);
-      headed = all_tail (λ (x : Source _). IsHeaded x.header x.prefix.items) s rest (subst (λ l. All (λ (x : Source _). IsHeaded x.header x.prefix.items) l) items inv.headed);
+      headed = All-tail (λ (x : Source _). IsHeaded x.header x.prefix.items) s rest (subst (λ l. All (λ (x : Source _). IsHeaded x.header x.prefix.items) l) items inv.headed);
       served = subst (AreServed (headers_in rest)) (sym taken) (served_next s.header (headers_in rest) old served);
       fewer = λ k x now.
           let kept = subst (λ (l : List (Option Sending)). get_or l k None ≡ Some x) taken now in
@@ -131,9 +127,6 @@ make_way-requires-clause-place g c κs within =
     let count : length c.loop-source.threads.items ≡ length c.loop-source.yielded = sym (length-map c.loop-source.threads.items (λ (x : Begun). x.sender.group)) ∙ (ap length inv.begun.groups ∙ (length-map (map (λ (x : Source _). x.header) c.loop-source.yielded) (λ (h : Header). h.group) ∙ length-map c.loop-source.yielded (λ (x : Source _). x.header))) in
     inv.place ∙ sym count
 
-pub returns-clause-run : goal.returns-clause-run
-returns-clause-run g c = c.loop-source.invariant.run
-
 pub returns-clause-begun : goal.returns-clause-begun
 returns-clause-begun g c =
     let left = c.loop-source.source-iterator in
@@ -148,6 +141,3 @@ returns-clause-count g c =
 
 pub loop-source-smaller : goal.loop-source-smaller
 loop-source-smaller g c = omega (arith, c.in-Some.ensures.steps.1)
-
-pub next-requires : goal.next-requires
-next-requires g c = tt

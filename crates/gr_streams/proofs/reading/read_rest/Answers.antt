@@ -22,52 +22,30 @@ read_apart : faults.Read ≢ faults.Write
 read_apart = λ k. absurd cc
 
 -- that a thread is missing, or a read failed, tells nothing of the input
-threads_tell : (known : Option (List ℕ)) (meaning : List ℕ → Result (List Event) Fault) (pushed : List Event) (o : Option Fault) → o ≡ Some faults.Threads → IfSome known (λ rest. Tells (meaning rest) pushed o)
-threads_tell None meaning pushed o is = tt
-threads_tell (Some rest) meaning pushed o is = subst (Tells (meaning rest) pushed) (sym is) (threads_apart, tt)
-
-read_tells : (known : Option (List ℕ)) (meaning : List ℕ → Result (List Event) Fault) (pushed : List Event) (o : Option Fault) → o ≡ Some faults.Read → IfSome known (λ rest. Tells (meaning rest) pushed o)
-read_tells None meaning pushed o is = tt
-read_tells (Some rest) meaning pushed o is = subst (Tells (meaning rest) pushed) (sym is) (read_apart, tt)
-
-pub returns-then-load-clause-group : goal.returns-then-load-clause-group
-returns-then-load-clause-group g c = c.fail.ensures.group ∙ c.loop.invariant.same.group
+none_told : (known : Option (List ℕ)) (meaning : List ℕ → Result (List Event) Fault) (pushed : List Event) (o : Option Fault) (f : Fault) → o ≡ Some f → ((m : Result (List Event) Fault) → Tells m pushed (Some f)) → IfSome known (λ rest. Tells (meaning rest) pushed o)
+none_told None meaning pushed o f is tells = tt
+none_told (Some rest) meaning pushed o f is tells = subst (Tells (meaning rest) pushed) (sym is) (tells (meaning rest))
 
 pub returns-then-load-clause-write : goal.returns-then-load-clause-write
 returns-then-load-clause-write g c = no_write _ _ c.fail.ensures.fault threads_apart
 
 pub returns-then-load-clause-tells : goal.returns-then-load-clause-tells
-returns-then-load-clause-tells g c = λ fed h headed items f. threads_tell (g.T.Read.remaining c.args.reader.now) (λ rest. events_at c.args.place (fed ++ rest)) c.fail.result.receipt.pushed c.fail.result.fault c.fail.ensures.fault
-
-pub returns-in-Err-clause-group : goal.returns-in-Err-clause-group
-returns-in-Err-clause-group g c = c.fail-in-Err.ensures.group ∙ c.loop.invariant.same.group
+returns-then-load-clause-tells g c = λ fed h headed items f. none_told (g.T.Read.remaining c.args.reader.now) (λ rest. events_at c.args.place (fed ++ rest)) c.fail.result.receipt.pushed c.fail.result.fault _ c.fail.ensures.fault (λ m. (threads_apart, tt))
 
 pub returns-in-Err-clause-write : goal.returns-in-Err-clause-write
 returns-in-Err-clause-write g c = no_write _ _ c.fail-in-Err.ensures.fault read_apart
 
 pub returns-in-Err-clause-tells : goal.returns-in-Err-clause-tells
-returns-in-Err-clause-tells g c = λ fed h headed items f. read_tells (g.T.Read.remaining c.args.reader.now) (λ rest. events_at c.args.place (fed ++ rest)) c.fail-in-Err.result.receipt.pushed c.fail-in-Err.result.fault c.fail-in-Err.ensures.fault
-
-pub returns-in-Ok-eq0-clause-group : goal.returns-in-Ok-eq0-clause-group
-returns-in-Ok-eq0-clause-group g c = c.finish.ensures.group ∙ c.loop.invariant.same.group
-
-pub returns-in-Ok-eq0-clause-write : goal.returns-in-Ok-eq0-clause-write
-returns-in-Ok-eq0-clause-write g c = c.finish.ensures.write
-
-pub returns-in-Err-take-clause-group : goal.returns-in-Err-take-clause-group
-returns-in-Err-take-clause-group g c = c.fail-in-Err-take.ensures.group ∙ (c.take.ensures.same.group ∙ c.loop.invariant.same.group)
+returns-in-Err-clause-tells g c = λ fed h headed items f. none_told (g.T.Read.remaining c.args.reader.now) (λ rest. events_at c.args.place (fed ++ rest)) c.fail-in-Err.result.receipt.pushed c.fail-in-Err.result.fault _ c.fail-in-Err.ensures.fault (λ m. (read_apart, tt))
 
 pub returns-in-Err-take-clause-write : goal.returns-in-Err-take-clause-write
 returns-in-Err-take-clause-write g c = no_write _ _ c.fail-in-Err-take.ensures.fault c.of_stream.ensures.values.1
-
-pub returns-clause-group : goal.returns-clause-group
-returns-clause-group g c = c.fail-2.ensures.group ∙ c.loop.invariant.same.group
 
 pub returns-clause-write : goal.returns-clause-write
 returns-clause-write g c = no_write _ _ c.fail-2.ensures.fault read_apart
 
 pub returns-clause-tells : goal.returns-clause-tells
-returns-clause-tells g c = λ fed h headed items f. read_tells (g.T.Read.remaining c.args.reader.now) (λ rest. events_at c.args.place (fed ++ rest)) c.fail-2.result.receipt.pushed c.fail-2.result.fault c.fail-2.ensures.fault
+returns-clause-tells g c = λ fed h headed items f. none_told (g.T.Read.remaining c.args.reader.now) (λ rest. events_at c.args.place (fed ++ rest)) c.fail-2.result.receipt.pushed c.fail-2.result.fault _ c.fail-2.ensures.fault (λ m. (read_apart, tt))
 
 pub returns-in-Ok-eq0-clause-tells : goal.returns-in-Ok-eq0-clause-tells
 returns-in-Ok-eq0-clause-tells g c = λ fed h headed items f.

@@ -69,23 +69,11 @@ returns-in_err-shape-clause-write g c =
     let f = c.in_err-shape.field-0.0 in
     err_as c.from_residual-in_err-shape.result f (λ f. f ≢ faults.Write) c.from_residual-in_err-shape.ensures.1 (unwritten c.in_ok-headers.field-0.headers.items f c.in_err-shape.ensures.fault)
 
-pub shape_of-requires : goal.shape_of-requires
-shape_of-requires g c = c.in_ok-headers.ensures.apart
-
-pub run_sources-requires-clause-headed : goal.run_sources-requires-clause-headed
-run_sources-requires-clause-headed g c κs within = c.in_ok-headers.ensures.headed
-
 pub run_sources-requires-clause-apart : goal.run_sources-requires-clause-apart
 run_sources-requires-clause-apart g c κs within = subst AreApart (sym c.in_ok-headers.ensures.sources) c.in_ok-headers.ensures.apart
 
 pub run_sources-requires-clause-shape : goal.run_sources-requires-clause-shape
 run_sources-requires-clause-shape g c κs within = subst (λ (hs : List Header). AreHeadersOf hs c.in_ok-shape.shape) (sym c.in_ok-headers.ensures.sources) c.in_ok-shape.ensures.launch
-
-pub run_sources-requires-clause-good : goal.run_sources-requires-clause-good
-run_sources-requires-clause-good g c κs within = c.in_ok-shape.ensures.shape
-
-pub returns-clause-write : goal.returns-clause-write
-returns-clause-write g c = c.run_sources.ensures.write
 
 pub returns-clause-report : goal.returns-clause-report
 returns-clause-report g c =

@@ -66,15 +66,6 @@ returns-clause-report g c =
 pub start_all-threads-requires-clause-room : goal.start_all-threads-requires-clause-room
 start_all-threads-requires-clause-room g c κs within = omega (arith, c.in_ok-places.ensures.threads.2, c.len.ensures)
 
-pub start_all-threads-requires-clause-headed : goal.start_all-threads-requires-clause-headed
-start_all-threads-requires-clause-headed g c κs within = c.requires.headed
-
-pub start_all-threads-requires-clause-none : goal.start_all-threads-requires-clause-none
-start_all-threads-requires-clause-none g c κs within = (c.in_ok-places.ensures.threads.0, c.in_ok-places.ensures.threads.1)
-
-pub join_all-receipts-requires-clause-none : goal.join_all-receipts-requires-clause-none
-join_all-receipts-requires-clause-none g c = (c.in_ok-places.ensures.receipts.0, c.in_ok-places.ensures.receipts.1)
-
 pub join_all-receipts-requires-clause-room : goal.join_all-receipts-requires-clause-room
 join_all-receipts-requires-clause-room g c =
     omega (arith, c.in_ok-places.ensures.receipts.2, c.len.ensures, c.start_all-threads.ensures.count)
