@@ -15,8 +15,8 @@ use Rattle.gr_record.specs.declared.fault.Fault.TheVariants.{Write}
 use Rattle.gr_report.specs.ReportText.{report_text}
 use Rattle.gr_report.specs.FaultText.{fault_line}
 use Rattle.gr_timeline.specs.Racy.{IsRacyIn}
-use Rattle.gr_check.specs.Checked.{CheckedSaid, IsCheckFileFault, IsCheckedAsKnown, is_accepted}
-use Rattle.gr_held.specs.Why.{IsWhy}
+use Rattle.gr_places.specs.Checked.{CheckedSaid, IsCheckFileFault, IsCheckedAsKnown, is_accepted}
+use Rattle.gr_timeline.specs.Why.{IsWhy}
 use Rattle.gr_places.specs.SideLines.{place_number}
 use Rattle.gr_races.specs.Accounts.{IsAccountOf}
 use Rattle.gr_replay.specs.Replays.{IsExact, IsExactOfEach, IsReplayFault}

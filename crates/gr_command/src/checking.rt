@@ -4,14 +4,14 @@ ghost use Rattle.std.specs.Prelude.{◌≡◌, ◌≢◌, IfErr, IfOk, map};
 ghost use Rattle.std.specs.Fn.{FnReturnsAt};
 ghost use Rattle.std.specs.Io.KnownBytes.{Keeps};
 ghost use Rattle.gr_record.specs.declared.fault.Fault.TheVariants as faults;
-ghost use Rattle.gr_check.specs.Checked.{IsCheckFileFault};
+ghost use Rattle.gr_places.specs.Checked.{IsCheckFileFault};
 ghost use Rattle.gr_command.specs.Answers.{ChecksPrefixOfFiles, IsCheckedOfFiles};
 
 use gr_arguments::request::Arguments;
-use gr_check::check_files;
-use gr_check::checking::Checked;
 use gr_json::check::check_json;
 use gr_model::memory::Memory;
+use gr_places::checked::check_files;
+use gr_places::checking::Checked;
 use gr_record::fault::Fault;
 use gr_show::check_text::check_text;
 use gr_show::writing::write_text;

@@ -1,8 +1,8 @@
 //! What the commands answer and write.
 
 use crate::launches::Files;
-use gr_check::check_files;
 use gr_model::event::{EventId, ItemId, Word};
+use gr_places::checked::check_files;
 use gr_places::sides_fault::SidesFault;
 use gr_record::fault::Fault;
 use gr_show::check_text::check_text;

@@ -1,10 +1,10 @@
 //! What no words of a command line and no files give.
 
-use gr_check::check_files;
 use gr_command::execute::execute;
 use gr_command::status::status_of;
 use gr_json::check::check_json;
 use gr_model::shape::ShapeError;
+use gr_places::checked::check_files;
 use gr_places::sides_fault::{SidesFault, write_sides_fault};
 use gr_record::error::RecordError;
 use gr_record::fault::Fault;

@@ -1,7 +1,7 @@
 //! What the contracts alone give for some values, each of which a wrong body would answer otherwise.
 
-use gr_held::reason::Reason;
 use gr_model::event::{EventId, ItemId};
+use gr_timeline::reason::Reason;
 
 /// A barrier is held for the event before the one that it is met with.
 #[test]

@@ -3,11 +3,11 @@
 use crate::lines::line_of;
 use crate::sentences::{right, wrong};
 use crate::words::{Made, text_value};
-use gr_check::checking::Checked;
-use gr_check::counts::Counts;
-use gr_check::places::FaultPlace;
-use gr_check::spot::Spot;
 use gr_model::memory::Memory;
+use gr_places::checking::Checked;
+use gr_places::counts::Counts;
+use gr_places::fault_places::FaultPlace;
+use gr_places::spot::Spot;
 use gr_record::fault::Fault;
 use serde_json::{Value, json};
 use std::alloc::Global;

@@ -2,10 +2,10 @@
 
 use crate::lines::{line_of, push_object};
 use crate::words::{Made, event_value};
-use gr_held::reason::{Link, Reason};
-use gr_held::why::WhyHeld;
 use gr_model::event::{EventId, Name};
 use gr_model::memory::Memory;
+use gr_timeline::reason::{Link, Reason};
+use gr_timeline::why::WhyHeld;
 use serde_json::json;
 use std::alloc::{Allocator, Global};
 

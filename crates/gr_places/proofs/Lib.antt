@@ -3,3 +3,7 @@ pub mod Reading
 pub mod OpeningLemmas
 pub mod FileLemmas
 pub mod NamingLemmas
+mod FrontLemmas
+mod LawLemmas
+mod NeighbourLemmas
+mod SpotLemmas

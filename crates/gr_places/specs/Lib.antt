@@ -5,3 +5,9 @@ pub mod FaultText
 pub mod Files
 pub mod Opening
 pub mod Naming
+pub mod Spots
+pub mod Counts
+pub mod Neighbours
+pub mod Places
+pub mod Checked
+pub mod Laws

@@ -16,7 +16,7 @@ use Rattle.gr_timeline.specs.declared.details.Details.{Details}
 use Rattle.gr_timeline.specs.Accesses.{AreAccesses}
 use Rattle.gr_timeline.specs.Held.{IsHeldCount}
 use Rattle.gr_timeline.specs.Racy.{IsRacyIn}
-use Rattle.gr_held.specs.Waiting.{IsHeldEvent}
+use Rattle.gr_timeline.specs.Waiting.{IsHeldEvent}
 use Rattle.gr_races.specs.declared.by_kind.RacesByKind.{RacesByKind}
 use Rattle.gr_races.specs.Listing.{Entry, entry_of}
 use Rattle.gr_races.specs.Shown.{AreListedRaces}

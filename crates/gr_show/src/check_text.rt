@@ -1,11 +1,11 @@
 //! The text of a check.
 
-use gr_check::checking::Checked;
-use gr_check::counts::Counts;
-use gr_check::places::FaultPlace;
-use gr_check::spot::Spot;
 use gr_json::sentences::{right, wrong};
 use gr_model::memory::Memory;
+use gr_places::checking::Checked;
+use gr_places::counts::Counts;
+use gr_places::fault_places::FaultPlace;
+use gr_places::spot::Spot;
 use gr_record::fault::Fault;
 use gr_report::put_fault;
 use std::alloc::Allocator;

@@ -1,17 +1,17 @@
 //! The question why an event is held.
 
-ghost use Rattle.gr_held.specs.Why.{IsWhy, answer_of};
+ghost use Rattle.gr_timeline.specs.Why.{IsWhy, answer_of};
 ghost use Rattle.gr_show.specs.Rendering.{Renders};
 ghost use Rattle.gr_show.specs.Shown.{IsHeldIn};
 
 use crate::question::{JsonQuestion, Question};
 use crate::why_text::why_text;
-use gr_held::why::{WhyHeld, why_held};
 use gr_json::held::why_json;
 use gr_model::event::EventId;
 use gr_model::memory::Memory;
 use gr_model::traces::Traces;
 use gr_places::sides::Sides;
+use gr_timeline::why::{WhyHeld, why_held};
 use std::alloc::{Allocator, Global};
 
 /// The event of which it is asked why it is held.

@@ -1,10 +1,10 @@
 //! The text of why an event is held.
 
 use crate::event_text::{Added, EventText};
-use gr_held::reason::{Link, Reason};
-use gr_held::why::WhyHeld;
 use gr_model::event::{EventId, Name};
 use gr_model::memory::Memory;
+use gr_timeline::reason::{Link, Reason};
+use gr_timeline::why::WhyHeld;
 use std::alloc::Allocator;
 
 fn put_name<A: Allocator>(text: &mut String<A>, word: &str, name: Name) -> Added {

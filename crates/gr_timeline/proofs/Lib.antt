@@ -8,3 +8,8 @@ pub mod RecordLemmas
 pub mod GroupLemmas
 pub mod HeldLemmas
 pub mod DetailLemmas
+pub mod WaitLemmas
+pub mod ChainLemmas
+pub mod WalkLemmas
+pub mod JudgedLemmas
+pub mod WhyLemmas

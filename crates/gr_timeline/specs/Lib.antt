@@ -6,3 +6,7 @@ pub mod Counting
 pub mod Gathering
 pub mod Held
 pub mod Racy
+pub mod Waiting
+pub mod Chains
+pub mod Walks
+pub mod Why

@@ -1,4 +1,4 @@
-use Rattle.gr_check.specs.Checked.{checked_said}
+use Rattle.gr_places.specs.Checked.{checked_said}
 use Rattle.gr_command.proofs.checking.write_check.Goals as goal
 
 pub returns-clause-prefix : goal.returns-clause-prefix

@@ -1,6 +1,6 @@
 use Rattle.std.proofs.Common.{◌↔◌, Bool, IsTrue, subst, sym}
-use Rattle.gr_held.specs.Why.{answer_of}
-use Rattle.gr_held.proofs.WhyLemmas.{why_said}
+use Rattle.gr_timeline.specs.Why.{answer_of}
+use Rattle.gr_timeline.proofs.WhyLemmas.{why_said}
 use Rattle.gr_show.specs.Shown.{IsHeldIn}
 use Rattle.gr_show.proofs.why_held.HeldEventQuestion.found.Goals as goal
 

@@ -1,4 +1,0 @@
-mod FrontLemmas
-mod LawLemmas
-mod NeighbourLemmas
-mod SpotLemmas

@@ -1,5 +1,0 @@
-pub mod HeldLemmas
-pub mod ChainLemmas
-pub mod WalkLemmas
-pub mod JudgedLemmas
-pub mod WhyLemmas

@@ -1,6 +1,0 @@
-use Rattle.std.specs.List.{AllWithin}
-use Rattle.gr_held.specs.Waiting.{HasGroundedRelease}
-use Rattle.gr_held.proofs.names.first_held_release.Given as goal
-
-abbrev pub invariant-loop-name : goal.invariant-loop-name
-invariant-loop-name g l = AllWithin (HasGroundedRelease l.judged l.event) l.names 0 l.name-index

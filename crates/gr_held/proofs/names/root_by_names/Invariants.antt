@@ -1,6 +1,0 @@
-use Rattle.std.specs.List.{AllWithin}
-use Rattle.gr_model.specs.Names.{IsOfItsWord}
-use Rattle.gr_held.proofs.names.root_by_names.Given as goal
-
-abbrev pub invariant-loop-name : goal.invariant-loop-name
-invariant-loop-name g l = AllWithin (IsOfItsWord l.judged l.event) l.names 0 l.name-index

@@ -1,4 +1,0 @@
-pub mod Waiting
-pub mod Chains
-pub mod Walks
-pub mod Why

@@ -1,0 +1,16 @@
+use Rattle.std.proofs.Common.{◌≡◌, refl}
+use Rattle.std.proofs.lemmas.Result.{IfOk-weaker}
+use Rattle.gr_replay.specs.Each.{inputs_of}
+use Rattle.gr_replay.proofs.Apart.{at_all_known}
+use Rattle.gr_places.proofs.checked.check_readers.Goals as goal
+
+pub returns-clause-checked : goal.returns-clause-checked
+returns-clause-checked g c =
+    let inputs = inputs_of c.in_ok-inputs.inputs.items in
+    IfOk-weaker c.check.result _ _
+    (λ answer checked. record {
+      inputs = inputs;
+      read = at_all_known _ inputs (λ bytes. inputs ≡ bytes) c.in_ok-inputs.ensures.bytes refl;
+      exact = rw c.as_slice.ensures.value at checked;
+    })
+    c.check.ensures.checked

@@ -1,0 +1,25 @@
+-- Where in a stream its fault stands.
+-- Source: docs/OUTPUT.md, "check".
+use Rattle.std.specs.Prelude.{ℕ, ◌-◌, List, length, Option, None, Some}
+use Rattle.gr_model.specs.declared.limits.TheConstants.{MOST_RECORDS}
+use Rattle.gr_record.specs.declared.error.RecordError.{RecordError}
+use Rattle.gr_record.specs.declared.error.RecordError.TheVariants.{AfterEnd}
+use Rattle.gr_record.specs.declared.header.Header.{Header}
+use Rattle.gr_record.specs.Decoding.{reading}
+use Rattle.gr_places.specs.declared.spot.Spot.{Spot}
+use Rattle.gr_places.specs.declared.spot.Spot.TheVariants as spots
+
+-- behind a header: what stands behind the end has no number
+abbrev pub behind_header : RecordError → ℕ → ℕ → Spot
+behind_header AfterEnd number byte = spots.Behind byte
+behind_header e number byte = spots.Record number byte
+
+abbrev pub spot_in : RecordError → Option Header → ℕ → ℕ → Spot
+spot_in e None number byte = spots.Header
+spot_in e (Some h) number byte = behind_header e number byte
+
+-- where a stream has this fault: at its header, if none is read of it; else behind the records that are read of it, and the byte is the first that is left
+abbrev pub spot : RecordError → List ℕ → Spot
+spot e bytes =
+    let r = reading MOST_RECORDS bytes in
+    spot_in e r.header (length r.events) (length bytes - length r.rest)

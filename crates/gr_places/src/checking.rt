@@ -1,0 +1,100 @@
+//! Whether inputs are the streams of a launch.
+
+ghost use Rattle.std.specs.Prelude.{◌≡◌, IfErr, IfOk, IsFalse, IsTrue, map};
+ghost use Rattle.gr_record.specs.InputFaults.{IsOutside};
+ghost use Rattle.gr_model.specs.Streams.{AreAccepted};
+ghost use Rattle.gr_record.specs.Faults.{IsOfValues};
+ghost use Rattle.gr_replay.specs.Each.{IsEachFault, ReadsEach, inputs_of};
+ghost use Rattle.gr_places.specs.Checked.{IsChecked, checked_said, is_accepted};
+
+use crate::counts::{Counts, counts_of};
+use crate::fault_places::{FaultPlace, place_of};
+use gr_model::traces::Traces;
+use gr_record::fault::Fault;
+use gr_replay::each::read_only_streams;
+use gr_replay::launch::traces_of;
+use std::alloc::Allocator;
+
+/// Whether a fault is one of reading or of memory, which no bytes determine.
+fn is_outside(fault: Fault) -> bool
+    ensures outside { IsTrue result → IsOutside fault }
+    ensures inside { IsFalse result → ¬ IsOutside fault }
+{
+    match fault {
+        Fault::Memory | Fault::Read => true,
+        Fault::Stream(_, _)
+        | Fault::SameGroup(_)
+        | Fault::OtherLaunch(_)
+        | Fault::MissingGroup(_)
+        | Fault::Shape(_)
+        | Fault::BadLine(_)
+        | Fault::NoEnd
+        | Fault::LongStream(_)
+        | Fault::Write
+        | Fault::Threads => false,
+    }
+}
+
+/// The launch whose streams these inputs are, one each.
+///
+/// # Errors
+/// The first fault of the inputs, in the order of docs/OUTPUT.md, "Lines of faults"; `Memory`.
+fn launch_of<A: Allocator + Copy>(alloc: A, inputs: &[Vec<u8, A>]) -> Result<Traces<A>, Fault>
+    ensures launch { IfOk result (λ t. ReadsEach (inputs_of inputs.now) t) }
+    ensures accepted { IfOk result (λ t. AreAccepted t) }
+    ensures fault { IfErr result (λ f. IsEachFault (inputs_of inputs.now) f) }
+    ensures values { IfErr result IsOfValues }
+{
+    let streams = read_only_streams(alloc, inputs)?;
+    traces_of(alloc, streams)
+}
+
+/// What comes of a check.
+#[derive(Clone, Copy, Debug, PartialEq, Eq)]
+pub enum Checked<'a> {
+    /// The files are those of a launch.
+    Accepted(Counts),
+    /// They are not.
+    Refused {
+        /// The first fault.
+        fault: Fault,
+        /// What it is about.
+        place: FaultPlace<'a>,
+    },
+}
+
+impl Checked<'_> {
+    /// Whether the files are those of a launch.
+    pub fn is_accepted(&self) -> bool
+        ensures { result ≡ is_accepted (checked_said self.now) }
+    {
+        match self {
+            Checked::Accepted(_) => true,
+            Checked::Refused { fault: _, place: _ } => false,
+        }
+    }
+}
+
+/// Judges inputs as streams of a launch, one each, which come from files of these names, in their order.
+///
+/// # Errors
+/// `Memory` where a list can't be made.
+pub(crate) fn check<'a, A: Allocator + Copy>(
+    alloc: A,
+    names: &[&'a str],
+    inputs: &[Vec<u8, A>],
+) -> Result<Checked<'a>, Fault>
+    ensures checked { IfOk result (λ c. IsChecked (map (λ s. s.now) names.now) (inputs_of inputs.now) (checked_said c)) }
+    ensures fault { IfErr result IsOutside }
+{
+    match launch_of(alloc, inputs) {
+        Ok(traces) => Ok(Checked::Accepted(counts_of(&traces))),
+        Err(fault) => {
+            if is_outside(fault) {
+                return Err(fault);
+            }
+            let place = place_of(names, inputs, fault);
+            Ok(Checked::Refused { fault, place })
+        }
+    }
+}

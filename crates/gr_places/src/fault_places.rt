@@ -1,0 +1,93 @@
+//! What the fault of files is about: which file, where in it, and beside which other one.
+
+ghost use Rattle.std.specs.Prelude.{◌≡◌, map, option_map, slice_get};
+ghost use Rattle.gr_places.specs.Places as spec;
+ghost use Rattle.gr_places.specs.Spots.{spot};
+ghost use Rattle.gr_replay.specs.Each.{inputs_of};
+
+use crate::neighbours::{first_above, first_like, name_at};
+use crate::spot::{Spot, spot_of};
+use gr_record::error::RecordError;
+use gr_record::fault::Fault;
+use std::alloc::Allocator;
+
+/// What a fault of files is about.
+#[derive(Clone, Copy, Debug, PartialEq, Eq)]
+pub enum FaultPlace<'a> {
+    /// A stream.
+    Stream {
+        /// Its place among the files.
+        stream: u64,
+        /// The name of its file.
+        file: Option<&'a str>,
+        /// Where in it the fault stands.
+        spot: Option<Spot>,
+    },
+    /// A stream that does not fit.
+    Beside {
+        /// Its place among the files.
+        stream: u64,
+        /// The name of its file.
+        file: Option<&'a str>,
+        /// The name of the file beside which it does not fit.
+        beside: Option<&'a str>,
+    },
+    /// A group that is missing.
+    Missing {
+        /// Its number.
+        group: u16,
+        /// The name of the first file of a greater one.
+        beside: Option<&'a str>,
+    },
+    /// No stream and no group.
+    Nothing,
+}
+
+/// Where in the file at this place this fault stands, if there is one.
+fn spot_in<A: Allocator>(inputs: &[Vec<u8, A>], place: u64, error: RecordError) -> Option<Spot>
+    ensures { result ≡ option_map (spot error) (slice_get (inputs_of inputs.now) place) }
+{
+    match inputs.get(place as usize) {
+        None => None,
+        Some(input) => Some(spot_of(error, input.as_slice())),
+    }
+}
+
+/// What this fault of inputs is about, which come from files of these names.
+pub(crate) fn place_of<'a, A: Allocator>(
+    names: &[&'a str],
+    inputs: &[Vec<u8, A>],
+    fault: Fault,
+) -> FaultPlace<'a>
+    ensures { spec.place_said result ≡ spec.place_of (map (λ s. s.now) names.now) (inputs_of inputs.now) fault }
+{
+    match fault {
+        Fault::Stream(place, error) => FaultPlace::Stream {
+            stream: place,
+            file: name_at(names, place),
+            spot: spot_in(inputs, place, error),
+        },
+        Fault::SameGroup(place) => FaultPlace::Beside {
+            stream: place,
+            file: name_at(names, place),
+            beside: first_like(names, inputs, place),
+        },
+        Fault::OtherLaunch(place) => FaultPlace::Beside {
+            stream: place,
+            file: name_at(names, place),
+            beside: name_at(names, 0),
+        },
+        Fault::MissingGroup(group) => FaultPlace::Missing {
+            group,
+            beside: first_above(names, inputs, group),
+        },
+        Fault::Shape(_)
+        | Fault::BadLine(_)
+        | Fault::NoEnd
+        | Fault::LongStream(_)
+        | Fault::Read
+        | Fault::Write
+        | Fault::Memory
+        | Fault::Threads => FaultPlace::Nothing,
+    }
+}

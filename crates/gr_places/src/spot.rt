@@ -1,0 +1,83 @@
+//! Where in a stream its fault stands.
+
+ghost use Rattle.std.specs.Prelude.{◌≡◌, ◌≤◌, length};
+ghost use Rattle.gr_model.specs.declared.limits.TheConstants.{MOST_RECORDS};
+ghost use Rattle.gr_record.specs.Fronts.{records_of};
+ghost use Rattle.gr_places.specs.Spots.{behind_header, spot};
+
+use gr_model::limits::MOST_RECORDS;
+use gr_record::error::RecordError;
+use gr_record::header::Header;
+use gr_record::reading::read_event;
+use gr_record::stream::read_front_header;
+
+/// Where in a stream its fault stands. Bytes are counted from the start of the stream, from 0.
+#[derive(Clone, Copy, Debug, PartialEq, Eq)]
+pub enum Spot {
+    /// At the header, which begins at byte 0.
+    Header,
+    /// At the record with this number, from 0, which begins at this byte.
+    Record {
+        /// The number.
+        number: u64,
+        /// The byte.
+        byte: u64,
+    },
+    /// Behind the end, at this byte.
+    Behind {
+        /// The byte.
+        byte: u64,
+    },
+}
+
+/// How many records are accepted at the start of the bytes, in the stream of this header and up to its end, and the bytes
+/// behind them.
+fn skip_accepted(header: Header, bytes: &[u8]) -> (usize, &[u8])
+    ensures number { result.0 ≡ length (records_of header MOST_RECORDS bytes.now).events }
+    ensures rest { result.1.now ≡ (records_of header MOST_RECORDS bytes.now).rest }
+    ensures few { length result.1.now ≤ length bytes.now }
+{
+    let size = header.version.record_length();
+    let mut rest = bytes;
+    for number in 0..MOST_RECORDS {
+        if rest.len() < size {
+            return (number, rest);
+        }
+        let (record, after) = rest.split_at(size);
+        match read_event(header, record) {
+            Err(_) => return (number, rest),
+            Ok(event) => {
+                if event.kind.is_end() {
+                    return (number + 1, after);
+                }
+            }
+        }
+        rest = after;
+    }
+    (MOST_RECORDS, rest)
+}
+
+/// Where a fault behind a header stands, behind so many records and before this byte.
+fn behind_header(error: RecordError, number: u64, byte: u64) -> Spot
+    ensures { result ≡ behind_header error number byte }
+{
+    match error {
+        RecordError::AfterEnd => Spot::Behind { byte },
+        _ => Spot::Record { number, byte },
+    }
+}
+
+/// Where this fault stands in the stream that the bytes are: at the header, if it can't be read; else at the first record that
+/// is not accepted, or behind the end.
+pub(crate) fn spot_of(error: RecordError, bytes: &[u8]) -> Spot
+    ensures { result ≡ spot error bytes.now }
+{
+    match read_front_header(bytes) {
+        Err(_) => Spot::Header,
+        Ok((header, records)) => {
+            let (number, rest) = skip_accepted(header, records);
+            let byte = bytes.len() - rest.len();
+            behind_header(error, number as u64, byte as u64)
+        }
+    }
+}

@@ -1,0 +1,134 @@
+-- Why the first held event of an item is held: one of its names, or an event before a barrier that it meets.
+use Rattle.std.proofs.Common.{◌≡◌, ◌↔◌, ℕ, ◌+◌, ◌<◌, ◌≤◌, List, length, Option, None, Some, false, is_some, true≢false, refl, slice_get, eq-or-lt_of_le, sym, ap, ◌∙◌, subst, ⊎_elim, arith}
+use Rattle.std.specs.Prelude.{MatchOption}
+use Rattle.std.proofs.lemmas.Option.{slice_get_within}
+use Rattle.gr_model.specs.declared.event.EventId.{EventId}
+use Rattle.gr_model.specs.declared.event.ItemId.{ItemId}
+use Rattle.gr_model.specs.declared.event.Name.{Name}
+use Rattle.gr_model.specs.Access.{is_release}
+use Rattle.gr_model.specs.Barriers.{IsConvergent, IsDivergent, StandsIn, Together}
+use Rattle.gr_model.specs.Instances.{Mark}
+use Rattle.gr_model.specs.LawfulOrders.{IsWholeOrder}
+use Rattle.gr_model.specs.Names.{HasItsReleases, HasName, IsOfItsWord, Matches, release_place}
+use Rattle.gr_model.specs.Streams.{AreComplete, IsEvent, Streams, trace_of, word_at}
+use Rattle.gr_model.specs.Waits.{IsGrounded, IsPrevious, Waits, for_arrival, for_meeting, for_previous, for_release}
+use Rattle.gr_model.proofs.Descent.{lawful_is_grounded}
+use Rattle.gr_model.proofs.GrowthLaws.{not_both}
+use Rattle.gr_model.proofs.Places.{places_from-there}
+use Rattle.gr_steps.proofs.BarrierPlaces.{barrier_there, moved, same_instance}
+use Rattle.gr_steps.proofs.DecidedWaits.{settled}
+use Rattle.gr_steps.proofs.EventRecords.{one_release}
+use Rattle.gr_steps.proofs.Orders.{there_is}
+use Rattle.gr_steps.proofs.Reached.{reached, stage_in}
+use Rattle.gr_timeline.specs.Waiting.{HasGroundedRelease, HaveArrived, IsArrival, IsFirstHeld, IsHeldEvent, IsLate, IsPassed}
+
+-- ---- events that are there
+
+-- with an event, the earlier ones of its item are there
+pub earlier_there : (s : Streams) (d e : EventId) → IsEvent s e → d.at ≡ e.at → d.index < e.index → IsEvent s d
+earlier_there s d e there at lt =
+    let within : e.index < length (trace_of s e.at) = slice_get_within (trace_of s e.at) e.index there.0 there.1 in
+    subst (λ (i : ItemId). IsEvent s (record { at = i; index = d.index })) (sym at) (there_is (trace_of s e.at) d.index (omega arith))
+
+-- a release that has a name is there
+pub release_there : (s : Streams) (n : Name) (k : ℕ) → release_place s n ≡ Some k → IsEvent s (record { at = n.at; index = k })
+release_there s n k place =
+    let h = places_from-there is_release 0 (trace_of s n.at) n.release k place in
+    (h.1, (let same : k ≡ h.0 = omega (arith, h.2) in ap (slice_get (trace_of s n.at)) same ∙ h.3))
+
+-- ---- what holds an event
+
+-- in complete lists an event is grounded whose releases are there, if all that it waits for is
+grounded_if : (s : Streams) → AreComplete s → (e : EventId) → IsEvent s e → HasItsReleases s e → ((d : EventId) → Waits s e d → IsGrounded s d) → IsGrounded s e
+grounded_if s complete e there release waits =
+    let all = reached s complete in
+    (all.0, all.2.stage e (all.2.closed e there (record { release = release; instance = settled s complete e }) (λ d w. let g = waits d w in stage_in s all.0 all.1 all.2 g.0 d g.1)))
+
+module _ (s : Streams) (complete : AreComplete s) (order : List EventId) (whole : IsWholeOrder s order) where
+  -- with a barrier that is grounded, those that it meets are
+  met_grounded : (a : Mark) (c d : EventId) → IsGrounded s c → Together s a c d → IsGrounded s d
+  met_grounded a c d g met =
+      let there = whole.whole c g in
+      let other = whole.lawful.together there.0 c d a there.1 met in
+      lawful_is_grounded s order d whole.lawful (other.0, other.2)
+
+  -- an event that is held, though all before it in its item and all releases that it names are grounded
+  module _ (e : EventId) (held : IsHeldEvent s e) (passed : IsPassed s e) (names : (n : Name) → HasName s e n → HasGroundedRelease s e n) where
+    previous : (d : EventId) → IsPrevious d e → IsGrounded s d
+    previous d p = passed d p.item (omega (arith, p.next))
+
+    waits : ((d : EventId) → IsArrival s e d → IsGrounded s d) → (d : EventId) → Waits s e d → IsGrounded s d
+    waits arrival d (for_previous p) = previous d p
+    waits arrival d (for_release match) =
+        let there = names match.name match.by.named in
+        subst (IsGrounded s) (one_release s match.name e there.0 d there.1 match.by) there.2
+    waits arrival d (for_arrival a b met p) = arrival d (record { mark = a; barrier = b; together = met; previous = p })
+    waits arrival d (for_meeting a c p met) = met_grounded a c d (previous c p) met
+
+    stuck : ((d : EventId) → IsArrival s e d → IsGrounded s d) → ⊥
+    stuck arrival = held.held (grounded_if s complete e held.event (λ n named. let there = names n named in (there.0, there.1)) (waits arrival))
+
+    -- the instance in which it stands is convergent
+    convergent : (g k : ℕ) → StandsIn s e g k → (a : Mark) × IsConvergent s g k a
+    convergent g k stands = ⊎_elim (λ c. c) (λ (d : IsDivergent s g k). absurd (stuck (λ x arrival. absurd (apart d arrival.mark arrival.barrier arrival.together)))) (settled s complete e g k stands)
+      where
+        apart : IsDivergent s g k → (a : Mark) (b : EventId) → Together s a e b → ⊥
+        apart d a b met =
+            let same = same_instance s e g k met.group met.instance stands met.first in
+            not_both s met.group met.instance a met.convergent (subst (λ l. IsDivergent s met.group l) same.1 (subst (λ h. IsDivergent s h k) same.0 d))
+
+    -- and an event before one of its barriers is held
+    pub none_late : ((g k : ℕ) → StandsIn s e g k → HaveArrived s g k) → ⊥
+    none_late arrived = stuck (λ d arrival. arrived arrival.together.group arrival.together.instance arrival.together.first arrival.barrier d arrival.together.second arrival.previous)
+
+    pub late_arrival : (g k : ℕ) (d : EventId) → StandsIn s e g k → IsLate s g k d → IsArrival s e d
+    late_arrival g k d stands late =
+        let c = convergent g k stands in record {
+          mark = c.0;
+          barrier = late.barrier;
+          together = record { group = g; instance = k; convergent = c.1; first = stands; second = late.stands };
+          previous = late.previous;
+        }
+
+pub late_held : (s : Streams) (g k : ℕ) (d : EventId) → IsLate s g k d → IsHeldEvent s d
+late_held s g k d late =
+    let there = barrier_there s late.barrier g k late.stands in
+    record { event = earlier_there s d late.barrier (there.0, there.1) late.previous.item (omega (arith, late.previous.next)); held = late.held }
+
+-- ---- what calls answer
+
+pub if_none : {X : Type 0} (P : Type 0) (Q : X → Type 0) (o : Option X) → is_some o ≡ false → MatchOption o P Q → P
+if_none P Q None e p = p
+if_none P Q (Some x) e q = absurd (true≢false e)
+
+module _ (s : Streams) where
+  -- the events before the barriers of one item more are grounded
+  pub one_item_more : (g k i : ℕ) → ((b d : EventId) → b.at.item < i → StandsIn s b g k → IsPrevious d b → IsGrounded s d) → ((b d : EventId) → b.at ≡ record { group = g; item = i } → StandsIn s b g k → IsPrevious d b → IsGrounded s d) → (b d : EventId) → b.at.item < i + 1 → StandsIn s b g k → IsPrevious d b → IsGrounded s d
+  one_item_more g k i before here b d lt stands p =
+      ⊎_elim
+      (λ (same : b.at.item ≡ i). here b d (λ j. record { group = stands.group j; item = same j }) stands p)
+      (λ (less : b.at.item < i). before b d less stands p)
+      (eq-or-lt_of_le (let le : b.at.item ≤ i = omega arith in le))
+
+  -- an event stands in one instance alone
+  pub late_by : (e : EventId) (n : ℕ) (o : Option EventId) → StandsIn s e e.at.group n → MatchOption o (HaveArrived s e.at.group n) (λ d. IsLate s e.at.group n d) → MatchOption o ((g k : ℕ) → StandsIn s e g k → HaveArrived s g k) (λ d. (g k : ℕ) × StandsIn s e g k × IsLate s g k d)
+  late_by e n None here arrived = λ g k stands b d other p.
+      let same = same_instance s e g k e.at.group n stands here in
+      arrived b d (moved s b g k e.at.group n same.0 same.1 other) p
+  late_by e n (Some d) here late = (e.at.group, n, here, late)
+
+  -- the release of a name, on the word of the event that has the name
+  pub matches_of : (e : EventId) (n : Name) (index : ℕ) → HasName s e n → IsOfItsWord s e n → release_place s n ≡ Some index → Matches s e (record { at = n.at; index = index })
+  matches_of e n index named its place =
+      let same : its.0 ≡ index = let is : Some its.0 ≡ Some index = sym its.1 ∙ place in cc in
+      record {
+        name = n;
+        by = record { named = named; item = refl; place = place; word = sym (ap (λ (k : ℕ). word_at s (record { at = n.at; index = k })) (sym same) ∙ its.2) };
+      }
+
+  -- the first event of an item that is not grounded
+  pub first_is : (item : ItemId) (first : EventId) → first.at ≡ item → ((e : EventId) → e.at ≡ item → IsGrounded s e ↔ (e.index < first.index)) → IsFirstHeld s first
+  first_is item first at grounded = record {
+    held = λ g. let lt = (grounded first at).0 g in omega (arith, lt);
+    passed = λ d here lt. (grounded d (here ∙ at)).1 lt;
+  }

@@ -1,0 +1,69 @@
+-- The items that a walk has visited.
+use Rattle.std.proofs.Common.{◌≡◌, ◌↔◌, Bool, false, IsTrue, true≢false, ℕ, suc, ◌-◌, ◌<◌, List, [], ◌∷◌, ◌++◌, length, Option, None, Some, refl, sym, ap, ◌∙◌, ⊎_elim, arith}
+use Rattle.std.specs.Prelude.{IfSome}
+use Rattle.std.proofs.lemmas.Bool.{cases_eq}
+use Rattle.std.proofs.lemmas.Grind.{common_steps}
+use Rattle.std.proofs.lemmas.Option.{gets}
+use Rattle.gr_model.specs.declared.event.EventId.{EventId}
+use Rattle.gr_model.specs.declared.event.ItemId.{ItemId}
+use Rattle.gr_model.specs.Shapes.{HasItem}
+use Rattle.gr_model.specs.Streams.{ArePrefixes, Streams}
+use Rattle.gr_model.proofs.Cuts.{same_event}
+use Rattle.gr_clocks.specs.Counts.{Counts, IsTick, count_of}
+use Rattle.gr_order.proofs.StateLemmas.{item_cases, tick_here, tick_there}
+use Rattle.gr_order.proofs.SumLemmas.{item_more}
+use Rattle.gr_steps.proofs.EventRecords.{group_of_event, item_of_event}
+use Rattle.gr_timeline.specs.declared.reason.Link.{Link}
+use Rattle.gr_timeline.specs.declared.reason.Reason.{Reason}
+use Rattle.gr_timeline.specs.Chains.{event_of}
+use Rattle.gr_timeline.specs.Waiting.{IsFirstHeld, IsHeldEvent}
+use Rattle.gr_timeline.specs.Walks.{AreVisited, IsLinked, unvisited}
+use Rattle.gr_timeline.proofs.ChainLemmas.{event_stays}
+
+module _ (s : Streams) where
+  -- an item has one first held event
+  one_first : (d e : EventId) → IsFirstHeld s d → IsFirstHeld s e → d.at ≡ e.at → d ≡ e
+  one_first d e a b at = grind (arith, same_event d e at, a.held, b.held, a.passed e, b.passed d)
+
+  -- the event at which the walk was before stands in a link
+  pub linked : (links : List Link) (e : EventId) → IsFirstHeld s e → IsLinked s links e.at → (k : ℕ) × (event_of links k ≡ Some e)
+  linked links e first is = (is.place, is.linked ∙ ap Some (one_first is.event e is.first first is.item))
+
+  pub linked_stays : (links more : List Link) (i : ItemId) → IsLinked s links i → IsLinked s (links ++ more) i
+  linked_stays links more i is = record { place = is.place; event = is.event; item = is.item; first = is.first; linked = event_stays links more is.place is.event is.linked }
+
+  pub visited_stays : (links more : List Link) (visited : Counts) → AreVisited s links visited → AreVisited s (links ++ more) visited
+  visited_stays links more visited are = record { shape = are.shape; each = λ i some. linked_stays links more i (are.each i some) }
+
+  last_event : (links : List Link) (e : EventId) (r : Reason) → event_of (links ++ (record { event = e; reason = r }) ∷ []) (length links) ≡ Some e
+  last_event links e r = grind (arith, common_steps, gets)
+
+  module _ (e : EventId) (held : IsHeldEvent s e) (first : IsFirstHeld s e) (links : List Link) (before after : Counts) (are : AreVisited s links before) (tick : IsTick before e.at after) where
+    pub one_visited : (r : Reason) → AreVisited s (links ++ (record { event = e; reason = r }) ∷ []) after
+    one_visited r = record {
+      shape = tick.shape ∙ are.shape;
+      each = λ i some. ⊎_elim
+          (λ (here : e.at ≡ i). record { place = length links; event = e; item = here; first = first; linked = last_event links e r })
+          (λ (apart : e.at ≡ i → ⊥). linked_stays links ((record { event = e; reason = r }) ∷ []) i (are.each i (let none = tick_there e.at i apart in let counts = tick.counts i in omega (arith, some, none, counts))))
+          (item_cases e.at i);
+    }
+
+    pub fewer : ArePrefixes s → count_of before e.at ≡ 0 → unvisited after s.sizes < unvisited before s.sizes
+    fewer prefixes fresh =
+        let has : HasItem s.sizes e.at = (group_of_event s prefixes e held.event.0 held.event.1, item_of_event s prefixes e held.event.0 held.event.1) in
+        let sum = item_more (λ i. 1 - count_of after i) (λ i. 1 - count_of before i) s.sizes e.at has
+        (let one = tick_here e.at e.at refl in let counts = tick.counts e.at in omega (arith, one, counts, fresh))
+        (λ j apart. let none = tick_there e.at j apart in let counts = tick.counts j in omega (arith, none, counts)) in
+        omega (arith, sum)
+
+pub zero_if : (b : Bool) (n : ℕ) → IsTrue b ↔ (0 < n) → b ≡ false → n ≡ 0
+zero_if b n is unset = ⊎_elim (λ (same : n ≡ 0). same) (λ (some : n ≡ 0 → ⊥). absurd (true≢false (sym (is.1 (omega (arith, some))) ∙ unset))) (cases_eq n 0)
+
+pub if_some_all : {X : Type 0} (Q : Type 0) (o : Option X) → Q → IfSome o (λ x. Q)
+if_some_all Q None q = tt
+if_some_all Q (Some x) q = q
+
+-- how many steps a walk can still make
+abbrev pub steps_left : Counts → List ℕ → Option EventId → ℕ
+steps_left visited sizes None = 0
+steps_left visited sizes (Some e) = suc (unvisited visited sizes)

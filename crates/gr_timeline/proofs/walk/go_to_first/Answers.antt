@@ -1,0 +1,25 @@
+use Rattle.std.proofs.Common.{List, Some, subst, sym}
+use Rattle.gr_timeline.specs.declared.reason.Link.{Link}
+use Rattle.gr_timeline.specs.declared.reason.Reason.TheVariants.{Behind}
+use Rattle.gr_timeline.specs.Chains.{IsChainTo}
+use Rattle.gr_timeline.specs.Walks.{AreVisited}
+use Rattle.gr_timeline.proofs.ChainLemmas.{chain_more}
+use Rattle.gr_timeline.proofs.WaitLemmas.{earlier_there}
+use Rattle.gr_timeline.proofs.WalkLemmas.{visited_stays}
+use Rattle.gr_timeline.proofs.walk.go_to_first.Goals as goal
+
+pub returns-in_ok-add_link-in-Some-clause-held : goal.returns-in_ok-add_link-in-Some-clause-held
+returns-in_ok-add_link-in-Some-clause-held g c =
+    let behind = c.in-Some.ensures in
+    (record { event = earlier_there c.args.judged.now c.in-Some.first c.args.event c.requires.held.event behind.item behind.before; held = behind.first.held }, behind.first)
+
+pub returns-in_ok-add_link-in-Some-clause-chain : goal.returns-in_ok-add_link-in-Some-clause-chain
+returns-in_ok-add_link-in-Some-clause-chain g c e chain =
+    let s = c.args.judged.now in
+    subst (λ (links : List Link). IsChainTo s e links (Some c.in-Some.first)) (sym c.in_ok-add_link-in-Some.ensures)
+    (chain_more s e c.args.event c.args.links.now.items (Behind c.in-Some.first) c.requires.held c.in-Some.ensures chain)
+
+pub returns-in_ok-add_link-in-Some-clause-visited : goal.returns-in_ok-add_link-in-Some-clause-visited
+returns-in_ok-add_link-in-Some-clause-visited g c visited are =
+    let s = c.args.judged.now in
+    subst (λ (links : List Link). AreVisited s links visited) (sym c.in_ok-add_link-in-Some.ensures) (visited_stays s c.args.links.now.items _ visited are)
