@@ -4,6 +4,7 @@ use crate::files::{Kind, buffers_of, kind_of, launch_in, read_file};
 use crate::line::{Line, Taking};
 use crate::plan::Refusal;
 use crate::told::reason_of;
+use gr_arguments::words::group_of;
 use gr_model::event::Word;
 use gr_model::memory::Memory;
 use gr_places::buffers::{BufferLine, Element, element_of};
@@ -33,11 +34,6 @@ pub struct Naming<'l, 'a> {
     pub files: &'l [&'a str],
 }
 
-/// The group whose local memory a word of the command line names.
-fn group_in(word: &str) -> Option<u32> {
-    word.strip_prefix('l')?.parse::<u32>().ok()
-}
-
 /// The name among the words of a command on a word: after a memory, or else the first or the last of the words, if that is one.
 pub fn naming_by<'l, 'a, F>(line: &'l Line<'a>, is_name: F) -> Option<Naming<'l, 'a>>
 where
@@ -47,7 +43,7 @@ where
     let (name, space, files) = match line.values.as_slice() {
         _ if !matches!(line.taking, Taking::Each(2)) => return None,
         [] | [_] => return None,
-        [space, name, files @ ..] if *space == "g" || group_in(space).is_some() => {
+        [space, name, files @ ..] if *space == "g" || group_of(space).is_some() => {
             (*name, Some(*space), files)
         }
         [name, files @ ..] if is_name(name) => (*name, None, files),
@@ -76,7 +72,7 @@ impl Naming<'_, '_> {
         match (line.first, self.space) {
             (_, None) => true,
             (Word::Global(_), Some(space)) => space == "g",
-            (Word::Local(group, _), Some(space)) => group_in(space) == Some(u32::from(group)),
+            (Word::Local(group, _), Some(space)) => group_of(space) == Some(group),
         }
     }
 
