@@ -422,6 +422,8 @@ impl<A: Allocator> Agenda<A> {
     /// The first of `UnknownGroup`, `AfterEnd` with the group, `UnknownItem` and `Memory` that is there. Nothing is then
     /// taken.
     pub fn take(&mut self, group: u16, event: Event) -> Result<(), SeqError>
+    where
+        A: Copy,
         requires good { IsEventButItem event }
         requires room { length (list_of self.old.taken group) < MOST_RECORDS }
         ensures ok { OnOk result (CanTake self.old.taken group event × (self.new ≡ taking self.old group event)) }

@@ -1,5 +1,5 @@
 -- What one record more makes of the index of each item.
-use Rattle.std.proofs.Common.{◌≡◌, ℕ, zero, suc, ◌+◌, ◌-◌, ◌<◌, ◌≤◌, Bool, true, false, not, ◌&&◌, ◌==◌, cond, List, [], ◌∷◌, ◌++◌, length, filter, Some, None, Err, nat_cmp, slice_get, get_or, set, take, is_some, sub-one, refl, sym, ap, ◌∙◌, subst, ⊎_elim, arith, append-nil, IsTrue}
+use Rattle.std.proofs.Common.{◌≡◌, ◌≢◌, inl, inr, ℕ, zero, suc, ◌+◌, ◌-◌, ◌<◌, ◌≤◌, Bool, true, false, not, ◌&&◌, ◌==◌, cond, List, [], ◌∷◌, ◌++◌, length, filter, Some, None, Err, nat_cmp, slice_get, get_or, set, take, is_some, sub-one, refl, sym, ap, ◌∙◌, subst, ⊎_elim, arith, append-nil, IsTrue}
 use Rattle.std.proofs.lemmas.Bool.{cases_lt, cases_eq, eq-eqb, ne_eqb, false_from_ne_true}
 use Rattle.std.proofs.lemmas.Bool.Decides.{nat_tests}
 use Rattle.std.proofs.lemmas.Grind.{common_steps}
@@ -21,6 +21,7 @@ use Rattle.gr_model.proofs.ListsOfRecords.{length-filter_le}
 use Rattle.gr_model.proofs.Places.{places_from-append, places_from-there}
 use Rattle.gr_model.proofs.StreamPrefixes.{prefix_push}
 use Rattle.gr_lanes.specs.Indices.{EndsCut, Index, end_in, end_of, end_of_kind, index_of, no_index, with_if, with_event, indexed, record_of, AreIndices, AreRising, Closes, IsNumberKept, IsPlaceKept, IsSpent}
+use Rattle.gr_lanes.specs.Kept.{Begins, GroupIndex, HasNoEvents}
 
 -- an element more at the end of a list
 pub places_more : {X : Type 0} (test : X → Bool) (xs : List X) (x : X) → places_from test 0 (xs ++ x ∷ []) ≡ with_if (test x) (places_from test 0 xs) (length xs)
@@ -56,9 +57,9 @@ end_is_of x i end = elim (x.item == i) as (λ b. (b && not (is_end x)) ≡ false
 is_of_item : (x : Event) (i : ℕ) → is_end x ≡ false → is_of i x ≡ (x.item == i)
 is_of_item x i on = elim (x.item == i) as (λ b. (b && not (is_end x)) ≡ b) [ true ↦ ap not on | false ↦ refl ]
 
-module _ {size forgotten : ℕ} {lanes : List Index} {list : List Event} (x : Event) (are : AreIndices size forgotten lanes list) (ok : IsEventOk x size) (open_list : ¬ IsTrue (is_complete list)) where
+module _ {size forgotten : ℕ} {lanes : List Index} {list : List Event} (x : Event) (are : AreIndices size forgotten lanes list) (ok : IsEventOk x size) (all : length lanes ≡ size) where
   pub item_there : x.item < length lanes
-  item_there = omega (arith, ok.0, are.whole open_list)
+  item_there = omega (arith, ok.0, all)
 
   pub few_events : (get_or lanes x.item no_index).count < 4_294_967_295
   few_events =
@@ -71,13 +72,13 @@ module _ {size forgotten : ℕ} {lanes : List Index} {list : List Event} (x : Ev
   pub size_more : length (indexed lanes x) ≡ length lanes
   size_more = grind (arith, length-set)
 
-  pub indices_more : length list < MOST_RECORDS → AreIndices size forgotten (indexed lanes x) (list ++ x ∷ [])
-  indices_more room = record {
+  pub indices_more : ¬ IsTrue (is_complete list) → length list < MOST_RECORDS → AreIndices size forgotten (indexed lanes x) (list ++ x ∷ [])
+  indices_more open_list room = record {
     prefix = prefix_push size list x are.prefix ok (false_from_ne_true (is_complete list) open_list) room;
     few = omega (arith, size_more, are.few);
     each = by_end (is_end x) refl;
-    gone = λ i past within. absurd (omega (arith, past, within, size_more, are.whole open_list));
-    whole = λ _. size_more ∙ are.whole open_list;
+    gone = λ i past within. absurd (omega (arith, past, within, size_more, all));
+    whole = λ _. inl (size_more ∙ all);
   }
     where
       here : is_end x ≡ false → get_or (set lanes x.item event) x.item no_index ≡ index_of (list ++ x ∷ []) x.item
@@ -93,15 +94,52 @@ module _ {size forgotten : ℕ} {lanes : List Index} {list : List Event} (x : Ev
           (λ (apart : i ≡ x.item → ⊥). other on i apart (omega (arith, within, length-set lanes x.item event)))
           (cases_eq i x.item)
 
--- items without events
-pub no_events : {size forgotten : ℕ} (lanes : List Index) → length lanes ≡ size → ((i : ℕ) → get_or lanes i no_index ≡ no_index) → AreIndices size forgotten lanes []
-no_events lanes count none = record {
-  prefix = record { few = omega arith; good = λ p x at. cc };
-  few = omega (arith, count);
-  each = λ i within. none i;
-  gone = λ i past within. absurd (omega (arith, past, within, count));
-  whole = λ _. count;
+-- no record, and no items yet
+no_records : (size : ℕ) → IsPrefix size []
+no_records size = record { few = omega arith; good = λ p x at. cc }
+
+pub no_events : (size : ℕ) → AreIndices size 0 [] []
+no_events size = record {
+  prefix = no_records size;
+  few = omega arith;
+  each = λ i within. refl;
+  gone = λ i past within. record { releases = refl; barriers = refl };
+  whole = λ _. inr (refl, refl);
 }
+
+-- the items come, where they had not
+module _ {size : ℕ} {list : List Event} {old new : GroupIndex} (are : AreIndices size old.forgotten old.indices list) (open_list : ¬ IsTrue (is_complete list)) (begins : Begins size old new) where
+  come : AreIndices size new.forgotten new.indices list × ((length new.indices ≡ size) × (new.forgotten ≡ old.forgotten))
+  come = ⊎_elim
+      (λ (there : (size ≤ length old.indices) × (new ≡ old)).
+      (subst (λ (g : GroupIndex). AreIndices size g.forgotten g.indices list) (sym there.1) are, (ap (λ (g : GroupIndex). length g.indices) there.1 ∙ omega (arith, there.0, are.few), ap (λ (g : GroupIndex). g.forgotten) there.1)))
+      (λ (comes : (length old.indices < size) × HasNoEvents size new). ⊎_elim
+      (λ (all : length old.indices ≡ size). absurd (omega (arith, comes.0, all)))
+      (λ (nothing : (list ≡ []) × (old.forgotten ≡ 0)). (
+        record {
+          prefix = are.prefix;
+          few = omega (arith, comes.1.count);
+          each = λ i within. comes.1.none i ∙ ap (λ (l : List Event). index_of l i) (sym nothing.0);
+          gone = λ i past within. absurd (omega (arith, past, within, comes.1.count));
+          whole = λ _. inl comes.1.count;
+        },
+        (comes.1.count, comes.1.whole ∙ sym nothing.1),
+      ))
+      (are.whole open_list))
+      begins
+
+  pub indices_come : AreIndices size new.forgotten new.indices list
+  indices_come = come.0
+
+  pub all_come : length new.indices ≡ size
+  all_come = come.1.0
+
+  pub same_forgotten : new.forgotten ≡ old.forgotten
+  same_forgotten = come.1.1
+
+-- after a group's first record all its items are there
+pub all_there : {size forgotten : ℕ} {lanes : List Index} {list : List Event} → AreIndices size forgotten lanes list → ¬ IsTrue (is_complete list) → list ≢ [] → length lanes ≡ size
+all_there are open_list some = ⊎_elim (λ all. all) (λ nothing. absurd (some nothing.0)) (are.whole open_list)
 
 -- the last ones go, which are spent
 pub indices_close : {size forgotten : ℕ} {old new : List Index} {list : List Event} → AreIndices size forgotten old list → IsTrue (is_complete list) → Closes forgotten old new → AreIndices size forgotten new list
@@ -118,6 +156,10 @@ indices_close {size} {forgotten} {old} {new} {list} are ended closes =
       whole = λ open_list. absurd (open_list ended);
     })
 
+-- in no list is there a barrier
+none_in : {list : List Event} (n : ℕ) → list ≡ [] → (p : ℕ) × (slice_get (places_from is_barrier 0 (filter (is_of 0) list)) n ≡ Some p) → ⊥
+none_in {list} n nothing at = let there = subst (λ (l : List Event). slice_get (places_from is_barrier 0 (filter (is_of 0) l)) n ≡ Some at.0) nothing at.1 in cc
+
 -- one instance more is forgotten, to which all items came: none of them has gone
 pub indices_forget : {size forgotten : ℕ} {lanes : List Index} {list : List Event} → AreIndices size forgotten lanes list → ((i : ℕ) → i < size → (p : ℕ) × (slice_get (places_from is_barrier 0 (filter (is_of i) list)) forgotten ≡ Some p)) → AreIndices size (forgotten + 1) lanes list
 indices_forget {size} {forgotten} {lanes} {list} are came = record {
@@ -127,7 +169,13 @@ indices_forget {size} {forgotten} {lanes} {list} are came = record {
   gone = λ i past within.
       let at = came i within in
       absurd (let there = slice_get_within (places_from is_barrier 0 (filter (is_of i) list)) forgotten at.0 at.1 in omega (arith, there, (are.gone i past within).barriers));
-  whole = are.whole;
+  whole = λ open_list. ⊎_elim
+      inl
+      (λ (nothing : (list ≡ []) × (forgotten ≡ 0)). ⊎_elim
+      (λ (some : 0 < size). absurd (none_in forgotten nothing.0 (came 0 some)))
+      (λ (none : size ≤ 0). inl (omega (arith, none, are.few)))
+      (cases_lt 0 size))
+      (are.whole open_list);
 }
 
 -- ---- what is read by an index

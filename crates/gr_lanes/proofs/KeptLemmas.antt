@@ -10,7 +10,7 @@ use Rattle.std.proofs.lemmas.Simd.{map-map}
 use Rattle.gr_lanes.proofs.IndexLemmas.{number_least}
 use Rattle.std.proofs.Math.ListN.{get_or-map as map_at, replicate}
 use Rattle.std.proofs.lemmas.List.Sums.{AllPass-from_list_all}
-use Rattle.std.proofs.lemmas.List.{get_or-map, get_or_read, get_or-set_other, get_or-set_same, get_or-take, length-map, length-take-le, length-set, map-set, take-map}
+use Rattle.std.proofs.lemmas.List.{get_or-map, get_or_read, get_or-set_other, get_or-set_same, get_or-take, length-map, length-replicate, length-take-le, length-set, map-set, take-map}
 use Rattle.gr_model.specs.declared.event.Event.{Event}
 use Rattle.gr_lanes.specs.declared.bare.Bare.{Bare}
 use Rattle.gr_model.specs.declared.event.Kind.TheVariants.{Read}
@@ -19,7 +19,7 @@ use Rattle.gr_model.specs.Barriers.{is_barrier}
 use Rattle.gr_model.specs.Events.{is_end}
 use Rattle.gr_lanes.specs.Takes.{IsMereAccess}
 use Rattle.gr_lanes.specs.Indices.{AreRising, Closes, Index, IsNumberKept, IsSpent, indexed, no_index, with_barrier, with_event}
-use Rattle.gr_lanes.specs.Kept.{AreLanes, Arrives, CameWith, GroupIndex, HasNothing, IsLane, Kept, NoneDiffersIn, forgetting_one, is_as_first, kept_with, nothing_kept, with_indices}
+use Rattle.gr_lanes.specs.Kept.{AreLanes, Arrives, CameWith, GroupIndex, HasNoEvents, HasNothing, IsLane, Kept, NoneDiffersIn, forgetting_one, is_as_first, kept_with, nothing_kept, with_indices}
 use Rattle.gr_lanes.proofs.LaneLemmas.{barrier_at, barriers_count, lane_forgets, lane_more, rising_rest, said_alike, said_count}
 
 -- what contracts see of lanes
@@ -175,6 +175,13 @@ lanes_none (suc n) (suc i) = lanes_none n i
 
 pub none_kept : (n : ℕ) {ks : List Kept} → ks ≡ replicate n nothing_kept → (i : ℕ) → get_or ks i nothing_kept ≡ nothing_kept
 none_kept n is i = ap (λ l. get_or l i nothing_kept) is ∙ lanes_none n i
+
+pub new_items : (n : ℕ) (ks : List Kept) → ks ≡ replicate n nothing_kept → HasNoEvents n (seen_of 0 ks)
+new_items n ks is = record {
+  count = length-map ks (λ (k : Kept). k.index) ∙ (ap length is ∙ length-replicate n nothing_kept);
+  none = λ i. index_is ks i ∙ ap (λ (k : Kept). k.index) (none_kept n is i);
+  whole = refl;
+}
 
 pub new_lanes : (firsts : List Bare) (n : ℕ) {ks : List Kept} → ks ≡ replicate n nothing_kept → AreLanes 0 firsts ks
 new_lanes firsts n is i there = rw (none_kept n is i) (record { places = refl; saying = refl; records = refl; passed = omega arith; least = omega arith; within = omega arith; few = omega arith })

@@ -1,5 +1,5 @@
 -- An index of each item's events in its group's list, and of its releases and barriers among its events.
-use Rattle.std.specs.Prelude.{◌≡◌, ◌≢◌, ℕ, ◌<◌, ◌≤◌, ◌+◌, Option, Bool, List, [], ◌∷◌, ◌++◌, length, map, filter, false, true, MatchOption, None, Some, IsTrue, slice_get, slice_index, slice_index_or, slice_set, take, if◌then◌else◌}
+use Rattle.std.specs.Prelude.{◌≡◌, ◌≢◌, ◌⊎◌, ℕ, ◌<◌, ◌≤◌, ◌+◌, Option, Bool, List, [], ◌∷◌, ◌++◌, length, map, filter, false, true, MatchOption, None, Some, IsTrue, slice_get, slice_index, slice_index_or, slice_set, take, if◌then◌else◌}
 use Rattle.gr_model.specs.declared.event.Event.{Event}
 use Rattle.gr_model.specs.declared.report.Divergence.{Divergence}
 use Rattle.gr_model.specs.declared.event.ItemId.{ItemId}
@@ -100,13 +100,13 @@ pub record IsSpent (forgotten : ℕ) (i : Index) : Type 0 where
   pub barriers : length i.barriers ≡ forgotten
 
 -- the group may have such a list, and each of its items has its index in it; the last ones may have gone, those that are spent, where no
--- more is taken of the group
+-- more is taken of the group, and need not have come where nothing was
 pub record AreIndices (size forgotten : ℕ) (lanes : List Index) (list : List Event) : Type 0 where
   pub prefix : IsPrefix size list
   pub few : length lanes ≤ size
   pub each : (i : ℕ) → i < length lanes → slice_index_or lanes i no_index ≡ index_of list i
   pub gone : (i : ℕ) → length lanes ≤ i → i < size → IsSpent forgotten (index_of list i)
-  pub whole : ¬ IsTrue (is_complete list) → length lanes ≡ size
+  pub whole : ¬ IsTrue (is_complete list) → (length lanes ≡ size) ⊎ ((list ≡ []) × (forgotten ≡ 0))
 
 -- the last ones of these have gone, all of them spent
 pub record Closes (forgotten : ℕ) (old new : List Index) : Type 0 where

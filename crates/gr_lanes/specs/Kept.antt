@@ -19,6 +19,16 @@ pub record GroupIndex : Type 0 where
   pub indices : List Index
   pub forgotten : ℕ
 
+-- so many items, none of which has an event
+pub record HasNoEvents (size : ℕ) (g : GroupIndex) : Type 0 where
+  pub count : length g.indices ≡ size
+  pub none : (i : ℕ) → slice_index_or g.indices i no_index ≡ no_index
+  pub whole : g.forgotten ≡ 0
+
+-- as many items or more, or where there were fewer, so many without events
+abbrev pub Begins : ℕ → GroupIndex → GroupIndex → Type 0
+Begins size old new = ((size ≤ length old.indices) × (new ≡ old)) ⊎ ((length old.indices < size) × HasNoEvents size new)
+
 -- other indices, and as many instances forgotten
 abbrev pub with_indices : GroupIndex → List Index → GroupIndex
 with_indices g l = record { indices = l; forgotten = g.forgotten }

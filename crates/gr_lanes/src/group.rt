@@ -4,7 +4,7 @@
 //! kept. Once the end was taken, the last items may have gone: those that have no releases, and whose barriers are forgotten.
 //! The list itself exists in proofs alone.
 
-ghost use Rattle.std.specs.Prelude.{◌≡◌, ◌↔◌, ◌∷◌, ◌++◌, ◌<◌, ◌≤◌, ◌+◌, ℕ, [], true, Some, IsTrue, IfOk, OnOk, OnErr, filter, length, slice_get, slice_index_or};
+ghost use Rattle.std.specs.Prelude.{◌≢◌, ◌≡◌, ◌↔◌, ◌∷◌, ◌++◌, ◌<◌, ◌≤◌, ◌+◌, ℕ, [], true, Some, IsTrue, IfOk, OnOk, OnErr, filter, length, slice_get, slice_index_or};
 ghost use Rattle.gr_model.specs.declared.limits.TheConstants.{MOST_RECORDS};
 ghost use Rattle.gr_model.specs.Access as model;
 ghost use Rattle.gr_model.specs.Barriers as model_barriers;
@@ -75,23 +75,38 @@ fn says_cut(end: Option<bool>) -> bool
 }
 
 impl<A: Allocator + Copy> Group<A> {
-    /// A group of so many items of which nothing was taken.
-    ///
-    /// # Errors
-    /// `Memory`: out of memory.
-    pub(crate) fn new(alloc: A, size: u16) -> Result<Group<A>, Memory>
-        ensures { IfOk result (λ g. g ≡ record { size = size; list = []; forgotten = 0; decided = [] }) }
+    /// A group of so many items of which nothing was taken. It takes no memory.
+    pub(crate) fn new(alloc: A, size: u16) -> Group<A>
+        ensures { result ≡ record { size = size; list = []; forgotten = 0; decided = [] } }
     {
-        let items = Items::new(alloc, size)?;
         let list = History::new();
-        Ok(Group {
+        Group {
             size,
             list,
             taken: 0,
             end: None,
-            items,
+            items: Items::new(alloc),
             decided: Vec::new(alloc),
-        })
+        }
+    }
+
+    /// Takes the group's next record.
+    ///
+    /// # Errors
+    /// `Memory`: out of memory. The group is then as it was.
+    pub(crate) fn take(&mut self, event: &Event) -> Result<(), Memory>
+        requires good { IsEventOk event.now self.old.size }
+        requires before_end { ¬ IsTrue (is_complete self.old.list) }
+        requires room { length self.old.list < MOST_RECORDS }
+        ensures ok { OnOk result (self.new ≡ record { size = self.old.size; list = self.old.list ++ event.now ∷ []; forgotten = self.old.forgotten; decided = self.old.decided }) }
+        ensures err { OnErr result (self.new ≡ self.old) }
+    {
+        self.items.begin(self.size)?;
+        self.items.add(event)?;
+        self.list.push(event);
+        self.taken += 1;
+        self.end = end_of(event);
+        Ok(())
     }
 }
 
@@ -197,8 +212,9 @@ impl<A: Allocator> Group<A> {
         self.items.barrier_count(item)
     }
 
-    /// Takes the group's next record, a mere access. It takes no memory.
+    /// Takes the group's next record, a mere access that is not its first record. It takes no memory.
     pub(crate) fn take_access(&mut self, event: &Event)
+        requires begun { self.old.list ≢ [] }
         requires good { IsEventOk event.now self.old.size }
         requires before_end { ¬ IsTrue (is_complete self.old.list) }
         requires room { length self.old.list < MOST_RECORDS }
@@ -208,24 +224,6 @@ impl<A: Allocator> Group<A> {
         self.items.add_access(event);
         self.list.push(event);
         self.taken += 1;
-    }
-
-    /// Takes the group's next record.
-    ///
-    /// # Errors
-    /// `Memory`: out of memory. The group is then as it was.
-    pub(crate) fn take(&mut self, event: &Event) -> Result<(), Memory>
-        requires good { IsEventOk event.now self.old.size }
-        requires before_end { ¬ IsTrue (is_complete self.old.list) }
-        requires room { length self.old.list < MOST_RECORDS }
-        ensures ok { OnOk result (self.new ≡ record { size = self.old.size; list = self.old.list ++ event.now ∷ []; forgotten = self.old.forgotten; decided = self.old.decided }) }
-        ensures err { OnErr result (self.new ≡ self.old) }
-    {
-        self.items.add(event)?;
-        self.list.push(event);
-        self.taken += 1;
-        self.end = end_of(event);
-        Ok(())
     }
 
     /// Forgets the least instance that is not forgotten, to which all items came, and which is not divergent.

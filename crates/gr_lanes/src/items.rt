@@ -7,7 +7,7 @@ ghost use Rattle.std.specs.Prelude.{◌≡◌, ◌≢◌, ◌<◌, ◌≤◌, �
 ghost use Rattle.std.specs.List.{list_all};
 ghost use Rattle.gr_model.specs.Barriers as model;
 ghost use Rattle.gr_lanes.specs.Indices.{AreRising, Closes, IsNumberKept, IsPlaceKept, indexed, no_index, with_barrier};
-ghost use Rattle.gr_lanes.specs.Kept.{HasNothing, NoneDiffersIn, forgetting_one, is_as_first, nothing_kept, with_indices};
+ghost use Rattle.gr_lanes.specs.Kept.{Begins, HasNothing, HasNoEvents, NoneDiffersIn, forgetting_one, is_as_first, nothing_kept, with_indices};
 ghost use Rattle.gr_lanes.specs.Takes.{IsMereAccess};
 
 use crate::bare::Bare;
@@ -72,16 +72,25 @@ fn lanes_left<A: Allocator>(lanes: &[Lane<A>]) -> usize
 }
 
 impl<A: Allocator + Copy> Items<A> {
+    /// No items. They take no memory.
+    pub(crate) fn new(alloc: A) -> Items<A>
+        ensures { result ≡ record { indices = []; forgotten = 0 } }
+    {
+        Items {
+            lanes: Vec::new(alloc),
+            firsts: VecDeque::new(alloc),
+            forgotten: 0,
+        }
+    }
+
     /// So many items without events.
     ///
     /// # Errors
     /// `Memory`: out of memory.
-    pub(crate) fn new(alloc: A, items: u16) -> Result<Items<A>, Memory>
-        ensures size { IfOk result (λ t. length t.indices ≡ items) }
-        ensures none { IfOk result (λ t. (i : ℕ) → slice_index_or t.indices i no_index ≡ no_index) }
-        ensures whole { IfOk result (λ t. t.forgotten ≡ 0) }
+    fn without_events(alloc: A, items: u16) -> Result<Items<A>, Memory>
+        ensures { IfOk result (λ t. HasNoEvents items t) }
     {
-        let mut lanes = Vec::new(alloc);
+        let mut lanes = Vec::with_capacity(alloc, usize::from(items))?;
         for _item in 0..items {
             lanes.push(Lane::new(alloc))?;
         }
@@ -91,6 +100,20 @@ impl<A: Allocator + Copy> Items<A> {
             firsts,
             forgotten: 0,
         })
+    }
+
+    /// Makes so many items without events, where there are fewer.
+    ///
+    /// # Errors
+    /// `Memory`: out of memory. The items are then as they were.
+    pub(crate) fn begin(&mut self, items: u16) -> Result<(), Memory>
+        ensures ok { OnOk result (Begins items self.old self.new) }
+        ensures err { OnErr result (self.new ≡ self.old) }
+    {
+        if self.lanes.len() < usize::from(items) {
+            *self = Items::without_events(*self.lanes.allocator(), items)?;
+        }
+        Ok(())
     }
 }
 

@@ -70,7 +70,7 @@ impl<A: Allocator + Copy> Lanes<A> {
     {
         let mut groups = Vec::new(alloc);
         for group in 0..shape.groups() {
-            groups.push(Group::new(alloc, shape.items(group))?)?;
+            groups.push(Group::new(alloc, shape.items(group)))?;
         }
         let shape = GrowingShape::of(shape);
         Ok(Lanes { shape, groups })
@@ -105,9 +105,9 @@ fn put_group<A: Allocator + Copy>(
 ) -> Result<(), Memory>
     ensures { OnOk result (groups.new.items ≡ put (empty 0) groups.old.items group (empty items)) }
 {
-    let added = Group::new(alloc, items)?;
+    let added = Group::new(alloc, items);
     while groups.len() <= usize::from(group) {
-        groups.push(Group::new(alloc, 0)?)?;
+        groups.push(Group::new(alloc, 0))?;
     }
     groups[usize::from(group)] = added;
     Ok(())
@@ -291,10 +291,11 @@ impl<A: Allocator> Lanes<A> {
         None
     }
 
-    /// Takes the next record of a group, which may be taken and is a mere access. It takes no memory.
+    /// Takes the next record of a group, which may be taken, is a mere access and not its first record. It takes no memory.
     pub fn take_access(&mut self, group: u16, event: &Event)
         requires can { CanTake self.old.streams group event.now }
         requires access { IsMereAccess event.now }
+        requires begun { list_of self.old.streams group ≢ [] }
         requires good { IsEventButItem event.now }
         requires room { length (list_of self.old.streams group) < MOST_RECORDS }
         ensures taken { self.new ≡ remembering self.old (with_record self.old.streams group event.now) }
@@ -308,6 +309,8 @@ impl<A: Allocator> Lanes<A> {
     /// # Errors
     /// `Memory`: out of memory. Nothing is then taken.
     pub fn take_accepted(&mut self, group: u16, event: &Event) -> Result<(), Memory>
+    where
+        A: Copy,
         requires can { CanTake self.old.streams group event.now }
         requires good { IsEventButItem event.now }
         requires room { length (list_of self.old.streams group) < MOST_RECORDS }
@@ -325,6 +328,8 @@ impl<A: Allocator> Lanes<A> {
     /// The first of `UnknownGroup`, `AfterEnd` with the group, `UnknownItem` and `Memory` that is there. Nothing is then
     /// taken.
     pub fn take(&mut self, group: u16, event: Event) -> Result<(), SeqError>
+    where
+        A: Copy,
         requires good { IsEventButItem event }
         requires room { length (list_of self.old.streams group) < MOST_RECORDS }
         ensures ok { OnOk result (CanTake self.old.streams group event × (self.new ≡ remembering self.old (with_record self.old.streams group event))) }

@@ -9,7 +9,7 @@ use Rattle.gr_model.specs.declared.event.EventId.{EventId}
 use Rattle.gr_model.specs.declared.event.ItemId.{ItemId}
 use Rattle.gr_model.specs.Events.{is_end}
 use Rattle.gr_model.specs.LawfulOrders.{IsLawful}
-use Rattle.gr_model.specs.Streams.{ArePrefixes, IsEvent, Streams, event_at, trace_of}
+use Rattle.gr_model.specs.Streams.{ArePrefixes, IsEvent, Streams, event_at, list_of, trace_of}
 use Rattle.gr_model.proofs.Cuts.{same_event}
 use Rattle.gr_steps.specs.Steps.{IsReady}
 use Rattle.gr_steps.proofs.Orders.{at_behind, split_last}
@@ -65,10 +65,11 @@ module _ {q : Sequence} {frontier : Counts} {windows : Table} {held : ℕ} (kept
         omega arith
 
     -- nothing of the item waits
-    pub goes_at_once : CanTake q.taken g x → IsMereAccess x → GoesAtOnce q g x
-    goes_at_once can access = record {
+    pub goes_at_once : CanTake q.taken g x → IsMereAccess x → list_of q.taken g ≢ [] → GoesAtOnce q g x
+    goes_at_once can access begun = record {
       can = can;
       access = access;
+      begun = begun;
       first = λ d own there.
           let within : d.index < length (trace_of q.taken d.at) = slice_get_within (trace_of q.taken d.at) d.index there.0 there.1 in
           (kept.state.first d).1 (subst (λ i. d.index < count_of frontier i) (sym own) (omega (arith, within, ap (λ i. length (trace_of q.taken i)) own, count_is)));

@@ -1,15 +1,17 @@
 -- Which record's event can be handled as soon as it is taken.
 -- Source: docs/MODEL.md, "Steps".
-use Rattle.std.specs.Prelude.{◌≡◌, ℕ}
+use Rattle.std.specs.Prelude.{◌≡◌, ◌≢◌, ℕ, []}
 use Rattle.gr_model.specs.declared.event.Event.{Event}
 use Rattle.gr_model.specs.declared.event.EventId.{EventId}
 use Rattle.gr_model.specs.LawfulOrders.{IsIn}
-use Rattle.gr_model.specs.Streams.{IsEvent}
+use Rattle.gr_model.specs.Streams.{IsEvent, list_of}
 use Rattle.gr_lanes.specs.Takes.{CanTake, IsMereAccess, next_of}
 use Rattle.gr_order.specs.Sequences.{Sequence}
 
--- a record of a group may be taken, it is a mere access, and all that was taken of its item was handled: its event can be handled at once
+-- a record of a group may be taken and is not its first, it is a mere access, and all that was taken of its item was handled: its event can
+-- be handled at once
 pub record GoesAtOnce (q : Sequence) (g : ℕ) (x : Event) : Type 0 where
   pub can : CanTake q.taken g x
   pub access : IsMereAccess x
+  pub begun : list_of q.taken g ≢ []
   pub first : (d : EventId) → d.at ≡ (next_of q.taken g x).at → IsEvent q.taken d → IsIn q.handled d

@@ -288,7 +288,7 @@ impl<A: Allocator> Schedule<A> {
     }
 
     /// The event that a record of a group is where it is taken, if it may be taken and its event can then be handled at once:
-    /// it is a mere access, and no event of its item waits.
+    /// it is a mere access and not the group's first record, and no event of its item waits.
     #[inline(always)]
     pub fn at_once(&self, group: u16, event: &Event) -> Option<EventId>
         ensures goes { MatchOption result (¬ GoesAtOnce self.now group event.now) (λ e. GoesAtOnce self.now group event.now × (e ≡ next_of self.now.taken group event.now)) }
@@ -300,6 +300,9 @@ impl<A: Allocator> Schedule<A> {
         match self.lanes.refusal(group, event) {
             None => {}
             Some(_) => return None,
+        }
+        if self.lanes.taken(group) == 0 {
+            return None;
         }
         let at = ItemId {
             group,
@@ -338,6 +341,8 @@ impl<A: Allocator> Schedule<A> {
     /// The first of `UnknownGroup`, `AfterEnd` with the group, `UnknownItem` and `Memory` that is there. Nothing is then
     /// taken.
     fn take_next(&mut self, group: u16, event: Event) -> Result<(), SeqError>
+    where
+        A: Copy,
         requires good { IsEventButItem event }
         requires room { length (list_of self.old.taken group) < MOST_RECORDS }
         ensures ok { OnOk result (CanTake self.old.taken group event × (self.new ≡ taking self.old group event)) }
@@ -383,6 +388,8 @@ impl<A: Allocator> Schedule<A> {
     /// The first of `UnknownGroup`, `AfterEnd` with the group, `UnknownItem` and `Memory` that is there. Nothing is then
     /// taken.
     pub fn take(&mut self, group: u16, event: Event) -> Result<(), SeqError>
+    where
+        A: Copy,
         requires good { IsEventButItem event }
         requires room { length (list_of self.old.taken group) < MOST_RECORDS }
         ensures ok { OnOk result (CanTake self.old.taken group event × (self.new ≡ taking self.old group event)) }

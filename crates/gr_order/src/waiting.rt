@@ -15,7 +15,7 @@ use std::alloc::Allocator;
 ///
 /// # Errors
 /// `Memory`: out of memory. Nothing is then kept.
-pub(crate) fn keep<A: Allocator>(
+pub(crate) fn keep<A: Allocator + Copy>(
     windows: &mut Windows<A>,
     group: u16,
     event: &Event,

@@ -15,7 +15,11 @@ use std::alloc::Allocator;
 ///
 /// # Errors
 /// `Memory`: out of memory.
-fn take_list<A: Allocator>(lanes: &mut Lanes<A>, group: u16, list: &[Event]) -> Result<(), Memory>
+fn take_list<A: Allocator + Copy>(
+    lanes: &mut Lanes<A>,
+    group: u16,
+    list: &[Event],
+) -> Result<(), Memory>
     requires there { group < length lanes.old.streams.lists }
     requires nothing { list_of lanes.old.streams group ≡ [] }
     requires accepted { IsAccepted (size_of lanes.old.streams group) list.now }

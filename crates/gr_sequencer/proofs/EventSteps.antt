@@ -1,5 +1,5 @@
 -- What is known where an event is handled.
-use Rattle.std.proofs.Common.{◌≡◌, ◌≢◌, ◌⊎◌, ◌↔◌, ℕ, ◌+◌, ◌<◌, max, Bool, true, false, All, List, [], ◌∷◌, ◌++◌, Some, IsTrue, map, length, refl, sym, ap, ◌∙◌, subst, inl, ⊎_elim, arith, true≢false}
+use Rattle.std.proofs.Common.{◌≡◌, ◌≢◌, ◌↔◌, ℕ, ◌+◌, ◌<◌, max, Bool, true, false, All, List, [], ◌∷◌, ◌++◌, Some, IsTrue, map, length, refl, sym, ap, ◌∙◌, subst, inl, ⊎_elim, arith, true≢false}
 use Rattle.std.proofs.lemmas.List.{map-id}
 use Rattle.gr_model.specs.declared.event.Event.{Event}
 use Rattle.gr_model.specs.declared.event.EventId.{EventId}

@@ -162,6 +162,8 @@ impl<A: Allocator> Sequencer<A> {
     /// taken.
     #[inline(always)]
     pub fn take(&mut self, group: u16, event: Event) -> Result<(), SeqError>
+    where
+        A: Copy,
         requires good { IsEventButItem event }
         requires room { length (list_of self.old.taken group) < MOST_RECORDS }
         ensures ok { OnOk result (CanTake self.old.taken group event × (self.new ≡ taking self.old group event)) }
@@ -220,7 +222,7 @@ impl<A: Allocator> Sequencer<A> {
         event: Event,
     ) -> Result<Option<Handled<A>>, SeqError>
     where
-        A: Clone,
+        A: Copy,
         requires good { IsEventButItem event }
         requires room { length (list_of self.old.taken group) < MOST_RECORDS }
         ensures can { OnOk result (CanTake self.old.taken group event) }

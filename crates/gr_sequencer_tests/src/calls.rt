@@ -55,7 +55,7 @@ fn state<A: Allocator>(sequencer: &Sequencer<A>) -> ([u32; 3], u64, bool) {
     )
 }
 
-fn take_once<A: Allocator>(
+fn take_once<A: Allocator + Copy>(
     sequencer: &mut Sequencer<A>,
     group: u16,
     event: &Event,
@@ -67,7 +67,7 @@ fn take_once<A: Allocator>(
     }
 }
 
-pub(crate) fn take<A: Allocator>(
+pub(crate) fn take<A: Allocator + Copy>(
     sequencer: &mut Sequencer<A>,
     group: u16,
     event: Event,

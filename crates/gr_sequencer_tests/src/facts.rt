@@ -209,7 +209,7 @@ fn at_end_of_nothing<A: Allocator>(sequencer: &Sequencer<A>) -> bool {
 }
 
 /// The clock of an access counts it.
-fn step_of_an_access<A: Allocator + Clone>(sequencer: &mut Sequencer<A>) -> bool {
+fn step_of_an_access<A: Allocator + Copy>(sequencer: &mut Sequencer<A>) -> bool {
     if let Ok(
         Some(
             Handled::One {
@@ -239,7 +239,7 @@ fn windows_forget_the_first(rt: HostRuntime) -> Result<(), Memory> {
 }
 
 /// Takes two records of the only group.
-fn take_both<A: Allocator>(
+fn take_both<A: Allocator + Copy>(
     lanes: &mut Lanes<A>,
     first: &Record,
     second: &Record,
@@ -301,7 +301,7 @@ fn nobody_is_missing_while_a_group_goes_on(rt: HostRuntime) -> Result<(), SeqErr
 }
 
 /// Has an order take a record.
-fn order_takes<A: Allocator>(order: &mut Schedule<A>, record: &Record) -> bool {
+fn order_takes<A: Allocator + Copy>(order: &mut Schedule<A>, record: &Record) -> bool {
     let event = event_of(record);
     is_lawful(&event) && order.taken(record.0) < 16_777_216 && order.take(record.0, event).is_ok()
 }
@@ -358,7 +358,7 @@ fn all_of_a_group_meet(rt: HostRuntime) -> Result<(), Memory> {
 }
 
 /// Has an agenda take a record.
-fn agenda_takes<A: Allocator>(agenda: &mut Agenda<A>, record: &Record) -> bool {
+fn agenda_takes<A: Allocator + Copy>(agenda: &mut Agenda<A>, record: &Record) -> bool {
     let event = event_of(record);
     is_lawful(&event)
         && agenda.order().taken(record.0) < 16_777_216
@@ -384,7 +384,7 @@ fn an_agenda_finds_its_step_though_memory_is_short(rt: HostRuntime) {
 }
 
 /// Two groups' acquires are taken, then the release that they name, and all three are handled.
-fn wakes_both<A: Allocator>(agenda: &mut Agenda<A>) -> bool {
+fn wakes_both<A: Allocator + Copy>(agenda: &mut Agenda<A>) -> bool {
     WAIT.iter().all(|acquire| agenda_takes(agenda, acquire))
         && agenda.ready().is_none()
         && agenda_takes(agenda, &RELEASES)

@@ -9,7 +9,7 @@ use refusing::Refusing;
 use std::alloc::{Allocator, Global};
 
 /// Takes the barriers of two items, with these sites.
-fn come<A: Allocator>(order: &mut Schedule<A>, sites: [u32; 2]) -> Option<()> {
+fn come<A: Allocator + Copy>(order: &mut Schedule<A>, sites: [u32; 2]) -> Option<()> {
     for item in 0..2_u16 {
         let site = sites[usize::from(item)];
         let event = event_of(&(0, item, BARRIER, GLOBAL, site, &[]));
@@ -22,14 +22,14 @@ fn come<A: Allocator>(order: &mut Schedule<A>, sites: [u32; 2]) -> Option<()> {
 }
 
 /// Both items come with one site, and meet.
-fn meet<A: Allocator>(order: &mut Schedule<A>) -> Option<()> {
+fn meet<A: Allocator + Copy>(order: &mut Schedule<A>) -> Option<()> {
     come(order, [7, 7])?;
     let _instance = order.meet(0).ok()?;
     Some(())
 }
 
 /// They come with two sites, and each passes by itself.
-fn part<A: Allocator>(order: &mut Schedule<A>) -> Option<()> {
+fn part<A: Allocator + Copy>(order: &mut Schedule<A>) -> Option<()> {
     come(order, [7, 8])?;
     for item in 0..2 {
         let _event = order.handle(ItemId { group: 0, item }).ok()?;
@@ -38,7 +38,7 @@ fn part<A: Allocator>(order: &mut Schedule<A>) -> Option<()> {
 }
 
 /// Both items part once, or not, and meet so many times.
-fn go<A: Allocator>(order: &mut Schedule<A>, is_parted: bool, times: u32) -> Option<()> {
+fn go<A: Allocator + Copy>(order: &mut Schedule<A>, is_parted: bool, times: u32) -> Option<()> {
     if is_parted {
         part(order)?;
     }

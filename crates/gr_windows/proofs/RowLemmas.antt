@@ -1,13 +1,13 @@
 -- The windows of a group's items: what is read, what is written at an item, and that those in which nothing waits can go.
 use Rattle.std.proofs.lemmas.Bool.Decides.{nat_tests}
 use Rattle.std.proofs.lemmas.List.{get_or_append_left, get_or-append_right}
-use Rattle.std.proofs.Common.{◌≡◌, ℕ, suc, ◌+◌, ◌-◌, ◌<◌, ◌≤◌, ◌==◌, List, [], ◌∷◌, ◌++◌, length, get_or, set, drop, refl, sym, ◌∙◌, ap, arith, append-nil}
+use Rattle.std.proofs.Common.{◌≡◌, ◌⊎◌, inr, ⊎_elim, ℕ, zero, suc, ◌+◌, ◌-◌, ◌<◌, ◌≤◌, ◌==◌, List, [], ◌∷◌, ◌++◌, length, get_or, set, drop, refl, sym, ◌∙◌, ap, arith, append-nil}
 use Rattle.std.specs.Int.{from_bool}
 use Rattle.std.specs.List.{sum_by}
-use Rattle.std.proofs.lemmas.List.{get_or_past, get_or_read, length-drop, length-replicate, length-set, set-append_left}
+use Rattle.std.proofs.lemmas.List.{get_or_past, get_or_read, length-append, length-drop, length-replicate, length-set, set-append_left, set-get_or}
 use Rattle.std.proofs.lemmas.List.Sums.{get_or-le-sum_by, sum_by-cons, sum_by-set}
 use Rattle.gr_model.specs.declared.event.Event.{Event}
-use Rattle.gr_windows.specs.Rows.{IsRowKept, padded, waits}
+use Rattle.gr_windows.specs.Rows.{IsRowKept, begun, padded, waits}
 use Rattle.gr_windows.proofs.WindowLemmas.{none_is, none_of}
 
 -- what is read
@@ -34,8 +34,46 @@ none_waits [] n none = ap none_of (omega arith)
 none_waits ([] ∷ vs) n none = ap (λ t. [] ∷ t) (none_waits vs n (omega (arith, none, sum_by-cons waits [] vs))) ∙ (let e : suc (length vs + n) ≡ suc (length vs) + n = omega arith in ap none_of e)
 none_waits ((x ∷ v) ∷ vs) n none = absurd (omega (arith, none, sum_by-cons waits (x ∷ v) vs))
 
+-- windows where there were none are as many as the items, and in none of them events wait
+none_sum : (n : ℕ) → sum_by waits (none_of n) ≡ 0
+none_sum zero = refl
+none_sum (suc n) = none_sum n
+
+begun_as : (size : ℕ) (ws : List (List Event)) → (ws ≡ []) ⊎ (length ws ≡ size) → (length (begun size ws) ≡ size) × ((sum_by waits (begun size ws) ≡ sum_by waits ws) × (padded size (begun size ws) ≡ padded size ws))
+begun_as size [] whole = (length-replicate size [], (none_sum size, padded_none))
+  where
+    padded_none : padded size (none_of size) ≡ padded size []
+    padded_none =
+        let none : size - length (none_of size) ≡ 0 = omega (arith, length-replicate {A = List Event} size []) in
+        ap (λ m. none_of size ++ none_of m) none ∙ (append-nil (none_of size) ∙ ap none_of (let whole : size ≡ size - 0 = omega arith in whole))
+begun_as size (w ∷ ws) whole = (⊎_elim (λ (none : (w ∷ ws) ≡ []). cc) (λ (all : length (w ∷ ws) ≡ size). all) whole, (refl, refl))
+
+pub begun_none : (size : ℕ) (ws new : List (List Event)) → length ws ≡ 0 → new ≡ none_of size → new ≡ begun size ws
+begun_none size [] new none is = is
+begun_none size (w ∷ ws) new none is = absurd (omega (arith, none))
+
+pub begun_some : (size : ℕ) (ws : List (List Event)) → 0 < length ws → ws ≡ begun size ws
+begun_some size [] some = absurd (omega (arith, some))
+begun_some size (w ∷ ws) some = refl
+
 module _ {size busy : ℕ} {ws : List (List Event)} (kept : IsRowKept size busy ws) {s : List (List Event)} (view : padded size ws ≡ s) where
-  -- where no event waits the windows can go
+  -- where there are no windows they can come
+  module _ {now : List (List Event)} (is : now ≡ begun size ws) where
+    pub begun_size : length now ≡ size
+    begun_size = ap length is ∙ (begun_as size ws kept.whole).0
+
+    pub begun_kept : IsRowKept size busy now
+    begun_kept = record { few = omega (arith, begun_size); whole = inr begun_size; count = kept.count ∙ (sym (begun_as size ws kept.whole).1.0 ∙ ap (sum_by waits) (sym is)) }
+
+    pub begun_view : padded size now ≡ s
+    begun_view = ap (padded size) is ∙ ((begun_as size ws kept.whole).1.1 ∙ view)
+
+    pub begun_there : {p item : ℕ} → p ≡ item → item < length s → p < length now
+    begun_there {p} {item} same within =
+        let whole : length (padded size now) ≡ size = length-append now (none_of (size - length now)) ∙ omega (arith, begun_size, length-replicate {A = List Event} (size - length now) []) in
+        omega (arith, same, within, ap length begun_view, whole, begun_size)
+
+  -- where no event waits they can go
   pub none_kept : busy ≡ 0 → padded size [] ≡ s
   none_kept idle =
       let whole : size - 0 ≡ length ws + (size - length ws) = omega (arith, kept.few) in
@@ -43,11 +81,18 @@ module _ {size busy : ℕ} {ws : List (List Event)} (kept : IsRowKept size busy 
 
   module _ {p item : ℕ} (same : p ≡ item) where
     module _ (there : p < length ws) {old : List Event} (reads : old ≡ get_or ws p old) where
+      whole_there : length ws ≡ size
+      whole_there = ⊎_elim (λ (none : ws ≡ []). absurd (omega (arith, there, ap length none))) (λ (all : length ws ≡ size). all) kept.whole
+
       old_is : old ≡ get_or ws p []
       old_is = get_or_read ws p old there reads []
 
       pub same_read : {again : List Event} → again ≡ get_or ws p again → again ≡ old
       same_read {again} is = get_or_read ws p again there is [] ∙ sym old_is
+
+      -- the same list at an item
+      pub same_written : (new : List Event) → new ≡ old → set ws p new ≡ ws
+      same_written new is = ap (set ws p) (is ∙ reads) ∙ set-get_or ws p old
 
       -- another list at an item
       pub written_at : (f : List Event → List Event) (new : List Event) → new ≡ f old → padded size (set ws p new) ≡ set s item (f (get_or s item []))
@@ -60,6 +105,7 @@ module _ {size busy : ℕ} {ws : List (List Event)} (kept : IsRowKept size busy 
       set_kept count new changes =
           let sum = sum_by-set waits ws p new [] there in record {
             few = omega (arith, kept.few, length-set ws p new);
+            whole = inr (length-set ws p new ∙ whole_there);
             count = omega (arith, changes, sum, kept.count, ap waits old_is);
           }
 
@@ -78,10 +124,3 @@ module _ {size busy : ℕ} {ws : List (List Event)} (kept : IsRowKept size busy 
 
       pub less_kept : (new : List Event) (b : ℕ) → length new ≡ length old - 1 → b ≡ from_bool (length old == 1) → IsRowKept size (busy - b) (set ws p new)
       less_kept new b less only = set_kept (busy - b) new (omega (arith, less_fits b only, less_waits old new less, only))
-
--- new windows
-pub new_padded : (n : ℕ) (ws : List (List Event)) → ws ≡ none_of n → padded n ws ≡ none_of n
-new_padded n ws is =
-    let count : length ws ≡ n = ap length is ∙ length-replicate n [] in
-    let none : n - length ws ≡ 0 = omega (arith, count) in
-    ap (λ m. ws ++ none_of m) none ∙ (append-nil ws ∙ is)

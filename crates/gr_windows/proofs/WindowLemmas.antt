@@ -3,7 +3,7 @@ use Rattle.std.proofs.lemmas.Grind.{common_steps, get_or-set_at}
 use Rattle.std.proofs.lemmas.Option.{gets}
 use Rattle.gr_clocks.proofs.RowLemmas.{one_item, row_of_item, row_size}
 use Rattle.std.proofs.lemmas.List.{drop_all, drop-drop, get_or-replicate}
-use Rattle.std.proofs.Common.{◌≡◌, ◌⊎◌, inl, inr, ℕ, zero, suc, ◌+◌, ◌-◌, ◌<◌, ◌≤◌, List, [], ◌∷◌, ◌++◌, map, length, get_or, set, slice_get, replicate, drop, take, refl, sym, ◌∙◌, ap, subst, arith, ⊎_elim}
+use Rattle.std.proofs.Common.{◌≡◌, inl, inr, ℕ, zero, suc, ◌+◌, ◌-◌, ◌<◌, ◌≤◌, List, [], ◌∷◌, ◌++◌, map, length, get_or, set, slice_get, replicate, drop, take, refl, sym, ◌∙◌, ap, subst, arith, ⊎_elim}
 use Rattle.std.proofs.lemmas.List.{get_or_past, get_or_read, get_or-set_other, length-replicate, length-set, map-append, take_more}
 use Rattle.std.proofs.Math.Seq.{map-set_same}
 use Rattle.gr_model.specs.declared.event.Event.{Event}

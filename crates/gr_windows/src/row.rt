@@ -1,9 +1,10 @@
 //! The events of the work-items of one group that wait.
 //!
-//! Invariant: it is counted of how many items events wait. Where that is none, the windows can be freed: there are then no
-//! windows, and of each item no event waits.
+//! Invariant: it is counted of how many items events wait. Where that is none, there need be no windows: of each item no event
+//! then waits.
 
 ghost use Rattle.std.specs.Prelude.{◌≡◌, ◌-◌, ◌<◌, ◌++◌, ◌∷◌, [], IfOk, OnOk, OnErr, drop, length, replicate, slice_get, slice_index_or, slice_set, take};
+ghost use Rattle.gr_windows.specs.Rows.{begun};
 
 use crate::window::Window;
 use gr_model::event::Event;
@@ -19,7 +20,7 @@ pub(crate) struct Row<A: Allocator = Global> {
     size: u16,
     /// Of how many items events wait.
     busy: u16,
-    /// The window of each item; none once they were freed.
+    /// The window of each item, or none.
     windows: Vec<Window<A>, A>,
 }
 
@@ -35,23 +36,55 @@ impl<A: Allocator> Model for Row<A> {
     ghost invariant = { λ r. IsRowKept r.size r.busy r.windows.items };
 }
 
+/// The windows of so many items, of whom no event waits.
+fn windows_of<A: Allocator + Copy>(alloc: A, items: u16) -> Result<Vec<Window<A>, A>, Memory>
+    ensures { IfOk result (λ ws. ws.items ≡ replicate items []) }
+{
+    let mut windows = Vec::with_capacity(alloc, usize::from(items))?;
+    for _item in 0..items {
+        windows.push(Window::new(alloc))?;
+    }
+    Ok(windows)
+}
+
+/// Makes the windows of so many items, where there are none.
+fn begin<A: Allocator + Copy>(windows: &mut Vec<Window<A>, A>, items: u16) -> Result<(), Memory>
+    ensures ok { OnOk result (windows.new.items ≡ begun items windows.old.items) }
+    ensures err { OnErr result (windows.new.items ≡ windows.old.items) }
+{
+    if windows.is_empty() {
+        *windows = windows_of(*windows.allocator(), items)?;
+    }
+    Ok(())
+}
+
 impl<A: Allocator + Copy> Row<A> {
-    /// No event of a group of so many items waits.
-    ///
-    /// # Errors
-    /// `Memory`: out of memory.
-    pub(crate) fn new(alloc: A, items: u16) -> Result<Row<A>, Memory>
-        ensures { IfOk result (λ r. r ≡ replicate items []) }
+    /// No event of a group of so many items waits. It takes no memory.
+    pub(crate) fn new(alloc: A, items: u16) -> Row<A>
+        ensures { result ≡ replicate items [] }
     {
-        let mut windows = Vec::new(alloc);
-        for _item in 0..items {
-            windows.push(Window::new(alloc))?;
-        }
-        Ok(Row {
+        Row {
             size: items,
             busy: 0,
-            windows,
-        })
+            windows: Vec::new(alloc),
+        }
+    }
+
+    /// Adds an event of an item behind the others.
+    ///
+    /// # Errors
+    /// `Memory`: out of memory. Nothing is then added.
+    pub(crate) fn push(&mut self, item: u16, event: &Event) -> Result<(), Memory>
+        requires { item < length self.old }
+        ensures ok { OnOk result (self.new ≡ slice_set self.old item (slice_index_or self.old item [] ++ event.now ∷ [])) }
+        ensures err { OnErr result (self.new ≡ self.old) }
+    {
+        begin(&mut self.windows, self.size)?;
+        let place = usize::from(item);
+        let first = self.windows[place].is_empty();
+        self.windows[place].push(event)?;
+        self.busy += u16::from(first);
+        Ok(())
     }
 }
 
@@ -64,25 +97,6 @@ impl<A: Allocator> Row<A> {
             None => None,
             Some(window) => window.get(place),
         }
-    }
-
-    /// Adds an event of an item behind the others.
-    ///
-    /// # Errors
-    /// `Memory`: out of memory, or the windows were freed. Nothing is then added.
-    pub(crate) fn push(&mut self, item: u16, event: &Event) -> Result<(), Memory>
-        requires { item < length self.old }
-        ensures ok { OnOk result (self.new ≡ slice_set self.old item (slice_index_or self.old item [] ++ event.now ∷ [])) }
-        ensures err { OnErr result (self.new ≡ self.old) }
-    {
-        let place = usize::from(item);
-        if place >= self.windows.len() {
-            return Err(Memory);
-        }
-        let first = self.windows[place].is_empty();
-        self.windows[place].push(event)?;
-        self.busy += u16::from(first);
-        Ok(())
     }
 
     /// Forgets the first event of an item.

@@ -36,7 +36,7 @@ impl<A: Allocator + Copy> Windows<A> {
     {
         let mut rows = Vec::new(alloc);
         for group in 0..shape.groups() {
-            rows.push(Row::new(alloc, shape.items(group))?)?;
+            rows.push(Row::new(alloc, shape.items(group)))?;
         }
         Ok(Windows { rows })
     }
@@ -50,10 +50,10 @@ impl<A: Allocator + Copy> Windows<A> {
         requires { slice_index (map length self) group ≡ 0 }
         ensures { IfOk result (λ w. AddsItems self group items w) }
     {
-        let added = Row::new(alloc, items)?;
+        let added = Row::new(alloc, items);
         let Windows { mut rows } = self;
         while rows.len() <= usize::from(group) {
-            rows.push(Row::new(alloc, 0)?)?;
+            rows.push(Row::new(alloc, 0))?;
         }
         rows[usize::from(group)] = added;
         Ok(Windows { rows })
@@ -74,8 +74,10 @@ impl<A: Allocator> Windows<A> {
     /// Adds an event of an item behind the others.
     ///
     /// # Errors
-    /// `Memory`: out of memory, or the memory of the item's group was freed. Nothing is then added.
+    /// `Memory`: out of memory. Nothing is then added.
     pub fn push(&mut self, item: ItemId, event: &Event) -> Result<(), Memory>
+    where
+        A: Copy,
         requires { HasItem (map length self.old) item }
         ensures ok { OnOk result (Changes self.old item (window_of self.old item ++ event.now ∷ []) self.new) }
         ensures err { OnErr result (self.new ≡ self.old) }
@@ -111,7 +113,7 @@ impl<A: Allocator> Windows<A> {
         }
     }
 
-    /// Frees the memory of a group of whose items no event waits. Tells whether that is so. No event can be added to such a group.
+    /// Frees the memory of a group of whose items no event waits. Tells whether that is so.
     pub fn free(&mut self, group: u16) -> bool
         ensures { self.new ≡ self.old }
     {

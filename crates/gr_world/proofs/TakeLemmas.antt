@@ -19,7 +19,7 @@ use Rattle.gr_order.specs.Sequences.{IsSequence, Sequence, taking}
 use Rattle.gr_world.specs.declared.step.Step.TheVariants.{Take}
 use Rattle.gr_world.specs.declared.step.StepError.TheVariants.{Empty}
 use Rattle.gr_world.specs.Queues.{Bounded, leaving}
-use Rattle.gr_world.specs.Steps.{IsStepRefusal, IsWorldStep}
+use Rattle.gr_world.specs.Steps.{IsAllowed, IsStepRefusal, IsWorldStep}
 use Rattle.gr_world.specs.Worlds.{AreDelivered, ArePassedOn, IsWorld, World, intake_at, no_queue, queue_of, taking_front}
 use Rattle.gr_world.proofs.Changes.{where_set}
 
@@ -109,6 +109,12 @@ module _ (w : World) (world : IsWorld w) (q : ℕ) (s : Sent) (rest : List Sent)
       } in
       assumption (sequence, queues, places, delivered, passed, world)
 
+  pub take_allowed : IsAllowed w (Take q)
+  take_allowed =
+      let good : ¬ (w.config.queues ≤ q) = λ bad. omega (arith, bad, there, world.queues) in
+      let some : (intake_at w q).items ≢ [] = λ empty. let e : s ∷ rest ≡ [] = sym front ∙ empty in absurd (cc) in
+      search
+
   -- the same, where the sequence and the queue are told by equations
   module _ (sequence : Sequence) (left : Bounded Sent) (is : sequence ≡ taking w.sequence s.group s.event) (leaves : left ≡ leaving b rest) where
     taken_is : record w { intakes = set w.intakes q left; sequence = sequence } ≡ new
@@ -120,10 +126,7 @@ module _ (w : World) (world : IsWorld w) (q : ℕ) (s : Sent) (rest : List Sent)
     taken_is_world lawful = subst IsWorld (sym taken_is) (taking_is_world (subst IsSequence is lawful))
 
     pub taken_is_step : IsWorldStep w (Take q) (record w { intakes = set w.intakes q left; sequence = sequence })
-    taken_is_step =
-        let good : ¬ (w.config.queues ≤ q) = λ bad. omega (arith, bad, there, world.queues) in
-        let some : (intake_at w q).items ≢ [] = λ empty. let e : s ∷ rest ≡ [] = sym front ∙ empty in absurd (cc) in
-        record { allowed = search; leads = (s, rest, front, taken_is) }
+    taken_is_step = record { allowed = take_allowed; leads = (s, rest, front, taken_is) }
 
 -- where a queue is empty nothing changes
 

@@ -1,6 +1,6 @@
 -- The world of a run: what was sent, taken, handled, passed on and received; and what is so of every world.
 -- Source: docs/MODEL.md, "The world".
-use Rattle.std.specs.Prelude.{◌≡◌, ◌==◌, ℕ, ◌<◌, ◌%◌, List, [], ◌∷◌, ◌++◌, length, filter, replicate, slice_index_or, slice_set, Option, None, Some, Contains, IsTrue}
+use Rattle.std.specs.Prelude.{◌≡◌, ◌==◌, ℕ, ◌<◌, ◌%◌, List, [], ◌++◌, length, filter, replicate, slice_index_or, slice_set, Option, None, Contains, IsTrue}
 use Rattle.gr_model.specs.declared.event.Event.{Event}
 use Rattle.gr_model.specs.declared.event.Sent.{Sent}
 use Rattle.gr_model.specs.Configs.{IsConfig, Settings, worker_number}

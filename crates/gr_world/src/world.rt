@@ -102,7 +102,7 @@ impl<A: Allocator + Copy> World<A> {
     /// `Memory` if an allocation is refused.
     pub fn new(alloc: A, shape: Shape<A>, config: Config) -> Result<World<A>, Memory>
     where
-        A: Clone,
+        A: Copy,
         ensures made { IfOk result (λ w. w ≡ new_world shape config) }
         ensures world { IfOk result (λ w. IsWorld w) }
     {
@@ -130,7 +130,7 @@ impl<A: Allocator + Copy> World<A> {
     /// never to a `Pass`. Nothing is then changed.
     pub fn step(&mut self, step: Step) -> Result<(), StepError>
     where
-        A: Clone,
+        A: Copy,
         ensures step { OnOk result (IsWorldStep self.old step self.new) }
         ensures err { IfErr result (IsStepRefusal self.old step) }
         ensures pass { result ≡ Err StepError.Memory → step ≢ steps.Pass }
@@ -187,7 +187,7 @@ impl<A: Allocator + Copy> World<A> {
     /// Handles an item's next event; its access, if it has one, is then on its way.
     fn handle(&mut self, item: ItemId) -> Result<(), StepError>
     where
-        A: Clone,
+        A: Copy,
         ensures step { OnOk result (IsWorldStep self.old (steps.Handle item) self.new) }
         ensures err { IfErr result (IsStepRefusal self.old (steps.Handle item)) }
         ensures unchanged { OnErr result (self.new ≡ self.old) }
@@ -204,7 +204,7 @@ impl<A: Allocator + Copy> World<A> {
     /// Handles the next event of an item that is there, where no access is on its way; its access, if it has one, is then.
     fn handle_next(&mut self, item: ItemId) -> Result<(), StepError>
     where
-        A: Clone,
+        A: Copy,
         requires there { HasItem self.old.sent.sizes item }
         requires free { self.old.in_flight ≡ None }
         ensures step { OnOk result (IsWorldStep self.old (steps.Handle item) self.new) }
@@ -224,7 +224,7 @@ impl<A: Allocator + Copy> World<A> {
     /// Handles the barriers of a group's next convergent instance.
     fn meet(&mut self, group: u16) -> Result<(), StepError>
     where
-        A: Clone,
+        A: Copy,
         ensures step { OnOk result (IsWorldStep self.old (steps.Meet group) self.new) }
         ensures err { IfErr result (IsStepRefusal self.old (steps.Meet group)) }
         ensures unchanged { OnErr result (self.new ≡ self.old) }
@@ -255,7 +255,7 @@ impl<A: Allocator + Copy> World<A> {
     /// Tries the steps in order. Returns how many were refused.
     pub fn run(&mut self, steps: &[Step]) -> u64
     where
-        A: Clone,
+        A: Copy,
         ensures { Runs self.old steps.now self.new result }
     {
         let mut refused: u64 = 0;
@@ -334,6 +334,8 @@ impl<A: Allocator> World<A> {
 
     /// A group's sender sends an event.
     fn send(&mut self, group: u16, event: Event) -> Result<(), StepError>
+    where
+        A: Copy,
         ensures step { OnOk result (IsWorldStep self.old (steps.Send group event) self.new) }
         ensures err { IfErr result (IsStepRefusal self.old (steps.Send group event)) }
         ensures unchanged { OnErr result (self.new ≡ self.old) }
@@ -346,6 +348,8 @@ impl<A: Allocator> World<A> {
 
     /// A group's sender sends the end of its stream.
     fn close(&mut self, group: u16, cut: bool) -> Result<(), StepError>
+    where
+        A: Copy,
         ensures step { OnOk result (IsWorldStep self.old (steps.Close group cut) self.new) }
         ensures err { IfErr result (IsStepRefusal self.old (steps.Close group cut)) }
         ensures unchanged { OnErr result (self.new ≡ self.old) }
@@ -360,6 +364,8 @@ impl<A: Allocator> World<A> {
     /// Requires: there is such a group, and it may have the record; if that is no end, there is room for the end behind
     /// it.
     fn put(&mut self, group: u16, event: Event) -> Result<(), StepError>
+    where
+        A: Copy,
         requires group { group < length self.old.sent.sizes }
         requires good { IsEventOk event (size_of self.old.sent group) }
         requires room { IsFalse (is_end event) → length (list_of self.old.sent group) + 1 < MOST_RECORDS }
@@ -386,6 +392,8 @@ impl<A: Allocator> World<A> {
 
     /// The sequencer takes the record at the front of an intake queue.
     fn take(&mut self, queue: u16) -> Result<(), StepError>
+    where
+        A: Copy,
         ensures step { OnOk result (IsWorldStep self.old (steps.Take queue) self.new) }
         ensures err { IfErr result (IsStepRefusal self.old (steps.Take queue)) }
         ensures unchanged { OnErr result (self.new ≡ self.old) }

@@ -1,5 +1,5 @@
 use Rattle.std.proofs.Common.{refl, arith, inl, inr, sym, subst, ⊎_elim}
-use Rattle.gr_agenda.specs.Lists.{IsAmong, bucket_of}
+use Rattle.gr_agenda.specs.Lists.{IsAmong}
 use Rattle.gr_agenda.proofs.ListLemmas.{waiting_cases, waiting_in}
 use Rattle.gr_agenda.proofs.waiting.wake.Goals as goal
 

@@ -8,11 +8,11 @@ pub loop-alloc-preserved : goal.loop-alloc-preserved
 loop-alloc-preserved g c =
     let groups = c.loop-alloc.groups.items in
     let over : length groups ≤ c.args.group = omega (arith, c.loop-alloc-test.true, c.from.ensures) in
-    puts_more (empty 0) groups c.push.new.self.items c.args.group c.in_ok-new.field-0 c.args.groups.now.items c.loop-alloc.invariant over c.in_ok-new.ensures c.in_ok-push.ensures.items
+    puts_more (empty 0) groups c.push.new.self.items c.args.group c.new.result c.args.groups.now.items c.loop-alloc.invariant over c.new.ensures c.in_ok-push.ensures.items
 
 pub returns : goal.returns
 returns g c =
     let groups = c.loop-alloc.groups.items in
     let there : c.args.group < length groups = omega (arith, c.loop-alloc-test.false, c.from.ensures) in
-    ap (λ (p : ℕ). set groups p c.in_ok-added.added) c.from-2.ensures
-    ∙ (puts_last (empty 0) groups c.args.group c.in_ok-added.added c.args.groups.now.items c.loop-alloc.invariant there ∙ ap (put (empty 0) c.args.groups.now.items c.args.group) c.in_ok-added.ensures)
+    ap (λ (p : ℕ). set groups p c.new-added.result) c.from-2.ensures
+    ∙ (puts_last (empty 0) groups c.args.group c.new-added.result c.args.groups.now.items c.loop-alloc.invariant there ∙ ap (put (empty 0) c.args.groups.now.items c.args.group) c.new-added.ensures)

@@ -71,3 +71,6 @@ invariant_of-self-in-Group g c = (
       c.lanes-taken.ensures.sequence c.in_ok-take.ensures.ok.0 c.take.new.self c.in_ok-take.ensures.ok.1 c.wake_group-in-Group.ensures.group c.take.ensures.sequence.prefixes c.wake_group-in-Group.ensures.items,
   undiverged_wide c.self.inside.order c.take.new.self c.lanes-taken.ensures.sequence c.args.group c.args.event c.in_ok-take.ensures.ok.0 c.in_ok-take.ensures.ok.1 c.self.inside.undiverged.items c.self.invariant.1 c.wake_group-in-Group.new.undiverged.items c.wake_group-in-Group.ensures.forgotten,
 )
+
+pub invariant_of-self : goal.invariant_of-self
+invariant_of-self g c = rw c.in_err-take.ensures.unchanged c.self.invariant

@@ -1,3 +1,7 @@
+use Rattle.std.proofs.Common.{ap, ◌∙◌}
+use Rattle.std.proofs.lemmas.Result.{err_from_is_err_and}
+use Rattle.gr_lanes.specs.Indices.{remembered_of}
+use Rattle.gr_lanes.proofs.GroupLemmas.{unmoved}
 use Rattle.gr_lanes.proofs.GroupLemmas.{taken_groups, taken_is}
 use Rattle.gr_lanes.proofs.lanes.Lanes.take_accepted.Goals as goal
 
@@ -9,3 +13,8 @@ returns-clause-ok g c = taken_is c.self.invariant c.self.view_is c.from.ensures 
 
 pub returns-clause-prefixes : goal.returns-clause-prefixes
 returns-clause-prefixes g c = (taken_groups c.self.invariant c.self.view_is c.from.ensures c.index_mut.ensures.value c.requires.can c.requires.good c.requires.room c.in_ok-take.ensures.ok).prefixes
+
+pub returns-in_err-take-clause-unchanged : goal.returns-in_err-take-clause-unchanged
+returns-in_err-take-clause-unchanged g c =
+    let p = err_from_is_err_and c.from_residual.result c.from_residual.ensures.1 in
+    rw (p.1) (ap (remembered_of c.self.inside.shape) (unmoved c.self.invariant c.self.view_is c.from.ensures c.index_mut.ensures.value c.in_err-take.ensures.err) ∙ c.self.view_is)

@@ -1,4 +1,4 @@
-use Rattle.std.proofs.Common.{◌∙◌, ap, subst, sym}
+use Rattle.std.proofs.Common.{◌∙◌, ap, arith, length, subst, sym}
 use Rattle.gr_lanes.specs.Takes.{next_of, with_record}
 use Rattle.gr_steps.specs.Steps.{IsReady}
 use Rattle.gr_order.specs.Sequences.{Sequence}
@@ -8,7 +8,7 @@ use Rattle.gr_order.proofs.schedule.Schedule.at_once.Goals as goal
 pub returns-in-None-waiting-clause-goes : goal.returns-in-None-waiting-clause-goes
 returns-in-None-waiting-clause-goes g c =
     let none = sym c.waiting.ensures ∙ c.in-None-waiting.is in
-    let go = goes_at_once c.self.invariant.kept c.args.group c.args.event.now none c.in-None.ensures.fault (c.is_mere_access.ensures.0 c.if-not-is_mere_access.false) in (
+    let go = goes_at_once c.self.invariant.kept c.args.group c.args.event.now none c.in-None.ensures.fault (c.is_mere_access.ensures.0 c.if-not-is_mere_access.false) (λ none_taken. absurd (omega (arith, ap length none_taken, c.taken.ensures, c.if-taken-eq0.false))) in (
       rw (← c.self.view_is) go,
       next_is c.self.invariant.kept c.args.group c.args.event.now none c.get.result c.get.ensures.count ∙ ap (λ (v : Sequence). next_of v.taken c.args.group c.args.event.now) c.self.view_is,
     )
@@ -17,7 +17,7 @@ pub returns-in-None-waiting-clause-ready : goal.returns-in-None-waiting-clause-r
 returns-in-None-waiting-clause-ready g c =
     let q : Sequence = record { taken = c.self.inside.lanes.streams; handled = c.self.inside.handled } in
     let none = sym c.waiting.ensures ∙ c.in-None-waiting.is in
-    let go = goes_at_once c.self.invariant.kept c.args.group c.args.event.now none c.in-None.ensures.fault (c.is_mere_access.ensures.0 c.if-not-is_mere_access.false) in
+    let go = goes_at_once c.self.invariant.kept c.args.group c.args.event.now none c.in-None.ensures.fault (c.is_mere_access.ensures.0 c.if-not-is_mere_access.false) (λ none_taken. absurd (omega (arith, ap length none_taken, c.taken.ensures, c.if-taken-eq0.false))) in
     let is = next_is c.self.invariant.kept c.args.group c.args.event.now none c.get.result c.get.ensures.count in
     let ready = ready_at_once c.self.invariant.kept c.args.group c.args.event.now go in
     rw (← c.self.view_is) (subst (IsReady (with_record q.taken c.args.group c.args.event.now) q.handled) (sym is) ready)

@@ -14,4 +14,4 @@ loop-group-init g c = c.new-rows.ensures.items
 pub loop-group-preserved : goal.loop-group-preserved
 loop-group-preserved g c =
     c.in_ok-push.ensures.items
-    ∙ one_row_more c.args.shape.now c.loop-group.group c.loop-group.rows.items c.in_ok-new.field-0 (omega (arith, c.loop-group-test.true, c.groups-group-end.ensures.count)) c.loop-group.invariant (c.in_ok-new.ensures ∙ ap none_of c.items.ensures.size)
+    ∙ one_row_more c.args.shape.now c.loop-group.group c.loop-group.rows.items c.new.result (omega (arith, c.loop-group-test.true, c.groups-group-end.ensures.count)) c.loop-group.invariant (c.new.ensures ∙ ap none_of c.items.ensures.size)

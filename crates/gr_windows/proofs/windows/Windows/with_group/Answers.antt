@@ -12,10 +12,10 @@ pub loop-alloc-preserved : goal.loop-alloc-preserved
 loop-alloc-preserved g c =
     let rows = c.loop-alloc.rows.items in
     let over : length rows ≤ c.args.group = omega (arith, c.loop-alloc-test.true, c.from.ensures) in
-    puts_more [] rows c.push.new.self.items c.args.group c.in_ok-new.field-0 c.args.self c.loop-alloc.invariant over c.in_ok-new.ensures c.in_ok-push.ensures.items
+    puts_more [] rows c.push.new.self.items c.args.group c.new.result c.args.self c.loop-alloc.invariant over c.new.ensures c.in_ok-push.ensures.items
 
 pub returns : goal.returns
 returns g c =
     let rows = c.loop-alloc.rows.items in
     let there : c.args.group < length rows = omega (arith, c.loop-alloc-test.false, c.from.ensures) in
-    rw c.from-2.ensures (adds_items c.args.self c.args.group c.args.items c.in_ok-added.added _ c.requires c.in_ok-added.ensures (puts_last [] rows c.args.group c.in_ok-added.added c.args.self c.loop-alloc.invariant there))
+    rw c.from-2.ensures (adds_items c.args.self c.args.group c.args.items c.new-added.result _ c.requires c.new-added.ensures (puts_last [] rows c.args.group c.new-added.result c.args.self c.loop-alloc.invariant there))

@@ -1,4 +1,4 @@
-use Rattle.std.proofs.Common.{◌+◌, ◌<◌, ◌≤◌, ℕ, rules, inr, ap, arith, length, subst, sym, true≢false, ⊎_elim}
+use Rattle.std.proofs.Common.{◌+◌, ◌<◌, ◌≤◌, ℕ, rules, ◌⊎◌, inl, inr, ap, arith, length, subst, sym, true≢false, ⊎_elim}
 use Rattle.std.proofs.lemmas.Result.{IfErr-weaker, on_ok_weaker}
 use Rattle.gr_model.specs.declared.event.Event.{Event}
 use Rattle.gr_model.specs.declared.limits.TheConstants.{MOST_RECORDS}
@@ -9,6 +9,7 @@ use Rattle.gr_world.specs.declared.step.StepError.TheVariants.{BadStep, NotOpen,
 use Rattle.gr_world.specs.Putting.{IsPutFault, MayPut, Queues}
 use Rattle.gr_world.specs.Steps.{IsAllowed, IsBad, IsBadEvent, IsStepRefusal}
 use Rattle.gr_world.specs.Worlds.{World}
+use Rattle.gr_world.proofs.world.World.send.Goals.{then-group-groups-via-then-group-groups, then-group-groups-via-else-group-groups+then-is_bad}
 use Rattle.gr_world.proofs.world.World.send.Goals as goal
 
 good_send : (w : World) (g : ℕ) (x : Event) → g < length w.sent.sizes → ¬ IsBadEvent w g x → ¬ IsBad w (Send g x)
@@ -45,3 +46,9 @@ pub returns-clause-err : goal.returns-clause-err
 returns-clause-err g c =
     let good = good_send c.args.self.now c.args.group c.args.event (search rules) (λ ill. true≢false (sym (c.if-is_bad.ensures.1 ill))) in
     IfErr-weaker c.put.result (IsPutFault c.args.self.now c.args.group) (IsStepRefusal c.args.self.now (Send c.args.group c.args.event)) (refused c.args.self.now c.args.group c.args.event good) c.put.ensures.err
+
+pub returns-then-group-groups-clause-err : goal.returns-then-group-groups-clause-err
+returns-then-group-groups-clause-err g c = elim c.then-group-groups.branch as (λ _. (length c.args.self.now.sent.sizes ≤ c.args.group) ⊎ IsBadEvent c.args.self.now c.args.group c.args.event) [
+  | then-group-groups-via-then-group-groups w ↦ inl (subst (λ (v : World). length v.sent.sizes ≤ c.args.group) c.self.view_is (omega (arith, w.if-group-groups.true, c.groups.ensures.count, ap length c.shape.ensures.sizes)))
+  | then-group-groups-via-else-group-groups+then-is_bad w ↦ inr (w.is_bad.ensures.0 w.if-is_bad.true)
+]

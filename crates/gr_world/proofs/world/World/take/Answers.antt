@@ -2,9 +2,9 @@ use Rattle.std.proofs.Common.{ℕ, ◌∙◌, rules, set, subst, sym}
 use Rattle.gr_world.specs.Views.{world_of}
 use Rattle.gr_world.specs.declared.step.Step.TheVariants.{Take}
 use Rattle.gr_world.specs.declared.step.StepError.TheVariants.{Empty}
-use Rattle.gr_world.specs.Steps.{IsStepRefusal, IsWorldStep}
+use Rattle.gr_world.specs.Steps.{IsAllowed, IsStepRefusal, IsWorldStep}
 use Rattle.gr_world.specs.Worlds.{IsWorld, World}
-use Rattle.gr_world.proofs.TakeLemmas.{event_good, intake_back, may_take, popped_is, room_there, take_refused, taken_is_step, taken_is_world}
+use Rattle.gr_world.proofs.TakeLemmas.{event_good, intake_back, may_take, popped_is, room_there, take_allowed, take_refused, taken_is_step, taken_is_world}
 use Rattle.gr_world.proofs.world.World.take.Goals as goal
 
 pub take-requires-clause-good : goal.take-requires-clause-good
@@ -42,3 +42,8 @@ returns-in-None-front-clause-err g c =
 
 pub invariant_of-self-in-None-front : goal.invariant_of-self-in-None-front
 invariant_of-self-in-None-front g c = subst IsWorld (sym (intake_back _ _ _ c.in-Some.ensures.value)) c.self.invariant
+
+pub returns-in-Err-Memory-clause-err : goal.returns-in-Err-Memory-clause-err
+returns-in-Err-Memory-clause-err g c =
+    subst (λ (y : ℕ × World). IsAllowed y.1 (Take y.0)) (λ i. (c.from.ensures i, c.self.view_is i))
+    (take_allowed _ c.self.invariant _ _ _ _ c.in-Some.ensures.value (search rules) c.in-Some-front.ensures.1)

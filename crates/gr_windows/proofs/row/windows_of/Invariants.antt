@@ -1,5 +1,5 @@
 use Rattle.std.proofs.Common.{◌≡◌, [], replicate}
-use Rattle.gr_windows.proofs.row.Row.new.Given as goal
+use Rattle.gr_windows.proofs.row.windows_of.Given as goal
 
 abbrev pub invariant-loop-item : goal.invariant-loop-item
 invariant-loop-item g l = l.windows.items ≡ replicate l._item []
