@@ -1,5 +1,5 @@
 -- The hits of a list with one more access.
-use Rattle.std.proofs.Common.{◌⊎◌, ◌↔◌, ◌+◌, ◌-◌, List, [], ◌∷◌, ◌++◌, arith}
+use Rattle.std.proofs.Common.{◌⊎◌, ◌↔◌, List, [], ◌∷◌, ◌++◌, arith}
 use Rattle.gr_model.specs.Hits.{SomePair}
 use Rattle.gr_model.proofs.Pairs.{SomeOf, PairIn, SomePair-from_in, PairIn-from_some}
 

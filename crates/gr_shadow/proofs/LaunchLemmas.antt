@@ -1,5 +1,5 @@
 -- Shadows of a launch, memory by memory.
-use Rattle.std.proofs.Common.{◌≡◌, ◌≢◌, ◌⊎◌, ◌↔◌, inl, inr, ℕ, ◌+◌, ◌-◌, ◌<◌, ◌==◌, Bool, true, false, List, [], ◌∷◌, ◌++◌, filter, length, get_or, slice_set, slice_get, Option, Some, None, refl, sym, ◌∙◌, ap, subst, arith, ⊎_elim, true≢false}
+use Rattle.std.proofs.Common.{◌≡◌, ◌≢◌, ◌⊎◌, ◌↔◌, inl, inr, ℕ, ◌+◌, ◌<◌, ◌==◌, Bool, true, false, List, [], ◌∷◌, ◌++◌, filter, length, get_or, slice_set, slice_get, Option, Result, Ok, Err, IfOk, Some, None, refl, sym, ◌∙◌, ap, subst, arith, ⊎_elim, true≢false}
 use Rattle.std.specs.Prelude.{unwrap_or}
 use Rattle.std.specs.List.{list_any}
 use Rattle.std.specs.Map.{lookup}
@@ -11,6 +11,7 @@ use Rattle.std.proofs.lemmas.Option.{gets, slice_get-get_or, slice_get_past}
 use Rattle.indexmap.proofs.SetLemmas.{filter_keep, filter_skip}
 use Rattle.gr_model.specs.declared.event.Word.{Word}
 use Rattle.gr_model.specs.declared.event.Word.TheVariants.{Global, Local}
+use Rattle.gr_model.specs.declared.memory.Memory.{Memory}
 use Rattle.gr_model.specs.Hits.{SomePair}
 use Rattle.gr_model.proofs.HitLaws.{IsHit-filter}
 use Rattle.gr_model.proofs.Pairs.{PairIn, PairIn-from_some, SomeOf, SomePair-from_in}
@@ -18,7 +19,7 @@ use Rattle.gr_model.proofs.WordLemmas.{same_from_equal}
 use Rattle.gr_shadow.specs.Clashes.{ClockedAccess, IsClashOf, IsHitIn, clashes}
 use Rattle.gr_shadow.specs.Kept.{Kept, WordShadow, clash_at, no_shadow, same_word, shadow_at}
 use Rattle.gr_shadow.specs.Launches.{LaunchKept, StandsForLaunch, StandsForLocal, accesses_in, is_global, is_local_of, launch_clash_at, local_clash_at}
-use Rattle.gr_shadow.specs.StandsFor.{StandsFor}
+use Rattle.gr_shadow.specs.StandsFor.{IsHitBy, StandsFor}
 use Rattle.gr_shadow.proofs.ListingLemmas.{HasClash, clash_there}
 use Rattle.gr_shadow.proofs.KeepsLemmas.{finds}
 
@@ -76,6 +77,43 @@ is_not_global w g is = grind arith
 
 is_of_no_other : (w : Word) (g h : ℕ) → is_local_of g w ≡ true → h ≢ g → is_local_of h w ≡ false
 is_of_no_other w g h is other = grind (arith, nat_tests)
+
+-- ---- the word that an access answers
+
+same_itself : (w : Word) → same_word w w ≡ true
+same_itself (Global v) = eq-eqb v v refl
+same_itself (Local g v) = grind (arith, nat_tests)
+
+-- a word that an access answers is the access's
+word_of_hit : (accesses : List ClockedAccess) (y : ClockedAccess) (w : Word) → IsHitBy accesses y w → y.word ≡ w
+word_of_hit accesses y w by = by_same (same_word y.word w) refl
+  where
+    by_same : (b : Bool) → same_word y.word w ≡ b → y.word ≡ w
+    by_same true same = same_from_equal y.word w same
+    by_same false other =
+        let part = hit_in_part (λ v. same_word v w) (accesses ++ y ∷ []) w (same_itself w) by.now in
+        absurd (by.before (hit_of_part (λ v. same_word v w) accesses w (subst (λ (l : List ClockedAccess). IsHitIn l w) (as_before (λ v. same_word v w) accesses y other) part)))
+
+-- so it is told by the accesses to its memory
+pub hit_by_part : (keep : Word → Bool) (accesses : List ClockedAccess) (y : ClockedAccess) → keep y.word ≡ true → (w : Word) → IsHitBy (accesses_in keep accesses) y w ↔ IsHitBy accesses y w
+hit_by_part keep accesses y kept w = (
+  λ by.
+      let is = word_of_hit (accesses_in keep accesses) y w by in
+      record {
+        now = hit_of_part keep (accesses ++ y ∷ []) w (subst (λ (l : List ClockedAccess). IsHitIn l w) (sym (more keep accesses y kept)) by.now);
+        before = λ h. by.before (hit_in_part keep accesses w (subst (λ v. keep v ≡ true) is kept) h);
+      },
+  λ by.
+      let is = word_of_hit accesses y w by in
+      record {
+        now = subst (λ (l : List ClockedAccess). IsHitIn l w) (more keep accesses y kept) (hit_in_part keep (accesses ++ y ∷ []) w (subst (λ v. keep v ≡ true) is kept) by.now);
+        before = λ h. by.before (hit_of_part keep accesses w h);
+      },
+)
+
+pub answers_by_part : (keep : Word → Bool) (accesses : List ClockedAccess) (y : ClockedAccess) → keep y.word ≡ true → (r : Result (Option Word) Memory) → IfOk r (λ answer. (w : Word) → answer ≡ Some w ↔ IsHitBy (accesses_in keep accesses) y w) → IfOk r (λ answer. (w : Word) → answer ≡ Some w ↔ IsHitBy accesses y w)
+answers_by_part keep accesses y kept (Ok answer) told = λ w. (λ is. (hit_by_part keep accesses y kept w).0 ((told w).0 is), λ by. (told w).1 ((hit_by_part keep accesses y kept w).1 by))
+answers_by_part keep accesses y kept (Err e) told = tt
 
 -- what holds at each place holds with another element at one place, or with one more
 at_each_set : {X : Type 0} (P : ℕ → Option X → Type 0) (xs : List X) (i : ℕ) (x : X) → i < length xs → P i (Some x) → (j : ℕ) → (j ≢ i → P j (slice_get xs j)) → P j (slice_get (slice_set xs i x) j)

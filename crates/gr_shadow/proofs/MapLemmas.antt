@@ -1,5 +1,5 @@
 -- A map of shadows as what is kept of each word.
-use Rattle.std.proofs.Common.{◌≡◌, ◌≢◌, ◌↔◌, ◌-◌, true, IsTrue, List, [], ◌∷◌, cond, Option, Some, None, Contains, refl, sym, ◌∙◌, ap, subst, arith, true≢false}
+use Rattle.std.proofs.Common.{◌≡◌, ◌↔◌, true, IsTrue, List, [], ◌∷◌, cond, Option, Some, None, Contains, refl, sym, ◌∙◌, ap, subst, arith, true≢false}
 use Rattle.std.specs.Prelude.{unwrap_or}
 use Rattle.std.specs.Map.{lookup, keys_of}
 use Rattle.std.specs.List.{IsDistinct}

@@ -1,5 +1,5 @@
 -- What shadows tell of the accesses that they stand for.
-use Rattle.std.proofs.Common.{◌≡◌, ◌≢◌, ◌⊎◌, ◌↔◌, inl, inr, ◌+◌, ◌-◌, Bool, true, false, ◌&&◌, ◌||◌, IsTrue, List, [], ◌∷◌, ◌++◌, map, if◌then◌else◌, cond, is_some, Option, Some, None, refl, sym, ◌∙◌, ap, subst, arith, ⊎_elim, true≢false}
+use Rattle.std.proofs.Common.{◌≡◌, ◌⊎◌, ◌↔◌, inl, inr, Bool, true, false, ◌&&◌, ◌||◌, IsTrue, List, [], ◌∷◌, ◌++◌, map, if◌then◌else◌, cond, is_some, Option, Some, None, refl, sym, ◌∙◌, ap, subst, arith, ⊎_elim, true≢false}
 use Rattle.std.specs.Prelude.{not, if◌then◌else◌, option_map}
 use Rattle.std.proofs.lemmas.Bool.{or_right, or_parts}
 use Rattle.std.specs.Bool.{then_some}

@@ -10,6 +10,7 @@ ghost use Rattle.gr_model.specs.Reports.{Lists, WordBelow};
 ghost use Rattle.gr_clocks.specs.ClockedAccess.{ClockedAccess, clocked};
 ghost use Rattle.gr_shadow.specs.Clashes.{IsClashIn, IsHitIn};
 ghost use Rattle.gr_shadow.specs.Launches.{StandsForLaunch, StandsForLocal, is_local_of, launch_clash_at, local_clash_at};
+ghost use Rattle.gr_shadow.specs.StandsFor.{IsHitBy};
 
 use crate::clash::Clash;
 use crate::shadows::Shadows;
@@ -67,6 +68,7 @@ fn apply_to<A: Allocator + Copy>(
     access: &Access<A>,
 ) -> Result<Option<Word>, Memory>
     ensures stands { (accesses : List ClockedAccess) → StandsForLocal accesses (Some local.old) → OnOk result (StandsForLocal (accesses ++ clocked access.now ∷ []) (Some local.new)) }
+    ensures word { (accesses : List ClockedAccess) → StandsForLocal accesses (Some local.old) → IfOk result (λ answer. (w : AnyWord) → answer ≡ Some w ↔ IsHitBy accesses (clocked access.now) w) }
     ensures err { OnErr result (local.new ≡ local.old) }
 {
     match local {
@@ -122,6 +124,7 @@ impl<A: Allocator + Copy> LaunchShadows<A> {
     fn apply_local(&mut self, group: u16, access: &Access<A>) -> Result<Option<Word>, Memory>
         requires { is_local_of group access.now.word ≡ true }
         ensures stands { (accesses : List ClockedAccess) → StandsForLaunch accesses self.old → OnOk result (StandsForLaunch (accesses ++ clocked access.now ∷ []) self.new) }
+        ensures word { (accesses : List ClockedAccess) → StandsForLaunch accesses self.old → IfOk result (λ answer. (w : AnyWord) → answer ≡ Some w ↔ IsHitBy accesses (clocked access.now) w) }
         ensures err { (accesses : List ClockedAccess) → StandsForLaunch accesses self.old → OnErr result (StandsForLaunch accesses self.new) }
     {
         self.make_room(group)?;
@@ -134,6 +137,7 @@ impl<A: Allocator + Copy> LaunchShadows<A> {
     /// `Memory` if an allocation is refused, or the shadows of the word were given up. The accesses are then those before the call.
     pub fn apply(&mut self, access: &Access<A>) -> Result<Option<Word>, Memory>
         ensures stands { (accesses : List ClockedAccess) → StandsForLaunch accesses self.old → OnOk result (StandsForLaunch (accesses ++ clocked access.now ∷ []) self.new) }
+        ensures word { (accesses : List ClockedAccess) → StandsForLaunch accesses self.old → IfOk result (λ answer. (w : AnyWord) → answer ≡ Some w ↔ IsHitBy accesses (clocked access.now) w) }
         ensures err { (accesses : List ClockedAccess) → StandsForLaunch accesses self.old → OnErr result (StandsForLaunch accesses self.new) }
     {
         match access.word {
