@@ -1,5 +1,5 @@
 -- The clocks of one work-group: what its items keep, and what all of them count behind a barrier.
-use Rattle.std.proofs.Common.{◌≡◌, ◌≢◌, ℕ, zero, suc, ◌+◌, ◌<◌, ◌≤◌, ◌^◌, All, Bool, true, false, List, [], ◌∷◌, ◌++◌, length, get_or, set, refl, ap, arith}
+use Rattle.std.proofs.Common.{◌≡◌, ◌≢◌, ℕ, zero, suc, ◌+◌, ◌<◌, ◌≤◌, All, Bool, true, false, List, [], ◌∷◌, ◌++◌, length, get_or, set, refl, ap, arith}
 use Rattle.std.proofs.lemmas.Bool.Decides.{nat_tests}
 use Rattle.std.proofs.lemmas.List.{get_or_past, length-set, get_or-set_same, get_or-set_other}
 use Rattle.std.proofs.lemmas.List.Elements.{All-get_or}
@@ -22,9 +22,6 @@ greatest_least (suc n) f x all = grind (arith, all n, greatest_least n f x (λ k
 
 -- ---- what a group keeps
 
-pub keeps_met : (met : Counts) (i : ItemId) (learned : Bool) (c : Counts) → CountSame c met → Keeps met i learned c
-keeps_met met i learned c is = record { least = λ j. omega (arith, is j); most = λ off j other. omega (arith, is j) }
-
 pub keeps_tick : (met : Counts) (i : ItemId) (learned : Bool) (c after : Counts) → Keeps met i learned c → CountsOneMore c i after → Keeps met i learned after
 keeps_tick met i learned c after keeps tick = record {
   least = λ j. omega (arith, keeps.least j, tick.counts j);
@@ -35,13 +32,6 @@ keeps_grown : (met : Counts) (i : ItemId) (learned : Bool) (c after : Counts) �
 keeps_grown met i learned c after keeps grown = record {
   least = λ j. omega (arith, keeps.least j, grown.counts j);
   most = λ off j other. cc;
-}
-
-pub shared_group : (met : Counts) (number : ℕ) (clocks : List Counts) (learned : List Bool) → length clocks < 2 ^ 16 → length learned ≡ length clocks → ((k : ℕ) → k < length clocks → CountSame (get_or clocks k []) met) → IsGroup number met clocks learned
-shared_group met number clocks learned few marks all = record {
-  few = few;
-  marks = marks;
-  each = λ k below. keeps_met met (item_of number k) (get_or learned k false) (get_or clocks k []) (all k below);
 }
 
 module _ (number : ℕ) (met : Counts) (clocks : List Counts) (learned : List Bool) (are : IsGroup number met clocks learned) where

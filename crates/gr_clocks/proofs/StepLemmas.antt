@@ -1,36 +1,11 @@
--- A clock that is made beside an item's counts what the item's then does; what a barrier does in both memories.
-use Rattle.std.proofs.Common.{◌≡◌, ℕ, ◌+◌, ◌<◌, Bool, List, [], map, length, set, sym, ◌∙◌, ap}
+-- What new clocks, a barrier and a group that gets its items are in both memories.
+use Rattle.std.proofs.Common.{◌≡◌, ℕ, ◌<◌, Bool, List, [], map, length, set, sym, ◌∙◌, ap}
 use Rattle.std.proofs.Math.Seq.{map-set_same}
-use Rattle.gr_model.specs.declared.event.Space.{Space}
 use Rattle.gr_model.specs.declared.event.Space.TheVariants.{Global, Local}
-use Rattle.gr_model.specs.declared.event.Scope.{Scope}
-use Rattle.gr_model.specs.declared.event.ItemId.{ItemId}
-use Rattle.gr_model.specs.declared.event.Word.{Word}
-use Rattle.gr_model.specs.Access.{memory_of}
-use Rattle.gr_clocks.specs.Counts.{Counts, count_of, tick_at, CountSame, CountsOneMore}
-use Rattle.gr_clocks.specs.Tables.{AddsItems, ClockTable, AreZero, IsTickOfJoin, MeetsGroup, group_at}
+use Rattle.gr_clocks.specs.Tables.{AddsItems, ClockTable, AreZero, MeetsGroup, group_at}
 use Rattle.gr_clocks.specs.Groups.{GroupClocks, IsSameGroup, IsBehind}
-use Rattle.gr_clocks.specs.ItemClocks.{AddsGroup, ItemClocks, clocks_in, clock_in, AreNew, Ticks, ReleaseClock, IsReleaseOf, clocks_left, Acquires, MeetsClocks, clocks_of, orders, AreOfOneShape}
+use Rattle.gr_clocks.specs.ItemClocks.{AddsGroup, clocks_in, AreNew, MeetsClocks, clocks_of, orders, AreOfOneShape}
 use Rattle.gr_clocks.proofs.TableLemmas.{meets_group, behind_same}
-
--- a clock that was copied before the item ticked, and ticked as the item's did, counts what the item's does
-pub ticked_alike : (old new : ItemClocks) (i : ItemId) (m : Space) (copied raised : Counts) → copied ≡ clock_in old m i → Ticks old i new → CountsOneMore copied i raised → CountSame raised (clock_in new m i)
-ticked_alike old new i m copied raised is_copy ticks tick j =
-    tick.counts j ∙ ap (λ (c : Counts). count_of c j + tick_at i j) is_copy ∙ sym ((ticks.ticks m).item.counts j)
-
--- so does what a release leaves
-pub released : (new : ItemClocks) (i : ItemId) (word : Word) (scope : Scope) (m : Space) (clock : Counts) (result : ReleaseClock) → m ≡ memory_of word → CountSame clock (clock_in new m i) → result ≡ record { word = word; scope = scope; clock = clock } → IsReleaseOf new i word scope result
-released new i word scope m clock result is_memory same is = record {
-  word = ap (λ (r : ReleaseClock). r.word) is;
-  scope = ap (λ (r : ReleaseClock). r.scope) is;
-  counts = λ j. ap (λ (r : ReleaseClock). count_of r.clock j) is ∙ same j ∙ ap (λ (n : Space). count_of (clock_in new n i) j) is_memory;
-}
-
--- what an acquire leaves that is a release too counts what its item's clock in its word's memory does
-pub acquired_left : (old new : ItemClocks) (i : ItemId) (word : Word) (scope : Scope) (m : Space) → m ≡ memory_of word → (releases : List ReleaseClock) → Acquires old i releases new
-    → (result : ReleaseClock) (raised : Counts) → result ≡ record { word = word; scope = scope; clock = raised } → IsTickOfJoin (clock_in old m i) (clocks_left m releases) i raised → IsReleaseOf new i word scope result
-acquired_left old new i word scope m is_memory releases acquires result raised is step =
-    released new i word scope m raised result is_memory (λ j. step.counts j ∙ sym ((acquires.learns m).item.counts j)) is
 
 pub are_new : (sizes : List ℕ) (global local : ClockTable) → AreZero sizes global → AreZero sizes local → AreNew sizes (clocks_of global local)
 are_new sizes global local g l = record {

@@ -18,14 +18,6 @@ use Rattle.gr_clocks.proofs.RowLemmas.{each_push, row_size, row_of_item, entry_s
 numbered : (groups : List GroupClocks) (p : ℕ) → (get_or groups p no_group).number ≡ p → get_or groups p no_group ≡ group_at (table_of groups) p
 numbered groups p is = let row = get_or-map (λ (g : GroupClocks). g.clocks) groups p no_group in λ d. record { number = is d; clocks = sym row d }
 
--- ---- a table without groups
-
-pub no_groups : AreGroups []
-no_groups p within = absurd (omega (arith, within))
-
-pub no_table : AreZero [] (table_of [])
-no_table = record { shape = refl; clocks = λ i j has. let within = has.0 in absurd (omega (arith, within)) }
-
 -- ---- the groups of a table
 
 module _ (groups : List GroupClocks) (t : ClockTable) (are : AreGroups groups) (is : table_of groups ≡ t) where

@@ -14,9 +14,6 @@ returns g c =
       λ spent. absurd (none_spent (λ s. s.now) c.args.snapshots.now c.args.item (rw (← whole) c.loop-snapshot.invariant) spent),
     )
 
-pub loop-snapshot-init : goal.loop-snapshot-init
-loop-snapshot-init g c k d below full = absurd (omega (arith, below))
-
 pub returns-then-is_spent : goal.returns-then-is_spent
 returns-then-is_spent g c =
     let r = c.snapshot-item.result in

@@ -1,9 +1,8 @@
-use Rattle.std.proofs.Common.{◌≡◌, ◌≢◌, ◌∙◌, ◌<◌, ℕ, List, [], length, set, get_or, ap, subst, sym, arith}
+use Rattle.std.proofs.Common.{◌≡◌, ◌∙◌, ◌<◌, List, [], length, set, get_or, ap, subst, sym, arith}
 use Rattle.std.proofs.lemmas.List.{get_or_read, set-get_or}
 use Rattle.std.proofs.lemmas.Result.{err_from_is_err_and}
-use Rattle.gr_clocks.specs.declared.clock.TheConstants.{LARGEST_COUNT}
-use Rattle.gr_clocks.specs.Counts.{Counts, CountsOneMore, count_of}
-use Rattle.gr_clocks.specs.Groups.{item_of, GroupClocks, IsFullClock, IsGroup}
+use Rattle.gr_clocks.specs.Counts.{Counts, CountsOneMore}
+use Rattle.gr_clocks.specs.Groups.{item_of, GroupClocks, IsGroup}
 use Rattle.gr_clocks.proofs.GroupLemmas.{group_ticked}
 use Rattle.gr_clocks.proofs.group.tick_clocks.Goals as goal
 
@@ -21,20 +20,6 @@ invariant_of-other-2 g c =
     let number : c.one.inside.number ≡ c.other.inside.number = ap (λ (x : GroupClocks). x.number) c.one.view_is ∙ sym c.requires.same ∙ ap (λ (x : GroupClocks). x.number) (sym c.other.view_is) in
     let tick : CountsOneMore (get_or c.other.inside.clocks.items c.args.item []) (item_of c.other.inside.number c.args.item) c.raise_both.new.other = rw (← is, ← number) c.in_ok-raise_both.ensures.ok.1 in
     group_ticked c.other.inside.number c.other.inside.met.value c.other.inside.clocks.items c.other.inside.learned.items c.other.invariant c.args.item c.raise_both.new.other there tick
-
-pub raise_both-requires : goal.raise_both-requires
-raise_both-requires g c =
-    let one_there : c.args.item < length c.one.inside.clocks.items = omega (arith, c.requires.items.0, ap (λ (x : GroupClocks). length x.clocks) c.one.view_is) in
-    let one_is = get_or_read c.one.inside.clocks.items c.args.item c.index_mut.result.now one_there c.index_mut.ensures.value [] in
-    let one_room = subst (λ (x : GroupClocks). ¬ IsFullClock x c.args.item) (sym c.one.view_is) c.requires.room.0 in
-    let other_there : c.args.item < length c.other.inside.clocks.items = omega (arith, c.requires.items.1, ap (λ (x : GroupClocks). length x.clocks) c.other.view_is) in
-    let other_is = get_or_read c.other.inside.clocks.items c.args.item c.index_mut-2.result.now other_there c.index_mut-2.ensures.value [] in
-    let other_room = subst (λ (x : GroupClocks). ¬ IsFullClock x c.args.item) (sym c.other.view_is) c.requires.room.1 in
-    let number : c.other.inside.number ≡ c.one.inside.number = ap (λ (x : GroupClocks). x.number) c.other.view_is ∙ c.requires.same ∙ ap (λ (x : GroupClocks). x.number) (sym c.one.view_is) in (
-      subst (λ (x : Counts). count_of x (item_of c.one.inside.number c.args.item) ≢ LARGEST_COUNT) (sym one_is) one_room,
-      subst (λ (x : Counts). count_of x (item_of c.one.inside.number c.args.item) ≢ LARGEST_COUNT) (sym other_is)
-          (subst (λ (n : ℕ). count_of (get_or c.other.inside.clocks.items c.args.item []) (item_of n c.args.item) ≢ LARGEST_COUNT) number other_room),
-    )
 
 -- where memory runs out both clocks are as they were
 

@@ -25,18 +25,6 @@ returns-clause-ok g c =
       ticks_item c.args.other.now _ c.args.item (clock_in_group c.tick_clocks.new.other c.args.item.item) other_item (item_table c.other.inside.groups.items c.args.other.now c.other.invariant c.other.view_is c.args.item c.index_mut-2.result.now c.tick_clocks.new.other (clock_in_group c.tick_clocks.new.other c.args.item.item) other_item c.index_mut-2.ensures.value c.in_ok-tick_clocks.ensures.ok.1.group) other_tick,
     )
 
-pub tick_clocks-requires-clause-items : goal.tick_clocks-requires-clause-items
-tick_clocks-requires-clause-items g c = (
-  (item_read c.one.inside.groups.items c.args.one.now c.one.invariant c.one.view_is c.args.item c.index_mut.result.now c.requires.item c.index_mut.ensures.value).1,
-  (item_read c.other.inside.groups.items c.args.other.now c.other.invariant c.other.view_is c.args.item c.index_mut-2.result.now (rw c.requires.same c.requires.item) c.index_mut-2.ensures.value).1,
-)
-
-pub tick_clocks-requires-clause-same : goal.tick_clocks-requires-clause-same
-tick_clocks-requires-clause-same g c =
-    let one = item_read c.one.inside.groups.items c.args.one.now c.one.invariant c.one.view_is c.args.item c.index_mut.result.now c.requires.item c.index_mut.ensures.value in
-    let other = item_read c.other.inside.groups.items c.args.other.now c.other.invariant c.other.view_is c.args.item c.index_mut-2.result.now (rw c.requires.same c.requires.item) c.index_mut-2.ensures.value in
-    ap (λ (x : GroupClocks). x.number) other.0 ∙ sym (ap (λ (x : GroupClocks). x.number) one.0)
-
 pub tick_clocks-requires-clause-room : goal.tick_clocks-requires-clause-room
 tick_clocks-requires-clause-room g c =
     let one = item_read c.one.inside.groups.items c.args.one.now c.one.invariant c.one.view_is c.args.item c.index_mut.result.now c.requires.item c.index_mut.ensures.value in

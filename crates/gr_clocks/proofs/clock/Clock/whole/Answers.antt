@@ -9,6 +9,3 @@ returns-then-get-self-clause-whole g c j =
     let o : OwnCounts = record { base = c.self.inside.base.value; item = c.self.inside.item; count = c.self.inside.count } in
     let is : o.count ≡ count_of o.base o.item = cc (c.get.ensures.count, c.deref.ensures, c.if-get-self.true) in
     ap (λ (v : Counts). count_of v j) c.in_ok-whole.ensures ∙ sym (with_own o.base o.item o.count is j) ∙ ap (λ (v : Counts). count_of v j) c.self.view_is
-
-pub returns-clause-whole : goal.returns-clause-whole
-returns-clause-whole g c j = ap (λ (v : Counts). count_of v j) c.in_ok-whole-2.ensures.ok ∙ c.in_ok-counts.ensures.same j

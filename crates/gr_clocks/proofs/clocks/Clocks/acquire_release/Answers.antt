@@ -1,12 +1,6 @@
 use Rattle.std.proofs.Common.{◌≡◌, true}
 use Rattle.gr_clocks.proofs.ReleaseLemmas.{all_have_room}
-use Rattle.gr_clocks.proofs.StepLemmas.{acquired_left}
 use Rattle.gr_clocks.proofs.clocks.Clocks.acquire_release.Goals as goal
-
-pub returns-clause-snapshot : goal.returns-clause-snapshot
-returns-clause-snapshot g c =
-    acquired_left c.args.self.now c.learn_and_tick.new.self c.args.item c.args.word c.args.scope c.memory_of.result c.memory_of.ensures
-    _ c.in_ok-learn_and_tick.ensures.ok c.new.result c.in_ok-left.left c.new.ensures c.in_ok-left.ensures.counts
 
 pub behind-requires-clause-their_room : goal.behind-requires-clause-their_room
 behind-requires-clause-their_room g c = all_have_room (λ s. s.now) c.args.snapshots.now c.args.item (λ spent.

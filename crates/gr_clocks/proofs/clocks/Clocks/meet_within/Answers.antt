@@ -1,6 +1,6 @@
 use Rattle.std.proofs.Common.{◌∙◌, ℕ, ◌<◌, length, map, ap, subst, sym}
 use Rattle.std.proofs.lemmas.List.{length-map}
-use Rattle.gr_model.specs.declared.event.Space.TheVariants.{Global, Local}
+use Rattle.gr_model.specs.declared.event.Space.TheVariants.{Local}
 use Rattle.gr_clocks.specs.ItemClocks.{ItemClocks, clocks_in}
 use Rattle.gr_clocks.specs.Tables.{IsGroupFull, group_at}
 use Rattle.gr_clocks.proofs.TableLemmas.{behind_same}
@@ -28,6 +28,3 @@ returns-clause-ok g c =
     let there : c.args.group < length c.self.inside.global = subst (λ (n : ℕ). c.args.group < n) (length-map c.self.inside.global length) sizes in
     let local_there : c.args.group < length c.self.inside.local = subst (λ (n : ℕ). c.args.group < n) (ap length (sym c.self.invariant.same) ∙ length-map c.self.inside.local length) sizes in
     rw (← c.self.view_is) (meets c.args.group c.args.global c.args.local c.self.inside.global c.self.inside.local c.put.new.self c.put-2.new.self c.in_ok-global_group.global_group c.in_ok-local_group.local_group there local_there c.in_ok-global_group.ensures.behind c.put.ensures c.in_ok-local_group.ensures.behind c.put-2.ensures)
-
-pub behind-requires-clause-free : goal.behind-requires-clause-free
-behind-requires-clause-free g c full = c.requires.room (Global, subst (λ (v : ItemClocks). IsGroupFull (clocks_in v Global) c.args.group) c.self.view_is full)

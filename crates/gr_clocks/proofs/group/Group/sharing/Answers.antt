@@ -1,6 +1,6 @@
-use Rattle.std.proofs.Common.{◌≡◌, ◌∙◌, ◌+◌, ◌<◌, ◌^◌, ℕ, length, ap, arith}
+use Rattle.std.proofs.Common.{◌∙◌, ◌+◌, ℕ, length, ap}
 use Rattle.std.proofs.lemmas.List.{length_push}
-use Rattle.gr_clocks.proofs.GroupLemmas.{shared_group, same_more}
+use Rattle.gr_clocks.proofs.GroupLemmas.{same_more}
 use Rattle.gr_clocks.proofs.group.Group.sharing.Goals as goal
 
 pub loop-item-preserved : goal.loop-item-preserved
@@ -8,10 +8,3 @@ loop-item-preserved g c = record {
   count = ap length c.in_ok-push.ensures.items ∙ length_push c.loop-item.clocks.items c.in_ok-sharing.field-0 ∙ ap (λ (n : ℕ). n + 1) c.loop-item.invariant.count;
   shared = same_more c.loop-item.item c.loop-item.clocks.items c.push.new.self.items c.in_ok-sharing.field-0 c.args.met.value c.loop-item.invariant.count c.loop-item.invariant.shared c.in_ok-sharing.ensures.counts c.in_ok-push.ensures.items;
 }
-
-pub invariant_of-result : goal.invariant_of-result
-invariant_of-result g c =
-    let count : length c.loop-item.clocks.items ≡ c.args.size = omega arith in
-    let few : length c.loop-item.clocks.items < 2 ^ 16 = omega arith in
-    let marks : length c.in_ok-learned.learned.items ≡ length c.loop-item.clocks.items = omega (arith, c.in_ok-learned.ensures.len, c.in_ok-learned.learned.ok.0) in
-    shared_group c.args.met.value c.args.number c.loop-item.clocks.items c.in_ok-learned.learned.items few marks (λ k below. c.loop-item.invariant.shared k (omega arith))

@@ -25,6 +25,3 @@ loop-group-preserved g c =
           rw (← mine, ← theirs, w.joined-is) w.in_ok-joined-in-Some.ensures.join
     ] in
     rows_joined_more c.args.self.now c.args.other.now c.loop-group.blocks.items c.push.new.self.items c.match-get.joined c.loop-group.group c.loop-group.invariant.count c.loop-group.invariant.joined row (search rules)
-
-pub loop-group-init : goal.loop-group-init
-loop-group-init g c = record { count = ap length c.in_ok-blocks.ensures.items; joined = λ p below. absurd (omega (arith, below)) }

@@ -2,10 +2,6 @@ use Rattle.gr_clocks.specs.Tables.{clock_at}
 use Rattle.gr_clocks.proofs.TableLemmas.{item_groups, item_read, item_table, learns_and_ticks, tick_grows}
 use Rattle.gr_clocks.proofs.table.Table.learn_and_tick.Goals as goal
 
-pub put_learned-requires-clause-item : goal.put_learned-requires-clause-item
-put_learned-requires-clause-item g c =
-    (item_read c.self.inside.groups.items c.args.self.now c.self.invariant c.self.view_is c.args.item c.index_mut.result.now c.requires.item c.index_mut.ensures.value).1
-
 pub put_learned-requires-clause-grown : goal.put_learned-requires-clause-grown
 put_learned-requires-clause-grown g c =
     rw ((item_read c.self.inside.groups.items c.args.self.now c.self.invariant c.self.view_is c.args.item c.index_mut.result.now c.requires.item c.index_mut.ensures.value).0) (tick_grows (clock_at c.args.self.now c.args.item) _ c.args.item c.in_ok-clock.clock c.in_ok-clock.ensures.counts)

@@ -4,10 +4,6 @@ use Rattle.gr_clocks.specs.Groups.{GroupClocks, clock_in_group, item_of}
 use Rattle.gr_clocks.proofs.TableLemmas.{item_groups, item_read, item_table, ticks_item}
 use Rattle.gr_clocks.proofs.table.Table.put_ticked.Goals as goal
 
-pub put_ticked-requires-clause-item : goal.put_ticked-requires-clause-item
-put_ticked-requires-clause-item g c =
-    (item_read c.self.inside.groups.items c.args.self.now c.self.invariant c.self.view_is c.args.item c.index_mut.result.now c.requires.item c.index_mut.ensures.value).1
-
 pub put_ticked-requires-clause-tick : goal.put_ticked-requires-clause-tick
 put_ticked-requires-clause-tick g c =
     let read = item_read c.self.inside.groups.items c.args.self.now c.self.invariant c.self.view_is c.args.item c.index_mut.result.now c.requires.item c.index_mut.ensures.value in

@@ -1,13 +1,8 @@
-use Rattle.std.proofs.Common.{◌≡◌, ◌<◌, ◌≤◌, [], length, refl, ap, ◌∙◌, arith}
+use Rattle.std.proofs.Common.{◌≡◌, ◌<◌, ◌≤◌, length, refl, ap, ◌∙◌, arith}
 use Rattle.gr_model.specs.declared.event.ItemId.{ItemId}
-use Rattle.gr_model.specs.Groups.{put}
 use Rattle.gr_clocks.specs.Counts.{Counts, count_of}
-use Rattle.gr_clocks.specs.Tables.{ClockTable}
 use Rattle.gr_clocks.proofs.TableLemmas.{added_groups, adds_items, reaches_more}
 use Rattle.gr_clocks.proofs.table.Table.with_group.Goals as goal
-
-pub loop-groups-init : goal.loop-groups-init
-loop-groups-init g c = record { are = c.self.invariant; same = λ row. ap (λ (u : ClockTable). put [] u c.args.group row) c.self.view_is }
 
 pub loop-groups-preserved : goal.loop-groups-preserved
 loop-groups-preserved g c =

@@ -1,11 +1,7 @@
-use Rattle.std.proofs.Common.{◌<◌, ◌≤◌, List, ℕ, [], length, ap, arith}
-use Rattle.gr_model.specs.Groups.{put}
+use Rattle.std.proofs.Common.{◌<◌, ◌≤◌, [], length, arith}
 use Rattle.gr_model.proofs.PutLemmas.{puts_last, puts_more}
 use Rattle.gr_clocks.proofs.TallyLemmas.{adds_counts}
 use Rattle.gr_clocks.proofs.tally.Tally.with_group.Goals as goal
-
-pub loop-alloc-init : goal.loop-alloc-init
-loop-alloc-init g c row = ap (λ (t : List (List ℕ)). put [] t c.args.group row) c.self.view_is
 
 pub loop-alloc-preserved : goal.loop-alloc-preserved
 loop-alloc-preserved g c =
