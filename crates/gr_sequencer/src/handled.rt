@@ -19,3 +19,14 @@ pub enum Handled<A: Allocator = Global> {
         instance: u32,
     },
 }
+
+impl<A: Allocator> Handled<A> {
+    /// The group whose events were handled.
+    #[inline(always)]
+    pub fn group(&self) -> u16 {
+        match self {
+            Handled::One { event, access: _ } => event.at.group,
+            Handled::Meet { group, instance: _ } => *group,
+        }
+    }
+}

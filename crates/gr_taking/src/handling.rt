@@ -35,7 +35,24 @@ pub(crate) fn give<A: Allocator, K: Keeper<A>>(
     }
 }
 
-/// Handles all events that can be handled, and has a keeper add their accesses.
+/// Has a keeper know that a group has ended, once all of it was handled.
+#[inline(always)]
+pub(crate) fn close<A: Allocator + Copy, K: Keeper<A>>(
+    sequencer: &mut Sequencer<A>,
+    keeper: &K,
+    kept: &mut K::Kept,
+    group: u16,
+)
+    requires { IsAlong (K.stands keeper.now) sequencer.old kept.old }
+    ensures unchanged { sequencer.new ≡ sequencer.old }
+    ensures along { IsAlong (K.stands keeper.now) sequencer.new kept.new }
+{
+    if sequencer.close(group) {
+        keeper.close(kept, group);
+    }
+}
+
+/// Handles all events that can be handled, and has a keeper add their accesses and know of groups that end so.
 ///
 /// # Errors
 /// `Memory`: out of memory.
@@ -51,7 +68,9 @@ pub fn handle_ready<A: Allocator + Copy, K: Keeper<A>>(
     ensures along { OnOk result (IsAlong (K.stands keeper.now) sequencer.new kept.new) }
 {
     while let Some(step) = sequencer.step()? {
+        let group = step.group();
         give(keeper, kept, step)?;
+        close(sequencer, keeper, kept, group);
     }
     Ok(())
 }

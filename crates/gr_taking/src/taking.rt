@@ -10,7 +10,7 @@ ghost use Rattle.gr_lanes.specs.Takes.{CanTake, IsEventButItem, with_record};
 ghost use Rattle.gr_order.specs.Sequences.{IsSequence};
 ghost use Rattle.gr_taking.specs.Along.{IsAlong};
 
-use crate::handling::{give, handle_ready};
+use crate::handling::{close, give, handle_ready};
 use crate::keeper::Keeper;
 use crate::turn::Turn;
 use gr_lanes::seq_error::SeqError;
@@ -51,22 +51,6 @@ fn take_one<A: Allocator + Copy, K: Keeper<A>>(
             SeqError::Memory => Err(Memory),
             _ => unreachable!(),
         },
-    }
-}
-
-/// Has a keeper know that a group has ended, once all of it was handled.
-fn close<A: Allocator + Copy, K: Keeper<A>>(
-    sequencer: &mut Sequencer<A>,
-    keeper: &K,
-    kept: &mut K::Kept,
-    group: u16,
-)
-    requires { IsAlong (K.stands keeper.now) sequencer.old kept.old }
-    ensures unchanged { sequencer.new ≡ sequencer.old }
-    ensures along { IsAlong (K.stands keeper.now) sequencer.new kept.new }
-{
-    if sequencer.close(group) {
-        keeper.close(kept, group);
     }
 }
 
