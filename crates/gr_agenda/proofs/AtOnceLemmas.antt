@@ -1,5 +1,5 @@
 -- Where an event is handled as soon as its record is taken, no step becomes ready: the record is taken, its event is handled, and its item has no other.
-use Rattle.std.proofs.Common.{◌≡◌, ◌+◌, ℕ, List, [], ◌∷◌, ◌++◌, true≢false, Option, Some, Vec, slice_get, length, refl, sym, ap, ◌∙◌, subst, inl, inr, ⊎_elim, arith}
+use Rattle.std.proofs.Common.{◌≡◌, ◌+◌, ℕ, List, [], ◌∷◌, ◌++◌, Option, Some, Vec, slice_get, length, refl, sym, ap, subst, inl, inr, ⊎_elim, arith}
 use Rattle.gr_model.specs.declared.event.Event.{Event}
 use Rattle.gr_model.specs.declared.event.EventId.{EventId}
 use Rattle.gr_model.specs.declared.event.ItemId.{ItemId}
@@ -7,7 +7,7 @@ use Rattle.gr_model.specs.declared.event.Name.{Name}
 use Rattle.gr_model.specs.Access.{is_release}
 use Rattle.gr_model.specs.LawfulOrders.{IsIn}
 use Rattle.gr_model.specs.Names.{release_place}
-use Rattle.gr_model.specs.Streams.{ArePrefixes, IsEvent, Streams, place_of}
+use Rattle.gr_model.specs.Streams.{ArePrefixes, IsEvent, Streams}
 use Rattle.gr_model.proofs.Places.{slice_get-append}
 use Rattle.gr_steps.specs.Steps.{CanMeet}
 use Rattle.gr_steps.proofs.BarrierPlaces.{barrier_of, barrier_there}
@@ -70,10 +70,7 @@ module _ {Z : Type 0} (q : Sequence) (is : IsSequence q) (t : Steps) (lists : Li
 
   -- and nobody waits for the event
   no_release : (n : Name) → n.at ≡ e.at → release_place more n ≡ Some e.index → ⊥
-  no_release n at place =
-      let release = passes_there more is_release e n.release (ap (λ i. place_of more is_release i n.release) (sym at) ∙ place) in
-      let same : release.0 ≡ x = let both : Some release.0 ≡ Some x = sym release.1 ∙ there_at_once q.taken g x is.prefixes go.can go.access.ends in cc in
-      true≢false (sym release.2 ∙ (ap is_release same ∙ go.access.release))
+  no_release n at place = grind (arith, passes_there more is_release e, there_at_once q.taken g x is.prefixes go.can go.access.ends)
 
   kept_wide : IsKept q2 wide lists
   kept_wide =

@@ -1,5 +1,5 @@
 -- What a step changes: an item or a group that it does not touch can go on only as before, or by a release that it waited for.
-use Rattle.std.proofs.Common.{◌≡◌, ◌⊎◌, ℕ, List, Some, sym, ap, ◌∙◌, subst, inl, inr, ⊎_elim}
+use Rattle.std.proofs.Common.{arith, ◌≡◌, ◌⊎◌, ℕ, List, Some, ap, ◌∙◌, subst, inl, inr, ⊎_elim}
 use Rattle.gr_model.specs.declared.event.EventId.{EventId}
 use Rattle.gr_model.specs.declared.event.ItemId.{ItemId}
 use Rattle.gr_model.specs.declared.event.Name.{Name}
@@ -29,12 +29,7 @@ module _ (s : Streams) (h h2 : List EventId) (New : EventId → Type 0) (T : Ite
   untouched_in x apart there = ⊎_elim (λ was. was) (λ (new : New x). absurd (apart (adds.touched x new))) (adds.split x there)
 
   pub held_was : (d : EventId) (n : Name) → (T d.at → ⊥) → IsHeldUp s h2 d n → IsHeldUp s h d n
-  held_was d n apart held = record {
-    named = held.named;
-    fresh = λ was. held.fresh (adds.old d was);
-    previous = λ p is. untouched_in p (λ t. apart (subst T is.item t)) (held.previous p is);
-    free = λ was. held.free (was.0, was.1, was.2, adds.old was.0 was.3);
-  }
+  held_was d n apart held = grind (arith, held.named, held.fresh, adds.old d, untouched_in, apart, held.previous, held.free, adds.old)
 
   -- an event that is held up is so by each name by which it was, if the release of that name is not new
   pub still_held : (d : EventId) (n m : Name) → IsHeldUp s h2 d n → IsHeldUp s h d m → ((x : EventId) → New x → x.at ≡ m.at → release_place s m ≡ Some x.index → ⊥) → IsHeldUp s h2 d m
@@ -49,24 +44,15 @@ module _ (s : Streams) (h h2 : List EventId) (New : EventId → Type 0) (T : Ite
     -- it was ready, where the releases that it names were handled before
     waits_was : ((n : Name) → HasName s d n → (f : EventId) × MatchesBy s n d f × IsIn h f) → (x : EventId) → Waits s d x → IsIn h x
     waits_was released x (for_previous p) = untouched_in x (λ t. apart (subst T p.item t)) (ready.waits x (for_previous p))
-    waits_was released x (for_release match) =
-        let there = released match.name match.by.named in
-        subst (IsIn h) (one_release s match.name d there.0 x there.1 match.by) there.2
-    waits_was released x (for_arrival a b met p) =
-        absurd (not_both s met.group met.instance a met.convergent (ready.instance met.group met.instance met.first))
+    waits_was released x (for_release match) = grind (arith, released match.name match.by.named, one_release s match.name d)
+    waits_was released x (for_arrival a b met p) = grind (arith, not_both s met.group met.instance a met.convergent (ready.instance met.group met.instance met.first), ready.instance met.group met.instance met.first)
     waits_was released x (for_meeting a c p met) =
         let before = untouched_in c (λ t. apart (subst T p.item t)) (ready.waits c (for_previous p)) in
         let other = adds.lawful.together before.0 c x a before.1 met in
         (other.0, other.2)
 
     ready_was : ((n : Name) → HasName s d n → (f : EventId) × MatchesBy s n d f × IsIn h f) → IsReady s h d
-    ready_was released = record {
-      event = ready.event;
-      fresh = λ was. ready.fresh (adds.old d was);
-      release = ready.release;
-      waits = waits_was released;
-      instance = ready.instance;
-    }
+    ready_was released = grind (arith, ready.fresh, adds.old d, waits_was released)
 
     -- the release of each of its names was handled before or is new
     was_or_new : (n : Name) → HasName s d n → (f : EventId) × MatchesBy s n d f × (IsIn h f ⊎ New f)
@@ -75,14 +61,7 @@ module _ (s : Streams) (h h2 : List EventId) (New : EventId → Type 0) (T : Ite
         (r.0, r.1, adds.split r.0 (ready.waits r.0 (for_release (record { name = n; by = r.1 }))))
 
     held_up : (n : Name) → HasName s d n → (f : EventId) → MatchesBy s n d f → New f → IsHeldUp s h d n
-    held_up n named f by new = record {
-      named = named;
-      fresh = λ was. ready.fresh (adds.old d was);
-      previous = λ p is. untouched_in p (λ t. apart (subst T is.item t)) (ready.waits p (for_previous is));
-      free = λ there.
-          let index : f.index ≡ there.0.index = let both : Some f.index ≡ Some there.0.index = sym by.place ∙ there.2 in cc in
-          adds.fresh f new (subst (IsIn h) (sym (same_event f there.0 (by.item ∙ sym there.1) index)) there.3);
-    }
+    held_up n named f by new = grind (arith, ready.fresh, adds.old d, untouched_in, apart, ready.waits, adds.fresh f new, same_event f)
 
     -- it was ready before, or a name held it up
     pub ready_or_held : IsReady s h d ⊎ ((n : Name) × IsHeldUp s h d n)
@@ -96,9 +75,7 @@ module _ (s : Streams) (h h2 : List EventId) (New : EventId → Type 0) (T : Ite
 
     -- the release of a name that held it up is new
     pub new_release : (n : Name) → IsHeldUp s h d n → (f : EventId) × MatchesBy s n d f × New f
-    new_release n held =
-        let r = was_or_new n held.named in
-        ⊎_elim (λ (was : IsIn h r.0). absurd (held.free (r.0, r.1.item, r.1.place, was))) (λ (new : New r.0). (r.0, r.1, new)) r.2
+    new_release n held = grind (arith, was_or_new n held.named, held.free)
 
   module _ (g : ℕ) (apart : (i : ItemId) → i.group ≡ g → T i → ⊥) where
     meeting_was : (k : ℕ) (a : Mark) → IsMeeting s h2 g k a → IsMeeting s h g k a

@@ -33,9 +33,7 @@ use Rattle.gr_agenda.proofs.Frames.{Adds, held_was, meets_was, new_release, read
 
 -- the place of an event that passes a test is that of such an event
 pub passes_there : (s : Streams) (test : Event → Bool) (e : EventId) (k : ℕ) → place_of s test e.at k ≡ Some e.index → (x : Event) × (event_at s e ≡ Some x) × (test x ≡ true)
-passes_there s test e k place =
-    let h = places_from-there test 0 (trace_of s e.at) k e.index place in
-    (h.1, (let same : e.index ≡ h.0 = omega (arith, h.2) in ap (slice_get (trace_of s e.at)) same ∙ h.3), h.4)
+passes_there s test e k place = grind (arith, places_from-there test 0 (trace_of s e.at) k e.index place)
 
 -- an event that has a name is there
 pub named_there : (s : Streams) (d : EventId) (n : Name) → HasName s d n → IsEvent s d
@@ -238,14 +236,8 @@ module _ {Z : Type 0} (q : Sequence) (t t2 : Steps) (lists : List (Vec ItemId Z)
   module _ (T : EventId → Type 0) (takes : Takes q.taken longer q.handled T) (decided : (d : EventId) → T d ⊎ (T d → ⊥)) (arrival_was : (n : ℕ) → (n ≡ g → ⊥) → (k i : ℕ) → arrivals longer n k i ≡ arrivals q.taken n k i)
       (items : (d : EventId) → T d → Goes d → Has t2 (Item d.at)) (group : CanMeet longer q.handled g → Has t2 (Group g)) where
     taken_ready : (r : Ready) → CanMake (taking q g x) r → Has t2 r
-    taken_ready (Item i) (d, at, now) = ⊎_elim
-        (λ (own : T d). subst (λ j. Has t2 (Item j)) at (items d own (inl now)))
-        (λ (apart : T d → ⊥). keeps (Item i) (kept.ready (Item i) (d, at, ready_was q.taken longer q.handled T takes d apart now)))
-        (decided d)
-    taken_ready (Group n) can = ⊎_elim
-        (λ (same : n ≡ g). subst (λ m. Has t2 (Group m)) (sym same) (group (subst (λ m. CanMeet longer q.handled m) same can)))
-        (λ (apart : n ≡ g → ⊥). keeps (Group n) (kept.ready (Group n) (arrived_meets q.taken longer q.handled T takes n refl (arrival_was n apart) can)))
-        (cases_eq n g)
+    taken_ready (Item i) (d, at, now) = grind (arith, items d, keeps (Item i), kept.ready (Item i), ready_was q.taken longer q.handled T takes d)
+    taken_ready (Group n) can = grind (arith, group, keeps (Group n), kept.ready (Group n), arrived_meets q.taken longer q.handled T takes n, cases_eq n g)
 
     taken_waits : (d : EventId) (n : Name) → IsHeldUp longer q.handled d n → Has t2 (Item d.at) ⊎ IsNoted longer q.handled lists d
     taken_waits d n held = ⊎_elim

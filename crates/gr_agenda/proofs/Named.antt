@@ -47,7 +47,4 @@ module _ (s : Streams) (handled : List EventId) (frontier : Counts) (first : Are
 -- where an instance of a group may meet, the next event of each of its items is a barrier
 module _ (s : Streams) (handled : List EventId) (frontier : Counts) (first : AreBelowFrontier handled frontier) (i : ItemId) (can : CanMeet s handled i.group) (lt : i.item < size_of s i.group) (index : ℕ) (is : index ≡ count_of frontier i) where
   pub barrier_next : (x : Event) × (event_at s (record { at = i; index = index }) ≡ Some x) × (is_barrier x ≡ true)
-  barrier_next =
-      let stands = (meets_next s handled frontier first i.group can.0 can.1 can.2).each i.item lt in
-      let there = passes_there s is_barrier (record { at = i; index = count_of frontier i }) can.0 stands.place in
-      (there.0, ap (λ (n : ℕ). event_at s (record { at = i; index = n })) is ∙ there.1, there.2)
+  barrier_next = grind (arith, meets_next s handled frontier first i.group can.0 can.1 can.2, passes_there s is_barrier (record { at = i; index = count_of frontier i }) can.0)

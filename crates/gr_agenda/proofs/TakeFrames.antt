@@ -1,5 +1,5 @@
 -- What a record that is taken changes: an item or a group that it does not touch can go on only as before.
-use Rattle.std.proofs.Common.{Contains, cond, is_some, length, ◌+◌, ◌≡◌, ◌<◌, ◌≤◌, ℕ, List, [], ◌∷◌, ◌++◌, Bool, true, false, Some, None, Option, refl, sym, ap, ◌∙◌, subst, inl, inr, ⊎_elim, filter, filter_map, slice_get, arith, append-nil, true≢false}
+use Rattle.std.proofs.Common.{Contains, cond, is_some, length, ◌+◌, ◌≡◌, ◌<◌, ℕ, List, [], ◌∷◌, ◌++◌, Bool, true, false, Some, Option, refl, sym, ap, ◌∙◌, subst, inl, inr, ⊎_elim, filter, filter_map, slice_get, arith, append-nil, true≢false}
 use Rattle.std.specs.List.{cons_option}
 use Rattle.std.proofs.lemmas.List.{get_or-set_same, get_or-set_other}
 use Rattle.gr_model.proofs.Sending.{is_complete-push}
@@ -48,9 +48,7 @@ module _ (s t : Streams) (grows : Grows s t) where
       let more = trace_grows s t grows i in rw (more.1, places_from-append) (slice_get-append (places_from test 0 (trace_of s i)) _ k n at)
 
   place_shrinks : (test : Event → Bool) (e : EventId) (k : ℕ) → IsEvent s e → place_of t test e.at k ≡ Some e.index → place_of s test e.at k ≡ Some e.index
-  place_shrinks test e k there at =
-      let more = trace_grows s t grows e.at in
-      places_from-within test (trace_of s e.at) more.0 k e.index (ap (λ l. slice_get (places_from test 0 l) k) (sym more.1) ∙ at) (slice_get_within (trace_of s e.at) e.index there.0 there.1)
+  place_shrinks test e k there at = grind (arith, trace_grows s t grows e.at, places_from-within test (trace_of s e.at), slice_get_within (trace_of s e.at) e.index there.0 there.1)
 
   name_grows : (e : EventId) (n : Name) → IsEvent s e → HasName s e n → HasName t e n
   name_grows e n there named = subst (λ names. Contains names n) (ap names_of (there.1 ∙ sym (event_grows s t grows e there.0 there.1))) named
@@ -70,29 +68,14 @@ module _ (s t : Streams) (h : List EventId) (T : EventId → Type 0) (takes : Ta
   name_was d apart n named = subst (λ names. Contains names n) (ap names_of (event_was d apart)) named
 
   pub held_was : (d : EventId) (n : Name) → (T d → ⊥) → IsHeldUp t h d n → IsHeldUp s h d n
-  held_was d n apart held = record {
-    named = name_was d apart n held.named;
-    fresh = held.fresh;
-    previous = held.previous;
-    free = λ there. held.free (there.0, there.1, place_grows s t takes.grows is_release n.at n.release there.0.index there.2, there.3);
-  }
+  held_was d n apart held = grind (arith, name_was d apart n held.named, held.fresh, held.previous, held.free, place_grows s t takes.grows is_release n.at n.release)
 
   -- an event is held up by each name by which it was
   pub still_held : (d : EventId) (n : Name) → (T d → ⊥) → IsHeldUp s h d n → IsHeldUp t h d n
-  still_held d n apart held = record {
-    named = subst (λ names. Contains names n) (ap names_of (sym (event_was d apart))) held.named;
-    fresh = held.fresh;
-    previous = held.previous;
-    free = λ there. held.free (there.0, there.1, release_was s t takes.grows n there.0 (handled_event there.0 there.3) there.1 there.2, there.3);
-  }
+  still_held d n apart held = grind (arith, event_was d apart, held.fresh, held.previous, held.free, release_was s t takes.grows n, handled_event)
 
   matches_was : (n : Name) (d f : EventId) → IsEvent s d → IsEvent s f → HasName s d n → MatchesBy t n d f → MatchesBy s n d f
-  matches_was n d f here there named m = record {
-    named = named;
-    item = m.item;
-    place = release_was s t takes.grows n f there m.item m.place;
-    word = sym (word_grows s t takes.grows d here) ∙ (m.word ∙ word_grows s t takes.grows f there);
-  }
+  matches_was n d f here there named m = grind (arith, release_was s t takes.grows n f there m.item m.place, word_grows s t takes.grows d here, word_grows s t takes.grows f there)
 
   pub ready_was : (d : EventId) → (T d → ⊥) → IsReady t h d → IsReady s h d
   ready_was d apart ready =
@@ -239,12 +222,7 @@ module _ (s : Streams) (g : ℕ) (x : Event) (prefixes : ArePrefixes s) (can : C
       mark_there = some_mark (mark_of x) follows.barrier
 
       within : follows.other < size_of s g
-      within = ⊎_elim (λ (lt : follows.other < size_of s g). lt) (λ (ge : size_of s g ≤ follows.other). absurd (beyond ge)) (cases_lt follows.other (size_of s g))
-        where
-          beyond : size_of s g ≤ follows.other → ⊥
-          beyond ge =
-              let none : arrivals s g instance follows.other ≡ None = ap (λ (l : List Event). slice_get (filter_map mark_of l) instance) (no_trace (size_of s g) (list_of s g) (prefixes.each g can.group) follows.other ge) in
-              let clash : None ≡ Some mark_there.0 = sym none ∙ (follows.came ∙ mark_there.1) in cc
+      within = grind (arith, cases_lt follows.other (size_of s g), no_trace (size_of s g) (list_of s g) (prefixes.each g can.group) follows.other, prefixes.each g can.group, follows.came)
 
       only_own : (i : ℕ) (b : Bool) → is_of i x ≡ b → (p : ℕ) (a : Mark) → slice_get (filter_map mark_of (cond b (x ∷ []) [])) p ≡ Some a → (x.item ≡ i) × (p ≡ 0) × (mark_of x ≡ Some a)
       only_own i b is p a at = grind (arith, one_mark, item_is)
@@ -254,13 +232,7 @@ module _ (s : Streams) (g : ℕ) (x : Event) (prefixes : ArePrefixes s) (can : C
       came_before n i a p place at = grind (arith, only_own, instance, count_marks, own, other, within)
 
       pub following_marks : AddsNoMark s more g
-      following_marks n i a arrived =
-          let old = filter_map mark_of (trace_of s (record { group = g; item = i })) in
-          let last : List Mark = filter_map mark_of (cond (is_of i x) (x ∷ []) []) in
-          ⊎_elim
-          (λ (was : slice_get old n ≡ Some a). (i, (arrived.0, was)))
-          (λ (new : (p : ℕ) × (n ≡ length old + p) × (slice_get last p ≡ Some a)). came_before n i a new.0 new.1 new.2)
-          (split_last old last n a (ap (λ (l : List Mark). slice_get l n) (sym (longer_marks i)) ∙ arrived.1))
+      following_marks n i a arrived = grind (arith, arrived.0, came_before n i a, split_last, longer_marks i, arrived.1)
 
     -- a barrier brings a mark to one instance alone
     module _ (barrier : is_barrier x ≡ true) where
