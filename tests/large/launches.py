@@ -1,6 +1,7 @@
 """Launches with many groups, items, records and races."""
 
 import resource
+import struct
 
 from testing.many import accesses, report
 from testing.program import END, ProgramTest, access, header
@@ -76,3 +77,16 @@ class LargeLaunches(ProgramTest):
         path = self.put("stream", b"".join(streams))
         ran = self.gpurace("run", path, preexec_fn=lambda: resource.setrlimit(resource.RLIMIT_AS, (room, room)))
         self.assert_run(ran, report(groups, groups * 256, groups * 1_025, []), 0)
+
+    def test_local_words_of_groups_that_wait_for_the_next_one_take_no_memory(self):
+        """Each of 2,000 groups writes 1,024 local words and waits for the next group. If all were kept, 128 MiB would be too little."""
+        groups, room = 2_000, 128 << 20
+        writes = b"".join(access(word % 256, 1, 1, word) for word in range(1_024))
+        streams = []
+        for group in range(groups):
+            release = b"\x03\x00\x02\x03" + access(0, 0, 0, 4 * group)[4:]
+            acquire = b"\x02\x00\x02\x02" + access(0, 0, 0, 4 * group + 4)[4:12] + struct.pack("<HHI", group + 1, 0, 0)
+            streams.append(b"GRT3" + header(group, 256)[4:] + writes + release + acquire * (group + 1 < groups) + END)
+        path = self.put("stream", b"".join(streams))
+        ran = self.gpurace("replay", path, preexec_fn=lambda: resource.setrlimit(resource.RLIMIT_AS, (room, room)))
+        self.assert_run(ran, report(groups, groups * 256, groups * 1_027 - 1, []), 0)
