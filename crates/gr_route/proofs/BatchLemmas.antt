@@ -1,5 +1,5 @@
 -- Batches, and what is left of one.
-use Rattle.std.proofs.Common.{◌≡◌, ◌≢◌, ℕ, List, [], ◌∷◌, ◌++◌, ◌+◌, ◌-◌, length, take, refl, sym, ap, ◌∙◌, append_assoc, append-nil, length-append, arith}
+use Rattle.std.proofs.Common.{◌≡◌, ◌≢◌, ℕ, List, [], ◌∷◌, ◌++◌, refl, sym, ap, ◌∙◌, append_assoc, append-nil, length-append, arith}
 use Rattle.std.proofs.Math.Seq.{take-append_seam}
 use Rattle.gr_model.specs.declared.event.Event.{Event}
 use Rattle.gr_model.specs.declared.event.Sent.{Sent}
@@ -14,10 +14,7 @@ module _ {T : Type 0} where
   all_of_push (c ∷ cs) b = ap (λ l. c ++ l) (all_of_push cs b) ∙ sym (append_assoc c (all_of cs) b)
 
   pub front_of : (p a r : List T) → p ≡ a ++ r → front p r ≡ a
-  front_of p a r is =
-      ap (λ (y : List T). take (length y - length r) y) is
-      ∙ ap (λ n. take n (a ++ r)) (let n : length (a ++ r) ≡ length a + length r = length-append a r in let e : length (a ++ r) - length r ≡ length a = omega (arith, n) in e)
-      ∙ take-append_seam a r
+  front_of p a r is = grind (arith, length-append a r, take-append_seam a r)
 
   pub front_left : (p a r : List T) → p ≡ a ++ r → p ≡ front p r ++ r
   front_left p a r is = is ∙ ap (λ l. l ++ r) (sym (front_of p a r is))

@@ -293,15 +293,7 @@ next t x d =
 -- after a group's seat was split off or joined back
 pub turned : (p q n : TakerPass) (s t u : List ℕ) (js : List Joined) (r : List Sent) → IsTakerPass p s r → length t ≡ length s → IsSamePass p q → view q ≡ taker_of (view p).popped u js → u ≡ t → IsSamePass q n × (view n ≡ view q)
     → (batches : List (List Sent)) × AgreesWith BatchesAgree (view q) batches → IsTakerPass n t r
-turned p q n s t u js r is places first now same then told =
-    let popped : (view n).popped ≡ (view p).popped = ap (λ (u : IntakeView). u.popped) (then.1 ∙ now) in
-    record {
-      idle = then.0.2 ∙ first.2 ∙ is.idle;
-      known = subst (λ (v : IntakeView). v ≡ taker_of v.popped t v.joined) (sym (then.1 ∙ now)) (ap (λ l. taker_of (view p).popped l js) same);
-      places = places ∙ is.places;
-      left = subst (λ l. l ≡ front l r ++ r) (sym popped) is.left;
-      agrees = (all_of told.0, subst (λ (u : IntakeView). AgreesWith BatchesAgree u told.0) (sym then.1) told.1);
-    }
+turned p q n s t u js r is places first now same then told = grind (arith, then.1, then.0.2, first.2, is.idle, is.places)
 
 -- events are handed out of what was left, or of a batch where nothing was left: the seat before and after it, what was left before and after, and the events
 pub record Hands (p q : TakerPass) (s : List ℕ) (r0 r1 b : List Sent) : Type 0 where

@@ -1,6 +1,5 @@
 -- Prefixes of lists, and what a prefix of a work-group's stream says.
-use Rattle.std.proofs.Common.{◌≡◌, ◌≢◌, List, [], ◌∷◌, ◌++◌, refl, sym, ap, ◌∙◌, subst, append-nil}
-use Rattle.gr_model.specs.Streams.{IsPrefix}
+use Rattle.std.proofs.Common.{arith, ◌≡◌, ◌≢◌, List, [], ◌∷◌, ◌++◌, refl, append-nil}
 use Rattle.gr_model.proofs.StreamPrefixes.{prefix_whole}
 use Rattle.gr_route.specs.Prefixes.{EndMakesAccepted, EndMakesWhole}
 
@@ -19,9 +18,7 @@ not_nil (x ∷ xs) y ys e = cc
 -- ---- laws
 
 pub end_makes_whole : EndMakesWhole
-end_makes_whole n list xs prefix starts whole =
-    let none = prefix_whole n xs starts.0 (subst (IsPrefix n) starts.1 prefix) whole in
-    sym (starts.1 ∙ ap (λ r. xs ++ r) none ∙ append-nil xs)
+end_makes_whole n list xs prefix starts whole = grind (arith, prefix_whole n xs starts.0, starts.1, append-nil xs)
 
 pub end_makes_accepted : EndMakesAccepted
 end_makes_accepted n list prefix whole = record { few = prefix.few; good = prefix.good; ended = whole }

@@ -1,5 +1,5 @@
 -- What holds of each seat's view, where one view changes or one is added.
-use Rattle.std.proofs.Common.{◌≡◌, ◌≢◌, ℕ, zero, suc, false, true, true≢false, List, [], ◌∷◌, ◌++◌, length, set, sym, refl, ◌∙◌, subst, ⊎_elim}
+use Rattle.std.proofs.Common.{arith, ◌≡◌, ◌≢◌, ℕ, zero, suc, false, true, true≢false, List, [], ◌∷◌, ◌++◌, length, set, sym, refl, ◌∙◌, subst}
 use mathlib.Core.Option.{Option, some, none, some-injective, some-ne-none}
 use lib.ListN.{get_elem?}
 use Rattle.crossbeam_queue.specs.Fifo.{Learns}
@@ -11,8 +11,7 @@ module _ {V : Type 0} where
   Each F views = (pass : ℕ) (v : V) → get_elem? views pass ≡ some v → F pass v
 
   pub each_set : (F : ℕ → V → Type 0) (views : List V) (pass : ℕ) (w : V) → F pass w → ((j : ℕ) (u : V) → j ≢ pass → get_elem? views j ≡ some u → F j u) → Each F (set views pass w)
-  each_set F views pass w mine others j u at = ⊎_elim (λ (x : (j ≡ pass) × (w ≡ u)). subst (λ (y : ℕ × V). F y.0 y.1) (λ i. (sym x.0 i, x.1 i)) mine)
-      (λ (x : (j ≢ pass) × (get_elem? views j ≡ some u)). others j u x.0 x.1) (at_set views pass j w u at)
+  each_set F views pass w mine others j u at = grind (arith, others j u, at_set views pass j w u)
 
   pub each_one : (F : ℕ → V → Type 0) (w : V) → F 0 w → Each F (w ∷ [])
   each_one F w f zero u at = subst (λ y. F 0 y) (some-injective w u at) f

@@ -1,5 +1,5 @@
 -- Each kind of step keeps the rule of a work queue, and what the steps tell a seat.
-use Rattle.std.proofs.Common.{◌≡◌, ◌≢◌, ℕ, Bool, false, List, [], ◌∷◌, ◌++◌, Option, length, set, sym, refl, ap, ◌∙◌, subst, ⊎_elim, append_assoc, append-nil, IsTrue, IsFalse}
+use Rattle.std.proofs.Common.{arith, ◌≡◌, ◌≢◌, ℕ, Bool, false, List, [], ◌∷◌, ◌++◌, Option, length, set, sym, refl, ap, ◌∙◌, subst, ⊎_elim, append_assoc, append-nil, IsTrue, IsFalse}
 use Rattle.std.specs.Prelude.{IfSome}
 use Rattle.std.proofs.lemmas.Option.{IfSome_then}
 use mathlib.Core.Option as seat
@@ -45,9 +45,7 @@ module _ {A : Type 0} where
   unstopped_before (Stop ∷ xs) x h = absurd (not_nil xs x [] (h.0 refl))
 
   pub stop_makes_whole : StopMakesWhole A
-  stop_makes_whole list prefix stops starts stopped =
-      let none = none_after prefix starts.0 (subst StopsLast starts.1 stops) stopped in
-      sym (starts.1 ∙ ap (λ r. prefix ++ r) none ∙ append-nil prefix)
+  stop_makes_whole list prefix stops starts stopped = grind (arith, none_after prefix starts.0, starts.1, append-nil prefix)
 
   abbrev Fits : ℕ → seat.Option ℕ → List (Work A) → List (Work A) → ℕ → WorkView A → Type 0
   Fits worker holder sent popped pass v = FitsGiver holder sent pass v × FitsWorker worker holder sent popped pass v
@@ -197,14 +195,7 @@ module _ {A : Type 0} where
   -- after the giver's seat was split off or joined back
   pub turned : (p q n : WorkerPass A) (s t u : Bool) (g : Option (List (Work A))) (r : List (Work A)) → IsWorkerPass p s r → IsSamePass p q → view q ≡ worker_of (view p).popped u g → u ≡ t → IsSamePass q n × (view n ≡ view q)
       → (batches : List (List (Work A))) × AgreesWith BatchesAgree (view q) batches → IsWorkerPass n t r
-  turned p q n s t u g r is first now same then told =
-      let popped : (view n).popped ≡ (view p).popped = ap (λ (u : WorkView A). u.popped) (then.1 ∙ now) in
-      record {
-        idle = then.0.2 ∙ first.2 ∙ is.idle;
-        known = subst (λ (v : WorkView A). v ≡ worker_of v.popped t v.given) (sym (then.1 ∙ now)) (ap (λ b. worker_of (view p).popped b g) same);
-        left = subst (λ l. l ≡ front l r ++ r) (sym popped) is.left;
-        agrees = (all_of told.0, subst (λ (u : WorkView A). AgreesWith BatchesAgree u told.0) (sym then.1) told.1);
-      }
+  turned p q n s t u g r is first now same then told = grind (arith, then.1, then.0.2, first.2, is.idle)
 
   -- work is handed out of what was left, or of a batch where nothing was left: the seat before and after it, what was left before and after, and the work
   pub record Hands (p q : WorkerPass A) (s : Bool) (r0 r1 b : List (Work A)) : Type 0 where
