@@ -117,6 +117,19 @@ unfolding walk_fault
 begins_without_fault true rest = ap₂ (λ (k : Kinds) (w : Walk). or_else k (walk_fault showing [] w rest)) flag_fault takes_flag
 begins_without_fault false rest = refl
 
+-- the walk takes a word, which is no fault
+abbrev Takes : Walk → Text → Walk → Type 0
+Takes w word after = (walked showing.rules [] w word ≡ after) × (turn_fault showing [] w word ≡ [])
+
+-- where a word is a value and no fault, as a plain one is, this is what the walk takes
+abbrev met_at : Walk → Text → Held × Step
+met_at w word = word_met showing.rules [] w.is_trailing w.waiting w.position word w.held
+
+by_value : (w : Walk) (word : Text) → met_at w word ≡ (w.held, value) → word_fault showing [] w.is_trailing w.waiting word w.held ≡ [] →
+    (after_step showing.rules word w (met_at w word).0 (met_at w word).1 ≡ after_step showing.rules word w w.held value)
+    × (or_else (word_fault showing [] w.is_trailing w.waiting word w.held) (step_fault showing w.position (met_at w word).0 (met_at w word).1) ≡ or_else [] (step_fault showing w.position w.held value))
+by_value w word met none = (ap (λ (m : Held × Step). after_step showing.rules word w m.0 m.1) met, ap₂ (λ (k : Kinds) (m : Held × Step). or_else k (step_fault showing w.position m.0 m.1)) none met)
+
 module _ (space number : Text) (space_plain : IsPlain space) (number_plain : IsPlain number) where
   -- the walk behind SPACE, and behind WORD
   abbrev behind_space : Bool → Walk
@@ -136,27 +149,28 @@ module _ (space number : Text) (space_plain : IsPlain space) (number_plain : IsP
   abbrev all_rows : Bool → List Text → List Row
   all_rows long files = base long ++ file_rows files ++ flag_left_out long
 
-  takes_space : (long : Bool) → walked showing.rules [] (begun long) space ≡ behind_space long
+  -- such words are taken, and are no fault
+  space_taken : (long : Bool) → Takes (begun long) space (behind_space long)
   unfolding clap_on_literals
-  takes_space true = ap (λ (m : Held × Step). after_step showing.rules space (begun true) m.0 m.1) (idle_value showing.rules 1 (begun true).held space space_plain)
-  takes_space false = ap (λ (m : Held × Step). after_step showing.rules space (begun false) m.0 m.1) (idle_value showing.rules 1 (begun false).held space space_plain)
+  space_taken true = by_value (begun true) space (idle_value showing.rules _ _ space space_plain) (idle_fault showing _ space space_plain)
+  space_taken false = by_value (begun false) space (idle_value showing.rules _ _ space space_plain) (idle_fault showing _ space space_plain)
 
-  takes_number : (long : Bool) → walked showing.rules [] (behind_space long) number ≡ behind_number long
+  number_taken : (long : Bool) → Takes (behind_space long) number (behind_number long)
   unfolding clap_on_literals
-  takes_number true = ap (λ (m : Held × Step). after_step showing.rules number (behind_space true) m.0 m.1) (idle_value showing.rules 2 (behind_space true).held number number_plain)
-  takes_number false = ap (λ (m : Held × Step). after_step showing.rules number (behind_space false) m.0 m.1) (idle_value showing.rules 2 (behind_space false).held number number_plain)
+  number_taken true = by_value (behind_space true) number (idle_value showing.rules _ _ number number_plain) (idle_fault showing _ number number_plain)
+  number_taken false = by_value (behind_space false) number (idle_value showing.rules _ _ number number_plain) (idle_fault showing _ number number_plain)
 
-  takes_file : (long : Bool) (file : Text) → IsPlain file → walked showing.rules [] (behind_number long) file ≡ with_files long [] file
+  file_taken : (long : Bool) (file : Text) → IsPlain file → Takes (behind_number long) file (with_files long [] file)
   unfolding clap_on_literals
-  takes_file true file plain = ap (λ (m : Held × Step). after_step showing.rules file (behind_number true) m.0 m.1) (idle_value showing.rules 3 (behind_number true).held file plain)
-  takes_file false file plain = ap (λ (m : Held × Step). after_step showing.rules file (behind_number false) m.0 m.1) (idle_value showing.rules 3 (behind_number false).held file plain)
+  file_taken true file plain = by_value (behind_number true) file (idle_value showing.rules _ _ file plain) (idle_fault showing _ file plain)
+  file_taken false file plain = by_value (behind_number false) file (idle_value showing.rules _ _ file plain) (idle_fault showing _ file plain)
 
-  next_file : (long : Bool) (prefix : List Text) (last word : Text) → IsPlain word → walked showing.rules [] (with_files long prefix last) word ≡ with_files long (prefix ++ last ∷ []) word
+  next_taken : (long : Bool) (prefix : List Text) (last word : Text) → IsPlain word → Takes (with_files long prefix last) word (with_files long (prefix ++ last ∷ []) word)
   unfolding clap_on_literals
-  next_file true [] last word plain = ap (λ (m : Held × Step). after_step showing.rules word (with_files true [] last) m.0 m.1) (positional_value showing.rules 3 (with_files true [] last).held word plain)
-  next_file true (f ∷ fs) last word plain = ap (λ (m : Held × Step). after_step showing.rules word (with_files true (f ∷ fs) last) m.0 m.1) (positional_value showing.rules 3 (with_files true (f ∷ fs) last).held word plain)
-  next_file false [] last word plain = ap (λ (m : Held × Step). after_step showing.rules word (with_files false [] last) m.0 m.1) (positional_value showing.rules 3 (with_files false [] last).held word plain)
-  next_file false (f ∷ fs) last word plain = ap (λ (m : Held × Step). after_step showing.rules word (with_files false (f ∷ fs) last) m.0 m.1) (positional_value showing.rules 3 (with_files false (f ∷ fs) last).held word plain)
+  next_taken true [] last word plain = by_value (with_files true [] last) word (positional_value showing.rules _ _ word plain) (positional_no_fault showing _ word plain)
+  next_taken true (f ∷ fs) last word plain = by_value (with_files true (f ∷ fs) last) word (positional_value showing.rules _ _ word plain) (positional_no_fault showing _ word plain)
+  next_taken false [] last word plain = by_value (with_files false [] last) word (positional_value showing.rules _ _ word plain) (positional_no_fault showing _ word plain)
+  next_taken false (f ∷ fs) last word plain = by_value (with_files false (f ∷ fs) last) word (positional_value showing.rules _ _ word plain) (positional_no_fault showing _ word plain)
 
   -- the walk over files
   pub record Ends (long : Bool) (prefix : List Text) (last : Text) (files : List Text) : Type 0 where
@@ -173,42 +187,14 @@ module _ (space number : Text) (space_plain : IsPlain space) (number_plain : IsP
         kept = rest.kept;
         waits = rest.waits;
         all = rest.all ∙ append_assoc prefix (last ∷ []) (file ∷ files);
-        walks = ap (λ (w : Walk). fold (walked showing.rules []) w files) (next_file long prefix last file plain.0) ∙ rest.walks;
+        walks = ap (λ (w : Walk). fold (walked showing.rules []) w files) (next_taken long prefix last file plain.0).0 ∙ rest.walks;
       }
-
-  -- the faults of the words
-
-  space_fault : (long : Bool) → turn_fault showing [] (begun long) space ≡ []
-  unfolding clap_on_literals
-  space_fault true = ap₂ (λ (k : Kinds) (m : Held × Step). or_else k (step_fault showing 1 m.0 m.1)) (idle_fault showing (begun true).held space space_plain) (idle_value showing.rules 1 (begun true).held space space_plain)
-  space_fault false = ap₂ (λ (k : Kinds) (m : Held × Step). or_else k (step_fault showing 1 m.0 m.1)) (idle_fault showing (begun false).held space space_plain) (idle_value showing.rules 1 (begun false).held space space_plain)
-
-  number_fault : (long : Bool) → turn_fault showing [] (behind_space long) number ≡ []
-  unfolding clap_on_literals
-  number_fault true = ap₂ (λ (k : Kinds) (m : Held × Step). or_else k (step_fault showing 2 m.0 m.1)) (idle_fault showing (behind_space true).held number number_plain) (idle_value showing.rules 2 (behind_space true).held number number_plain)
-  number_fault false = ap₂ (λ (k : Kinds) (m : Held × Step). or_else k (step_fault showing 2 m.0 m.1)) (idle_fault showing (behind_space false).held number number_plain) (idle_value showing.rules 2 (behind_space false).held number number_plain)
-
-  file_fault : (long : Bool) (file : Text) → IsPlain file → turn_fault showing [] (behind_number long) file ≡ []
-  unfolding clap_on_literals
-  file_fault true file plain = ap₂ (λ (k : Kinds) (m : Held × Step). or_else k (step_fault showing 3 m.0 m.1)) (idle_fault showing (behind_number true).held file plain) (idle_value showing.rules 3 (behind_number true).held file plain)
-  file_fault false file plain = ap₂ (λ (k : Kinds) (m : Held × Step). or_else k (step_fault showing 3 m.0 m.1)) (idle_fault showing (behind_number false).held file plain) (idle_value showing.rules 3 (behind_number false).held file plain)
-
-  next_fault : (long : Bool) (prefix : List Text) (last word : Text) → IsPlain word → turn_fault showing [] (with_files long prefix last) word ≡ []
-  unfolding clap_on_literals
-  next_fault true [] last word plain =
-      ap₂ (λ (k : Kinds) (m : Held × Step). or_else k (step_fault showing 3 m.0 m.1)) (positional_no_fault showing (with_files true [] last).held word plain) (positional_value showing.rules 3 (with_files true [] last).held word plain)
-  next_fault true (f ∷ fs) last word plain =
-      ap₂ (λ (k : Kinds) (m : Held × Step). or_else k (step_fault showing 3 m.0 m.1)) (positional_no_fault showing (with_files true (f ∷ fs) last).held word plain) (positional_value showing.rules 3 (with_files true (f ∷ fs) last).held word plain)
-  next_fault false [] last word plain =
-      ap₂ (λ (k : Kinds) (m : Held × Step). or_else k (step_fault showing 3 m.0 m.1)) (positional_no_fault showing (with_files false [] last).held word plain) (positional_value showing.rules 3 (with_files false [] last).held word plain)
-  next_fault false (f ∷ fs) last word plain =
-      ap₂ (λ (k : Kinds) (m : Held × Step). or_else k (step_fault showing 3 m.0 m.1)) (positional_no_fault showing (with_files false (f ∷ fs) last).held word plain) (positional_value showing.rules 3 (with_files false (f ∷ fs) last).held word plain)
 
   files_fault : (long : Bool) (prefix : List Text) (last : Text) (files : List Text) → ArePlain files → walk_fault showing [] (with_files long prefix last) files ≡ []
   unfolding walk_fault
   files_fault long prefix last [] plain = refl
   files_fault long prefix last (file ∷ files) plain =
-      ap₂ (λ (k : Kinds) (w : Walk). or_else k (walk_fault showing [] w files)) (next_fault long prefix last file plain.0) (next_file long prefix last file plain.0) ∙ files_fault long (prefix ++ last ∷ []) file files plain.1
+      ap₂ (λ (k : Kinds) (w : Walk). or_else k (walk_fault showing [] w files)) (next_taken long prefix last file plain.0).1 (next_taken long prefix last file plain.0).0 ∙ files_fault long (prefix ++ last ∷ []) file files plain.1
 
   -- the whole command, from the end of its walk
 
@@ -237,18 +223,18 @@ module _ (space number : Text) (space_plain : IsPlain space) (number_plain : IsP
     walks_all : walk showing.rules [] nothing_held (flag_words long ++ space ∷ number ∷ file ∷ files) ≡ with_files long end.kept end.waits
     walks_all =
         begins long (space ∷ number ∷ file ∷ files)
-        ∙ ap (λ (w : Walk). fold (walked showing.rules []) w (number ∷ file ∷ files)) (takes_space long)
-        ∙ ap (λ (w : Walk). fold (walked showing.rules []) w (file ∷ files)) (takes_number long)
-        ∙ ap (λ (w : Walk). fold (walked showing.rules []) w files) (takes_file long file plain.0)
+        ∙ ap (λ (w : Walk). fold (walked showing.rules []) w (number ∷ file ∷ files)) (space_taken long).0
+        ∙ ap (λ (w : Walk). fold (walked showing.rules []) w (file ∷ files)) (number_taken long).0
+        ∙ ap (λ (w : Walk). fold (walked showing.rules []) w files) (file_taken long file plain.0).0
         ∙ end.walks
 
     no_word_fault : walk_fault showing [] (walk_from nothing_held) (flag_words long ++ space ∷ number ∷ file ∷ files) ≡ []
     unfolding walk_fault
     no_word_fault =
         begins_without_fault long (space ∷ number ∷ file ∷ files)
-        ∙ ap₂ (λ (k : Kinds) (w : Walk). or_else k (walk_fault showing [] w (number ∷ file ∷ files))) (space_fault long) (takes_space long)
-        ∙ ap₂ (λ (k : Kinds) (w : Walk). or_else k (walk_fault showing [] w (file ∷ files))) (number_fault long) (takes_number long)
-        ∙ ap₂ (λ (k : Kinds) (w : Walk). or_else k (walk_fault showing [] w files)) (file_fault long file plain.0) (takes_file long file plain.0)
+        ∙ ap₂ (λ (k : Kinds) (w : Walk). or_else k (walk_fault showing [] w (number ∷ file ∷ files))) (space_taken long).1 (space_taken long).0
+        ∙ ap₂ (λ (k : Kinds) (w : Walk). or_else k (walk_fault showing [] w (file ∷ files))) (number_taken long).1 (number_taken long).0
+        ∙ ap₂ (λ (k : Kinds) (w : Walk). or_else k (walk_fault showing [] w files)) (file_taken long file plain.0).1 (file_taken long file plain.0).0
         ∙ files_fault long [] file files plain.1
 
     pub no_fault_below : level_fault showing [] nothing_held (flag_words long ++ space ∷ number ∷ file ∷ files) false [] ≡ []

@@ -10,6 +10,20 @@ ghost use Rattle.gr_arguments.specs.Pages.{rule_for, shape_for, with_commands, w
 use clap::{Arg, ArgAction, Command};
 use std::alloc::{AllocError, Global};
 
+pub const EXPLAIN_USAGE: &str = "\
+gpurace explain [OPTIONS] <SPACE> <WORD> <FILE>...
+       gpurace explain [OPTIONS] <NAME[INDEX]> <FILE>...";
+
+pub const HISTORY_USAGE: &str = "\
+gpurace history [OPTIONS] <SPACE> <WORD> <FILE>...
+       gpurace history [OPTIONS] <NAME[INDEX]> <FILE>...";
+
+pub const RACES_USAGE: &str = "gpurace races [OPTIONS] <FILE>...";
+
+pub const RUN_USAGE: &str = "gpurace run [OPTIONS] <FILE>...";
+
+pub const WHY_HELD_USAGE: &str = "gpurace why-held [OPTIONS] <GROUP> <ITEM> <INDEX> <FILE>...";
+
 const ABOUT: &str =
     "Reports the data races of an OpenCL kernel launch, and its divergent barriers, from its trace";
 
@@ -51,11 +65,6 @@ const USAGE: &str = "\
 gpurace [--json] [FILE]...
        gpurace <COMMAND> ...";
 
-const REPLAY: &str =
-    "Reports on the trace in files, or on standard input; done without a command too";
-
-const REPLAY_USAGE: &str = "gpurace replay [OPTIONS] [FILE]...";
-
 const AFTER_REPLAY: &str = "\
 Example:
   gpurace replay group*.gpurace
@@ -64,11 +73,6 @@ Example:
   race global 16
   end races 1 diverge 0 unmatched 0 held 0";
 
-const PACK: &str =
-    "Writes the bytes of the trace whose text is in files, or on standard input, as in `pack TEXT > FILE`";
-
-const PACK_USAGE: &str = "gpurace pack [FILE]...";
-
 const AFTER_PACK: &str = "\
 Example, with a text of two work-items, of which item 0 writes word 16 of global memory and item 1 reads it:
   gpurace pack < trace.txt > trace.gpurace
@@ -76,10 +80,6 @@ Example, with a text of two work-items, of which item 0 writes word 16 of global
   0 w g 16
   1 r g 16
   end";
-
-const DUMP: &str = "Writes the text of the trace in files, or on standard input";
-
-const DUMP_USAGE: &str = "gpurace dump [OPTIONS] [FILE]...";
 
 const LONG_DUMP: &str = "\
 Writes the text of the trace in files, or on standard input, a line for each header and each record.
@@ -96,11 +96,6 @@ Example:
 
 const PARTIAL: &str = "Writes of a trace that is refused what stands before the fault";
 
-const UPGRADE: &str =
-    "Writes the trace in files, or on standard input, with version 2 in place of version 1, as in `upgrade OLD > NEW`";
-
-const UPGRADE_USAGE: &str = "gpurace upgrade [FILE]...";
-
 const LONG_UPGRADE: &str = "\
 Writes the trace in files, or on standard input: each stream of version 1 as one of version 2, and all others as they are.
 
@@ -112,12 +107,6 @@ Example:
   gpurace upgrade old.gpurace > new.gpurace
   gpurace dump new.gpurace | head -n 1
   group 0 items 2 launch 7 v2";
-
-const EXPLAIN: &str = "Tells of one word which two accesses race on it";
-
-const EXPLAIN_USAGE: &str = "\
-gpurace explain [OPTIONS] <SPACE> <WORD> <FILE>...
-       gpurace explain [OPTIONS] <NAME[INDEX]> <FILE>...";
 
 const LONG_EXPLAIN: &str = "\
 Tells of one word which two accesses race on it, or that it has no race.
@@ -177,10 +166,6 @@ const WORD: &str = "The number of the word, below 4294967296";
 const FILES: &str =
     "The streams of the launch: files with one or several, a folder of them, or - for standard input";
 
-const RACES: &str = "Tells of all races, kind by kind, with two accesses that race";
-
-const RACES_USAGE: &str = "gpurace races [OPTIONS] <FILE>...";
-
 const LONG_RACES: &str = "\
 Tells of all words that have a race, kind by kind: which words they are, and of the first of them two accesses that race.
 
@@ -215,18 +200,10 @@ With --causes the last line of a kind is the cause of all its races, as explain 
   cause no-barrier: nothing orders the two; a barrier with CLK_GLOBAL_MEM_FENCE between them would
   end kinds 1 races 48 diverge 0 unmatched 0 held 0";
 
-const MOST: &str = "Of how many kinds to tell at most";
-
 const PLACES: &str = "A file of lines GROUP ITEM INDEX TEXT: where in the source the access stands";
 
 const BUFFERS: &str =
     "A file of lines g FIRST WORDS NAME or l GROUP FIRST WORDS NAME: which words are which buffer";
-
-const CAUSES: &str = "Tells also the cause of each race that is shown";
-
-const RUN: &str = "Reports on the trace in files, by several threads";
-
-const RUN_USAGE: &str = "gpurace run [OPTIONS] <FILE>...";
 
 const LONG_RUN: &str = "\
 Reports on the trace in files, by several threads: what is written and the status are those of replay on the same streams.
@@ -249,10 +226,6 @@ const QUEUES: &str = "How many queues the records come through, 1 to 4; 1 if not
 const CAPACITY: &str =
     "For how many batches of records each queue has room, 1 to 65536; 1024 if not given";
 
-const CHECK: &str = "Tells which record of a trace is at fault, and what would be right";
-
-const CHECK_USAGE: &str = "gpurace check [OPTIONS] <FILE>...";
-
 const LONG_CHECK: &str = "\
 Tells which record of which file is at fault, what is wrong with it and what would be right; or, of a trace that is taken, how
 many groups, items and records of each kind it has. It looks for no race.";
@@ -265,10 +238,6 @@ Example:
   record 17 byte 352
   wrong: the record's work-item is not below the header's number of work-items
   right: bytes 4 and 5 are the work-item by its place in the group, from 0; often it is the global number that was written";
-
-const WHY_HELD: &str = "Tells why an event is held";
-
-const WHY_HELD_USAGE: &str = "gpurace why-held [OPTIONS] <GROUP> <ITEM> <INDEX> <FILE>...";
 
 const LONG_WHY_HELD: &str = "\
 Tells why an event is held, and so not judged: what it waits for, what that waits for, and so on, to an acquire that names a
@@ -284,12 +253,6 @@ Example:
   held 0 1 0 release 0 0 1
   held 0 0 1 behind 0 0 0
   held 0 0 0 absent 0 3 0";
-
-const HISTORY: &str = "Tells of one word all accesses, and which are ordered behind which";
-
-const HISTORY_USAGE: &str = "\
-gpurace history [OPTIONS] <SPACE> <WORD> <FILE>...
-       gpurace history [OPTIONS] <NAME[INDEX]> <FILE>...";
 
 const LONG_HISTORY: &str = "\
 Tells of one word all accesses to it, in an order in which they may have happened, and behind which of those above it each is
@@ -311,12 +274,6 @@ With side files, whose lines say where accesses stand and which words are which 
   access 0 0 0 write record 0 phase 0 behind none at scan.cl:12:5
   access 0 1 1 read record 3 phase 1 behind all at scan.cl:14:9
   end accesses 2 held 0 races no";
-
-const GROUP: &str = "The number of the event's work-group";
-
-const ITEM: &str = "The number of its work-item in the group";
-
-const INDEX: &str = "The number of its record in the work-item's trace";
 
 /// What a command takes.
 #[derive(Clone, Copy)]
@@ -346,32 +303,32 @@ struct Page {
 const PAGES: [Page; 10] = [
     Page {
         name: "replay",
-        usage: REPLAY_USAGE,
-        about: REPLAY,
+        usage: "gpurace replay [OPTIONS] [FILE]...",
+        about: "Reports on the trace in files, or on standard input; done without a command too",
         long_about: None,
         example: AFTER_REPLAY,
         parameters: &[Parameter::Flag("json", JSON)],
     },
     Page {
         name: "pack",
-        usage: PACK_USAGE,
-        about: PACK,
+        usage: "gpurace pack [FILE]...",
+        about: "Writes the bytes of the trace whose text is in files, or on standard input, as in `pack TEXT > FILE`",
         long_about: None,
         example: AFTER_PACK,
         parameters: &[],
     },
     Page {
         name: "dump",
-        usage: DUMP_USAGE,
-        about: DUMP,
+        usage: "gpurace dump [OPTIONS] [FILE]...",
+        about: "Writes the text of the trace in files, or on standard input",
         long_about: Some(LONG_DUMP),
         example: AFTER_DUMP,
         parameters: &[Parameter::Flag("partial", PARTIAL)],
     },
     Page {
         name: "upgrade",
-        usage: UPGRADE_USAGE,
-        about: UPGRADE,
+        usage: "gpurace upgrade [FILE]...",
+        about: "Writes the trace in files, or on standard input, with version 2 in place of version 1, as in `upgrade OLD > NEW`",
         long_about: Some(LONG_UPGRADE),
         example: AFTER_UPGRADE,
         parameters: &[],
@@ -379,7 +336,7 @@ const PAGES: [Page; 10] = [
     Page {
         name: "explain",
         usage: EXPLAIN_USAGE,
-        about: EXPLAIN,
+        about: "Tells of one word which two accesses race on it",
         long_about: Some(LONG_EXPLAIN),
         example: AFTER_EXPLAIN,
         parameters: &[
@@ -395,14 +352,14 @@ const PAGES: [Page; 10] = [
     Page {
         name: "races",
         usage: RACES_USAGE,
-        about: RACES,
+        about: "Tells of all races, kind by kind, with two accesses that race",
         long_about: Some(LONG_RACES),
         example: AFTER_RACES,
         parameters: &[
-            Parameter::Valued("most", "N", MOST),
+            Parameter::Valued("most", "N", "Of how many kinds to tell at most"),
             Parameter::Valued("places", "FILE", PLACES),
             Parameter::Valued("buffers", "FILE", BUFFERS),
-            Parameter::Flag("causes", CAUSES),
+            Parameter::Flag("causes", "Tells also the cause of each race that is shown"),
             Parameter::Flag("json", JSON),
             Parameter::Files,
         ],
@@ -410,7 +367,7 @@ const PAGES: [Page; 10] = [
     Page {
         name: "history",
         usage: HISTORY_USAGE,
-        about: HISTORY,
+        about: "Tells of one word all accesses, and which are ordered behind which",
         long_about: Some(LONG_HISTORY),
         example: AFTER_HISTORY,
         parameters: &[
@@ -425,7 +382,7 @@ const PAGES: [Page; 10] = [
     Page {
         name: "run",
         usage: RUN_USAGE,
-        about: RUN,
+        about: "Reports on the trace in files, by several threads",
         long_about: Some(LONG_RUN),
         example: AFTER_RUN,
         parameters: &[
@@ -438,8 +395,8 @@ const PAGES: [Page; 10] = [
     },
     Page {
         name: "check",
-        usage: CHECK_USAGE,
-        about: CHECK,
+        usage: "gpurace check [OPTIONS] <FILE>...",
+        about: "Tells which record of a trace is at fault, and what would be right",
         long_about: Some(LONG_CHECK),
         example: AFTER_CHECK,
         parameters: &[Parameter::Flag("json", JSON), Parameter::Files],
@@ -447,14 +404,14 @@ const PAGES: [Page; 10] = [
     Page {
         name: "why-held",
         usage: WHY_HELD_USAGE,
-        about: WHY_HELD,
+        about: "Tells why an event is held",
         long_about: Some(LONG_WHY_HELD),
         example: AFTER_WHY_HELD,
         parameters: &[
             Parameter::Flag("json", JSON),
-            Parameter::Wanted("GROUP", GROUP),
-            Parameter::Wanted("ITEM", ITEM),
-            Parameter::Wanted("INDEX", INDEX),
+            Parameter::Wanted("GROUP", "The number of the event's work-group"),
+            Parameter::Wanted("ITEM", "The number of its work-item in the group"),
+            Parameter::Wanted("INDEX", "The number of its record in the work-item's trace"),
             Parameter::Files,
         ],
     },

@@ -1,7 +1,7 @@
 //! What the words of the program's command line ask for.
 #![tactic(auto)]
 
-mod command;
+pub mod command;
 pub mod laws;
 pub mod request;
 mod values;

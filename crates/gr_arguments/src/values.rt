@@ -87,10 +87,7 @@ pub(crate) fn races_of(values: &ArgMatches<'_>) -> Result<Query, Misuse>
     };
     match number_of(text) {
         None => Err(Misuse::NoCount),
-        Some(most) => Ok(Query::Races {
-            most: Some(most),
-            causes,
-        }),
+        most => Ok(Query::Races { most, causes }),
     }
 }
 

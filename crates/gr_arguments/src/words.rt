@@ -46,12 +46,7 @@ pub fn word_named(space: &str, number: &str) -> Option<Word>
 fn short_of(text: &str) -> Option<u16>
     ensures { MatchOption result ((n : ℕ) → ¬ IsShortNumber text.now n) (λ n. IsShortNumber text.now n) }
 {
-    let number = number_of(text)?;
-    if number < 65536 {
-        Some(number as u16)
-    } else {
-        None
-    }
+    u16::try_from(number_of(text)?).ok()
 }
 
 /// The event of this group, item and index: numbers in decimal digits, the first two below 2^16 and the third below 2^32.
