@@ -54,13 +54,8 @@ fn launch_of<A: Allocator + Copy>(alloc: A, inputs: &[Vec<u8, A>]) -> Result<Tra
 pub enum Checked<'a> {
     /// The files are those of a launch.
     Accepted(Counts),
-    /// They are not.
-    Refused {
-        /// The first fault.
-        fault: Fault,
-        /// What it is about.
-        place: FaultPlace<'a>,
-    },
+    /// They are not: the first fault, and what it is about.
+    Refused { fault: Fault, place: FaultPlace<'a> },
 }
 
 impl Checked<'_> {
@@ -76,9 +71,6 @@ impl Checked<'_> {
 }
 
 /// Judges inputs as streams of a launch, one each, which come from files of these names, in their order.
-///
-/// # Errors
-/// `Memory` where a list can't be made.
 pub(crate) fn check<'a, A: Allocator + Copy>(
     alloc: A,
     names: &[&'a str],

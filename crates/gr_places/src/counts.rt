@@ -8,28 +8,19 @@ use gr_model::event::{Event, Kind};
 use gr_model::traces::Traces;
 use std::alloc::Allocator;
 
-/// How large a launch is, and how many records of each kind it has.
+/// How large a launch is, and how many records of each kind it has. `records` are all of them, ends included; `reads` and `writes` are
+/// plain.
 #[derive(Clone, Copy, Debug, PartialEq, Eq)]
 pub struct Counts {
-    /// How many groups.
     pub groups: u16,
-    /// How many work-items in all.
     pub items: u32,
-    /// How many records, ends included.
     pub records: u64,
-    /// Plain reads.
     pub reads: u64,
-    /// Plain writes.
     pub writes: u64,
-    /// Atomic loads.
     pub loads: u64,
-    /// Atomic stores.
     pub stores: u64,
-    /// Atomic read-modify-writes.
     pub rmws: u64,
-    /// Barriers.
     pub barriers: u64,
-    /// Ends.
     pub ends: u64,
 }
 

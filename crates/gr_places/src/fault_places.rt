@@ -14,29 +14,21 @@ use std::alloc::Allocator;
 /// What a fault of files is about.
 #[derive(Clone, Copy, Debug, PartialEq, Eq)]
 pub enum FaultPlace<'a> {
-    /// A stream.
+    /// A stream: its place among the files, the name of its file, and where in it the fault stands.
     Stream {
-        /// Its place among the files.
         stream: u64,
-        /// The name of its file.
         file: Option<&'a str>,
-        /// Where in it the fault stands.
         spot: Option<Spot>,
     },
-    /// A stream that does not fit.
+    /// A stream that does not fit: the same, and the name of the file beside which it does not.
     Beside {
-        /// Its place among the files.
         stream: u64,
-        /// The name of its file.
         file: Option<&'a str>,
-        /// The name of the file beside which it does not fit.
         beside: Option<&'a str>,
     },
-    /// A group that is missing.
+    /// A group that is missing, and the name of the first file of a greater one.
     Missing {
-        /// Its number.
         group: u16,
-        /// The name of the first file of a greater one.
         beside: Option<&'a str>,
     },
     /// No stream and no group.

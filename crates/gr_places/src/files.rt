@@ -53,9 +53,6 @@ fn keep_name<'a, A: Allocator>(
 }
 
 /// All names, in the order in which the files are opened: places, buffers, streams.
-///
-/// # Errors
-/// `Memory`: out of memory.
 fn all_names<'a, A: Allocator>(
     alloc: A,
     sides: &SideNames<'a>,

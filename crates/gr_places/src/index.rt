@@ -36,9 +36,6 @@ impl<'a, A: Allocator> Model for PlaceIndex<'a, A> {
 }
 
 /// The place of each event and site, by the first line that has it.
-///
-/// # Errors
-/// `Memory`: out of memory.
 fn texts_of<'a, A: Allocator + Copy>(
     alloc: A,
     lines: &[PlaceLine<'a>],
@@ -55,9 +52,6 @@ fn texts_of<'a, A: Allocator + Copy>(
 }
 
 /// The number of each text, by the first line that has it.
-///
-/// # Errors
-/// `Memory`: out of memory.
 fn numbers_of<'a, A: Allocator + Copy>(
     alloc: A,
     lines: &[PlaceLine<'a>],
@@ -75,9 +69,6 @@ fn numbers_of<'a, A: Allocator + Copy>(
 
 impl<'a, A: Allocator + Copy> PlaceIndex<'a, A> {
     /// The index of the lines of a file of places.
-    ///
-    /// # Errors
-    /// `Memory`: out of memory.
     pub fn of(alloc: A, lines: &[PlaceLine<'a>]) -> Result<PlaceIndex<'a, A>, Memory>
         ensures { IfOk result (λ index. spec.Indexes index (map place_line lines.now)) }
     {

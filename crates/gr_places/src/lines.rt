@@ -1,11 +1,11 @@
-//! What is kept of a side file's lines.
+//! What is kept of lines and of files.
 
 ghost use Rattle.std.specs.Prelude.{◌≡◌, ◌++◌, ◌∷◌, [], OnOk};
 
 use gr_model::memory::Memory;
 use std::alloc::Allocator;
 
-/// Keeps what one more line says.
+/// Keeps one more.
 pub(crate) fn keep<T: Drop, A: Allocator>(kept: &mut Vec<T, A>, said: T) -> Result<(), Memory>
     ensures { OnOk result (kept.new.items ≡ kept.old.items ++ said ∷ []) }
 {

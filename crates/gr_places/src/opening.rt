@@ -1,10 +1,10 @@
 //! Files that are opened by their names.
 
-ghost use Rattle.std.specs.Prelude.{◌≡◌, ◌⊎◌, ◌++◌, ◌∷◌, [], IfErr, IfOk, OnOk, map};
+ghost use Rattle.std.specs.Prelude.{◌≡◌, ◌⊎◌, IfErr, IfOk, map};
 ghost use Rattle.std.specs.Fn.{FnReturnsAt};
 ghost use Rattle.gr_places.specs.Files.{AreOpened, IsOpeningFault};
 
-use gr_model::memory::Memory;
+use crate::lines::keep;
 use gr_record::fault::Fault;
 use std::alloc::Allocator;
 use std::io::{self, ErrorKind};
@@ -18,14 +18,6 @@ fn fault_of_opening(error: &io::Error) -> Fault
     } else {
         Fault::Read
     }
-}
-
-/// Keeps one more file.
-fn keep_file<A: Allocator, T: Drop>(files: &mut Vec<T, A>, file: T) -> Result<(), Memory>
-    ensures { OnOk result (files.new.items ≡ files.old.items ++ file ∷ []) }
-{
-    files.push(file)?;
-    Ok(())
 }
 
 /// Opens the files of these names, in their order, by what opens one.
@@ -44,7 +36,7 @@ pub fn open_all<A: Allocator, T: Drop, O: Fn(&str) -> io::Result<T>>(
     let mut files = Vec::new(alloc);
     for name in names {
         match opener(name) {
-            Ok(file) => keep_file(&mut files, file)?,
+            Ok(file) => keep(&mut files, file)?,
             Err(error) => return Err(fault_of_opening(&error)),
         }
     }

@@ -17,17 +17,9 @@ pub enum Spot {
     /// At the header, which begins at byte 0.
     Header,
     /// At the record with this number, from 0, which begins at this byte.
-    Record {
-        /// The number.
-        number: u64,
-        /// The byte.
-        byte: u64,
-    },
+    Record { number: u64, byte: u64 },
     /// Behind the end, at this byte.
-    Behind {
-        /// The byte.
-        byte: u64,
-    },
+    Behind { byte: u64 },
 }
 
 /// How many records are accepted at the start of the bytes, in the stream of this header and up to its end, and the bytes

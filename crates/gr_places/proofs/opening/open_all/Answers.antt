@@ -15,5 +15,5 @@ pub loop-name-preserved : goal.loop-name-preserved
 loop-name-preserved g c =
     let texts = map (λ s. s.now) c.args.names.now in
     let lt : c.loop-name.name-index < length texts = omega (arith, length-map c.args.names.now (λ s. s.now), c.loop-name-test.true) in
-    rw c.in_ok-keep_file-in-Ok.ensures
+    rw c.in_ok-keep-in-Ok.ensures
     (opened_more (FnReturnsAt g.O.Fn c.args.opener) texts c.loop-name.name-index c.loop-name.files.items _ lt (text_at c.args.names.now c.loop-name.name-index _ c.loop-name-test.true) c.loop-name.invariant c.in-Ok.file (record { shown = _; shows = refl; says = record { met = c.in-Ok.ensures } }))
