@@ -69,6 +69,9 @@ fn numbers_of<'a, A: Allocator + Copy>(
 
 impl<'a, A: Allocator + Copy> PlaceIndex<'a, A> {
     /// The index of the lines of a file of places.
+    ///
+    /// # Errors
+    /// `Memory`: out of memory.
     pub fn of(alloc: A, lines: &[PlaceLine<'a>]) -> Result<PlaceIndex<'a, A>, Memory>
         ensures { IfOk result (λ index. spec.Indexes index (map place_line lines.now)) }
     {

@@ -53,9 +53,6 @@ pub struct Account<A: Allocator = Global> {
 }
 
 /// Of these races those that are not of two events' tags, or that are of two groups while the two events are of one.
-///
-/// # Errors
-/// `Memory`: out of memory.
 fn others_of<A: Allocator>(
     alloc: A,
     rows: &[KindedRace],
@@ -75,9 +72,6 @@ fn others_of<A: Allocator>(
 
 /// Of races for each two tags that race on a word those that are not of two events' tags, or that are of two groups while the two events
 /// are of one, with their kinds.
-///
-/// # Errors
-/// `Memory`: out of memory.
 fn other_races<A: Allocator + Copy>(
     alloc: A,
     tags: &PlaceTags<'_, A>,
@@ -93,9 +87,6 @@ fn other_races<A: Allocator + Copy>(
 }
 
 /// What is told of the least racing pair of a word, of this cause, with all records of the launch and the word's other races.
-///
-/// # Errors
-/// `Memory`: out of memory.
 fn account_with<A: Allocator + Copy>(
     alloc: A,
     traces: &Traces<A>,
@@ -123,9 +114,6 @@ fn account_with<A: Allocator + Copy>(
 }
 
 /// What is told of the least racing pair of a word, on which these race for each two tags.
-///
-/// # Errors
-/// `Memory`: out of memory.
 fn account_of_pair<A: Allocator + Copy>(
     alloc: A,
     traces: &Traces<A>,
@@ -146,9 +134,6 @@ fn account_of_pair<A: Allocator + Copy>(
 }
 
 /// What is told of the least racing pair of a word, where this index has the places, or `None` where the word is not racy.
-///
-/// # Errors
-/// `Memory`: out of memory.
 fn account_by<A: Allocator + Copy>(
     alloc: A,
     traces: &Traces<A>,

@@ -72,9 +72,6 @@ fn crossing_of(instance: usize, event: &Event) -> Option<Crossing>
 }
 
 /// The barriers of an item before its record of this index, from the barrier of this number on.
-///
-/// # Errors
-/// `AllocError`: out of memory.
 fn passed<A: Allocator>(
     alloc: A,
     list: &[Event],
@@ -95,9 +92,6 @@ fn passed<A: Allocator>(
 }
 
 /// The barrier instances that one of two accesses of a group is behind and the other not; none of two groups.
-///
-/// # Errors
-/// `AllocError`: out of memory.
 fn crossings<A: Allocator>(
     alloc: A,
     traces: &Traces<A>,

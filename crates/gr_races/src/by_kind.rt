@@ -44,9 +44,6 @@ impl<A: Allocator> RacesByKind<A> {
 }
 
 /// What is found of a launch, of which this is the report, its races kind by kind, where this index has the places.
-///
-/// # Errors
-/// `Memory`: out of memory.
 fn list_found<A: Allocator + Copy>(
     alloc: A,
     traces: &Traces<A>,
@@ -71,9 +68,6 @@ fn list_found<A: Allocator + Copy>(
 }
 
 /// What is found of a launch, its races kind by kind, where this index has the places.
-///
-/// # Errors
-/// `Memory`: out of memory.
 fn list_races<A: Allocator + Copy>(
     alloc: A,
     traces: &Traces<A>,

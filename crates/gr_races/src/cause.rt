@@ -41,9 +41,6 @@ pub enum Cause {
 }
 
 /// Each of some races is one.
-///
-/// # Errors
-/// `Memory`: out of memory.
 fn all_race<A: Allocator>(alloc: A, races: &[Race]) -> Result<Vec<Judgement, A>, Memory>
     ensures { IfOk result (λ judgements. judgements.items ≡ map (λ race. AsRace) races.now) }
 {
@@ -52,9 +49,6 @@ fn all_race<A: Allocator>(alloc: A, races: &[Race]) -> Result<Vec<Judgement, A>,
 }
 
 /// What the two accesses of each race are to each other where a rule is relaxed.
-///
-/// # Errors
-/// `Memory`: out of memory.
 fn judged_where<A: Allocator + Copy>(
     alloc: A,
     traces: &Traces<A>,
@@ -108,9 +102,6 @@ fn cause_from<A: Allocator>(lanes: &Lanes<A>, race: &Race, by_flags: bool, by_sc
 
 /// The causes of races in a launch whose records these are, where they are judged so with flags relaxed, and so with
 /// scopes.
-///
-/// # Errors
-/// `Memory`: out of memory.
 fn causes_from<A: Allocator + Copy>(
     alloc: A,
     lanes: &Lanes<A>,

@@ -36,9 +36,6 @@ fn cause_at(causes: &[Cause], place: usize) -> Option<Cause>
 }
 
 /// Keeps a row, if there is one.
-///
-/// # Errors
-/// `Memory`: out of memory.
 fn keep_row<A: Allocator>(
     rows: &mut Vec<KindedRace, A>,
     row: Option<KindedRace>,
@@ -52,9 +49,6 @@ fn keep_row<A: Allocator>(
 }
 
 /// The races with their kinds, where these are the causes that are told of them, the first of the first race.
-///
-/// # Errors
-/// `Memory`: out of memory.
 fn all_kinded<A: Allocator + Copy>(
     alloc: A,
     records: &Records<'_, A>,
@@ -73,9 +67,6 @@ fn all_kinded<A: Allocator + Copy>(
 }
 
 /// Races of two tags before those of one.
-///
-/// # Errors
-/// `Memory`: out of memory.
 fn in_order<A: Allocator + Copy>(
     alloc: A,
     rows: &[KindedRace],
@@ -114,9 +105,6 @@ fn keep_kind<A: Allocator>(kinds: &mut Vec<RaceKind, A>, kind: RaceKind) -> Resu
 }
 
 /// The kinds of races, in the order in which the first of each comes.
-///
-/// # Errors
-/// `Memory`: out of memory.
 fn kinds_of<A: Allocator>(alloc: A, rows: &[KindedRace]) -> Result<Vec<RaceKind, A>, Memory>
     ensures { IfOk result (λ kinds. kinds.items ≡ spec.kinds_of rows.now) }
 {
@@ -128,9 +116,6 @@ fn kinds_of<A: Allocator>(alloc: A, rows: &[KindedRace]) -> Result<Vec<RaceKind,
 }
 
 /// The races of a kind.
-///
-/// # Errors
-/// `Memory`: out of memory.
 fn races_in<A: Allocator>(
     alloc: A,
     rows: &[KindedRace],
@@ -147,9 +132,6 @@ fn races_in<A: Allocator>(
 }
 
 /// The races of a kind, with their runs.
-///
-/// # Errors
-/// `Memory`: out of memory.
 fn entry_of_kind<A: Allocator + Copy>(
     alloc: A,
     rows: &[KindedRace],
@@ -163,9 +145,6 @@ fn entry_of_kind<A: Allocator + Copy>(
 }
 
 /// The races kind by kind, in the order in which the first of each comes.
-///
-/// # Errors
-/// `Memory`: out of memory.
 fn list_kinds<A: Allocator + Copy>(
     alloc: A,
     rows: &[KindedRace],
@@ -181,9 +160,6 @@ fn list_kinds<A: Allocator + Copy>(
 }
 
 /// The races with their kinds, those of two tags before those of one, where these are the causes that are told of them.
-///
-/// # Errors
-/// `Memory`: out of memory.
 pub(crate) fn ordered_rows<A: Allocator + Copy>(
     alloc: A,
     records: &Records<'_, A>,
@@ -199,9 +175,6 @@ pub(crate) fn ordered_rows<A: Allocator + Copy>(
 
 /// The races kind by kind, those of two tags before those of one, where these are the causes that are told of them, the first of the
 /// first race.
-///
-/// # Errors
-/// `Memory`: out of memory.
 pub(crate) fn entries_of<A: Allocator + Copy>(
     alloc: A,
     records: &Records<'_, A>,

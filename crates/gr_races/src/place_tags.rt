@@ -38,9 +38,6 @@ impl<A: Allocator> Tags for PlaceTags<'_, A> {
 }
 
 /// Of each of these words, which ascend, a race for each two tags that race on it.
-///
-/// # Errors
-/// `Memory`: out of memory.
 pub(crate) fn tag_races<A: Allocator + Copy>(
     alloc: A,
     traces: &Traces<A>,

@@ -103,9 +103,6 @@ pub(crate) fn changes_nothing<A: Allocator>(traces: &Traces<A>, relaxation: Rela
 }
 
 /// The list of a group where a rule is relaxed.
-///
-/// # Errors
-/// `Memory`: out of memory.
 fn relaxed_list<A: Allocator>(
     alloc: A,
     relaxation: Relaxation,
@@ -121,9 +118,6 @@ fn relaxed_list<A: Allocator>(
 }
 
 /// The lists of a launch where a rule is relaxed.
-///
-/// # Errors
-/// `Memory`: out of memory.
 fn relaxed_lists<A: Allocator + Copy>(
     alloc: A,
     traces: &Traces<A>,

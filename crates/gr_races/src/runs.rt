@@ -63,9 +63,6 @@ impl Run {
 }
 
 /// The runs of the words of races, in their order.
-///
-/// # Errors
-/// `Memory`: out of memory.
 pub(crate) fn runs_of<A: Allocator>(alloc: A, races: &[Race]) -> Result<Vec<Run, A>, Memory>
     ensures { IfOk result (λ runs. runs.items ≡ spec.runs_of (map (λ r. r.word) races.now)) }
 {

@@ -12,9 +12,6 @@ use gr_model::traces::Traces;
 use std::alloc::Allocator;
 
 /// Takes the whole list of a group of which nothing was taken.
-///
-/// # Errors
-/// `Memory`: out of memory.
 fn take_list<A: Allocator + Copy>(
     lanes: &mut Lanes<A>,
     group: u16,
@@ -35,9 +32,6 @@ fn take_list<A: Allocator + Copy>(
 }
 
 /// All records of a launch, with their index.
-///
-/// # Errors
-/// `Memory`: out of memory.
 pub(crate) fn take_all<A: Allocator + Copy>(
     alloc: A,
     traces: &Traces<A>,
