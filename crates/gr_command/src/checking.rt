@@ -19,9 +19,6 @@ use std::alloc::Global;
 use std::io::{self, Read, Write};
 
 /// What comes of a check, as text or as JSON.
-///
-/// # Errors
-/// `Memory`: out of memory.
 fn text_of(alloc: Global, checked: &Checked<'_>, json: bool) -> Result<Vec<u8>, Memory> {
     if json {
         check_json(alloc, checked)

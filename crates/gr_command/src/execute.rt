@@ -21,6 +21,7 @@ use crate::status::{
 };
 use clap::Error;
 use clap::error::ErrorKind;
+use gr_arguments::command::{EXPLAIN_USAGE, HISTORY_USAGE, RACES_USAGE, RUN_USAGE, WHY_HELD_USAGE};
 use gr_arguments::request::{Arguments, Misuse, Query, Request, Task};
 use gr_arguments::request_of;
 use gr_places::files::SideNames;
@@ -29,13 +30,9 @@ use gr_record::fault::Fault;
 use gr_replay::replay;
 use gr_report::report::Report;
 use gr_report::write_fault;
-use gr_show::history::WordHistory;
-use gr_show::least_race::LeastRace;
-use gr_show::long_race::LongRace;
 use gr_show::question::{InJson, JsonQuestion, Question};
-use gr_show::races::Races;
+use gr_show::questions::{HeldEvent, LeastRace, LongRace, Races, WordHistory};
 use gr_show::tell_files;
-use gr_show::why_held::HeldEvent;
 use gr_text::{dump, dump_partial, pack, upgrade};
 use std::alloc::Global;
 use std::convert::AsStr;
@@ -44,41 +41,18 @@ use std::sync::Wait;
 use std::thread::Threads;
 use std::time::Clock;
 
-const MISNAMED: &[u8] = b"\
-error: SPACE and WORD name no word of memory: SPACE is g, or l with a group from 0 to 65534 as in l3, and WORD is a number \
-below 4294967296 in decimal digits\n\n\
-Usage: gpurace explain [OPTIONS] <SPACE> <WORD> <FILE>...\n       \
-gpurace explain [OPTIONS] <NAME[INDEX]> <FILE>...\n\n\
-For more information, try '--help'.\n";
+const NO_WORD: &str = "\
+SPACE and WORD name no word of memory: SPACE is g, or l with a group from 0 to 65534 as in l3, and WORD is a number \
+below 4294967296 in decimal digits";
 
-const SIDES_ALONE: &[u8] = b"\
-error: --places and --buffers go with --long\n\n\
-Usage: gpurace explain [OPTIONS] <SPACE> <WORD> <FILE>...\n       \
-gpurace explain [OPTIONS] <NAME[INDEX]> <FILE>...\n\n\
-For more information, try '--help'.\n";
+const NO_COUNT: &str = "N of --most is no number below 4294967296 in decimal digits";
 
-const MISCOUNTED: &[u8] = b"\
-error: N of --most is no number below 4294967296 in decimal digits\n\n\
-Usage: gpurace races [OPTIONS] <FILE>...\n\n\
-For more information, try '--help'.\n";
+const NO_EVENT: &str = "\
+GROUP, ITEM and INDEX name no event: GROUP and ITEM are numbers below 65536 and INDEX is one below 4294967296, in \
+decimal digits";
 
-const UNNAMED: &[u8] = b"\
-error: SPACE and WORD name no word of memory: SPACE is g, or l with a group from 0 to 65534 as in l3, and WORD is a number \
-below 4294967296 in decimal digits\n\n\
-Usage: gpurace history [OPTIONS] <SPACE> <WORD> <FILE>...\n       \
-gpurace history [OPTIONS] <NAME[INDEX]> <FILE>...\n\n\
-For more information, try '--help'.\n";
-
-const MISCONFIGURED: &[u8] = b"\
-error: N of --workers is 1 to 8, N of --queues is 1 to 4, and N of --capacity is 1 to 65536, in decimal digits\n\n\
-Usage: gpurace run [OPTIONS] <FILE>...\n\n\
-For more information, try '--help'.\n";
-
-const NO_EVENT: &[u8] = b"\
-error: GROUP, ITEM and INDEX name no event: GROUP and ITEM are numbers below 65536 and INDEX is one below 4294967296, in \
-decimal digits\n\n\
-Usage: gpurace why-held [OPTIONS] <GROUP> <ITEM> <INDEX> <FILE>...\n\n\
-For more information, try '--help'.\n";
+const NO_SET_UP: &str = "\
+N of --workers is 1 to 8, N of --queues is 1 to 4, and N of --capacity is 1 to 65536, in decimal digits";
 
 /// Tells of a fault on standard error, and gives its status. That standard error fails is passed over: there is nowhere
 /// left to tell it.
@@ -268,9 +242,9 @@ where
     match arguments.query {
         Query::Explain { long, word } => {
             if long {
-                tell_in(alloc, LongRace { word }, arguments, opener, writer, errors)
+                tell_in(alloc, LongRace(word), arguments, opener, writer, errors)
             } else {
-                tell_in(alloc, LeastRace { word }, arguments, opener, writer, errors)
+                tell_in(alloc, LeastRace(word), arguments, opener, writer, errors)
             }
         }
         Query::Races { most, causes } => {
@@ -278,8 +252,7 @@ where
             tell_in(alloc, question, arguments, opener, writer, errors)
         }
         Query::History { word } => {
-            let question = WordHistory { word };
-            tell_in(alloc, question, arguments, opener, writer, errors)
+            tell_in(alloc, WordHistory(word), arguments, opener, writer, errors)
         }
         Query::Run { config } => {
             let outcome = run_files(rt, alloc, config, arguments, opener, writer);
@@ -287,9 +260,20 @@ where
         }
         Query::Check => conclude_check(write_check(alloc, arguments, opener, writer), errors),
         Query::WhyHeld { event } => {
-            let question = HeldEvent { event };
-            tell_in(alloc, question, arguments, opener, writer, errors)
+            tell_in(alloc, HeldEvent(event), arguments, opener, writer, errors)
         }
+    }
+}
+
+/// What is wrong with the words of a command that were taken, and how the command is used.
+fn wrong_usage(why: Misuse) -> (&'static str, &'static str) {
+    match why {
+        Misuse::SidesAlone => ("--places and --buffers go with --long", EXPLAIN_USAGE),
+        Misuse::NoWordToExplain => (NO_WORD, EXPLAIN_USAGE),
+        Misuse::NoWordOfHistory => (NO_WORD, HISTORY_USAGE),
+        Misuse::NoCount => (NO_COUNT, RACES_USAGE),
+        Misuse::NoSetUp => (NO_SET_UP, RUN_USAGE),
+        Misuse::NoEvent => (NO_EVENT, WHY_HELD_USAGE),
     }
 }
 
@@ -297,15 +281,11 @@ where
 fn refuse<E: Write>(why: Misuse, errors: &mut E) -> u8
     ensures { result ≡ USAGE }
 {
-    let text = match why {
-        Misuse::SidesAlone => SIDES_ALONE,
-        Misuse::NoWordToExplain => MISNAMED,
-        Misuse::NoCount => MISCOUNTED,
-        Misuse::NoWordOfHistory => UNNAMED,
-        Misuse::NoSetUp => MISCONFIGURED,
-        Misuse::NoEvent => NO_EVENT,
-    };
-    let _ = errors.write_all(text);
+    let (wrong, usage) = wrong_usage(why);
+    let _ = write!(
+        errors,
+        "error: {wrong}\n\nUsage: {usage}\n\nFor more information, try '--help'.\n"
+    );
     USAGE
 }
 

@@ -6,13 +6,9 @@ use gr_places::checked::check_files;
 use gr_places::sides_fault::SidesFault;
 use gr_record::fault::Fault;
 use gr_show::check_text::check_text;
-use gr_show::history::WordHistory;
-use gr_show::least_race::LeastRace;
-use gr_show::long_race::LongRace;
 use gr_show::question::Question;
-use gr_show::races::Races;
+use gr_show::questions::{HeldEvent, LeastRace, LongRace, Races, WordHistory};
 use gr_show::tell_files;
-use gr_show::why_held::HeldEvent;
 use gr_show::writing::write_text;
 use refusing::failing::FailingWriter;
 use std::alloc::Allocator;
@@ -47,12 +43,10 @@ pub(crate) static ALL: [Asked; 9] = [
 
 /// The question for an event of group 0.
 fn held_event(item: u16, index: u32) -> HeldEvent {
-    HeldEvent {
-        event: EventId {
-            at: ItemId { group: 0, item },
-            index,
-        },
-    }
+    HeldEvent(EventId {
+        at: ItemId { group: 0, item },
+        index,
+    })
 }
 
 /// The question for all kinds of races.
@@ -81,10 +75,8 @@ fn checked<A: Allocator + Copy>(
     let Ok(text) = check_text(alloc, &checked) else {
         return Err(Fault::Memory);
     };
-    match write_text(writer, &text) {
-        Ok(()) => Ok(checked.is_accepted()),
-        Err(_) => Err(Fault::Write),
-    }
+    write_text(writer, &text)?;
+    Ok(checked.is_accepted())
 }
 
 /// Answers as text.
@@ -95,11 +87,11 @@ pub(crate) fn answered<A: Allocator + Copy>(
     writer: &mut FailingWriter,
 ) -> Result<bool, SidesFault> {
     match asked {
-        Asked::Pair(word) => told(alloc, files, &LeastRace { word }, writer),
-        Asked::Account(word) => told(alloc, files, &LongRace { word }, writer),
+        Asked::Pair(word) => told(alloc, files, &LeastRace(word), writer),
+        Asked::Account(word) => told(alloc, files, &LongRace(word), writer),
         Asked::Races(causes) => told(alloc, files, &all_races(causes), writer),
         Asked::WhyHeld(item, index) => told(alloc, files, &held_event(item, index), writer),
-        Asked::History(word) => told(alloc, files, &WordHistory { word }, writer),
+        Asked::History(word) => told(alloc, files, &WordHistory(word), writer),
         Asked::Check => Ok(checked(alloc, files, writer)?),
     }
 }

@@ -1,14 +1,11 @@
 //! A check of files as JSON.
 
-use crate::lines::line_of;
 use crate::sentences::{right, wrong};
-use crate::words::{Made, text_value};
-use gr_model::memory::Memory;
+use crate::values::{Made, Text, line_of, text_value};
 use gr_places::checking::Checked;
 use gr_places::counts::Counts;
 use gr_places::fault_places::FaultPlace;
 use gr_places::spot::Spot;
-use gr_record::fault::Fault;
 use serde_json::{Value, json};
 use std::alloc::Global;
 
@@ -33,21 +30,21 @@ fn counts_value(alloc: Global, counts: &Counts) -> Made {
 }
 
 /// The byte and the record of a place in a stream, each where it has one.
-fn spot_values(spot: Option<Spot>) -> (Value, Value) {
+fn byte_and_record(spot: Option<Spot>) -> (Option<u64>, Option<u64>) {
     match spot {
-        None => (Value::Null, Value::Null),
-        Some(Spot::Header) => (Value::from(0_u64), Value::Null),
-        Some(Spot::Record { number, byte }) => (Value::from(byte), Value::from(number)),
-        Some(Spot::Behind { byte }) => (Value::from(byte), Value::Null),
+        None => (None, None),
+        Some(Spot::Header) => (Some(0), None),
+        Some(Spot::Record { number, byte }) => (Some(byte), Some(number)),
+        Some(Spot::Behind { byte }) => (Some(byte), None),
     }
 }
 
 /// What a fault is about, or null where that is no stream and no group.
 fn place_value(alloc: Global, place: FaultPlace<'_>) -> Made {
+    let text_value = |text: Option<&str>| text_value(alloc, text);
     match place {
         FaultPlace::Stream { stream, file, spot } => {
-            let (byte, record) = spot_values(spot);
-            let file = text_value(alloc, file)?;
+            let ((byte, record), file) = (byte_and_record(spot), text_value(file)?);
             json!(in alloc; {"byte": byte, "file": file, "record": record, "stream": stream})
         }
         FaultPlace::Beside {
@@ -55,38 +52,27 @@ fn place_value(alloc: Global, place: FaultPlace<'_>) -> Made {
             file,
             beside,
         } => {
-            let file = text_value(alloc, file)?;
-            let beside = text_value(alloc, beside)?;
+            let (file, beside) = (text_value(file)?, text_value(beside)?);
             json!(in alloc; {"beside": beside, "file": file, "stream": stream})
         }
         FaultPlace::Missing { group, beside } => {
-            json!(in alloc; {"beside": text_value(alloc, beside)?, "group": group})
+            json!(in alloc; {"beside": text_value(beside)?, "group": group})
         }
         FaultPlace::Nothing => Ok(Value::Null),
     }
 }
 
-/// A refusal: where it is, what is wrong and what would be right.
-fn refusal_value(alloc: Global, fault: Fault, place: FaultPlace<'_>) -> Made {
-    json!(in alloc; {
-        "accepted": false,
-        "place": place_value(alloc, place)?,
-        "right": right(fault),
-        "type": "check",
-        "wrong": wrong(fault)
-    })
-}
-
-/// The line of a check.
-///
-/// # Errors
-/// `Memory`: out of memory.
-pub fn check_json(alloc: Global, checked: &Checked<'_>) -> Result<Vec<u8>, Memory> {
-    line_of(
-        alloc,
-        match checked {
-            Checked::Accepted(counts) => counts_value(alloc, counts),
-            Checked::Refused { fault, place } => refusal_value(alloc, *fault, *place),
-        },
-    )
+/// The line of a check: how large the launch is; or where its fault is, what is wrong and what would be right.
+pub fn check_json(alloc: Global, checked: &Checked<'_>) -> Text {
+    let object = match *checked {
+        Checked::Accepted(counts) => counts_value(alloc, &counts),
+        Checked::Refused { fault, place } => json!(in alloc; {
+            "accepted": false,
+            "place": place_value(alloc, place)?,
+            "right": right(fault),
+            "type": "check",
+            "wrong": wrong(fault)
+        }),
+    };
+    line_of(alloc, object)
 }

@@ -1,9 +1,7 @@
 //! Why an event is held as JSON.
 
-use crate::lines::{line_of, push_object};
-use crate::words::{Made, event_value};
+use crate::values::{Made, Text, event_value, line_of, push_objects};
 use gr_model::event::{EventId, Name};
-use gr_model::memory::Memory;
 use gr_timeline::reason::{Link, Reason};
 use gr_timeline::why::WhyHeld;
 use serde_json::json;
@@ -43,31 +41,19 @@ fn link_value(alloc: Global, link: &Link) -> Made {
     })
 }
 
-fn links_json(alloc: Global, links: &[Link]) -> Result<Vec<u8>, Memory> {
-    let mut text = Vec::new(alloc);
-    for link in links {
-        push_object(alloc, &mut text, link_value(alloc, link))?;
-    }
-    Ok(text)
-}
-
-/// An event of which this is told.
-fn told_value(alloc: Global, kind: &str, event: EventId) -> Made {
-    json!(in alloc; {"event": event_value(alloc, event)?, "type": kind})
-}
-
 /// Why an event is held, or that it is not, as lines of JSON.
-///
-/// # Errors
-/// `Memory`: out of memory.
-pub fn why_json<A: Allocator>(
-    alloc: Global,
-    event: EventId,
-    why: &WhyHeld<A>,
-) -> Result<Vec<u8>, Memory> {
-    match why {
-        WhyHeld::NoRecord => line_of(alloc, told_value(alloc, "no record", event)),
-        WhyHeld::Judged => line_of(alloc, told_value(alloc, "judged", event)),
-        WhyHeld::Held(links) => links_json(alloc, links),
-    }
+pub fn why_json<A: Allocator>(alloc: Global, event: EventId, why: &WhyHeld<A>) -> Text {
+    let told = match why {
+        WhyHeld::NoRecord => "no record",
+        WhyHeld::Judged => "judged",
+        WhyHeld::Held(links) => {
+            let mut text = Vec::new(alloc);
+            push_objects(&mut text, links, |link| link_value(alloc, link))?;
+            return Ok(text);
+        }
+    };
+    line_of(
+        alloc,
+        json!(in alloc; {"event": event_value(alloc, event)?, "type": told}),
+    )
 }

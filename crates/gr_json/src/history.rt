@@ -1,8 +1,8 @@
 //! The history of a word as JSON.
 
-use crate::details::{Members, put_details};
-use crate::lines::push_object;
-use crate::words::{Made, buffer_value, event_value, word_value};
+use crate::values::{
+    Made, Text, array_of, buffer_value, event_value, push_object, put_details, word_value,
+};
 use gr_model::class::class_of;
 use gr_model::event::Word;
 use gr_model::memory::Memory;
@@ -10,31 +10,15 @@ use gr_places::index::PlaceIndex;
 use gr_places::sides::Sides;
 use gr_timeline::accesses::Accesses;
 use gr_timeline::entry::Entry;
-use gr_timeline::standing::{Above, Named, Standing};
+use gr_timeline::standing::{Above, Named};
 use gr_timeline::word_history::HistoryAnswer;
 use serde_json::{Map, Value, json, put};
-use std::alloc::{AllocError, Global};
+use std::alloc::Global;
 
 /// Some events: the first few, and how many others there are.
 fn named_value(alloc: Global, named: &Named) -> Made {
-    let mut events = Vec::new(alloc);
-    for event in &named.events {
-        events.push(event_value(alloc, *event)?)?;
-    }
-    json!(in alloc; {"events": Value::Array(events), "others": named.others})
-}
-
-/// Adds how an access stands to those above it.
-fn put_standing(
-    alloc: Global,
-    members: &mut Members,
-    standing: &Standing,
-) -> Result<(), AllocError> {
-    let races = named_value(alloc, &standing.races)?;
-    let unordered = named_value(alloc, &standing.unordered)?;
-    put(members, alloc, "behind", Value::from(standing.behind))?;
-    put(members, alloc, "races_with", races)?;
-    put(members, alloc, "unordered_with", unordered)
+    let events = array_of(alloc, &named.events, |event| event_value(alloc, *event))?;
+    json!(in alloc; {"events": events, "others": named.others})
 }
 
 /// An access, what is told of it, and how it stands to those above it, to which it is added.
@@ -45,49 +29,42 @@ fn entry_value(
     known: &Accesses<Global>,
     entry: &Entry,
 ) -> Result<Value, Memory> {
-    let mut members = Map::new(alloc);
+    let mut access = Map::new(alloc);
     if let Some(details) = known.get(&entry.event) {
-        put_details(alloc, &mut members, places, entry.event, details)?;
+        put_details(alloc, &mut access, places, entry.event, details)?;
         if let Some(class) = class_of(&details.kind) {
             let standing = above.standing(alloc, entry, class)?;
-            put_standing(alloc, &mut members, &standing)?;
+            let races = named_value(alloc, &standing.races)?;
+            let unordered = named_value(alloc, &standing.unordered)?;
+            put(&mut access, alloc, "behind", Value::from(standing.behind))?;
+            put(&mut access, alloc, "races_with", races)?;
+            put(&mut access, alloc, "unordered_with", unordered)?;
             above.add(alloc, entry.event, class)?;
         }
     }
     let kind = Value::try_from_str(alloc, "access")?;
-    put(&mut members, alloc, "type", kind)?;
-    Ok(Value::Object(members))
+    put(&mut access, alloc, "type", kind)?;
+    Ok(Value::Object(access))
 }
 
-/// The word, its buffer, how many accesses there are, how many others are held, and whether some of them race.
-fn end_value(alloc: Global, sides: &Sides<'_>, word: Word, told: &HistoryAnswer) -> Made {
-    json!(in alloc; {
-        "accesses": told.entries.len(),
-        "buffer": buffer_value(alloc, sides.buffers, word)?,
-        "held": told.held,
-        "races": told.racy,
-        "type": "end",
-        "word": word_value(alloc, word)?
-    })
-}
-
-/// The history of a word, with what side files say of it and of its accesses, as lines of JSON.
-///
-/// # Errors
-/// `Memory`: out of memory.
-pub fn history_json(
-    alloc: Global,
-    sides: &Sides<'_>,
-    word: Word,
-    told: &HistoryAnswer,
-) -> Result<Vec<u8>, Memory> {
+/// The history of a word, with what side files say of it and of its accesses, and at the end how many accesses there are, how many
+/// others are held, and whether some of them race, as lines of JSON.
+pub fn history_json(alloc: Global, sides: &Sides<'_>, word: Word, told: &HistoryAnswer) -> Text {
     let places = PlaceIndex::of(alloc, sides.places)?;
     let mut above = Above::new(alloc);
     let mut text = Vec::new(alloc);
     for entry in &told.entries {
-        let value = entry_value(alloc, &places, &mut above, &told.known, entry)?;
-        push_object(alloc, &mut text, Ok(value))?;
+        let access = entry_value(alloc, &places, &mut above, &told.known, entry)?;
+        push_object(&mut text, Ok(access))?;
     }
-    push_object(alloc, &mut text, end_value(alloc, sides, word, told))?;
+    let end = json!(in alloc; {
+        "accesses": told.entries.len(),
+        "buffer": buffer_value(alloc, sides, word)?,
+        "held": told.held,
+        "races": told.racy,
+        "type": "end",
+        "word": word_value(alloc, word)?
+    });
+    push_object(&mut text, end)?;
     Ok(text)
 }

@@ -3,15 +3,12 @@
 //! Nothing is claimed of these texts; runs test them. That the answers are right is proved where they are made.
 #![tactic(auto)]
 
-pub mod account;
 pub mod check;
-mod details;
 pub mod held;
 pub mod history;
-mod lines;
 pub mod names;
 pub mod race;
 pub mod races;
 pub mod report;
 pub mod sentences;
-mod words;
+mod values;

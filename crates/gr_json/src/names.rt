@@ -1,7 +1,7 @@
 //! The words that texts and JSON have for what answers are made of.
 
 use gr_model::event::{Kind, Order, Scope, Space, Word};
-use gr_model::report::DivergenceCause;
+use gr_model::report::{AcquireCause, DivergenceCause};
 use gr_races::cause::Cause;
 use gr_races::kinds::Operation;
 
@@ -71,6 +71,15 @@ pub fn divergence_name(cause: DivergenceCause) -> &'static str {
         DivergenceCause::Missing => "missing",
         DivergenceCause::Site => "site",
         DivergenceCause::Flags => "flags",
+    }
+}
+
+/// The name of why an acquire is unmatched.
+pub(crate) fn acquire_name(cause: AcquireCause) -> &'static str {
+    match cause {
+        AcquireCause::Absent => "absent",
+        AcquireCause::OtherWord => "otherword",
+        AcquireCause::Behind => "behind",
     }
 }
 

@@ -1,8 +1,6 @@
 //! The text of the long form of `explain`, with what side files say.
 
-use crate::event_text::{
-    Added, AtText, EventText, ToldText, WordText, put_buffer, put_cause, put_pair,
-};
+use crate::event_text::{Added, AtText, EventText, ToldText, WordText, put_cause, put_race};
 use gr_json::names::operation_name;
 use gr_model::event::{EventId, Word};
 use gr_model::memory::Memory;
@@ -64,8 +62,7 @@ impl<A: Allocator> PlacedText<'_, A> {
 
     /// Adds the other races of a word: of each two accesses, what they do, and where they stand.
     fn put_others(&mut self, others: &[KindedRace]) -> Added {
-        for other in others {
-            let (kind, race) = (other.kind, other.race);
+        for KindedRace { kind, race } in others {
             let (first, second) = (EventText(race.first), EventText(race.second));
             writeln!(self.text, "also {first} with {second}")?;
             self.put_operation("first", kind.first.operation, race.first)?;
@@ -73,39 +70,30 @@ impl<A: Allocator> PlacedText<'_, A> {
         }
         Ok(())
     }
-
-    /// Adds a word and its least racing pair, what the two accesses are, what stands between them, the cause of their race and the
-    /// word's other races, with what side files say.
-    fn put_account(&mut self, sides: &Sides<'_>, word: Word, account: &Account<A>) -> Added {
-        put_pair(&mut self.text, word, account.first, account.second)?;
-        put_buffer(&mut self.text, sides, word)?;
-        self.put_details("first", account.first, &account.first_details)?;
-        self.put_details("second", account.second, &account.second_details)?;
-        self.put_crossings(account.between.crossings.as_slice())?;
-        self.put_half("release behind first", account.between.release)?;
-        self.put_half("acquire before second", account.between.acquire)?;
-        put_cause(&mut self.text, word, account.cause)?;
-        self.put_others(&account.others)
-    }
 }
 
-/// The text of a word and its least racing pair, or of a word that has none.
-///
-/// # Errors
-/// `Memory`: out of memory.
+/// The text of a word and its least racing pair: what the two accesses are, what stands between them, the cause of their race and the
+/// word's other races, with what side files say; or of a word that has none.
 pub(crate) fn account_text<A: Allocator + Copy>(
     alloc: A,
     sides: &Sides<'_>,
     word: Word,
     account: Option<&Account<A>>,
 ) -> Result<Vec<u8, A>, Memory> {
-    let mut told = PlacedText {
-        text: String::new(alloc),
-        places: PlaceIndex::of(alloc, sides.places)?,
+    let mut text = String::new(alloc);
+    let Some(account) = account else {
+        writeln!(text, "no race {}", WordText(word))?;
+        return Ok(text.into_bytes());
     };
-    match account {
-        None => writeln!(told.text, "no race {}", WordText(word))?,
-        Some(account) => told.put_account(sides, word, account)?,
-    }
+    put_race(&mut text, sides, word, (account.first, account.second))?;
+    let places = PlaceIndex::of(alloc, sides.places)?;
+    let mut told = PlacedText { text, places };
+    told.put_details("first", account.first, &account.first_details)?;
+    told.put_details("second", account.second, &account.second_details)?;
+    told.put_crossings(account.between.crossings.as_slice())?;
+    told.put_half("release behind first", account.between.release)?;
+    told.put_half("acquire before second", account.between.acquire)?;
+    put_cause(&mut told.text, word, account.cause)?;
+    told.put_others(&account.others)?;
     Ok(told.text.into_bytes())
 }

@@ -38,37 +38,30 @@ fn put_spot<W: Write>(writer: &mut W, spot: Option<Spot>) -> io::Result<()> {
     }
 }
 
-fn put_place<W: Write>(writer: &mut W, place: &FaultPlace<'_>) -> io::Result<()> {
-    match *place {
+/// Writes what stands below the line of a fault.
+fn put_below<W: Write>(writer: &mut W, fault: Fault, place: FaultPlace<'_>) -> io::Result<()> {
+    match place {
         FaultPlace::Stream { file, spot, .. } => {
             put_file(writer, "file", file)?;
-            put_spot(writer, spot)
+            put_spot(writer, spot)?;
         }
         FaultPlace::Beside { file, beside, .. } => {
             put_file(writer, "file", file)?;
-            put_file(writer, "beside", beside)
+            put_file(writer, "beside", beside)?;
         }
-        FaultPlace::Missing { beside, .. } => put_file(writer, "beside", beside),
-        FaultPlace::Nothing => Ok(()),
+        FaultPlace::Missing { beside, .. } => put_file(writer, "beside", beside)?,
+        FaultPlace::Nothing => {}
     }
-}
-
-/// Writes what stands below the line of a fault.
-fn put_below<W: Write>(writer: &mut W, fault: Fault, place: &FaultPlace<'_>) -> io::Result<()> {
-    put_place(writer, place)?;
     writeln!(writer, "wrong: {}\nright: {}", wrong(fault), right(fault))
 }
 
 /// The text of a check.
-///
-/// # Errors
-/// `Memory`: out of memory.
 pub fn check_text<A: Allocator>(alloc: A, checked: &Checked<'_>) -> Result<Vec<u8, A>, Memory> {
     let mut text = Vec::new(alloc);
-    let is_put = match checked {
-        Checked::Accepted(counts) => put_counts(&mut text, counts).is_ok(),
+    let is_put = match *checked {
+        Checked::Accepted(counts) => put_counts(&mut text, &counts).is_ok(),
         Checked::Refused { fault, place } => {
-            put_fault(&mut text, *fault).is_ok() && put_below(&mut text, *fault, place).is_ok()
+            put_fault(&mut text, fault).is_ok() && put_below(&mut text, fault, place).is_ok()
         }
     };
     if is_put { Ok(text) } else { Err(Memory) }

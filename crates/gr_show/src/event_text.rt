@@ -1,5 +1,8 @@
 //! Words, events, places, and what is told of an access, as text.
 
+ghost use Rattle.std.specs.Prelude.{Some};
+ghost use Rattle.gr_show.specs.Explanations.{event_text, word_text};
+
 use gr_json::names::{atomic_of, cause_name, cause_sentence, kind_name, order_name, scope_name};
 use gr_model::event::{EventId, Word};
 use gr_places::buffers::element_of;
@@ -17,6 +20,8 @@ pub(crate) type Added = Result<(), AllocError>;
 pub(crate) struct WordText(pub(crate) Word);
 
 impl Display for WordText {
+    ghost output = { λ w. Some (word_text w.0) };
+
     fn fmt<W: fmt::Write>(&self, f: &mut Formatter<W>) -> fmt::Result {
         match self.0 {
             Word::Global(number) => write!(f, "global {number}"),
@@ -30,6 +35,8 @@ impl Display for WordText {
 pub(crate) struct EventText(pub(crate) EventId);
 
 impl Display for EventText {
+    ghost output = { λ e. Some (event_text e.0) };
+
     fn fmt<W: fmt::Write>(&self, f: &mut Formatter<W>) -> fmt::Result {
         let EventId { at, index } = self.0;
         write!(f, "{} {} {index}", at.group, at.item)
@@ -64,15 +71,16 @@ impl Display for ToldText {
     }
 }
 
-/// Adds the line of a word and two events that race on it.
-pub(crate) fn put_pair<A: Allocator>(
+/// Adds the line of a word and two events that race on it, and the line of its buffer, where one is known.
+pub(crate) fn put_race<A: Allocator>(
     text: &mut String<A>,
+    sides: &Sides<'_>,
     word: Word,
-    first: EventId,
-    second: EventId,
+    pair: (EventId, EventId),
 ) -> Added {
-    let (word, first, second) = (WordText(word), EventText(first), EventText(second));
-    writeln!(text, "race {word}: {first} with {second}")
+    let (race, first, second) = (WordText(word), EventText(pair.0), EventText(pair.1));
+    writeln!(text, "race {race}: {first} with {second}")?;
+    put_buffer(text, sides, word)
 }
 
 /// Adds the line of the buffer of a word, where one is known.

@@ -20,10 +20,10 @@ fn put_named<A: Allocator + Copy>(text: &mut String<A>, before: &str, named: &Na
         write!(text, "{between} {}", EventText(*event))?;
         between = ",";
     }
-    if named.others > 0 {
-        write!(text, " and {} more", named.others)?;
+    match named.others {
+        0 => Ok(()),
+        others => write!(text, " and {others} more"),
     }
-    Ok(())
 }
 
 fn put_standing<A: Allocator + Copy>(text: &mut String<A>, standing: &Standing<A>) -> Added {
@@ -31,10 +31,8 @@ fn put_standing<A: Allocator + Copy>(text: &mut String<A>, standing: &Standing<A
     if standing.behind == 0 {
         return write!(text, " behind none");
     }
-    write!(text, " behind all")?;
-    if standing.races.count() > 0 {
-        write!(text, " others")?;
-    }
+    let is_alone = standing.races.count() == 0;
+    write!(text, " behind all{}", if is_alone { "" } else { " others" })?;
     put_named(text, " but", &standing.unordered)
 }
 
@@ -55,38 +53,25 @@ fn put_access<A: Allocator + Copy>(
     Ok(())
 }
 
-fn put_entries<A: Allocator + Copy>(
-    alloc: A,
-    text: &mut String<A>,
-    sides: &Sides<'_>,
-    told: &HistoryAnswer<A>,
-) -> Result<(), Memory> {
-    let places = PlaceIndex::of(alloc, sides.places)?;
-    let mut above = Above::new(alloc);
-    for entry in &told.entries {
-        write!(text, "access {}", EventText(entry.event))?;
-        if let Some(details) = told.known.get(&entry.event) {
-            put_access(alloc, text, &mut above, entry, details)?;
-        }
-        let at = AtText(places.place_of(Placed::Event(entry.event)));
-        writeln!(text, "{at}")?;
-    }
-    Ok(())
-}
-
 /// The text of the history of a word, with what side files say.
-///
-/// # Errors
-/// `Memory`: out of memory.
 pub(crate) fn history_text<A: Allocator + Copy>(
     alloc: A,
     sides: &Sides<'_>,
     word: Word,
     told: &HistoryAnswer<A>,
 ) -> Result<Vec<u8, A>, Memory> {
+    let places = PlaceIndex::of(alloc, sides.places)?;
+    let mut above = Above::new(alloc);
     let mut text = String::new(alloc);
     put_buffer(&mut text, sides, word)?;
-    put_entries(alloc, &mut text, sides, told)?;
+    for entry in &told.entries {
+        write!(text, "access {}", EventText(entry.event))?;
+        if let Some(details) = told.known.get(&entry.event) {
+            put_access(alloc, &mut text, &mut above, entry, details)?;
+        }
+        let at = AtText(places.place_of(Placed::Event(entry.event)));
+        writeln!(text, "{at}")?;
+    }
     let (accesses, races) = (told.entries.len(), if told.racy { "yes" } else { "no" });
     writeln!(
         text,

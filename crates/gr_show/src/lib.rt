@@ -8,21 +8,14 @@
 mod account_text;
 pub mod check_text;
 mod event_text;
-pub mod explanation;
 pub mod files;
-pub mod history;
 mod history_text;
-pub mod least_race;
-pub mod long_race;
 pub mod question;
-pub mod races;
+pub mod questions;
 mod races_text;
-mod show;
 mod streams;
-pub mod why_held;
 mod why_text;
 pub mod writing;
 
 pub use files::tell_files;
-pub use show::show_race;
-pub use streams::tell_streams;
+pub use streams::show_race;

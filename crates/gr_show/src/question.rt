@@ -9,6 +9,12 @@ use gr_model::traces::Traces;
 use gr_places::sides::Sides;
 use std::alloc::{Allocator, Global};
 
+/// A value, unless memory runs out.
+pub type OrMemory<T> = Result<T, Memory>;
+
+/// A text, unless memory runs out.
+pub type Text<A = Global> = Result<Vec<u8, A>, Memory>;
+
 /// What is told of a launch: a text, and whether what is looked for is found.
 #[derive(Drop)]
 pub(crate) struct Rendered<A: Allocator> {
@@ -33,15 +39,7 @@ pub trait Question<A: Allocator> {
     ghost is_text: { Self → SidesSaid → Streams → List ℕ → Type 0 };
 
     /// The answer of a launch, with what side files say.
-    ///
-    /// # Errors
-    /// `Memory`: out of memory.
-    fn answer(
-        &self,
-        alloc: A,
-        launch: &Traces<A>,
-        sides: &Sides<'_>,
-    ) -> Result<Self::Answer, Memory>
+    fn answer(&self, alloc: A, launch: &Traces<A>, sides: &Sides<'_>) -> OrMemory<Self::Answer>
         ensures { IfOk result (λ answer. is_answer self.now (sides_said sides.now) launch.now answer) };
 
     /// Whether an answer is that what it looks for is found.
@@ -49,10 +47,7 @@ pub trait Question<A: Allocator> {
         ensures { (said : SidesSaid) (launch : Streams) → is_answer self.now said launch answer.now → IsTrue result ↔ is_found self.now launch };
 
     /// A text of an answer, with what side files say.
-    ///
-    /// # Errors
-    /// `Memory`: out of memory.
-    fn text(&self, alloc: A, answer: &Self::Answer, sides: &Sides<'_>) -> Result<Vec<u8, A>, Memory>
+    fn text(&self, alloc: A, answer: &Self::Answer, sides: &Sides<'_>) -> Text<A>
         ensures { IfOk result (λ text. (launch : Streams) → is_answer self.now (sides_said sides.now) launch answer.now → is_text self.now (sides_said sides.now) launch text.items) };
 }
 
@@ -62,15 +57,7 @@ pub trait JsonQuestion: Question<Global> {
     ghost is_json: { Self → SidesSaid → Streams → List ℕ → Type 0 };
 
     /// The JSON of an answer, with what side files say.
-    ///
-    /// # Errors
-    /// `Memory`: out of memory.
-    fn json(
-        &self,
-        alloc: Global,
-        answer: &Self::Answer,
-        sides: &Sides<'_>,
-    ) -> Result<Vec<u8>, Memory>
+    fn json(&self, alloc: Global, answer: &Self::Answer, sides: &Sides<'_>) -> Text
         ensures { IfOk result (λ text. (launch : Streams) → Self.is_answer self.now (sides_said sides.now) launch answer.now → is_json self.now (sides_said sides.now) launch text.items) };
 }
 
@@ -87,12 +74,7 @@ impl<Q: JsonQuestion> Question<Global> for InJson<Q> {
 
     ghost is_text = { λ q. Q.is_json q.0 };
 
-    fn answer(
-        &self,
-        alloc: Global,
-        launch: &Traces,
-        sides: &Sides<'_>,
-    ) -> Result<Q::Answer, Memory> {
+    fn answer(&self, alloc: Global, launch: &Traces, sides: &Sides<'_>) -> OrMemory<Q::Answer> {
         self.0.answer(alloc, launch, sides)
     }
 
@@ -100,12 +82,7 @@ impl<Q: JsonQuestion> Question<Global> for InJson<Q> {
         self.0.found(answer)
     }
 
-    fn text(
-        &self,
-        alloc: Global,
-        answer: &Q::Answer,
-        sides: &Sides<'_>,
-    ) -> Result<Vec<u8>, Memory> {
+    fn text(&self, alloc: Global, answer: &Q::Answer, sides: &Sides<'_>) -> Text {
         self.0.json(alloc, answer, sides)
     }
 }

@@ -1,10 +1,8 @@
 //! The text of races, kind by kind.
 
-use crate::event_text::{Added, WordText, put_buffer, put_cause, put_pair};
+use crate::event_text::{Added, WordText, put_cause, put_race};
 use gr_json::names::{divergence_name, operation_name, space_name};
 use gr_model::memory::Memory;
-use gr_model::race::Race;
-use gr_model::report::Divergence;
 use gr_places::places::{Placed, place_of};
 use gr_places::sides::Sides;
 use gr_races::by_kind::RacesByKind;
@@ -33,12 +31,11 @@ fn put_kind<A: Allocator>(text: &mut String<A>, kind: RaceKind, words: usize) ->
 fn put_words<A: Allocator>(text: &mut String<A>, entry: &KindEntry<A>) -> Added {
     write!(text, "words")?;
     let mut left = entry.races.len() as u64;
-    for run in &entry.runs[..entry.runs.len().min(MOST_RUNS)] {
+    for run in entry.runs.iter().take(MOST_RUNS) {
         let (first, number) = (WordText(run.first), number_of(run.first));
-        if run.last == number {
-            write!(text, " {first}")?;
-        } else {
-            write!(text, " {first}..{}", run.last)?;
+        write!(text, " {first}")?;
+        if run.last != number {
+            write!(text, "..{}", run.last)?;
         }
         let words = u64::from(run.last.saturating_sub(number)).saturating_add(1);
         left = left.saturating_sub(words);
@@ -49,62 +46,39 @@ fn put_words<A: Allocator>(text: &mut String<A>, entry: &KindEntry<A>) -> Added 
     writeln!(text, "")
 }
 
-fn put_race<A: Allocator>(text: &mut String<A>, sides: &Sides<'_>, race: &Race) -> Added {
-    put_pair(text, race.word, race.first, race.second)?;
-    put_buffer(text, sides, race.word)?;
+/// Adds a kind with its words, and the first of its races with what side files say, and with its cause where it is told.
+fn put_entry<A: Allocator>(text: &mut String<A>, sides: &Sides<'_>, entry: &KindEntry<A>) -> Added {
+    let kind = entry.kind;
+    put_kind(text, kind, entry.races.len())?;
+    put_words(text, entry)?;
+    let Some(race) = entry.races.first() else {
+        return Ok(());
+    };
+    put_race(text, sides, race.word, (race.first, race.second))?;
     for (label, event) in [("first", race.first), ("second", race.second)] {
         if let Some(place) = place_of(sides.places, Placed::Event(event)) {
             writeln!(text, "{label} {place}")?;
         }
     }
-    Ok(())
-}
-
-fn put_entry<A: Allocator>(text: &mut String<A>, sides: &Sides<'_>, entry: &KindEntry<A>) -> Added {
-    put_kind(text, entry.kind, entry.races.len())?;
-    put_words(text, entry)?;
-    let Some(race) = entry.races.first() else {
-        return Ok(());
-    };
-    put_race(text, sides, race)?;
-    if entry.kind.all_write_here() {
+    if kind.all_write_here() {
         writeln!(text, "note all items write here")?;
     }
-    match entry.kind.cause {
+    match kind.cause {
         None => Ok(()),
         Some(cause) => put_cause(text, race.word, cause),
     }
 }
 
-/// Adds the lines of divergent instances of barriers, as the report has them.
-fn put_divergences<A: Allocator>(text: &mut String<A>, divergences: &[Divergence]) -> Added {
-    for divergence in divergences {
-        let (group, instance) = (divergence.group, divergence.instance);
-        writeln!(
-            text,
-            "diverge {group} {instance} {}",
-            divergence_name(divergence.cause)
-        )?;
-    }
-    Ok(())
-}
-
 fn put_end<A: Allocator>(text: &mut String<A>, found: &RacesByKind<A>) -> Added {
-    let (kinds, races) = (found.kinds.len(), found.races);
+    let (kinds, races, held) = (found.kinds.len(), found.races, found.report.held);
     let diverge = found.report.divergences.as_slice().len();
     let unmatched = found.report.unmatched.as_slice().len();
-    let held = found.report.held;
-    writeln!(
-        text,
-        "end kinds {kinds} races {races} diverge {diverge} unmatched {unmatched} held {held}"
-    )
+    write!(text, "end kinds {kinds} races {races} diverge {diverge} ")?;
+    writeln!(text, "unmatched {unmatched} held {held}")
 }
 
 /// The text of the divergent barriers of a launch, its races kind by kind, of at most so many kinds, with what side files say of
 /// them, and an end that counts all of them.
-///
-/// # Errors
-/// `Memory`: out of memory.
 pub(crate) fn races_text<A: Allocator>(
     alloc: A,
     sides: &Sides<'_>,
@@ -112,7 +86,11 @@ pub(crate) fn races_text<A: Allocator>(
     most: Option<u32>,
 ) -> Result<Vec<u8, A>, Memory> {
     let mut text = String::new(alloc);
-    put_divergences(&mut text, found.report.divergences.as_slice())?;
+    for divergence in found.report.divergences.as_slice() {
+        let (group, instance) = (divergence.group, divergence.instance);
+        let cause = divergence_name(divergence.cause);
+        writeln!(text, "diverge {group} {instance} {cause}")?;
+    }
     for entry in found.at_most(most) {
         put_entry(&mut text, sides, entry)?;
     }

@@ -1,4 +1,4 @@
-//! The answer to a question about a launch whose streams come from readers.
+//! The answer to a question about a launch whose streams come from readers; and the line of one word.
 
 ghost use Rattle.std.specs.Prelude.{◌≡◌, ◌≢◌, IfErr, IfOk, IfSome, map};
 ghost use Rattle.std.specs.Io.KnownBytes.{Keeps};
@@ -6,10 +6,14 @@ ghost use Rattle.gr_record.specs.declared.fault.Fault.TheVariants as faults;
 ghost use Rattle.gr_replay.specs.Each.{IsEachFault, all_known};
 ghost use Rattle.gr_places.specs.Files.{IsShowFault};
 ghost use Rattle.gr_places.specs.Sides.{sides_said};
+ghost use Rattle.gr_timeline.specs.Racy.{IsRacyIn};
+ghost use Rattle.gr_show.specs.Shown.{IsLine};
 ghost use Rattle.gr_show.specs.Told.{IsShown, IsTold, ShowsPrefix};
 
 use crate::question::{Question, Rendered};
+use crate::questions::LeastRace;
 use crate::writing::write_text;
+use gr_model::event::Word;
 use gr_places::sides::Sides;
 use gr_record::fault::Fault;
 use gr_replay::read_each;
@@ -38,28 +42,31 @@ pub(crate) fn answer_of_streams<A: Allocator + Copy, Q: Question<A>, T: Read + D
     })
 }
 
-/// Reads the streams of a launch, one from each reader, writes the text that answers the question and nothing else, and
-/// tells whether what the question looks for is found.
+/// Reads the streams of a launch, one from each reader, writes the line of the word and nothing else, and tells whether
+/// the word has a race.
 ///
 /// # Errors
-/// Those of `read_each`, or `Memory` where there is no memory for the answer: nothing is then written. `Write` where the writer
-/// fails, which then has a prefix of the text.
-pub fn tell_streams<A: Allocator + Copy, Q: Question<A>, T: Read + Drop, W: Write>(
+/// Those of `read_each`; `Write` where the writer fails, which then has a prefix of the line. In every other case of an
+/// error nothing is written.
+pub fn show_race<A: Allocator + Copy, T: Read + Drop, W: Write>(
     alloc: A,
-    question: &Q,
     readers: Vec<T, A>,
-    sides: &Sides<'_>,
+    word: Word,
     writer: &mut W,
 ) -> Result<bool, Fault>
-    ensures shown { IfOk result (λ found. IsShown (Q.is_text question.now (sides_said sides.now)) (Q.is_found question.now) (all_known (map T.remaining readers.items)) found (W.contents writer.old) (W.contents writer.new)) }
+    ensures shown { IfOk result (λ found. IsShown (IsLine word) (IsRacyIn word) (all_known (map T.remaining readers.items)) found (W.contents writer.old) (W.contents writer.new)) }
     ensures fault { IfErr result (λ f. IfSome (all_known (map T.remaining readers.items)) (λ inputs. IsShowFault inputs f)) }
+
+    // What a refusal leaves with the writer.
     ensures untouched { IfErr result (λ f. f ≢ faults.Write → Keeps (W.contents writer.old) (W.contents writer.new)) }
-    ensures prefix { IfErr result (λ f. f ≡ faults.Write → ShowsPrefix (Q.is_text question.now (sides_said sides.now)) (all_known (map T.remaining readers.items)) (W.contents writer.old) (W.contents writer.new)) }
+    ensures prefix { IfErr result (λ f. f ≡ faults.Write → ShowsPrefix (IsLine word) (all_known (map T.remaining readers.items)) (W.contents writer.old) (W.contents writer.new)) }
     ensures threads { IfErr result (λ f. f ≢ faults.Threads) }
 {
-    let told = answer_of_streams(alloc, question, readers, sides)?;
-    match write_text(writer, &told.text) {
-        Ok(()) => Ok(told.found),
-        Err(_) => Err(Fault::Write),
-    }
+    let sides = Sides {
+        places: &[],
+        buffers: &[],
+    };
+    let told = answer_of_streams(alloc, &LeastRace(word), readers, &sides)?;
+    write_text(writer, &told.text)?;
+    Ok(told.found)
 }

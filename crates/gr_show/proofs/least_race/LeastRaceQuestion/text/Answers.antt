@@ -1,5 +1,0 @@
-use Rattle.std.proofs.lemmas.Result.{IfOk-weaker}
-use Rattle.gr_show.proofs.least_race.LeastRaceQuestion.text.Goals as goal
-
-pub returns : goal.returns
-returns g c = IfOk-weaker c.line_of.result _ _ (λ text is launch least. record { pair = c.args.answer.now; least = least; is = is }) c.line_of.ensures

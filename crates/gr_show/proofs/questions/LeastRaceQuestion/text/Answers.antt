@@ -1,0 +1,5 @@
+use Rattle.std.proofs.lemmas.Result.{IfOk-weaker}
+use Rattle.gr_show.proofs.questions.LeastRaceQuestion.text.Goals as goal
+
+pub returns : goal.returns
+returns g c = IfOk-weaker c.line_of.result _ _ (λ text is launch least. record { pair = c.args.pair.now; least = least; is = is }) c.line_of.ensures

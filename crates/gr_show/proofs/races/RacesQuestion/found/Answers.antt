@@ -1,5 +1,0 @@
-use Rattle.gr_races.proofs.KindLemmas.{race_said}
-use Rattle.gr_show.proofs.races.RacesQuestion.found.Goals as goal
-
-pub returns : goal.returns
-returns g c = λ said launch are. let listed = are.listed in race_said launch listed.racy c.args.answer.now.races listed.words listed.counted

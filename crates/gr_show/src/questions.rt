@@ -1,0 +1,229 @@
+//! The questions.
+
+ghost use Rattle.std.specs.Prelude.{◌≡◌, IfOk, option_map};
+ghost use Rattle.gr_places.specs.SideLines.{place_number};
+ghost use Rattle.gr_races.specs.Accounts.{IsAccountOf, account_said};
+ghost use Rattle.gr_races.specs.Shown.{HasRace};
+ghost use Rattle.gr_timeline.specs.Racy.{IsRacyIn};
+ghost use Rattle.gr_timeline.specs.Why.{IsWhy, answer_of};
+ghost use Rattle.gr_show.specs.Explanations.{explanation_line};
+ghost use Rattle.gr_show.specs.Rendering.{Renders};
+ghost use Rattle.gr_show.specs.Shown.{AreRaces, IsExplanation, IsHeldIn, IsLine, IsToldOf, history_said, races_said};
+
+use crate::account_text::account_text;
+use crate::event_text::{EventText, WordText};
+use crate::history_text::history_text;
+use crate::question::{JsonQuestion, OrMemory, Question, Text};
+use crate::races_text::races_text;
+use crate::why_text::why_text;
+use gr_explain::explain::explain;
+use gr_json::held::why_json;
+use gr_json::history::history_json;
+use gr_json::race::{account_json, race_json};
+use gr_json::races::races_json;
+use gr_model::event::{EventId, Word};
+use gr_model::traces::Traces;
+use gr_places::sides::Sides;
+use gr_races::account::{Account, account_of};
+use gr_races::by_kind::{RacesByKind, races_by_kind};
+use gr_timeline::why::{WhyHeld, why_held};
+use gr_timeline::word_history::{HistoryAnswer, word_history_of};
+use std::alloc::{Allocator, Global};
+
+/// Two events that race.
+type Pair = (EventId, EventId);
+
+/// For the least racing pair of a word.
+#[derive(Clone, Copy, Debug)]
+pub struct LeastRace(pub Word);
+
+/// For the same, with what its accesses are, what stands between them, the cause, and the other races of the word.
+#[derive(Clone, Copy, Debug)]
+pub struct LongRace(pub Word);
+
+/// For the history of a word.
+#[derive(Clone, Copy, Debug)]
+pub struct WordHistory(pub Word);
+
+/// Why an event is held.
+#[derive(Clone, Copy, Debug)]
+pub struct HeldEvent(pub EventId);
+
+/// For the races of a launch by their kinds.
+#[derive(Clone, Copy, Debug)]
+pub struct Races {
+    /// How many kinds are told at most, if not all.
+    pub most: Option<u32>,
+    /// Whether the cause of all races of each kind is told.
+    pub causes: bool,
+}
+
+/// The line of a word and its least racing pair, or of a word that has none.
+fn line_of<A: Allocator>(alloc: A, word: Word, pair: Option<Pair>) -> Text<A>
+    ensures { IfOk result (λ text. text.items ≡ explanation_line word pair) }
+{
+    let word = WordText(word);
+    let text = match pair {
+        None => format!(in alloc; "no race {word}\n"),
+        Some((first, second)) => {
+            let (first, second) = (EventText(first), EventText(second));
+            format!(in alloc; "race {word}: {first} with {second}\n")
+        }
+    };
+    Ok(text?.into_bytes())
+}
+
+impl<A: Allocator + Copy> Question<A> for LeastRace {
+    type Answer = Option<Pair>;
+
+    ghost is_answer = { λ q said launch pair. IsExplanation launch q.0 pair };
+
+    ghost is_found = { λ q. IsRacyIn q.0 };
+
+    ghost is_text = { λ q said. IsLine q.0 };
+
+    fn answer(&self, alloc: A, launch: &Traces<A>, _: &Sides<'_>) -> OrMemory<Option<Pair>> {
+        explain(alloc, launch, self.0)
+    }
+
+    fn found(&self, pair: &Option<Pair>) -> bool {
+        pair.is_some()
+    }
+
+    fn text(&self, alloc: A, pair: &Option<Pair>, _: &Sides<'_>) -> Text<A> {
+        line_of(alloc, self.0, *pair)
+    }
+}
+
+impl JsonQuestion for LeastRace {
+    ghost is_json = { λ q said launch. Renders (IsExplanation launch q.0) };
+
+    fn json(&self, alloc: Global, pair: &Option<Pair>, _: &Sides<'_>) -> Text {
+        race_json(alloc, self.0, *pair)
+    }
+}
+
+impl<A: Allocator + Copy> Question<A> for LongRace {
+    type Answer = Option<Account<A>>;
+
+    ghost is_answer = { λ q said launch account. IsAccountOf launch (place_number said.places) q.0 (option_map account_said account) };
+
+    ghost is_found = { λ q. IsRacyIn q.0 };
+
+    ghost is_text = { λ q said launch. Renders (IsAccountOf launch (place_number said.places) q.0) };
+
+    fn answer(
+        &self,
+        alloc: A,
+        launch: &Traces<A>,
+        sides: &Sides<'_>,
+    ) -> OrMemory<Option<Account<A>>> {
+        account_of(alloc, launch, sides, self.0)
+    }
+
+    fn found(&self, account: &Option<Account<A>>) -> bool {
+        account.is_some()
+    }
+
+    fn text(&self, alloc: A, account: &Option<Account<A>>, sides: &Sides<'_>) -> Text<A> {
+        account_text(alloc, sides, self.0, account.as_ref())
+    }
+}
+
+impl JsonQuestion for LongRace {
+    ghost is_json = { λ q said launch. Renders (IsAccountOf launch (place_number said.places) q.0) };
+
+    fn json(&self, alloc: Global, account: &Option<Account>, sides: &Sides<'_>) -> Text {
+        account_json(alloc, sides, self.0, account.as_ref())
+    }
+}
+
+impl<A: Allocator + Copy> Question<A> for WordHistory {
+    type Answer = HistoryAnswer<A>;
+
+    ghost is_answer = { λ q said launch told. IsToldOf launch q.0 (history_said told) };
+
+    ghost is_found = { λ q. IsRacyIn q.0 };
+
+    ghost is_text = { λ q said launch. Renders (IsToldOf launch q.0) };
+
+    fn answer(&self, alloc: A, launch: &Traces<A>, _: &Sides<'_>) -> OrMemory<HistoryAnswer<A>> {
+        word_history_of(alloc, launch, self.0)
+    }
+
+    fn found(&self, told: &HistoryAnswer<A>) -> bool {
+        told.racy
+    }
+
+    fn text(&self, alloc: A, told: &HistoryAnswer<A>, sides: &Sides<'_>) -> Text<A> {
+        history_text(alloc, sides, self.0, told)
+    }
+}
+
+impl JsonQuestion for WordHistory {
+    ghost is_json = { λ q said launch. Renders (IsToldOf launch q.0) };
+
+    fn json(&self, alloc: Global, told: &HistoryAnswer, sides: &Sides<'_>) -> Text {
+        history_json(alloc, sides, self.0, told)
+    }
+}
+
+impl<A: Allocator + Copy> Question<A> for HeldEvent {
+    type Answer = WhyHeld<A>;
+
+    ghost is_answer = { λ q said launch why. IsWhy launch q.0 (answer_of why) };
+
+    ghost is_found = { λ q. IsHeldIn q.0 };
+
+    ghost is_text = { λ q said launch. Renders (IsWhy launch q.0) };
+
+    fn answer(&self, alloc: A, launch: &Traces<A>, _: &Sides<'_>) -> OrMemory<WhyHeld<A>> {
+        why_held(alloc, launch, self.0)
+    }
+
+    fn found(&self, why: &WhyHeld<A>) -> bool {
+        why.is_held()
+    }
+
+    fn text(&self, alloc: A, why: &WhyHeld<A>, _: &Sides<'_>) -> Text<A> {
+        why_text(alloc, self.0, why)
+    }
+}
+
+impl JsonQuestion for HeldEvent {
+    ghost is_json = { λ q said launch. Renders (IsWhy launch q.0) };
+
+    fn json(&self, alloc: Global, why: &WhyHeld, _: &Sides<'_>) -> Text {
+        why_json(alloc, self.0, why)
+    }
+}
+
+impl<A: Allocator + Copy> Question<A> for Races {
+    type Answer = RacesByKind<A>;
+
+    ghost is_answer = { λ q said launch found. AreRaces said q.causes launch (races_said found) };
+
+    ghost is_found = { λ q. HasRace };
+
+    ghost is_text = { λ q said launch. Renders (AreRaces said q.causes launch) };
+
+    fn answer(&self, alloc: A, launch: &Traces<A>, sides: &Sides<'_>) -> OrMemory<RacesByKind<A>> {
+        races_by_kind(alloc, launch, sides, self.causes)
+    }
+
+    fn found(&self, found: &RacesByKind<A>) -> bool {
+        found.races > 0
+    }
+
+    fn text(&self, alloc: A, found: &RacesByKind<A>, sides: &Sides<'_>) -> Text<A> {
+        races_text(alloc, sides, found, self.most)
+    }
+}
+
+impl JsonQuestion for Races {
+    ghost is_json = { λ q said launch. Renders (AreRaces said q.causes launch) };
+
+    fn json(&self, alloc: Global, found: &RacesByKind, sides: &Sides<'_>) -> Text {
+        races_json(alloc, sides, found, self.most)
+    }
+}
