@@ -51,11 +51,6 @@ pub fn begins_stream(bytes: &[u8]) -> bool {
     matches!(bytes, [b'G', b'R', b'T', b'1'..=b'4', ..])
 }
 
-/// Whether bytes begin with a header; what is missing of it is taken for right.
-fn is_header(bytes: &[u8]) -> bool {
-    begins_stream(bytes) && !matches!(read_front_header(bytes), Err(RecordError::BadHeader))
-}
-
 impl Account {
     /// The account of bytes of which none was read.
     pub fn new(alloc: Global, judges: bool) -> Account {
@@ -214,11 +209,15 @@ impl Account {
         self.header.is_none() && self.bytes.starts_with(b"group ")
     }
 
-    /// Whether a header begins in the record that stands next.
+    /// Whether a header begins in the record that stands next; what is missing of it is taken for right.
     pub fn has_header_inside(&self) -> bool {
         self.header.is_some_and(|header| {
             let mut places = 0..header.version.record_length();
-            places.any(|at| is_header(self.rest(at)))
+            places.any(|at| {
+                let rest = self.rest(at);
+                let header = read_front_header(rest);
+                begins_stream(rest) && !matches!(header, Err(RecordError::BadHeader))
+            })
         })
     }
 }

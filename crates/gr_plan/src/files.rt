@@ -17,18 +17,13 @@ use std::io::{self, ErrorKind, Read};
 use std::iter;
 use std::sync::Arc;
 
-/// What a name stands for.
+/// What a name stands for. A `File` may be read again; a `Pipe` is also a device.
 #[derive(Clone, Copy, PartialEq, Eq)]
 pub enum Kind {
-    /// Standard input.
     Input,
-    /// A file that may be read again.
     File,
-    /// A folder.
     Folder,
-    /// A pipe, or a device.
     Pipe,
-    /// Nothing.
     Missing,
 }
 

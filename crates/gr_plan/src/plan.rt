@@ -54,9 +54,6 @@ impl From<Fault> for Refusal {
 }
 
 /// What is done about the words of a command line, the program's name not among them.
-///
-/// # Errors
-/// Why nothing is done.
 pub fn plan_of(rt: HostRuntime, words: &[String]) -> Result<Plan, Refusal> {
     let mut plan = Plan {
         rt,
@@ -71,9 +68,6 @@ pub fn plan_of(rt: HostRuntime, words: &[String]) -> Result<Plan, Refusal> {
 
 impl Plan {
     /// Has the reading report how far it is, where standard error is a terminal.
-    ///
-    /// # Errors
-    /// `Memory`: out of memory.
     pub fn watch(&mut self) -> Result<(), Memory> {
         let rt = self.rt;
         if rt.stderr().is_terminal() {
@@ -86,9 +80,6 @@ impl Plan {
 
     /// Reports of the word that is asked for what an answer without a race does not say: that nothing accesses it, and that its name
     /// is in several memories.
-    ///
-    /// # Errors
-    /// Those of the writer.
     pub fn tell_word<W: Write>(&self, errors: &mut W) -> io::Result<()> {
         if let Some(sought) = &self.files.seen.sought {
             sought.tell(errors)?;
@@ -172,13 +163,12 @@ fn line_of<'a>(rt: HostRuntime, words: &'a [String]) -> Result<Option<Line<'a>>,
         return Ok(None);
     };
     let first = first.as_str();
-    match taking_of(first) {
-        Some(taking) => Ok(Some(Line::of(rt, first, taking, after)?)),
-        None if asks_for_report(rt, words) => {
-            Ok(Some(Line::of(rt, "replay", Taking::Joined, words)?))
-        }
-        None => Ok(None),
-    }
+    let line = match taking_of(first) {
+        Some(taking) => Line::of(rt, first, taking, after),
+        None if asks_for_report(rt, words) => Line::of(rt, "replay", Taking::Joined, words),
+        None => return Ok(None),
+    };
+    Ok(Some(line?))
 }
 
 /// Whether words without a command ask for a report: the first that is not the option of `replay`, if there is one, names a file that

@@ -100,9 +100,6 @@ fn records_in(version: Version, bytes: u64) -> u64 {
 
 impl Watched {
     /// Opens a name, and has it reported how far the reading is.
-    ///
-    /// # Errors
-    /// Those of the file.
     pub fn open(files: &Files, name: &str) -> io::Result<Watched> {
         Ok(Watched {
             source: files.open(name)?,

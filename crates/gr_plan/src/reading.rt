@@ -61,9 +61,6 @@ fn sources_of(rt: HostRuntime, names: &[String]) -> Result<Vec<Source>, Memory> 
 
 impl Reading {
     /// The input that these files have, one after another, or standard input where they are none.
-    ///
-    /// # Errors
-    /// `Memory`: out of memory.
     pub fn new(rt: HostRuntime, names: Vec<String>, keeping: Keeping) -> Result<Reading, Memory> {
         let alloc = rt.alloc();
         let is_text = keeping == Keeping::Text;

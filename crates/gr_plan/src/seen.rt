@@ -31,30 +31,19 @@ impl Sought {
         })
     }
 
-    /// Passes the header of a group's stream.
-    fn begin(&mut self, group: u16) {
-        self.has_group |= matches!(self.word, Word::Local(of, _) if of == group);
-    }
-
-    /// Passes a record of a group.
-    fn pass(&mut self, group: u16, event: &Event) {
-        self.is_accessed |= word_of(group, event) == Some(self.word);
-    }
-
     /// Reports that there is no such word, where that is so.
-    ///
-    /// # Errors
-    /// Those of the writer.
     pub fn tell<W: Write>(&self, errors: &mut W) -> io::Result<()> {
         match self.word {
             Word::Local(group, _) if !self.has_group => {
                 writeln!(errors, "gpurace: the launch has no group {group}")
             }
             _ if self.is_accessed => Ok(()),
-            Word::Global(word) => writeln!(
-                errors,
-                "gpurace: no record accesses word {word} of global memory"
-            ),
+            Word::Global(word) => {
+                writeln!(
+                    errors,
+                    "gpurace: no record accesses word {word} of global memory"
+                )
+            }
             Word::Local(group, word) => writeln!(
                 errors,
                 "gpurace: no record accesses word {word} of group {group}'s local memory"
@@ -78,18 +67,6 @@ pub struct Sited {
     pub places: Vec<u8>,
 }
 
-/// Where the lines of a text begin and end, line feeds included.
-fn lines_of(alloc: Global, text: &[u8]) -> Result<Vec<(usize, usize)>, Memory> {
-    let mut lines = Vec::new(alloc);
-    let mut start: usize = 0;
-    for line in text.split_inclusive(|byte| *byte == b'\n') {
-        let end = start.saturating_add(line.len());
-        lines.push((start, end))?;
-        start = end;
-    }
-    Ok(lines)
-}
-
 /// The line of the file of sites, from 0, that a record gives, if it gives one.
 fn site_of(record: &[u8]) -> Option<usize> {
     match record.get(SITE..)? {
@@ -101,20 +78,19 @@ fn site_of(record: &[u8]) -> Option<usize> {
 impl Sited {
     /// Of a folder whose file of sites has this text. No record has passed.
     pub fn new(alloc: Global, sites: Vec<u8>) -> Result<Sited, Memory> {
+        let (mut lines, mut start) = (Vec::new(alloc), 0_usize);
+        for line in sites.split_inclusive(|byte| *byte == b'\n') {
+            let place = line.strip_suffix(b"\n").unwrap_or(line);
+            lines.push((start, start.saturating_add(place.len())))?;
+            start = start.saturating_add(line.len());
+        }
         Ok(Sited {
-            lines: lines_of(alloc, sites.as_slice())?,
+            lines,
             sites,
             passed: Vec::new(alloc),
             barriers: Vec::new(alloc),
             places: Vec::new(alloc),
         })
-    }
-
-    /// Begins the stream of this header.
-    pub fn begin(&mut self, header: &Header) -> Result<(), Memory> {
-        self.passed.clear();
-        self.passed.resize(usize::from(header.items), 0)?;
-        Ok(())
     }
 
     /// Adds the line of a group's record, which says this event, if it gives its site. Barriers of one site have one line.
@@ -146,9 +122,8 @@ impl Sited {
                 .extend_from_slice(buffer.format(*number).as_bytes())?;
             self.places.push(b' ')?;
         }
-        let line = self.sites.get(place.0..place.1).unwrap_or(&[]);
-        let place = line.strip_suffix(b"\n").unwrap_or(line);
-        self.places.extend_from_slice(place)?;
+        self.places
+            .extend_from_slice(self.sites.get(place.0..place.1).unwrap_or(&[]))?;
         self.places.push(b'\n')?;
         Ok(())
     }
@@ -167,12 +142,13 @@ impl Seen {
     /// Passes the header of a stream.
     pub fn begin(&mut self, header: &Header) -> Result<(), Memory> {
         if let Some(sought) = &mut self.sought {
-            sought.begin(header.group);
+            sought.has_group |= matches!(sought.word, Word::Local(of, _) if of == header.group);
         }
-        match &mut self.sited {
-            None => Ok(()),
-            Some(sited) => sited.begin(header),
+        if let Some(sited) = &mut self.sited {
+            sited.passed.clear();
+            sited.passed.resize(usize::from(header.items), 0)?;
         }
+        Ok(())
     }
 
     /// Whether nobody sees the records.
@@ -183,7 +159,7 @@ impl Seen {
     /// Passes a record of the stream of this header, which says this event and is no end.
     pub fn pass(&mut self, header: &Header, event: &Event, record: &[u8]) -> Result<(), Memory> {
         if let Some(sought) = &mut self.sought {
-            sought.pass(header.group, event);
+            sought.is_accessed |= word_of(header.group, event) == Some(sought.word);
         }
         match &mut self.sited {
             None => Ok(()),

@@ -12,6 +12,9 @@ const MOST_SHOWN: usize = 64;
 /// Numbers that a header and a record have are below this.
 const MOST_NUMBERS: usize = 1 << 32;
 
+/// What may stand behind the last word, where a record may have a site.
+const SITE_OR_END: &str = "@ and a site, or the end of the line";
+
 /// Words of which one is due, as they are shown.
 type Words = &'static [&'static str];
 
@@ -73,28 +76,14 @@ fn is_site(word: &[u8]) -> bool {
     }
 }
 
-/// The orders that an access of this verb may have.
-fn orders_of(verb: &[u8]) -> Words {
-    match verb {
-        b"ld" => &["rlx", "acq"],
-        b"st" => &["rlx", "rel"],
-        b"rmw" => &["rlx", "acq", "rel", "both"],
-        _ => &[],
-    }
-}
-
-/// The version that the line of a header says at its end.
-fn version_said(line: &[u8]) -> Version {
-    match line {
+/// What is due at this place of the line of a header, whose version its end says.
+fn due_in_header(line: &[u8], at: usize) -> Due {
+    let version = match line {
         [.., b' ', b'v', b'4'] => Version::Four,
         [.., b' ', b'v', b'3'] => Version::Three,
         [.., b' ', b'v', b'2'] => Version::Two,
         _ => Version::One,
-    }
-}
-
-/// What is due at this place of the line of a header of this version.
-fn due_in_header(version: Version, at: usize) -> Due {
+    };
     match at {
         0 => Due::Header,
         1 => Due::Number("a group", version.most_groups()),
@@ -121,9 +110,14 @@ fn due_in_names(version: Version, at: usize) -> Due {
 /// What is due at this place of the line of a record in a stream of this header, where the words before it are right.
 fn due_in_record(header: Header, line: &[u8], at: usize) -> Due {
     let version = header.version;
-    let (verb, order) = (word_or_none(line, 1), word_or_none(line, 5));
-    let is_end = is_word(word_or_none(line, 0), "end");
-    let (is_barrier, orders) = (is_word(verb, "bar"), orders_of(verb));
+    let verb = word_or_none(line, 1);
+    let (is_end, is_barrier) = (is_word(word_or_none(line, 0), "end"), is_word(verb, "bar"));
+    let orders: Words = match verb {
+        b"ld" => &["rlx", "acq"],
+        b"st" => &["rlx", "rel"],
+        b"rmw" => &["rlx", "acq", "rel", "both"],
+        _ => &[],
+    };
     match at {
         0 => Due::Item(usize::from(header.items)),
         _ if is_site(word_or_none(line, at - 1)) => Due::Last(&[], false),
@@ -136,7 +130,7 @@ fn due_in_record(header: Header, line: &[u8], at: usize) -> Due {
         3 => Due::Number("a number", MOST_NUMBERS),
         4 if !orders.is_empty() => Due::Word(&["grp", "dev"]),
         5 if !orders.is_empty() => Due::Word(orders),
-        6.. if is_among(order, &["acq", "both"]) => due_in_names(version, at - 6),
+        6.. if is_among(word_or_none(line, 5), &["acq", "both"]) => due_in_names(version, at - 6),
         _ => Due::Last(&[], version.has_sites()),
     }
 }
@@ -157,17 +151,11 @@ impl Due {
 }
 
 /// Writes words of which one is due, the last behind this word.
-fn put_words<W: Write>(to: &mut W, words: Words, ends: Words, or: &str) -> io::Result<()> {
-    let count = words.len().saturating_add(ends.len());
-    for (at, word) in words.iter().chain(ends).enumerate() {
-        let between = match at {
-            0 => "",
-            _ if at.saturating_add(1) == count => or,
-            _ => ", ",
-        };
-        write!(to, "{between}{word}")?;
+fn put_words<W: Write>(to: &mut W, words: Words, or: &str, last: &str) -> io::Result<()> {
+    for (at, word) in words.iter().enumerate() {
+        write!(to, "{}{word}", if at == 0 { "" } else { ", " })?;
     }
-    Ok(())
+    write!(to, "{}{last}", if words.is_empty() { "" } else { or })
 }
 
 /// Writes what is due.
@@ -177,12 +165,12 @@ fn put_due<W: Write>(to: &mut W, due: Due) -> io::Result<()> {
         Due::Items(most) => write!(to, "a number from 1 to {most}"),
         Due::Item(items) => write!(to, "an item below {items}, or end"),
         Due::Number(what, below) => write!(to, "{what} below {below}"),
-        Due::Word(words) => put_words(to, words, &[], " or "),
-        Due::Last(words, false) => put_words(to, words, &["the end of the line"], " or "),
-        Due::Last(words, true) => {
-            let ends = &["@ and a site", "the end of the line"];
-            put_words(to, words, ends, ", or ")
-        }
+        Due::Word(words) => match words.split_last() {
+            None => Ok(()),
+            Some((last, words)) => put_words(to, words, " or ", last),
+        },
+        Due::Last(words, false) => put_words(to, words, " or ", "the end of the line"),
+        Due::Last(words, true) => put_words(to, words, ", ", SITE_OR_END),
     }
 }
 
@@ -215,7 +203,7 @@ pub fn tell_word<W: Write>(to: &mut W, text: &[u8], number: u64) -> io::Result<(
     write!(to, "gpurace: line {number}")?;
     for at in 0..usize::MAX {
         let due = match place {
-            Place::Outside => due_in_header(version_said(line), at),
+            Place::Outside => due_in_header(line, at),
             Place::Inside { header, .. } => due_in_record(header, line, at),
         };
         match word_at(line, at) {

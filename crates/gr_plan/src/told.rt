@@ -21,25 +21,26 @@ const OF_HEADER: [&str; 4] = [
 ];
 
 /// Passes on the line of a fault that is held back, with what is told beside it.
-///
-/// # Errors
-/// Those of standard error.
 pub fn tell(plan: &mut Plan, command: &str, errors: &mut Held) -> io::Result<()> {
     let line = errors.text();
     if line == "gpurace: read fault\n" {
         return tell_unread(plan, command, errors);
     }
     let is_header = OF_HEADER.iter().any(|end| line.ends_with(end));
-    let is_bad_line = line.ends_with(": bad line\n");
     let is_missing = line.starts_with("gpurace: group ") && line.ends_with(" missing\n");
+    let number = number_in(line, "gpurace: line ").filter(|_| line.ends_with(": bad line\n"));
     let stream = number_in(line, "gpurace: stream ");
-    let number = number_in(line, "gpurace: line ");
     errors.pass()?;
     match (stream, number) {
-        (Some(stream), _) => tell_stream(errors, plan, Subject { stream, is_header }),
-        (None, Some(number)) if is_bad_line => tell_line(errors, plan, number),
-        (None, _) if is_missing => tell_torn(errors, plan),
-        (None, _) => Ok(()),
+        (Some(stream), _) => tell_stream(errors, plan, stream, is_header),
+        (None, Some(number)) => tell_line(errors, plan, number),
+        (None, None) => match &plan.files.torn {
+            Some(name) if is_missing => writeln!(
+                errors,
+                "gpurace: {name}: its last stream is truncated, and streams behind it may be lost"
+            ),
+            _ => Ok(()),
+        },
     }
 }
 
@@ -115,18 +116,13 @@ fn tell_unread(plan: &Plan, command: &str, errors: &mut Held) -> io::Result<()> 
     writeln!(errors, "gpurace: {reason}")
 }
 
-/// What the line of a stream's fault speaks of.
-#[derive(Clone, Copy)]
-struct Subject {
-    /// The number of the stream, from 0.
-    stream: u64,
-    /// Whether the fault is of its header.
-    is_header: bool,
-}
-
 /// Writes where the fault of a stream is, if its file has a name, and what may have led to it.
-fn put<W: Write>(to: &mut W, of: Subject, name: Option<&str>, account: &Account) -> io::Result<()> {
-    let Subject { stream, is_header } = of;
+fn put<W: Write>(
+    to: &mut W,
+    (stream, is_header): (u64, bool),
+    name: Option<&str>,
+    account: &Account,
+) -> io::Result<()> {
     let record = account.records;
     if let Some(name) = name {
         write!(to, "gpurace: {name}: stream {stream}, ")?;
@@ -168,36 +164,30 @@ fn account_again(plan: &Plan, name: &str) -> Option<Account> {
 }
 
 /// Reports the fault of a stream, which is read from a file of its own or from the input.
-fn tell_stream<W: Write>(to: &mut W, plan: &mut Plan, of: Subject) -> io::Result<()> {
-    let number = of.stream as usize;
+fn tell_stream<W: Write>(
+    to: &mut W,
+    plan: &mut Plan,
+    stream: u64,
+    is_header: bool,
+) -> io::Result<()> {
+    let number = stream as usize;
     if let Some(name) = plan.files.names.get(number) {
         let name = name.as_str();
         return match account_again(plan, name) {
             None => writeln!(to, "gpurace: {name}: stream {number}"),
-            Some(account) => put(to, of, Some(name), &account),
+            Some(account) => put(to, (stream, is_header), Some(name), &account),
         };
     }
     let Some(mut account) = plan.reading.account.take() else {
         return Ok(());
     };
-    account.last = Some(of.stream);
+    account.last = Some(stream);
     if account.pass(&mut Seen::default()).is_err() {
         return Ok(());
     }
     let start = account.starts.get(number).copied();
     let name = plan.reading.name_at(start.unwrap_or(account.passed));
-    put(to, of, name, &account)
-}
-
-/// Reports which file ends inside a stream, where a group is missing: it may have been behind that.
-fn tell_torn<W: Write>(to: &mut W, plan: &Plan) -> io::Result<()> {
-    match &plan.files.torn {
-        None => Ok(()),
-        Some(name) => writeln!(
-            to,
-            "gpurace: {name}: its last stream is truncated, and streams behind it may be lost"
-        ),
-    }
+    put(to, (stream, is_header), name, &account)
 }
 
 /// Reports a line of a text that is at fault.
