@@ -4,20 +4,17 @@
 //! output and error, and what opens a file.
 #![tactic(auto)]
 
-mod refused;
-
-use crate::refused::refuse;
 use gr_command::execute::{execute, fail};
-use gr_command::status::USAGE;
+use gr_command::status::{FAILED, USAGE, status_of_sides_fault};
 use gr_model::memory::Memory;
+use gr_places::sides_fault::write_sides_fault;
 use gr_plan::files::Files;
 use gr_plan::held::Held;
-use gr_plan::plan::plan_of;
+use gr_plan::plan::{Refusal, plan_of};
 use gr_plan::progress::{Cleared, Watched};
 use gr_plan::reading::Reading;
 use gr_plan::told::tell;
 use gr_record::fault::Fault;
-use std::alloc::Global;
 use std::io::{BufWriter, ErrorKind, IsTerminal, Write};
 use std::process::ExitCode;
 use std::sync::Wait;
@@ -26,16 +23,29 @@ use std::time::Clock;
 use std::{env, io};
 
 /// The words behind the program's name. Where there are none, and a terminal would have to be typed on, they ask for help.
-fn words_or_help(
-    rt: HostRuntime,
-    alloc: Global,
-    words: Vec<String>,
-) -> Result<Vec<String>, Memory> {
-    let mut words = words;
+fn words_or_help(rt: HostRuntime, mut words: Vec<String>) -> Result<Vec<String>, Memory> {
     if words.is_empty() && rt.stdin().is_terminal() {
-        words.push(String::from_str(alloc, "--help")?)?;
+        words.push(String::from_str(rt.alloc(), "--help")?)?;
     }
     Ok(words)
+}
+
+/// Tells why nothing is done, and gives the exit status. That standard error fails is passed over.
+fn refuse<E: Write>(refusal: &Refusal, errors: &mut E) -> u8 {
+    match refusal {
+        Refusal::Fault(fault) => {
+            let _ = write_sides_fault(fault, errors);
+            status_of_sides_fault(fault)
+        }
+        Refusal::NoFile(reason) => {
+            let _ = writeln!(errors, "gpurace: {reason}");
+            FAILED
+        }
+        Refusal::Usage(text) => {
+            let _ = writeln!(errors, "error: {text}");
+            USAGE
+        }
+    }
 }
 
 /// Does what these words ask for, with this input, and gives the exit status. Only a run in threads uses `handle`.
@@ -61,15 +71,8 @@ where
     let Ok(mut writer) = BufWriter::new(alloc, writer) else {
         return fail(&Fault::Memory, errors);
     };
-    execute(
-        handle,
-        alloc,
-        words,
-        reading,
-        move |name| Watched::open(files, name),
-        &mut writer,
-        errors,
-    )
+    let opener = move |name: &str| Watched::open(files, name);
+    execute(handle, alloc, words, reading, opener, &mut writer, errors)
 }
 
 /// Does what the words of the command line ask for, and gives the exit status. Only a run in threads uses `handle`.
@@ -100,10 +103,9 @@ where
 }
 
 fn main(rt: HostRuntime) -> ExitCode {
-    let alloc = rt.alloc();
     let mut errors = rt.stderr();
     let words = match env::args(&rt) {
-        Ok(words) => words,
+        Ok(words) => words.skip(1).collect::<Vec<String>>(rt.alloc()),
         Err(error) if error.kind() == ErrorKind::OutOfMemory => {
             return ExitCode::from(fail(&Fault::Memory, &mut errors));
         }
@@ -112,11 +114,11 @@ fn main(rt: HostRuntime) -> ExitCode {
             return ExitCode::from(USAGE);
         }
     };
-    let Ok(words) = words.skip(1).collect::<Vec<String>>(alloc) else {
-        return ExitCode::from(fail(&Fault::Memory, &mut errors));
-    };
-    let Ok(words) = words_or_help(rt, alloc, words) else {
-        return ExitCode::from(fail(&Fault::Memory, &mut errors));
-    };
-    ExitCode::from(run(rt, rt, words.as_slice()))
+    match words
+        .map_err(Memory::from)
+        .and_then(|words| words_or_help(rt, words))
+    {
+        Ok(words) => ExitCode::from(run(rt, rt, words.as_slice())),
+        Err(_) => ExitCode::from(fail(&Fault::Memory, &mut errors)),
+    }
 }
