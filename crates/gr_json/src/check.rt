@@ -63,6 +63,9 @@ fn place_value(alloc: Global, place: FaultPlace<'_>) -> Made {
 }
 
 /// The line of a check: how large the launch is; or where its fault is, what is wrong and what would be right.
+///
+/// # Errors
+/// `Memory`: out of memory.
 pub fn check_json(alloc: Global, checked: &Checked<'_>) -> Text {
     let object = match *checked {
         Checked::Accepted(counts) => counts_value(alloc, &counts),

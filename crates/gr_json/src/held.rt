@@ -42,6 +42,9 @@ fn link_value(alloc: Global, link: &Link) -> Made {
 }
 
 /// Why an event is held, or that it is not, as lines of JSON.
+///
+/// # Errors
+/// `Memory`: out of memory.
 pub fn why_json<A: Allocator>(alloc: Global, event: EventId, why: &WhyHeld<A>) -> Text {
     let told = match why {
         WhyHeld::NoRecord => "no record",

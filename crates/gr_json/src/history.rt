@@ -49,6 +49,9 @@ fn entry_value(
 
 /// The history of a word, with what side files say of it and of its accesses, and at the end how many accesses there are, how many
 /// others are held, and whether some of them race, as lines of JSON.
+///
+/// # Errors
+/// `Memory`: out of memory.
 pub fn history_json(alloc: Global, sides: &Sides<'_>, word: Word, told: &HistoryAnswer) -> Text {
     let places = PlaceIndex::of(alloc, sides.places)?;
     let mut above = Above::new(alloc);

@@ -22,6 +22,9 @@ fn no_race_value(alloc: Global, word: Word) -> Made {
 }
 
 /// The line of a word and its racing pair, or of a word that has none.
+///
+/// # Errors
+/// `Memory`: out of memory.
 pub fn race_json(alloc: Global, word: Word, pair: Option<(EventId, EventId)>) -> Text {
     let Some((first, second)) = pair else {
         return line_of(alloc, no_race_value(alloc, word));
@@ -86,6 +89,9 @@ fn other_value(alloc: Global, places: &PlaceIndex<'_>, other: &KindedRace) -> Ma
 
 /// The line of a word's racing pair, what its accesses are, what stands between them, the cause of their race and the word's other
 /// races, or of a word that has none.
+///
+/// # Errors
+/// `Memory`: out of memory.
 pub fn account_json(
     alloc: Global,
     sides: &Sides<'_>,

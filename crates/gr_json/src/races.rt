@@ -61,6 +61,9 @@ fn entry_value(alloc: Global, sides: &Sides<'_>, entry: &KindEntry) -> Made {
 
 /// The divergent barriers of a launch, its races kind by kind, of at most so many kinds, with what side files say of them, and an
 /// end that counts all of them and what is no race, as lines of JSON.
+///
+/// # Errors
+/// `Memory`: out of memory.
 pub fn races_json(
     alloc: Global,
     sides: &Sides<'_>,

@@ -19,6 +19,9 @@ pub(crate) fn divergence_value(alloc: Global, divergence: &Divergence) -> Made {
 }
 
 /// The report as lines of JSON, in the order of its text.
+///
+/// # Errors
+/// `Memory`: out of memory.
 pub fn report_json<A: Allocator>(alloc: Global, report: &Report<A>) -> Text {
     let (races, divergences) = (report.races.as_slice(), report.divergences.as_slice());
     let unmatched = report.unmatched.as_slice();

@@ -54,6 +54,9 @@ impl From<Fault> for Refusal {
 }
 
 /// What is done about the words of a command line, the program's name not among them.
+///
+/// # Errors
+/// Why nothing is done.
 pub fn plan_of(rt: HostRuntime, words: &[String]) -> Result<Plan, Refusal> {
     let mut plan = Plan {
         rt,
@@ -68,6 +71,9 @@ pub fn plan_of(rt: HostRuntime, words: &[String]) -> Result<Plan, Refusal> {
 
 impl Plan {
     /// Has the reading report how far it is, where standard error is a terminal.
+    ///
+    /// # Errors
+    /// `Memory`: out of memory.
     pub fn watch(&mut self) -> Result<(), Memory> {
         let rt = self.rt;
         if rt.stderr().is_terminal() {

@@ -56,6 +56,9 @@ fn put_below<W: Write>(writer: &mut W, fault: Fault, place: FaultPlace<'_>) -> i
 }
 
 /// The text of a check.
+///
+/// # Errors
+/// `Memory`: out of memory.
 pub fn check_text<A: Allocator>(alloc: A, checked: &Checked<'_>) -> Result<Vec<u8, A>, Memory> {
     let mut text = Vec::new(alloc);
     let is_put = match *checked {
