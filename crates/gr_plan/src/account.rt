@@ -72,9 +72,15 @@ impl Account {
         let before = self.all_records;
         self.pass(seen)?;
         if self.fault.is_none() {
-            self.bytes.extend_from_slice(piece)?;
+            self.add(piece)?;
         }
         Ok(self.all_records.saturating_sub(before))
+    }
+
+    /// Adds bytes to those at hand.
+    fn add(&mut self, piece: &[u8]) -> Result<(), Memory> {
+        self.bytes.extend_from_slice(piece)?;
+        Ok(())
     }
 
     /// Takes and passes the bytes of a reader, up to its end or to what is not of a stream, and shows what is passed.
@@ -85,7 +91,8 @@ impl Account {
         let mut piece = [0u8; PIECE_LENGTH];
         for _ in 0..u64::MAX {
             let n = reader.read(&mut piece).map_err(|error| fault_of(&error))?;
-            self.take(&piece[..n], seen)?;
+            self.add(&piece[..n])?;
+            self.pass(seen)?;
             if n == 0 || self.fault.is_some() {
                 break;
             }
