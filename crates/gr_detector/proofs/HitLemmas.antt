@@ -1,5 +1,5 @@
 -- The words that are hit in what some worker was given, and that they are the races.
-use Rattle.std.proofs.Common.{◌≡◌, ◌⊎◌, ◌↔◌, ◌==◌, ℕ, ◌<◌, ◌≤◌, true, List, [], ◌∷◌, ◌++◌, length, get_or, Result, Ok, Err, refl, sym, ap, ◌∙◌, subst, inl, inr, ⊎_elim, arith, append-nil, eq-eqb}
+use Rattle.std.proofs.Common.{◌≡◌, ◌⊎◌, ◌↔◌, ◌==◌, ℕ, ◌<◌, ◌≤◌, true, List, [], ◌∷◌, ◌++◌, length, get_or, Result, Ok, Err, refl, sym, ◌∙◌, subst, inl, inr, ⊎_elim, arith, append-nil, eq-eqb}
 use Rattle.std.specs.Prelude.{Contains, IfOk}
 use Rattle.std.proofs.lemmas.Bool.{cases_lt}
 use Rattle.std.proofs.lemmas.List.{get_or_append_left, get_or_push, length-append, length-map}
@@ -57,9 +57,7 @@ merged items (Err e) old more seen given both first second = tt
 
 -- a word that is hit in the accesses that go to a worker goes to the worker
 hit_goes : (workers k : ℕ) (v : Word) (accesses : List ClockedAccess) → IsHitIn (accesses_for workers k accesses) v → (worker_number v workers == k) ≡ true
-hit_goes workers k v accesses (p, q, x, y, before, first, second, clash) =
-    let there = filter-there (λ z. worker_number z.word workers == k) accesses p x first in
-    ap (λ u. worker_number u workers == k) (sym clash.first) ∙ there.2
+hit_goes workers k v accesses (p, q, x, y, before, first, second, clash) = grind (arith, filter-there)
 
 module _ {A : Type 0} (config : Settings) (is : IsConfig config) (seq : Sequence) (takers : List Taker) (givers : List (Giver A)) (worker_count : length givers ≡ config.workers) (whole : IsWhole config seq takers givers) where
   -- what a worker was given are the accesses to its words

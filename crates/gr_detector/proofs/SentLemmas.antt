@@ -1,9 +1,9 @@
 -- What was taken is what was sent, where all ends were popped.
-use Rattle.std.proofs.Common.{◌≡◌, ◌==◌, ℕ, suc, ◌<◌, ◌%◌, cond, IsTrue, List, [], ◌∷◌, length, map, get_or, slice_get, sym, ap, ◌∙◌, subst, ⊎_elim, arith, eq-eqb, ne_eqb}
+use Rattle.std.proofs.Common.{◌≡◌, ◌==◌, ℕ, suc, ◌<◌, ◌%◌, IsTrue, List, [], ◌∷◌, length, map, get_or, slice_get, sym, ap, ◌∙◌, subst, arith}
 use Rattle.std.specs.Prelude.{All, filter}
 use Rattle.std.specs.List.{range_with_len}
 use Rattle.std.proofs.Math.Nat.{mod-lt}
-use Rattle.std.proofs.lemmas.Bool.{cases_eq}
+use Rattle.std.proofs.lemmas.Bool.Decides.{nat_tests}
 use Rattle.std.proofs.lemmas.List.{ext_get_or, get_or-map, length-map}
 use Rattle.std.proofs.lemmas.List.FromFn.{get_or-map-range_with_len, length-map-range_with_len}
 use Rattle.atomic_table.specs.Seated.{TableId}
@@ -20,14 +20,7 @@ use Rattle.gr_detector.specs.Settling.{AreHere, ArePopped, popped_at, pops_of}
 -- of a group that is there once, what was popped is what its receipt has
 sent_is : (pops : List (List Sent)) (g : ℕ) (receipts : List Seat) → IsTrue (is_complete (popped_at pops g)) → ArePopped pops receipts → length (filter (λ (r : Seat). r.group == g) receipts) ≡ 1 → popped_at pops g ≡ sent_of g receipts
 sent_is pops g [] whole told once = absurd (omega (arith, once))
-sent_is pops g (r ∷ receipts) whole told once = ⊎_elim
-    (λ (same : r.group ≡ g).
-    subst (λ n. IsTrue (is_complete (popped_at pops n)) → popped_at pops n ≡ r.pushed) same told.0.whole whole
-    ∙ sym (ap (λ b. cond b r.pushed (sent_of g receipts)) (eq-eqb r.group g same)))
-    (λ apart.
-    let rest : length (filter (λ (s : Seat). s.group == g) receipts) ≡ 1 = sym (ap (λ b. length (cond b (r ∷ filter (λ (s : Seat). s.group == g) receipts) (filter (λ (s : Seat). s.group == g) receipts))) (ne_eqb r.group g apart)) ∙ once in
-    sent_is pops g receipts whole told.1 rest ∙ sym (ap (λ b. cond b r.pushed (sent_of g receipts)) (ne_eqb r.group g apart)))
-    (cases_eq r.group g)
+sent_is pops g (r ∷ receipts) whole told once = grind (arith, nat_tests, told.0.whole, sent_is pops g receipts whole told.1)
 
 popped_here : (takers : List Taker) (q : ℕ) (g : ℕ) → q < length takers → (events : List Event) → ((d : Taker) → events ≡ popped_of (get_or takers q d) g) → events ≡ events_of g (get_or (pops_of takers) q [])
 popped_here [] q g lt events h = absurd (omega (arith, lt))

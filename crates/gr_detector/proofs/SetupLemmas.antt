@@ -1,33 +1,26 @@
 -- What a run is set up of, one queue, one sender and one worker after another.
-use Rattle.std.proofs.Common.{◌≡◌, ◌≢◌, ◌⊎◌, ℕ, ◌+◌, ◌<◌, ◌≤◌, ◌%◌, List, [], ◌∷◌, ◌++◌, length, get_or, set, cond, Some, slice_get, sym, ap, ◌∙◌, subst, ⊎_elim, arith, eq-eqb, ne_eqb}
+use Rattle.std.proofs.Common.{refl, ◌≡◌, ◌≢◌, ℕ, ◌+◌, ◌<◌, ◌%◌, List, [], ◌∷◌, ◌++◌, length, get_or, set, Some, slice_get, sym, ap, ◌∙◌, ⊎_elim, arith}
 use Rattle.std.proofs.Math.ListN.{get_or-eq_default}
 use Rattle.std.proofs.Math.Nat.{mod-lt}
-use Rattle.std.proofs.lemmas.Bool.{cases_eq, cases_lt}
-use Rattle.std.proofs.lemmas.List.{get_or-map, get_or-set_other, get_or-set_same, get_or_append_left, get_or_push, length-append, length-map, length-set}
+use Rattle.std.proofs.lemmas.Bool.{cases_eq}
+use Rattle.std.proofs.lemmas.Bool.Decides.{nat_tests}
+use Rattle.std.proofs.lemmas.List.{get_or-map, get_or-set_other, get_or-set_same, length-append, length-map, length-set}
 use Rattle.std.proofs.lemmas.Option.{slice_get-get_or}
 use Rattle.atomic_table.specs.Seated.{TableId}
 use Rattle.gr_model.specs.declared.limits.TheConstants.{MOST_GROUPS}
 use Rattle.gr_model.specs.Configs.{Settings}
+use Rattle.gr_clocks.proofs.RowLemmas as rows
 use Rattle.gr_route.proofs.Sizes.{each_has_place, none_has_size}
 use Rattle.gr_route.specs.IntakeSeats.{Taker}
 use Rattle.gr_threads.specs.Senders.{Sending}
+use Rattle.gr_sequencer_thread.proofs.Changes.{where_set}
 use Rattle.gr_sequencer_thread.specs.Feeds.{AreSeated, intakes_of}
 use Rattle.gr_detector.specs.Runs.{AreSendersOf, Run}
 use Rattle.gr_detector.specs.Setups.{AreOpenBelow, AreSeatedBelow, AreUnseated, IsOpenSender}
 
--- what is so of each element, where one was replaced
-pub where_set : {X : Type 0} (P : ℕ → X → Type 0) (xs : List X) (i : ℕ) (x d : X) → i < length xs → P i x → ((k : ℕ) → k ≢ i → P k (get_or xs k d)) → (k : ℕ) → P k (get_or (set xs i x) k d)
-where_set P xs i x d there here others k = ⊎_elim
-    (λ (same : k ≡ i). subst (λ n. P n (get_or (set xs i x) n d)) (sym same) (subst (P i) (sym (get_or-set_same xs i x d there)) here))
-    (λ apart. subst (P k) (sym (get_or-set_other xs i k x d apart)) (others k apart))
-    (cases_eq k i)
-
 -- what is so of each element is so of each where one more is, of which it is so
 pub each_more : {X : Type 0} (P : X → Type 0) (xs : List X) (x : X) → ((k : ℕ) (d : X) → k < length xs → P (get_or xs k d)) → P x → (k : ℕ) (d : X) → k < length (xs ++ x ∷ []) → P (get_or (xs ++ x ∷ []) k d)
-each_more P xs x each here k d lt = ⊎_elim
-    (λ (before : k < length xs). subst P (sym (get_or_append_left xs (x ∷ []) d k before)) (each k d before))
-    (λ (after : length xs ≤ k). subst P (sym (get_or_push xs x d k (omega (arith, lt, after, length-append xs (x ∷ []))))) here)
-    (cases_lt k (length xs))
+each_more P xs x each here k d lt = rows.each_push (λ _ y. P y) d xs (xs ++ x ∷ []) x (length xs) refl (λ j. each j d) here refl k (omega (arith, lt, length-append xs (x ∷ [])))
 
 -- and where one element was replaced by one of which it is so
 pub each_set : {X : Type 0} (P : X → Type 0) (xs : List X) (i : ℕ) (x : X) → ((k : ℕ) (d : X) → k < length xs → P (get_or xs k d)) → P x → i < length xs → (k : ℕ) (d : X) → k < length (set xs i x) → P (get_or (set xs i x) k d)
@@ -35,12 +28,7 @@ each_set P xs i x each here there k d lt = where_set (λ j y. j < length xs → 
 
 -- one sender more
 pub open_more : (n : ℕ) (sizes : List ℕ) (intakes : List TableId) (senders : List Sending) (s : Sending) → length senders ≡ n → AreOpenBelow n sizes intakes senders → IsOpenSender sizes intakes n s → AreOpenBelow (n + 1) sizes intakes (senders ++ s ∷ [])
-open_more n sizes intakes senders s count each here g d lt = ⊎_elim
-    (λ (before : g < n). subst (IsOpenSender sizes intakes g) (sym (get_or_append_left senders (s ∷ []) d g (omega (arith, before, count)))) (each g d before))
-    (λ (after : n ≤ g).
-    let same : g ≡ n = omega (arith, lt, after) in
-    subst (IsOpenSender sizes intakes g) (sym (get_or_push senders s d g (count ∙ sym same))) (subst (λ m. IsOpenSender sizes intakes m s) (sym same) here))
-    (cases_lt g n)
+open_more n sizes intakes senders s count each here g d lt = rows.each_push (IsOpenSender sizes intakes) d senders (senders ++ s ∷ []) s n count (λ k. each k d) here refl g lt
 
 -- the queue that a group's events go to
 pub queue_at : (takers : List Taker) (intakes : List TableId) (n : ℕ) (d : Taker) → intakes_of takers ≡ intakes → 0 < length takers → slice_get intakes (n % length intakes) ≡ Some (get_or takers (n % length takers) d).queue
@@ -55,15 +43,7 @@ abbrev pub seating : Taker → ℕ → ℕ → Taker
 seating t g n = record { queue = t.queue; popped = t.popped; sizes = set t.sizes g n; joined = t.joined }
 
 pub none_seated : (sizes : List ℕ) (takers : List Taker) → AreUnseated takers → AreSeatedBelow 0 sizes takers
-none_seated sizes takers un = record {
-  wide = λ q d lt. ap length (un q d lt) ∙ each_has_place;
-  seated = λ q g d lt below. absurd (omega (arith, below));
-  later = λ q g d lt after. zero_at q g d lt;
-  others = λ q g d lt other. zero_at q g d lt;
-}
-  where
-    zero_at : (q g : ℕ) (d : Taker) → q < length takers → get_or (get_or takers q d).sizes g 0 ≡ 0
-    zero_at q g d lt = ap (λ (l : List ℕ). get_or l g 0) (un q d lt) ∙ none_has_size g
+none_seated sizes takers un = grind (arith, un, each_has_place, none_has_size)
 
 module _ (n : ℕ) (sizes : List ℕ) (takers : List Taker) (was : AreSeatedBelow n sizes takers) (few : n < MOST_GROUPS) (some : 0 < length takers) (t : Taker) (at : t ≡ get_or takers (n % length takers) t) where
   abbrev pub new : List Taker
@@ -111,29 +91,8 @@ module _ (n : ℕ) (sizes : List ℕ) (takers : List Taker) (was : AreSeatedBelo
 
 -- all groups have had theirs
 pub all_seated : (config : Settings) (sizes : List ℕ) (takers : List Taker) → length takers ≡ config.queues → AreSeatedBelow (length sizes) sizes takers → AreSeated config sizes takers
-all_seated config sizes takers count below q g d lt =
-    let within : q < length takers = omega (arith, lt, count) in
-    ⊎_elim
-    (λ (mine : g % config.queues ≡ q). ⊎_elim
-    (λ (there : g < length sizes). below.seated q g d within there (ap (λ m. g % m) count ∙ mine))
-    (λ (past : length sizes ≤ g). below.later q g d within past ∙ sym (get_or-eq_default sizes 0 past))
-    (cases_lt g (length sizes))
-    ∙ sym (ap (λ b. cond b (get_or sizes g 0) 0) (eq-eqb (g % config.queues) q mine)))
-    (λ other. below.others q g d within (λ same. other (ap (λ m. g % m) (sym count) ∙ same))
-    ∙ sym (ap (λ b. cond b (get_or sizes g 0) 0) (ne_eqb (g % config.queues) q other)))
-    (cases_eq (g % config.queues) q)
+all_seated config sizes takers count below q g d lt = grind (arith, nat_tests, count, below.seated q g d, below.later q g d, below.others q g d, get_or-eq_default sizes 0)
 
 -- open senders are senders of the run
 pub senders_are : (run : Run) (intakes : List TableId) (senders : List Sending) → run.intakes ≡ intakes → length intakes ≡ run.config.queues → length senders ≡ length run.sizes → AreOpenBelow (length run.sizes) run.sizes intakes senders → AreSendersOf run senders
-senders_are run intakes senders same count all each = record {
-  count = all;
-  each = λ g d lt.
-      let is = each g d lt in
-      record {
-        group = is.group;
-        items = is.items;
-        records = is.records;
-        sent = is.sent;
-        of_run = record { there = lt; here = ap (λ (l : List TableId). slice_get l (g % run.config.queues)) same ∙ (ap (λ n. slice_get intakes (g % n)) (sym count) ∙ is.here) };
-      };
-}
+senders_are run intakes senders same count all each = grind (arith, count, each)
