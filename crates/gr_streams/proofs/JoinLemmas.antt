@@ -1,17 +1,28 @@
 -- The senders and the receipts of streams, one stream after the other.
-use Rattle.std.proofs.Common.{◌≡◌, ◌≢◌, ℕ, suc, ◌+◌, ◌<◌, List, [], ◌∷◌, ◌++◌, length, map, get_or, set, Contains, Option, None, Some}
-use Rattle.std.proofs.Common.{Result, Ok, Err, refl, sym, ap, ◌∙◌, subst, arith, inl, inr}
+use Rattle.std.proofs.Common.{◌≡◌, ◌≢◌, ℕ, zero, suc, ◌+◌, ◌-◌, ◌<◌, List, [], ◌∷◌, ◌++◌, length, map, get_or, set, All, Contains, Option, None, Some}
+use Rattle.std.proofs.Common.{Result, Ok, Err, append-nil, refl, sym, ap, ◌∙◌, subst, arith, inl, inr}
 use Rattle.std.proofs.lemmas.Bool.{cases_eq, cases_lt}
 use Rattle.std.proofs.Math.Seq.{get_or-append_seam}
-use Rattle.std.proofs.lemmas.List.{get_or-set_other, get_or-set_same, get_or_append_left, get_or_past, length-append}
+use Rattle.std.proofs.lemmas.List.{get_or-append_right, get_or-set_other, get_or-set_same, get_or_append_left, get_or_past, length-append, length-map, map-append, nil_from_length}
+use Rattle.std.proofs.lemmas.List.Elements.{All-cons, All-head, All-nil, All-tail, Contains-append_left}
 use Rattle.gr_model.specs.declared.event.Event.{Event}
 use Rattle.gr_record.specs.declared.fault.Fault.{Fault}
 use Rattle.gr_record.specs.declared.header.Header.{Header}
 use Rattle.gr_intake.specs.Joined.{◌>>=◌}
+use Rattle.gr_route.specs.Batches.{all_of}
 use Rattle.gr_threads.specs.Senders.{Sending}
 use Rattle.gr_streams.specs.Headers.{AreApart}
 use Rattle.gr_streams.specs.Records.{and_one, events_at, lists_behind, lists_of}
-use Rattle.gr_streams.specs.Sources.{ArePlaced, AreServed, Begun, HasSender}
+use Rattle.gr_streams.specs.Sources.{AreBegun, AreEndsOf, ArePlaced, AreServed, Begun, HasSender, IsEndOf}
+use Rattle.gr_streams.specs.declared.forward.Ended.{Ended}
+
+-- ---- nothing is left
+
+pub all_yielded : {X : Type 0} (ys left all : List X) → ys ++ left ≡ all → length left ≡ 0 → ys ≡ all
+all_yielded ys left all is none = sym (append-nil ys) ∙ (ap (λ (l : List _). ys ++ l) (sym (nil_from_length left none)) ∙ is)
+
+pub all_joined : {X : Type 0} (ys : List X) (left : List (List X)) (all : List X) → ys ++ all_of left ≡ all → length left ≡ 0 → ys ≡ all
+all_joined ys left all is none = all_yielded ys (all_of left) all is (ap (λ (l : List (List _)). length (all_of l)) (nil_from_length left none))
 
 -- ---- a sender is taken from its place
 
@@ -57,24 +68,75 @@ served_next h hs senders served =
       ready = λ x s in_hs at. served.ready x s (contains_tail h x hs in_hs) (was_there senders h.group lt x.group s at);
     }
 
--- ---- one more stream
+-- the first headers have senders, if there are further ones
 
-pub placed_next : (bs : List Begun) (b : Begun) → ArePlaced bs → b.place ≡ length bs → ArePlaced (bs ++ b ∷ [])
-placed_next bs b placed is k d lt =
-    let count : length (bs ++ b ∷ []) ≡ length bs + 1 = length-append bs (b ∷ []) in
-    elim (cases_lt k (length bs)) [
-      | inl before ↦ ap (λ (x : Begun). x.place) (get_or_append_left bs (b ∷ []) d k before) ∙ placed k d before
+pub served_front : (hs gs : List Header) (senders : List (Option Sending)) → AreServed (hs ++ gs) senders → AreServed hs senders
+served_front hs gs senders served = record {
+  apart = λ i j d before within.
+      let all = served.apart i j d before (omega (arith, within, length-append hs gs)) in
+      subst (λ (h : Header). (get_or hs i d).group ≢ h.group) (get_or_append_left hs gs d j within)
+      (subst (λ (h : Header). h.group ≢ (get_or (hs ++ gs) j d).group) (get_or_append_left hs gs d i (omega (arith, before, within))) all);
+  there = λ h in_hs. served.there h (Contains-append_left hs gs h in_hs);
+  ready = λ h s in_hs. served.ready h s (Contains-append_left hs gs h in_hs);
+}
+
+-- ---- further streams
+
+module _ {X : Type 0} (P : X → Type 0) where
+  pub all_front : (xs ys : List X) → All P (xs ++ ys) → All P xs
+  all_front [] ys all = All-nil P
+  all_front (x ∷ xs) ys all = All-cons P x xs (All-head P x (xs ++ ys) all) (all_front xs ys (All-tail P x (xs ++ ys) all))
+
+  pub all_back : (xs ys : List X) → All P (xs ++ ys) → All P ys
+  all_back [] ys all = all
+  all_back (x ∷ xs) ys all = all_back xs ys (All-tail P x (xs ++ ys) all)
+
+placed_append : (n : ℕ) (xs ys : List Begun) → ArePlaced n xs → ArePlaced (n + length xs) ys → ArePlaced n (xs ++ ys)
+placed_append n xs ys placed more k d lt =
+    elim (cases_lt k (length xs)) [
+      | inl before ↦ ap (λ (x : Begun). x.place) (get_or_append_left xs ys d k before) ∙ placed k d before
       | inr from ↦
-          let here : k ≡ length bs = omega (arith, from, lt, count) in
-          ap (λ n. (get_or (bs ++ b ∷ []) n d).place) here ∙ (ap (λ (x : Begun). x.place) (get_or-append_seam bs b [] d) ∙ (is ∙ sym here))
+          let here = more (k - length xs) d (omega (arith, from, lt, length-append xs ys)) in
+          ap (λ (x : Begun). x.place) (get_or-append_right xs ys (length xs) k d refl from) ∙ omega (arith, from, here)
     ]
 
-pub placed_prefix : (bs : List Begun) (b : Begun) → ArePlaced (bs ++ b ∷ []) → ArePlaced bs × (b.place ≡ length bs)
+pub begun_append : (n : ℕ) (gs hs : List Header) (js ks : List (Option (List ℕ))) (xs ys : List Begun) → AreBegun n gs js xs → AreBegun (n + length xs) hs ks ys → AreBegun n (gs ++ hs) (js ++ ks) (xs ++ ys)
+begun_append n gs hs js ks xs ys a b = record {
+  placed = placed_append n xs ys a.placed b.placed;
+  groups = rw (map-append (λ (x : Begun). x.sender.group) xs ys, a.groups, b.groups) (sym (map-append (λ (h : Header). h.group) gs hs));
+  bytes = rw (map-append (λ (x : Begun). x.bytes) xs ys, a.bytes, b.bytes) refl;
+}
+
+pub none_begun : (n : ℕ) → AreBegun n [] [] []
+none_begun n = record { placed = λ k d lt. absurd (omega (arith, lt)); groups = refl; bytes = refl }
+
+pub one_begun : (n : ℕ) (h : Header) (b : Begun) → b.place ≡ n → b.sender.group ≡ h.group → AreBegun n (h ∷ []) (b.bytes ∷ []) (b ∷ [])
+one_begun n h b place group = record { placed = placed; groups = ap (λ (g : ℕ). g ∷ []) group; bytes = refl }
+  where
+    placed : ArePlaced n (b ∷ [])
+    placed zero d lt = omega (arith, place)
+    placed (suc k) d lt = absurd (omega (arith, lt))
+
+pub begun_count : (n : ℕ) (hs : List Header) (ks : List (Option (List ℕ))) (bs : List Begun) → AreBegun n hs ks bs → length bs ≡ length hs
+begun_count n hs ks bs are = sym (length-map bs (λ (b : Begun). b.sender.group)) ∙ (ap length are.groups ∙ length-map hs (λ (h : Header). h.group))
+
+pub placed_prefix : (bs : List Begun) (b : Begun) → ArePlaced 0 (bs ++ b ∷ []) → ArePlaced 0 bs × (b.place ≡ length bs)
 placed_prefix bs b placed =
-    let count : length (bs ++ b ∷ []) ≡ length bs + 1 = length-append bs (b ∷ []) in (
+    let count : length (bs ++ b ∷ []) ≡ length bs + 1 = length-append bs (b ∷ []) in
+    let last = placed (length bs) b (omega (arith, count)) in (
       (λ k d lt. ap (λ (x : Begun). x.place) (sym (get_or_append_left bs (b ∷ []) d k lt)) ∙ placed k d (omega (arith, lt, count))),
-      ap (λ (x : Begun). x.place) (sym (get_or-append_seam bs b [] b)) ∙ placed (length bs) b (omega (arith, count)),
+      ap (λ (x : Begun). x.place) (sym (get_or-append_seam bs b [] b)) ∙ omega (arith, last),
     )
+
+-- the streams that the last of some ends are of
+pub one_end : {A : Type 0} (bs : List Begun) (es : List (Ended A)) (e : Ended A) → AreEndsOf bs (es ++ e ∷ []) → (cs : List Begun) × (b : Begun) × (bs ≡ cs ++ b ∷ []) × AreEndsOf cs es × IsEndOf b e.receipt e.fault
+one_end [] [] e are = absurd are
+one_end [] (x ∷ es) e are = absurd are
+one_end (b ∷ []) [] e are = ([], b, refl, tt, are.0)
+one_end (b ∷ c ∷ bs) [] e are = absurd are.1
+one_end (b ∷ bs) (x ∷ es) e are =
+    let r = one_end bs es e are.1 in
+    (b ∷ r.0, r.1, ap (λ (l : List Begun). b ∷ l) r.2, (are.0, r.3), r.4)
 
 abbrev some : List ℕ → Option (List ℕ)
 some x = Some x

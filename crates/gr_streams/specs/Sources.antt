@@ -1,7 +1,8 @@
 -- Readers whose headers were read, and what reading them leaves.
 -- Source: docs/QUEUES.md, "Streams that are read while they are sent".
-use Rattle.std.specs.Prelude.{◌≡◌, ◌≢◌, ℕ, ◌<◌, List, [], ◌∷◌, length, map, slice_index_or, All, Contains}
-use Rattle.std.specs.Prelude.{Option, Some, None, IfSome, Ok, ⊤}
+use Rattle.std.specs.Prelude.{◌≡◌, ◌≢◌, ℕ, ◌+◌, ◌<◌, ◌≤◌, List, [], ◌∷◌, length, map, slice_index_or, All, Contains}
+use Rattle.std.specs.Prelude.{Option, Some, None, IfSome, Ok, ⊤, Vec, vec_capacity, vec_len}
+use Rattle.std.specs.List.{AllZip}
 use Rattle.std.specs.Io.KnownBytes.{prepend_known}
 use Rattle.gr_model.specs.declared.limits.TheConstants.{MOST_RECORDS}
 use Rattle.gr_record.specs.declared.header.Header.{Header}
@@ -13,12 +14,14 @@ use Rattle.gr_route.specs.IntakeSeats.{Seat}
 use Rattle.gr_threads.specs.Senders.{Sending}
 use Rattle.gr_detector.specs.Runs.{IsOfRun, Run}
 use Rattle.gr_streams.specs.Headers.{AreApart}
-use Rattle.gr_streams.specs.Records.{events_at}
+use Rattle.gr_streams.specs.Records.{events_at, lists_of}
 use Rattle.gr_streams.specs.Sending.{Tells}
+use Rattle.gr_streams.specs.declared.forward.Ended.{Ended}
 use Rattle.gr_streams.specs.declared.thread.OfReader.{OfReader}
 use Rattle.gr_streams.specs.declared.thread.ReaderState.{ReaderState}
 use Rattle.gr_streams.specs.declared.thread.ReaderState.TheVariants.{Started, Over, Joining}
 use Rattle.gr_streams.specs.declared.source.Source.{Source}
+use Rattle.gr_streams.specs.declared.source.Unread.{Unread}
 
 -- the bytes of the stream, its header included, where they are known
 abbrev pub known_of : {T : Type 0} → (T → Option (List ℕ)) → Source T → Option (List ℕ)
@@ -49,15 +52,29 @@ pub record IsEndOf (begun : Begun) (receipt : Seat) (fault : Option Fault) : Typ
   pub write : IfSome fault (λ f. f ≢ faults.Write)
   pub tells : IfSome begun.bytes (λ bytes. Tells (events_at begun.place bytes) receipt.pushed fault)
 
--- the stream that a thread reads
-abbrev pub begun_of : {T A : Type 0} → (T → Option (List ℕ)) → OfReader T A → Begun
-begun_of remaining p = record { place = p.place; header = p.source.value.header; bytes = known_of remaining p.source.value; sender = p.sender.value }
+-- what reading streams leaves, in their order
+abbrev pub AreEndsOf : {A : Type 0} → List Begun → List (Ended A) → Type 0
+AreEndsOf begun ended = AllZip (λ b e. IsEndOf b e.receipt e.fault) begun ended
 
--- a thread reads it, or else reading it has left this; none is being joined while others look
+-- the stream, as it is read
+abbrev pub begun_of : {T A : Type 0} → (T → Option (List ℕ)) → Unread T A → Begun
+begun_of remaining u = record { place = u.place; header = u.source.header; bytes = known_of remaining u.source; sender = u.sender }
+
+-- the streams that a thread reads
+abbrev pub begun_by : {T A : Type 0} → (T → Option (List ℕ)) → OfReader T A → List Begun
+begun_by remaining p = map (begun_of remaining) p.streams.value.items
+
+-- a thread reads them, or else reading them has left this; none is being joined while others look
 abbrev pub IsStateOf : {T A : Type 0} → (T → Option (List ℕ)) → OfReader T A → ReaderState T A → Type 0
 IsStateOf remaining p (Started handle) = handle.promise ≡ p
-IsStateOf remaining p (Over ended) = IsEndOf (begun_of remaining p) ended.receipt ended.fault
+IsStateOf remaining p (Over ended) = AreEndsOf (begun_by remaining p) ended.items
 IsStateOf remaining p Joining = ⊥
+
+-- a list without elements, with room for so many
+pub record IsRoomFor {X Z : Type 0} (count : ℕ) (room : Vec X Z) : Type 0 where
+  pub none : room.items ≡ []
+  pub empty : vec_len room ≡ 0
+  pub fits : count ≤ vec_capacity room
 
 -- ---- the streams of a run
 
@@ -71,6 +88,11 @@ pub record IsReady (h : Header) (s : Sending) : Type 0 where
   pub items : s.items ≡ h.items
   pub records : s.records ≡ MOST_RECORDS
   pub sent : s.sent ≡ []
+
+-- a stream of which only the header was read, and nothing was sent
+pub record IsUnread {T A : Type 0} (u : Unread T A) : Type 0 where
+  pub headed : IsHeaded u.source.header u.source.prefix.items
+  pub ready : IsReady u.source.header u.sender
 
 -- each header's group has a sender
 pub record AreServed (hs : List Header) (senders : List (Option Sending)) : Type 0 where
@@ -86,13 +108,13 @@ AreSenders run senders = (g : ℕ) (s : Sending) → slice_index_or senders g No
 abbrev pub AreOfRun : Run → List Begun → Type 0
 AreOfRun run begun = All (λ b. IsOfRun run b.sender.group b.sender.queue.queue) begun
 
--- each stream is at its place
-abbrev pub ArePlaced : List Begun → Type 0
-ArePlaced begun = (k : ℕ) (d : Begun) → k < length begun → (slice_index_or begun k d).place ≡ k
+-- each stream is at its place, of which the first is this
+abbrev pub ArePlaced : ℕ → List Begun → Type 0
+ArePlaced first begun = (k : ℕ) (d : Begun) → k < length begun → (slice_index_or begun k d).place ≡ first + k
 
--- the streams that are read are these
-pub record AreBegun (hs : List Header) (known : List (Option (List ℕ))) (begun : List Begun) : Type 0 where
-  pub placed : ArePlaced begun
+-- the streams that are read from a place on are these
+pub record AreBegun (first : ℕ) (hs : List Header) (known : List (Option (List ℕ))) (begun : List Begun) : Type 0 where
+  pub placed : ArePlaced first begun
   pub groups : map (λ b. b.sender.group) begun ≡ map (λ h. h.group) hs
   pub bytes : map (λ b. b.bytes) begun ≡ known
 
@@ -103,4 +125,10 @@ pub record AreReceiptsFor (begun : List Begun) (receipts : List Seat) : Type 0 w
 
 -- the streams are those of these inputs
 abbrev pub AreReadOf : List (List ℕ) → List Begun → Type 0
-AreReadOf inputs begun = ArePlaced begun × (map (λ b. b.bytes) begun ≡ map Some inputs)
+AreReadOf inputs begun = ArePlaced 0 begun × (map (λ b. b.bytes) begun ≡ map Some inputs)
+
+-- reading the streams has left these receipts, and this is the first fault
+pub record AreLeft (begun : List Begun) (seats : List Seat) (fault : Option Fault) : Type 0 where
+  pub receipts : AreReceiptsFor begun seats
+  pub write : IfSome fault (λ f. f ≢ faults.Write)
+  pub tells : (inputs : List (List ℕ)) → AreReadOf inputs begun → Tells (lists_of inputs) (map (λ r. r.pushed) seats) fault

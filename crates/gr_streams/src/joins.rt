@@ -1,16 +1,18 @@
 //! The readers' threads, from their start to their join.
 
-ghost use Rattle.std.specs.Prelude.{◌≡◌, ◌≢◌, ◌<◌, ◌≤◌, ◌++◌, ◌∷◌, [], ℕ, List, All, None, Some};
-ghost use Rattle.std.specs.Prelude.{IfOk, IfSome, Result, length, map, slice_index_or, slice_set, vec_capacity, vec_len};
+ghost use Rattle.std.specs.Prelude.{◌≡◌, ◌≢◌, ◌<◌, ◌≤◌, ◌+◌, ◌^◌, ◌++◌, ◌∷◌, [], List, All, Some};
+ghost use Rattle.std.specs.Prelude.{IfOk, IfSome, Result, length, map, vec_capacity, vec_len};
 ghost use Rattle.gr_model.specs.declared.event.Event.{Event as AnyEvent};
 ghost use Rattle.gr_record.specs.declared.fault.Fault.{Fault as AnyFault};
 ghost use Rattle.gr_record.specs.declared.fault.Fault.TheVariants as faults;
 ghost use Rattle.gr_detector.specs.Runs.{Run};
-ghost use Rattle.gr_streams.specs.Records.{and_one, lists_of};
+ghost use Rattle.gr_route.specs.Batches.{all_of};
+ghost use Rattle.gr_streams.specs.Records.{and_one};
 ghost use Rattle.gr_streams.specs.Sending.{Tells};
-ghost use Rattle.gr_streams.specs.Sources.{AreBegun, AreOfRun, AreReadOf, AreReceiptsFor, AreSenders, AreServed, HasSender, IsHeaded, known_of};
+ghost use Rattle.gr_streams.specs.Sources.{AreBegun, AreEndsOf, AreLeft, AreOfRun, AreSenders, AreServed, Begun, IsHeaded, IsRoomFor, known_of};
 
 use crate::forward::Ended;
+use crate::share::{Share, shares_of};
 use crate::source::Source;
 use crate::thread::ReaderThread;
 use gr_model::limits::FEW_GROUPS;
@@ -25,28 +27,32 @@ use std::sync::{Arc, Wait};
 use std::thread::{self, Threads};
 use std::time::Clock;
 
-/// Room for what is kept of the readers once the run has started, when no memory can be asked for any more.
+/// The shares of the threads, and room for what is kept once the run has started, when no memory can be asked for any more.
 #[derive(Drop)]
 pub(crate) struct Room<T: Read, A: Allocator> {
+    pub(crate) shares: Vec<Share<T, A>, A>,
     pub(crate) senders: Vec<Option<Sender<A>>, A>,
     pub(crate) threads: Vec<ReaderThread<T, A>, A>,
     pub(crate) receipts: Vec<Receipt<A>, A>,
 }
 
-/// Room for so many readers, and for the senders of so many groups.
-pub(crate) fn room_for<A: Allocator + Copy, T: Read>(
+/// The shares of these streams, with room for them and for the senders of so many groups.
+pub(crate) fn room_for<A: Allocator + Copy, T: Read + Drop>(
     alloc: A,
-    readers: usize,
+    sources: Vec<Source<T>, A>,
     groups: usize,
 ) -> Result<Room<T, A>, Memory>
-    ensures senders { IfOk result (λ r. (r.senders.items ≡ []) × (vec_len r.senders ≡ 0) × (groups ≤ vec_capacity r.senders)) }
-    ensures threads { IfOk result (λ r. (r.threads.items ≡ []) × (vec_len r.threads ≡ 0) × (readers ≤ vec_capacity r.threads)) }
-    ensures receipts { IfOk result (λ r. (r.receipts.items ≡ []) × (vec_len r.receipts ≡ 0) × (readers ≤ vec_capacity r.receipts)) }
+    ensures shares { IfOk result (λ r. all_of r.shares.items ≡ sources.items) }
+    ensures senders { IfOk result (λ r. IsRoomFor groups r.senders) }
+    ensures threads { IfOk result (λ r. IsRoomFor (vec_len r.shares) r.threads) }
+    ensures receipts { IfOk result (λ r. IsRoomFor (vec_len sources) r.receipts) }
 {
     let senders = Vec::with_capacity(alloc, groups)?;
-    let threads = Vec::with_capacity(alloc, readers)?;
-    let receipts = Vec::with_capacity(alloc, readers)?;
+    let receipts = Vec::with_capacity(alloc, sources.len())?;
+    let shares = shares_of(alloc, sources)?;
+    let threads = Vec::with_capacity(alloc, shares.len())?;
     Ok(Room {
+        shares,
         senders,
         threads,
         receipts,
@@ -59,8 +65,7 @@ pub(crate) fn at_places<A: Allocator>(
     senders: Vec<Sender<A>, A>,
     places: Vec<Option<Sender<A>>, A>,
 ) -> Vec<Option<Sender<A>>, A>
-    requires none { (places.items ≡ []) × (vec_len places ≡ 0) }
-    requires room { vec_len senders ≤ vec_capacity places }
+    requires { IsRoomFor (vec_len senders) places }
     ensures { result.items ≡ map (λ s. Some s) senders.items }
 {
     let mut places = places;
@@ -70,57 +75,42 @@ pub(crate) fn at_places<A: Allocator>(
     places
 }
 
-/// The sender of a group, which is taken from its place.
-/// Requires: it is there.
-fn take_sender<A: Allocator>(senders: &mut Vec<Option<Sender<A>>, A>, group: u16) -> Sender<A>
-    requires { HasSender senders.old.items group }
-    ensures there { slice_index_or senders.old.items group None ≡ Some result }
-    ensures taken { senders.new.items ≡ slice_set senders.old.items group None }
-{
-    match senders[group as usize].take() {
-        Some(sender) => sender,
-        None => unreachable!(),
-    }
-}
-
-/// How many of so many streams are read side by side: all of a small launch, since each may wait for another's producer, and of a
-/// greater one as many as there are processors.
-fn most_readers<R: Threads>(rt: &R, streams: usize) -> u64
+/// How many of so many threads read side by side: all of a few, since a stream may wait for another's producer, and of more as many as
+/// there are processors.
+fn most_readers<R: Threads>(rt: &R, threads: usize) -> usize
     ensures { 0 < result }
 {
-    if streams <= FEW_GROUPS {
-        return FEW_GROUPS as u64;
+    if threads <= FEW_GROUPS {
+        return FEW_GROUPS;
     }
     match thread::available_parallelism(rt) {
-        Ok(processors) => processors.get() as u64,
+        Ok(processors) => processors.get(),
         Err(_) => 1,
     }
 }
 
-/// Waits until the thread of so many places before has ended, if there is one, so that a further one may start.
-fn make_way<R: Threads, A: Allocator, T: Read + Send + Drop + 'static>(
+/// Waits until fewer than so many threads read, so that a further one may start.
+fn make_way<R: Threads, A: Allocator, T: Read>(
     rt: &R,
     threads: &mut Vec<ReaderThread<T, A>, A>,
-    place: u64,
-    most: u64,
+    most: usize,
 )
-    requires most { 0 < most }
-    requires place { place ≡ length threads.old.items }
+    requires { 0 < most }
     ensures items { threads.new.items ≡ threads.old.items }
     ensures len { vec_len threads.new ≡ vec_len threads.old }
     ensures capacity { vec_capacity threads.new ≡ vec_capacity threads.old }
 {
-    if place >= most {
-        threads[(place - most) as usize].settle(rt);
+    if let Some(place) = threads.len().checked_sub(most) {
+        threads[place].settle(rt);
     }
 }
 
-/// Starts a thread for each reader, with the sender of its stream's group, once enough of those before it have ended.
+/// Starts a thread for each share, with the senders of its streams' groups, once enough of those before it have ended.
 /// Requires: the streams are of different groups, and each has a sender, which has sent nothing; there is room.
 pub(crate) fn start_all<R, A, T>(
     rt: R,
     alloc: A,
-    sources: Vec<Source<T>, A>,
+    shares: Vec<Share<T, A>, A>,
     senders: Vec<Option<Sender<A>>, A>,
     threads: Vec<ReaderThread<T, A>, A>,
     abandoned: &Arc<AtomicBool, A>,
@@ -129,23 +119,22 @@ where
     R: Threads + Wait + Clock + Copy + Send + 'static,
     A: Allocator + Copy + Send + Sync + Drop + 'static,
     T: Read + Send + Drop + 'static,
-    requires headed { All (λ s. IsHeaded s.header s.prefix.items) sources.items }
-    requires senders { AreServed (map (λ s. s.header) sources.items) senders.items }
-    requires none { (threads.items ≡ []) × (vec_len threads ≡ 0) }
-    requires room { vec_len sources ≤ vec_capacity threads }
-    ensures begun { AreBegun (map (λ s. s.header) sources.items) (map (known_of T.remaining) sources.items) result.items }
-    ensures run { (run : Run) → AreSenders run senders.items → AreOfRun run result.items }
-    ensures count { vec_len result ≡ vec_len sources }
+    requires headed { All (λ s. IsHeaded s.header s.prefix.items) (all_of shares.items) }
+    requires senders { AreServed (map (λ s. s.header) (all_of shares.items)) senders.items }
+    requires places { length (all_of shares.items) < 2 ^ 64 }
+    requires room { IsRoomFor (vec_len shares) threads }
+    ensures begun { AreBegun 0 (map (λ s. s.header) (all_of shares.items)) (map (known_of T.remaining) (all_of shares.items)) (all_of result.items) }
+    ensures run { (run : Run) → AreSenders run senders.items → AreOfRun run (all_of result.items) }
 {
     let mut senders = senders;
     let mut threads = threads;
     let mut place: u64 = 0;
-    let most = most_readers(&rt, sources.len());
-    for source in sources {
-        let sender = take_sender(&mut senders, source.header.group);
-        make_way(&rt, &mut threads, place, most);
-        threads.push_reserved(ReaderThread::start(rt, alloc, place, source, sender, abandoned));
-        place += 1;
+    let most = most_readers(&rt, shares.len());
+    for share in shares {
+        make_way(&rt, &mut threads, most);
+        let (streams, room) = share.with_senders(&mut senders, place);
+        place += streams.len() as u64;
+        threads.push_reserved(ReaderThread::start(rt, alloc, streams, room, abandoned));
     }
     threads
 }
@@ -160,6 +149,27 @@ fn first_of(first: Option<Fault>, next: Option<Fault>) -> Option<Fault>
         (Some(_), _) => first,
         (None, _) => next,
     }
+}
+
+/// Keeps the receipts of further streams. Tells the first fault, where this was the first of the streams before.
+/// Requires: there is room.
+fn keep_each<A: Allocator>(
+    receipts: &mut Vec<Receipt<A>, A>,
+    fault: Option<Fault>,
+    ended: Vec<Ended<A>, A>,
+) -> Option<Fault>
+    requires { vec_len receipts.old + vec_len ended ≤ vec_capacity receipts.old }
+    ensures left { (before begun : List Begun) → AreEndsOf begun ended.items → AreLeft before receipts.old.items fault → AreLeft (before ++ begun) receipts.new.items result }
+    ensures len { vec_len receipts.new ≡ vec_len receipts.old + vec_len ended }
+    ensures capacity { vec_capacity receipts.new ≡ vec_capacity receipts.old }
+{
+    let mut first = fault;
+    for stream in ended {
+        let Ended { receipt, fault } = stream;
+        receipts.push_reserved(receipt);
+        first = first_of(first, fault);
+    }
+    first
 }
 
 /// What the readers' threads leave.
@@ -178,21 +188,13 @@ pub(crate) fn join_all<R: Threads, A: Allocator, T: Read>(
     threads: Vec<ReaderThread<T, A>, A>,
     receipts: Vec<Receipt<A>, A>,
 ) -> Joined<A>
-    requires none { (receipts.items ≡ []) × (vec_len receipts ≡ 0) }
-    requires room { vec_len threads ≤ vec_capacity receipts }
-    ensures receipts { AreReceiptsFor threads.items result.receipts.items }
-    ensures write { IfSome result.fault (λ f. f ≢ faults.Write) }
-    ensures tells { (inputs : List (List ℕ)) → AreReadOf inputs threads.items → Tells (lists_of inputs) (map (λ r. r.pushed) result.receipts.items) result.fault }
+    requires { IsRoomFor (length (all_of threads.items)) receipts }
+    ensures { AreLeft (all_of threads.items) result.receipts.items result.fault }
 {
     let mut receipts = receipts;
     let mut fault = None;
     for thread in threads {
-        let Ended {
-            receipt,
-            fault: next,
-        } = thread.join(rt);
-        receipts.push_reserved(receipt);
-        fault = first_of(fault, next);
+        fault = keep_each(&mut receipts, fault, thread.join(rt));
     }
     Joined { receipts, fault }
 }

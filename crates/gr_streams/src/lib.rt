@@ -8,6 +8,7 @@ mod reading;
 mod run;
 mod seen;
 mod shape;
+mod share;
 mod source;
 mod thread;
 

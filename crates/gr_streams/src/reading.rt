@@ -1,15 +1,15 @@
-//! The reading of one stream, which is sent while it is read.
+//! The reading of streams, which are sent while they are read.
 
-ghost use Rattle.std.specs.Prelude.{◌≡◌, ◌≢◌, ◌++◌, [], ℕ, List, IfSome, take};
+ghost use Rattle.std.specs.Prelude.{◌≡◌, ◌≢◌, ◌++◌, ℕ, List, All, IfSome, map, take, vec_len};
 ghost use Rattle.gr_record.specs.declared.header.Header.{Header as AnyHeader};
 ghost use Rattle.gr_record.specs.declared.layout.TheConstants.{HEADER_LENGTH};
 ghost use Rattle.gr_record.specs.declared.fault.Fault.TheVariants as faults;
 ghost use Rattle.gr_streams.specs.Records.{events_at};
 ghost use Rattle.gr_streams.specs.Sending.{IsFed, Tells};
-ghost use Rattle.gr_streams.specs.Sources.{IsHeaded, known_of};
+ghost use Rattle.gr_streams.specs.Sources.{AreEndsOf, IsHeaded, IsRoomFor, IsUnread, begun_of, known_of};
 
 use crate::forward::{Ended, Forward};
-use crate::source::Source;
+use crate::source::{Source, Unread};
 use gr_record::fault::Fault;
 use std::alloc::Allocator;
 use std::io::Read;
@@ -57,31 +57,53 @@ fn read_rest<R: Wait + Clock, A: Allocator + Copy, T: Read>(
     forward.fail(rt, Fault::Read)
 }
 
-/// Reads the stream at a place, whose header was read, and sends its events as they come.
+/// Reads a stream of which only the header was read, and sends its events as they come.
 /// Requires: nothing was sent of it yet.
-pub(crate) fn read_on<R: Wait + Clock + Copy, A: Allocator + Copy, T: Read + Drop>(
-    rt: R,
-    place: u64,
-    source: Source<T>,
-    forward: Forward<A>,
-    abandoned: Arc<AtomicBool, A>,
+pub(crate) fn read_on<R: Wait + Clock, A: Allocator + Copy, T: Read + Drop>(
+    rt: &R,
+    alloc: A,
+    stream: Unread<T, A>,
+    abandoned: &Arc<AtomicBool, A>,
 ) -> Ended<A>
-    requires headed { IsHeaded source.header source.prefix.items }
-    requires items { forward.sender.items ≡ source.header.items }
-    requires fed { IsFed [] forward.decoder forward.sender forward.refused }
-    ensures group { result.receipt.group ≡ forward.sender.group }
-    ensures queue { result.receipt.queue ≡ forward.sender.queue.queue }
+    requires { IsUnread stream }
+    ensures group { result.receipt.group ≡ stream.sender.group }
+    ensures queue { result.receipt.queue ≡ stream.sender.queue.queue }
     ensures write { IfSome result.fault (λ f. f ≢ faults.Write) }
-    ensures tells { IfSome (known_of T.remaining source) (λ bytes. Tells (events_at place bytes) result.receipt.pushed result.fault) }
+    ensures tells { IfSome (known_of T.remaining stream.source) (λ bytes. Tells (events_at stream.place bytes) result.receipt.pushed result.fault) }
 {
+    let Unread {
+        place,
+        source,
+        sender,
+    } = stream;
     let Source {
         header: _,
         prefix,
         mut reader,
     } = source;
-    let mut forward = forward;
-    if let Err(error) = forward.take(&rt, prefix.as_slice()) {
-        return forward.fail(&rt, Fault::of_stream(place, error));
+    let mut forward = Forward::new(alloc, sender);
+    if let Err(error) = forward.take(rt, prefix.as_slice()) {
+        return forward.fail(rt, Fault::of_stream(place, error));
     }
-    read_rest(&rt, place, &mut reader, forward, &abandoned)
+    read_rest(rt, place, &mut reader, forward, abandoned)
+}
+
+/// Reads streams of which only the headers were read, one after the other. Gives what is left of each, in their order.
+/// Requires: nothing was sent of them yet; there is room for what is left.
+pub(crate) fn read_each<R: Wait + Clock, A: Allocator + Copy, T: Read + Drop>(
+    rt: &R,
+    alloc: A,
+    streams: Vec<Unread<T, A>, A>,
+    room: Vec<Ended<A>, A>,
+    abandoned: &Arc<AtomicBool, A>,
+) -> Vec<Ended<A>, A>
+    requires unread { All IsUnread streams.items }
+    requires room { IsRoomFor (vec_len streams) room }
+    ensures { AreEndsOf (map (begun_of T.remaining) streams.items) result.items }
+{
+    let mut ended = room;
+    for stream in streams {
+        ended.push_reserved(read_on(rt, alloc, stream, abandoned));
+    }
+    ended
 }

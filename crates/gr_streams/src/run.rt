@@ -88,10 +88,11 @@ where
     ensures write { IfErr result (λ f. f ≢ faults.Write) }
 {
     let Room {
+        shares,
         senders: places,
         threads,
         receipts,
-    } = room_for(alloc, sources.len(), shape.groups() as usize)?;
+    } = room_for(alloc, sources, shape.groups() as usize)?;
     let Ok(abandoned) = Arc::new(alloc, AtomicBool::new(false)) else {
         return Err(Fault::Memory);
     };
@@ -100,13 +101,13 @@ where
         Err(error) => return Err(fault_of_start(error)),
     };
     let senders = at_places(senders, places);
-    let threads = start_all(rt, alloc, sources, senders, threads, &abandoned);
+    let threads = start_all(rt, alloc, shares, senders, threads, &abandoned);
     let Joined { receipts, fault } = join_all(&rt, threads, receipts);
     judge(fault, running.finish(&rt, receipts))
 }
 
-/// Reads the streams of a launch, one from each reader, each on a thread of its own, and sends them into a run in threads
-/// while they come. Gives the report and writes nothing. `watch` is shared by all threads of the run.
+/// Reads the streams of a launch, one from each reader, on threads of their own, and sends them into a run in threads while
+/// they come. Gives the report and writes nothing. `watch` is shared by all threads of the run.
 ///
 /// # Errors
 /// Those of `run_streams` but `Write`.
@@ -131,8 +132,8 @@ where
     run_sources(rt, alloc, shape, sources, config, watch)
 }
 
-/// Reads the streams of a launch, one from each reader, each on a thread of its own, and sends them into a run in threads
-/// while they come. Writes the text of the report and nothing else. `watch` is shared by all threads of the run.
+/// Reads the streams of a launch, one from each reader, on threads of their own, and sends them into a run in threads while
+/// they come. Writes the text of the report and nothing else. `watch` is shared by all threads of the run.
 ///
 /// # Errors
 /// Of the first reader that has one, its header's fault, `SameGroup` or `OtherLaunch`; then `MissingGroup`, then `Shape`;

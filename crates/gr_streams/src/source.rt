@@ -16,7 +16,8 @@ use gr_record::fault::Fault;
 use gr_record::header::Header;
 use gr_record::layout::HEADER_LENGTH;
 use gr_record::stream::read_front_header;
-use std::alloc::Allocator;
+use gr_threads::sender::Sender;
+use std::alloc::{Allocator, Global};
 use std::io::Read;
 
 /// A reader, once the header of its stream was read.
@@ -27,6 +28,14 @@ pub(crate) struct Source<T> {
     pub(crate) prefix: ArrayVec<u8, HEADER_LENGTH>,
     /// It has the bytes behind the header.
     pub(crate) reader: T,
+}
+
+/// A stream of which only the header was read: its place among the streams, its source, and the sender for its events.
+#[derive(Drop)]
+pub(crate) struct Unread<T, A: Allocator = Global> {
+    pub(crate) place: u64,
+    pub(crate) source: Source<T>,
+    pub(crate) sender: Sender<A>,
 }
 
 /// The bytes up to the end of a header, or fewer where the reader's end comes before.

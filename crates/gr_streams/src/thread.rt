@@ -1,14 +1,11 @@
 //! A reader's thread, from its start to its join.
 
-ghost use Rattle.std.specs.Prelude.{◌≡◌, []};
-ghost use Rattle.gr_model.specs.declared.limits.TheConstants.{MOST_RECORDS};
-ghost use Rattle.gr_streams.specs.Sources.{IsEndOf, IsHeaded, known_of};
+ghost use Rattle.std.specs.Prelude.{◌≡◌, All, map, vec_len};
+ghost use Rattle.gr_streams.specs.Sources.{AreEndsOf, IsRoomFor, IsUnread, begun_of};
 
-use crate::forward::{Ended, Forward};
-use crate::reading::read_on;
-use crate::source::Source;
-use gr_record::fault::Fault;
-use gr_threads::sender::Sender;
+use crate::forward::Ended;
+use crate::reading::read_each;
+use crate::source::Unread;
 use std::alloc::{Allocator, Global};
 use std::io::Read;
 use std::marker::Model;
@@ -19,32 +16,30 @@ use std::thread::{Promise, PromisedHandle, Threads};
 use std::time::Clock;
 use std::{mem, thread};
 
-/// What a reader's thread promises of its end: what reading the stream at this place leaves, of this source, to this sender.
+/// What a reader's thread promises of its end: what reading these streams leaves.
 #[derive(Drop)]
 pub(crate) struct OfReader<T, A: Allocator = Global> {
-    pub(crate) place: u64,
-    pub(crate) source: Snapshot<Source<T>>,
-    pub(crate) sender: Snapshot<Sender<A>>,
+    pub(crate) streams: Snapshot<Vec<Unread<T, A>, A>>,
 }
 
-impl<T: Read, A: Allocator> Promise<Ended<A>> for OfReader<T, A> {
-    ghost use Rattle.gr_streams.specs.Sources.{IsEndOf, known_of};
+impl<T: Read, A: Allocator> Promise<Vec<Ended<A>, A>> for OfReader<T, A> {
+    ghost use Rattle.gr_streams.specs.Sources.{AreEndsOf, begun_by};
 
-    ghost kept_by = { λ p r. IsEndOf (record { place = p.place; header = p.source.value.header; bytes = known_of T.remaining p.source.value; sender = p.sender.value }) r.receipt r.fault };
+    ghost kept_by = { λ p r. AreEndsOf (begun_by T.remaining p) r.items };
 }
 
-/// How a stream is read.
+/// How streams are read.
 #[derive(Drop)]
 pub(crate) enum ReaderState<T: Read, A: Allocator = Global> {
     /// By a thread.
-    Started(PromisedHandle<Ended<A>, OfReader<T, A>>),
-    /// No more. This is what is left of the stream.
-    Over(Ended<A>),
-    /// Its thread is being joined.
+    Started(PromisedHandle<Vec<Ended<A>, A>, OfReader<T, A>>),
+    /// No more. This is what is left of them.
+    Over(Vec<Ended<A>, A>),
+    /// Their thread is being joined.
     Joining,
 }
 
-/// A reader's thread. Contracts see the stream that is read.
+/// A reader's thread. Contracts see the streams that are read.
 #[derive(Drop)]
 pub(crate) struct ReaderThread<T: Read, A: Allocator = Global> {
     begun: Snapshot<OfReader<T, A>>,
@@ -52,11 +47,12 @@ pub(crate) struct ReaderThread<T: Read, A: Allocator = Global> {
 }
 
 impl<T: Read, A: Allocator> Model for ReaderThread<T, A> {
-    ghost use Rattle.gr_streams.specs.Sources.{Begun, IsStateOf, begun_of};
+    ghost use Rattle.std.specs.Prelude.{List};
+    ghost use Rattle.gr_streams.specs.Sources.{Begun, IsStateOf, begun_by};
 
-    ghost Value = { Begun };
+    ghost Value = { List Begun };
 
-    ghost view = { λ t. begun_of T.remaining t.begun.value };
+    ghost view = { λ t. begun_by T.remaining t.begun.value };
 
     ghost invariant = { λ t. IsStateOf T.remaining t.begun.value t.work };
 }
@@ -66,35 +62,33 @@ where
     T: Read + Send + Drop + 'static,
     A: Allocator + Copy + Send + Sync + Drop + 'static,
 {
-    /// Starts the thread that reads the stream at a place, whose header was read. Where it can't be started, the run is
-    /// abandoned: the stream is cut, and the others end.
-    /// Requires: the sender is of the header's group, and has sent nothing.
+    /// Starts a thread that reads streams of which only the headers were read. Where it can't be started, the run is abandoned:
+    /// these streams are cut, and the others end.
+    /// Requires: nothing was sent of them yet; there is room for what is left.
     pub(crate) fn start<R: Threads + Wait + Clock + Copy + Send + 'static>(
         rt: R,
         alloc: A,
-        place: u64,
-        source: Source<T>,
-        sender: Sender<A>,
+        streams: Vec<Unread<T, A>, A>,
+        room: Vec<Ended<A>, A>,
         abandoned: &Arc<AtomicBool, A>,
     ) -> ReaderThread<T, A>
-        requires headed { IsHeaded source.header source.prefix.items }
-        requires items { sender.items ≡ source.header.items }
-        requires records { sender.records ≡ MOST_RECORDS }
-        requires sent { sender.sent ≡ [] }
-        ensures { result ≡ record { place = place; header = source.header; bytes = known_of T.remaining source; sender = sender } }
+        requires unread { All IsUnread streams.items }
+        requires room { IsRoomFor (vec_len streams) room }
+        ensures { result ≡ map (begun_of T.remaining) streams.items }
     {
         let promise = OfReader {
-            place,
-            source: Snapshot::of(&source),
-            sender: Snapshot::of(&sender),
+            streams: Snapshot::of(&streams),
         };
         let begun = Snapshot::of(&promise);
-        let forward = Forward::new(alloc, sender);
         let Ok(theirs) = Arc::try_clone(abandoned) else {
-            let work = ReaderState::Over(forward.fail(&rt, Fault::Threads));
+            abandoned.store(true, Ordering::SeqCst);
+            let work = ReaderState::Over(read_each(&rt, alloc, streams, room, abandoned));
             return ReaderThread { begun, work };
         };
-        let read = move || read_on(rt, place, source, forward, theirs);
+        let read = move || {
+            let (streams, room) = (streams, room);
+            read_each(&rt, alloc, streams, room, &theirs)
+        };
         let work = match thread::spawn_with(&rt, promise, read) {
             Ok(handle) => ReaderState::Started(handle),
             Err(refused) => {
@@ -107,7 +101,7 @@ where
 }
 
 impl<T: Read, A: Allocator> ReaderThread<T, A> {
-    /// Waits until the stream's reading has ended. Its thread has then ended too.
+    /// Waits until the streams' reading has ended. Its thread has then ended too.
     pub(crate) fn settle<R: Threads>(&mut self, rt: &R)
         ensures { self.new ≡ self.old }
     {
@@ -117,9 +111,9 @@ impl<T: Read, A: Allocator> ReaderThread<T, A> {
         };
     }
 
-    /// Waits until the stream's reading has ended.
-    pub(crate) fn join<R: Threads>(self, rt: &R) -> Ended<A>
-        ensures { IsEndOf self result.receipt result.fault }
+    /// Waits until the streams' reading has ended.
+    pub(crate) fn join<R: Threads>(self, rt: &R) -> Vec<Ended<A>, A>
+        ensures { AreEndsOf self result.items }
     {
         let ReaderThread { begun: _, work } = self;
         match work {

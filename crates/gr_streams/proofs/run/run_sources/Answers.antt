@@ -1,4 +1,5 @@
-use Rattle.std.proofs.Common.{◌≡◌, ◌∙◌, ◌⊎◌, Some, Result, ap, arith, inl, inr, length, map, refl, subst, sym, ⊎_elim}
+use Rattle.std.proofs.Common.{◌≡◌, ◌∙◌, ◌⊎◌, ℕ, List, Option, Some, Result, ap, arith, inl, inr, length, map, refl, subst, sym, ⊎_elim}
+use Rattle.std.proofs.lemmas.List.{length-map}
 use Rattle.std.proofs.lemmas.Result.{IfErr-weaker, IfOk-at_ok, IfOk-weaker}
 use Rattle.gr_detector.specs.Refusals.{IsHandedBack}
 use Rattle.gr_detector.specs.Runs.{IsEachOnce, sent_by}
@@ -8,28 +9,49 @@ use Rattle.gr_record.specs.InputFaults.{Fails}
 use Rattle.gr_record.specs.declared.fault.Fault.{Fault}
 use Rattle.gr_record.specs.declared.fault.Fault.TheVariants as faults
 use Rattle.gr_report.specs.Whole.{whole_of}
+use Rattle.gr_route.specs.Batches.{all_of}
 use Rattle.gr_route.specs.IntakeSeats.{Seat}
 use Rattle.gr_streams.specs.Headers.{AreHeadersOf}
 use Rattle.gr_streams.specs.Records.{lists_of}
 use Rattle.gr_streams.specs.Sending.{FailsHere, Tells}
-use Rattle.gr_streams.specs.Sources.{AreSenders}
+use Rattle.gr_streams.specs.Sources.{AreBegun, AreSenders, Begun, known_of}
 use Rattle.gr_streams.specs.Streams.{IsWantOfMemory}
 use Rattle.gr_streams.specs.declared.source.Source.{Source}
+use Rattle.gr_streams.proofs.JoinLemmas.{begun_count}
 use Rattle.gr_streams.proofs.LaunchLemmas.{launch_sent, of_run, receipts_of_run, served}
 use Rattle.gr_streams.proofs.OnceLemmas.{each_once, only_memory}
 use Rattle.gr_streams.proofs.run.run_sources.Goals as goal
+
+-- the streams of the shares are those of the sources
+begun_sources : {T : Type 0} (remaining : T → Option (List ℕ)) (shares : List (List (Source T))) (sources : List (Source T)) (bs : List Begun) → all_of shares ≡ sources
+    → AreBegun 0 (map (λ s. s.header) (all_of shares)) (map (known_of remaining) (all_of shares)) bs → AreBegun 0 (map (λ s. s.header) sources) (map (known_of remaining) sources) bs
+begun_sources {T} remaining shares sources bs is = subst (λ (l : List (Source T)). AreBegun 0 (map (λ s. s.header) l) (map (known_of remaining) l) bs) is
+
+pub start_all-threads-requires-clause-headed : goal.start_all-threads-requires-clause-headed
+start_all-threads-requires-clause-headed g c κs within = rw c.in_ok-shares.ensures.shares c.requires.headed
 
 pub start_all-threads-requires-clause-senders : goal.start_all-threads-requires-clause-senders
 start_all-threads-requires-clause-senders g c κs within =
     let hs = map (λ (s : Source _). s.header) c.args.sources.items in
     let run = c.in-Ok-start.started.1 in
     let launch = subst (AreHeadersOf hs) (sym c.in-Ok-start.ensures.run.1) c.requires.shape in
-    rw c.at_places-senders.ensures (served run c.in-Ok-start.started.0.items c.in-Ok-start.ensures.senders hs c.requires.apart launch)
+    rw (c.at_places-senders.ensures, c.in_ok-shares.ensures.shares) (served run c.in-Ok-start.started.0.items c.in-Ok-start.ensures.senders hs c.requires.apart launch)
+
+pub join_all-receipts-requires : goal.join_all-receipts-requires
+join_all-receipts-requires g c =
+    let room = c.in_ok-shares.ensures.receipts in
+    let sources = c.args.sources.items in
+    let begun = begun_sources g.T.Read.remaining c.in_ok-shares.field-0.shares.items sources (all_of c.start_all-threads.result.items) c.in_ok-shares.ensures.shares c.start_all-threads.ensures.begun in
+    record {
+      none = room.none;
+      empty = room.empty;
+      fits = omega (arith, room.fits, begun_count _ _ _ _ begun, length-map sources (λ (s : Source _). s.header), c.args.sources.ok.0);
+    }
 
 pub finish-requires : goal.finish-requires
 finish-requires g c =
     let run = c.in-Ok-start.started.1 in
-    let threads = c.start_all-threads.result.items in
+    let threads = all_of c.start_all-threads.result.items in
     let senders = of_run run c.in-Ok-start.started.0.items c.in-Ok-start.ensures.senders in
     let begun = c.start_all-threads.ensures.run run (subst (AreSenders run) (sym c.at_places-senders.ensures) senders) in
     receipts_of_run run threads c.join_all-receipts.result.receipts.items begun c.join_all-receipts.ensures.receipts
@@ -40,7 +62,8 @@ judge-requires g c =
     let run = c.in-Ok-start.started.1 in
     let receipts = c.join_all-receipts.result.receipts.items in
     let launch = subst (AreHeadersOf hs) (sym c.in-Ok-start.ensures.run.1) c.requires.shape in
-    let once : IsEachOnce (length run.sizes) receipts = each_once hs run.sizes receipts c.requires.apart launch (c.join_all-receipts.ensures.receipts.groups ∙ c.start_all-threads.ensures.begun.groups) in
+    let begun = begun_sources g.T.Read.remaining c.in_ok-shares.field-0.shares.items c.args.sources.items (all_of c.start_all-threads.result.items) c.in_ok-shares.ensures.shares c.start_all-threads.ensures.begun in
+    let once : IsEachOnce (length run.sizes) receipts = each_once hs run.sizes receipts c.requires.apart launch (c.join_all-receipts.ensures.receipts.groups ∙ begun.groups) in
     IfErr-weaker c.finish.result (IsHandedBack run receipts) IsWantOfMemory (only_memory run receipts once) c.finish.ensures.refused
 
 pub returns-clause-report : goal.returns-clause-report
@@ -49,7 +72,7 @@ returns-clause-report g c =
     let run = c.in-Ok-start.started.1 in
     let receipts = c.join_all-receipts.result.receipts.items in
     let pushed = map (λ (r : Seat). r.pushed) receipts in
-    let begun = c.start_all-threads.ensures.begun in
+    let begun = begun_sources g.T.Read.remaining c.in_ok-shares.field-0.shares.items c.args.sources.items (all_of c.start_all-threads.result.items) c.in_ok-shares.ensures.shares c.start_all-threads.ensures.begun in
     IfOk-weaker c.judge.result _ _
     (λ r h inputs known.
     let tells = c.join_all-receipts.ensures.tells inputs (begun.placed, begun.bytes ∙ known) in
@@ -63,21 +86,19 @@ returns-clause-report g c =
     })
     c.judge.ensures.report
 
-pub start_all-threads-requires-clause-room : goal.start_all-threads-requires-clause-room
-start_all-threads-requires-clause-room g c κs within = omega (arith, c.in_ok-places.ensures.threads.2, c.len.ensures)
-
-pub join_all-receipts-requires-clause-room : goal.join_all-receipts-requires-clause-room
-join_all-receipts-requires-clause-room g c =
-    omega (arith, c.in_ok-places.ensures.receipts.2, c.len.ensures, c.start_all-threads.ensures.count)
-
 pub room_for-requires : goal.room_for-requires
 room_for-requires g c κs lives = lives
 
-pub at_places-senders-requires-clause-room : goal.at_places-senders-requires-clause-room
-at_places-senders-requires-clause-room g c =
+pub at_places-senders-requires : goal.at_places-senders-requires
+at_places-senders-requires g c =
+    let room = c.in_ok-shares.ensures.senders in
     let senders = c.in-Ok-start.ensures.senders in
     let groups = ap length c.in-Ok-start.ensures.run.1 in
-    omega (arith, c.in_ok-places.ensures.senders.2, c.groups.ensures.count, groups, senders.count, c.in-Ok-start.started.0.ok.0)
+    record {
+      none = room.none;
+      empty = room.empty;
+      fits = omega (arith, room.fits, c.groups.ensures.count, groups, senders.count, c.in-Ok-start.started.0.ok.0);
+    }
 
 -- what a thread tells of its input is why the run fails, unless a thread is missing
 why : {Y : Type 0} (meaning : Result Y Fault) (f : Fault) → FailsHere f meaning → (f ≡ faults.Threads) ⊎ Fails f meaning
@@ -88,7 +109,7 @@ why meaning f here = inr here
 
 pub returns-clause-fault : goal.returns-clause-fault
 returns-clause-fault g c =
-    let begun = c.start_all-threads.ensures.begun in
+    let begun = begun_sources g.T.Read.remaining c.in_ok-shares.field-0.shares.items c.args.sources.items (all_of c.start_all-threads.result.items) c.in_ok-shares.ensures.shares c.start_all-threads.ensures.begun in
     let pushed = map (λ (r : Seat). r.pushed) c.join_all-receipts.result.receipts.items in
     IfErr-weaker c.judge.result _ _
     (λ f h inputs known.

@@ -1,0 +1,70 @@
+use Rattle.std.proofs.Common.{◌≡◌, ◌≢◌, ◌∙◌, ◌+◌, ◌++◌, ◌∷◌, [], List, Option, Some, Result, append-nil, append_assoc, ap, arith, length, map, refl, rules, subst, sym}
+use Rattle.std.specs.Prelude.{IfSome}
+use Rattle.std.specs.Vec.Iter.{into_iter_items}
+use Rattle.std.proofs.lemmas.List.{length-append, length-map, map_push}
+use Rattle.gr_model.specs.declared.event.Event.{Event}
+use Rattle.gr_record.specs.declared.fault.Fault.{Fault}
+use Rattle.gr_record.specs.declared.fault.Fault.TheVariants as faults
+use Rattle.gr_route.specs.IntakeSeats.{Seat}
+use Rattle.gr_streams.specs.Records.{and_one, events_at, lists_of}
+use Rattle.gr_streams.specs.Sending.{Tells}
+use Rattle.gr_streams.specs.Sources.{AreEndsOf, AreLeft, Begun, IsEndOf}
+use Rattle.gr_streams.proofs.JoinLemmas.{lists_more, one_end, one_input, placed_prefix}
+use Rattle.gr_streams.proofs.joins.keep_each.Goals as goal
+
+no_ends : (A : Type 0) (begun : List Begun) → AreEndsOf {A = A} begun [] → begun ≡ []
+no_ends A [] are = refl
+no_ends A (b ∷ begun) are = absurd are
+
+-- what was left, and what one more stream has left, whose fault is the next
+module _ (bs : List Begun) (b : Begun) (rs : List Seat) (r : Seat) (first next both : Option Fault) (left : AreLeft bs rs first) (end : IsEndOf b r next) where
+  module _ (tells : (lists : Result (List (List Event)) Fault) (list : Result (List Event) Fault) (pushed : List (List Event)) (more : List Event) → Tells lists pushed first → Tells list more next → Tells (and_one lists list) (pushed ++ more ∷ []) both) where
+    left_next : IfSome both (λ f. f ≢ faults.Write) → AreLeft (bs ++ b ∷ []) (rs ++ r ∷ []) both
+    left_next write = record {
+      receipts = record {
+        groups = map_push (λ (x : Seat). x.group) rs r ∙ (ap (λ l. l ++ r.group ∷ []) left.receipts.groups ∙ (ap (λ n. map (λ (x : Begun). x.sender.group) bs ++ n ∷ []) end.group ∙ sym (map_push (λ (x : Begun). x.sender.group) bs b)));
+        queues = map_push (λ (x : Seat). x.queue) rs r ∙ (ap (λ l. l ++ r.queue ∷ []) left.receipts.queues ∙ (ap (λ n. map (λ (x : Begun). x.sender.queue.queue) bs ++ n ∷ []) end.queue ∙ sym (map_push (λ (x : Begun). x.sender.queue.queue) bs b)));
+      };
+      write = write;
+      tells = λ inputs read.
+          let placed = placed_prefix bs b read.0 in
+          let one = one_input (map (λ (x : Begun). x.bytes) bs) b.bytes inputs (sym (map_push (λ (x : Begun). x.bytes) bs b) ∙ read.1) in
+          let xs = one.0 in
+          let x = one.1 in
+          let count : length bs ≡ length xs = sym (length-map bs (λ (y : Begun). y.bytes)) ∙ (ap length one.3 ∙ length-map xs (λ l. Some l)) in
+          let told = subst (λ o. IfSome o (λ bytes. Tells (events_at b.place bytes) r.pushed next)) one.4 end.tells in
+          let here = subst (λ n. Tells (events_at n x) r.pushed next) (placed.1 ∙ count) told in
+          rw (one.2, lists_more xs x, map_push (λ (y : Seat). y.pushed) rs r)
+          (tells (lists_of xs) (events_at (length xs) x) (map (λ (y : Seat). y.pushed) rs) r.pushed (left.tells xs (placed.0, one.3)) here);
+    }
+
+pub loop-stream-init : goal.loop-stream-init
+loop-stream-init g c = record {
+  left = search rules;
+  joined = λ before begun are left. subst (λ l. AreLeft l c.args.receipts.now.items c.args.fault) (sym (append-nil before) ∙ ap (λ l. before ++ l) (sym (no_ends g.row.A.Denot begun are))) left;
+  count = omega arith;
+  room = search rules;
+  capacity = search rules;
+}
+
+pub loop-stream-preserved : goal.loop-stream-preserved
+loop-stream-preserved g c =
+    let inv = c.loop-stream.invariant in
+    let e = c.in-Some.stream in
+    let rest = into_iter_items c.next.new.self in
+    let items = c.in-Some.ensures.steps.0 in
+    let yielded = c.loop-stream.yielded in
+    let old = c.loop-stream.receipts.items in
+    let grown : length (yielded ++ e ∷ []) ≡ length yielded + 1 = length-append yielded (e ∷ []) in
+    let first = c.first_of-first.ensures in
+    record {
+      left = append_assoc yielded (e ∷ []) rest ∙ (ap (λ l. yielded ++ l) (sym items) ∙ inv.left);
+      joined = λ before begun are left.
+          let one = one_end begun yielded e are in
+          let were = inv.joined before one.0 one.3 left in
+          let now = left_next (before ++ one.0) one.1 old e.receipt c.loop-stream.first e.fault c.first_of-first.result were one.4 first.tells (first.write were.write one.4.write) in
+          rw c.push_reserved.ensures.items (subst (λ (l : List Begun). AreLeft l (old ++ e.receipt ∷ []) c.first_of-first.result) (append_assoc before one.0 (one.1 ∷ []) ∙ ap (λ l. before ++ l) (sym one.2)) now);
+      count = omega (arith, inv.count, grown, c.push_reserved.ensures.len);
+      room = omega (arith, inv.room, c.in-Some.ensures.steps.1, c.push_reserved.ensures.len, c.push_reserved.ensures.capacity);
+      capacity = c.push_reserved.ensures.capacity ∙ inv.capacity;
+    }
