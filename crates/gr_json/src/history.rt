@@ -10,15 +10,28 @@ use gr_places::index::PlaceIndex;
 use gr_places::sides::Sides;
 use gr_timeline::accesses::Accesses;
 use gr_timeline::entry::Entry;
-use gr_timeline::standing::{Above, Named};
+use gr_timeline::standing::{Above, Named, Standing};
 use gr_timeline::word_history::HistoryAnswer;
 use serde_json::{Map, Value, json, put};
-use std::alloc::Global;
+use std::alloc::{AllocError, Global};
 
 /// Some events: the first few, and how many others there are.
 fn named_value(alloc: Global, named: &Named) -> Made {
     let events = array_of(alloc, &named.events, |event| event_value(alloc, *event))?;
     json!(in alloc; {"events": events, "others": named.others})
+}
+
+/// Adds how an access stands to those above it.
+fn put_standing(
+    alloc: Global,
+    access: &mut Map<String, Value>,
+    standing: &Standing,
+) -> Result<(), AllocError> {
+    let races = named_value(alloc, &standing.races)?;
+    let unordered = named_value(alloc, &standing.unordered)?;
+    put(access, alloc, "behind", Value::from(standing.behind))?;
+    put(access, alloc, "races_with", races)?;
+    put(access, alloc, "unordered_with", unordered)
 }
 
 /// An access, what is told of it, and how it stands to those above it, to which it is added.
@@ -34,11 +47,7 @@ fn entry_value(
         put_details(alloc, &mut access, places, entry.event, details)?;
         if let Some(class) = class_of(&details.kind) {
             let standing = above.standing(alloc, entry, class)?;
-            let races = named_value(alloc, &standing.races)?;
-            let unordered = named_value(alloc, &standing.unordered)?;
-            put(&mut access, alloc, "behind", Value::from(standing.behind))?;
-            put(&mut access, alloc, "races_with", races)?;
-            put(&mut access, alloc, "unordered_with", unordered)?;
+            put_standing(alloc, &mut access, &standing)?;
             above.add(alloc, entry.event, class)?;
         }
     }
@@ -47,8 +56,19 @@ fn entry_value(
     Ok(Value::Object(access))
 }
 
-/// The history of a word, with what side files say of it and of its accesses, and at the end how many accesses there are, how many
-/// others are held, and whether some of them race, as lines of JSON.
+/// The word, its buffer, how many accesses there are, how many others are held, and whether some of them race.
+fn end_value(alloc: Global, sides: &Sides<'_>, word: Word, told: &HistoryAnswer) -> Made {
+    json!(in alloc; {
+        "accesses": told.entries.len(),
+        "buffer": buffer_value(alloc, sides, word)?,
+        "held": told.held,
+        "races": told.racy,
+        "type": "end",
+        "word": word_value(alloc, word)?
+    })
+}
+
+/// The history of a word, with what side files say of it and of its accesses, as lines of JSON.
 ///
 /// # Errors
 /// `Memory`: out of memory.
@@ -60,14 +80,6 @@ pub fn history_json(alloc: Global, sides: &Sides<'_>, word: Word, told: &History
         let access = entry_value(alloc, &places, &mut above, &told.known, entry)?;
         push_object(&mut text, Ok(access))?;
     }
-    let end = json!(in alloc; {
-        "accesses": told.entries.len(),
-        "buffer": buffer_value(alloc, sides, word)?,
-        "held": told.held,
-        "races": told.racy,
-        "type": "end",
-        "word": word_value(alloc, word)?
-    });
-    push_object(&mut text, end)?;
+    push_object(&mut text, end_value(alloc, sides, word, told))?;
     Ok(text)
 }

@@ -87,8 +87,27 @@ fn other_value(alloc: Global, places: &PlaceIndex<'_>, other: &KindedRace) -> Ma
     })
 }
 
-/// The line of a word's racing pair, what its accesses are, what stands between them, the cause of their race and the word's other
-/// races, or of a word that has none.
+/// A word's racing pair, what its accesses are, what stands between them, the cause of their race and the word's other races.
+fn account_value(
+    alloc: Global,
+    sides: &Sides<'_>,
+    places: &PlaceIndex<'_>,
+    word: Word,
+    account: &Account,
+) -> Made {
+    json!(in alloc; {
+        "between": between_value(alloc, places, &account.between)?,
+        "buffer": buffer_value(alloc, sides, word)?,
+        "cause": cause_name(account.cause),
+        "first": details_value(alloc, places, account.first, &account.first_details)?,
+        "others": array_of(alloc, &account.others, |it| other_value(alloc, places, it))?,
+        "second": details_value(alloc, places, account.second, &account.second_details)?,
+        "type": "race",
+        "word": word_value(alloc, word)?
+    })
+}
+
+/// The line of a word's racing pair with all that, or of a word that has none.
 ///
 /// # Errors
 /// `Memory`: out of memory.
@@ -102,15 +121,5 @@ pub fn account_json(
         return line_of(alloc, no_race_value(alloc, word));
     };
     let places = PlaceIndex::of(alloc, sides.places)?;
-    let race = json!(in alloc; {
-        "between": between_value(alloc, &places, &account.between)?,
-        "buffer": buffer_value(alloc, sides, word)?,
-        "cause": cause_name(account.cause),
-        "first": details_value(alloc, &places, account.first, &account.first_details)?,
-        "others": array_of(alloc, &account.others, |it| other_value(alloc, &places, it))?,
-        "second": details_value(alloc, &places, account.second, &account.second_details)?,
-        "type": "race",
-        "word": word_value(alloc, word)?
-    });
-    line_of(alloc, race)
+    line_of(alloc, account_value(alloc, sides, &places, word, account))
 }
