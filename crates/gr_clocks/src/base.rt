@@ -162,6 +162,23 @@ impl<A: Allocator> Base<A> {
         }
     }
 
+    /// Whether it is sure that nothing is counted of the group's items.
+    #[tactic(auto, using(crate::proofs::PageLemmas::count_whole, crate::proofs::PageLemmas::count_past))]
+    pub(crate) fn lacks(&self, group: u16) -> bool
+        ensures { IsTrue result → (j : AnyItem) → j.group ≡ group → count_of self.now j ≡ 0 }
+    {
+        let place = usize::from(group / 256);
+        place >= self.pages.len() || self.pages.at(place).lacks(group % 256)
+    }
+
+    /// Whether it is sure that nothing is counted.
+    #[tactic(auto, using(crate::proofs::PageLemmas::count_past))]
+    pub(crate) fn is_zero(&self) -> bool
+        ensures { IsTrue result → (j : AnyItem) → count_of self.now j ≡ 0 }
+    {
+        self.pages.len() == 0
+    }
+
     /// The same counts once more, shared.
     pub(crate) fn copy(&self) -> Result<Base<A>, ClockError>
     where

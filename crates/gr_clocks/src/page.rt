@@ -61,6 +61,16 @@ impl<A: Allocator> Page<A> {
         }
     }
 
+    /// Whether it is sure that nothing is counted of the group's items.
+    pub(crate) fn lacks(&self, group: u16) -> bool
+        ensures { IsTrue result → (j : AnyItem) → j.group ≡ group → count_of self.now j ≡ 0 }
+    {
+        match self.blocks.get(group as usize) {
+            None => true,
+            Some(block) => block.is_zero(),
+        }
+    }
+
     /// Whether it is sure that no count is above the other's.
     #[tactic(auto, using(crate::proofs::PageLemmas::within_more, crate::proofs::PageLemmas::within_all))]
     pub(crate) fn is_within(&self, other: &Page<A>) -> bool
