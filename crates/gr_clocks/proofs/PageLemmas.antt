@@ -34,6 +34,10 @@ count_none j = count_whole [] j
 pub count_past : (pages : List Counts) (j : ItemId) → length pages ≤ j.group / 256 → count_of (whole pages) j ≡ 0
 count_past pages j past = grind (arith, count_whole, get_or_past)
 
+-- nor those of a group of which its page counts nothing
+pub none_of : (pages : List Counts) (g : ℕ) (page : Counts) → page ≡ page_of pages g → ((i : ItemId) → i.group ≡ g % 256 → count_of page i ≡ 0) → (j : ItemId) → j.group ≡ g → count_of (whole pages) j ≡ 0
+none_of pages g page is none j here = grind (arith, count_whole, none (in_page j))
+
 pub raised_behind : (before pages : List Counts) (i : ItemId) (n : ℕ) (page : Counts) → CountSame (whole pages) (whole before) → i.group / 256 < length pages → IsRaisedTo (page_of pages i.group) (in_page i) n page → IsRaisedTo (whole before) i n (whole (set pages (i.group / 256) page))
 raised_behind before pages i n page same there raised = record {
   item = grind (arith, count_whole, get_or-set_at, raised.item, same i);

@@ -1,6 +1,6 @@
 //! The counts of all items, which clocks share. There may be no count of an item of which nothing is counted.
 
-ghost use Rattle.std.specs.Prelude.{◌≡◌, ◌+◌, ◌/◌, ◌<◌, ◌≤◌, All, IfOk, OnOk, IsOkUnless, length};
+ghost use Rattle.std.specs.Prelude.{IsTrue, ◌≡◌, ◌+◌, ◌/◌, ◌<◌, ◌≤◌, All, IfOk, OnOk, IsOkUnless, length};
 ghost use Rattle.gr_clocks.specs.declared.clock.ClockError.TheVariants.{Memory as OutOfMemory};
 ghost use Rattle.gr_model.specs.declared.event.ItemId.{ItemId as AnyItem};
 ghost use Rattle.gr_clocks.specs.Counts.{count_of, CountSame, IsJoin};
@@ -163,7 +163,7 @@ impl<A: Allocator> Base<A> {
     }
 
     /// Whether it is sure that nothing is counted of the group's items.
-    #[tactic(auto, using(crate::proofs::PageLemmas::count_whole, crate::proofs::PageLemmas::count_past))]
+    #[tactic(auto, using(crate::proofs::PageLemmas::none_of, crate::proofs::PageLemmas::count_past))]
     pub(crate) fn lacks(&self, group: u16) -> bool
         ensures { IsTrue result → (j : AnyItem) → j.group ≡ group → count_of self.now j ≡ 0 }
     {

@@ -46,9 +46,8 @@ fn entry_value(
     if let Some(details) = known.get(&entry.event) {
         put_details(alloc, &mut access, places, entry.event, details)?;
         if let Some(class) = class_of(&details.kind) {
-            let standing = above.standing(alloc, entry, class)?;
+            let standing = above.add(alloc, entry, class)?;
             put_standing(alloc, &mut access, &standing)?;
-            above.add(alloc, entry.event, class)?;
         }
     }
     let kind = Value::try_from_str(alloc, "access")?;

@@ -46,9 +46,8 @@ fn put_access<A: Allocator + Copy>(
 ) -> Result<(), Memory> {
     write!(text, " {}", ToldText(*details))?;
     if let Some(class) = class_of(&details.kind) {
-        let standing = above.standing(alloc, entry, class)?;
+        let standing = above.add(alloc, entry, class)?;
         put_standing(text, &standing)?;
-        above.add(alloc, entry.event, class)?;
     }
     Ok(())
 }

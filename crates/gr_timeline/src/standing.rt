@@ -1,4 +1,7 @@
 //! How the accesses of a history stand to those above them: what text and JSON show of their clocks. No clause speaks of it.
+//!
+//! Of each work-group it is kept how many of its accesses the clock of the last access counts. The next clock is looked at group by
+//! group, and item by item only in a group of which neither clock counts nothing, and not the later one all that the earlier does.
 
 use crate::entry::Entry;
 use gr_clocks::clock::Clock;
@@ -34,28 +37,54 @@ pub struct Standing<A: Allocator = Global> {
     pub behind: usize,
 }
 
-/// The indices of the accesses of one item and class, ascending.
+/// The accesses of one item and class: their indices, ascending, and how many of them the last clock counts.
 #[derive(Drop)]
 struct Trail<A: Allocator> {
     class: Class,
     indices: Vec<u32, A>,
+    counted: usize,
 }
 
-/// The accesses of each item, by their classes.
-type Trails<A> = IndexMap<ItemId, Vec<Trail<A>, A>, BuildHasherDefault<FoldHasher>, A>;
+/// How many accesses of a class there are, and how many of them the last clock counts.
+#[derive(Clone, Copy)]
+struct Tally {
+    class: Class,
+    all: usize,
+    counted: usize,
+}
+
+/// How many accesses there are in all and of each class, and how many of them the last clock counts.
+#[derive(Drop)]
+struct Tallies<A: Allocator> {
+    classes: Vec<Tally, A>,
+    all: usize,
+    counted: usize,
+}
+
+/// A map that keeps the order in which its keys came.
+type Map<K, V, A> = IndexMap<K, V, BuildHasherDefault<FoldHasher>, A>;
+
+/// The accesses of a group: those of each item by their classes.
+#[derive(Drop)]
+struct GroupAbove<A: Allocator> {
+    items: Map<u16, Vec<Trail<A>, A>, A>,
+    tallies: Tallies<A>,
+}
 
 /// The accesses of a history that stand above the next one.
 #[derive(Drop)]
 pub struct Above<A: Allocator = Global> {
-    trails: Trails<A>,
-    count: usize,
+    groups: Map<u16, GroupAbove<A>, A>,
+    tallies: Tallies<A>,
+    last: Option<EventId>,
 }
 
 impl<A: Allocator + Copy> Named<A> {
-    fn new(alloc: A) -> Named<A> {
+    /// So many events, none of them by name.
+    fn new(alloc: A, count: usize) -> Named<A> {
         Named {
             events: Vec::new(alloc),
-            others: 0,
+            others: count,
         }
     }
 
@@ -64,30 +93,169 @@ impl<A: Allocator + Copy> Named<A> {
         self.events.len().saturating_add(self.others)
     }
 
-    /// Adds the events of an item with these indices.
-    fn add(&mut self, item: ItemId, indices: &[u32]) -> Result<(), Memory> {
-        let room = MOST_NAMED.saturating_sub(self.events.len());
-        for index in indices.iter().take(room) {
-            self.events.push(EventId {
-                at: item,
-                index: *index,
-            })?;
+    /// Whether no more of them are to be named.
+    fn is_full(&self) -> bool {
+        self.others == 0 || self.events.len() >= MOST_NAMED
+    }
+
+    /// Names the events of a trail that the last clock does not count, while there is room.
+    fn name(&mut self, at: ItemId, trail: &Trail<A>) -> Result<(), Memory> {
+        for index in trail.indices.iter().skip(trail.counted) {
+            if self.is_full() {
+                break;
+            }
+            self.events.push(EventId { at, index: *index })?;
+            self.others = self.others.saturating_sub(1);
         }
-        self.others = self
-            .others
-            .saturating_add(indices.len().saturating_sub(room));
         Ok(())
     }
 }
 
-/// Those of ascending indices that a clock does not count of an item.
-fn uncounted<'a, A: Allocator>(clock: &Clock<A>, item: ItemId, indices: &'a [u32]) -> &'a [u32] {
-    let counted = clock.get(item);
-    let first = indices.partition_point(|index| *index < counted);
-    &indices[first..]
+impl<A: Allocator + Copy> Standing<A> {
+    /// Whether no more accesses are to be named.
+    fn is_named(&self) -> bool {
+        self.races.is_full() && self.unordered.is_full()
+    }
 }
 
-/// Adds an index to those of its class.
+impl<A: Allocator + Copy> Tallies<A> {
+    fn new(alloc: A) -> Tallies<A> {
+        Tallies {
+            classes: Vec::new(alloc),
+            all: 0,
+            counted: 0,
+        }
+    }
+
+    /// Adds an access, which the last clock counts.
+    fn add(&mut self, class: Class) -> Result<(), Memory> {
+        let known = self.classes.iter().position(|tally| tally.class == class);
+        match known {
+            Some(place) => self.classes[place].all = self.classes[place].all.saturating_add(1),
+            None => self.classes.push(Tally {
+                class,
+                all: 1,
+                counted: 0,
+            })?,
+        }
+        self.all = self.all.saturating_add(1);
+        self.recount(class, 0, 1);
+        Ok(())
+    }
+
+    /// Puts how many accesses of a class the last clock counts in place of how many of them the one before it did.
+    fn recount(&mut self, class: Class, before: usize, after: usize) {
+        self.counted = self.counted.saturating_sub(before).saturating_add(after);
+        for tally in self.classes.iter_mut() {
+            if tally.class == class {
+                tally.counted = tally.counted.saturating_sub(before).saturating_add(after);
+            }
+        }
+    }
+
+    /// How many accesses the last clock does not count, of those that never race, or of those that can race, with an access of this
+    /// class and group if they are of the group `at`.
+    fn uncounted(&self, at: u16, class: Class, group: u16, is_exempt: bool) -> usize {
+        let mut sum: usize = 0;
+        for tally in &self.classes {
+            if exempt(tally.class, at, class, group) == is_exempt {
+                sum = sum.saturating_add(tally.all.saturating_sub(tally.counted));
+            }
+        }
+        sum
+    }
+}
+
+impl<A: Allocator + Copy> GroupAbove<A> {
+    fn new(alloc: A) -> GroupAbove<A> {
+        GroupAbove {
+            items: IndexMap::new(alloc),
+            tallies: Tallies::new(alloc),
+        }
+    }
+
+    /// Adds an access, which the last clock counts.
+    fn add(&mut self, alloc: A, item: u16, index: u32, class: Class) -> Result<(), Memory> {
+        self.tallies.add(class)?;
+        if self.items.get(&item).is_none() {
+            self.items.insert(item, Vec::new(alloc))?;
+        }
+        match self.items.get_mut(&item) {
+            Some(trails) => put(alloc, trails, class, index),
+            None => Ok(()),
+        }
+    }
+
+    /// Takes what a clock counts of an item in place of what the last one did.
+    fn turn_item(&mut self, at: ItemId, clock: &Clock<A>, launch: &mut Tallies<A>) {
+        if let Some(trails) = self.items.get_mut(&at.item) {
+            turn(trails, clock.get(at), &mut self.tallies, launch);
+        }
+    }
+
+    /// Takes what a clock counts of the group's items in place of what the last one did.
+    fn turn_all(&mut self, group: u16, clock: &Clock<A>, launch: &mut Tallies<A>) {
+        for (item, trails) in self.items.iter_mut() {
+            let at = ItemId { group, item: *item };
+            turn(trails, clock.get(at), &mut self.tallies, launch);
+        }
+    }
+
+    /// How many accesses of an item there are.
+    fn count_of(&self, item: u16) -> usize {
+        let mut count: usize = 0;
+        if let Some(trails) = self.items.get(&item) {
+            for trail in trails {
+                count = count.saturating_add(trail.indices.len());
+            }
+        }
+        count
+    }
+
+    /// Names the accesses that the last clock does not count: where they can race with an access of this class and group, and where not.
+    fn name(
+        &self,
+        number: u16,
+        class: Class,
+        group: u16,
+        standing: &mut Standing<A>,
+    ) -> Result<(), Memory> {
+        for (item, trails) in self.items.iter() {
+            if standing.is_named() {
+                break;
+            }
+            let at = ItemId {
+                group: number,
+                item: *item,
+            };
+            for trail in trails {
+                if exempt(trail.class, number, class, group) {
+                    standing.unordered.name(at, trail)?;
+                } else {
+                    standing.races.name(at, trail)?;
+                }
+            }
+        }
+        Ok(())
+    }
+}
+
+/// Takes so many counted events of an item in place of those that the last clock counts.
+fn turn<A: Allocator + Copy>(
+    trails: &mut [Trail<A>],
+    events: u32,
+    group: &mut Tallies<A>,
+    launch: &mut Tallies<A>,
+) {
+    for trail in trails.iter_mut() {
+        let counted = trail.indices.partition_point(|index| *index < events);
+        group.recount(trail.class, trail.counted, counted);
+        launch.recount(trail.class, trail.counted, counted);
+        trail.counted = counted;
+    }
+}
+
+/// Adds an index to those of its class, which the last clock counts.
 fn put<A: Allocator + Copy>(
     alloc: A,
     trails: &mut Vec<Trail<A>, A>,
@@ -95,11 +263,18 @@ fn put<A: Allocator + Copy>(
     index: u32,
 ) -> Result<(), Memory> {
     match trails.iter().position(|trail| trail.class == class) {
-        Some(place) => trails[place].indices.push(index)?,
+        Some(place) => {
+            trails[place].indices.push(index)?;
+            trails[place].counted = trails[place].indices.len();
+        }
         None => {
             let mut indices = Vec::new(alloc);
             indices.push(index)?;
-            trails.push(Trail { class, indices })?;
+            trails.push(Trail {
+                class,
+                indices,
+                counted: 1,
+            })?;
         }
     }
     Ok(())
@@ -109,56 +284,100 @@ impl<A: Allocator + Copy> Above<A> {
     /// No accesses.
     pub fn new(alloc: A) -> Above<A> {
         Above {
-            trails: IndexMap::new(alloc),
-            count: 0,
+            groups: IndexMap::new(alloc),
+            tallies: Tallies::new(alloc),
+            last: None,
         }
     }
 
-    /// How an access of a class stands to those above it.
-    ///
-    /// # Errors
-    /// `Memory`: out of memory.
-    pub fn standing(
-        &self,
-        alloc: A,
-        entry: &Entry<A>,
-        class: Class,
-    ) -> Result<Standing<A>, Memory> {
-        let mut races = Named::new(alloc);
-        let mut unordered = Named::new(alloc);
-        for (item, trails) in self.trails.iter() {
-            for trail in trails {
-                let indices = uncounted(&entry.clock, *item, &trail.indices);
-                if exempt(trail.class, item.group, class, entry.event.at.group) {
-                    unordered.add(*item, indices)?;
-                } else {
-                    races.add(*item, indices)?;
-                }
-            }
+    /// Takes what a clock counts of an item in place of what the last one did.
+    fn turn_item(&mut self, at: ItemId, clock: &Clock<A>) {
+        if let Some(group) = self.groups.get_mut(&at.group) {
+            group.turn_item(at, clock, &mut self.tallies);
         }
-        let others = races.count().saturating_add(unordered.count());
-        let behind = self.count.saturating_sub(others);
-        Ok(Standing {
-            races,
-            unordered,
-            behind,
-        })
     }
 
-    /// Adds an access of a class, which stands below the others.
+    /// How many accesses of an item there are.
+    fn count_of(&self, at: ItemId) -> usize {
+        match self.groups.get(&at.group) {
+            Some(group) => group.count_of(at.item),
+            None => 0,
+        }
+    }
+
+    /// Takes what the clock of an access counts in place of what the last one did.
+    fn turn_to(&mut self, entry: &Entry<A>) {
+        let (at, clock) = (entry.event.at, &entry.clock);
+        let mut is_later = false;
+        if let Some(last) = self.last {
+            is_later = clock.covers(last.at, last.index);
+            self.turn_item(last.at, clock);
+        }
+        self.turn_item(at, clock);
+        let own = self.count_of(at);
+        if self.tallies.counted == own && clock.lacks_all(at) {
+            return;
+        }
+        for (number, group) in self.groups.iter_mut() {
+            let own = if *number == at.group { own } else { 0 };
+            let has_none = group.tallies.counted == own && clock.lacks(*number, at);
+            let has_all = is_later && group.tallies.counted == group.tallies.all;
+            if !has_none && !has_all {
+                group.turn_all(*number, clock, &mut self.tallies);
+            }
+        }
+    }
+
+    /// How many accesses the last clock does not count, of those that never race, or of those that can race, with an access of this
+    /// class and group.
+    fn uncounted(&self, class: Class, group: u16, is_exempt: bool) -> usize {
+        let another = u16::from(group == 0);
+        let as_others = self.tallies.uncounted(another, class, group, is_exempt);
+        match self.groups.get(&group) {
+            None => as_others,
+            Some(mine) => as_others
+                .saturating_sub(mine.tallies.uncounted(another, class, group, is_exempt))
+                .saturating_add(mine.tallies.uncounted(group, class, group, is_exempt)),
+        }
+    }
+
+    /// Names the first accesses that the last clock does not count.
+    fn name(&self, class: Class, group: u16, standing: &mut Standing<A>) -> Result<(), Memory> {
+        for (number, above) in self.groups.iter() {
+            if standing.is_named() {
+                break;
+            }
+            let has = |is_exempt| above.tallies.uncounted(*number, class, group, is_exempt) > 0;
+            if !standing.races.is_full() && has(false)
+                || !standing.unordered.is_full() && has(true)
+            {
+                above.name(*number, class, group, standing)?;
+            }
+        }
+        Ok(())
+    }
+
+    /// Adds an access of a class, and says how it stands to those above it.
     ///
     /// # Errors
     /// `Memory`: out of memory.
-    pub fn add(&mut self, alloc: A, event: EventId, class: Class) -> Result<(), Memory> {
-        self.count = self.count.saturating_add(1);
-        match self.trails.get_mut(&event.at) {
-            Some(trails) => put(alloc, trails, class, event.index),
-            None => {
-                let mut trails = Vec::new(alloc);
-                put(alloc, &mut trails, class, event.index)?;
-                self.trails.insert(event.at, trails)?;
-                Ok(())
-            }
+    pub fn add(&mut self, alloc: A, entry: &Entry<A>, class: Class) -> Result<Standing<A>, Memory> {
+        self.turn_to(entry);
+        let EventId { at, index } = entry.event;
+        let mut standing = Standing {
+            races: Named::new(alloc, self.uncounted(class, at.group, false)),
+            unordered: Named::new(alloc, self.uncounted(class, at.group, true)),
+            behind: self.tallies.counted,
+        };
+        self.name(class, at.group, &mut standing)?;
+        if self.groups.get(&at.group).is_none() {
+            self.groups.insert(at.group, GroupAbove::new(alloc))?;
         }
+        if let Some(group) = self.groups.get_mut(&at.group) {
+            group.add(alloc, at.item, index, class)?;
+        }
+        self.tallies.add(class)?;
+        self.last = Some(entry.event);
+        Ok(standing)
     }
 }
