@@ -13,7 +13,7 @@ use gr_model::event::{EventId, ItemId};
 use std::alloc::Allocator;
 
 /// How many touches of a word are kept in its shadow itself.
-pub(crate) const PLACES: usize = 4;
+pub(crate) const PLACES: usize = 2;
 
 /// What is kept of an access: its epoch (its work-item, and its place in the item's trace) and its class.
 #[derive(Clone, Copy, Debug)]
