@@ -45,15 +45,6 @@ module _ (y : ClockedAccess) (tag : ℕ) where
   of_one : (l m : AlikeEvents) → Contains (l ∷ []) m → (P : AlikeEvents → Type 0) → P l → P m
   of_one l m there P holds = subst P (only_one l m there) holds
 
-  -- where it clashes with none
-  pub finds_none : (l : AlikeEvents) (found : List TaggedRace) → IsChosen l y None → Finds y tag (l ∷ []) found found
-  finds_none l found none = record {
-    kept = λ two a b h. h;
-    each = λ t there. inl there;
-    whole = λ two m e there. of_one l m there (λ (k : AlikeEvents). Contains k.events e → is_sought two k.class y e ≡ true → has_tags two found k.tag tag ≡ true) (λ event is. absurd (none.whole two e event is));
-    others = λ h. h;
-  }
-
   -- where it clashes with one, and there is no race of the two tags
   module _ (l : AlikeEvents) (e : EventId) (t : TaggedRace) (old : List TaggedRace) (had : list_any (is_of_tags l.tag tag) old ≡ false) (is : IsChosen l y (Some e)) (found : IsFound e l.tag y tag t) where
     now : (two : Bool) → are_of_groups two e (event_of y) ≡ true → has_tags two (old ++ t ∷ []) l.tag tag ≡ true

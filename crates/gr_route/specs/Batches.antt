@@ -25,12 +25,6 @@ abbrev pub values_in : {T A : Type 0} → Content T A → List T
 values_in (One value) = value ∷ []
 values_in (Several values) = values.items
 
-abbrev pub values_waiting : {T A : Type 0} → Option (List T) → Option (Vec T A) → List T
-values_waiting (Some batch) waiting = batch
-values_waiting None None = []
-values_waiting None (Some values) = values.items
-
--- no value waits beside a batch that was refused
-abbrev pub IsOutbox : {T A : Type 0} → Option (List T) → Option (Vec T A) → Type 0
-IsOutbox (Some batch) waiting = waiting ≡ None
-IsOutbox None waiting = Unit {0}
+abbrev pub values_waiting : {T A : Type 0} → Option (Vec T A) → List T
+values_waiting None = []
+values_waiting (Some values) = values.items

@@ -205,9 +205,6 @@ impl<T: Drop, A: Allocator> Rest<T, A> {
 /// Values that wait until they are pushed together. Contracts see the list of them.
 #[derive(Drop)]
 pub struct Outbox<T, A: Allocator = Global> {
-    // A batch that a full queue refused. While there is one, no value joins those that wait.
-    refused: Option<Batch<T, A>>,
-    // The values that wait, where no batch was refused.
     waiting: Option<Vec<T, A>>,
 }
 
@@ -217,9 +214,7 @@ impl<T, A: Allocator> Model for Outbox<T, A> {
 
     ghost Value = { List T };
 
-    ghost view = { λ o. spec.values_waiting o.refused o.waiting };
-
-    ghost invariant = { λ o. spec.IsOutbox o.refused o.waiting };
+    ghost view = { λ o. spec.values_waiting o.waiting };
 }
 
 impl<T: Drop, A: Allocator> Outbox<T, A> {
@@ -227,21 +222,17 @@ impl<T: Drop, A: Allocator> Outbox<T, A> {
     pub fn new() -> Outbox<T, A>
         ensures { result ≡ [] }
     {
-        Outbox {
-            refused: None,
-            waiting: None,
-        }
+        Outbox { waiting: None }
     }
 
     /// Whether no value waits.
     pub fn is_empty(&self) -> bool
         ensures { IsTrue result → self.now ≡ [] }
     {
-        let is_none = match &self.waiting {
+        match &self.waiting {
             Some(values) => values.is_empty(),
             None => true,
-        };
-        is_none && self.refused.is_none()
+        }
     }
 
     /// Takes out all values, as one batch, or `None` where no value waits.
@@ -250,12 +241,9 @@ impl<T: Drop, A: Allocator> Outbox<T, A> {
         ensures none { IfNone result (self.old ≡ []) }
         ensures empty { self.new ≡ [] }
     {
-        match self.refused.take() {
-            Some(batch) => Some(batch),
-            None => match self.waiting.take() {
-                Some(values) => Batch::of(values),
-                None => None,
-            },
+        match self.waiting.take() {
+            Some(values) => Batch::of(values),
+            None => None,
         }
     }
 
@@ -263,20 +251,11 @@ impl<T: Drop, A: Allocator> Outbox<T, A> {
     pub fn lend(&mut self, list: Vec<T, A>)
         ensures { self.new ≡ self.old }
     {
-        if self.refused.is_none() && self.waiting.is_none() {
+        if self.waiting.is_none() {
             let mut list = list;
             list.clear();
             self.waiting = Some(list);
         }
-    }
-
-    /// Puts a batch back that was taken out, and refused.
-    pub fn put_back(&mut self, batch: Batch<T, A>)
-        requires { self.old ≡ [] }
-        ensures { self.new ≡ batch }
-    {
-        self.waiting = None;
-        self.refused = Some(batch);
     }
 }
 
@@ -291,9 +270,6 @@ impl<T: Drop, A: Allocator + Copy> Outbox<T, A> {
         ensures err { IfErr result (λ back. back ≡ value) }
         ensures unchanged { OnErr result (self.new ≡ self.old) }
     {
-        if self.refused.is_some() {
-            return Err(value);
-        }
         match &mut self.waiting {
             Some(values) => {
                 if values.len() >= MOST_WAITING {

@@ -16,13 +16,3 @@ after_push queue seat seat' group items records sent closed closed' e s mark roo
     let ends : closed' ≡ is_complete (seat.pushed ++ e ∷ []) = mark ∙ sym (is_complete-push seat.pushed e) in
     let left : IsFalse closed' → sent + 1 < records = λ goes_on. let least = room (sym mark ∙ goes_on) in omega (arith, least, n) in
     subst (λ (k : Seat). IsSender queue k group items records (sent + 1) closed') (sym now) (assumption (count, ends, left, s))
-
-pub after_push_all : (s : Sending) (queue : Room) (seat seat' : Seat) (group items records sent n : ℕ) (closed : Bool) (events : List Event) → IsSender queue seat group items records sent closed
-    → record { queue = queue; group = group; items = items; records = records; sent = seat.pushed } ≡ s → MayPush s events → n ≡ length events → seat' ≡ record seat { pushed = seat.pushed ++ events }
-    → IsSender queue seat' group items records (sent + n) closed
-after_push_all s queue seat seat' group items records sent n closed events is view may count now =
-    let all : sent + n ≡ length (seat.pushed ++ events) = let a = is.count in omega (arith, a, count, length-append seat.pushed events) in
-    let mark = is.mark ∙ subst (λ (k : Sending). is_complete k.sent ≡ is_complete (k.sent ++ events)) (sym view) (may.before ∙ sym may.after) in
-    let least = subst (λ (k : Sending). length (k.sent ++ events) < k.records) (sym view) may.room in
-    let left : IsFalse closed → sent + n < records = λ _. omega (arith, least, all) in
-    subst (λ (k : Seat). IsSender queue k group items records (sent + n) closed) (sym now) (assumption (all, mark, left, is))
