@@ -81,6 +81,16 @@ fn join_counts_no_less(rt: HostRuntime) -> Result<(), ClockError> {
     Ok(())
 }
 
+/// A clock does not lack a group of which it counts an event.
+#[test]
+fn lacks_no_group_that_it_counts(rt: HostRuntime) -> Result<(), ClockError> {
+    let mut clocks = new_clocks(rt.alloc())?;
+    let clock = clocks.access_in(FIRST, Space::Global)?;
+    prove!(!clock.lacks(1, OTHER));
+    prove!(!clock.lacks_all(OTHER));
+    Ok(())
+}
+
 /// A barrier that flags global memory orders no local memory.
 #[test]
 fn meet_of_global_memory(rt: HostRuntime) -> Result<(), ClockError> {
