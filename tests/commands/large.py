@@ -2,6 +2,7 @@
 
 import itertools
 import json
+import struct
 
 from testing.program import END, ProgramTest, access, header, pack
 
@@ -278,6 +279,28 @@ class Histories(ProgramTest):
         behind = ["none"] + ["all"] * 1_999
         wanted = "".join(f"access 0 0 {index} write record {index} phase 0 behind {it}\n" for index, it in enumerate(behind))
         self.assert_run(self.gpurace("history", "g", "16", "writes"), f"{wanted}end accesses 2000 held 0 races no\n".encode(), 0)
+
+
+    def test_262144_items_that_count(self):
+        """Each item of 1,024 groups adds one to a counter."""
+        adds = b"".join(b"\x04\x00\x02\x01" + access(item, 0, GLOBAL, 16)[4:] for item in range(256))
+        self.put("counter", b"".join(b"GRT3" + header(group, 256)[4:] + adds + END for group in range(1_024)))
+        end = "end accesses 262144 held 0 races no"
+        self.assert_history(["counter"], "rmw dev rlx", lambda item, index: item, 262_144, end, 0)
+
+    def test_65536_items_that_take_turns(self):
+        """Each item takes the release of the one before it, in its own group or at the end of the group before."""
+        items, streams, wanted = range(256), [], []
+        for group in range(256):
+            before = [struct.pack("<HHI", group, max(item, 1) - 1, 0) for item in items]
+            before[0] = struct.pack("<HHI", group - 1, 255, 0) if group else access(0, 0, 0, 0)[12:]
+            adds = (b"\x04\x00\x02\x04" + access(item, 0, GLOBAL, 16)[4:12] + before[item] for item in items)
+            streams.append(b"GRT3" + header(group, 256)[4:] + b"".join(adds) + END)
+            wanted += (f"access {group} {item} 0 rmw dev both record {item} phase 0 behind all\n" for item in items)
+        wanted[0] = "access 0 0 0 rmw dev both record 0 phase 0 behind none\n"
+        self.put("turns", b"".join(streams))
+        wanted.append("end accesses 65536 held 0 races no\n")
+        self.assert_run(self.gpurace("history", "g", "16", "turns"), "".join(wanted).encode(), 0)
 
 
 class Chains(ProgramTest):
