@@ -90,3 +90,12 @@ class LargeLaunches(ProgramTest):
         path = self.put("stream", b"".join(streams))
         ran = self.gpurace("replay", path, preexec_fn=lambda: resource.setrlimit(resource.RLIMIT_AS, (room, room)))
         self.assert_run(ran, report(groups, groups * 256, groups * 1_027 - 1, []), 0)
+
+    def test_more_files_than_may_be_open(self):
+        """Each of 400 groups has a file of its own, and 300 files may be open."""
+        groups, most = 400, 300
+        paths = [self.put(f"stream{group}", b"GRT3" + header(group, 1)[4:] + END) for group in range(groups)]
+        for command in ("run", "replay", "races"):
+            with self.subTest(command=command):
+                ran = self.gpurace(command, *paths, preexec_fn=lambda: resource.setrlimit(resource.RLIMIT_NOFILE, (most, most)))
+                self.assertEqual((ran.returncode, ran.stderr), (0, b""))

@@ -192,7 +192,7 @@ impl Files {
     /// Opens a name: its piece, or else the file of this path.
     pub fn open(&self, name: &str) -> io::Result<Source> {
         match self.pieces.get(name) {
-            None => Ok(Source::Whole(File::open(&self.rt, name)?)),
+            None => Source::open(self.rt, name, self.names.len()),
             Some(piece) => Ok(Source::Piece(piece.open()?)),
         }
     }

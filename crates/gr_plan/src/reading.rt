@@ -5,7 +5,6 @@ use crate::progress::Progress;
 use crate::seen::Seen;
 use crate::source::Source;
 use gr_model::memory::Memory;
-use std::fs::File;
 use std::io::{self, Read};
 use std::sync::Arc;
 
@@ -50,8 +49,8 @@ fn sources_of(rt: HostRuntime, names: &[String]) -> Result<Vec<Source>, Memory> 
     for name in names {
         if name.as_str() == "-" {
             sources.push(Source::Input(rt.stdin()))?;
-        } else if let Ok(file) = File::open(&rt, name.as_str()) {
-            sources.push(Source::Whole(file))?;
+        } else if let Ok(source) = Source::open(rt, name.as_str(), names.len()) {
+            sources.push(source)?;
         } else {
             return Ok(Vec::new(rt.alloc()));
         }

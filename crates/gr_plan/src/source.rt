@@ -6,6 +6,9 @@ use std::fs::{self, File};
 use std::io::{self, Read, Seek, SeekFrom, Stdin};
 use std::sync::Arc;
 
+/// How many files are open side by side at most. Of more, each is open only while it is read.
+const MOST_OPEN: usize = 256;
+
 /// What has the bytes of a piece.
 #[derive(Drop)]
 enum Bytes {
@@ -105,6 +108,18 @@ pub enum Source {
     Piece(Piece),
     /// Standard input.
     Input(Stdin),
+}
+
+impl Source {
+    /// Opens the file or pipe of a path, which is one of so many.
+    pub fn open(rt: HostRuntime, path: &str, count: usize) -> io::Result<Source> {
+        let file = File::open(&rt, path)?;
+        if count > MOST_OPEN && file_size(rt, path).is_some() {
+            let path = String::from_str(rt.alloc(), path)?;
+            return Ok(Source::Piece(Piece::of_file(rt, path)));
+        }
+        Ok(Source::Whole(file))
+    }
 }
 
 impl Read for Source {
