@@ -61,52 +61,41 @@ abbrev group_at : List GroupList → ℕ → GroupList
 group_at groups g = get_or groups g (empty 0)
 
 module _ {sizes : List ℕ} (groups : List GroupList) {r : Remembered} (seen : remembered_of sizes groups ≡ r) (h : ℕ) {now : GroupList} (is : now ≡ group_at groups h) where
-  list_at : now.list ≡ list_of r.streams h
-  list_at = ap (λ (x : GroupList). x.list) is ∙ (sym (get_or-map (λ (x : GroupList). x.list) groups h (empty 0)) ∙ ap (λ (t : Remembered). list_of t.streams h) seen)
-
-  forgotten_at : now.forgotten ≡ forgotten_of r h
-  forgotten_at = ap (λ (x : GroupList). x.forgotten) is ∙ (sym (get_or-map (λ (x : GroupList). x.forgotten) groups h (empty 0)) ∙ ap (λ (t : Remembered). forgotten_of t h) seen)
-
-  decided_at : now.decided ≡ decided_of r h
-  decided_at = ap (λ (x : GroupList). x.decided) is ∙ (sym (get_or-map (λ (x : GroupList). x.decided) groups h (empty 0)) ∙ ap (λ (t : Remembered). decided_of t h) seen)
+  seen_at : (now.list ≡ list_of r.streams h) × (now.forgotten ≡ forgotten_of r h) × (now.decided ≡ decided_of r h)
+  seen_at = rw (is, ← seen) (sym (get_or-map (λ (x : GroupList). x.list) groups h (empty 0)), sym (get_or-map (λ (x : GroupList). x.forgotten) groups h (empty 0)), sym (get_or-map (λ (x : GroupList). x.decided) groups h (empty 0)))
 
   size_at : AreGroups sizes groups → now.size ≡ size_of r.streams h
-  size_at are =
-      ap (λ (x : GroupList). x.size) is ∙ (sym (get_or-map (λ (x : GroupList). x.size) groups h (empty 0))
-      ∙ (ap (λ l. get_or l h 0) are.same ∙ ap (λ (t : Remembered). size_of t.streams h) seen))
+  size_at are = rw (is, ← seen, ← are.same) (sym (get_or-map (λ (x : GroupList). x.size) groups h (empty 0)))
 
 -- a group that is read
 module _ {sizes : List ℕ} {groups : List GroupList} {r : Remembered} (seen : remembered_of sizes groups ≡ r) {found : List GroupList} (is : found ≡ groups) {g h : ℕ} (here : g ≡ h) {now : GroupList} (within : true ≡ nat_lt g (length found)) (reads : now ≡ get_or found g now) where
   found_at : now ≡ group_at groups h
   found_at = get_or_read found g now (ltb-true g (length found) (sym within)) reads (empty 0) ∙ (ap (λ l. group_at l g) is ∙ ap (group_at groups) here)
 
-  pub list_is : now.list ≡ list_of r.streams h
-  list_is = list_at groups seen h found_at
+  pub read_is : (now.list ≡ list_of r.streams h) × (now.forgotten ≡ forgotten_of r h) × (now.decided ≡ decided_of r h)
+  read_is = seen_at groups seen h found_at
 
   pub size_is : AreGroups sizes groups → now.size ≡ size_of r.streams h
   size_is = size_at groups seen h found_at
 
-  pub forgotten_read : now.forgotten ≡ forgotten_of r h
-  forgotten_read = forgotten_at groups seen h found_at
-
   pub is_cut_if : AreGroups sizes groups → EndsCut now.list → IsCut r.streams h
   is_cut_if are cut =
-      let ends = rw list_is at cut in
+      let ends = rw (read_is.0) at cut in
       (omega (arith, ltb-true g (length found) (sym within), ap length is, here, group_count are seen), ends.0, ends.1, ends.2, ends.3)
 
   pub is_cut_only : IsCut r.streams h → EndsCut now.list
-  is_cut_only cut = rw list_is (cut.1, cut.2, cut.3, cut.4)
+  is_cut_only cut = rw (read_is.0) (cut.1, cut.2, cut.3, cut.4)
 
 -- ---- a group that is written
+
+prefixes : {sizes : List ℕ} {groups : List GroupList} → AreGroups sizes groups → {r : Remembered} → remembered_of sizes groups ≡ r → ArePrefixes r.streams
+prefixes are seen = rw (← seen) are.prefixes
 
 -- these groups, but for what is seen of one
 abbrev setting : Remembered → ℕ → GroupList → Remembered
 setting r h x = record { streams = record { sizes = r.streams.sizes; lists = set r.streams.lists h x.list }; forgotten = set r.forgotten h x.forgotten; decided = set r.decided h x.decided }
 
 module _ {sizes : List ℕ} {groups : List GroupList} (are : AreGroups sizes groups) {r : Remembered} (seen : remembered_of sizes groups ≡ r) {g h : ℕ} (here : g ≡ h) {now : GroupList} (reads : now ≡ get_or groups g now) where
-  prefixes : ArePrefixes r.streams
-  prefixes = subst (λ (t : Remembered). ArePrefixes t.streams) seen are.prefixes
-
   now_is : g < length groups → now ≡ group_at groups h
   now_is within = get_or_read groups g now within reads (empty 0) ∙ ap (group_at groups) here
 
@@ -129,56 +118,50 @@ module _ {sizes : List ℕ} {groups : List GroupList} (are : AreGroups sizes gro
     group_there : g < length groups
     group_there = omega (arith, here, can.group, group_count are seen)
 
-    pub list_now : now.list ≡ list_of r.streams h
-    list_now = list_at groups seen h (now_is group_there)
+    taken_at : (now.list ≡ list_of r.streams h) × (now.forgotten ≡ forgotten_of r h) × (now.decided ≡ decided_of r h)
+    taken_at = seen_at groups seen h (now_is group_there)
 
     module _ (good : IsEventButItem x) (room : length (list_of r.streams h) < MOST_RECORDS) {new : GroupList} (is : new ≡ record { size = now.size; list = now.list ++ x ∷ []; forgotten = now.forgotten; decided = now.decided }) where
-      pub taken_prefixes : ArePrefixes (with_record r.streams h x)
-      taken_prefixes = prefixes_grow r.streams h x prefixes can good room
-
       pub taken_is : remembered_of sizes (set groups g new) ≡ remembering r (with_record r.streams h x)
-      taken_is = seen_set new ∙ simp (is, list_now, forgotten_at groups seen h (now_is group_there), decided_at groups seen h (now_is group_there), set-get_or)
+      taken_is = seen_set new ∙ simp (is, taken_at.0, taken_at.1, taken_at.2, set-get_or)
 
       pub taken_groups : AreGroups sizes (set groups g new)
-      taken_groups = set_groups new (ap (λ (x : GroupList). x.size) is) taken_is taken_prefixes
+      taken_groups = set_groups new (ap (λ (x : GroupList). x.size) is) taken_is (prefixes_grow r.streams h x (prefixes are seen) can good room)
 
   -- an instance is forgotten, to which all items came
   module _ (came : HaveAllCome r.streams h (forgotten_of r h)) where
     is_there : g < length groups
     is_there = let size = size_at groups seen h {now = group_at groups h} refl are in let some = came.0 in grind (arith, get_or_past)
 
-    forgotten_now : now.forgotten ≡ forgotten_of r h
-    forgotten_now = forgotten_at groups seen h (now_is is_there)
-
-    list_then : now.list ≡ list_of r.streams h
-    list_then = list_at groups seen h (now_is is_there)
+    then_at : (now.list ≡ list_of r.streams h) × (now.forgotten ≡ forgotten_of r h) × (now.decided ≡ decided_of r h)
+    then_at = seen_at groups seen h (now_is is_there)
 
     pub all_came : (i : ℕ) → i < now.size → (p : ℕ) × (slice_get (places_from is_barrier 0 (filter (is_of i) now.list)) now.forgotten ≡ Some p)
     all_came i within =
         let mark = came.1 i (omega (arith, within, size_at groups seen h (now_is is_there) are)) in
         let at = filter_map-place mark_of 0 (filter (is_of i) (list_of r.streams h)) (forgotten_of r h) mark.0 mark.1 in
-        (at.0, simp (list_then, forgotten_now) at.1)
+        (at.0, simp (then_at.0, then_at.1) at.1)
 
     pub few_forgotten : now.forgotten < MOST_RECORDS
     few_forgotten =
         let first = all_came 0 (omega (arith, size_at groups seen h (now_is is_there) are, came.0)) in
         let there = slice_get_within (places_from is_barrier 0 (filter (is_of 0) now.list)) now.forgotten first.0 first.1 in
-        let few = (prefixes.each h (omega (arith, is_there, here, group_count are seen))).few in
-        omega (arith, there, few-places is_barrier 0 (filter (is_of 0) now.list), length-filter_le (is_of 0) now.list, few, ap length list_then)
+        let few = ((prefixes are seen).each h (omega (arith, is_there, here, group_count are seen))).few in
+        omega (arith, there, few-places is_barrier 0 (filter (is_of 0) now.list), length-filter_le (is_of 0) now.list, few, ap length then_at.0)
 
     module _ {new : GroupList} (is : new ≡ record { size = now.size; list = now.list; forgotten = now.forgotten + 1; decided = now.decided }) where
       pub forgotten_is : remembered_of sizes (set groups g new) ≡ forgetting r h
-      forgotten_is = seen_set new ∙ simp (is, list_then, forgotten_now, decided_at groups seen h (now_is is_there), set-get_or)
+      forgotten_is = seen_set new ∙ simp (is, then_at.0, then_at.1, then_at.2, set-get_or)
 
       pub forgotten_groups : AreGroups sizes (set groups g new)
-      forgotten_groups = set_groups new (ap (λ (x : GroupList). x.size) is) forgotten_is prefixes
+      forgotten_groups = set_groups new (ap (λ (x : GroupList). x.size) is) forgotten_is (prefixes are seen)
 
     module _ (d : Divergence) (group : d.group ≡ h) {new : GroupList} (is : new ≡ record { size = now.size; list = now.list; forgotten = now.forgotten + 1; decided = now.decided ++ d ∷ [] }) where
       pub decided_is : remembered_of sizes (set groups g new) ≡ deciding r d
-      decided_is = seen_set new ∙ simp (is, list_then, forgotten_now, decided_at groups seen h (now_is is_there), set-get_or, group)
+      decided_is = seen_set new ∙ simp (is, then_at.0, then_at.1, then_at.2, set-get_or, group)
 
       pub decided_groups : AreGroups sizes (set groups g new)
-      decided_groups = set_groups new (ap (λ (x : GroupList). x.size) is) decided_is prefixes
+      decided_groups = set_groups new (ap (λ (x : GroupList). x.size) is) decided_is (prefixes are seen)
 
 -- ---- a group comes
 
@@ -187,14 +170,8 @@ abbrev adding : Remembered → ℕ → ℕ → List Event → Remembered
 adding r g n l = record { streams = record { sizes = put 0 r.streams.sizes g n; lists = put [] r.streams.lists g l }; forgotten = put 0 r.forgotten g 0; decided = put [] r.decided g [] }
 
 module _ {sizes : List ℕ} {groups : List GroupList} (are : AreGroups sizes groups) {r : Remembered} (seen : remembered_of sizes groups ≡ r) {g n : ℕ} (can : CanAdd r.streams g n) {after : List GroupList} (is : after ≡ put (empty 0) groups g (empty n)) where
-  before : ArePrefixes r.streams
-  before = subst (λ (t : Remembered). ArePrefixes t.streams) seen are.prefixes
-
   map_after : {X : Type 0} (f : GroupList → X) → map f after ≡ put (f (empty 0)) (map f groups) g (f (empty n))
   map_after f = ap (map f) is ∙ map_put f (empty 0) groups g (empty n)
-
-  pub added_prefixes : ArePrefixes (with_group r g n).streams
-  added_prefixes = prefixes_with_group r.streams g n before can
 
   module _ {shape : List ℕ} (same : shape ≡ put 0 sizes g n) where
     pub added_taken : remembered_of shape after ≡ with_group r g n
@@ -204,10 +181,10 @@ module _ {sizes : List ℕ} {groups : List GroupList} (are : AreGroups sizes gro
           forgotten = map_after (λ x. x.forgotten) d;
           decided = map_after (λ x. x.decided) d;
         } in
-        here ∙ (ap (λ t. adding t g n []) seen ∙ ap (adding r g n) (sym (nothing_came r.streams g n before can)))
+        here ∙ (ap (λ t. adding t g n []) seen ∙ ap (adding r g n) (sym (nothing_came r.streams g n (prefixes are seen) can)))
 
     pub added_groups : AreGroups shape after
     added_groups = record {
       same = map_after (λ x. x.size) ∙ (ap (λ (l : List ℕ). put 0 l g n) are.same ∙ sym same);
-      prefixes = subst (λ (t : Remembered). ArePrefixes t.streams) (sym added_taken) added_prefixes;
+      prefixes = subst (λ (t : Remembered). ArePrefixes t.streams) (sym added_taken) (prefixes_with_group r.streams g n (prefixes are seen) can);
     }

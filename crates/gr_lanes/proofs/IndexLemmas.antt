@@ -1,9 +1,9 @@
 -- What one record more makes of the index of each item.
-use Rattle.std.proofs.Common.{◌≡◌, ◌≢◌, inl, inr, ℕ, zero, suc, ◌+◌, ◌-◌, ◌<◌, ◌≤◌, Bool, true, false, not, ◌&&◌, ◌==◌, cond, List, [], ◌∷◌, ◌++◌, length, filter, Some, None, Err, nat_cmp, slice_get, get_or, set, take, is_some, sub-one, refl, sym, ap, ◌∙◌, subst, ⊎_elim, arith, append-nil, IsTrue}
-use Rattle.std.proofs.lemmas.Bool.{cases_lt, cases_eq, eq-eqb, ne_eqb, false_from_ne_true}
+use Rattle.std.proofs.Common.{◌≡◌, ◌≢◌, inl, inr, ℕ, zero, suc, ◌+◌, ◌-◌, ◌<◌, ◌≤◌, Bool, true, false, cond, List, [], ◌∷◌, ◌++◌, length, filter, Some, Err, nat_cmp, slice_get, get_or, take, is_some, sub-one, refl, sym, ap, ◌∙◌, subst, ⊎_elim, arith, append-nil, IsTrue}
+use Rattle.std.proofs.lemmas.Bool.{false_from_ne_true}
 use Rattle.std.proofs.lemmas.Bool.Decides.{nat_tests}
 use Rattle.std.proofs.lemmas.Grind.{common_steps}
-use Rattle.std.proofs.lemmas.List.{get_or-set_other, get_or-set_same, get_or-take, get_or_past, length-set, length-take-le, length_push}
+use Rattle.std.proofs.lemmas.List.{get_or-take, get_or_past, length-set, length-take-le, length_push}
 use Rattle.std.proofs.lemmas.List.Elements.{filter-append}
 use Rattle.std.proofs.lemmas.Option.{gets, slice_get-get_or, slice_get_within}
 use Rattle.std.proofs.lemmas.List.Sorted.{searched}
@@ -13,13 +13,11 @@ use Rattle.gr_model.specs.declared.event.ItemId.{ItemId}
 use Rattle.gr_model.specs.declared.limits.TheConstants.{MOST_RECORDS}
 use Rattle.gr_model.specs.Access.{is_release}
 use Rattle.gr_model.specs.Barriers.{is_barrier}
-use Rattle.gr_model.specs.declared.event.Kind.{Kind}
-use Rattle.gr_model.specs.declared.event.Kind.TheVariants.{End}
 use Rattle.gr_model.specs.Events.{IsEventOk, is_end, is_end_kind}
-use Rattle.gr_model.specs.Streams.{IsPrefix, AreGood, Streams, event_at, is_complete, is_of, place_of, places_from}
+use Rattle.gr_model.specs.Streams.{IsPrefix, AreGood, Streams, trace_of, event_at, is_complete, is_of, place_of, places_from}
 use Rattle.gr_model.proofs.ListsOfRecords.{length-filter_le}
 use Rattle.gr_model.proofs.Places.{places_from-append, places_from-there}
-use Rattle.gr_model.proofs.StreamPrefixes.{prefix_push}
+use Rattle.gr_model.proofs.StreamPrefixes.{prefix_nil, prefix_push}
 use Rattle.gr_lanes.specs.Indices.{EndsCut, Index, end_in, end_of, end_of_kind, index_of, no_index, with_if, with_event, indexed, record_of, AreIndices, AreRising, Closes, IsNumberKept, IsPlaceKept, IsSpent}
 use Rattle.gr_lanes.specs.Kept.{Begins, GroupIndex, HasNoEvents}
 
@@ -50,13 +48,6 @@ index_here list x i mine = simp (filter_more, mine, places_more, length_push)
 
 -- ---- the lanes of a group
 
--- a record that is an end is none of any item's
-pub end_is_of : (x : Event) (i : ℕ) → is_end x ≡ true → is_of i x ≡ false
-end_is_of x i end = elim (x.item == i) as (λ b. (b && not (is_end x)) ≡ false) [ true ↦ ap not end | false ↦ refl ]
-
-is_of_item : (x : Event) (i : ℕ) → is_end x ≡ false → is_of i x ≡ (x.item == i)
-is_of_item x i on = elim (x.item == i) as (λ b. (b && not (is_end x)) ≡ b) [ true ↦ ap not on | false ↦ refl ]
-
 module _ {size forgotten : ℕ} {lanes : List Index} {list : List Event} (x : Event) (are : AreIndices size forgotten lanes list) (ok : IsEventOk x size) (all : length lanes ≡ size) where
   pub item_there : x.item < length lanes
   item_there = omega (arith, ok.0, all)
@@ -76,31 +67,15 @@ module _ {size forgotten : ℕ} {lanes : List Index} {list : List Event} (x : Ev
   indices_more open_list room = record {
     prefix = prefix_push size list x are.prefix ok (false_from_ne_true (is_complete list) open_list) room;
     few = omega (arith, size_more, are.few);
-    each = by_end (is_end x) refl;
+    each = λ i within. grind (arith, nat_tests, common_steps, size_more, item_there, index_here list x i, index_other list x i, are.each i);
     gone = λ i past within. absurd (omega (arith, past, within, size_more, all));
     whole = λ _. inl (size_more ∙ all);
   }
-    where
-      here : is_end x ≡ false → get_or (set lanes x.item event) x.item no_index ≡ index_of (list ++ x ∷ []) x.item
-      here on = grind (arith, common_steps, get_or-set_same, item_there, index_here, is_of_item, eq-eqb)
-
-      other : is_end x ≡ false → (i : ℕ) → (i ≡ x.item → ⊥) → i < length lanes → get_or (set lanes x.item event) i no_index ≡ index_of (list ++ x ∷ []) i
-      other on i apart within = get_or-set_other lanes x.item i event no_index apart ∙ (are.each i within ∙ sym (index_other list x i (is_of_item x i on ∙ ne_eqb x.item i (λ e. apart (sym e)))))
-
-      by_end : (b : Bool) → is_end x ≡ b → (i : ℕ) → i < length (cond b lanes (set lanes x.item event)) → get_or (cond b lanes (set lanes x.item event)) i no_index ≡ index_of (list ++ x ∷ []) i
-      by_end true end i within = are.each i within ∙ sym (index_other list x i (end_is_of x i end))
-      by_end false on i within = ⊎_elim
-          (λ (same : i ≡ x.item). subst (λ n. get_or (set lanes x.item event) n no_index ≡ index_of (list ++ x ∷ []) n) (sym same) (here on))
-          (λ (apart : i ≡ x.item → ⊥). other on i apart (omega (arith, within, length-set lanes x.item event)))
-          (cases_eq i x.item)
 
 -- no record, and no items yet
-no_records : (size : ℕ) → IsPrefix size []
-no_records size = record { few = omega arith; good = λ p x at. cc }
-
 pub no_events : (size : ℕ) → AreIndices size 0 [] []
 no_events size = record {
-  prefix = no_records size;
+  prefix = prefix_nil size;
   few = omega arith;
   each = λ i within. refl;
   gone = λ i past within. record { releases = refl; barriers = refl };
@@ -109,33 +84,20 @@ no_events size = record {
 
 -- the items come, where they had not
 module _ {size : ℕ} {list : List Event} {old new : GroupIndex} (are : AreIndices size old.forgotten old.indices list) (open_list : ¬ IsTrue (is_complete list)) (begins : Begins size old new) where
-  come : AreIndices size new.forgotten new.indices list × ((length new.indices ≡ size) × (new.forgotten ≡ old.forgotten))
-  come = ⊎_elim
-      (λ (there : (size ≤ length old.indices) × (new ≡ old)).
-      (subst (λ (g : GroupIndex). AreIndices size g.forgotten g.indices list) (sym there.1) are, (ap (λ (g : GroupIndex). length g.indices) there.1 ∙ omega (arith, there.0, are.few), ap (λ (g : GroupIndex). g.forgotten) there.1)))
-      (λ (comes : (length old.indices < size) × HasNoEvents size new). ⊎_elim
-      (λ (all : length old.indices ≡ size). absurd (omega (arith, comes.0, all)))
-      (λ (nothing : (list ≡ []) × (old.forgotten ≡ 0)). (
-        record {
-          prefix = are.prefix;
-          few = omega (arith, comes.1.count);
-          each = λ i within. comes.1.none i ∙ ap (λ (l : List Event). index_of l i) (sym nothing.0);
-          gone = λ i past within. absurd (omega (arith, past, within, comes.1.count));
-          whole = λ _. inl comes.1.count;
-        },
-        (comes.1.count, comes.1.whole ∙ sym nothing.1),
-      ))
-      (are.whole open_list))
-      begins
+  pub all_come : length new.indices ≡ size
+  all_come = grind (arith, are.few)
 
   pub indices_come : AreIndices size new.forgotten new.indices list
-  indices_come = come.0
-
-  pub all_come : length new.indices ≡ size
-  all_come = come.1.0
-
-  pub same_forgotten : new.forgotten ≡ old.forgotten
-  same_forgotten = come.1.1
+  indices_come = ⊎_elim
+      (λ (there : (size ≤ length old.indices) × (new ≡ old)). subst (λ (g : GroupIndex). AreIndices size g.forgotten g.indices list) (sym there.1) are)
+      (λ (comes : (length old.indices < size) × HasNoEvents size new). record {
+        prefix = are.prefix;
+        few = omega (arith, all_come);
+        each = λ i within. grind (arith, comes.1.none i, are.whole open_list);
+        gone = λ i past within. absurd (omega (arith, past, within, all_come));
+        whole = λ _. inl all_come;
+      })
+      begins
 
 -- after a group's first record all its items are there
 pub all_there : {size forgotten : ℕ} {lanes : List Index} {list : List Event} → AreIndices size forgotten lanes list → ¬ IsTrue (is_complete list) → list ≢ [] → length lanes ≡ size
@@ -149,16 +111,9 @@ indices_close {size} {forgotten} {old} {new} {list} are ended closes =
       prefix = are.prefix;
       few = omega (arith, are.few, count, closes.within);
       each = λ i there. get_or-take closes.count old i no_index (omega (arith, there, count)) ∙ are.each i (omega (arith, there, count, closes.within));
-      gone = λ i past within. ⊎_elim
-          (λ (lt : i < length old). subst (IsSpent forgotten) (are.each i lt) (closes.spent i (omega (arith, past, count)) lt))
-          (λ (ge : length old ≤ i). are.gone i ge within)
-          (cases_lt i (length old));
+      gone = λ i past within. grind (arith, count, are.each i, are.gone i, closes.spent i);
       whole = λ open_list. absurd (open_list ended);
     })
-
--- in no list is there a barrier
-none_in : {list : List Event} (n : ℕ) → list ≡ [] → (p : ℕ) × (slice_get (places_from is_barrier 0 (filter (is_of 0) list)) n ≡ Some p) → ⊥
-none_in {list} n nothing at = let there = subst (λ (l : List Event). slice_get (places_from is_barrier 0 (filter (is_of 0) l)) n ≡ Some at.0) nothing at.1 in cc
 
 -- one instance more is forgotten, to which all items came: none of them has gone
 pub indices_forget : {size forgotten : ℕ} {lanes : List Index} {list : List Event} → AreIndices size forgotten lanes list → ((i : ℕ) → i < size → (p : ℕ) × (slice_get (places_from is_barrier 0 (filter (is_of i) list)) forgotten ≡ Some p)) → AreIndices size (forgotten + 1) lanes list
@@ -169,13 +124,7 @@ indices_forget {size} {forgotten} {lanes} {list} are came = record {
   gone = λ i past within.
       let at = came i within in
       absurd (let there = slice_get_within (places_from is_barrier 0 (filter (is_of i) list)) forgotten at.0 at.1 in omega (arith, there, (are.gone i past within).barriers));
-  whole = λ open_list. ⊎_elim
-      inl
-      (λ (nothing : (list ≡ []) × (forgotten ≡ 0)). ⊎_elim
-      (λ (some : 0 < size). absurd (none_in forgotten nothing.0 (came 0 some)))
-      (λ (none : size ≤ 0). inl (omega (arith, none, are.few)))
-      (cases_lt 0 size))
-      (are.whole open_list);
+  whole = λ open_list. grind (arith, gets, came 0, are.whole open_list, are.few);
 }
 
 -- ---- what is read by an index
@@ -200,10 +149,7 @@ places_rise test i (x ∷ xs) (suc a) (suc b) le within = grind (arith, common_s
 
 -- where the first so many are not asked for, the number is none of them
 pub number_least : (forgotten n : ℕ) (places : List ℕ) → forgotten ≤ length places → IsNumberKept forgotten places n → forgotten ≤ n
-number_least forgotten n places passed kept = ⊎_elim
-    (λ (lt : n < forgotten). kept (get_or places n 0) (slice_get-get_or places n 0 (omega arith)))
-    (λ (ge : forgotten ≤ n). ge)
-    (cases_lt n forgotten)
+number_least forgotten n places passed kept = grind (arith, slice_get-get_or places n 0, kept (get_or places n 0))
 
 -- a binary search that finds no place finds none because there is none
 pub not_found : (xs : List ℕ) (x i : ℕ) → IsBinarySearchResult (λ y. nat_cmp y x) xs (Err i) → AreRising xs → (k : ℕ) → slice_get xs k ≡ Some x → ⊥
@@ -237,18 +183,10 @@ module _ {size forgotten : ℕ} {lanes : List Index} {list : List Event} (are : 
   releases_at = by_lane (ap (λ (l : Index). l.releases)) (λ none spent. ap (λ (l : Index). l.releases) none ∙ sym spent.releases)
 
   pub released_at : lane.released ≡ filter is_release (filter (is_of i) list)
-  released_at = by_lane (ap (λ (l : Index). l.released)) (λ none spent.
-      ap (λ (l : Index). l.released) none ∙ sym (empty (filter is_release (filter (is_of i) list)) (omega (arith, ap length spent.releases, length-places is_release 0 (filter (is_of i) list)))))
-    where
-      empty : (l : List Event) → length l ≡ 0 → l ≡ []
-      empty [] is = refl
-      empty (x ∷ l) is = absurd (omega arith)
+  released_at = by_lane (ap (λ (l : Index). l.released)) (λ none spent. grind (arith, common_steps, spent.releases, length-places is_release 0 (filter (is_of i) list)))
 
-  pub few_releases : length lane.releases < 4_294_967_296
-  few_releases = subst (λ (l : List ℕ). length l < 4_294_967_296) (sym releases_at) (few_that is_release)
-
-  pub releases_rise : AreRising lane.releases
-  releases_rise = subst AreRising (sym releases_at) (places_rise is_release 0 (filter (is_of i) list))
+  pub releases_ready : (length lane.releases < 4_294_967_296) × AreRising lane.releases
+  releases_ready = rw releases_at (few_that is_release, places_rise is_release 0 (filter (is_of i) list))
 
   -- the barriers: of an item that has gone they are forgotten
 
@@ -271,11 +209,8 @@ module _ {size forgotten : ℕ} {lanes : List Index} {list : List Event} (are : 
   number_of p kept k at = by_lane (λ there. rw there at)
       (λ none spent. absurd (omega (arith, slice_get_within barriers k p at, kept k at, spent.barriers)))
 
-  pub few_barriers : length lane.barriers < 4_294_967_296
-  few_barriers = by_lane (λ there. rw there (few_that is_barrier)) (λ none spent. rw none (omega arith))
-
-  pub barriers_rise : AreRising lane.barriers
-  barriers_rise = by_lane (λ there. rw there (places_rise is_barrier 0 (filter (is_of i) list))) (λ none spent. rw none (λ a b le within. absurd (omega arith)))
+  pub barriers_ready : (length lane.barriers < 4_294_967_296) × AreRising lane.barriers
+  barriers_ready = by_lane (λ there. rw there (few_that is_barrier, places_rise is_barrier 0 (filter (is_of i) list))) (λ none spent. rw none (omega arith, λ a b le within. absurd (omega arith)))
 
   pub counts_at : ((length lanes ≤ i) × (i < size) → ⊥) → length lane.barriers ≡ length (filter is_barrier (filter (is_of i) list))
   counts_at isnt = grind (arith, lacking, length-places, are.each i)
@@ -286,36 +221,22 @@ module _ {size forgotten : ℕ} {lanes : List Index} {list : List Event} (are : 
 -- ---- the records of releases and barriers
 
 -- the k-th element that passes a test is the one at the k-th place
-pub record_place : {X : Type 0} (test : X → Bool) (i : ℕ) (xs : List X) (k n : ℕ) → slice_get (places_from test i xs) k ≡ Some n → (j : ℕ) × (n ≡ i + j) × (slice_get (filter test xs) k ≡ slice_get xs j)
-record_place test i [] k n e = cc
-record_place {X} test i (x ∷ xs) k n e =
-    elim (test x) as (λ b. slice_get (cond b (i ∷ places_from test (suc i) xs) (places_from test (suc i) xs)) k ≡ Some n → (j : ℕ) × (n ≡ i + j) × (slice_get (cond b (x ∷ filter test xs) (filter test xs)) k ≡ slice_get (x ∷ xs) j)) [
-      | true ↦ λ at. here k at (λ m f. record_place test (suc i) xs m n f)
-      | false ↦ λ at. let h = record_place test (suc i) xs k n at in (suc h.0, omega (arith, h.1), h.2)
-    ] e
-  where
-    here : (m : ℕ) → slice_get (i ∷ places_from test (suc i) xs) m ≡ Some n → ((l : ℕ) → slice_get (places_from test (suc i) xs) l ≡ Some n → (j : ℕ) × (n ≡ suc i + j) × (slice_get (filter test xs) l ≡ slice_get xs j)) → (j : ℕ) × (n ≡ i + j) × (slice_get (x ∷ filter test xs) m ≡ slice_get (x ∷ xs) j)
-    here zero at rest = let same : i ≡ n = cc in (0, omega arith, refl)
-    here (suc m) at rest = let h = rest m at in (suc h.0, omega (arith, h.1), h.2)
+pub record_place : {X : Type 0} (test : X → Bool) (i : ℕ) (xs : List X) (k j : ℕ) → slice_get (places_from test i xs) k ≡ Some (i + j) → slice_get (filter test xs) k ≡ slice_get xs j
+record_place test i [] k j e = cc
+record_place test i (x ∷ xs) zero zero e = grind (arith, places_from-there test (suc i) xs zero i)
+record_place test i (x ∷ xs) zero (suc j) e = grind (arith, record_place test (suc i) xs zero j)
+record_place test i (x ∷ xs) (suc k) zero e = grind (arith, places_from-there test (suc i) xs k i, places_from-there test (suc i) xs (suc k) i)
+record_place test i (x ∷ xs) (suc k) (suc j) e = grind (arith, record_place test (suc i) xs k j, record_place test (suc i) xs (suc k) j)
 
 pub record_is : (s : Streams) (test : Event → Bool) (i : ItemId) (k n : ℕ) → place_of s test i k ≡ Some n → record_of s test i k ≡ event_at s (record { at = i; index = n })
-record_is s test i k n place = grind (arith, common_steps, record_place)
+record_is s test i k n place = record_place test 0 (trace_of s i) k n (place ∙ ap Some (omega arith))
 
 -- ---- ends
-
-some_is_end : (k : Kind) → is_some (end_of_kind k) ≡ is_end_kind k
-some_is_end k = grind arith
-
-pub none_unless_end : (k : Kind) → is_end_kind k ≡ false → end_of_kind k ≡ None
-none_unless_end k isnt = grind arith
-
-cut_kind : (k : Kind) → end_of_kind k ≡ Some true → k ≡ End true
-cut_kind k e = grind arith
 
 -- a list with an end is whole
 pub end_is_complete : (list : List Event) → is_some (end_in list) ≡ is_complete list
 end_is_complete [] = refl
-end_is_complete (x ∷ []) = some_is_end x.kind
+end_is_complete (x ∷ []) = grind arith
 end_is_complete (x ∷ y ∷ xs) = end_is_complete (y ∷ xs)
 
 -- the last record tells
@@ -331,14 +252,14 @@ end_in-last (y ∷ z ∷ xs) x e = end_in-last (z ∷ xs) x (rw sub-one (rw sub-
 
 -- a list that is not whole has no end, with one more record that is none too
 pub none_more : (list : List Event) (x : Event) → ¬ IsTrue (is_complete list) → is_end x ≡ false → end_in (list ++ x ∷ []) ≡ end_in list
-none_more list x open_list isnt = grind (arith, end_pushed list x, none_unless_end x.kind isnt, end_is_complete list)
+none_more list x open_list isnt = grind (arith, end_pushed list x, end_is_complete list)
 
 -- ---- cut streams
 
 -- the last record tells whether a stream was cut, since an end stands at no other place
 pub cut_if_end : (list : List Event) → end_in list ≡ Some true → EndsCut list
 cut_if_end [] e = cc
-cut_if_end (x ∷ []) e = (0, x, refl, cut_kind x.kind e)
+cut_if_end (x ∷ []) e = (0, x, refl, grind arith)
 cut_if_end (x ∷ y ∷ xs) e = let h = cut_if_end (y ∷ xs) e in (suc h.0, h.1, h.2, h.3)
 
 pub end_if_cut : {size : ℕ} (list : List Event) → AreGood size list → EndsCut list → end_in list ≡ Some true

@@ -10,23 +10,18 @@ use Rattle.gr_lanes.proofs.IndexLemmas.{record_place}
 use Rattle.gr_lanes.specs.Instances.{HasCome}
 use Rattle.gr_lanes.specs.Kept.{NoneDiffers, of_item}
 
--- the k-th barrier of a list gives the k-th mark
-abbrev pub GivesMark : ℕ → List Event → ℕ → ℕ → Type 0
-GivesMark i xs k n = (j : ℕ) × (x : Event) × (n ≡ i + j) × (slice_get xs j ≡ Some x) × (slice_get (filter_map mark_of xs) k ≡ mark_of x) × (is_some (mark_of x) ≡ true)
-
 -- the k-th barrier has the k-th mark
 pub record_mark : (xs : List Event) (k : ℕ) → MatchOption (slice_get (filter is_barrier xs) k) (slice_get (filter_map mark_of xs) k ≡ None) (λ x. (slice_get (filter_map mark_of xs) k ≡ mark_of x) × (is_some (mark_of x) ≡ true))
 record_mark [] k = refl
 record_mark (x ∷ xs) zero = grind (arith, record_mark xs zero)
 record_mark (x ∷ xs) (suc k) = grind (arith, record_mark xs k, record_mark xs (suc k))
 
-pub barrier_mark : (i : ℕ) (xs : List Event) (k n : ℕ) → slice_get (places_from is_barrier i xs) k ≡ Some n → GivesMark i xs k n
+-- a barrier gives the mark of its number
+pub barrier_mark : (i : ℕ) (xs : List Event) (k n : ℕ) → slice_get (places_from is_barrier i xs) k ≡ Some n
+    → (j : ℕ) × (x : Event) × (n ≡ i + j) × (slice_get xs j ≡ Some x) × (slice_get (filter_map mark_of xs) k ≡ mark_of x) × (is_some (mark_of x) ≡ true)
 barrier_mark i xs k n e =
     let there = places_from-there is_barrier i xs k n e in
-    let h = record_place is_barrier i xs k n e in
-    let same : h.0 ≡ there.0 = omega (arith, h.1, there.2) in
-    let is : slice_get (filter is_barrier xs) k ≡ Some there.1 = h.2 ∙ (ap (slice_get xs) same ∙ there.3) in
-    let mark = rw is at (record_mark xs k) in
+    let mark = rw (record_place is_barrier i xs k there.0 (rw there.2 at e) ∙ there.3) at (record_mark xs k) in
     (there.0, there.1, there.2, there.3, mark.0, mark.1)
 
 -- and where there is none there is no mark
@@ -44,15 +39,6 @@ pub diverges_still : (ended : Bool) (n m : ℕ) (arrived : Arrivals) → n ≤ m
 diverges_still ended n m arrived le (inl (i, j, a, b, at_i, at_j, differ)) = inl (i, j, a, b, (omega (arith, le, at_i.0), at_i.1), (omega (arith, le, at_j.0), at_j.1), differ)
 diverges_still ended n m arrived le (inr (whole, (i, j, a, at_i, within, lacks))) = inr (whole, (i, j, a, (omega (arith, le, at_i.0), at_i.1), omega (arith, le, within), lacks))
 
--- where each item came with one mark, or did not come, where more may
-module _ (s : Streams) (g n : ℕ) (mark : Option Mark) (came : (i : ℕ) → i < size_of s g → ((arrivals s g n i ≡ mark) × (is_some mark ≡ true)) ⊎ ((is_complete (list_of s g) ≡ false) × (arrivals s g n i ≡ None))) where
-  -- who came, came with that mark
-  one_mark : (i : ℕ) (a : Mark) → HasArrived (size_of s g) (arrivals s g n) i a → Some a ≡ mark
-  one_mark i a at = grind (arith, came i at.0)
-
-  alike : (x : Event) → HasCome s g n x → (i : ℕ) → i < size_of s g → (arrivals s g n i ≡ mark_of x) ⊎ (arrivals s g n i ≡ None)
-  alike x come i within = grind (arith, came i within, came come.item come.within, come.came, come.barrier)
-
 -- where none differs
 module _ (s : Streams) (g n : ℕ) (none : NoneDiffers s g n) where
   -- an item came with one mark, or it did not come, and more may
@@ -60,7 +46,7 @@ module _ (s : Streams) (g n : ℕ) (none : NoneDiffers s g n) where
   came_with i within = grind (arith, none.1 i within, record_mark (trace_of s (record { group = g; item = i })) n, no_mark 0 (trace_of s (record { group = g; item = i })) n)
 
   mark_is : (i : ℕ) (a : Mark) → HasArrived (size_of s g) (arrivals s g n) i a → Some a ≡ mark_of (of_item i none.0)
-  mark_is = one_mark s g n (mark_of (of_item 0 none.0)) came_with
+  mark_is i a at = grind (arith, came_with i at.0)
 
   -- so the instance is not divergent
   pub not_divergent : ¬ IsDivergent s g n
@@ -72,4 +58,4 @@ module _ (s : Streams) (g n : ℕ) (none : NoneDiffers s g n) where
 
   -- and who came, came with the mark of one that came
   pub came_alike : (x : Event) → HasCome s g n x → (i : ℕ) → i < size_of s g → (arrivals s g n i ≡ mark_of x) ⊎ (arrivals s g n i ≡ None)
-  came_alike = alike s g n (mark_of (of_item 0 none.0)) came_with
+  came_alike x come i within = grind (arith, came_with i within, came_with come.item come.within, come.came, come.barrier)

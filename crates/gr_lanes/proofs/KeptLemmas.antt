@@ -1,8 +1,8 @@
 -- The indices of a group's items, by what is kept of them.
-use Rattle.std.proofs.Common.{◌≡◌, ℕ, zero, suc, ◌+◌, ◌-◌, ◌<◌, ◌≤◌, Bool, true, false, List, length, map, get_or, set, drop, take, refl, sym, ap, ◌∙◌, subst, ⊎_elim, arith, ltb, Some, slice_get, cond}
+use Rattle.std.proofs.Common.{◌≡◌, ℕ, ◌+◌, ◌-◌, ◌<◌, ◌≤◌, Bool, true, false, List, length, map, get_or, set, drop, take, refl, sym, ap, ◌∙◌, subst, arith, ltb, Some, slice_get}
 use Rattle.std.proofs.lemmas.Grind.{common_steps}
 use Rattle.gr_model.specs.declared.event.Space.TheVariants.{Global}
-use Rattle.std.proofs.lemmas.Bool.{cases_eq, ltb-true}
+use Rattle.std.proofs.lemmas.Bool.{ltb-true}
 use Rattle.std.proofs.lemmas.Bool.Decides.{nat_tests}
 use Rattle.std.proofs.lemmas.Option.{gets, slice_get-map, slice_get_within}
 use Rattle.std.specs.List.{list_all}
@@ -10,7 +10,7 @@ use Rattle.std.proofs.lemmas.Simd.{map-map}
 use Rattle.gr_lanes.proofs.IndexLemmas.{number_least}
 use Rattle.std.proofs.Math.ListN.{get_or-map as map_at, replicate}
 use Rattle.std.proofs.lemmas.List.Sums.{AllPass-from_list_all}
-use Rattle.std.proofs.lemmas.List.{get_or-map, get_or_read, get_or-set_other, get_or-set_same, get_or-take, length-map, length-replicate, length-take-le, length-set, map-set, take-map}
+use Rattle.std.proofs.lemmas.List.{get_or-map, get_or_read, get_or-replicate, get_or_past, get_or-take, length-map, length-replicate, length-take-le, map-set, take-map}
 use Rattle.gr_model.specs.declared.event.Event.{Event}
 use Rattle.gr_lanes.specs.declared.bare.Bare.{Bare}
 use Rattle.gr_model.specs.declared.event.Kind.TheVariants.{Read}
@@ -35,15 +35,12 @@ index_is ks j = map_at (λ (k : Kept). k.index) ks j nothing_kept
 
 -- what was read of the lanes, at the place that is the item's
 module _ {forgotten : ℕ} {ks read : List Kept} (same : read ≡ ks) {i j : ℕ} (here : j ≡ i) {s : GroupIndex} (view : seen_of forgotten ks ≡ s) where
-  item_index : get_or s.indices i no_index ≡ (get_or ks i nothing_kept).index
-  item_index = ap (λ (l : GroupIndex). get_or l.indices i no_index) (sym view) ∙ index_is ks i
-
   module _ {lane : Kept} (there : true ≡ ltb j (length read)) (reads : lane ≡ get_or read j lane) where
     lane_is : lane ≡ get_or ks i nothing_kept
     lane_is = grind (arith, common_steps, ltb-true, get_or_read)
 
     pub lane_index : get_or s.indices i no_index ≡ lane.index
-    lane_index = item_index ∙ ap (λ (k : Kept). k.index) (sym lane_is)
+    lane_index = ap (λ (l : GroupIndex). get_or l.indices i no_index) (sym view) ∙ (index_is ks i ∙ ap (λ (k : Kept). k.index) (sym lane_is))
 
     pub lane_kept : {firsts : List Bare} → AreLanes forgotten firsts ks → IsLane forgotten firsts i lane
     lane_kept {firsts} are = let lt = ltb-true j (length read) (sym there) in subst (IsLane forgotten firsts i) (sym lane_is) (are i (omega (arith, ap length same, here, lt)))
@@ -107,10 +104,7 @@ module _ {forgotten : ℕ} (firsts : List Bare) (ks : List Kept) (are : AreLanes
       arrives_with = seen_set (with_event (get_or s.indices x.item no_index) x false true) (arrives.index ∙ ap (λ l. with_event l x false true) (sym index_was))
 
       pub arrives_lanes : AreLanes forgotten firsts' (set ks j new)
-      arrives_lanes i there = ⊎_elim
-          (λ (same : i ≡ j). rw (same, get_or-set_same ks j new nothing_kept item_there, here) arrives.lane)
-          (λ (apart : i ≡ j → ⊥). rw (get_or-set_other ks j i new nothing_kept apart, arrives.grown) (lane_more (are i (omega (arith, there, length-set ks j new))) arrives.more))
-          (cases_eq i j)
+      arrives_lanes i there = grind (arith, common_steps, item_there, here, arrives.lane, arrives.grown, λ (lt : i < length ks). lane_more (are i lt) arrives.more)
 
     -- an event that is none
     module _ (release : Bool) (is : new ≡ kept_with old x release) where
@@ -161,20 +155,15 @@ module _ (s : List Index) (x : Event) where
   more release barrier = set s x.item (with_event (get_or s x.item no_index) x release barrier)
 
   pub indexed_event : is_end x ≡ false → is_barrier x ≡ false → more (is_release x) false ≡ indexed s x
-  indexed_event on other = ap (more (is_release x)) (sym other) ∙ ap (λ b. cond b s (more (is_release x) (is_barrier x))) (sym on)
+  indexed_event on other = rw (on, other) refl
 
   pub indexed_access : IsMereAccess x → more false false ≡ indexed s x
-  indexed_access mere = ap (λ b. more b false) (sym mere.release) ∙ indexed_event mere.ends mere.barrier
+  indexed_access mere = rw (mere.ends, mere.barrier, mere.release) refl
 
 -- ---- no events
 
-lanes_none : (n i : ℕ) → get_or (replicate n nothing_kept) i nothing_kept ≡ nothing_kept
-lanes_none zero i = refl
-lanes_none (suc n) zero = refl
-lanes_none (suc n) (suc i) = lanes_none n i
-
 pub none_kept : (n : ℕ) {ks : List Kept} → ks ≡ replicate n nothing_kept → (i : ℕ) → get_or ks i nothing_kept ≡ nothing_kept
-none_kept n is i = ap (λ l. get_or l i nothing_kept) is ∙ lanes_none n i
+none_kept n is i = grind (arith, common_steps, get_or-replicate, get_or_past)
 
 pub new_items : (n : ℕ) (ks : List Kept) → ks ≡ replicate n nothing_kept → HasNoEvents n (seen_of 0 ks)
 new_items n ks is = record {
@@ -182,6 +171,3 @@ new_items n ks is = record {
   none = λ i. index_is ks i ∙ ap (λ (k : Kept). k.index) (none_kept n is i);
   whole = refl;
 }
-
-pub new_lanes : (firsts : List Bare) (n : ℕ) {ks : List Kept} → ks ≡ replicate n nothing_kept → AreLanes 0 firsts ks
-new_lanes firsts n is i there = rw (none_kept n is i) (record { places = refl; saying = refl; records = refl; passed = omega arith; least = omega arith; within = omega arith; few = omega arith })

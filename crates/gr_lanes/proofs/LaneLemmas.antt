@@ -1,13 +1,12 @@
 -- What a lane keeps of an item's barriers.
-use Rattle.std.proofs.Common.{◌≡◌, ℕ, suc, ◌+◌, ◌-◌, ◌<◌, ◌≤◌, ◌==◌, Bool, true, false, List, [], ◌∷◌, ◌++◌, length, map, take, drop, refl, sym, ap, ◌∙◌, subst, arith, append-nil, append_assoc, cond, slice_get}
-use Rattle.std.proofs.lemmas.Bool.{eqb-false, eqb-true}
+use Rattle.std.proofs.Common.{◌≡◌, ℕ, suc, ◌+◌, ◌-◌, ◌<◌, ◌≤◌, ◌==◌, List, [], ◌∷◌, ◌++◌, length, map, take, drop, sym, ap, ◌∙◌, subst, arith, append-nil, append_assoc, cond, slice_get}
+use Rattle.std.proofs.lemmas.Bool.Decides.{nat_tests}
 use Rattle.std.proofs.lemmas.Grind.{common_steps}
 use Rattle.std.proofs.lemmas.Option.{gets, slice_get-map}
-use Rattle.std.specs.Prelude.{option_map}
 use Rattle.std.proofs.lemmas.List.{drop-append-le, drop-drop, drop-map, get_or-drop, length-append, length-drop, length-map, length-take-le, length_push, map-append, take-append-le}
 use Rattle.gr_model.specs.declared.event.Event.{Event}
 use Rattle.gr_lanes.specs.declared.bare.Bare.{Bare}
-use Rattle.gr_lanes.specs.Indices.{AreRising, with_event}
+use Rattle.gr_lanes.specs.Indices.{AreRising}
 use Rattle.gr_lanes.specs.Kept.{Arrives, IsLane, Kept, apart_more, bare_of, forgetting_one, of_item}
 
 get-drop : {X : Type 0} (n : ℕ) (xs : List X) (k : ℕ) → slice_get (drop n xs) k ≡ slice_get xs (n + k)
@@ -39,17 +38,11 @@ module _ {forgotten : ℕ} {firsts : List Bare} {i : ℕ} {k : Kept} (lane : IsL
   pub barrier_at : (n : ℕ) → forgotten ≤ n → slice_get k.barriers (n - forgotten) ≡ slice_get k.index.barriers n
   barrier_at n le = ap (λ l. slice_get l (n - forgotten)) lane.places ∙ (get-drop forgotten k.index.barriers (n - forgotten) ∙ ap (slice_get k.index.barriers) (omega (arith, le)))
 
-  said_at : (n : ℕ) → forgotten ≤ n → slice_get (map (of_item i) all_said) (n - forgotten) ≡ slice_get k.index.arrived n
-  said_at n le = ap (λ l. slice_get l (n - forgotten)) (sym lane.saying) ∙ (get-drop forgotten k.index.arrived (n - forgotten) ∙ ap (slice_get k.index.arrived) (omega (arith, le)))
-
-  same_record : (xs : List Bare) (m n : ℕ) → slice_get xs m ≡ slice_get all_said n → slice_get (map (of_item i) xs) m ≡ slice_get (map (of_item i) all_said) n
-  same_record xs m n same = slice_get-map (of_item i) xs m ∙ (ap (option_map (of_item i)) same ∙ sym (slice_get-map (of_item i) all_said n))
-
   pub said_alike : (n : ℕ) → forgotten ≤ n → n < k.alike → slice_get (map (of_item i) firsts) (n - forgotten) ≡ slice_get k.index.arrived n
-  said_alike n le below = same_record firsts (n - forgotten) (n - forgotten) (alike_at firsts k.apart (k.alike - forgotten) (n - forgotten) lane.within (omega (arith, le, below))) ∙ said_at n le
+  said_alike n le below = grind (arith, get-drop forgotten k.index.arrived (n - forgotten), slice_get-map, alike_at firsts k.apart (k.alike - forgotten) (n - forgotten), lane.within, lane.saying)
 
   pub said_apart : (n : ℕ) → k.alike ≤ n → slice_get (map (of_item i) k.apart) (n - k.alike) ≡ slice_get k.index.arrived n
-  said_apart n behind = grind (arith, said_at n, same_record k.apart (n - k.alike) (n - forgotten), apart_at firsts k.apart (k.alike - forgotten) (n - k.alike), lane.within, lane.least)
+  said_apart n behind = grind (arith, get-drop forgotten k.index.arrived (n - forgotten), slice_get-map, apart_at firsts k.apart (k.alike - forgotten) (n - k.alike), lane.within, lane.least, lane.saying)
 
   -- firsts more change nothing
   pub lane_more : (more : List Bare) → IsLane forgotten (firsts ++ more) i k
@@ -65,60 +58,39 @@ module _ {forgotten : ℕ} {firsts : List Bare} {i : ℕ} {k : Kept} (lane : IsL
 
   -- one instance more is forgotten, to which the item came
   pub lane_forgets : forgotten < length k.index.barriers → IsLane (forgotten + 1) (drop 1 firsts) i (forgetting_one forgotten k)
-  lane_forgets came = by_alike (k.alike == forgotten) refl
+  lane_forgets came = record {
+    places = ap (λ l. drop 1 l) lane.places ∙ drop-drop 1 forgotten k.index.barriers;
+    saying = sym (drop-drop 1 forgotten k.index.arrived) ∙ (ap (λ l. drop 1 l) lane.saying ∙ (drop-map (of_item i) 1 all_said ∙ ap (map (of_item i)) said));
+    records = lane.records;
+    passed = omega (arith, came);
+    least = grind (arith, nat_tests, lane.least);
+    within = grind (arith, nat_tests, common_steps, lane.least, lane.within);
+    few = lane.few;
+  }
     where
-      forgets : (a : ℕ) (rest : List Bare) → drop 1 all_said ≡ take (a - (forgotten + 1)) (drop 1 firsts) ++ rest → forgotten + 1 ≤ a → a - (forgotten + 1) ≤ length (drop 1 firsts) → IsLane (forgotten + 1) (drop 1 firsts) i (record { index = k.index; barriers = drop 1 k.barriers; alike = a; apart = rest })
-      forgets a rest said least within = record {
-        places = ap (λ l. drop 1 l) lane.places ∙ drop-drop 1 forgotten k.index.barriers;
-        saying = sym (drop-drop 1 forgotten k.index.arrived) ∙ (ap (λ l. drop 1 l) lane.saying ∙ (drop-map (of_item i) 1 all_said ∙ ap (map (of_item i)) said));
-        records = lane.records;
-        passed = omega (arith, came);
-        least = least;
-        within = within;
-        few = lane.few;
-      }
-
-      by_alike : (b : Bool) → (k.alike == forgotten) ≡ b → IsLane (forgotten + 1) (drop 1 firsts) i (record { index = k.index; barriers = drop 1 k.barriers; alike = cond b (k.alike + 1) k.alike; apart = cond b (drop 1 k.apart) k.apart })
-      by_alike true is =
-          let same : k.alike ≡ forgotten = eqb-true k.alike forgotten is in
-          let before : k.alike - forgotten ≡ 0 = omega (arith, same) in
-          let after : 0 ≡ k.alike + 1 - (forgotten + 1) = omega (arith, same) in
-          forgets (k.alike + 1) (drop 1 k.apart)
-          (ap (λ n. drop 1 (take n firsts ++ k.apart)) before ∙ ap (λ n. take n (drop 1 firsts) ++ drop 1 k.apart) after)
-          (omega (arith, same)) (omega (arith, same))
-      by_alike false isnt =
-          let apart : forgotten + 1 ≤ k.alike = omega (arith, lane.least, eqb-false k.alike forgotten isnt) in
-          let one : k.alike - forgotten ≡ suc (k.alike - (forgotten + 1)) = omega (arith, apart) in
-          let within : suc (k.alike - (forgotten + 1)) ≤ length firsts = omega (arith, lane.within, apart) in
-          forgets k.alike k.apart
-          (ap (λ n. drop 1 (take n firsts ++ k.apart)) one ∙ alike_goes firsts k.apart (k.alike - (forgotten + 1)) within)
-          apart (omega (arith, within, length-drop 1 firsts))
+      said : drop 1 all_said ≡ take (cond (k.alike == forgotten) (k.alike + 1) k.alike - (forgotten + 1)) (drop 1 firsts) ++ cond (k.alike == forgotten) (drop 1 k.apart) k.apart
+      said = grind (arith, nat_tests, common_steps, alike_goes firsts k.apart (k.alike - (forgotten + 1)), lane.least, lane.within)
 
 -- a barrier more
 record_is : (x : Event) → x.names ≡ [] → of_item x.item (bare_of x) ≡ x
 record_is x bare = λ d. record { item = x.item; kind = x.kind; space = x.space; word = x.word; names = sym bare d }
 
-module _ {forgotten : ℕ} (x : Event) (bare : x.names ≡ []) {k : Kept} where
-  lane_grows : {firsts : List Bare} → IsLane forgotten firsts x.item k → (a : ℕ) (rest : List Bare) → take (a - forgotten) firsts ++ rest ≡ (take (k.alike - forgotten) firsts ++ k.apart) ++ bare_of x ∷ [] → forgotten ≤ a → a - forgotten ≤ length firsts
-      → IsLane forgotten firsts x.item (record { index = with_event k.index x false true; barriers = k.barriers ++ k.index.count ∷ []; alike = a; apart = rest })
-  lane_grows {firsts} lane a rest said least within = record {
-    places = ap (λ l. l ++ k.index.count ∷ []) lane.places ∙ sym (drop-append-le forgotten k.index.barriers (k.index.count ∷ []) lane.passed);
-    saying =
-        drop-append-le forgotten k.index.arrived (x ∷ []) (omega (arith, lane.passed, lane.records)) ∙ (ap (λ l. l ++ x ∷ []) lane.saying
-        ∙ (ap (λ y. map (of_item x.item) (take (k.alike - forgotten) firsts ++ k.apart) ++ y ∷ []) (sym (record_is x bare))
-        ∙ (sym (map-append (of_item x.item) (take (k.alike - forgotten) firsts ++ k.apart) (bare_of x ∷ [])) ∙ ap (map (of_item x.item)) (sym said))));
-    records = length_push k.index.arrived x ∙ (ap (λ n. n + 1) lane.records ∙ sym (length_push k.index.barriers k.index.count));
-    passed = omega (arith, lane.passed, length_push k.index.barriers k.index.count);
-    least = least;
-    within = within;
-    few = omega (arith, lane.few, length_push k.index.barriers k.index.count);
+module _ {forgotten : ℕ} (x : Event) (bare : x.names ≡ []) {k : Kept} {firsts : List Bare} (lane : IsLane forgotten firsts x.item k) where
+  pub arrives_apart : {new : Kept} → new ≡ apart_more k x → Arrives forgotten firsts firsts k new x
+  arrives_apart is = record {
+    more = [];
+    grown = sym (append-nil firsts);
+    lane = subst (IsLane forgotten firsts x.item) (sym is) (record {
+      places = ap (λ l. l ++ k.index.count ∷ []) lane.places ∙ sym (drop-append-le forgotten k.index.barriers (k.index.count ∷ []) lane.passed);
+      saying =
+          drop-append-le forgotten k.index.arrived (x ∷ []) (omega (arith, lane.passed, lane.records)) ∙ (ap (λ l. l ++ x ∷ []) lane.saying
+          ∙ (ap (λ y. map (of_item x.item) (take (k.alike - forgotten) firsts ++ k.apart) ++ y ∷ []) (sym (record_is x bare))
+          ∙ (sym (map-append (of_item x.item) (take (k.alike - forgotten) firsts ++ k.apart) (bare_of x ∷ [])) ∙ ap (map (of_item x.item)) (append_assoc (take (k.alike - forgotten) firsts) k.apart (bare_of x ∷ [])))));
+      records = length_push k.index.arrived x ∙ (ap (λ n. n + 1) lane.records ∙ sym (length_push k.index.barriers k.index.count));
+      passed = omega (arith, lane.passed, length_push k.index.barriers k.index.count);
+      least = lane.least;
+      within = lane.within;
+      few = omega (arith, lane.few, length_push k.index.barriers k.index.count);
+    });
+    index = ap (λ (l : Kept). l.index) is;
   }
-
-  arrives_as : {firsts firsts' : List Bare} {new now : Kept} (more : List Bare) → firsts' ≡ firsts ++ more → IsLane forgotten firsts' x.item now → now.index ≡ with_event k.index x false true → new ≡ now → Arrives forgotten firsts firsts' k new x
-  arrives_as {firsts} {firsts'} more grown lane index is = record { more = more; grown = grown; lane = subst (IsLane forgotten firsts' x.item) (sym is) lane; index = ap (λ (l : Kept). l.index) is ∙ index }
-
-  module _ {firsts : List Bare} (lane : IsLane forgotten firsts x.item k) {new : Kept} where
-    pub arrives_apart : new ≡ apart_more k x → Arrives forgotten firsts firsts k new x
-    arrives_apart is =
-        arrives_as [] (sym (append-nil firsts))
-        (lane_grows lane k.alike (k.apart ++ bare_of x ∷ []) (sym (append_assoc (take (k.alike - forgotten) firsts) k.apart (bare_of x ∷ []))) lane.least lane.within) refl is

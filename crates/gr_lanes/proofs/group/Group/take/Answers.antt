@@ -1,13 +1,7 @@
 use Rattle.std.proofs.Common.{◌∙◌, arith, sym}
 use Rattle.std.proofs.lemmas.List.{length_push}
-use Rattle.gr_lanes.proofs.IndexLemmas.{all_come, end_pushed, few_events, indices_come, indices_more, item_there}
+use Rattle.gr_lanes.proofs.IndexLemmas.{all_come, end_pushed, few_events, indices_come, indices_more}
 use Rattle.gr_lanes.proofs.group.Group.take.Goals as goal
-
-pub add-requires-clause-item : goal.add-requires-clause-item
-add-requires-clause-item g c =
-    let open_list = rw (← c.self.view_is) at c.requires.before_end in
-    let come = indices_come c.self.invariant.indices open_list c.in_ok-begin.ensures.ok in
-    item_there c.args.event.now come (rw (← c.self.view_is) at c.requires.good) (all_come c.self.invariant.indices open_list c.in_ok-begin.ensures.ok)
 
 pub add-requires-clause-few : goal.add-requires-clause-few
 add-requires-clause-few g c =

@@ -1,12 +1,7 @@
 use Rattle.std.proofs.Common.{◌∙◌, arith, sym}
 use Rattle.std.proofs.lemmas.List.{length_push}
-use Rattle.gr_lanes.proofs.IndexLemmas.{all_there, few_events, indices_more, item_there, none_more}
+use Rattle.gr_lanes.proofs.IndexLemmas.{all_there, few_events, indices_more, none_more}
 use Rattle.gr_lanes.proofs.group.Group.take_access.Goals as goal
-
-pub add_access-requires-clause-item : goal.add_access-requires-clause-item
-add_access-requires-clause-item g c =
-    let all = all_there c.self.invariant.indices (rw (← c.self.view_is) at c.requires.before_end) (rw (← c.self.view_is) at c.requires.begun) in
-    item_there c.args.event.now c.self.invariant.indices (rw (← c.self.view_is) at c.requires.good) all
 
 pub add_access-requires-clause-few : goal.add_access-requires-clause-few
 add_access-requires-clause-few g c =

@@ -5,12 +5,6 @@ use Rattle.gr_lanes.specs.Kept.{GroupIndex}
 use Rattle.gr_lanes.proofs.KeptLemmas.{barrier_read, count_read, rising_read}
 use Rattle.gr_lanes.proofs.items.Items.barrier_number.Goals as goal
 
-pub barrier_place-requires-clause-few : goal.barrier_place-requires-clause-few
-barrier_place-requires-clause-few g c = omega (arith, count_read c.deref.ensures.value c.from.ensures c.self.view_is c.in-Some.ensures.lookup.0 c.in-Some.ensures.lookup.1 c.self.invariant, c.requires.few)
-
-pub barrier_place-requires-clause-rise : goal.barrier_place-requires-clause-rise
-barrier_place-requires-clause-rise g c = rising_read c.deref.ensures.value c.from.ensures c.self.view_is c.in-Some.ensures.lookup.0 c.in-Some.ensures.lookup.1 c.self.invariant c.requires.rise
-
 pub overflow_add-result : goal.overflow_add-result
 overflow_add-result g c =
     let within = slice_get_within c.in-Some.lane.now.barriers c.in-Some-barrier_place.place c.args.index c.in-Some-barrier_place.ensures in
@@ -27,3 +21,6 @@ returns-in-Some-barrier_place g c =
     let place = c.in-Some-barrier_place.place in
     let same : forgotten + place - forgotten ≡ place = omega arith in
     sym (barrier_read c.deref.ensures.value c.from.ensures c.self.view_is c.in-Some.ensures.lookup.0 c.in-Some.ensures.lookup.1 c.self.invariant (forgotten + place) (omega arith)) ∙ (ap (slice_get c.in-Some.lane.now.barriers) same ∙ c.in-Some-barrier_place.ensures)
+
+pub barrier_place-requires : goal.barrier_place-requires
+barrier_place-requires g c = record { few = omega (arith, count_read c.deref.ensures.value c.from.ensures c.self.view_is c.in-Some.ensures.lookup.0 c.in-Some.ensures.lookup.1 c.self.invariant, c.requires.few); rise = rising_read c.deref.ensures.value c.from.ensures c.self.view_is c.in-Some.ensures.lookup.0 c.in-Some.ensures.lookup.1 c.self.invariant c.requires.rise }

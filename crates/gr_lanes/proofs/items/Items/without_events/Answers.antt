@@ -1,11 +1,8 @@
 use Rattle.std.proofs.Common.{◌∙◌, ap, arith}
 use Rattle.std.proofs.Math.ListN.{replicate}
 use Rattle.gr_lanes.specs.Kept.{nothing_kept}
-use Rattle.gr_lanes.proofs.KeptLemmas.{new_items, new_lanes}
+use Rattle.gr_lanes.proofs.KeptLemmas.{new_items}
 use Rattle.gr_lanes.proofs.items.Items.without_events.Goals as goal
-
-pub invariant_of-result : goal.invariant_of-result
-invariant_of-result g c = new_lanes c.new-firsts.result.items _ c.loop-item.invariant
 
 pub returns : goal.returns
 returns g c = new_items c.args.items c.loop-item.lanes.items (c.loop-item.invariant ∙ ap (λ n. replicate n nothing_kept) (omega (arith, c.loop-item-test.false, c.loop-item.auto._item-end)))

@@ -10,15 +10,7 @@ invariant_of-result g c =
     let are = c.loop-group.invariant ∙ ap (map empty) (take_all c.loop-group.group c.args.shape (omega (arith, c.groups-group-end.ensures.count))) in
     rw c.of-shape.ensures (nothing_groups (part_of_shape c.args.shape c.groups-group-end.ensures.shape) are)
 
-pub returns-clause-nothing : goal.returns-clause-nothing
-returns-clause-nothing g c =
+pub returns : goal.returns
+returns g c =
     let are = c.loop-group.invariant ∙ ap (map empty) (take_all c.loop-group.group c.args.shape (omega (arith, c.groups-group-end.ensures.count))) in
-    rw c.of-shape.ensures (nothing_is are)
-
-pub returns-clause-prefixes : goal.returns-clause-prefixes
-returns-clause-prefixes g c = (invariant_of-result g c).prefixes
-
-pub returns-clause-whole : goal.returns-clause-whole
-returns-clause-whole g c =
-    let are = c.loop-group.invariant ∙ ap (map empty) (take_all c.loop-group.group c.args.shape (omega (arith, c.groups-group-end.ensures.count))) in
-    whole_is are c.of-shape.result c.of-shape.ensures
+    record { nothing = rw c.of-shape.ensures (nothing_is are); whole = whole_is are c.of-shape.result c.of-shape.ensures; prefixes = (invariant_of-result g c).prefixes }
