@@ -100,9 +100,7 @@ module _ {sizes : List ℕ} {groups : List GroupList} (are : AreGroups sizes gro
   now_is within = get_or_read groups g now within reads (empty 0) ∙ ap (group_at groups) here
 
   seen_set : (new : GroupList) → remembered_of sizes (set groups g new) ≡ setting r h new
-  seen_set new =
-      let all : remembered_of sizes (set groups g new) ≡ setting (remembered_of sizes groups) g new = simp map-set in
-      all ∙ (ap (λ t. setting t g new) seen ∙ ap (λ n. setting r n new) here)
+  seen_set new = rw (← seen, ← here) (simp map-set)
 
   pub unmoved : {new : GroupList} → new ≡ now → set groups g new ≡ groups
   unmoved same = ap (set groups g) (same ∙ reads) ∙ set-get_or groups g now
@@ -115,11 +113,8 @@ module _ {sizes : List ℕ} {groups : List GroupList} (are : AreGroups sizes gro
 
   -- a record is taken, which may be
   module _ {x : Event} (can : CanTake r.streams h x) where
-    group_there : g < length groups
-    group_there = omega (arith, here, can.group, group_count are seen)
-
     taken_at : (now.list ≡ list_of r.streams h) × (now.forgotten ≡ forgotten_of r h) × (now.decided ≡ decided_of r h)
-    taken_at = seen_at groups seen h (now_is group_there)
+    taken_at = seen_at groups seen h (now_is (omega (arith, here, can.group, group_count are seen)))
 
     module _ (good : IsEventButItem x) (room : length (list_of r.streams h) < MOST_RECORDS) {new : GroupList} (is : new ≡ record { size = now.size; list = now.list ++ x ∷ []; forgotten = now.forgotten; decided = now.decided }) where
       pub taken_is : remembered_of sizes (set groups g new) ≡ remembering r (with_record r.streams h x)

@@ -1,5 +1,5 @@
 -- Lists grow by a record that is taken.
-use Rattle.std.proofs.Common.{◌≡◌, ℕ, [], ◌∷◌, ◌++◌, refl, sym, ap, ◌∙◌, subst, inl, ⊎_elim, arith, append-nil, IsTrue}
+use Rattle.std.proofs.Common.{◌≡◌, ℕ, [], ◌∷◌, ◌++◌, refl, sym, ap, ◌∙◌, subst, inl, ⊎_elim, arith, append-nil}
 use Rattle.std.specs.Prelude.{◌<◌, length}
 use Rattle.std.proofs.lemmas.Bool.{cases_eq, false_from_ne_true}
 use Rattle.std.proofs.lemmas.List.{get_or-set_same, get_or-set_other, length-set}
@@ -23,10 +23,7 @@ module _ (s : Streams) (g : ℕ) (x : Event) (prefixes : ArePrefixes s) (can : C
         (λ (same : h ≡ g). (x ∷ [], ap (list_of (with_record s g x)) same ∙ (here ∙ ap (λ n. list_of s n ++ x ∷ []) (sym same))))
         (λ apart. ([], other h apart ∙ sym (append-nil (list_of s h))))
         (cases_eq h g);
-    whole = λ h whole. ⊎_elim
-        (λ (same : h ≡ g). absurd (can.before_end (subst (λ n. IsTrue (is_complete (list_of s n))) same whole)))
-        (λ apart. other h apart)
-        (cases_eq h g);
+    whole = λ h whole. grind (arith, other h, can.before_end);
   }
 
   pub prefixes_grow : IsEventButItem x → length (list_of s g) < MOST_RECORDS → ArePrefixes (with_record s g x)
@@ -35,7 +32,7 @@ module _ (s : Streams) (g : ℕ) (x : Event) (prefixes : ArePrefixes s) (can : C
     count = length-set s.lists g (list_of s g ++ x ∷ []) ∙ prefixes.count;
     each = λ h there. ⊎_elim
         (λ (same : h ≡ g). subst (λ n. IsPrefix (size_of s n) (list_of (with_record s g x) n)) (sym same) own)
-        (λ apart. subst (IsPrefix (size_of s h)) (sym (other h apart)) (prefixes.each h there))
+        (λ apart. rw (other h apart) (prefixes.each h there))
         (cases_eq h g);
   }
     where

@@ -1,5 +1,5 @@
 -- What one record more makes of the index of each item.
-use Rattle.std.proofs.Common.{◌≡◌, ◌≢◌, inl, inr, ℕ, zero, suc, ◌+◌, ◌-◌, ◌<◌, ◌≤◌, Bool, true, false, cond, List, [], ◌∷◌, ◌++◌, length, filter, Some, Err, nat_cmp, slice_get, get_or, take, is_some, sub-one, refl, sym, ap, ◌∙◌, subst, ⊎_elim, arith, append-nil, IsTrue}
+use Rattle.std.proofs.Common.{◌≡◌, ◌≢◌, inl, inr, ℕ, zero, suc, ◌+◌, ◌<◌, ◌≤◌, Bool, true, false, cond, List, [], ◌∷◌, ◌++◌, length, filter, Some, Err, nat_cmp, slice_get, get_or, take, is_some, refl, sym, ap, ◌∙◌, subst, ⊎_elim, arith, append-nil, IsTrue}
 use Rattle.std.proofs.lemmas.Bool.{false_from_ne_true}
 use Rattle.std.proofs.lemmas.Bool.Decides.{nat_tests}
 use Rattle.std.proofs.lemmas.Grind.{common_steps}
@@ -57,9 +57,6 @@ module _ {size forgotten : ℕ} {lanes : List Index} {list : List Event} (x : Ev
       let same = ap (λ (l : Index). l.count) (are.each x.item item_there) in
       omega (arith, same, few-places (is_of x.item) 0 list, length-places (is_of x.item) 0 list, are.prefix.few)
 
-  abbrev event : Index
-  event = with_event (get_or lanes x.item no_index) x (is_release x) (is_barrier x)
-
   pub size_more : length (indexed lanes x) ≡ length lanes
   size_more = grind (arith, length-set)
 
@@ -101,7 +98,7 @@ module _ {size : ℕ} {list : List Event} {old new : GroupIndex} (are : AreIndic
 
 -- after a group's first record all its items are there
 pub all_there : {size forgotten : ℕ} {lanes : List Index} {list : List Event} → AreIndices size forgotten lanes list → ¬ IsTrue (is_complete list) → list ≢ [] → length lanes ≡ size
-all_there are open_list some = ⊎_elim (λ all. all) (λ nothing. absurd (some nothing.0)) (are.whole open_list)
+all_there are open_list some = grind (arith, are.whole open_list)
 
 -- the last ones go, which are spent
 pub indices_close : {size forgotten : ℕ} {old new : List Index} {list : List Event} → AreIndices size forgotten old list → IsTrue (is_complete list) → Closes forgotten old new → AreIndices size forgotten new list
@@ -206,17 +203,13 @@ module _ {size forgotten : ℕ} {lanes : List Index} {list : List Event} (are : 
   number_at p kept k at = by_lane (λ there. rw there at at) (λ none spent. absurd (let lacks = rw none at at in cc))
 
   pub number_of : (p : ℕ) → IsPlaceKept forgotten barriers p → (k : ℕ) → slice_get barriers k ≡ Some p → slice_get lane.barriers k ≡ Some p
-  number_of p kept k at = by_lane (λ there. rw there at)
-      (λ none spent. absurd (omega (arith, slice_get_within barriers k p at, kept k at, spent.barriers)))
+  number_of p kept k at = by_lane (λ there. rw there at) (λ none spent. absurd (omega (arith, slice_get_within barriers k p at, kept k at, spent.barriers)))
 
   pub barriers_ready : (length lane.barriers < 4_294_967_296) × AreRising lane.barriers
   barriers_ready = by_lane (λ there. rw there (few_that is_barrier, places_rise is_barrier 0 (filter (is_of i) list))) (λ none spent. rw none (omega arith, λ a b le within. absurd (omega arith)))
 
   pub counts_at : ((length lanes ≤ i) × (i < size) → ⊥) → length lane.barriers ≡ length (filter is_barrier (filter (is_of i) list))
   counts_at isnt = grind (arith, lacking, length-places, are.each i)
-
-  pub counts_gone : length lanes ≤ i → i < size → forgotten ≡ length (filter is_barrier (filter (is_of i) list))
-  counts_gone past within = sym (are.gone i past within).barriers ∙ length-places is_barrier 0 (filter (is_of i) list)
 
 -- ---- the records of releases and barriers
 
@@ -245,10 +238,11 @@ end_pushed [] x = refl
 end_pushed (y ∷ []) x = refl
 end_pushed (y ∷ z ∷ xs) x = end_pushed (z ∷ xs) x
 
-end_in-last : (xs : List Event) (x : Event) → slice_get xs (length xs - 1) ≡ Some x → end_in xs ≡ end_of x
-end_in-last [] x e = cc
-end_in-last (y ∷ []) x e = let same : y ≡ x = cc in ap end_of same
-end_in-last (y ∷ z ∷ xs) x e = end_in-last (z ∷ xs) x (rw sub-one (rw sub-one at e))
+end_in-at : (xs : List Event) (p : ℕ) (x : Event) → slice_get xs p ≡ Some x → p + 1 ≡ length xs → end_in xs ≡ end_of x
+end_in-at [] p x e last = cc
+end_in-at (y ∷ []) p x e last = grind (arith, gets)
+end_in-at (y ∷ z ∷ xs) zero x e last = absurd (omega arith)
+end_in-at (y ∷ z ∷ xs) (suc p) x e last = end_in-at (z ∷ xs) p x e (omega arith)
 
 -- a list that is not whole has no end, with one more record that is none too
 pub none_more : (list : List Event) (x : Event) → ¬ IsTrue (is_complete list) → is_end x ≡ false → end_in (list ++ x ∷ []) ≡ end_in list
@@ -263,8 +257,4 @@ cut_if_end (x ∷ []) e = (0, x, refl, grind arith)
 cut_if_end (x ∷ y ∷ xs) e = let h = cut_if_end (y ∷ xs) e in (suc h.0, h.1, h.2, h.3)
 
 pub end_if_cut : {size : ℕ} (list : List Event) → AreGood size list → EndsCut list → end_in list ≡ Some true
-end_if_cut list good (p, y, at, kind) =
-    let ends : IsTrue (is_end y) = ap is_end_kind kind in
-    let place : p + 1 ≡ length list = (good p y at).1 ends in
-    let last : slice_get list (length list - 1) ≡ Some y = ap (slice_get list) (let q : length list - 1 ≡ p = omega arith in q) ∙ at in
-    end_in-last list y last ∙ ap end_of_kind kind
+end_if_cut list good (p, y, at, kind) = end_in-at list p y at ((good p y at).1 (ap is_end_kind kind)) ∙ ap end_of_kind kind

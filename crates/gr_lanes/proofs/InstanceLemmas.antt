@@ -1,9 +1,9 @@
 -- Instances, by the barriers that are found.
-use Rattle.std.proofs.Common.{◌≡◌, ℕ, zero, suc, ◌+◌, ◌<◌, ◌≤◌, Bool, true, List, [], ◌∷◌, Option, Some, None, slice_get, filter, filter_map, is_some, false, ◌⊎◌, refl, sym, ap, ◌∙◌, inl, inr, ⊎_elim, arith, true≢false}
+use Rattle.std.proofs.Common.{◌≡◌, ℕ, zero, suc, ◌+◌, ◌<◌, ◌≤◌, Bool, true, List, [], ◌∷◌, Option, Some, None, slice_get, filter, filter_map, is_some, false, ◌⊎◌, refl, sym, ◌∙◌, inl, inr, arith, true≢false}
 use Rattle.std.specs.Prelude.{MatchOption}
 use Rattle.gr_model.specs.declared.event.Event.{Event}
 use Rattle.gr_model.specs.Barriers.{IsDivergent, arrivals, is_barrier, mark_of}
-use Rattle.gr_model.specs.Instances.{Arrivals, HasArrived, IsDivergentOf, Mark}
+use Rattle.gr_model.specs.Instances.{Arrivals, IsDivergentOf, Mark}
 use Rattle.gr_model.specs.Streams.{Streams, is_complete, list_of, places_from, size_of, trace_of}
 use Rattle.gr_model.proofs.Places.{filter_map-place, places_from-there}
 use Rattle.gr_lanes.proofs.IndexLemmas.{record_place}
@@ -24,10 +24,6 @@ barrier_mark i xs k n e =
     let mark = rw (record_place is_barrier i xs k there.0 (rw there.2 at e) ∙ there.3) at (record_mark xs k) in
     (there.0, there.1, there.2, there.3, mark.0, mark.1)
 
--- and where there is none there is no mark
-pub no_mark : (i : ℕ) (xs : List Event) (k : ℕ) → slice_get (places_from is_barrier i xs) k ≡ None → slice_get (filter_map mark_of xs) k ≡ None
-no_mark i xs k e = grind (arith, filter_map-place mark_of i xs k)
-
 -- ---- instances
 
 pub some_mark : (o : Option Mark) → is_some o ≡ true → (a : Mark) × (o ≡ Some a)
@@ -43,18 +39,12 @@ diverges_still ended n m arrived le (inr (whole, (i, j, a, at_i, within, lacks))
 module _ (s : Streams) (g n : ℕ) (none : NoneDiffers s g n) where
   -- an item came with one mark, or it did not come, and more may
   came_with : (i : ℕ) → i < size_of s g → ((arrivals s g n i ≡ mark_of (of_item i none.0)) × (is_some (mark_of (of_item i none.0)) ≡ true)) ⊎ ((is_complete (list_of s g) ≡ false) × (arrivals s g n i ≡ None))
-  came_with i within = grind (arith, none.1 i within, record_mark (trace_of s (record { group = g; item = i })) n, no_mark 0 (trace_of s (record { group = g; item = i })) n)
-
-  mark_is : (i : ℕ) (a : Mark) → HasArrived (size_of s g) (arrivals s g n) i a → Some a ≡ mark_of (of_item i none.0)
-  mark_is i a at = grind (arith, came_with i at.0)
+  came_with i within = grind (arith, none.1 i within, record_mark (trace_of s (record { group = g; item = i })) n, filter_map-place mark_of 0 (trace_of s (record { group = g; item = i })) n)
 
   -- so the instance is not divergent
   pub not_divergent : ¬ IsDivergent s g n
-  not_divergent (inl (i, j, a, b, at_i, at_j, differ)) = differ (let same : Some a ≡ Some b = mark_is i a at_i ∙ sym (mark_is j b at_j) in cc)
-  not_divergent (inr (whole, (i, j, a, at_i, within, lacks))) = ⊎_elim
-      (λ (is : (arrivals s g n j ≡ mark_of (of_item j none.0)) × (is_some (mark_of (of_item j none.0)) ≡ true)). true≢false (sym is.1 ∙ ap is_some (sym is.0 ∙ lacks)))
-      (λ (more : (is_complete (list_of s g) ≡ false) × (arrivals s g n j ≡ None)). true≢false (sym whole ∙ more.0))
-      (came_with j within)
+  not_divergent (inl (i, j, a, b, at_i, at_j, differ)) = grind (arith, came_with i at_i.0, came_with j at_j.0)
+  not_divergent (inr (whole, (i, j, a, at_i, within, lacks))) = grind (arith, came_with j within)
 
   -- and who came, came with the mark of one that came
   pub came_alike : (x : Event) → HasCome s g n x → (i : ℕ) → i < size_of s g → (arrivals s g n i ≡ mark_of x) ⊎ (arrivals s g n i ≡ None)

@@ -10,7 +10,7 @@ use Rattle.std.proofs.lemmas.Simd.{map-map}
 use Rattle.gr_lanes.proofs.IndexLemmas.{number_least}
 use Rattle.std.proofs.Math.ListN.{get_or-map as map_at, replicate}
 use Rattle.std.proofs.lemmas.List.Sums.{AllPass-from_list_all}
-use Rattle.std.proofs.lemmas.List.{get_or-map, get_or_read, get_or-replicate, get_or_past, get_or-take, length-map, length-replicate, length-take-le, map-set, take-map}
+use Rattle.std.proofs.lemmas.List.{get_or-drop, get_or-map, length-drop, get_or_read, get_or-replicate, get_or_past, length-map, length-replicate, length-take-le, map-set, take-map}
 use Rattle.gr_model.specs.declared.event.Event.{Event}
 use Rattle.gr_lanes.specs.declared.bare.Bare.{Bare}
 use Rattle.gr_model.specs.declared.event.Kind.TheVariants.{Read}
@@ -19,8 +19,8 @@ use Rattle.gr_model.specs.Barriers.{is_barrier}
 use Rattle.gr_model.specs.Events.{is_end}
 use Rattle.gr_lanes.specs.Takes.{IsMereAccess}
 use Rattle.gr_lanes.specs.Indices.{AreRising, Closes, Index, IsNumberKept, IsSpent, indexed, no_index, with_barrier, with_event}
-use Rattle.gr_lanes.specs.Kept.{AreLanes, Arrives, CameWith, GroupIndex, HasNoEvents, HasNothing, IsLane, Kept, NoneDiffersIn, forgetting_one, is_as_first, kept_with, nothing_kept, with_indices}
-use Rattle.gr_lanes.proofs.LaneLemmas.{barrier_at, barriers_count, lane_forgets, lane_more, rising_rest, said_alike, said_count}
+use Rattle.gr_lanes.specs.Kept.{AreLanes, Arrives, GroupIndex, HasNoEvents, HasNothing, IsLane, Kept, NoneDiffersIn, forgetting_one, is_as_first, kept_with, nothing_kept, with_indices}
+use Rattle.gr_lanes.proofs.LaneLemmas.{barrier_at, barriers_count, lane_forgets, lane_more, said_alike, said_count}
 
 -- what contracts see of lanes
 abbrev pub indices_of : List Kept → List Index
@@ -58,28 +58,22 @@ module _ {forgotten : ℕ} {ks read : List Kept} (same : read ≡ ks) {i j : ℕ
       count_read = ap (λ (l : Index). length l.barriers) lane_index ∙ barriers_count (lane_kept are)
 
       pub rising_read : AreRising (get_or s.indices i no_index).barriers → AreRising lane.barriers
-      rising_read rises = subst AreRising (sym (lane_kept are).places) (rising_rest forgotten lane.index.barriers (subst (λ (l : Index). AreRising l.barriers) lane_index rises))
+      rising_read rises i j le within = grind (arith, (lane_kept are).places, lane_index, length-drop, get_or-drop, rises (forgotten + i) (forgotten + j))
 
 -- ---- an instance
 
 abbrev no_bare : Bare
 no_bare = record { kind = Read; space = Global; word = 0 }
 
-came_with : (forgotten : ℕ) (firsts : List Bare) (n : ℕ) → forgotten ≤ n → (ended : Bool) (d : Bare) (i : ℕ) (k : Kept) → IsLane forgotten firsts i k → is_as_first n ended k ≡ true → CameWith (slice_get k.index.arrived n) (slice_get k.index.barriers n) ended i (get_or firsts (n - forgotten) d)
-came_with forgotten firsts n kept ended d i k lane is = grind (arith, nat_tests, gets, said_count lane, said_alike lane n kept, slice_get-map, lane.within)
-
 module _ (forgotten : ℕ) (firsts : List Bare) (ks : List Kept) (are : AreLanes forgotten firsts ks) {s : GroupIndex} (view : seen_of forgotten ks ≡ s) (n : ℕ) (kept : forgotten ≤ n) (ended : Bool) (all : list_all (λ k. is_as_first n ended k) ks ≡ true) where
-  -- what the first of the instance said
-  abbrev first : Bare
-  first = get_or firsts (n - forgotten) no_bare
-
   pub none_differs_in : NoneDiffersIn s.indices n ended
-  none_differs_in = subst (λ (l : GroupIndex). NoneDiffersIn l.indices n ended) view (
-    first,
+  none_differs_in = rw (← view) (
+    get_or firsts (n - forgotten) no_bare,
     λ i within.
         let there : i < length ks = omega (arith, within, length-map ks (λ (k : Kept). k.index)) in
-        subst (λ (l : Index). CameWith (slice_get l.arrived n) (slice_get l.barriers n) ended i first) (sym (index_is ks i))
-        (came_with forgotten firsts n kept ended no_bare i (get_or ks i nothing_kept) (are i there) (AllPass-from_list_all (λ k. is_as_first n ended k) ks all i nothing_kept there)),
+        let lane = are i there in
+        let is = AllPass-from_list_all (λ k. is_as_first n ended k) ks all i nothing_kept there in
+        rw (index_is ks i) (grind (arith, nat_tests, gets, said_count lane, said_alike lane n kept, slice_get-map, lane.within, is)),
   )
 
 -- ---- an event more
@@ -88,11 +82,8 @@ module _ {forgotten : ℕ} (firsts : List Bare) (ks : List Kept) (are : AreLanes
   pub item_there : j < length ks
   item_there = omega (arith, here, item, ap (λ (l : GroupIndex). length l.indices) view, length-map ks (λ (k : Kept). k.index))
 
-  old_is : old ≡ get_or ks j nothing_kept
-  old_is = get_or_read ks j old item_there reads nothing_kept
-
   index_was : get_or s.indices x.item no_index ≡ old.index
-  index_was = ap (λ (l : GroupIndex). get_or l.indices x.item no_index) (sym view) ∙ (index_is ks x.item ∙ ap (λ (k : Kept). k.index) (ap (λ n. get_or ks n nothing_kept) (sym here) ∙ sym old_is))
+  index_was = grind (arith, common_steps, get_or_read ks j old item_there reads nothing_kept, index_is ks x.item)
 
   module _ (new : Kept) where
     seen_set : (index : Index) → new.index ≡ index → seen_of forgotten (set ks j new) ≡ with_indices s (set s.indices x.item index)
@@ -118,24 +109,17 @@ module _ {forgotten : ℕ} (firsts : List Bare) (ks : List Kept) (are : AreLanes
   forgets_seen = ap (seen_of (forgotten + 1)) is ∙ (ap (λ l. record { indices = l; forgotten = forgotten + 1 }) (map-map (λ (k : Kept). k.index) (forgetting_one forgotten) ks) ∙ ap (λ (l : GroupIndex). record { indices = l.indices; forgotten = l.forgotten + 1 }) view)
 
   pub forgets_lanes : ((i : ℕ) → i < length s.indices → (p : ℕ) × (slice_get (get_or s.indices i no_index).barriers s.forgotten ≡ Some p)) → AreLanes (forgotten + 1) (drop 1 firsts) new
-  forgets_lanes came = subst (AreLanes (forgotten + 1) (drop 1 firsts)) (sym is) each
-    where
-      each : AreLanes (forgotten + 1) (drop 1 firsts) (map (forgetting_one forgotten) ks)
-      each i there =
-          let within : i < length ks = omega (arith, there, length-map ks (forgetting_one forgotten)) in
-          let k : Kept = get_or ks i nothing_kept in
-          let at = subst (λ (l : GroupIndex). (i : ℕ) → i < length l.indices → (p : ℕ) × (slice_get (get_or l.indices i no_index).barriers l.forgotten ≡ Some p)) (sym view) came i (omega (arith, within, length-map ks (λ (k : Kept). k.index))) in
-          let here : slice_get k.index.barriers forgotten ≡ Some at.0 = ap (λ (l : Index). slice_get l.barriers forgotten) (sym (index_is ks i)) ∙ at.1 in
-          subst (IsLane (forgotten + 1) (drop 1 firsts) i) (sym (get_or-map (forgetting_one forgotten) ks i nothing_kept nothing_kept within))
-          (lane_forgets (are i within) (slice_get_within k.index.barriers forgotten at.0 here))
+  forgets_lanes came i there =
+      let within : i < length ks = omega (arith, there, ap length is, length-map ks (forgetting_one forgotten)) in
+      let at = (rw (← view) at came) i (omega (arith, within, length-map ks (λ (k : Kept). k.index))) in
+      rw (is, get_or-map (forgetting_one forgotten) ks i nothing_kept nothing_kept within)
+      (lane_forgets (are i within) (slice_get_within (get_or ks i nothing_kept).index.barriers forgotten at.0 (ap (λ (l : Index). slice_get l.barriers forgotten) (sym (index_is ks i)) ∙ at.1)))
 
 -- ---- the last items go
 
 module _ {forgotten : ℕ} (firsts : List Bare) (ks : List Kept) (are : AreLanes forgotten firsts ks) (n : ℕ) (within : n ≤ length ks) {new : List Kept} (is : new ≡ take n ks) where
   pub left_lanes : AreLanes forgotten firsts new
-  left_lanes = subst (AreLanes forgotten firsts) (sym is) (λ i there.
-      let lt : i < n = omega (arith, there, length-take-le n ks within) in
-      subst (IsLane forgotten firsts i) (sym (get_or-take n ks i nothing_kept lt)) (are i (omega (arith, lt, within))))
+  left_lanes i there = grind (arith, common_steps, are i, length-take-le n ks within)
 
   pub left_closes : {s : GroupIndex} → seen_of forgotten ks ≡ s → ((i : ℕ) → n ≤ i → i < length ks → HasNothing (get_or ks i nothing_kept)) → Closes s.forgotten s.indices (indices_of new)
   left_closes view nothing = subst (λ (l : GroupIndex). Closes l.forgotten l.indices (indices_of new)) view (record {
@@ -162,12 +146,9 @@ module _ (s : List Index) (x : Event) where
 
 -- ---- no events
 
-pub none_kept : (n : ℕ) {ks : List Kept} → ks ≡ replicate n nothing_kept → (i : ℕ) → get_or ks i nothing_kept ≡ nothing_kept
-none_kept n is i = grind (arith, common_steps, get_or-replicate, get_or_past)
-
 pub new_items : (n : ℕ) (ks : List Kept) → ks ≡ replicate n nothing_kept → HasNoEvents n (seen_of 0 ks)
 new_items n ks is = record {
   count = length-map ks (λ (k : Kept). k.index) ∙ (ap length is ∙ length-replicate n nothing_kept);
-  none = λ i. index_is ks i ∙ ap (λ (k : Kept). k.index) (none_kept n is i);
+  none = λ i. grind (arith, common_steps, get_or-replicate, get_or_past, index_is ks i);
   whole = refl;
 }

@@ -1,29 +1,15 @@
 -- What a lane keeps of an item's barriers.
-use Rattle.std.proofs.Common.{◌≡◌, ℕ, suc, ◌+◌, ◌-◌, ◌<◌, ◌≤◌, ◌==◌, List, [], ◌∷◌, ◌++◌, length, map, take, drop, sym, ap, ◌∙◌, subst, arith, append-nil, append_assoc, cond, slice_get}
+use Rattle.std.proofs.Common.{◌≡◌, ℕ, ◌+◌, ◌-◌, ◌<◌, ◌≤◌, ◌==◌, List, [], ◌∷◌, ◌++◌, length, map, take, drop, sym, ap, ◌∙◌, subst, arith, append-nil, append_assoc, cond, slice_get}
 use Rattle.std.proofs.lemmas.Bool.Decides.{nat_tests}
 use Rattle.std.proofs.lemmas.Grind.{common_steps}
 use Rattle.std.proofs.lemmas.Option.{gets, slice_get-map}
-use Rattle.std.proofs.lemmas.List.{drop-append-le, drop-drop, drop-map, get_or-drop, length-append, length-drop, length-map, length-take-le, length_push, map-append, take-append-le}
+use Rattle.std.proofs.lemmas.List.{drop-append-le, drop-drop, drop-map, length-append, length-drop, length-map, length-take-le, length_push, map-append, take-append-le}
 use Rattle.gr_model.specs.declared.event.Event.{Event}
 use Rattle.gr_lanes.specs.declared.bare.Bare.{Bare}
-use Rattle.gr_lanes.specs.Indices.{AreRising}
 use Rattle.gr_lanes.specs.Kept.{Arrives, IsLane, Kept, apart_more, bare_of, forgetting_one, of_item}
 
 get-drop : {X : Type 0} (n : ℕ) (xs : List X) (k : ℕ) → slice_get (drop n xs) k ≡ slice_get xs (n + k)
 get-drop n xs k = grind (arith, common_steps, gets)
-
-alike_at : (firsts apart : List Bare) (a n : ℕ) → a ≤ length firsts → n < a → slice_get firsts n ≡ slice_get (take a firsts ++ apart) n
-alike_at firsts apart a n within below = grind (arith, common_steps, gets)
-
-apart_at : (firsts apart : List Bare) (a m : ℕ) → a ≤ length firsts → slice_get apart m ≡ slice_get (take a firsts ++ apart) (a + m)
-apart_at firsts apart a m within = grind (arith, common_steps, gets)
-
--- the first of those that were said is forgotten, which is the first of the firsts
-alike_goes : (firsts apart : List Bare) (m : ℕ) → suc m ≤ length firsts → drop 1 (take (suc m) firsts ++ apart) ≡ take m (drop 1 firsts) ++ apart
-alike_goes firsts apart m within = grind (arith, common_steps)
-
-pub rising_rest : (n : ℕ) (places : List ℕ) → AreRising places → AreRising (drop n places)
-rising_rest n places rises i j le within = grind (arith, length-drop, get_or-drop)
 
 module _ {forgotten : ℕ} {firsts : List Bare} {i : ℕ} {k : Kept} (lane : IsLane forgotten firsts i k) where
   abbrev all_said : List Bare
@@ -39,10 +25,10 @@ module _ {forgotten : ℕ} {firsts : List Bare} {i : ℕ} {k : Kept} (lane : IsL
   barrier_at n le = ap (λ l. slice_get l (n - forgotten)) lane.places ∙ (get-drop forgotten k.index.barriers (n - forgotten) ∙ ap (slice_get k.index.barriers) (omega (arith, le)))
 
   pub said_alike : (n : ℕ) → forgotten ≤ n → n < k.alike → slice_get (map (of_item i) firsts) (n - forgotten) ≡ slice_get k.index.arrived n
-  said_alike n le below = grind (arith, get-drop forgotten k.index.arrived (n - forgotten), slice_get-map, alike_at firsts k.apart (k.alike - forgotten) (n - forgotten), lane.within, lane.saying)
+  said_alike n le below = grind (arith, get-drop forgotten k.index.arrived (n - forgotten), slice_get-map, common_steps, gets, lane.within, lane.saying)
 
   pub said_apart : (n : ℕ) → k.alike ≤ n → slice_get (map (of_item i) k.apart) (n - k.alike) ≡ slice_get k.index.arrived n
-  said_apart n behind = grind (arith, get-drop forgotten k.index.arrived (n - forgotten), slice_get-map, apart_at firsts k.apart (k.alike - forgotten) (n - k.alike), lane.within, lane.least, lane.saying)
+  said_apart n behind = grind (arith, get-drop forgotten k.index.arrived (n - forgotten), slice_get-map, common_steps, gets, lane.within, lane.least, lane.saying)
 
   -- firsts more change nothing
   pub lane_more : (more : List Bare) → IsLane forgotten (firsts ++ more) i k
@@ -69,7 +55,7 @@ module _ {forgotten : ℕ} {firsts : List Bare} {i : ℕ} {k : Kept} (lane : IsL
   }
     where
       said : drop 1 all_said ≡ take (cond (k.alike == forgotten) (k.alike + 1) k.alike - (forgotten + 1)) (drop 1 firsts) ++ cond (k.alike == forgotten) (drop 1 k.apart) k.apart
-      said = grind (arith, nat_tests, common_steps, alike_goes firsts k.apart (k.alike - (forgotten + 1)), lane.least, lane.within)
+      said = grind (arith, nat_tests, common_steps, lane.least, lane.within)
 
 -- a barrier more
 record_is : (x : Event) → x.names ≡ [] → of_item x.item (bare_of x) ≡ x

@@ -1,9 +1,6 @@
-use Rattle.std.proofs.Common.{◌∙◌, sym}
+use Rattle.std.proofs.Common.{arith}
 use Rattle.gr_lanes.proofs.IndexLemmas.{cut_if_end, end_if_cut}
 use Rattle.gr_lanes.proofs.group.Group.is_cut.Goals as goal
 
 pub returns : goal.returns
-returns g c = rw (← c.self.view_is) (
-  λ cut. cut_if_end c.self.inside.list (sym c.self.invariant.ending ∙ c.says_cut.ensures.0 cut),
-  λ cut. c.says_cut.ensures.1 (c.self.invariant.ending ∙ end_if_cut c.self.inside.list c.self.invariant.indices.prefix.good cut),
-)
+returns g c = grind (arith, cut_if_end c.self.inside.list, end_if_cut c.self.inside.list c.self.invariant.indices.prefix.good)

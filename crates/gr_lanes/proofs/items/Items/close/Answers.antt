@@ -1,14 +1,11 @@
-use Rattle.std.proofs.Common.{◌∙◌, ◌≤◌, ap, arith, length}
+use Rattle.std.proofs.Common.{◌∙◌, ap, arith, length}
 use Rattle.gr_lanes.proofs.KeptLemmas.{left_closes, left_lanes}
 use Rattle.gr_lanes.proofs.items.Items.close.Goals as goal
 
 pub invariant_of-self : goal.invariant_of-self
-invariant_of-self g c =
-    let within : c.lanes_left-left.result ≤ length c.self.inside.lanes.items = omega (arith, c.lanes_left-left.ensures.within, ap length c.deref.ensures.value) in
-    left_lanes c.self.inside.firsts.items c.self.inside.lanes.items c.self.invariant c.lanes_left-left.result within (c.shrink_to_fit.ensures.items ∙ c.truncate.ensures.items)
+invariant_of-self g c = left_lanes c.self.inside.firsts.items c.self.inside.lanes.items c.self.invariant c.lanes_left-left.result (omega (arith, c.lanes_left-left.ensures.within, ap length c.deref.ensures.value)) (c.shrink_to_fit.ensures.items ∙ c.truncate.ensures.items)
 
 pub returns-clause-lanes : goal.returns-clause-lanes
 returns-clause-lanes g c =
-    let within : c.lanes_left-left.result ≤ length c.self.inside.lanes.items = omega (arith, c.lanes_left-left.ensures.within, ap length c.deref.ensures.value) in
-    left_closes c.self.inside.firsts.items c.self.inside.lanes.items c.self.invariant c.lanes_left-left.result within (c.shrink_to_fit.ensures.items ∙ c.truncate.ensures.items) c.self.view_is
+    left_closes c.self.inside.firsts.items c.self.inside.lanes.items c.self.invariant c.lanes_left-left.result (omega (arith, c.lanes_left-left.ensures.within, ap length c.deref.ensures.value)) (c.shrink_to_fit.ensures.items ∙ c.truncate.ensures.items) c.self.view_is
     (rw c.deref.ensures.value at c.lanes_left-left.ensures.spent)
