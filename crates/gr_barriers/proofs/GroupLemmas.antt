@@ -1,5 +1,5 @@
 -- One group's barriers: what a mark more changes.
-use Rattle.std.proofs.Common.{◌≡◌, ℕ, ◌+◌, ◌-◌, ◌<◌, ◌≤◌, Bool, List, [], ◌∷◌, ◌++◌, map, length, get_or, set, Result, Ok, Err, OnErr, Vec, sym, ◌∙◌, ap, subst, arith}
+use Rattle.std.proofs.Common.{◌≡◌, ℕ, ◌<◌, ◌≤◌, Bool, List, [], ◌∷◌, ◌++◌, map, length, get_or, set, Result, Ok, Err, OnErr, Vec, sym, ◌∙◌, ap, subst, arith}
 use Rattle.std.proofs.lemmas.Grind.{get_or-set_at}
 use Rattle.std.proofs.lemmas.List.{length_push, get_or-map, get_or-set_other, map-set, length-map, set-get_or}
 use Rattle.gr_model.specs.declared.limits.TheConstants.{MOST_RECORDS}
@@ -25,15 +25,10 @@ module _ {Z : Type 0} (vs : List (Vec Mark Z)) (i : ℕ) (there : i < length vs)
   set_few y few small = subst AreFew (sym (map-set items vs i y)) (few_set (map items vs) i y.items few (let within : i < length (map items vs) = omega (arith, length-map vs items) in within) small)
 
   pub same_few : (y : Vec Mark Z) → AreFew (map items vs) → y.items ≡ x.items → AreFew (map items (set vs i y))
-  same_few y few same =
-      let old : length y.items ≡ length (get_or (map items vs) i []) = ap length (same ∙ read_items) in
-      set_few y few (let small : length y.items ≤ MOST_RECORDS = omega (arith, few i) in small)
+  same_few y few same = set_few y few (grind (arith, few i, read_items))
 
   pub more_few : (y : Vec Mark Z) (a : Mark) (t : GroupMarks) (ended : Bool) → AreFew (map items vs) → record { marks = map items vs; ended = ended } ≡ t → length (marks_at t i) < MOST_RECORDS → y.items ≡ x.items ++ a ∷ [] → AreFew (map items (set vs i y))
-  more_few y a t ended few is room more =
-      let old : length (marks_at t i) ≡ length x.items = ap (λ (s : GroupMarks). length (marks_at s i)) (sym is) ∙ ap length (sym read_items) in
-      let new : length y.items ≡ length x.items + 1 = ap length more ∙ length_push x.items a in
-      set_few y few (let small : length y.items ≤ MOST_RECORDS = omega arith in small)
+  more_few y a t ended few is room more = set_few y few (grind (arith, length_push x.items a, read_items))
 
   pub set_more : (y : Vec Mark Z) (a : Mark) → y.items ≡ x.items ++ a ∷ [] → map items (set vs i y) ≡ set (map items vs) i (get_or (map items vs) i [] ++ a ∷ [])
   set_more y a more = map-set items vs i y ∙ ap (set (map items vs) i) (more ∙ ap (λ (ys : List Mark). ys ++ a ∷ []) read_items)

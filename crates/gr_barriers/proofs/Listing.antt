@@ -1,5 +1,5 @@
 -- The divergences of a launch, listed one instance after the other.
-use Rattle.std.proofs.Common.{◌≡◌, ◌⊎◌, inl, inr, ℕ, ◌+◌, ◌<◌, ◌≤◌, Bool, List, [], ◌∷◌, ◌++◌, refl, subst, arith, ⊎_elim}
+use Rattle.std.proofs.Common.{◌≡◌, inl, ℕ, ◌+◌, ◌<◌, ◌≤◌, Bool, List, [], ◌∷◌, ◌++◌, subst, arith}
 use Rattle.gr_model.specs.declared.report.Divergence.{Divergence}
 use Rattle.gr_model.specs.declared.report.DivergenceCause.{DivergenceCause}
 use Rattle.gr_model.specs.Instances.{Arrivals, HasDivergenceCause, IsDivergentOf}
@@ -9,12 +9,6 @@ use Rattle.gr_barriers.specs.Listings.{AreListedBefore, IsBefore}
 use Rattle.gr_barriers.specs.Summaries.{NobodyCame}
 use Rattle.gr_barriers.proofs.Lists.{listed_push, listed_same}
 use Rattle.gr_barriers.proofs.SummaryLemmas.{nobody_diverges}
-
-before_more : (g k : ℕ) (d : Divergence) → IsBefore g k d → IsBefore g (k + 1) d
-before_more g k d before = grind arith
-
-before_cases : (g k : ℕ) (d : Divergence) → IsBefore g (k + 1) d → IsBefore g k d ⊎ ((d.group ≡ g) × (d.instance ≡ k))
-before_cases g k d before = grind arith
 
 -- the divergences of groups that have ended or not, are of some size, and whose items brought this to their instances
 module _ (Is : Divergence → Type 0) where
@@ -29,16 +23,13 @@ module _ (Is : Divergence → Type 0) where
     -- an instance that is not divergent
     pub instance_without : ¬ IsDivergentOf (ended g) (size g) (arrived g k) → AreListedBefore Is g (k + 1) ds
     instance_without none = listed_same DivergenceBelow (λ d. Is d × IsBefore g k d) (λ d. Is d × IsBefore g (k + 1) d) ds listed
-        (λ d p. (p.0, before_more g k d p.1))
-        (λ d p. (p.0, ⊎_elim (λ before. before) (λ (here : (d.group ≡ g) × (d.instance ≡ k)). absurd (none (subst (λ n. IsDivergentOf (ended g) (size g) (arrived g n)) here.1 (diverges d p.0 here.0)))) (before_cases g k d p.1)))
+        (λ d p. (p.0, grind arith))
+        (λ d p. (p.0, grind (arith, λ (same : d.group ≡ g) (here : d.instance ≡ k). none (subst (λ n. IsDivergentOf (ended g) (size g) (arrived g n)) here (diverges d p.0 same)))))
 
     -- one that is, with its cause
     pub instance_with : (c : DivergenceCause) → HasDivergenceCause (ended g) (size g) (arrived g k) c → Is (record { group = g; instance = k; cause = c }) → AreListedBefore Is g (k + 1) (ds ++ record { group = g; instance = k; cause = c } ∷ [])
     instance_with c cause is_one = listed_push DivergenceBelow (λ d. Is d × IsBefore g k d) (λ d. Is d × IsBefore g (k + 1) d) ds this listed
-        (λ d p. below_this d p.1)
-        (is_one, inr (refl, let lt : k < k + 1 = omega arith in lt))
-        (λ d p. (p.0, before_more g k d p.1))
-        (λ d p. ⊎_elim (λ before. inl (p.0, before)) (λ (here : (d.group ≡ g) × (d.instance ≡ k)). inr (is_this d p.0 here.0 here.1)) (before_cases g k d p.1))
+        (λ d p. grind arith) (is_one, grind arith) (λ d p. (p.0, grind arith)) (λ d p. grind (arith, is_this d p.0))
       where
         this : Divergence
         this = record { group = g; instance = k; cause = c }
@@ -49,16 +40,8 @@ module _ (Is : Divergence → Type 0) where
             let same : d.cause ≡ c = one_cause (ended g) (size g) (arrived g k) d.cause c causes cause in
             λ i. record { group = group i; instance = instance i; cause = same i }
 
-        below_this : (d : Divergence) → IsBefore g k d → DivergenceBelow d this
-        below_this d before = grind arith
-
     -- behind the last instance to which somebody came the group is done
     pub group_done : ((n : ℕ) → k ≤ n → NobodyCame (size g) (arrived g n)) → AreListedBefore Is (g + 1) 0 ds
-    group_done none = listed_same DivergenceBelow (λ d. Is d × IsBefore g k d) (λ d. Is d × IsBefore (g + 1) 0 d) ds listed (λ d p. (p.0, earlier d p.1)) (λ d p. (p.0, later d p.0 p.1))
-      where
-        earlier : (d : Divergence) → IsBefore g k d → IsBefore (g + 1) 0 d
-        earlier d before = grind arith
-
-        later : (d : Divergence) → Is d → IsBefore (g + 1) 0 d → IsBefore g k d
-        later d is before =
-            grind (arith, λ (same : d.group ≡ g) (le : k ≤ d.instance). nobody_diverges (ended g) (size g) (arrived g d.instance) (none d.instance le) (diverges d is same))
+    group_done none = listed_same DivergenceBelow (λ d. Is d × IsBefore g k d) (λ d. Is d × IsBefore (g + 1) 0 d) ds listed
+        (λ d p. (p.0, grind arith))
+        (λ d p. (p.0, grind (arith, λ (same : d.group ≡ g) (le : k ≤ d.instance). nobody_diverges (ended g) (size g) (arrived g d.instance) (none d.instance le) (diverges d p.0 same))))

@@ -22,11 +22,7 @@ came_or_not None = inl refl
 came_or_not (Some b) = inr (b, refl)
 
 same_mark : (a b : Mark) → (a ≢ b → ⊥) → a ≡ b
-same_mark a b not_other =
-    let site : a.site ≡ b.site = grind (arith, not_other) in
-    let global : a.global ≡ b.global = grind (arith, not_other) in
-    let local : a.local ≡ b.local = grind (arith, not_other) in
-    λ i. record { site = site i; global = global i; local = local i }
+same_mark a b not_other = grind (arith, not_other)
 
 -- ---- an instance to which somebody came
 
@@ -72,17 +68,10 @@ module _ (n : ℕ) (arrived : Arrivals) (s : Summary) (is : IsSummaryOf n arrive
   pub converges : (ended : Bool) → ¬ IsDivergentOf ended n arrived → ¬ IsTrue s.lacks_one → (0 < n) × ((a : Mark) × IsConvergentOf n arrived a)
   converges ended convergent whole =
       let first = is.first mark.0 mark.1 in
-      let some : 0 < n = omega (arith, first.1) in (
-        some,
-        (
-          mark.0,
-          (
-            some,
-            λ i within.
-                ⊎_elim
-                (λ (lacks : arrived i ≡ None). absurd (whole (is.lacks_one.1 (i, within, lacks))))
-                (λ (came : (b : Mark) × (arrived i ≡ Some b)). came.1 ∙ ap (λ (m : Mark). Some m) (same_mark came.0 mark.0 (λ other. convergent (inl (i, first.0, came.0, mark.0, (within, came.1), (first.1, first.2), other)))))
-                (came_or_not (arrived i)),
-          ),
-        ),
-      )
+      let some : 0 < n = omega (arith, first.1) in
+      let all : (i : ℕ) → i < n → arrived i ≡ Some mark.0 = λ i within. ⊎_elim
+      (λ (lacks : arrived i ≡ None). absurd (whole (is.lacks_one.1 (i, within, lacks))))
+      (λ (came : (b : Mark) × (arrived i ≡ Some b)). came.1 ∙ ap (λ (m : Mark). Some m) (same_mark came.0 mark.0 (λ other. convergent (inl (i, first.0, came.0, mark.0, (within, came.1), (first.1, first.2), other)))))
+      (came_or_not (arrived i))
+      in
+      (some, (mark.0, (some, all)))
