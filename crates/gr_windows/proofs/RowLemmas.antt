@@ -1,5 +1,6 @@
 -- The windows of a group's items: what is read, what is written at an item, and that those in which nothing waits can go.
 use Rattle.std.proofs.lemmas.Bool.Decides.{nat_tests}
+use Rattle.std.proofs.lemmas.Grind.{common_steps}
 use Rattle.std.proofs.lemmas.List.{get_or_append_left, get_or-append_right}
 use Rattle.std.proofs.Common.{◌≡◌, ◌⊎◌, inr, ⊎_elim, ℕ, zero, suc, ◌+◌, ◌-◌, ◌<◌, ◌≤◌, ◌==◌, List, [], ◌∷◌, ◌++◌, length, get_or, set, drop, refl, sym, ◌∙◌, ap, arith, append-nil}
 use Rattle.std.specs.Int.{from_bool}
@@ -11,16 +12,10 @@ use Rattle.gr_windows.specs.Rows.{IsRowKept, begun, padded, waits}
 use Rattle.gr_windows.proofs.WindowLemmas.{none_is, none_of}
 
 -- what is read
-rest_reads : (ws : List (List Event)) (n i : ℕ) → get_or (ws ++ none_of n) i [] ≡ get_or ws i []
-rest_reads ws n i = grind (arith, get_or_append_left, get_or-append_right ws (none_of n) (length ws) i [], none_is, get_or_past)
-
 pub padded_reads : (size : ℕ) (ws : List (List Event)) (i : ℕ) → get_or (padded size ws) i [] ≡ get_or ws i []
-padded_reads size ws i = rest_reads ws (size - length ws) i
+padded_reads size ws i = grind (arith, get_or_append_left, get_or-append_right ws (none_of (size - length ws)) (length ws) i [], none_is, get_or_past)
 
 -- ---- in how many events wait
-
-push_waits : (l : List Event) (x : Event) → waits (l ++ x ∷ []) ≡ waits l + from_bool (length l == 0)
-push_waits l x = grind (arith, nat_tests)
 
 less_waits : (l rest : List Event) → length rest ≡ length l - 1 → waits rest + from_bool (length l == 1) ≡ waits l
 less_waits l rest is = grind (arith, nat_tests)
@@ -40,21 +35,8 @@ none_sum zero = refl
 none_sum (suc n) = none_sum n
 
 begun_as : (size : ℕ) (ws : List (List Event)) → (ws ≡ []) ⊎ (length ws ≡ size) → (length (begun size ws) ≡ size) × ((sum_by waits (begun size ws) ≡ sum_by waits ws) × (padded size (begun size ws) ≡ padded size ws))
-begun_as size [] whole = (length-replicate size [], (none_sum size, padded_none))
-  where
-    padded_none : padded size (none_of size) ≡ padded size []
-    padded_none =
-        let none : size - length (none_of size) ≡ 0 = omega (arith, length-replicate {A = List Event} size []) in
-        ap (λ m. none_of size ++ none_of m) none ∙ (append-nil (none_of size) ∙ ap none_of (let whole : size ≡ size - 0 = omega arith in whole))
+begun_as size [] whole = (length-replicate size [], (none_sum size, grind (arith, common_steps, length-replicate {A = List Event}, append-nil)))
 begun_as size (w ∷ ws) whole = (⊎_elim (λ (none : (w ∷ ws) ≡ []). cc) (λ (all : length (w ∷ ws) ≡ size). all) whole, (refl, refl))
-
-pub begun_none : (size : ℕ) (ws new : List (List Event)) → length ws ≡ 0 → new ≡ none_of size → new ≡ begun size ws
-begun_none size [] new none is = is
-begun_none size (w ∷ ws) new none is = absurd (omega (arith, none))
-
-pub begun_some : (size : ℕ) (ws : List (List Event)) → 0 < length ws → ws ≡ begun size ws
-begun_some size [] some = absurd (omega (arith, some))
-begun_some size (w ∷ ws) some = refl
 
 module _ {size busy : ℕ} {ws : List (List Event)} (kept : IsRowKept size busy ws) {s : List (List Event)} (view : padded size ws ≡ s) where
   -- where there are no windows they can come
@@ -96,10 +78,7 @@ module _ {size busy : ℕ} {ws : List (List Event)} (kept : IsRowKept size busy 
 
       -- another list at an item
       pub written_at : (f : List Event → List Event) (new : List Event) → new ≡ f old → padded size (set ws p new) ≡ set s item (f (get_or s item []))
-      written_at f new is =
-          ap (λ n. set ws p new ++ none_of (size - n)) (length-set ws p new) ∙ (sym (set-append_left ws (none_of (size - length ws)) p new there)
-          ∙ (ap (set (padded size ws) p) (is ∙ ap f (old_is ∙ sym (padded_reads size ws p)))
-          ∙ (ap (λ t. set t p (f (get_or t p []))) view ∙ ap (λ n. set s n (f (get_or s n []))) same)))
+      written_at f new is = grind (arith, common_steps, length-set, set-append_left ws (none_of (size - length ws)) p new there, padded_reads size ws p, old_is)
 
       set_kept : (count : ℕ) (new : List Event) → count + waits old ≡ busy + waits new → IsRowKept size count (set ws p new)
       set_kept count new changes =
@@ -110,7 +89,7 @@ module _ {size busy : ℕ} {ws : List (List Event)} (kept : IsRowKept size busy 
           }
 
       pub push_kept : (x : Event) (new : List Event) (b : ℕ) → new ≡ old ++ x ∷ [] → b ≡ from_bool (length old == 0) → IsRowKept size (busy + b) (set ws p new)
-      push_kept x new b is first = set_kept (busy + b) new (omega (arith, push_waits old x, ap waits is, first))
+      push_kept x new b is first = set_kept (busy + b) new (grind (arith, nat_tests))
 
       pub push_fits : (x : Event) (b : ℕ) → b ≡ from_bool (length old == 0) → busy + b ≤ size
       push_fits x b first =

@@ -3,8 +3,8 @@ use Rattle.std.proofs.lemmas.Grind.{common_steps, get_or-set_at}
 use Rattle.std.proofs.lemmas.Option.{gets}
 use Rattle.gr_clocks.proofs.RowLemmas.{one_item, row_of_item, row_size}
 use Rattle.std.proofs.lemmas.List.{drop_all, drop-drop, get_or-replicate}
-use Rattle.std.proofs.Common.{◌≡◌, inl, inr, ℕ, zero, suc, ◌+◌, ◌-◌, ◌<◌, ◌≤◌, List, [], ◌∷◌, ◌++◌, map, length, get_or, set, slice_get, replicate, drop, take, refl, sym, ◌∙◌, ap, subst, arith, ⊎_elim}
-use Rattle.std.proofs.lemmas.List.{get_or_past, get_or_read, get_or-set_other, length-replicate, length-set, map-append, take_more}
+use Rattle.std.proofs.Common.{◌≡◌, ℕ, zero, suc, ◌+◌, ◌-◌, ◌<◌, List, [], ◌∷◌, ◌++◌, map, length, get_or, set, slice_get, replicate, drop, take, refl, sym, ◌∙◌, ap, subst, arith}
+use Rattle.std.proofs.lemmas.List.{get_or_past, get_or_read, get_or-set_other, length-replicate, length-set}
 use Rattle.std.proofs.Math.Seq.{map-set_same}
 use Rattle.gr_model.specs.declared.event.Event.{Event}
 use Rattle.gr_model.specs.declared.event.EventId.{EventId}
@@ -12,9 +12,9 @@ use Rattle.gr_model.specs.declared.event.ItemId.{ItemId}
 use Rattle.gr_model.specs.Groups.{put}
 use Rattle.gr_model.specs.Shapes.{HasItem}
 use Rattle.gr_model.proofs.PutLemmas.{map_put, put_other, put_same}
-use Rattle.gr_model.specs.Streams.{Streams, event_at, trace_of}
+use Rattle.gr_model.specs.Streams.{Streams, event_at}
 use Rattle.gr_clocks.specs.Counts.{Counts, count_of}
-use Rattle.gr_clocks.specs.Tables.{IsBeyond, item_of}
+use Rattle.gr_clocks.specs.Tables.{item_of}
 use Rattle.gr_windows.specs.Windows.{AddsItems, AreWaiting, Changes, DropsItems, IsEmpty, Table, window_of}
 
 -- new lists, none of which has an event
@@ -35,11 +35,6 @@ rows_none (n ∷ sizes) (suc g) i = rows_none sizes g i
 
 pub new_empty : (sizes : List ℕ) (w : Table) → w ≡ map none_of sizes → IsEmpty sizes w
 new_empty sizes w is = subst (IsEmpty sizes) (sym is) (record { shape = sizes_none sizes; none = λ i. rows_none sizes i.group i.item })
-
-pub one_row_more : (sizes : List ℕ) (n : ℕ) (old : Table) (row : List (List Event)) → n < length sizes → old ≡ map none_of (take n sizes) → row ≡ none_of (get_or sizes n 0) → old ++ row ∷ [] ≡ map none_of (take (n + 1) sizes)
-one_row_more sizes n old row within was is =
-    ap (λ (l : Table). l ++ row ∷ []) was ∙ (ap (λ (x : List (List Event)). map none_of (take n sizes) ++ x ∷ []) is
-    ∙ (sym (map-append none_of (take n sizes) (get_or sizes n 0 ∷ [])) ∙ ap (map none_of) (sym (take_more sizes n 0 within))))
 
 -- an item of a table, and the row that it is in
 pub record IsRow (t : Table) (i : ItemId) (g : ℕ) (row : List (List Event)) : Type 0 where
@@ -75,24 +70,14 @@ row_writes {rows} {t} {i} {g} {row} view has group reads f written is =
     subst (λ (u : Table). Changes t i (f (window_of t i)) (set u g written)) (sym view)
     (set_changes at (f (window_of t i)) written (is ∙ ap (λ (l : List Event). set row i.item (f l)) (window_is at)))
 
--- nothing was dropped yet
-pub none_dropped : (w : Table) (g : ℕ) → DropsItems w g 0 w
-none_dropped w g = record { shape = refl; items = λ k lt. absurd (omega arith); others = λ j beyond. refl }
-
 pub one_drop_more : (old now : Table) (g n : ℕ) → DropsItems old g n now → (new : Table) → Changes now (item_of g n) (drop 1 (window_of now (item_of g n))) new → DropsItems old g (n + 1) new
 one_drop_more old now g n drops new changes = record {
   shape = changes.shape ∙ drops.shape;
   items = λ k lt. grind (arith, changes.item, changes.others (item_of g k), drops.items k, drops.others (item_of g n));
-  others = λ j beyond. changes.others j (λ same. is_beyond j same beyond) ∙ drops.others j (⊎_elim (λ group. inl group) (λ (past : n + 1 ≤ j.item). inr (omega arith)) beyond);
+  others = λ j beyond. grind (arith, changes.others j, drops.others j);
 }
-  where
-    is_beyond : (j : ItemId) → j ≡ item_of g n → IsBeyond g (n + 1) j → ⊥
-    is_beyond j same beyond = grind arith
 
 -- ---- the events that a clock does not count
-
-pub get-drop : {X : Type 0} (n : ℕ) (xs : List X) (k : ℕ) → slice_get (drop n xs) k ≡ slice_get xs (n + k)
-get-drop n xs k = grind (arith, common_steps, gets)
 
 pub drop_one : {X : Type 0} (n : ℕ) (xs : List X) → drop 1 (drop n xs) ≡ drop (suc n) xs
 drop_one n xs = grind (arith, drop-drop 1 n xs)
@@ -102,7 +87,7 @@ drop_none n events none = grind (arith, drop_all n events)
 
 -- the first event that waits is the first that the clock does not count
 pub first_waits : (s : Streams) (frontier : Counts) (w : Table) → AreWaiting s frontier w → (e : EventId) → e.index ≡ count_of frontier e.at → slice_get (window_of w e.at) 0 ≡ event_at s e
-first_waits s frontier w waits e index = grind (arith, waits.each e.at, get-drop (count_of frontier e.at) (trace_of s e.at) 0)
+first_waits s frontier w waits e index = grind (arith, common_steps, gets, waits.each e.at)
 
 pub take_pushed : (l : List Event) (x : Event) → take (length (l ++ x ∷ []) - 1) (l ++ x ∷ []) ≡ l
 take_pushed l x = grind (arith, common_steps)

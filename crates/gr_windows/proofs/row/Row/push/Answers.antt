@@ -5,12 +5,6 @@ use Rattle.gr_windows.specs.Rows.{padded}
 use Rattle.gr_windows.proofs.RowLemmas.{begun_kept, begun_there, begun_view, push_fits, push_kept, same_read, same_written, written_at}
 use Rattle.gr_windows.proofs.row.Row.push.Goals as goal
 
-pub index-requires : goal.index-requires
-index-requires g c = omega (arith, begun_there c.self.invariant c.self.view_is c.in_ok-begin.ensures.ok c.from-place.ensures c.requires, c.begin.new.windows.ok.0)
-
-pub index_mut-requires : goal.index_mut-requires
-index_mut-requires g c = omega (arith, begun_there c.self.invariant c.self.view_is c.in_ok-begin.ensures.ok c.from-place.ensures c.requires, c.begin.new.windows.ok.0)
-
 pub overflow_add-self : goal.overflow_add-self
 overflow_add-self g c =
     let fits = push_fits (begun_kept c.self.invariant c.self.view_is c.in_ok-begin.ensures.ok) (begun_view c.self.invariant c.self.view_is c.in_ok-begin.ensures.ok) c.from-place.ensures (begun_there c.self.invariant c.self.view_is c.in_ok-begin.ensures.ok c.from-place.ensures c.requires) c.index_mut.ensures.value c.args.event.now c.from.result
