@@ -10,15 +10,17 @@ use Rattle.gr_lanes.proofs.IndexLemmas.{record_place}
 use Rattle.gr_lanes.specs.Instances.{HasCome}
 use Rattle.gr_lanes.specs.Kept.{NoneDiffers, of_item}
 
+-- the k-th barrier of a list gives the k-th mark
+abbrev pub GivesMark : ℕ → List Event → ℕ → ℕ → Type 0
+GivesMark i xs k n = (j : ℕ) × (x : Event) × (n ≡ i + j) × (slice_get xs j ≡ Some x) × (slice_get (filter_map mark_of xs) k ≡ mark_of x) × (is_some (mark_of x) ≡ true)
+
 -- the k-th barrier has the k-th mark
 pub record_mark : (xs : List Event) (k : ℕ) → MatchOption (slice_get (filter is_barrier xs) k) (slice_get (filter_map mark_of xs) k ≡ None) (λ x. (slice_get (filter_map mark_of xs) k ≡ mark_of x) × (is_some (mark_of x) ≡ true))
 record_mark [] k = refl
 record_mark (x ∷ xs) zero = grind (arith, record_mark xs zero)
 record_mark (x ∷ xs) (suc k) = grind (arith, record_mark xs k, record_mark xs (suc k))
 
--- a barrier gives the mark of its number
-pub barrier_mark : (i : ℕ) (xs : List Event) (k n : ℕ) → slice_get (places_from is_barrier i xs) k ≡ Some n
-    → (j : ℕ) × (x : Event) × (n ≡ i + j) × (slice_get xs j ≡ Some x) × (slice_get (filter_map mark_of xs) k ≡ mark_of x) × (is_some (mark_of x) ≡ true)
+pub barrier_mark : (i : ℕ) (xs : List Event) (k n : ℕ) → slice_get (places_from is_barrier i xs) k ≡ Some n → GivesMark i xs k n
 barrier_mark i xs k n e =
     let there = places_from-there is_barrier i xs k n e in
     let mark = rw (record_place is_barrier i xs k there.0 (rw there.2 at e) ∙ there.3) at (record_mark xs k) in
