@@ -1,5 +1,5 @@
 -- A record that is taken and whose event is handled at once: the two steps, one behind the other.
-use Rattle.std.proofs.Common.{◌≡◌, ◌≢◌, ◌⊎◌, ℕ, ◌+◌, ◌<◌, false, List, [], ◌∷◌, ◌++◌, length, Some, None, drop, slice_get, not, refl, sym, ap, ◌∙◌, subst, ⊎_elim, arith, append-nil}
+use Rattle.std.proofs.Common.{◌≡◌, ◌≢◌, ◌⊎◌, ℕ, ◌+◌, ◌<◌, false, List, [], ◌∷◌, ◌++◌, length, get_or, Some, None, drop, slice_get, not, refl, sym, ap, ◌∙◌, subst, arith, append-nil}
 use Rattle.std.proofs.lemmas.Grind.{common_steps}
 use Rattle.std.proofs.Math.ListN.{drop_of_length-le}
 use Rattle.std.proofs.lemmas.List.{length_push}
@@ -8,7 +8,6 @@ use Rattle.gr_model.specs.declared.event.Event.{Event}
 use Rattle.gr_model.specs.declared.event.EventId.{EventId}
 use Rattle.gr_model.specs.declared.event.ItemId.{ItemId}
 use Rattle.gr_model.specs.Events.{is_end}
-use Rattle.gr_model.specs.LawfulOrders.{IsLawful}
 use Rattle.gr_model.specs.Streams.{ArePrefixes, IsEvent, Streams, event_at, list_of, trace_of}
 use Rattle.gr_model.proofs.Cuts.{same_event}
 use Rattle.gr_steps.specs.Steps.{IsReady}
@@ -32,10 +31,7 @@ use Rattle.gr_order.proofs.WaitLemmas.{adds_here, adds_none, trace_grows}
 
 -- the record is the event's, where it is taken
 pub there_at_once : (s : Streams) (g : ℕ) (x : Event) → ArePrefixes s → CanTake s g x → is_end x ≡ false → event_at (with_record s g x) (next_of s g x) ≡ Some x
-there_at_once s g x prefixes can on =
-    let own : ItemId = record { group = g; item = x.item } in
-    let longer : trace_of (with_record s g x) own ≡ trace_of s own ++ x ∷ [] = trace_grows s g x prefixes can own ∙ ap (λ l. trace_of s own ++ l) (adds_here g x on) in
-    ap (λ l. slice_get l (length (trace_of s own))) longer ∙ (ap (slice_get (trace_of s own ++ x ∷ [])) (omega arith) ∙ at_behind (trace_of s own) (x ∷ []) 0 x refl)
+there_at_once s g x prefixes can on = grind (arith, trace_grows s g x prefixes can (next_of s g x).at, adds_here g x on, at_behind (trace_of s (next_of s g x).at) (x ∷ []) 0 x refl)
 
 -- and each other event of its item was there
 pub others_at_once : (s : Streams) (g : ℕ) (x : Event) → ArePrefixes s → CanTake s g x → is_end x ≡ false → (d : EventId) → d.at ≡ (next_of s g x).at → IsEvent (with_record s g x) d → IsEvent s d ⊎ (d ≡ next_of s g x)
@@ -50,19 +46,11 @@ module _ {q : Sequence} {frontier : Counts} {windows : Table} {held : ℕ} (kept
 
   -- an event that waits is another of its item
   pub not_at_once : (y : Event) → slice_get (window_of windows e.at) 0 ≡ Some y → ¬ GoesAtOnce q g x
-  not_at_once y waits go =
-      let handled = go.first next refl (y, sym (first_waits q.taken frontier windows kept.waits next refl) ∙ waits) in
-      let below = (kept.state.first next).0 handled in
-      omega (arith, below)
+  not_at_once y waits go = grind (arith, go.first next refl, first_waits q.taken frontier windows kept.waits next refl, kept.state.first next)
 
   module _ (none : slice_get (window_of windows e.at) 0 ≡ None) where
     count_is : count_of frontier e.at ≡ length (trace_of q.taken e.at)
-    count_is =
-        let most = taken_first kept.state e.at in
-        let all : ¬ (count_of frontier e.at < length (trace_of q.taken e.at)) = λ lt.
-        let at = slice_get-get_or (trace_of q.taken e.at) (count_of frontier e.at) x lt in
-        let first = first_waits q.taken frontier windows kept.waits next refl in cc in
-        omega arith
+    count_is = grind (arith, taken_first kept.state e.at, slice_get-get_or (trace_of q.taken e.at) (count_of frontier e.at) x, first_waits q.taken frontier windows kept.waits next refl, none)
 
     -- nothing of the item waits
     pub goes_at_once : CanTake q.taken g x → IsMereAccess x → list_of q.taken g ≢ [] → GoesAtOnce q g x
@@ -84,27 +72,19 @@ module _ {q : Sequence} {frontier : Counts} {windows : Table} {held : ℕ} (kept
     abbrev more : Streams
     more = with_record q.taken g x
 
-    none_waits : window_of windows e.at ≡ []
-    none_waits = elim (window_of windows e.at) as (λ l. window_of windows e.at ≡ l → l ≡ []) [
-      | [] ↦ λ is. refl
-      | y ∷ l ↦ λ is. absurd (not_at_once y (ap (λ w. slice_get w 0) is) go)
-    ] refl
-
     pub count_at_once : count_of frontier e.at ≡ length (trace_of q.taken e.at)
-    count_at_once = count_is (ap (λ w. slice_get w 0) none_waits)
+    count_at_once =
+        let all : ¬ (count_of frontier e.at < length (trace_of q.taken e.at)) = λ lt.
+        let below = (kept.state.first next).0 (go.first next refl (get_or (trace_of q.taken e.at) (count_of frontier e.at) x, slice_get-get_or (trace_of q.taken e.at) (count_of frontier e.at) x lt)) in omega arith in
+        omega (arith, taken_first kept.state e.at)
 
     pub event_at_once : (index : ℕ) → index ≡ count_of frontier e.at → record { at = e.at; index = index } ≡ e
     event_at_once index same = same_event (record { at = e.at; index = index }) e refl (same ∙ count_at_once)
 
-    longer : trace_of more e.at ≡ trace_of q.taken e.at ++ x ∷ []
-    longer = trace_grows q.taken g x kept.state.sequence.prefixes go.can e.at ∙ ap (λ l. trace_of q.taken e.at ++ l) (adds_here g x go.access.ends)
-
-    lawful : IsLawful more q.handled
-    lawful = lawful_grows q.taken more (record_grows q.taken g x kept.state.sequence.prefixes go.can) q.handled kept.state.sequence.lawful
-
     -- the event is ready where the record was taken
     pub ready_at_once : IsReady more q.handled e
-    ready_at_once = ready_plain more q.handled lawful frontier kept.state.first e (sym count_at_once) x (there_at_once q.taken g x kept.state.sequence.prefixes go.can go.access.ends) go.access.barrier go.access.names
+    ready_at_once = ready_plain more q.handled (lawful_grows q.taken more (record_grows q.taken g x kept.state.sequence.prefixes go.can) q.handled kept.state.sequence.lawful) frontier kept.state.first e (sym count_at_once) x
+        (there_at_once q.taken g x kept.state.sequence.prefixes go.can go.access.ends) go.access.barrier go.access.names
 
     module _ (prefixes : ArePrefixes more) where
       -- the record was taken
@@ -115,24 +95,11 @@ module _ {q : Sequence} {frontier : Counts} {windows : Table} {held : ℕ} (kept
       count_can_grow = ready_can_count taken_state e ready_at_once
 
       module _ (new : Counts) (tick : IsTick frontier e.at new) (items : List EventId) (is : items ≡ q.handled ++ e ∷ []) where
-        -- and handled
-        after : IsOrderState (record { taken = more; handled = items }) new held
-        after = after_handle taken_state e ready_at_once new items held tick is refl
-
         still_waits : (i : ItemId) → window_of windows i ≡ drop (count_of new i) (trace_of more i)
-        still_waits i = ⊎_elim
-            (λ (same : i ≡ e.at). subst (λ j. window_of windows j ≡ drop (count_of new j) (trace_of more j)) (sym same)
-            (let counted = tick_more tick in
-            let size : length (trace_of more e.at) ≡ length (trace_of q.taken e.at) + 1 = ap length longer ∙ length_push (trace_of q.taken e.at) x in
-            none_waits ∙ sym (drop_of_length-le (trace_of more e.at) (omega (arith, counted, size, count_at_once)))))
-            (λ (apart : i ≡ e.at → ⊥).
-            let count = sym (tick_stays tick i (λ here. apart (sym here))) in
-            let trace : trace_of q.taken i ≡ trace_of more i = sym (trace_grows q.taken g x kept.state.sequence.prefixes go.can i ∙ (ap (λ l. trace_of q.taken i ++ l) (adds_none g x i apart) ∙ append-nil (trace_of q.taken i))) in
-            kept.waits.each i ∙ (ap (λ n. drop n (trace_of q.taken i)) count ∙ ap (drop (count_of new i)) trace))
-            (item_cases i e.at)
+        still_waits i = grind (arith, item_cases i e.at, tick_more tick, tick_stays tick i, trace_grows q.taken g x kept.state.sequence.prefixes go.can i, adds_here g x go.access.ends, adds_none g x i, append-nil (trace_of q.taken i), count_at_once, kept.waits.each i, drop_of_length-le (trace_of q.taken e.at), drop_of_length-le (trace_of more e.at), length_push (trace_of q.taken e.at) x)
 
         pub kept_at_once : (s : Streams) → s ≡ more → IsKept (record { taken = s; handled = items }) new windows held
-        kept_at_once s same = subst (λ (t : Streams). IsKept (record { taken = t; handled = items }) new windows held) (sym same) (record { state = after; waits = record { shape = kept.waits.shape; each = still_waits } })
+        kept_at_once s same = subst (λ (t : Streams). IsKept (record { taken = t; handled = items }) new windows held) (sym same) (record { state = after_handle taken_state e ready_at_once new items held tick is refl; waits = record { shape = kept.waits.shape; each = still_waits } })
 
     pub steps_at_once : (items : List EventId) → items ≡ q.handled ++ e ∷ [] → (s : Streams) → s ≡ more → HandlesEvent (taking q g x) e (record { taken = s; handled = items })
     steps_at_once items is s same = record { taken = same; handles = record { ready = ready_at_once; order = is } }

@@ -1,5 +1,5 @@
 -- The groups whose streams were cut, found one after the other.
-use Rattle.std.proofs.Common.{◌≡◌, ◌⊎◌, ℕ, ◌+◌, ◌<◌, ◌≤◌, List, [], ◌∷◌, ◌++◌, length, subst, inl, inr, ⊎_elim, arith, eq-or-lt_of_le}
+use Rattle.std.proofs.Common.{◌≡◌, ◌⊎◌, ℕ, ◌+◌, ◌<◌, ◌≤◌, List, [], ◌∷◌, ◌++◌, length, subst, inl, inr, ⊎_elim, arith}
 use Rattle.gr_model.specs.Reports.{Lists, IsCut}
 use Rattle.gr_model.specs.Streams.{Streams}
 use Rattle.gr_barriers.proofs.Lists.{listed_push, listed_same, none_listed}
@@ -17,7 +17,7 @@ module _ (s : Streams) where
 
   module _ (bound : ℕ) (groups : List ℕ) (below : CutBelow s bound groups) where
     earlier : (g : ℕ) → g < bound + 1 → (g < bound) ⊎ (g ≡ bound)
-    earlier g lt = ⊎_elim (λ same. inr same) (λ less. inl less) (eq-or-lt_of_le (let le : g ≤ bound = omega arith in le))
+    earlier g lt = grind arith
 
     pub one_more_cut : IsCut s bound → CutBelow s (bound + 1) (groups ++ bound ∷ [])
     one_more_cut cut = listed_push Above (λ g. (g < bound) × IsCut s g) (λ g. (g < bound + 1) × IsCut s g) groups bound below (λ g h. h.0) (omega arith, cut)

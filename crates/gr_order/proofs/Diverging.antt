@@ -1,5 +1,5 @@
 -- The divergent instances, found one after the other.
-use Rattle.std.proofs.Common.{◌≡◌, ◌⊎◌, ℕ, ◌+◌, ◌<◌, ◌≤◌, List, [], ◌∷◌, ◌++◌, length, filter, filter_map, None, slice_get, inl, inr, arith}
+use Rattle.std.proofs.Common.{◌≡◌, ℕ, ◌+◌, ◌<◌, ◌≤◌, List, [], ◌∷◌, ◌++◌, length, filter, filter_map, None, slice_get, arith}
 use Rattle.std.proofs.lemmas.Option.{gets, slice_get_past}
 use Rattle.gr_model.specs.declared.event.Event.{Event}
 use Rattle.gr_model.specs.declared.report.Divergence.{Divergence}
@@ -26,13 +26,10 @@ few_marks [] = omega arith
 few_marks (x ∷ xs) = grind (arith, few_marks xs)
 
 pub nobody_later : (s : Streams) (g k : ℕ) → NobodyCame (size_of s g) (arrivals s g k) → (n : ℕ) → k ≤ n → NobodyCame (size_of s g) (arrivals s g n)
-nobody_later s g k none n le i within = none_later (filter_map mark_of (trace_of s (record { group = g; item = i }))) k n le (none i within)
+nobody_later s g k none n le i within = grind (arith, none_later (filter_map mark_of (trace_of s (record { group = g; item = i }))) k n le, none i within)
 
 pub nobody_past : (s : Streams) (g k : ℕ) → length (list_of s g) ≤ k → (n : ℕ) → k ≤ n → NobodyCame (size_of s g) (arrivals s g n)
-nobody_past s g k past n le i within =
-    let marks = few_marks (filter (is_of i) (list_of s g)) in
-    let kept = length-filter_le (is_of i) (list_of s g) in
-    slice_get_past (filter_map mark_of (filter (is_of i) (list_of s g))) n (omega arith)
+nobody_past s g k past n le i within = grind (arith, few_marks (filter (is_of i) (list_of s g)), length-filter_le (is_of i) (list_of s g), slice_get_past)
 
 -- ---- the list
 
@@ -50,15 +47,7 @@ module _ (s : Streams) (g k : ℕ) (ds : List Divergence) (found : AreListedBefo
 -- those of the group that are forgotten are kept
 pub decided_found : (r : Remembered) → AreDecided r → (g : ℕ) (ds : List Divergence) → AreListedBefore (IsDivergence r.streams) g 0 ds → AreListedBefore (IsDivergence r.streams) g (forgotten_of r g) (ds ++ decided_of r g)
 decided_found r decided g ds found = listed_append DivergenceBelow (λ d. IsDivergence r.streams d × IsBefore g 0 d) (IsDecided r g) (λ d. IsDivergence r.streams d × IsBefore g (forgotten_of r g) d) ds (decided_of r g) found (decided.lists g)
-    (λ d e p q. inl (let lt : d.group < e.group = omega (arith, earlier d p.1, q.group) in lt))
-    (λ d p. (p.0, inl (earlier d p.1)))
-    (λ d q. (q.divergence, inr (q.group, q.below)))
-    (λ d p. by_case d p.0 p.1)
-  where
-    earlier : (d : Divergence) → IsBefore g 0 d → d.group < g
-    earlier d (inl lower) = lower
-    earlier d (inr here) = let over : d.instance < 0 = here.1 in absurd (omega arith)
-
-    by_case : (d : Divergence) → IsDivergence r.streams d → IsBefore g (forgotten_of r g) d → (IsDivergence r.streams d × IsBefore g 0 d) ⊎ IsDecided r g d
-    by_case d is (inl lower) = inl (is, inl lower)
-    by_case d is (inr here) = inr (record { divergence = is; group = here.0; below = here.1 })
+    (λ d e p q. grind arith)
+    (λ d p. grind arith)
+    (λ d q. grind arith)
+    (λ d p. grind arith)

@@ -41,10 +41,10 @@ pub whole_forgets : (r : Remembered) (frontier : Counts) → IsWhole r → IsFor
 whole_forgets r frontier whole = record {
   decided = record {
     groups = whole.groups;
-    came = λ g k below. absurd (let none = whole.forgotten g in omega (arith, below, none));
-    lists = λ g. subst (Lists DivergenceBelow (IsDecided r g)) (sym (whole.decided g)) (none_listed DivergenceBelow (IsDecided r g) (λ d is. let none = whole.forgotten g in let below = is.below in omega (arith, below, none)));
+    came = λ g k below. absurd (omega (arith, whole.forgotten g));
+    lists = λ g. rw (whole.decided g) (none_listed DivergenceBelow (IsDecided r g) (λ d is. omega (arith, is.below, whole.forgotten g)));
   };
-  handled = λ e k at below. absurd (let none = whole.forgotten e.at.group in omega (arith, below, none));
+  handled = λ e k at below. absurd (omega (arith, whole.forgotten e.at.group));
 }
 
 -- a barrier is one of an item that is there
@@ -59,7 +59,7 @@ came_place s g k i came within = let a = came.1 i within in filter_map-place mar
 
 module _ (old : Remembered) (t : Streams) (before after : Counts) (grows : Grows old.streams t) (prefixes : ArePrefixes t) (counts : AreMore before after) (was : IsForgetting old before) where
   decided_on : {g : ℕ} (d : Divergence) → IsDecided old g d → IsDivergence t d
-  decided_on d is = divergence_stays old.streams t grows d.group d.instance (was.decided.came d.group d.instance (rw is.group is.below)) d.cause is.divergence
+  decided_on d is = grind (arith, divergence_stays old.streams t grows d.group d.instance, was.decided.came d.group d.instance, is)
 
   decided_was : {g : ℕ} (d : Divergence) → d.group ≡ g → d.instance < forgotten_of old g → IsDivergence t d → IsDivergence old.streams d
   decided_was d group below is = divergence_was old.streams t grows d.group d.instance (was.decided.came d.group d.instance (rw group below)) d.cause is
@@ -73,15 +73,10 @@ module _ (old : Remembered) (t : Streams) (before after : Counts) (grows : Grows
   handled_on : (e : EventId) (k : ℕ) → place_of t is_barrier e.at k ≡ Some e.index → k < forgotten_of old e.at.group → e.index < count_of after e.at
   handled_on e k at below =
       let came = was.decided.came e.at.group k below in
-      let size = size_stays old.streams t grows e.at.group k came in
-      let item = barrier_item t prefixes e k at in
-      let stood = came_place old.streams e.at.group k e.at.item came (omega (arith, item, size)) in
-      let b : EventId = record { at = e.at; index = stood.0 } in
-      let stands = stands_grows old.streams t grows b e.at.group k (record { group = refl; item = omega (arith, item, size); place = stood.1 }) in
-      let same : stood.0 ≡ e.index = (let both : Some stood.0 ≡ Some e.index = sym stands.place ∙ at in cc) in
-      let counted = was.handled b k stood.1 below in
-      let more = counts e.at in
-      omega (arith, counted, same, more)
+      let within : e.at.item < size_of old.streams e.at.group = omega (arith, barrier_item t prefixes e k at, size_stays old.streams t grows e.at.group k came) in
+      let stood = came_place old.streams e.at.group k e.at.item came within in
+      let stands = stands_grows old.streams t grows (record { at = e.at; index = stood.0 }) e.at.group k (record { group = refl; item = within; place = stood.1 }) in
+      grind (arith, stands.place, was.handled (record { at = e.at; index = stood.0 }) k stood.1 below, counts e.at)
 
   -- what was forgotten of the streams before is forgotten of those behind
   pub forgets_grown : length t.sizes ≡ length old.streams.sizes → IsForgetting (remembering old t) after
@@ -163,14 +158,6 @@ pub passed_came : (s : Streams) (frontier : Counts) (g k : ℕ) → HaveAllPasse
 passed_came s frontier g k passed =
     (passed.0, λ i lt. let mine = passed.1 i lt in place-filter_map mark_of 0 (trace_of s (record { group = g; item = i })) k mine.0 mine.1)
 
--- one of these counts is greater by one
-module _ (counts : List ℕ) (g : ℕ) (there : g < length counts) where
-  raised_cases : (h k : ℕ) → k < get_or (set counts g (get_or counts g 0 + 1)) h 0 → (k < get_or counts h 0) ⊎ ((h ≡ g) × (k ≡ get_or counts g 0))
-  raised_cases h k below = grind (arith, get_or-set_same, get_or-set_other)
-
-  raised_most : (h k : ℕ) → k < get_or counts h 0 → k < get_or (set counts g (get_or counts g 0 + 1)) h 0
-  raised_most h k below = grind (arith, get_or-set_same, get_or-set_other)
-
 module _ (old : Remembered) (prefixes : ArePrefixes old.streams) (frontier : Counts) (was : IsForgetting old frontier) (g : ℕ) (passed : HaveAllPassed old.streams frontier g (forgotten_of old g)) where
   abbrev least : ℕ
   least = forgotten_of old g
@@ -186,10 +173,10 @@ module _ (old : Remembered) (prefixes : ArePrefixes old.streams) (frontier : Cou
 
   -- below the new count: one that was forgotten, or the least that was remembered
   below_cases : (h k : ℕ) → k < get_or counts h 0 → (k < forgotten_of old h) ⊎ ((h ≡ g) × (k ≡ least))
-  below_cases = raised_cases old.forgotten g (omega (arith, within, was.decided.groups.forgotten))
+  below_cases h k below = grind (arith, get_or-set_same, get_or-set_other, within, was.decided.groups.forgotten)
 
   still_below : (h k : ℕ) → k < forgotten_of old h → k < get_or counts h 0
-  still_below = raised_most old.forgotten g (omega (arith, within, was.decided.groups.forgotten))
+  still_below h k below = grind (arith, get_or-set_same, get_or-set_other, within, was.decided.groups.forgotten)
 
   all_came : HaveAllCome old.streams g least
   all_came = passed_came old.streams frontier g least passed
@@ -198,16 +185,7 @@ module _ (old : Remembered) (prefixes : ArePrefixes old.streams) (frontier : Cou
   came_more h k below = ⊎_elim (was.decided.came h k) (λ (last : (h ≡ g) × (k ≡ least)). rw (last.0, last.1) all_came) (below_cases h k below)
 
   handled_more : (e : EventId) (k : ℕ) → place_of old.streams is_barrier e.at k ≡ Some e.index → k < get_or counts e.at.group 0 → e.index < count_of frontier e.at
-  handled_more e k at below = ⊎_elim (λ (lt : k < forgotten_of old e.at.group). was.handled e k at lt) (λ (last : (e.at.group ≡ g) × (k ≡ least)). counted last.0 last.1) (below_cases e.at.group k below)
-    where
-      counted : e.at.group ≡ g → k ≡ least → e.index < count_of frontier e.at
-      counted group number =
-          let item = rw group at (barrier_item old.streams prefixes e k at) in
-          let same : item_of g e.at.item ≡ e.at = λ d. record { group = sym group d; item = e.at.item } in
-          let mine = subst (λ (i : ItemId). (p : ℕ) × (place_of old.streams is_barrier i least ≡ Some p) × (p < count_of frontier i)) same (passed.1 e.at.item item) in
-          let index : mine.0 ≡ e.index = (let both : Some mine.0 ≡ Some e.index = sym mine.1 ∙ (ap (place_of old.streams is_barrier e.at) (sym number) ∙ at) in cc) in
-          let below_count = mine.2 in
-          omega (arith, index, below_count)
+  handled_more e k at below = grind (arith, below_cases e.at.group k below, was.handled e k at, barrier_item old.streams prefixes e k at, passed.1 e.at.item)
 
   abbrev more : List (List Divergence) → Remembered
   more lists = record { streams = old.streams; forgotten = counts; decided = lists }
@@ -247,22 +225,16 @@ module _ (old : Remembered) (prefixes : ArePrefixes old.streams) (frontier : Cou
 
     is_this : (e : Divergence) → IsDivergence old.streams e → e.group ≡ g → e.instance ≡ least → e ≡ d
     is_this e is_too group_too instance_too =
-        let same_group : e.group ≡ d.group = group_too ∙ sym group in
-        let same_instance : e.instance ≡ d.instance = instance_too ∙ sym instance in
-        let s = old.streams in
-        let cause = rw (same_group, same_instance) at is_too.cause in
-        let same : e.cause ≡ d.cause = one_cause (is_complete (list_of s d.group)) (size_of s d.group) (arrivals s d.group d.instance) e.cause d.cause cause is.cause in
-        λ i. record { group = same_group i; instance = same_instance i; cause = same i }
+        let both : (e.group ≡ d.group) × (e.instance ≡ d.instance) = (group_too ∙ sym group, instance_too ∙ sym instance) in
+        let same : e.cause ≡ d.cause = one_cause (is_complete (list_of old.streams d.group)) (size_of old.streams d.group) (arrivals old.streams d.group d.instance) e.cause d.cause (rw (both.0, both.1) at is_too.cause) is.cause in
+        λ i. record { group = both.0 i; instance = both.1 i; cause = same i }
 
     lists_here : Lists DivergenceBelow (IsDecided kept g) (decided_of old g ++ d ∷ [])
     lists_here = listed_push DivergenceBelow (IsDecided old g) (IsDecided kept g) (decided_of old g) d (was.decided.lists g)
-        (λ e is_old. inr (is_old.group ∙ sym group, (let below = is_old.below in let lt : e.instance < d.instance = omega (arith, below, instance) in lt)))
+        (λ e is_old. grind (arith, is_old, group, instance))
         (record { divergence = is; group = group; below = omega (arith, instance, one_more) })
         (λ e is_old. record { divergence = is_old.divergence; group = is_old.group; below = still_below g e.instance is_old.below })
-        (λ e is_new. ⊎_elim
-        (λ (lt : e.instance < forgotten_of old g). inl (record { divergence = is_new.divergence; group = is_new.group; below = lt }))
-        (λ (last : (g ≡ g) × (e.instance ≡ least)). inr (is_this e is_new.divergence is_new.group last.1))
-        (below_cases g e.instance is_new.below))
+        (λ e is_new. grind (arith, below_cases g e.instance is_new.below, is_this e, is_new))
 
     lists_kept : (h : ℕ) → Lists DivergenceBelow (IsDecided kept h) (decided_of kept h)
     lists_kept h = ⊎_elim
@@ -286,15 +258,12 @@ forgets_passed old prefixes frontier was g new (inr passed) = forgets_least old 
 
 -- the streams stay
 pub passed_streams : (old new : Remembered) (frontier : Counts) (g : ℕ) → ForgetsPassed old frontier g new → new.streams ≡ old.streams
-passed_streams old new frontier g (inl same) = ap (λ (r : Remembered). r.streams) same
-passed_streams old new frontier g (inr (passed, inl plain)) = ap (λ (r : Remembered). r.streams) plain.0
-passed_streams old new frontier g (inr (passed, inr divergent)) = ap (λ (r : Remembered). r.streams) divergent.1
+passed_streams old new frontier g passed = grind arith
 
 -- ---- an instance meets
 
 pub forgets_streams : (old new : Remembered) (frontier : Counts) (g : ℕ) → ForgetsNext old frontier g new → new.streams ≡ old.streams
-forgets_streams old new frontier g (inl same) = ap (λ (r : Remembered). r.streams) same
-forgets_streams old new frontier g (inr next) = ap (λ (r : Remembered). r.streams) next.0
+forgets_streams old new frontier g next = grind arith
 
 -- the least one remembered is the next one, where the first item's next event is its barrier of that number
 pub least_is_next : (s : Streams) (frontier : Counts) (g k least : ℕ) → IsNextInstance s frontier g k → place_of s is_barrier (record { group = g; item = 0 }) least ≡ Some (count_of frontier (record { group = g; item = 0 })) → IsNextInstance s frontier g least

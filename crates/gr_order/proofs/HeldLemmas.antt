@@ -1,9 +1,9 @@
 -- What was taken is handled or held, and what is ready is held.
-use Rattle.std.proofs.Common.{◌≡◌, ◌≢◌, ℕ, ◌+◌, ◌-◌, ◌<◌, ◌≤◌, Bool, cond, length, refl, sym, ap, subst, ⊎_elim, arith}
+use Rattle.std.proofs.Common.{◌≡◌, ◌≢◌, ℕ, ◌+◌, ◌-◌, ◌<◌, ◌≤◌, cond, length, refl, sym, subst, arith}
 use Rattle.std.proofs.lemmas.Grind.{common_steps}
 use Rattle.std.specs.List.{sum_by}
 use Rattle.std.specs.Prelude.{◌==◌}
-use Rattle.std.proofs.lemmas.Bool.{cases_eq, cases_lt, eq-eqb, ne_eqb}
+use Rattle.std.proofs.lemmas.Bool.Decides.{nat_tests}
 use Rattle.std.proofs.lemmas.Option.{slice_get_within}
 use Rattle.gr_model.specs.declared.event.EventId.{EventId}
 use Rattle.gr_model.specs.declared.event.ItemId.{ItemId}
@@ -32,22 +32,10 @@ module _ {q : Sequence} {frontier : Counts} {held : ℕ} (state : IsOrderState q
 
   -- no more events of an item are handled than were taken
   pub taken_first : (i : ItemId) → counts i ≤ traces i
-  taken_first i = ⊎_elim (λ over. absurd (past over)) (λ le. le) (cases_lt (traces i) (counts i))
-    where
-      past : traces i < counts i → ⊥
-      past over =
-          let e : EventId = record { at = i; index = traces i } in
-          let there = (state.first e).1 over in
-          let event = (state.sequence.lawful.event there.0 e there.1).0 in
-          let within : traces i < traces i = slice_get_within (trace_of q.taken i) (traces i) event.0 event.1 in
-          omega arith
+  taken_first i = grind (arith, common_steps, state.first (record { at = i; index = traces i }), state.sequence.lawful.event, slice_get_within)
 
   held_sum : held ≡ sum_by (λ i. traces i - counts i) (items_of q.taken.sizes)
-  held_sum =
-      let sum = items_at_most counts traces q.taken.sizes (λ i there. taken_first i) in
-      let taken = taken_events q.taken state.sequence.prefixes in
-      let handled = state.counts in
-      let rest = state.rest in omega arith
+  held_sum = omega (arith, items_at_most counts traces q.taken.sizes (λ i there. taken_first i), taken_events q.taken state.sequence.prefixes, state.counts, state.rest)
 
   pub held_most : held ≤ 1099494850560
   held_most = let most = events_most q.taken state.sequence.prefixes in let rest = state.rest in omega arith
@@ -58,11 +46,7 @@ module _ {q : Sequence} {frontier : Counts} {held : ℕ} (state : IsOrderState q
 
   -- n events more that were taken are held
   are_held : (more : ItemId → ℕ) (n : ℕ) → ((i : ItemId) → HasItem q.taken.sizes i → more i ≤ traces i) → sum_by more (items_of q.taken.sizes) ≡ sum_by counts (items_of q.taken.sizes) + n → n ≤ held
-  are_held more n within sum =
-      let most = items_at_most more traces q.taken.sizes within in
-      let taken = taken_events q.taken state.sequence.prefixes in
-      let handled = state.counts in
-      let rest = state.rest in omega arith
+  are_held more n within sum = omega (arith, items_at_most more traces q.taken.sizes within, taken_events q.taken state.sequence.prefixes, state.counts, state.rest)
 
   -- an event that is ready
   module _ (e : EventId) (ready : IsReady q.taken q.handled e) where
@@ -79,37 +63,17 @@ module _ {q : Sequence} {frontier : Counts} {held : ℕ} (state : IsOrderState q
     ready_can_count full = grind (arith, common_steps, trace_most, ready_item, index_is, is_taken)
 
     pub ready_is_held : 1 ≤ held
-    ready_is_held =
-        are_held (λ j. counts j + tick_at e.at j) 1
-        (λ j has. ⊎_elim
-        (λ (here : e.at ≡ j). subst (λ (i : ItemId). counts i + tick_at e.at i ≤ traces i) here (let one = tick_here e.at e.at refl in let index = index_is in let taken = is_taken in omega arith))
-        (λ (apart : e.at ≡ j → ⊥). let none = tick_there e.at j apart in let first = taken_first j in omega arith)
-        (item_cases e.at j))
-        (item_more counts (λ j. counts j + tick_at e.at j) q.taken.sizes e.at ready_item
-        (let one = tick_here e.at e.at refl in omega arith)
-        (λ j apart. let none = tick_there e.at j apart in omega arith))
+    ready_is_held = are_held (λ j. counts j + tick_at e.at j) 1 (λ j has. grind (arith, item_cases e.at j, tick_here, tick_there, index_is, is_taken, taken_first j))
+        (item_more counts (λ j. counts j + tick_at e.at j) q.taken.sizes e.at ready_item (omega (arith, tick_here e.at e.at refl)) (λ j apart. omega (arith, tick_there e.at j apart)))
 
   -- the next events of a group
   module _ (g : ℕ) (there : g < length q.taken.sizes) (next : (k : ℕ) → k < size_of q.taken g → counts (item_of g k) < traces (item_of g k)) where
     abbrev one_of : ItemId → ℕ
     one_of j = cond (j.group == g) 1 0
 
-    one_here : (j : ItemId) → j.group ≡ g → one_of j ≡ 1
-    one_here j here = ap (λ (b : Bool). cond b 1 0) (eq-eqb j.group g here)
-
-    none_there : (j : ItemId) → (j.group ≡ g → ⊥) → one_of j ≡ 0
-    none_there j apart = ap (λ (b : Bool). cond b 1 0) (ne_eqb j.group g apart)
-
     is_next : (j : ItemId) → HasItem q.taken.sizes j → j.group ≡ g → counts j < traces j
     is_next j has here = grind (arith, common_steps)
 
     pub group_is_held : size_of q.taken g ≤ held
-    group_is_held =
-        are_held (λ j. counts j + one_of j) (size_of q.taken g)
-        (λ j has. ⊎_elim
-        (λ (here : j.group ≡ g). let one = one_here j here in let taken = is_next j has here in omega arith)
-        (λ (apart : j.group ≡ g → ⊥). let none = none_there j apart in let first = taken_first j in omega arith)
-        (cases_eq j.group g))
-        (group_more counts (λ j. counts j + one_of j) q.taken.sizes g there
-        (λ k lt. let one = one_here (item_of g k) refl in omega arith)
-        (λ j apart. let none = none_there j apart in omega arith))
+    group_is_held = are_held (λ j. counts j + one_of j) (size_of q.taken g) (λ j has. grind (arith, nat_tests, is_next j has, taken_first j))
+        (group_more counts (λ j. counts j + one_of j) q.taken.sizes g there (λ k lt. grind (arith, nat_tests)) (λ j apart. grind (arith, nat_tests)))

@@ -1,8 +1,7 @@
 -- The next instance of a group, by the next events of its items.
-use Rattle.std.proofs.Common.{◌≡◌, ℕ, ◌<◌, ◌≤◌, List, Some, None, Option, slice_get, is_some, true, length, refl, sym, ap, ◌∙◌, subst, ⊎_elim, arith, eq-or-lt_of_le}
+use Rattle.std.proofs.Common.{◌≡◌, ℕ, ◌<◌, ◌≤◌, List, Some, None, Option, is_some, true, length, refl, ap, ◌∙◌, subst, arith}
 use Rattle.std.proofs.lemmas.Grind.{common_steps}
 use Rattle.std.specs.Prelude.{MatchOption}
-use Rattle.std.proofs.lemmas.Bool.{cases_lt}
 use Rattle.std.proofs.lemmas.List.{get_or_past}
 use Rattle.gr_model.specs.declared.event.Event.{Event}
 use Rattle.gr_model.specs.declared.event.EventId.{EventId}
@@ -13,7 +12,7 @@ use Rattle.gr_model.specs.Streams.{ArePrefixes, Streams, event_at, place_of, siz
 use Rattle.gr_clocks.specs.Counts.{Counts, count_of}
 use Rattle.gr_steps.specs.Steps.{CanMeet, IsMeeting}
 use Rattle.gr_steps.proofs.BarrierPlaces.{barrier_of, places_from-once, stands_before}
-use Rattle.gr_steps.proofs.Orders.{number_before}
+use Rattle.gr_steps.proofs.Orders.{previous_of}
 use Rattle.gr_lanes.proofs.InstanceLemmas.{barrier_mark}
 use Rattle.gr_lanes.specs.Instances.{HasCome}
 use Rattle.gr_order.specs.Readiness.{IsNextInstance, StandsNext}
@@ -30,11 +29,7 @@ next_of frontier i = record { at = i; index = count_of frontier i }
 module _ (s : Streams) (frontier : Counts) (g : ℕ) where
   -- the first item's next event is there, and is a barrier of that number
   pub first_there : (k : ℕ) → IsNextInstance s frontier g k → event_at s (next_of frontier (item_at g 0)) ≡ None → ⊥
-  first_there k h none =
-      let stands = h.each 0 h.some in
-      let there = barrier_mark 0 (trace_of s (item_at g 0)) k (count_of frontier (item_at g 0)) stands.place in
-      let place : count_of frontier (item_at g 0) ≡ there.0 = omega (arith, there.2) in
-      let clash : None ≡ Some there.1 = sym none ∙ (ap (slice_get (trace_of s (item_at g 0))) place ∙ there.3) in cc
+  first_there k h none = grind (arith, h.each 0 h.some, barrier_mark 0 (trace_of s (item_at g 0)) k (count_of frontier (item_at g 0)))
 
   pub first_numbered : ((k : ℕ) → place_of s is_barrier (item_at g 0) k ≡ Some (count_of frontier (item_at g 0)) → ⊥) → (k : ℕ) → IsNextInstance s frontier g k → ⊥
   first_numbered none k h = none k (h.each 0 h.some).place
@@ -47,21 +42,13 @@ module _ (s : Streams) (frontier : Counts) (g : ℕ) where
     is_mark = come.barrier
 
     first_mark : arrivals s g number 0 ≡ mark_of x
-    first_mark =
-        let there = barrier_mark 0 (trace_of s (item_at g 0)) number (count_of frontier (item_at g 0)) place in
-        let index : count_of frontier (item_at g 0) ≡ there.0 = omega (arith, there.2) in
-        let same : there.1 ≡ x = let is : Some there.1 ≡ Some x = sym there.3 ∙ (ap (slice_get (trace_of s (item_at g 0))) (sym index) ∙ at) in cc in
-        there.4 ∙ ap mark_of same
+    first_mark = grind (arith, barrier_mark 0 (trace_of s (item_at g 0)) number (count_of frontier (item_at g 0)) place, at)
 
     pub next_if : (m : Mark) → mark_of x ≡ Some m → 0 < size_of s g → ((i : ℕ) → i < size_of s g → StandsNext s frontier g number (mark_of x) i) → IsNextInstance s frontier g number
     next_if m is some all = record { mark = m; some = some; each = λ i lt. subst (λ o. StandsNext s frontier g number o i) is (all i lt) }
 
     pub next_only : (k : ℕ) → IsNextInstance s frontier g k → (i : ℕ) → i < size_of s g → StandsNext s frontier g number (mark_of x) i
-    next_only k h =
-        let first_stands = h.each 0 h.some in
-        let same : k ≡ number = places_from-once is_barrier 0 (trace_of s (item_at g 0)) (count_of frontier (item_at g 0)) k number first_stands.place place in
-        let mark : Some h.mark ≡ mark_of x = sym first_stands.mark ∙ (ap (λ n. arrivals s g n 0) same ∙ first_mark) in
-        λ i lt. subst (λ n. StandsNext s frontier g n (mark_of x) i) same (subst (λ o. StandsNext s frontier g k o i) mark (h.each i lt))
+    next_only k h i lt = grind (arith, h.each 0 h.some, h.each i lt, first_mark, places_from-once is_barrier 0 (trace_of s (item_at g 0)) (count_of frontier (item_at g 0)) k number)
 
 -- ---- that instance is the one that may meet
 
@@ -95,13 +82,7 @@ module _ (s : Streams) (order : List EventId) (frontier : Counts) (first_ones : 
   meets_next k a meeting = record { mark = a; some = meeting.convergent.0; each = λ i lt. record { place = place i lt; mark = meeting.convergent.1 i lt } }
     where
       index_of_barrier : (b : EventId) → StandsIn s b g k → b.index ≡ count_of frontier b.at
-      index_of_barrier b stands = ⊎_elim
-          (λ (lt : b.index < count_of frontier b.at). absurd (meeting.fresh (b, stands, (first_ones b).1 lt)))
-          (λ (ge : count_of frontier b.at ≤ b.index). ⊎_elim (λ (same : count_of frontier b.at ≡ b.index). sym same) (λ (lt : count_of frontier b.at < b.index).
-          absurd (let n = number_before b.index (omega arith) in
-          let d : EventId = record { at = b.at; index = n.0 } in
-          let there = (first_ones d).0 (meeting.before b d stands (record { item = refl; next = n.1 })) in omega (arith, n.1, there))) (eq-or-lt_of_le ge))
-          (cases_lt b.index (count_of frontier b.at))
+      index_of_barrier b stands = grind (arith, meeting.fresh, meeting.before b, first_ones, previous_of b (count_of frontier b.at))
 
       place : (i : ℕ) → i < size_of s g → place_of s is_barrier (item_at g i) k ≡ Some (count_of frontier (item_at g i))
       place i lt =
@@ -122,9 +103,7 @@ module _ (s : Streams) (order : List EventId) (frontier : Counts) (first_ones : 
     is_numbered none = first_numbered s frontier g none can.0 next
 
     pub numbered_meets : (number : ℕ) → place_of s is_barrier (item_at g 0) number ≡ Some (count_of frontier (item_at g 0)) → (a : Mark) × IsMeeting s order g number a
-    numbered_meets number place =
-        let same : can.0 ≡ number = places_from-once is_barrier 0 (trace_of s (item_at g 0)) (count_of frontier (item_at g 0)) can.0 number (next.each 0 next.some).place place in
-        subst (λ k. (a : Mark) × IsMeeting s order g k a) same (can.1, can.2)
+    numbered_meets number place = grind (arith, can, next.each 0 next.some, places_from-once is_barrier 0 (trace_of s (item_at g 0)) (count_of frontier (item_at g 0)) can.0 number)
 
 pub no_group_meets : (s : Streams) (order : List EventId) (g : ℕ) → length s.sizes ≤ g → ¬ CanMeet s order g
-no_group_meets s order g past can = let some = can.2.convergent.0 in let none : size_of s g ≡ 0 = get_or_past s.sizes g 0 past in omega arith
+no_group_meets s order g past can = grind (arith, can.2.convergent.0, get_or_past s.sizes g 0 past)

@@ -1,5 +1,5 @@
 -- An order stays one where the next events of a group's items are handled, as an instance meets.
-use Rattle.std.proofs.Common.{◌≡◌, ℕ, ◌+◌, ◌<◌, ◌≤◌, List, ◌++◌, ◌∷◌, [], append_assoc, length, Some, slice_get, refl, sym, ap, ◌∙◌, subst, inl, inr, ⊎_elim, arith}
+use Rattle.std.proofs.Common.{◌≡◌, ℕ, ◌+◌, ◌<◌, ◌≤◌, List, ◌++◌, ◌∷◌, [], append_assoc, length, Some, slice_get, refl, sym, ap, ◌∙◌, subst, inl, inr, arith}
 use Rattle.std.proofs.lemmas.Grind.{common_steps}
 use Rattle.std.proofs.lemmas.Bool.{cases_eq}
 use Rattle.std.proofs.lemmas.List.{length-append}
@@ -14,7 +14,7 @@ use Rattle.gr_model.proofs.Places.{slice_get-append}
 use Rattle.gr_model.proofs.Cuts.{same_event}
 use Rattle.gr_clocks.specs.declared.clock.TheConstants.{LARGEST_COUNT}
 use Rattle.gr_clocks.specs.Counts.{Counts, IsTick, count_of}
-use Rattle.gr_clocks.specs.Tables.{IsBeyond, item_of}
+use Rattle.gr_clocks.specs.Tables.{item_of}
 use Rattle.gr_steps.specs.Steps.{AreBarriers, CanMeet}
 use Rattle.gr_steps.proofs.Meeting.{lawful_meet}
 use Rattle.gr_steps.proofs.Orders.{at_behind, split_last}
@@ -48,16 +48,9 @@ module _ (old now : Counts) (g n : ℕ) (ticks : TicksItems old g n now) where
   pub one_tick_more : (new : Counts) → IsTick now (item_of g n) new → TicksItems old g (n + 1) new
   one_tick_more new tick = record {
     shape = tick.shape ∙ ticks.shape;
-    items = λ k lt. ⊎_elim
-        (λ (here : k ≡ n). rw here (tick_more tick ∙ ap (λ m. m + 1) item_waits))
-        (λ (apart : k ≡ n → ⊥). tick_stays tick (item_of g k) (λ same. apart (ap (λ (i : ItemId). i.item) (sym same))) ∙ ticks.items k (omega arith))
-        (cases_eq k n);
-    others = λ j beyond. tick_stays tick j (λ same. is_beyond j same beyond) ∙ ticks.others j (⊎_elim (λ group. inl group) (λ (past : n + 1 ≤ j.item). inr (omega arith)) beyond);
+    items = λ k lt. grind (arith, cases_eq k n, tick_more tick, tick_stays tick (item_of g k), item_waits, ticks.items k);
+    others = λ j beyond. grind (arith, tick_stays tick j, ticks.others j);
   }
-    where
-      is_beyond : (j : ItemId) → item_of g n ≡ j → IsBeyond g (n + 1) j → ⊥
-      is_beyond j same (inl group) = group (ap (λ (i : ItemId). i.group) (sym same))
-      is_beyond j same (inr past) = let item : n ≡ j.item = ap (λ (i : ItemId). i.item) same in omega arith
 
 -- ---- what stands among the next events
 
@@ -66,11 +59,7 @@ module _ (frontier : Counts) (g n : ℕ) where
   next_count = length-map-range_with_len (λ k. next_event frontier (item_of g k)) 0 n
 
   next_is : (i : ℕ) (b : EventId) → slice_get (next_events frontier g n) i ≡ Some b → (i < n) × (b ≡ next_event frontier (item_of g i))
-  next_is i b at =
-      let within : i < n = subst (λ l. i < l) next_count (slice_get_within (next_events frontier g n) i b at) in (
-        within,
-        sym (get_or_from_slice_get (next_events frontier g n) i b b at) ∙ get_or-map-range_with_len (λ k. next_event frontier (item_of g k)) 0 n i i b within (omega arith),
-      )
+  next_is i b at = grind (arith, next_count, slice_get_within (next_events frontier g n) i b at, get_or_from_slice_get (next_events frontier g n) i b b at, get_or-map-range_with_len (λ k. next_event frontier (item_of g k)) 0 n i i b)
 
   next_at : (i : ℕ) → i < n → slice_get (next_events frontier g n) i ≡ Some (next_event frontier (item_of g i))
   next_at i lt = grind (arith, gets, next_count, next_is i)
@@ -82,13 +71,13 @@ module _ (frontier : Counts) (g n : ℕ) where
     count_here j here lt = grind (arith, common_steps)
 
     grows : (j : ItemId) → count_of frontier j ≤ count_of new j
-    grows j = ⊎_elim (λ (here : (j.group ≡ g) × (j.item < n)). let now = count_here j here.0 here.1 in omega arith) (λ (beyond : IsBeyond g n j). let same = ticks.others j beyond in omega arith) (within_or_beyond g n j)
+    grows j = grind (arith, within_or_beyond g n j, count_here j, ticks.others j)
 
     counted : (e : EventId) → IsIn (order ++ next_events frontier g n) e → e.index < count_of new e.at
     counted e (p, at) = grind (arith, split_last, grows, next_is, ticks.items)
 
     was_there : (e : EventId) → e.index < count_of frontier e.at → IsIn (order ++ next_events frontier g n) e
-    was_there e lt = let there = (first e).1 lt in (there.0, slice_get-append order (next_events frontier g n) there.0 e there.1)
+    was_there e lt = grind (arith, first e, slice_get-append)
 
     is_next : (e : EventId) → e.at.group ≡ g → e.at.item < n → e.index ≡ count_of frontier e.at → IsIn (order ++ next_events frontier g n) e
     is_next e here lt index =
@@ -115,7 +104,7 @@ module _ {q : Sequence} {frontier : Counts} {held : ℕ} (state : IsOrderState q
   below_trace i lt = grind (arith, common_steps, barrier_mark, next, slice_get_within)
 
   pub below_largest : (i : ℕ) → i < size_of q.taken g → count_of frontier (item_of g i) < LARGEST_COUNT
-  below_largest i lt = let below = below_trace i lt in let most = trace_most q.taken state.sequence.prefixes (item_of g i) group_there in omega arith
+  below_largest i lt = omega (arith, below_trace i lt, trace_most q.taken state.sequence.prefixes (item_of g i) group_there)
 
   pub barriers_are_held : size_of q.taken g ≤ held
   barriers_are_held = group_is_held state g group_there below_trace

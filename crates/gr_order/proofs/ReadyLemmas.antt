@@ -1,10 +1,10 @@
 -- Instances and releases, by what is looked at.
-use Rattle.std.proofs.Common.{Contains, ◌≡◌, ℕ, ◌<◌, true, false, true≢false, List, [], Some, None, slice_get, is_some, refl, sym, ap, ◌∙◌, subst, arith, option_and_then}
+use Rattle.std.proofs.Common.{Contains, ◌≡◌, ℕ, ◌<◌, false, true≢false, List, [], Some, None, refl, sym, ap, ◌∙◌, subst, arith, option_and_then}
 use Rattle.std.proofs.lemmas.Grind.{common_steps}
 use Rattle.std.specs.Prelude.{All}
 use Rattle.std.proofs.lemmas.List.Elements.{All-contains, All-contains_itself, All-weaker}
 use Rattle.gr_model.specs.declared.event.Event.{Event}
-use Rattle.gr_model.specs.Barriers.{IsDivergent, StandsIn, is_barrier, mark_of}
+use Rattle.gr_model.specs.Barriers.{IsDivergent, StandsIn, is_barrier}
 use Rattle.gr_model.specs.declared.event.ItemId.{ItemId}
 use Rattle.gr_model.specs.declared.event.Name.{Name}
 use Rattle.gr_model.specs.Access.{event_word}
@@ -28,15 +28,12 @@ use Rattle.gr_order.specs.States.{AreBelowFrontier}
 module _ (s : Streams) (prefixes : ArePrefixes s) (e : EventId) (x : Event) (at : event_at s e ≡ Some x) where
   -- a barrier has come to its instance
   pub come_of : (k : ℕ) → place_of s is_barrier e.at k ≡ Some e.index → HasCome s e.at.group k x
-  come_of k place =
-      let h = barrier_mark 0 (trace_of s e.at) k e.index place in
-      let index : e.index ≡ h.0 = omega (arith, h.2) in
-      let same : h.1 ≡ x = let is : Some h.1 ≡ Some x = sym h.3 ∙ (ap (slice_get (trace_of s e.at)) (sym index) ∙ at) in cc in record {
-        item = e.at.item;
-        within = item_of_event s prefixes e x at;
-        barrier = subst (λ y. is_some (mark_of y) ≡ true) same h.5;
-        came = h.4 ∙ ap mark_of same;
-      }
+  come_of k place = let h = barrier_mark 0 (trace_of s e.at) k e.index place in record {
+    item = e.at.item;
+    within = item_of_event s prefixes e x at;
+    barrier = grind (arith, h, at);
+    came = grind (arith, h, at);
+  }
 
   pub stands_there : (k : ℕ) → place_of s is_barrier e.at k ≡ Some e.index → StandsIn s e e.at.group k
   stands_there k place = record { group = refl; item = item_of_event s prefixes e x at; place = place }
@@ -69,7 +66,7 @@ module _ (s : Streams) (order : List EventId) (lawful : IsLawful s order) (front
       subst (IsReady s order) (same_event d e item index) ready
 
   pub none_next : event_at s e ≡ None → ¬ CanHandle s order e.at
-  none_next none can = let there = (only_next can).event in let clash : None ≡ Some there.0 = sym none ∙ there.1 in cc
+  none_next none can = grind (arith, only_next can, none)
 
   module _ (x : Event) (at : event_at s e ≡ Some x) where
     named : (n : Name) → HasName s e n → Contains x.names n

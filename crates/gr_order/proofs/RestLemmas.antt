@@ -1,7 +1,7 @@
 -- No step is left where none is left in any group.
-use Rattle.std.proofs.Common.{ℕ, ◌↔◌, ◌<◌, ◌≤◌, length, refl, sym, subst, ⊎_elim, ◌≡◌, Bool, true, false, true≢false, not, IsTrue, Option, Some, None, is_some}
+use Rattle.std.proofs.Common.{arith, ℕ, ◌↔◌, ◌<◌, ◌≤◌, length, sym, subst, ⊎_elim, ◌≡◌, Bool, not, IsTrue, Option, is_some}
 use Rattle.std.specs.Prelude.{MatchOption}
-use Rattle.std.proofs.lemmas.Bool.{cases_lt, false≢true}
+use Rattle.std.proofs.lemmas.Bool.{cases_lt}
 use Rattle.gr_steps.specs.Steps.{CanHandle, IsAtRest}
 use Rattle.gr_steps.proofs.Resting.{rest_grounded}
 use Rattle.gr_steps.proofs.EventRecords.{group_of_event, item_of_event}
@@ -34,12 +34,7 @@ not_at_rest q (Group g) can rest = rest.meets g can
 -- b tells that no step can be made
 module _ (q : Sequence) where
   pub rest_if_none : (o : Option Ready) (b : Bool) → is_some o ≡ not b → MatchOption o (IsDone q) (λ r. CanMake q r) → IsTrue b ↔ IsAtRest q.taken q.handled
-  rest_if_none None true e done = (λ none. done.rest, λ rest. refl)
-  rest_if_none None false e done = absurd (false≢true e)
-  rest_if_none (Some r) true e can = absurd (true≢false e)
-  rest_if_none (Some r) false e can = (λ none. absurd (false≢true none), λ rest. absurd (not_at_rest q r can rest))
+  rest_if_none o b e done = grind (arith, not_at_rest q)
 
   pub done_if_none : (o : Option Ready) (b : Bool) → is_some o ≡ not b → MatchOption o (IsDone q) (λ r. CanMake q r) → IsTrue b → IsDone q
-  done_if_none None b e done none = done
-  done_if_none (Some r) true e can none = absurd (true≢false e)
-  done_if_none (Some r) false e can none = absurd (false≢true none)
+  done_if_none o b e done none = grind arith

@@ -1,8 +1,8 @@
 -- An order stays one where a record is taken, and where an event is handled.
-use Rattle.std.proofs.Common.{◌≡◌, ◌⊎◌, ℕ, ◌+◌, ◌<◌, ◌≤◌, List, [], ◌∷◌, ◌++◌, length, Some, refl, sym, ap, ◌∙◌, subst, inl, inr, ⊎_elim, arith, Bool, true, cond}
+use Rattle.std.proofs.Common.{◌≡◌, ◌⊎◌, ℕ, ◌+◌, ◌<◌, List, [], ◌∷◌, ◌++◌, length, Some, refl, sym, ap, ◌∙◌, subst, inl, inr, arith, Bool, true, cond}
 use Rattle.std.proofs.lemmas.Grind.{common_steps}
-use Rattle.std.specs.Prelude.{◌==◌, ◌&&◌, not}
-use Rattle.std.proofs.lemmas.Bool.{cases_lt, eq-eqb}
+use Rattle.std.specs.Prelude.{not}
+use Rattle.std.proofs.lemmas.Bool.{eq-eqb}
 use Rattle.std.proofs.lemmas.List.{length_push}
 use Rattle.gr_model.specs.Events.{is_end}
 use Rattle.gr_model.specs.declared.event.Event.{Event}
@@ -71,7 +71,7 @@ abbrev tick_if : Bool → ℕ
 tick_if b = cond b 1 0
 
 same_true : (i j : ItemId) → i ≡ j → same_item i j ≡ true
-same_true i j same = ap (λ b. b && (i.item == j.item)) (eq-eqb i.group j.group (ap (λ (x : ItemId). x.group) same)) ∙ eq-eqb i.item j.item (ap (λ (x : ItemId). x.item) same)
+same_true i j same = grind (arith, common_steps, eq-eqb)
 
 pub tick_here : (i j : ItemId) → i ≡ j → tick_at i j ≡ 1
 tick_here i j same = ap tick_if (same_true i j same)
@@ -109,19 +109,7 @@ module _ {q : Sequence} {frontier : Counts} {held : ℕ} (state : IsOrderState q
   index_is = ready_is_next q.taken q.handled state.sequence.lawful counts state.first e ready
 
   first_more : (new : Counts) → IsTick frontier e.at new → AreBelowFrontier (q.handled ++ e ∷ []) new
-  first_more new tick d = ⊎_elim
-      (λ (here : e.at ≡ d.at).
-      let now = rw here at (tick_more tick) in
-      let was : count_of frontier d.at ≡ e.index = ap (count_of frontier) (sym here) ∙ sym index_is in (
-        λ h. ⊎_elim (λ old. let lt = (state.first d).0 old in omega arith) (λ (same : d ≡ e). let i : d.index ≡ e.index = ap (λ (x : EventId). x.index) same in omega arith) (in_more q.handled e d h),
-        λ lt. more_in q.handled e d (⊎_elim (λ (below : d.index < e.index). inl ((state.first d).1 (omega arith))) (λ (ge : e.index ≤ d.index). inr (same_event d e (sym here) (omega arith))) (cases_lt d.index e.index)),
-      ))
-      (λ (apart : e.at ≡ d.at → ⊥).
-      let now = tick_stays tick d.at apart in (
-        λ h. ⊎_elim (λ old. let lt = (state.first d).0 old in omega arith) (λ (same : d ≡ e). absurd (apart (ap (λ (x : EventId). x.at) (sym same)))) (in_more q.handled e d h),
-        λ lt. more_in q.handled e d (inl ((state.first d).1 (omega arith))),
-      ))
-      (item_cases e.at d.at)
+  first_more new tick d = grind (arith, item_cases e.at d.at, tick_more tick, tick_stays tick d.at, index_is, in_more q.handled e d, more_in q.handled e d, state.first d, same_event d e)
 
   pub item_there : HasItem q.taken.sizes e.at
   item_there = (group_of_event q.taken state.sequence.prefixes e ready.event.0 ready.event.1, item_of_event q.taken state.sequence.prefixes e ready.event.0 ready.event.1)

@@ -1,5 +1,5 @@
 -- Sums over the items of a shape, and over the lists of groups.
-use Rattle.std.proofs.Common.{◌≡◌, ℕ, zero, suc, ◌+◌, ◌-◌, ◌<◌, ◌≤◌, List, [], ◌∷◌, length, map, get_or, refl, sym, ap, ◌∙◌, subst, ⊎_elim, arith}
+use Rattle.std.proofs.Common.{◌≡◌, ℕ, zero, suc, ◌+◌, ◌-◌, ◌<◌, ◌≤◌, List, [], ◌∷◌, length, map, get_or, refl, sym, ap, ◌∙◌, arith}
 use Rattle.std.proofs.lemmas.Grind.{common_steps}
 use Rattle.std.specs.List.{flat_map, range_with_len, sum_by}
 use Rattle.std.proofs.lemmas.Bool.{cases_eq}
@@ -30,9 +30,7 @@ sum_map h f a (suc n) = sum_by-cons h (f a) (map f (range_with_len (a + 1) n)) �
 
 sum_flat : {X Y : Type 0} (h : Y → ℕ) (f : X → List Y) (xs : List X) → sum_by h (flat_map f xs) ≡ sum_by (λ x. sum_by h (f x)) xs
 sum_flat h f [] = refl
-sum_flat {X} {Y} h f (x ∷ xs) =
-    ap (λ (l : List Y). sum_by h l) (flat_map-cons f x xs)
-    ∙ (sum_by-append h (f x) (flat_map f xs) ∙ (ap (λ (t : ℕ). sum_by h (f x) + t) (sum_flat h f xs) ∙ sym (sum_by-cons (λ (y : X). sum_by h (f y)) x xs)))
+sum_flat {X} {Y} h f (x ∷ xs) = grind (arith, flat_map-cons f x xs, sum_by-append h (f x) (flat_map f xs), sum_flat h f xs, sum_by-cons (λ (y : X). sum_by h (f y)) x xs)
 
 -- a sum over a list is one over its places
 pub sum_places : {X : Type 0} (h : X → ℕ) (xs : List X) (d : X) → sum_by h xs ≡ total (λ k. h (get_or xs k d)) 0 (length xs)
@@ -42,28 +40,17 @@ sum_places {X} h xs d = ap (λ (l : List X). sum_by h l) (fill_by_all (λ k. get
 
 pub total_same : (f h : ℕ → ℕ) (a n : ℕ) → ((k : ℕ) → a ≤ k → k < a + n → h k ≡ f k) → total h a n ≡ total f a n
 total_same f h a zero same = refl
-total_same f h a (suc n) same =
-    let first = same a (omega arith) (omega arith) in
-    let rest = total_same f h (a + 1) n (λ k ge lt. same k (omega arith) (omega arith)) in omega arith
+total_same f h a (suc n) same = omega (arith, same a, total_same f h (a + 1) n (λ k ge lt. same k (omega arith) (omega arith)))
 
 -- one of the numbers is greater by c
 pub total_more : (f h : ℕ → ℕ) (m c a n : ℕ) → h m ≡ f m + c → ((k : ℕ) → (k ≡ m → ⊥) → h k ≡ f k) → a ≤ m → m < a + n → total h a n ≡ total f a n + c
 total_more f h m c a zero more same ge lt = absurd (omega arith)
-total_more f h m c a (suc n) more same ge lt = ⊎_elim
-    (λ (here : a ≡ m).
-    let first : h a ≡ f a + c = subst (λ (k : ℕ). h k ≡ f k + c) (sym here) more in
-    let rest = total_same f h (a + 1) n (λ k past below. same k (λ is. omega arith)) in omega arith)
-    (λ (apart : a ≡ m → ⊥).
-    let first = same a apart in
-    let rest = total_more f h m c (a + 1) n more same (omega arith) (omega arith) in omega arith)
-    (cases_eq a m)
+total_more f h m c a (suc n) more same ge lt = grind (arith, cases_eq a m, same a, total_same f h (a + 1) n, total_more f h m c (a + 1) n more same)
 
 -- each of them is greater by one
 pub total_each : (f h : ℕ → ℕ) (a n : ℕ) → ((k : ℕ) → a ≤ k → k < a + n → h k ≡ f k + 1) → total h a n ≡ total f a n + n
 total_each f h a zero more = omega arith
-total_each f h a (suc n) more =
-    let first = more a (omega arith) (omega arith) in
-    let rest = total_each f h (a + 1) n (λ k ge lt. more k (omega arith) (omega arith)) in omega arith
+total_each f h a (suc n) more = omega (arith, more a, total_each f h (a + 1) n (λ k ge lt. more k (omega arith) (omega arith)))
 
 -- ---- the items of a shape
 
@@ -80,10 +67,7 @@ module _ (f h : ItemId → ℕ) (sizes : List ℕ) where
 
   -- the items of one group count more
   more_in : (g c : ℕ) → g < length sizes → group_sum h sizes g ≡ group_sum f sizes g + c → ((j : ItemId) → (j.group ≡ g → ⊥) → h j ≡ f j) → sum_by h (items_of sizes) ≡ sum_by f (items_of sizes) + c
-  more_in g c there more same =
-      let groups = total_more (group_sum f sizes) (group_sum h sizes) g c 0 (length sizes) more (λ k apart. total_same (λ n. f (item_of k n)) (λ n. h (item_of k n)) 0 (get_or sizes k 0) (λ n from lt. same (item_of k n) apart)) (omega arith) (omega arith) in
-      let mine = items_sum h sizes in
-      let others = items_sum f sizes in omega arith
+  more_in g c there more same = grind (arith, items_sum f sizes, items_sum h sizes, total_more (group_sum f sizes) (group_sum h sizes) g c 0 (length sizes) more (λ k apart. total_same (λ n. f (item_of k n)) (λ n. h (item_of k n)) 0 (get_or sizes k 0) (λ n from lt. same (item_of k n) apart)))
 
   -- each by one
   pub group_more : (g : ℕ) → g < length sizes → ((k : ℕ) → k < get_or sizes g 0 → h (item_of g k) ≡ f (item_of g k) + 1) → ((j : ItemId) → (j.group ≡ g → ⊥) → h j ≡ f j) → sum_by h (items_of sizes) ≡ sum_by f (items_of sizes) + get_or sizes g 0
@@ -100,15 +84,11 @@ module _ (f h : ItemId → ℕ) (sizes : List ℕ) where
 
 pub sum_add : {X : Type 0} (f h : X → ℕ) (xs : List X) → sum_by (λ x. f x + h x) xs ≡ sum_by f xs + sum_by h xs
 sum_add f h [] = refl
-sum_add f h (x ∷ xs) =
-    let rest = sum_add f h xs in
-    let both = sum_by-cons (λ y. f y + h y) x xs in
-    let first = sum_by-cons f x xs in
-    let second = sum_by-cons h x xs in omega arith
+sum_add f h (x ∷ xs) = omega (arith, sum_add f h xs, sum_by-cons (λ y. f y + h y) x xs, sum_by-cons f x xs, sum_by-cons h x xs)
 
 pub sum_none : {X : Type 0} (f : X → ℕ) (xs : List X) → ((x : X) → f x ≡ 0) → sum_by f xs ≡ 0
 sum_none f [] none = refl
-sum_none f (x ∷ xs) none = let rest = sum_none f xs none in let here = none x in let first = sum_by-cons f x xs in omega arith
+sum_none f (x ∷ xs) none = omega (arith, sum_none f xs none, none x, sum_by-cons f x xs)
 
 -- what is at most so much at each item is in all at most so much
 pub items_at_most : (f h : ItemId → ℕ) (sizes : List ℕ) → ((i : ItemId) → HasItem sizes i → f i ≤ h i) → sum_by (λ i. h i - f i) (items_of sizes) + sum_by f (items_of sizes) ≡ sum_by h (items_of sizes)
@@ -120,7 +100,7 @@ items_at_most f h sizes most =
 
 pub total_none : (f : ℕ → ℕ) (a n : ℕ) → ((k : ℕ) → a ≤ k → k < a + n → f k ≡ 0) → total f a n ≡ 0
 total_none f a zero none = refl
-total_none f a (suc n) none = let first = none a (omega arith) (omega arith) in let rest = total_none f (a + 1) n (λ k ge lt. none k (omega arith) (omega arith)) in omega arith
+total_none f a (suc n) none = omega (arith, none a, total_none f (a + 1) n (λ k ge lt. none k (omega arith) (omega arith)))
 
 -- more numbers, all of them 0
 total_longer : (f : ℕ → ℕ) (a n m : ℕ) → n ≤ m → ((k : ℕ) → a + n ≤ k → f k ≡ 0) → total f a m ≡ total f a n
@@ -133,21 +113,15 @@ pub items_put : (h : ItemId → ℕ) (sizes : List ℕ) (g n : ℕ) → get_or s
 items_put h sizes g n absent none =
     items_sum h (put 0 sizes g n)
     ∙ (total_same (group_sum h sizes) (group_sum h (put 0 sizes g n)) 0 (length (put 0 sizes g n)) (λ k ge lt. same k)
-    ∙ (total_longer (group_sum h sizes) 0 (length sizes) (length (put 0 sizes g n)) (let size = length_put 0 sizes g n in omega (arith, size)) (λ k past. let size : get_or sizes k 0 ≡ 0 = get_or_past sizes k 0 (omega (arith, past)) in ap (λ (m : ℕ). total (λ i. h (item_of k i)) 0 m) size)
+    ∙ (total_longer (group_sum h sizes) 0 (length sizes) (length (put 0 sizes g n)) (omega (arith, length_put 0 sizes g n)) (λ k past. grind (arith, get_or_past sizes k 0))
     ∙ sym (items_sum h sizes)))
   where
     same : (k : ℕ) → group_sum h (put 0 sizes g n) k ≡ group_sum h sizes k
-    same k = ⊎_elim
-        (λ (here : k ≡ g).
-        let was : group_sum h sizes g ≡ 0 = ap (λ (m : ℕ). total (λ i. h (item_of g i)) 0 m) absent in
-        let now : group_sum h (put 0 sizes g n) g ≡ 0 = total_none (λ i. h (item_of g i)) 0 (get_or (put 0 sizes g n) g 0) (λ i ge lt. none i) in
-        subst (λ (m : ℕ). group_sum h (put 0 sizes g n) m ≡ group_sum h sizes m) (sym here) (now ∙ sym was))
-        (λ (apart : k ≡ g → ⊥). ap (λ (m : ℕ). total (λ i. h (item_of k i)) 0 m) (put_other 0 sizes g n k apart))
-        (cases_eq k g)
+    same k = grind (arith, cases_eq k g, put_other 0 sizes g n k, total_none (λ i. h (item_of g i)) 0 (get_or (put 0 sizes g n) g 0) (λ i ge lt. none i))
 
 -- a list that counts for nothing may stand between others
 pub sum_put_again : {X : Type 0} (f : List X → ℕ) (xs : List (List X)) (g : ℕ) → f [] ≡ 0 → sum_by f (put [] xs g (get_or xs g [])) ≡ sum_by f xs
-sum_put_again f [] zero none = let one = sum_by-cons f [] [] in omega (arith, one, none)
-sum_put_again {X} f [] (suc g) none = let blank : List (List X) = [] in let rest = sum_put_again f blank g none in let one = sum_by-cons f [] (put [] blank g []) in omega (arith, rest, one, none)
+sum_put_again f [] zero none = omega (arith, sum_by-cons f [] [], none)
+sum_put_again {X} f [] (suc g) none = let blank : List (List X) = [] in omega (arith, sum_put_again f blank g none, sum_by-cons f [] (put [] blank g []), none)
 sum_put_again f (x ∷ xs) zero none = refl
-sum_put_again f (x ∷ xs) (suc g) none = let rest = sum_put_again f xs g none in let one = sum_by-cons f x (put [] xs g (get_or xs g [])) in let was = sum_by-cons f x xs in omega (arith, rest, one, was)
+sum_put_again f (x ∷ xs) (suc g) none = omega (arith, sum_put_again f xs g none, sum_by-cons f x (put [] xs g (get_or xs g [])), sum_by-cons f x xs)

@@ -1,5 +1,5 @@
 -- How many events were taken: of each item, of each group, and in all.
-use Rattle.std.proofs.Common.{◌≡◌, ℕ, zero, suc, ◌+◌, ◌*◌, ◌<◌, ◌≤◌, Bool, not, ◌&&◌, List, [], ◌∷◌, length, filter, map, Some, slice_get, refl, sym, ap, ◌∙◌, arith}
+use Rattle.std.proofs.Common.{◌≡◌, ℕ, zero, suc, ◌+◌, ◌*◌, ◌<◌, ◌≤◌, Bool, not, List, [], ◌∷◌, length, filter, map, Some, slice_get, refl, ap, ◌∙◌, arith}
 use Rattle.std.proofs.lemmas.Grind.{common_steps}
 use Rattle.std.specs.Int.{from_bool}
 use Rattle.std.specs.List.{sum_by}
@@ -33,10 +33,10 @@ filter_one test x list = grind arith
 
 -- an event is one of its item alone, and an end of none
 of_other : (x : Event) (i : ℕ) → (i ≡ x.item → ⊥) → one_if (is_of i x) ≡ 0
-of_other x i apart = ap (λ (b : Bool). one_if (b && not (is_end x))) (ne_eqb x.item i (λ same. apart (sym same)))
+of_other x i apart = grind (arith, common_steps, ne_eqb)
 
 of_item : (x : Event) → one_if (is_of x.item x) ≡ one_if (not (is_end x))
-of_item x = ap (λ (b : Bool). one_if (b && not (is_end x))) (eq-eqb x.item x.item refl)
+of_item x = grind (arith, common_steps, eq-eqb)
 
 -- the events of a group are those of its items
 abbrev AreWithin : ℕ → List Event → Type 0
@@ -67,15 +67,13 @@ events_more s g x prefixes can = grind (arith, common_steps, filter-append, leng
 
 pub no_events : (sizes : List ℕ) → event_count (nothing_taken sizes) ≡ 0
 no_events [] = refl
-no_events (n ∷ sizes) = let rest = no_events sizes in let one = sum_by-cons events_in [] (map (λ m. []) sizes) in omega arith
+no_events (n ∷ sizes) = omega (arith, no_events sizes, sum_by-cons events_in [] (map (λ m. []) sizes))
 
 -- ---- how many they can be
 
 total_most : (f : ℕ → ℕ) (a n : ℕ) → ((k : ℕ) → a ≤ k → k < a + n → f k ≤ 16777216) → total f a n ≤ n * 16777216
 total_most f a zero most = omega arith
-total_most f a (suc n) most =
-    let first = most a (omega arith) (omega arith) in
-    let rest = total_most f (a + 1) n (λ k from lt. most k (omega arith) (omega arith)) in omega arith
+total_most f a (suc n) most = omega (arith, most a, total_most f (a + 1) n (λ k from lt. most k (omega arith) (omega arith)))
 
 pub trace_most : (s : Streams) → ArePrefixes s → (i : ItemId) → i.group < length s.sizes → length (trace_of s i) ≤ 16777216
 trace_most s prefixes i there = grind (arith, common_steps, length-filter_le)

@@ -1,5 +1,5 @@
 -- The events that wait, where a record is taken, and where events are handled.
-use Rattle.std.proofs.Common.{◌≡◌, ℕ, ◌+◌, ◌-◌, ◌<◌, true, false, cond, List, [], ◌∷◌, ◌++◌, length, map, slice_get, Option, drop, take, filter, sym, ap, ◌∙◌, subst, ⊎_elim, arith, append-nil}
+use Rattle.std.proofs.Common.{◌≡◌, ℕ, ◌+◌, ◌-◌, ◌<◌, true, false, cond, List, [], ◌∷◌, ◌++◌, length, map, slice_get, Option, drop, take, filter, sym, ap, ◌∙◌, subst, arith, append-nil}
 use Rattle.std.proofs.lemmas.Grind.{common_steps}
 use Rattle.std.proofs.lemmas.Bool.Decides.{nat_tests}
 use Rattle.std.proofs.lemmas.Bool.{eq-eqb, ne_eqb}
@@ -12,7 +12,7 @@ use Rattle.gr_model.specs.Events.{is_end}
 use Rattle.gr_model.specs.Shapes.{HasItem}
 use Rattle.gr_model.specs.Streams.{ArePrefixes, Streams, event_at, is_of, trace_of}
 use Rattle.gr_clocks.specs.Counts.{Counts, IsTick, count_of}
-use Rattle.gr_clocks.specs.Tables.{IsBeyond, item_of}
+use Rattle.gr_clocks.specs.Tables.{item_of}
 use Rattle.gr_lanes.specs.Takes.{CanTake, nothing_taken, with_record}
 use Rattle.gr_lanes.proofs.Growth.{here, other}
 use Rattle.gr_lanes.proofs.IndexLemmas.{trace_more}
@@ -47,7 +47,7 @@ pub keeps_event : (old : Table) (g : ℕ) (x : Event) (new : Table) → is_end x
 keeps_event old g x new on changes = grind (arith, common_steps, adds_here, adds_none, append-nil, item_cases)
 
 pub forgets_end : (before : Table) (g : ℕ) (x : Event) (w : Table) → is_end x ≡ true → Keeps before g x w → AreSame before w
-forgets_end before g x w end keeps = record { shape = keeps.shape; each = λ i. keeps.each i ∙ (ap (λ l. window_of before i ++ l) (end_adds_none g x i end) ∙ append-nil (window_of before i)) }
+forgets_end before g x w end keeps = record { shape = keeps.shape; each = λ i. grind (arith, keeps.each i, end_adds_none g x i end, append-nil) }
 
 pub forgets_event : (before : Table) (g : ℕ) (x : Event) (old new : Table) → is_end x ≡ false → Keeps before g x old → Changes old (item_of g x.item) (take (length (window_of old (item_of g x.item)) - 1) (window_of old (item_of g x.item))) new → AreSame before new
 forgets_event before g x old new on keeps changes = grind (arith, common_steps, adds_here, take_pushed, adds_none, append-nil, item_cases)
@@ -77,30 +77,22 @@ module _ {q : Sequence} {frontier : Counts} {windows : Table} {held : ℕ} (kept
 
   -- the first event of an item that waits goes
   next_drop : (i : ItemId) (c : ℕ) (w : List Event) → c ≡ count_of frontier i + 1 → w ≡ drop 1 (window_of windows i) → w ≡ drop c (trace_of q.taken i)
-  next_drop i c w more is = grind (arith, common_steps, drop_one)
+  next_drop i c w more is = grind (arith, common_steps, drop_one, kept.waits.each i)
 
   pub waits_less : (e : EventId) (new : Counts) → IsTick frontier e.at new → (now : Table) → Changes windows e.at (drop 1 (window_of windows e.at)) now → AreWaiting q.taken new now
   waits_less e new tick now changes = record {
     shape = changes.shape ∙ kept.waits.shape;
-    each = λ i. ⊎_elim
-        (λ (same : i ≡ e.at). rw same (next_drop e.at (count_of new e.at) (window_of now e.at) (tick_more tick) changes.item))
-        (λ (apart : i ≡ e.at → ⊥). changes.others i apart ∙ (kept.waits.each i ∙ ap (λ n. drop n (trace_of q.taken i)) (sym (tick_stays tick i (λ here. apart (sym here))))))
-        (item_cases i e.at);
+    each = λ i. grind (arith, item_cases i e.at, next_drop e.at (count_of new e.at) (window_of now e.at) (tick_more tick), changes.item, changes.others i, kept.waits.each i, tick_stays tick i);
   }
 
   pub waits_behind : (g n : ℕ) (new : Counts) → TicksItems frontier g n new → (now : Table) → DropsItems windows g n now → AreWaiting q.taken new now
   waits_behind g n new ticks now drops = record {
     shape = drops.shape ∙ kept.waits.shape;
-    each = λ i. ⊎_elim (λ (here : (i.group ≡ g) × (i.item < n)). first i here.0 here.1) (λ (beyond : IsBeyond g n i). drops.others i beyond ∙ (kept.waits.each i ∙ ap (λ m. drop m (trace_of q.taken i)) (sym (ticks.others i beyond)))) (within_or_beyond g n i);
+    each = λ i. grind (arith, within_or_beyond g n i, next_drop i (count_of new i) (window_of now i), ticks.items i.item, drops.items i.item, drops.others i, kept.waits.each i, ticks.others i);
   }
-    where
-      first : (j : ItemId) → j.group ≡ g → j.item < n → window_of now j ≡ drop (count_of new j) (trace_of q.taken j)
-      first j group lt =
-          let same : item_of g j.item ≡ j = λ d. record { group = sym group d; item = j.item } in
-          subst (λ i. window_of now i ≡ drop (count_of new i) (trace_of q.taken i)) same (next_drop (item_of g j.item) (count_of new (item_of g j.item)) (window_of now (item_of g j.item)) (ticks.items j.item lt) (drops.items j.item lt))
 
   pub group_is_kept : (g : ℕ) → g < length q.taken.sizes → g < length windows
-  group_is_kept g there = omega (arith, there, ap length kept.waits.shape, length-map windows (λ (row : List (List Event)). length row))
+  group_is_kept g there = grind (arith, there, kept.waits.shape, length-map)
 
   pub waits_as : (c : Counts) → AreBelowFrontier q.handled c → AreWaiting q.taken c windows
   waits_as c first = record { shape = kept.waits.shape; each = λ i. kept.waits.each i ∙ ap (λ n. drop n (trace_of q.taken i)) (same i) }
@@ -108,10 +100,7 @@ module _ {q : Sequence} {frontier : Counts} {windows : Table} {held : ℕ} (kept
       same : (i : ItemId) → count_of frontier i ≡ count_of c i
       same i =
           let mine : EventId = record { at = i; index = count_of frontier i } in
-          let theirs : EventId = record { at = i; index = count_of c i } in
-          let least : ¬ (count_of frontier i < count_of c i) = λ lt. let over = (kept.state.first mine).0 ((first mine).1 lt) in omega arith in
-          let most : ¬ (count_of c i < count_of frontier i) = λ lt. let over = (first theirs).0 ((kept.state.first theirs).1 lt) in omega arith in
-          omega arith
+          let theirs : EventId = record { at = i; index = count_of c i } in grind (arith, kept.state.first mine, first mine, kept.state.first theirs, first theirs)
 
 -- nothing was taken
 pub none_wait : (sizes : List ℕ) (taken : Streams) → taken ≡ nothing_taken sizes → (frontier : Counts) (w : Table) → IsEmpty sizes w → AreWaiting taken frontier w

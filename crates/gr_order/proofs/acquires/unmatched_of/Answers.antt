@@ -2,18 +2,13 @@ use Rattle.std.proofs.Common.{◌≡◌, ◌∙◌, ap, arith, length, option_an
 use Rattle.std.proofs.lemmas.Bool.{eqb-false, eqb-true}
 use Rattle.gr_model.specs.Access.{event_word}
 use Rattle.gr_order.proofs.WaitLemmas.{first_is}
-use Rattle.gr_order.proofs.Acquiring.{none_named, none_there, this_is}
+use Rattle.gr_order.proofs.Acquiring.{none_named, this_is}
 use Rattle.gr_order.proofs.acquires.unmatched_of.Goals as goal
 
 pub cause-requires-clause-word : goal.cause-requires-clause-word
 cause-requires-clause-word g c =
     let at = first_is c.requires.waiting c.args.item c.get.ensures.count c.waiting.ensures c.in_ok-taken.was in
     c.word_of.ensures ∙ sym (ap (option_and_then (event_word c.args.item.group)) at)
-
-pub returns-in_err-taken : goal.returns-in_err-taken
-returns-in_err-taken g c =
-    rw c.from_residual.ensures
-    (none_there c.args.lanes.now.streams c.args.frontier.now c.requires.grounded c.args.item c.get.result c.get.ensures.count (first_is c.requires.waiting c.args.item c.get.ensures.count c.waiting.ensures c.in_err-taken.was))
 
 pub returns-then-is_empty : goal.returns-then-is_empty
 returns-then-is_empty g c =

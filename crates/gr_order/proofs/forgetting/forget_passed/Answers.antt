@@ -26,15 +26,3 @@ returns-in-Some g c =
       | Ok x ↦ λ ok err. inr (passed, inr (d, ok, record { group = c.requires; divergent = cause_diverges (is_complete (list_of s group)) (size_of s group) (arrivals s group d.instance) d.cause cause; cause = cause }, refl, c.forgotten-instance.ensures))
       | Err x ↦ λ ok err. inl err
     ] c.decide.ensures.ok c.decide.ensures.err
-
-pub returns-in-Some-2 : goal.returns-in-Some-2
-returns-in-Some-2 g c =
-    let s = c.args.lanes.now.streams in
-    let group = c.args.group in
-    let passed = c.have_all_passed.ensures c.if-not-have_all_passed.false in
-    let d : Divergence = record { group = group; instance = c.forgotten-instance.result; cause = c.in-Some.cause } in
-    let cause = c.in-Some.ensures in
-    elim c.decide.result as (λ r. OnOk r (c.decide.new.self ≡ deciding c.args.lanes.now d) → OnErr r (c.decide.new.self ≡ c.args.lanes.now) → ForgetsPassed c.args.lanes.now c.args.frontier.now group c.decide.new.self) [
-      | Ok x ↦ λ ok err. inr (passed, inr (d, ok, record { group = c.requires; divergent = cause_diverges (is_complete (list_of s group)) (size_of s group) (arrivals s group d.instance) d.cause cause; cause = cause }, refl, c.forgotten-instance.ensures))
-      | Err x ↦ λ ok err. inl err
-    ] c.decide.ensures.ok c.decide.ensures.err

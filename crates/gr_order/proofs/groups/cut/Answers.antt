@@ -1,10 +1,7 @@
 use Rattle.std.proofs.Common.{length, ap, sym, ◌∙◌, arith, true≢false}
-use Rattle.gr_order.proofs.Cutting.{all_cut, no_more_cut, none_cut, one_more_cut}
+use Rattle.gr_order.proofs.Cutting.{all_cut, no_more_cut, one_more_cut}
 use Rattle.gr_order.proofs.groups.cut.Goals as goal
 use Rattle.gr_order.proofs.groups.cut.Goals.{then-is_cut+in_ok-push, else-is_cut}
-
-pub loop-group-init : goal.loop-group-init
-loop-group-init g c = rw c.new-groups.ensures.items (none_cut _)
 
 pub loop-group-preserved : goal.loop-group-preserved
 loop-group-preserved g c =

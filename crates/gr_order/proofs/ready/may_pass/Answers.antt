@@ -3,10 +3,6 @@ use Rattle.gr_model.specs.Barriers.{is_barrier}
 use Rattle.gr_steps.proofs.BarrierPlaces.{barrier_there}
 use Rattle.gr_order.proofs.ReadyLemmas.{passes_if, passes_only}
 use Rattle.gr_order.proofs.ready.may_pass.Goals as goal
-use Rattle.gr_steps.proofs.EventRecords.{group_of_event}
-
-pub is_divergent-requires-clause-group : goal.is_divergent-requires-clause-group
-is_divergent-requires-clause-group g c = group_of_event c.args.lanes.now.streams c.requires.prefixes c.args.event c.args.taken.now c.requires.there
 
 pub returns-in-Some : goal.returns-in-Some
 returns-in-Some g c =

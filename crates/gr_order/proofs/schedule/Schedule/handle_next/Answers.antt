@@ -1,20 +1,12 @@
 use Rattle.std.proofs.Common.{◌-◌, arith}
 use Rattle.gr_order.proofs.ForgetLemmas.{forgets_on, tick_counts}
 use Rattle.gr_order.proofs.HeldLemmas.{ready_can_count, ready_is_held}
-use Rattle.gr_order.proofs.StateLemmas.{after_handle, item_there}
+use Rattle.gr_order.proofs.StateLemmas.{after_handle}
 use Rattle.gr_order.proofs.WaitLemmas.{waits_less}
 use Rattle.gr_order.proofs.schedule.Schedule.handle_next.Goals as goal
 
-pub raise-requires-clause-item : goal.raise-requires-clause-item
-raise-requires-clause-item g c =
-    rw c.self.invariant.kept.state.shape (item_there c.self.invariant.kept.state c.args.event (rw (← c.self.view_is) at c.requires))
-
 pub raise-requires-clause-room : goal.raise-requires-clause-room
 raise-requires-clause-room g c = ready_can_count c.self.invariant.kept.state c.args.event (rw (← c.self.view_is) at c.requires)
-
-pub pop_first-requires : goal.pop_first-requires
-pop_first-requires g c =
-    rw c.self.invariant.kept.waits.shape (item_there c.self.invariant.kept.state c.args.event (rw (← c.self.view_is) at c.requires))
 
 pub overflow_sub-self : goal.overflow_sub-self
 overflow_sub-self g c = ready_is_held c.self.invariant.kept.state c.args.event (rw (← c.self.view_is) at c.requires)

@@ -1,8 +1,5 @@
-use Rattle.gr_order.proofs.RestLemmas.{done_if_none, rest_if_none}
+use Rattle.gr_order.proofs.RestLemmas.{rest_if_none}
 use Rattle.gr_order.proofs.schedule.Schedule.is_at_rest.Goals as goal
 
 pub returns-clause-rest : goal.returns-clause-rest
 returns-clause-rest g c = rest_if_none c.args.self.now c.ready.result c.is_none.result c.is_none.ensures c.ready.ensures.ready
-
-pub returns-clause-done : goal.returns-clause-done
-returns-clause-done g c = done_if_none c.args.self.now c.ready.result c.is_none.result c.is_none.ensures c.ready.ensures.ready

@@ -1,8 +1,8 @@
 use Rattle.std.proofs.Common.{◌≡◌, ◌-◌, arith}
 use Rattle.gr_order.proofs.ForgetLemmas.{forgets_met, forgets_streams}
 use Rattle.gr_order.proofs.MeetLemmas.{meets_next}
-use Rattle.gr_order.proofs.PassLemmas.{Passing, barriers_are_held, below_largest, group_there, meets_behind, state_behind}
-use Rattle.gr_order.proofs.WaitLemmas.{group_is_kept, waits_behind}
+use Rattle.gr_order.proofs.PassLemmas.{Passing, barriers_are_held, below_largest, meets_behind, state_behind}
+use Rattle.gr_order.proofs.WaitLemmas.{waits_behind}
 use Rattle.gr_order.proofs.schedule.Schedule.meet_next.Given as given
 use Rattle.gr_order.proofs.schedule.Schedule.meet_next.Goals as goal
 
@@ -15,10 +15,6 @@ pub count_next_events-requires-clause-room : goal.count_next_events-requires-cla
 count_next_events-requires-clause-room g c =
     let size = rw c.shape.ensures.sizes at c.items-size.ensures.size in
     λ k lt. below_largest c.self.invariant.kept.state c.args.group (rw (← c.self.view_is) at c.requires) k (omega (arith, size, lt))
-
-pub pop_group-requires-clause-group : goal.pop_group-requires-clause-group
-pop_group-requires-clause-group g c =
-    group_is_kept c.self.invariant.kept c.args.group (group_there c.self.invariant.kept.state c.args.group (rw (← c.self.view_is) at c.requires))
 
 pub overflow_sub-self : goal.overflow_sub-self
 overflow_sub-self g c =

@@ -5,11 +5,8 @@ use Rattle.gr_order.proofs.ForgetLemmas.{forgets_taken}
 use Rattle.gr_order.proofs.HeldLemmas.{held_most}
 use Rattle.gr_order.proofs.StateLemmas.{took}
 use Rattle.gr_order.proofs.TakenLemmas.{one_at_most, one_if}
-use Rattle.gr_order.proofs.WaitLemmas.{item_is_kept, waits_again, waits_more}
+use Rattle.gr_order.proofs.WaitLemmas.{waits_again, waits_more}
 use Rattle.gr_order.proofs.schedule.Schedule.take_next.Goals as goal
-
-pub keep-requires : goal.keep-requires
-keep-requires g c = item_is_kept c.self.invariant.kept c.args.group c.args.event c.in-None.ensures.fault
 
 pub overflow_add-self : goal.overflow_add-self
 overflow_add-self g c =
