@@ -1,5 +1,5 @@
 -- The divergent instances, found one after the other.
-use Rattle.std.proofs.Common.{◌≡◌, ℕ, ◌+◌, ◌<◌, ◌≤◌, List, [], ◌∷◌, ◌++◌, length, filter, filter_map, None, slice_get, arith}
+use Rattle.std.proofs.Common.{ℕ, ◌+◌, ◌<◌, ◌≤◌, List, [], ◌∷◌, ◌++◌, length, filter, filter_map, arith}
 use Rattle.std.proofs.lemmas.Option.{gets, slice_get_past}
 use Rattle.gr_model.specs.declared.event.Event.{Event}
 use Rattle.gr_model.specs.declared.report.Divergence.{Divergence}
@@ -7,7 +7,7 @@ use Rattle.gr_model.specs.declared.report.DivergenceCause.{DivergenceCause}
 use Rattle.gr_model.specs.Barriers.{IsDivergent, arrivals, mark_of}
 use Rattle.gr_model.specs.Instances.{HasDivergenceCause}
 use Rattle.gr_model.specs.Reports.{DivergenceBelow, IsDivergence}
-use Rattle.gr_model.specs.Streams.{Streams, is_complete, is_of, list_of, size_of, trace_of}
+use Rattle.gr_model.specs.Streams.{Streams, is_complete, is_of, list_of, size_of}
 use Rattle.gr_model.proofs.Causes.{cause_diverges}
 use Rattle.gr_model.proofs.ListsOfRecords.{length-filter_le}
 use Rattle.gr_barriers.specs.Listings.{AreListedBefore, IsBefore}
@@ -18,15 +18,12 @@ use Rattle.gr_lanes.specs.Remembered.{AreDecided, IsDecided, Remembered, decided
 
 -- ---- how far instances go
 
-none_later : {X : Type 0} (xs : List X) (k n : ℕ) → k ≤ n → slice_get xs k ≡ None → slice_get xs n ≡ None
-none_later xs k n le none = grind (arith, gets)
-
 few_marks : (xs : List Event) → length (filter_map mark_of xs) ≤ length xs
 few_marks [] = omega arith
 few_marks (x ∷ xs) = grind (arith, few_marks xs)
 
 pub nobody_later : (s : Streams) (g k : ℕ) → NobodyCame (size_of s g) (arrivals s g k) → (n : ℕ) → k ≤ n → NobodyCame (size_of s g) (arrivals s g n)
-nobody_later s g k none n le i within = grind (arith, none_later (filter_map mark_of (trace_of s (record { group = g; item = i }))) k n le, none i within)
+nobody_later s g k none n le i within = grind (arith, gets, none i within)
 
 pub nobody_past : (s : Streams) (g k : ℕ) → length (list_of s g) ≤ k → (n : ℕ) → k ≤ n → NobodyCame (size_of s g) (arrivals s g n)
 nobody_past s g k past n le i within = grind (arith, few_marks (filter (is_of i) (list_of s g)), length-filter_le (is_of i) (list_of s g), slice_get_past)

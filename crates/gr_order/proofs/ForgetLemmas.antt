@@ -1,5 +1,5 @@
 -- What is forgotten, where records are taken, events handled, and groups come.
-use Rattle.std.proofs.Common.{◌≡◌, ◌≢◌, ◌⊎◌, ℕ, ◌+◌, ◌<◌, ◌≤◌, List, [], ◌∷◌, ◌++◌, length, Some, get_or, set, refl, sym, ap, ◌∙◌, subst, inl, inr, ⊎_elim, arith}
+use Rattle.std.proofs.Common.{Result, Ok, Err, ◌≡◌, ◌≢◌, ◌⊎◌, ℕ, ◌+◌, ◌<◌, ◌≤◌, List, [], ◌∷◌, ◌++◌, length, Some, get_or, set, refl, sym, ap, ◌∙◌, subst, inl, inr, ⊎_elim, arith}
 use Rattle.std.proofs.lemmas.Grind.{common_steps}
 use Rattle.std.proofs.lemmas.Bool.{cases_eq}
 use Rattle.std.proofs.lemmas.List.{get_or-set_other, get_or-set_same, length-set}
@@ -7,13 +7,16 @@ use Rattle.gr_model.specs.declared.event.Event.{Event}
 use Rattle.gr_model.specs.declared.event.EventId.{EventId}
 use Rattle.gr_model.specs.declared.event.ItemId.{ItemId}
 use Rattle.gr_model.specs.declared.report.Divergence.{Divergence}
+use Rattle.gr_model.specs.declared.report.DivergenceCause.{DivergenceCause}
+use Rattle.gr_model.specs.Instances.{HasDivergenceCause}
+use Rattle.std.specs.Prelude.{OnErr, OnOk}
 use Rattle.gr_model.specs.Barriers.{IsDivergent, arrivals, is_barrier, mark_of}
 use Rattle.gr_model.specs.Groups as model
 use Rattle.gr_model.specs.Groups.{CanAdd, put}
 use Rattle.gr_model.specs.LawfulOrders.{IsIn}
 use Rattle.gr_model.specs.Reports.{DivergenceBelow, IsDivergence, Lists}
 use Rattle.gr_model.specs.Streams.{ArePrefixes, Grows, Streams, is_complete, list_of, place_of, size_of, trace_of}
-use Rattle.gr_model.proofs.Causes.{one_cause}
+use Rattle.gr_model.proofs.Causes.{cause_diverges, one_cause}
 use Rattle.gr_model.proofs.GroupLaws.{group_grows, prefixes_with_group}
 use Rattle.gr_model.proofs.GrowthLaws.{not_both, stands_grows}
 use Rattle.gr_model.proofs.Places.{filter_map-place, place-filter_map}
@@ -168,9 +171,6 @@ module _ (old : Remembered) (prefixes : ArePrefixes old.streams) (frontier : Cou
   within : g < length old.streams.sizes
   within = size_there old.streams g passed.0
 
-  one_more : get_or counts g 0 ≡ least + 1
-  one_more = get_or-set_same old.forgotten g (least + 1) 0 (omega (arith, within, was.decided.groups.forgotten))
-
   -- below the new count: one that was forgotten, or the least that was remembered
   below_cases : (h k : ℕ) → k < get_or counts h 0 → (k < forgotten_of old h) ⊎ ((h ≡ g) × (k ≡ least))
   below_cases h k below = grind (arith, get_or-set_same, get_or-set_other, within, was.decided.groups.forgotten)
@@ -178,11 +178,8 @@ module _ (old : Remembered) (prefixes : ArePrefixes old.streams) (frontier : Cou
   still_below : (h k : ℕ) → k < forgotten_of old h → k < get_or counts h 0
   still_below h k below = grind (arith, get_or-set_same, get_or-set_other, within, was.decided.groups.forgotten)
 
-  all_came : HaveAllCome old.streams g least
-  all_came = passed_came old.streams frontier g least passed
-
   came_more : (h k : ℕ) → k < get_or counts h 0 → HaveAllCome old.streams h k
-  came_more h k below = ⊎_elim (was.decided.came h k) (λ (last : (h ≡ g) × (k ≡ least)). rw (last.0, last.1) all_came) (below_cases h k below)
+  came_more h k below = ⊎_elim (was.decided.came h k) (λ (last : (h ≡ g) × (k ≡ least)). rw (last.0, last.1) (passed_came old.streams frontier g least passed)) (below_cases h k below)
 
   handled_more : (e : EventId) (k : ℕ) → place_of old.streams is_barrier e.at k ≡ Some e.index → k < get_or counts e.at.group 0 → e.index < count_of frontier e.at
   handled_more e k at below = grind (arith, below_cases e.at.group k below, was.handled e k at, barrier_item old.streams prefixes e k at, passed.1 e.at.item)
@@ -232,7 +229,7 @@ module _ (old : Remembered) (prefixes : ArePrefixes old.streams) (frontier : Cou
     lists_here : Lists DivergenceBelow (IsDecided kept g) (decided_of old g ++ d ∷ [])
     lists_here = listed_push DivergenceBelow (IsDecided old g) (IsDecided kept g) (decided_of old g) d (was.decided.lists g)
         (λ e is_old. grind (arith, is_old, group, instance))
-        (record { divergence = is; group = group; below = omega (arith, instance, one_more) })
+        (record { divergence = is; group = group; below = omega (arith, instance, get_or-set_same old.forgotten g (least + 1) 0, within, was.decided.groups.forgotten) })
         (λ e is_old. record { divergence = is_old.divergence; group = is_old.group; below = still_below g e.instance is_old.below })
         (λ e is_new. grind (arith, below_cases g e.instance is_new.below, is_this e, is_new))
 
@@ -256,6 +253,11 @@ pub forgets_passed : (old : Remembered) → ArePrefixes old.streams → (frontie
 forgets_passed old prefixes frontier was g new (inl same) = subst (λ (r : Remembered). IsForgetting r frontier) (sym same) was
 forgets_passed old prefixes frontier was g new (inr passed) = forgets_least old prefixes frontier was g passed.0 new passed.1
 
+-- it is decided, or there is no room for it
+pub decides : {T E : Type 0} (old new : Remembered) (frontier : Counts) (g k : ℕ) (c : DivergenceCause) (r : Result T E) → g < length old.streams.sizes → HaveAllPassed old.streams frontier g (forgotten_of old g) → k ≡ forgotten_of old g → HasDivergenceCause (is_complete (list_of old.streams g)) (size_of old.streams g) (arrivals old.streams g k) c → OnOk r (new ≡ deciding old (record { group = g; instance = k; cause = c })) → OnErr r (new ≡ old) → ForgetsPassed old frontier g new
+decides old new frontier g k c (Ok x) there passed is cause ok err = inr (passed, inr (record { group = g; instance = k; cause = c }, ok, record { group = there; divergent = cause_diverges (is_complete (list_of old.streams g)) (size_of old.streams g) (arrivals old.streams g k) c cause; cause = cause }, refl, is))
+decides old new frontier g k c (Err x) there passed is cause ok err = inl err
+
 -- the streams stay
 pub passed_streams : (old new : Remembered) (frontier : Counts) (g : ℕ) → ForgetsPassed old frontier g new → new.streams ≡ old.streams
 passed_streams old new frontier g passed = grind arith
@@ -266,8 +268,8 @@ pub forgets_streams : (old new : Remembered) (frontier : Counts) (g : ℕ) → F
 forgets_streams old new frontier g next = grind arith
 
 -- the least one remembered is the next one, where the first item's next event is its barrier of that number
-pub least_is_next : (s : Streams) (frontier : Counts) (g k least : ℕ) → IsNextInstance s frontier g k → place_of s is_barrier (record { group = g; item = 0 }) least ≡ Some (count_of frontier (record { group = g; item = 0 })) → IsNextInstance s frontier g least
-least_is_next s frontier g k least next place = grind (arith, common_steps, places_from-once)
+pub least_is_next : (s : Streams) (frontier : Counts) (g k least m n : ℕ) → IsNextInstance s frontier g k → m ≡ least → Some n ≡ place_of s is_barrier (record { group = g; item = 0 }) m → n ≡ count_of frontier (record { group = g; item = 0 }) → IsNextInstance s frontier g least
+least_is_next s frontier g k least m n next is place count = grind (arith, common_steps, places_from-once)
 
 pub next_came : (s : Streams) (frontier : Counts) (g k : ℕ) → IsNextInstance s frontier g k → HaveAllCome s g k
 next_came s frontier g k next = (next.some, λ i within. (next.mark, (next.each i within).mark))

@@ -1,19 +1,20 @@
 -- The next instance of a group, by the next events of its items.
-use Rattle.std.proofs.Common.{◌≡◌, ℕ, ◌<◌, ◌≤◌, List, Some, None, Option, is_some, true, length, refl, ap, ◌∙◌, subst, arith}
+use Rattle.std.proofs.Common.{◌≡◌, ℕ, ◌<◌, ◌≤◌, List, Some, None, Option, length, refl, ap, ◌∙◌, subst, arith}
 use Rattle.std.proofs.lemmas.Grind.{common_steps}
 use Rattle.std.specs.Prelude.{MatchOption}
 use Rattle.std.proofs.lemmas.List.{get_or_past}
 use Rattle.gr_model.specs.declared.event.Event.{Event}
 use Rattle.gr_model.specs.declared.event.EventId.{EventId}
 use Rattle.gr_model.specs.declared.event.ItemId.{ItemId}
-use Rattle.gr_model.specs.Barriers.{IsConvergent, StandsIn, arrivals, is_barrier, mark_of}
+use Rattle.gr_model.specs.Barriers.{IsConvergent, StandsIn, is_barrier, mark_of}
 use Rattle.gr_model.specs.Instances.{Mark}
 use Rattle.gr_model.specs.Streams.{ArePrefixes, Streams, event_at, place_of, size_of, trace_of}
 use Rattle.gr_clocks.specs.Counts.{Counts, count_of}
 use Rattle.gr_steps.specs.Steps.{CanMeet, IsMeeting}
 use Rattle.gr_steps.proofs.BarrierPlaces.{barrier_of, places_from-once, stands_before}
 use Rattle.gr_steps.proofs.Orders.{previous_of}
-use Rattle.gr_lanes.proofs.InstanceLemmas.{barrier_mark}
+use Rattle.gr_lanes.proofs.InstanceLemmas.{barrier_mark, some_mark}
+use Rattle.gr_steps.proofs.EventRecords.{item_of_event}
 use Rattle.gr_lanes.specs.Instances.{HasCome}
 use Rattle.gr_order.specs.Readiness.{IsNextInstance, StandsNext}
 use Rattle.gr_order.specs.States.{AreBelowFrontier}
@@ -31,24 +32,19 @@ module _ (s : Streams) (frontier : Counts) (g : ℕ) where
   pub first_there : (k : ℕ) → IsNextInstance s frontier g k → event_at s (next_of frontier (item_at g 0)) ≡ None → ⊥
   first_there k h none = grind (arith, h.each 0 h.some, barrier_mark 0 (trace_of s (item_at g 0)) k (count_of frontier (item_at g 0)))
 
-  pub first_numbered : ((k : ℕ) → place_of s is_barrier (item_at g 0) k ≡ Some (count_of frontier (item_at g 0)) → ⊥) → (k : ℕ) → IsNextInstance s frontier g k → ⊥
-  first_numbered none k h = none k (h.each 0 h.some).place
+  module _ (prefixes : ArePrefixes s) (x : Event) (at : event_at s (next_of frontier (item_at g 0)) ≡ Some x) (number index : ℕ) (numbered : place_of s is_barrier (item_at g 0) number ≡ Some index) (count : index ≡ count_of frontier (item_at g 0)) where
+    place : place_of s is_barrier (item_at g 0) number ≡ Some (count_of frontier (item_at g 0))
+    place = numbered ∙ ap Some count
 
-  module _ (prefixes : ArePrefixes s) (x : Event) (at : event_at s (next_of frontier (item_at g 0)) ≡ Some x) (number : ℕ) (place : place_of s is_barrier (item_at g 0) number ≡ Some (count_of frontier (item_at g 0))) where
     pub come : HasCome s g number x
     come = come_of s prefixes (next_of frontier (item_at g 0)) x at number place
 
-    pub is_mark : is_some (mark_of x) ≡ true
-    is_mark = come.barrier
-
-    first_mark : arrivals s g number 0 ≡ mark_of x
-    first_mark = grind (arith, barrier_mark 0 (trace_of s (item_at g 0)) number (count_of frontier (item_at g 0)) place, at)
-
-    pub next_if : (m : Mark) → mark_of x ≡ Some m → 0 < size_of s g → ((i : ℕ) → i < size_of s g → StandsNext s frontier g number (mark_of x) i) → IsNextInstance s frontier g number
-    next_if m is some all = record { mark = m; some = some; each = λ i lt. subst (λ o. StandsNext s frontier g number o i) is (all i lt) }
+    pub next_if : ((i : ℕ) → i < size_of s g → StandsNext s frontier g number (mark_of x) i) → IsNextInstance s frontier g number
+    next_if all = let mark = some_mark (mark_of x) come.barrier in
+        record { mark = mark.0; some = item_of_event s prefixes (next_of frontier (item_at g 0)) x at; each = λ i lt. subst (λ o. StandsNext s frontier g number o i) mark.1 (all i lt) }
 
     pub next_only : (k : ℕ) → IsNextInstance s frontier g k → (i : ℕ) → i < size_of s g → StandsNext s frontier g number (mark_of x) i
-    next_only k h i lt = grind (arith, h.each 0 h.some, h.each i lt, first_mark, places_from-once is_barrier 0 (trace_of s (item_at g 0)) (count_of frontier (item_at g 0)) k number)
+    next_only k h i lt = grind (arith, h.each 0 h.some, h.each i lt, barrier_mark 0 (trace_of s (item_at g 0)) number (count_of frontier (item_at g 0)) place, at, places_from-once is_barrier 0 (trace_of s (item_at g 0)) (count_of frontier (item_at g 0)) k number)
 
 -- ---- that instance is the one that may meet
 
@@ -68,10 +64,7 @@ module _ (s : Streams) (order : List EventId) (frontier : Counts) (first_ones : 
           let before = stands_before s (record { at = item_at g 0; index = was.0 }) (record { at = item_at g 0; index = now.0 }) g l k was.1 now.1 refl lt in
           let index = stands_at k (record { at = item_at g 0; index = now.0 }) h now.1 in
           (record { at = item_at g 0; index = was.0 }, was.1, (first_ones (record { at = item_at g 0; index = was.0 })).1 (omega arith));
-      before = λ b d stands previous.
-          let index = stands_at k b h stands in
-          let same : count_of frontier d.at ≡ count_of frontier b.at = ap (count_of frontier) previous.item in
-          (first_ones d).1 (omega (arith, previous.next));
+      before = λ b d stands previous. (first_ones d).1 (grind (arith, stands_at k b h stands, previous.item, previous.next));
     },
   )
     where
@@ -100,7 +93,7 @@ module _ (s : Streams) (order : List EventId) (frontier : Counts) (first_ones : 
     next = meets_next can.0 can.1 can.2
 
     pub is_numbered : ((k : ℕ) → place_of s is_barrier (item_at g 0) k ≡ Some (count_of frontier (item_at g 0)) → ⊥) → ⊥
-    is_numbered none = first_numbered s frontier g none can.0 next
+    is_numbered none = none can.0 (next.each 0 next.some).place
 
     pub numbered_meets : (number : ℕ) → place_of s is_barrier (item_at g 0) number ≡ Some (count_of frontier (item_at g 0)) → (a : Mark) × IsMeeting s order g number a
     numbered_meets number place = grind (arith, can, next.each 0 next.some, places_from-once is_barrier 0 (trace_of s (item_at g 0)) (count_of frontier (item_at g 0)) can.0 number)

@@ -19,8 +19,8 @@ use Rattle.gr_steps.specs.Steps.{AreBarriers, CanMeet}
 use Rattle.gr_steps.proofs.Meeting.{lawful_meet}
 use Rattle.gr_steps.proofs.Orders.{at_behind, split_last}
 use Rattle.gr_order.specs.Readiness.{IsNextInstance}
-use Rattle.gr_order.specs.Sequences.{MeetsInstance, MeetsNext, Sequence}
-use Rattle.gr_order.specs.States.{AreBelowFrontier, IsOrderState, TicksItems, counted_in, next_event, next_events}
+use Rattle.gr_order.specs.Sequences.{MeetsInstance, Sequence}
+use Rattle.gr_order.specs.States.{AreBelowFrontier, IsOrderState, TicksItems, next_event, next_events}
 use Rattle.gr_order.proofs.DecidedLemmas.{size_there}
 use Rattle.gr_order.proofs.HeldLemmas.{group_is_held}
 use Rattle.gr_order.proofs.MeetLemmas.{meets_next}
@@ -31,15 +31,8 @@ use Rattle.gr_order.proofs.TakenLemmas.{trace_most}
 
 -- ---- the loops
 
--- an event by its item and its index
-abbrev pub event_of : ItemId → ℕ → EventId
-event_of i n = record { at = i; index = n }
-
-pub one_event_more : (frontier : Counts) (g n index : ℕ) → index ≡ count_of frontier (item_of g n) → (before : List EventId) → (before ++ next_events frontier g n) ++ (event_of (item_of g n) index ∷ []) ≡ before ++ next_events frontier g (n + 1)
-one_event_more frontier g n index is before =
-    let more : next_events frontier g (n + 1) ≡ next_events frontier g n ++ (next_event frontier (item_of g n) ∷ []) = map-range_with_len_more (λ (k : ℕ). next_event frontier (item_of g k)) 0 n n (omega arith) in
-    append_assoc before (next_events frontier g n) (event_of (item_of g n) index ∷ [])
-    ∙ ap (λ (l : List EventId). before ++ l) (ap (λ (m : ℕ). next_events frontier g n ++ (event_of (item_of g n) m ∷ [])) is ∙ sym more)
+pub one_event_more : (frontier : Counts) (g n index : ℕ) → index ≡ count_of frontier (item_of g n) → (before : List EventId) → (before ++ next_events frontier g n) ++ (record { at = item_of g n; index = index } ∷ []) ≡ before ++ next_events frontier g (n + 1)
+one_event_more frontier g n index is before = grind (arith, map-range_with_len_more (λ (k : ℕ). next_event frontier (item_of g k)) 0 n n, append_assoc before (next_events frontier g n))
 
 module _ (old now : Counts) (g n : ℕ) (ticks : TicksItems old g n now) where
   pub item_waits : count_of now (item_of g n) ≡ count_of old (item_of g n)
@@ -109,55 +102,30 @@ module _ {q : Sequence} {frontier : Counts} {held : ℕ} (state : IsOrderState q
   pub barriers_are_held : size_of q.taken g ≤ held
   barriers_are_held = group_is_held state g group_there below_trace
 
-  are_barriers : AreBarriers q.taken g can.0 (next_events frontier g (size_of q.taken g))
-  are_barriers = record {
-    count = next_count frontier g (size_of q.taken g);
-    each = λ i b at.
-        let is = next_is frontier g (size_of q.taken g) i b at in
-        subst (λ (x : EventId). (x.at.item ≡ i) × StandsIn q.taken x g can.0) (sym is.1) (refl, record { group = refl; item = is.0; place = (next.each i is.0).place });
-  }
+  -- the next events of the group are handled, and counted
+  module _ (n : ℕ) (size : n ≡ size_of q.taken g) (new : Counts) (ticks : TicksItems frontier g n new) (items : List EventId) (is : items ≡ q.handled ++ next_events frontier g n) where
+    are_barriers : AreBarriers q.taken g can.0 (next_events frontier g n)
+    are_barriers = record {
+      count = next_count frontier g n ∙ size;
+      each = λ i b at.
+          let here = next_is frontier g n i b at in
+          let lt : i < size_of q.taken g = omega (arith, here.0, size) in
+          subst (λ (x : EventId). (x.at.item ≡ i) × StandsIn q.taken x g can.0) (sym here.1) (refl, record { group = refl; item = lt; place = (next.each i lt).place });
+    }
 
-  -- so do the next events of the group, with the clock that counts them
-  pub passes : (new : Counts) (items : List EventId) → TicksItems frontier g (size_of q.taken g) new → items ≡ q.handled ++ next_events frontier g (size_of q.taken g) → MeetsInstance q g can.0 (record { taken = q.taken; handled = items })
-  passes new items ticks is = record { taken = refl; meets = record { mark = can.1; meeting = can.2; barriers = next_events frontier g (size_of q.taken g); are = are_barriers; order = is } }
+    pub passes : MeetsInstance q g can.0 (record { taken = q.taken; handled = items })
+    passes = record { taken = refl; meets = record { mark = can.1; meeting = can.2; barriers = next_events frontier g n; are = are_barriers; order = is } }
 
-  pub after_pass : (new : Counts) (items : List EventId) (less : ℕ) → TicksItems frontier g (size_of q.taken g) new → items ≡ q.handled ++ next_events frontier g (size_of q.taken g) → less + size_of q.taken g ≡ held → IsOrderState (record { taken = q.taken; handled = items }) new less
-  after_pass new items less ticks is rest =
-      let size : length items ≡ length q.handled + length (next_events frontier g (size_of q.taken g)) = ap (λ (l : List EventId). length l) is ∙ length-append q.handled (next_events frontier g (size_of q.taken g)) in
-      let each = next_count frontier g (size_of q.taken g) in
-      let more : counted_in new q.taken.sizes ≡ counted_in frontier q.taken.sizes + size_of q.taken g =
-      group_more (λ j. count_of frontier j) (λ j. count_of new j) q.taken.sizes g group_there ticks.items (λ j apart. ticks.others j (inl apart)) in
-      let handled = state.counts in
-      let taken = state.rest in record {
-        sequence = record {
-          prefixes = state.sequence.prefixes;
-          lawful = subst (IsLawful q.taken) (sym is) (lawful_meet q.taken state.sequence.prefixes q.handled state.sequence.lawful g can.0 can.1 can.2 (next_events frontier g (size_of q.taken g)) are_barriers);
-        };
-        shape = ticks.shape ∙ state.shape;
-        first = subst (λ (l : List EventId). AreBelowFrontier l new) (sym is) (first_behind frontier g (size_of q.taken g) q.handled state.first new ticks);
-        counts = omega arith;
-        rest = omega arith;
-      }
-
--- what was done to the order and the clock of a state, of which the group could meet
-pub record Passing (q : Sequence) (frontier : Counts) (held g n : ℕ) (items : List EventId) (new : Counts) (less : ℕ) : Type 0 where
-  pub state : IsOrderState q frontier held
-  pub can : CanMeet q.taken q.handled g
-  pub size : n ≡ size_of q.taken g
-  pub added : items ≡ q.handled ++ next_events frontier g n
-  pub ticks : TicksItems frontier g n new
-  pub rest : less + n ≡ held
-
-module _ {q : Sequence} {frontier : Counts} {held g n : ℕ} {items : List EventId} {new : Counts} {less : ℕ} (p : Passing q frontier held g n items new less) where
-  order : items ≡ q.handled ++ next_events frontier g (size_of q.taken g)
-  order = p.added ∙ ap (λ (m : ℕ). q.handled ++ next_events frontier g m) p.size
-
-  ticked : TicksItems frontier g (size_of q.taken g) new
-  ticked = subst (λ (m : ℕ). TicksItems frontier g m new) p.size p.ticks
-
-  pub state_behind : IsOrderState (record { taken = q.taken; handled = items }) new less
-  state_behind = after_pass p.state g p.can new items less ticked order (let size = p.size in let rest = p.rest in omega arith)
-
-  -- the same of the sequence by another name
-  pub meets_behind : (old : Sequence) → q ≡ old → MeetsNext old g (record { taken = q.taken; handled = items })
-  meets_behind old is = subst (λ (v : Sequence). MeetsNext v g (record { taken = q.taken; handled = items })) is (λ k a meeting. passes p.state g (k, a, meeting) new items ticked order)
+    pub after_pass : (less : ℕ) → less + n ≡ held → IsOrderState (record { taken = q.taken; handled = items }) new less
+    after_pass less rest =
+        let length_is : length items ≡ length q.handled + n = ap (λ (l : List EventId). length l) is ∙ (length-append q.handled (next_events frontier g n) ∙ ap (λ m. length q.handled + m) (next_count frontier g n)) in
+        let more = group_more (λ j. count_of frontier j) (λ j. count_of new j) q.taken.sizes g group_there (λ k lt. ticks.items k (omega (arith, lt, size))) (λ j apart. ticks.others j (inl apart)) in record {
+          sequence = record {
+            prefixes = state.sequence.prefixes;
+            lawful = subst (IsLawful q.taken) (sym is) (lawful_meet q.taken state.sequence.prefixes q.handled state.sequence.lawful g can.0 can.1 can.2 (next_events frontier g n) are_barriers);
+          };
+          shape = ticks.shape ∙ state.shape;
+          first = subst (λ (l : List EventId). AreBelowFrontier l new) (sym is) (first_behind frontier g n q.handled state.first new ticks);
+          counts = omega (arith, more, state.counts);
+          rest = omega (arith, state.rest);
+        }

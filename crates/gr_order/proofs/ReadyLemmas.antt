@@ -1,5 +1,5 @@
 -- Instances and releases, by what is looked at.
-use Rattle.std.proofs.Common.{Contains, ◌≡◌, ℕ, ◌<◌, false, true≢false, List, [], Some, None, refl, sym, ap, ◌∙◌, subst, arith, option_and_then}
+use Rattle.std.proofs.Common.{Contains, ◌≡◌, ℕ, ◌<◌, false, List, [], Some, None, refl, sym, ap, ◌∙◌, subst, arith, option_and_then}
 use Rattle.std.proofs.lemmas.Grind.{common_steps}
 use Rattle.std.specs.Prelude.{All}
 use Rattle.std.proofs.lemmas.List.Elements.{All-contains, All-contains_itself, All-weaker}
@@ -84,11 +84,7 @@ module _ (s : Streams) (order : List EventId) (lawful : IsLawful s order) (front
 
     -- no barrier, and nothing is named
     pub ready_plain : is_barrier x ≡ false → x.names ≡ [] → IsReady s order e
-    ready_plain plain none =
-        ready_if (subst (All (IsReleased s frontier e.at.group x)) (sym none) (λ k d lt. absurd (omega (arith, lt)))) (λ group k stands.
-        let there = barrier_there s e group k stands in
-        let same : there.0 ≡ x = let both : Some there.0 ≡ Some x = sym there.1 ∙ at in cc in
-        absurd (true≢false (sym there.2 ∙ (ap is_barrier same ∙ plain))))
+    ready_plain plain none = ready_if (subst (All (IsReleased s frontier e.at.group x)) (sym none) (λ k d lt. absurd (omega (arith, lt)))) (λ group k stands. absurd (grind (arith, barrier_there s e group k stands, at, plain)))
 
     pub ready_only : IsReady s order e → AreReleased s frontier e.at.group x × MayPass s e
     ready_only ready = (

@@ -1,5 +1,5 @@
 -- An order stays one where a record is taken, and where an event is handled.
-use Rattle.std.proofs.Common.{◌≡◌, ◌⊎◌, ℕ, ◌+◌, ◌<◌, List, [], ◌∷◌, ◌++◌, length, Some, refl, sym, ap, ◌∙◌, subst, inl, inr, arith, Bool, true, cond}
+use Rattle.std.proofs.Common.{◌≡◌, ◌⊎◌, ℕ, ◌+◌, ◌<◌, List, [], ◌∷◌, ◌++◌, length, Some, refl, sym, ap, ◌∙◌, subst, inl, inr, arith, true}
 use Rattle.std.proofs.lemmas.Grind.{common_steps}
 use Rattle.std.specs.Prelude.{not}
 use Rattle.std.proofs.lemmas.Bool.{eq-eqb}
@@ -37,16 +37,10 @@ new_state sizes taken is prefixes frontier clock items none =
     let size : length items ≡ 0 = ap (λ (l : List EventId). length l) none in record {
       sequence = record { prefixes = prefixes; lawful = subst (IsLawful taken) (sym none) (lawful_empty taken) };
       shape = clock.shape ∙ ap (λ (s : Streams). s.sizes) (sym is);
-      first = λ e. (
-        λ there. absurd (nowhere (subst (λ (l : List EventId). IsIn l e) none there)),
-        λ lt. absurd (let count = clock.zero e.at in omega arith),
-      );
+      first = λ e. (λ there. absurd (let at = rw none at there.1 in cc), λ lt. absurd (omega (arith, clock.zero e.at)));
       counts = sum_none (λ i. count_of frontier i) (items_of taken.sizes) clock.zero ∙ sym size;
       rest = omega arith;
     }
-  where
-    nowhere : {e : EventId} → IsIn [] e → ⊥
-    nowhere there = let at = there.1 in cc
 
 -- a record is taken
 module _ {q : Sequence} {frontier : Counts} {held : ℕ} (state : IsOrderState q frontier held) where
@@ -67,14 +61,11 @@ module _ {q : Sequence} {frontier : Counts} {held : ℕ} (state : IsOrderState q
 
 -- ---- an event is handled
 
-abbrev tick_if : Bool → ℕ
-tick_if b = cond b 1 0
-
 same_true : (i j : ItemId) → i ≡ j → same_item i j ≡ true
 same_true i j same = grind (arith, common_steps, eq-eqb)
 
 pub tick_here : (i j : ItemId) → i ≡ j → tick_at i j ≡ 1
-tick_here i j same = ap tick_if (same_true i j same)
+tick_here i j same = grind (arith, same_true i j same)
 
 pub tick_there : (i j : ItemId) → (i ≡ j → ⊥) → tick_at i j ≡ 0
 tick_there i j apart = grind (arith, same_items i j)
@@ -117,14 +108,10 @@ module _ {q : Sequence} {frontier : Counts} {held : ℕ} (state : IsOrderState q
   pub after_handle : (new : Counts) (items : List EventId) (less : ℕ) → IsTick frontier e.at new → items ≡ q.handled ++ e ∷ [] → less + 1 ≡ held → IsOrderState (record { taken = q.taken; handled = items }) new less
   after_handle new items less tick is one =
       let size : length items ≡ length q.handled + 1 = ap (λ (l : List EventId). length l) is ∙ length_push q.handled e in
-      let rest = state.rest in
-      let more : counted_in new q.taken.sizes ≡ counted_in frontier q.taken.sizes + 1 =
-      item_more counts (λ j. count_of new j) q.taken.sizes e.at item_there
-      (tick_more tick) (tick_stays tick) in
-      let handled = state.counts in record {
+      let more = item_more counts (λ j. count_of new j) q.taken.sizes e.at item_there (tick_more tick) (tick_stays tick) in record {
         sequence = record { prefixes = state.sequence.prefixes; lawful = subst (IsLawful q.taken) (sym is) (lawful_handle q.taken q.handled state.sequence.lawful e ready) };
         shape = tick.shape ∙ state.shape;
         first = subst (λ l. AreBelowFrontier l new) (sym is) (first_more new tick);
-        counts = omega arith;
-        rest = omega arith;
+        counts = omega (arith, more, state.counts);
+        rest = omega (arith, state.rest);
       }

@@ -1,5 +1,4 @@
-use Rattle.std.proofs.Common.{◌≡◌, ◌∙◌, Some, ap, refl, sym, true≢false}
-use Rattle.gr_model.specs.Barriers.{is_barrier}
+use Rattle.std.proofs.Common.{arith, refl}
 use Rattle.gr_steps.proofs.BarrierPlaces.{barrier_there}
 use Rattle.gr_order.proofs.ReadyLemmas.{passes_if, passes_only}
 use Rattle.gr_order.proofs.ready.may_pass.Goals as goal
@@ -13,9 +12,6 @@ returns-in-Some g c =
 
 pub returns-then-not-is_barrier : goal.returns-then-not-is_barrier
 returns-then-not-is_barrier g c = (
-  λ _ group k stands.
-      let there = barrier_there c.args.lanes.now.streams c.args.event group k stands in
-      let same : there.0 ≡ c.args.taken.now = let both : Some there.0 ≡ Some c.args.taken.now = sym there.1 ∙ c.requires.there in cc in
-      absurd (true≢false (sym there.2 ∙ (ap is_barrier same ∙ (sym c.is_barrier.ensures ∙ c.if-not-is_barrier.true)))),
+  λ _ group k stands. absurd (grind (arith, barrier_there c.args.lanes.now.streams c.args.event group k stands, c.requires.there, c.is_barrier.ensures, c.if-not-is_barrier.true)),
   λ _. refl,
 )

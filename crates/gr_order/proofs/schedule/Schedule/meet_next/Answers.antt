@@ -1,7 +1,7 @@
 use Rattle.std.proofs.Common.{◌≡◌, ◌-◌, arith}
 use Rattle.gr_order.proofs.ForgetLemmas.{forgets_met, forgets_streams}
 use Rattle.gr_order.proofs.MeetLemmas.{meets_next}
-use Rattle.gr_order.proofs.PassLemmas.{Passing, barriers_are_held, below_largest, meets_behind, state_behind}
+use Rattle.gr_order.proofs.PassLemmas.{after_pass, barriers_are_held, below_largest, passes}
 use Rattle.gr_order.proofs.WaitLemmas.{waits_behind}
 use Rattle.gr_order.proofs.schedule.Schedule.meet_next.Given as given
 use Rattle.gr_order.proofs.schedule.Schedule.meet_next.Goals as goal
@@ -22,29 +22,17 @@ overflow_sub-self g c =
     let held = barriers_are_held c.self.invariant.kept.state c.args.group (rw (← c.self.view_is) at c.requires) in
     omega (arith, size, held, c.from.ensures)
 
--- the order and the clock at hand
-at_hand : (g : given.Over) (c : goal.After-self-1 g) → Passing (record { taken = c.self.inside.lanes.streams; handled = c.self.inside.handled }) c.self.inside.frontier c.self.inside.held c.args.group c.items-size.result c.add_next_events.new.handled c.count_next_events.new.frontier (c.self.inside.held - c.from.result)
-at_hand g c =
-    let can = rw (← c.self.view_is) at c.requires in
-    let size = rw c.shape.ensures.sizes at c.items-size.ensures.size in
-    let held = barriers_are_held c.self.invariant.kept.state c.args.group can in record {
-      state = c.self.invariant.kept.state;
-      can = can;
-      size = size;
-      added = c.add_next_events.ensures;
-      ticks = c.count_next_events.ensures;
-      rest = omega (arith, size, held, c.from.ensures);
-    }
-
 -- what is forgotten leaves the streams as they are
 streams_stay : (g : given.Over) (c : goal.After-self-1 g) → c.forget_next.new.lanes.streams ≡ c.self.inside.lanes.streams
 streams_stay g c = forgets_streams c.self.inside.lanes c.forget_next.new.lanes c.self.inside.frontier c.args.group c.forget_next.ensures
 
 pub invariant_of-self : goal.invariant_of-self
 invariant_of-self g c =
-    let size = rw c.shape.ensures.sizes at c.items-size.ensures.size in record {
+    let can = rw (← c.self.view_is) at c.requires in
+    let size = rw c.shape.ensures.sizes at c.items-size.ensures.size in
+    let held = barriers_are_held c.self.invariant.kept.state c.args.group can in record {
       kept = rw (streams_stay g c) (record {
-        state = state_behind (at_hand g c);
+        state = after_pass c.self.invariant.kept.state c.args.group can c.items-size.result size c.count_next_events.new.frontier c.count_next_events.ensures c.add_next_events.new.handled c.add_next_events.ensures (c.self.inside.held - c.from.result) (omega (arith, size, held, c.from.ensures));
         waits = waits_behind c.self.invariant.kept c.args.group c.items-size.result c.count_next_events.new.frontier c.count_next_events.ensures c.pop_group.new.self c.pop_group.ensures;
       });
       forgets = forgets_met c.self.inside.lanes c.self.invariant.kept.state.sequence.prefixes c.self.inside.frontier c.count_next_events.new.frontier c.args.group c.items-size.result size c.count_next_events.ensures c.self.invariant.forgets c.forget_next.new.lanes c.forget_next.ensures;
@@ -52,7 +40,9 @@ invariant_of-self g c =
 
 pub returns-clause-step : goal.returns-clause-step
 returns-clause-step g c =
-    rw (streams_stay g c) (meets_behind (at_hand g c) c.args.self.now c.self.view_is)
+    let size = rw c.shape.ensures.sizes at c.items-size.ensures.size in
+    rw (streams_stay g c, ← c.self.view_is)
+    (λ k a meeting. passes c.self.invariant.kept.state c.args.group (k, a, meeting) c.items-size.result size c.count_next_events.new.frontier c.count_next_events.ensures c.add_next_events.new.handled c.add_next_events.ensures)
 
 pub returns-clause-sequence : goal.returns-clause-sequence
 returns-clause-sequence g c = (invariant_of-self g c).kept.state.sequence

@@ -27,7 +27,6 @@ returns-clause-step g c =
     let q : Sequence = record { taken = c.self.inside.lanes.streams; handled = c.self.inside.handled } in
     let go = rw (← c.self.view_is) at c.requires.goes in
     let order = c.push.ensures ∙ ap (λ (y : EventId). q.handled ++ y ∷ []) (event_at_once c.self.invariant.kept c.args.group c.args.event go c.get-index.result c.get-index.ensures.count) in
-    let now : Sequence = record { taken = c.take_access.new.self.streams; handled = c.push.new.self } in
     rw (← c.self.view_is) (steps_at_once c.self.invariant.kept c.args.group c.args.event go c.push.new.self order c.take_access.new.self.streams (ap (λ (r : Remembered). r.streams) c.take_access.ensures.taken))
 
 pub returns-clause-sequence : goal.returns-clause-sequence
