@@ -37,13 +37,10 @@ module _ (s : Streams) (f : EventId) (names : List Name) (word : Option Word) (n
   had : (n : Name) → HasName s f n → Contains names n
   had n named = subst (λ xs. Contains xs n) (sym names_are) named
 
-  none_absent : (Any (IsAbsent s) names → ⊥) → (n : Name) → HasName s f n → ¬ IsAbsent s n
-  none_absent none n named absent = let there = had n named in none (there.0, n, there.1, there.2, absent)
-
   pub cause_behind : (Any (IsAbsent s) names → ⊥) → (Any (IsElsewhere s word) names → ⊥) → HasAcquireCause s f Behind
   cause_behind none same n named =
       elim (release_place s n) as (λ o. (release_place s n ≡ o) → IsOfItsWord s f n) [
-        | None ↦ λ absent. absurd (none_absent none n named absent)
+        | None ↦ λ absent. let there = had n named in absurd (none (there.0, n, there.1, there.2, absent))
         | Some k ↦ λ at. by_cases (option_dec word_dec (word_at s (record { at = n.at; index = k })) (word_at s f)) (λ its. (k, at, its)) (λ other. let there = had n named in absurd (same (there.0, n, there.1, there.2, subst (λ w. IsElsewhere s w n) (sym word_is) (k, at, other))))
       ] refl
 
@@ -66,9 +63,6 @@ module _ (s : Streams) (frontier : Counts) (prefix : IsGroundedFrontier s fronti
   -- an item's unmatched event is the next to be handled
   only_next : (e : EventId) → IsUnmatchedAcquire s e → e.at ≡ item → e ≡ next
   only_next e unmatched at = grind (arith, same_event e next, unmatched.held, unmatched.before, prefix e, prefix (record { at = e.at; index = index }), is)
-
-  pub none_there : event_at s next ≡ None → (u : Unmatched) → IsUnmatchedEntry s u → u.event.at ≢ item
-  none_there none u unmatched at = grind (arith, only_next u.event)
 
   module _ (x : Event) (at_next : event_at s next ≡ Some x) where
     pub names_are : names_at s next ≡ x.names

@@ -49,7 +49,7 @@ module _ {q : Sequence} {frontier : Counts} {windows : Table} {held : ℕ} (kept
   not_at_once y waits go = grind (arith, go.first next refl, first_waits q.taken frontier windows kept.waits next refl, kept.state.first next)
 
   module _ (none : slice_get (window_of windows e.at) 0 ≡ None) where
-    count_is : count_of frontier e.at ≡ length (trace_of q.taken e.at)
+    pub count_is : count_of frontier e.at ≡ length (trace_of q.taken e.at)
     count_is = grind (arith, taken_first kept.state e.at, slice_get-get_or (trace_of q.taken e.at) (count_of frontier e.at) x, first_waits q.taken frontier windows kept.waits next refl, none)
 
     -- nothing of the item waits
@@ -63,8 +63,8 @@ module _ {q : Sequence} {frontier : Counts} {windows : Table} {held : ℕ} (kept
           (kept.state.first d).1 (subst (λ i. d.index < count_of frontier i) (sym own) (omega (arith, within, ap (λ i. length (trace_of q.taken i)) own, count_is)));
     }
 
-  pub next_is : slice_get (window_of windows e.at) 0 ≡ None → (index : ℕ) → index ≡ count_of frontier e.at → record { at = e.at; index = index } ≡ e
-  next_is none index same = same_event (record { at = e.at; index = index }) e refl (same ∙ count_is none)
+  pub next_is : count_of frontier e.at ≡ length (trace_of q.taken e.at) → (index : ℕ) → index ≡ count_of frontier e.at → record { at = e.at; index = index } ≡ e
+  next_is count index same = same_event (record { at = e.at; index = index }) e refl (same ∙ count)
 
   -- ---- the two steps
 
@@ -77,9 +77,6 @@ module _ {q : Sequence} {frontier : Counts} {windows : Table} {held : ℕ} (kept
         let all : ¬ (count_of frontier e.at < length (trace_of q.taken e.at)) = λ lt.
         let below = (kept.state.first next).0 (go.first next refl (get_or (trace_of q.taken e.at) (count_of frontier e.at) x, slice_get-get_or (trace_of q.taken e.at) (count_of frontier e.at) x lt)) in omega arith in
         omega (arith, taken_first kept.state e.at)
-
-    pub event_at_once : (index : ℕ) → index ≡ count_of frontier e.at → record { at = e.at; index = index } ≡ e
-    event_at_once index same = same_event (record { at = e.at; index = index }) e refl (same ∙ count_at_once)
 
     -- the event is ready where the record was taken
     pub ready_at_once : IsReady more q.handled e

@@ -2,7 +2,7 @@
 use Rattle.std.proofs.Common.{◌≡◌, ◌⊎◌, ℕ, ◌+◌, ◌<◌, ◌≤◌, List, [], ◌∷◌, ◌++◌, length, subst, inl, inr, ⊎_elim, arith}
 use Rattle.gr_model.specs.Reports.{Lists, IsCut}
 use Rattle.gr_model.specs.Streams.{Streams}
-use Rattle.gr_barriers.proofs.Lists.{listed_push, listed_same, none_listed}
+use Rattle.gr_barriers.proofs.Lists.{listed_push, listed_same}
 
 abbrev pub Above : ℕ → ℕ → Type 0
 Above g h = g < h
@@ -12,9 +12,6 @@ abbrev pub CutBelow : Streams → ℕ → List ℕ → Type 0
 CutBelow s bound groups = Lists Above (λ g. (g < bound) × IsCut s g) groups
 
 module _ (s : Streams) where
-  pub none_cut : CutBelow s 0 []
-  none_cut = none_listed Above (λ g. (g < 0) × IsCut s g) (λ g h. omega (arith, h.0))
-
   module _ (bound : ℕ) (groups : List ℕ) (below : CutBelow s bound groups) where
     earlier : (g : ℕ) → g < bound + 1 → (g < bound) ⊎ (g ≡ bound)
     earlier g lt = grind arith

@@ -32,7 +32,7 @@ use Rattle.gr_lanes.proofs.InstanceLemmas.{barrier_mark}
 use Rattle.gr_barriers.proofs.Lists.{listed_push, listed_same, none_listed}
 use Rattle.gr_order.specs.Forgetting.{ForgetsHandled, ForgetsLeast, ForgetsNext, ForgetsPassed, HaveAllPassed, IsForgetting}
 use Rattle.gr_order.specs.Readiness.{IsNextInstance}
-use Rattle.gr_order.specs.States.{AreBelowFrontier, TicksItems}
+use Rattle.gr_order.specs.States.{TicksItems}
 use Rattle.gr_order.proofs.StateLemmas.{within_or_beyond}
 use Rattle.gr_order.proofs.DecidedLemmas.{came_on, divergence_stays, divergence_was, size_stays, size_there}
 
@@ -54,30 +54,21 @@ whole_forgets r frontier whole = record {
 barrier_item : (s : Streams) → ArePrefixes s → (e : EventId) (k : ℕ) → place_of s is_barrier e.at k ≡ Some e.index → e.at.item < size_of s e.at.group
 barrier_item s prefixes e k at = grind (arith, barrier_mark 0 (trace_of s e.at) k e.index at, item_of_event s prefixes e)
 
--- where all came each has a barrier there
-came_place : (s : Streams) (g k i : ℕ) → HaveAllCome s g k → i < size_of s g → (p : ℕ) × (place_of s is_barrier (record { group = g; item = i }) k ≡ Some p)
-came_place s g k i came within = let a = came.1 i within in filter_map-place mark_of 0 (trace_of s (record { group = g; item = i })) k a.0 a.1
-
 -- ---- more records come, and more is handled
 
 module _ (old : Remembered) (t : Streams) (before after : Counts) (grows : Grows old.streams t) (prefixes : ArePrefixes t) (counts : AreMore before after) (was : IsForgetting old before) where
-  decided_on : {g : ℕ} (d : Divergence) → IsDecided old g d → IsDivergence t d
-  decided_on d is = grind (arith, divergence_stays old.streams t grows d.group d.instance, was.decided.came d.group d.instance, is)
-
-  decided_was : {g : ℕ} (d : Divergence) → d.group ≡ g → d.instance < forgotten_of old g → IsDivergence t d → IsDivergence old.streams d
-  decided_was d group below is = divergence_was old.streams t grows d.group d.instance (was.decided.came d.group d.instance (rw group below)) d.cause is
-
   -- as many are forgotten of a group, and the same are kept
   still_listed : (counts : List ℕ) (lists : List (List Divergence)) (g : ℕ) → get_or counts g 0 ≡ forgotten_of old g → Lists DivergenceBelow (IsDecided (record { streams = t; forgotten = counts; decided = lists }) g) (decided_of old g)
   still_listed counts lists g count = listed_same DivergenceBelow (IsDecided old g) (IsDecided (record { streams = t; forgotten = counts; decided = lists }) g) (decided_of old g) (was.decided.lists g)
-      (λ d is. record { divergence = decided_on d is; group = is.group; below = rw count is.below })
-      (λ d is. let below = rw count at is.below in record { divergence = decided_was d is.group below is.divergence; group = is.group; below = below })
+      (λ d is. record { divergence = divergence_stays old.streams t grows d.group d.instance (was.decided.came d.group d.instance (rw is.group is.below)) d.cause is.divergence; group = is.group; below = rw count is.below })
+      (λ d is. let below = rw count at is.below in record { divergence = divergence_was old.streams t grows d.group d.instance (was.decided.came d.group d.instance (rw is.group below)) d.cause is.divergence; group = is.group; below = below })
 
   handled_on : (e : EventId) (k : ℕ) → place_of t is_barrier e.at k ≡ Some e.index → k < forgotten_of old e.at.group → e.index < count_of after e.at
   handled_on e k at below =
       let came = was.decided.came e.at.group k below in
       let within : e.at.item < size_of old.streams e.at.group = omega (arith, barrier_item t prefixes e k at, size_stays old.streams t grows e.at.group k came) in
-      let stood = came_place old.streams e.at.group k e.at.item came within in
+      let a = came.1 e.at.item within in
+      let stood = filter_map-place mark_of 0 (trace_of old.streams e.at) k a.0 a.1 in
       let stands = stands_grows old.streams t grows (record { at = e.at; index = stood.0 }) e.at.group k (record { group = refl; item = within; place = stood.1 }) in
       grind (arith, stands.place, was.handled (record { at = e.at; index = stood.0 }) k stood.1 below, counts e.at)
 
@@ -100,15 +91,6 @@ module _ (old : Remembered) (t : Streams) (before after : Counts) (grows : Grows
     below_was : (h k : ℕ) → k < forgotten_of grown h → (h ≢ g) × (k < forgotten_of old h)
     below_was h k below = grind (arith, common_steps, put_same, put_other)
 
-    lists_grown : (h : ℕ) → Lists DivergenceBelow (IsDecided grown h) (decided_of grown h)
-    lists_grown h = ⊎_elim
-        (λ (same : h ≡ g).
-        rw (ap (λ m. get_or (put [] old.decided g []) m []) same ∙ put_same [] old.decided g [])
-        (none_listed DivergenceBelow (IsDecided grown h) (λ d is. (below_was h d.instance is.below).0 same)))
-        (λ (apart : h ≡ g → ⊥).
-        rw (put_other [] old.decided g [] h apart) (still_listed (put 0 old.forgotten g 0) (put [] old.decided g []) h (put_other 0 old.forgotten g 0 h apart)))
-        (cases_eq h g)
-
     pub forgets_coming : IsForgetting grown after
     forgets_coming = record {
       decided = record {
@@ -117,7 +99,13 @@ module _ (old : Remembered) (t : Streams) (before after : Counts) (grows : Grows
           decided = omega (arith, length_put [] old.decided g [], length_put 0 old.streams.sizes g n, was.decided.groups.decided, ap (λ (u : Streams). length u.sizes) is);
         };
         came = λ h k below. came_on old.streams t grows h k (was.decided.came h k (below_was h k below).1);
-        lists = lists_grown;
+        lists = λ h. ⊎_elim
+            (λ (same : h ≡ g).
+            rw (ap (λ m. get_or (put [] old.decided g []) m []) same ∙ put_same [] old.decided g [])
+            (none_listed DivergenceBelow (IsDecided grown h) (λ d is. (below_was h d.instance is.below).0 same)))
+            (λ (apart : h ≡ g → ⊥).
+            rw (put_other [] old.decided g [] h apart) (still_listed (put 0 old.forgotten g 0) (put [] old.decided g []) h (put_other 0 old.forgotten g 0 h apart)))
+            (cases_eq h g);
       };
       handled = λ e k at below. handled_on e k at (below_was e.at.group k below).1;
     }
@@ -143,10 +131,6 @@ tick_counts before i after tick j = let counts = tick.counts j in omega (arith, 
 
 pub next_remembered : (r : Remembered) (frontier : Counts) → IsForgetting r frontier → (e : EventId) → count_of frontier e.at ≤ e.index → IsEventRemembered r e
 next_remembered r frontier forgets e behind k at = grind (arith, common_steps)
-
--- what the clock counts was handled
-pub forgets_as : (r : Remembered) (order : List EventId) (frontier : Counts) → AreBelowFrontier order frontier → IsForgetting r frontier → ForgetsHandled r order
-forgets_as r order frontier first forgets = record { decided = forgets.decided; handled = λ e k at below. (first e).1 (forgets.handled e k at below) }
 
 pub unhandled_remembered : (r : Remembered) (order : List EventId) → ForgetsHandled r order → (e : EventId) → ¬ IsIn order e → IsEventRemembered r e
 unhandled_remembered r order forgets e out k at = grind (arith, common_steps)
@@ -178,12 +162,6 @@ module _ (old : Remembered) (prefixes : ArePrefixes old.streams) (frontier : Cou
   still_below : (h k : ℕ) → k < forgotten_of old h → k < get_or counts h 0
   still_below h k below = grind (arith, get_or-set_same, get_or-set_other, within, was.decided.groups.forgotten)
 
-  came_more : (h k : ℕ) → k < get_or counts h 0 → HaveAllCome old.streams h k
-  came_more h k below = ⊎_elim (was.decided.came h k) (λ (last : (h ≡ g) × (k ≡ least)). rw (last.0, last.1) (passed_came old.streams frontier g least passed)) (below_cases h k below)
-
-  handled_more : (e : EventId) (k : ℕ) → place_of old.streams is_barrier e.at k ≡ Some e.index → k < get_or counts e.at.group 0 → e.index < count_of frontier e.at
-  handled_more e k at below = grind (arith, below_cases e.at.group k below, was.handled e k at, barrier_item old.streams prefixes e k at, passed.1 e.at.item)
-
   abbrev more : List (List Divergence) → Remembered
   more lists = record { streams = old.streams; forgotten = counts; decided = lists }
 
@@ -201,10 +179,10 @@ module _ (old : Remembered) (prefixes : ArePrefixes old.streams) (frontier : Cou
   forgets_more lists size listed = record {
     decided = record {
       groups = record { forgotten = length-set old.forgotten g (least + 1) ∙ was.decided.groups.forgotten; decided = size };
-      came = came_more;
+      came = λ h k below. ⊎_elim (was.decided.came h k) (λ (last : (h ≡ g) × (k ≡ least)). rw (last.0, last.1) (passed_came old.streams frontier g least passed)) (below_cases h k below);
       lists = listed;
     };
-    handled = handled_more;
+    handled = λ e k at below. grind (arith, below_cases e.at.group k below, was.handled e k at, barrier_item old.streams prefixes e k at, passed.1 e.at.item);
   }
 
   -- it is not divergent
@@ -275,11 +253,8 @@ pub next_came : (s : Streams) (frontier : Counts) (g k : ℕ) → IsNextInstance
 next_came s frontier g k next = (next.some, λ i within. (next.mark, (next.each i within).mark))
 
 module _ (old : Remembered) (prefixes : ArePrefixes old.streams) (before after : Counts) (g n : ℕ) (size : n ≡ size_of old.streams g) (ticks : TicksItems before g n after) (was : IsForgetting old before) where
-  more_counted : AreMore before after
-  more_counted i = grind (arith, common_steps, within_or_beyond)
-
   on : IsForgetting old after
-  on = forgets_on old before after more_counted was
+  on = forgets_on old before after (λ i. grind (arith, common_steps, within_or_beyond)) was
 
   -- its items have passed it behind the step
   next_passed : IsNextInstance old.streams before g (forgotten_of old g) → HaveAllPassed old.streams after g (forgotten_of old g)

@@ -35,6 +35,3 @@ not_at_rest q (Group g) can rest = rest.meets g can
 module _ (q : Sequence) where
   pub rest_if_none : (o : Option Ready) (b : Bool) → is_some o ≡ not b → MatchOption o (IsDone q) (λ r. CanMake q r) → IsTrue b ↔ IsAtRest q.taken q.handled
   rest_if_none o b e done = grind (arith, not_at_rest q)
-
-  pub done_if_none : (o : Option Ready) (b : Bool) → is_some o ≡ not b → MatchOption o (IsDone q) (λ r. CanMake q r) → IsTrue b → IsDone q
-  done_if_none o b e done none = grind arith

@@ -45,21 +45,21 @@ AreWithin n list = (p : ℕ) (x : Event) → slice_get list p ≡ Some x → x.i
 pub group_events : (n : ℕ) (list : List Event) → AreWithin n list → total (λ i. length (filter (is_of i) list)) 0 n ≡ events_in list
 group_events n [] within = total_none (λ i. 0) 0 n (λ k ge lt. refl)
 group_events n (x ∷ list) within =
-    let rest = group_events n list (λ p y at. within (suc p) y at) in
-    let more : total (λ i. length (filter (is_of i) (x ∷ list))) 0 n ≡ total (λ i. length (filter (is_of i) list)) 0 n + one_if (not (is_end x)) =
-    total_more (λ i. length (filter (is_of i) list)) (λ i. length (filter (is_of i) (x ∷ list))) x.item (one_if (not (is_end x))) 0 n
-    (let here = filter_one (is_of x.item) x list in let of = of_item x in omega arith)
-    (λ i apart. let here = filter_one (is_of i) x list in let of = of_other x i apart in omega arith)
-    (omega arith) (let first = within 0 x refl in omega arith) in
-    let one = filter_one (λ y. not (is_end y)) x list in omega arith
+    let more = total_more (λ i. length (filter (is_of i) list)) (λ i. length (filter (is_of i) (x ∷ list))) x.item (one_if (not (is_end x))) 0 n
+    (omega (arith, filter_one (is_of x.item) x list, of_item x))
+    (λ i apart. omega (arith, filter_one (is_of i) x list, of_other x i apart))
+    (omega arith) (omega (arith, within 0 x refl)) in
+    omega (arith, group_events n list (λ p y at. within (suc p) y at), more, filter_one (λ y. not (is_end y)) x list)
+
+lists_of_groups : (s : Streams) → ArePrefixes s → event_count s ≡ total (λ g. events_in (list_of s g)) 0 (length s.sizes)
+lists_of_groups s prefixes = sum_places events_in s.lists [] ∙ ap (λ (n : ℕ). total (λ g. events_in (list_of s g)) 0 n) prefixes.count
 
 -- so the events that were taken are those of all items
 pub taken_events : (s : Streams) → ArePrefixes s → sum_by (λ i. length (trace_of s i)) (items_of s.sizes) ≡ event_count s
 taken_events s prefixes =
     let groups = total_same (λ g. events_in (list_of s g)) (group_sum (λ i. length (trace_of s i)) s.sizes) 0 (length s.sizes) (λ g from there.
     group_events (size_of s g) (list_of s g) (λ p x at. ((prefixes.each g (omega arith)).good p x at).0.0)) in
-    let lists : event_count s ≡ total (λ g. events_in (list_of s g)) 0 (length s.sizes) = sum_places events_in s.lists [] ∙ ap (λ (n : ℕ). total (λ g. events_in (list_of s g)) 0 n) prefixes.count in
-    let items = items_sum (λ i. length (trace_of s i)) s.sizes in omega arith
+    omega (arith, groups, lists_of_groups s prefixes, items_sum (λ i. length (trace_of s i)) s.sizes)
 
 -- one record more
 pub events_more : (s : Streams) (g : ℕ) (x : Event) → ArePrefixes s → CanTake s g x → event_count (with_record s g x) ≡ event_count s + one_if (not (is_end x))
@@ -80,8 +80,6 @@ trace_most s prefixes i there = grind (arith, common_steps, length-filter_le)
 
 pub events_most : (s : Streams) → ArePrefixes s → event_count s ≤ 1099494850560
 events_most s prefixes =
-    let lists : event_count s ≡ total (λ g. events_in (list_of s g)) 0 (length s.sizes) = sum_places events_in s.lists [] ∙ ap (λ (n : ℕ). total (λ g. events_in (list_of s g)) 0 n) prefixes.count in
     let most = total_most (λ g. events_in (list_of s g)) 0 (length s.sizes) (λ g from there.
-    let few : length (list_of s g) ≤ MOST_RECORDS = (prefixes.each g (omega arith)).few in
-    let part = length-filter_le (λ x. not (is_end x)) (list_of s g) in omega arith) in
-    let groups : length s.sizes ≤ MOST_GROUPS = prefixes.shape.groups in omega arith
+    let few : length (list_of s g) ≤ MOST_RECORDS = (prefixes.each g (omega arith)).few in omega (arith, few, length-filter_le (λ x. not (is_end x)) (list_of s g))) in
+    let groups : length s.sizes ≤ MOST_GROUPS = prefixes.shape.groups in omega (arith, most, groups, lists_of_groups s prefixes)

@@ -1,15 +1,13 @@
 -- The events that wait, where a record is taken, and where events are handled.
-use Rattle.std.proofs.Common.{◌≡◌, ℕ, ◌+◌, ◌-◌, ◌<◌, true, false, cond, List, [], ◌∷◌, ◌++◌, length, map, slice_get, Option, drop, take, filter, sym, ap, ◌∙◌, subst, arith, append-nil}
+use Rattle.std.proofs.Common.{◌≡◌, ℕ, ◌+◌, ◌-◌, false, List, [], ◌∷◌, ◌++◌, length, slice_get, Option, drop, take, filter, sym, ap, ◌∙◌, subst, arith, append-nil}
 use Rattle.std.proofs.lemmas.Grind.{common_steps}
 use Rattle.std.proofs.lemmas.Bool.Decides.{nat_tests}
-use Rattle.std.proofs.lemmas.Bool.{eq-eqb, ne_eqb}
 use Rattle.std.proofs.Math.ListN.{get_or-map}
-use Rattle.std.proofs.lemmas.List.{drop-append-le, length-map}
+use Rattle.std.proofs.lemmas.List.{drop-append-le}
 use Rattle.gr_model.specs.declared.event.Event.{Event}
 use Rattle.gr_model.specs.declared.event.EventId.{EventId}
 use Rattle.gr_model.specs.declared.event.ItemId.{ItemId}
 use Rattle.gr_model.specs.Events.{is_end}
-use Rattle.gr_model.specs.Shapes.{HasItem}
 use Rattle.gr_model.specs.Streams.{ArePrefixes, Streams, event_at, is_of, trace_of}
 use Rattle.gr_clocks.specs.Counts.{Counts, IsTick, count_of}
 use Rattle.gr_clocks.specs.Tables.{item_of}
@@ -19,8 +17,8 @@ use Rattle.gr_lanes.proofs.IndexLemmas.{trace_more}
 use Rattle.gr_windows.specs.Windows.{AreWaiting, Changes, DropsItems, IsEmpty, Table, window_of}
 use Rattle.gr_windows.proofs.WindowLemmas.{drop_none, drop_one, first_waits, take_pushed}
 use Rattle.gr_order.specs.Sequences.{Sequence}
-use Rattle.gr_order.specs.States.{AreBelowFrontier, TicksItems}
-use Rattle.gr_order.specs.Waiting.{AreSame, IsKept, Keeps, added, is_at}
+use Rattle.gr_order.specs.States.{AreBelowFrontier, TicksItems, next_event}
+use Rattle.gr_order.specs.Waiting.{AreSame, IsKept, Keeps, added}
 use Rattle.gr_order.proofs.HeldLemmas.{taken_first}
 use Rattle.gr_order.proofs.StateLemmas.{item_cases, tick_more, tick_stays, within_or_beyond}
 
@@ -30,12 +28,6 @@ first_is {s} {frontier} {windows} waiting i {n} count waits is = sym (first_wait
 
 -- ---- what a record adds
 
-none_added : (g : ℕ) (x : Event) (i : ItemId) → is_at g x i ≡ false → added g x i ≡ []
-none_added g x i is = ap (λ b. cond b (x ∷ []) []) is
-
-pub end_adds_none : (g : ℕ) (x : Event) (i : ItemId) → is_end x ≡ true → added g x i ≡ []
-end_adds_none g x i end = grind (arith, nat_tests)
-
 pub adds_here : (g : ℕ) (x : Event) → is_end x ≡ false → added g x (item_of g x.item) ≡ x ∷ []
 adds_here g x on = grind (arith, nat_tests)
 
@@ -43,24 +35,15 @@ pub adds_none : (g : ℕ) (x : Event) (i : ItemId) → (i ≡ item_of g x.item �
 adds_none g x i apart =
     let neither : i.group ≡ g → i.item ≡ x.item → ⊥ = λ p q. apart (λ d. record { group = p d; item = q d }) in grind (arith, nat_tests)
 
-pub keeps_event : (old : Table) (g : ℕ) (x : Event) (new : Table) → is_end x ≡ false → Changes old (item_of g x.item) (window_of old (item_of g x.item) ++ x ∷ []) new → Keeps old g x new
-keeps_event old g x new on changes = grind (arith, common_steps, adds_here, adds_none, append-nil, item_cases)
-
-pub forgets_end : (before : Table) (g : ℕ) (x : Event) (w : Table) → is_end x ≡ true → Keeps before g x w → AreSame before w
-forgets_end before g x w end keeps = record { shape = keeps.shape; each = λ i. grind (arith, keeps.each i, end_adds_none g x i end, append-nil) }
-
 pub forgets_event : (before : Table) (g : ℕ) (x : Event) (old new : Table) → is_end x ≡ false → Keeps before g x old → Changes old (item_of g x.item) (take (length (window_of old (item_of g x.item)) - 1) (window_of old (item_of g x.item))) new → AreSame before new
 forgets_event before g x old new on keeps changes = grind (arith, common_steps, adds_here, take_pushed, adds_none, append-nil, item_cases)
 
 -- ---- a record is taken
 
 pub trace_grows : (s : Streams) (g : ℕ) (x : Event) → ArePrefixes s → CanTake s g x → (i : ItemId) → trace_of (with_record s g x) i ≡ trace_of s i ++ added g x i
-trace_grows s g x prefixes can i = grind (arith, common_steps, here, eq-eqb, trace_more, none_added, ne_eqb, other, append-nil)
+trace_grows s g x prefixes can i = grind (arith, common_steps, nat_tests, here, trace_more, other, append-nil)
 
 module _ {q : Sequence} {frontier : Counts} {windows : Table} {held : ℕ} (kept : IsKept q frontier windows held) where
-  pub item_is_kept : (g : ℕ) (x : Event) → CanTake q.taken g x → HasItem (map length windows) (item_of g x.item)
-  item_is_kept g x can = subst (λ sizes. HasItem sizes (item_of g x.item)) (sym kept.waits.shape) (can.group, can.item)
-
   pub waits_more : (g : ℕ) (x : Event) (new : Streams) → CanTake q.taken g x → new ≡ with_record q.taken g x → (now : Table) → Keeps windows g x now → AreWaiting new frontier now
   waits_more g x new can is now keeps = subst (λ (s : Streams). AreWaiting s frontier now) (sym is) (record {
     shape = keeps.shape ∙ kept.waits.shape;
@@ -91,16 +74,8 @@ module _ {q : Sequence} {frontier : Counts} {windows : Table} {held : ℕ} (kept
     each = λ i. grind (arith, within_or_beyond g n i, next_drop i (count_of new i) (window_of now i), ticks.items i.item, drops.items i.item, drops.others i, kept.waits.each i, ticks.others i);
   }
 
-  pub group_is_kept : (g : ℕ) → g < length q.taken.sizes → g < length windows
-  group_is_kept g there = grind (arith, there, kept.waits.shape, length-map)
-
   pub waits_as : (c : Counts) → AreBelowFrontier q.handled c → AreWaiting q.taken c windows
-  waits_as c first = record { shape = kept.waits.shape; each = λ i. kept.waits.each i ∙ ap (λ n. drop n (trace_of q.taken i)) (same i) }
-    where
-      same : (i : ItemId) → count_of frontier i ≡ count_of c i
-      same i =
-          let mine : EventId = record { at = i; index = count_of frontier i } in
-          let theirs : EventId = record { at = i; index = count_of c i } in grind (arith, kept.state.first mine, first mine, kept.state.first theirs, first theirs)
+  waits_as c first = record { shape = kept.waits.shape; each = λ i. grind (arith, kept.waits.each i, kept.state.first (next_event frontier i), first (next_event frontier i), kept.state.first (next_event c i), first (next_event c i)) }
 
 -- nothing was taken
 pub none_wait : (sizes : List ℕ) (taken : Streams) → taken ≡ nothing_taken sizes → (frontier : Counts) (w : Table) → IsEmpty sizes w → AreWaiting taken frontier w

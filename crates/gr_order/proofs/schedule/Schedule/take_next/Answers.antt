@@ -26,12 +26,8 @@ invariant_of-self-in-Ok g c =
 
 pub invariant_of-self-in-Err : goal.invariant_of-self-in-Err
 invariant_of-self-in-Err g c =
-    let same = c.forget.ensures c.self.inside.windows c.in_ok-keep.ensures.ok in
     rw c.in-Err.ensures.unchanged (record {
-      kept = record {
-        state = c.self.invariant.kept.state;
-        waits = waits_again c.self.invariant.kept c.forget.new.windows same;
-      };
+      kept = record { state = c.self.invariant.kept.state; waits = waits_again c.self.invariant.kept c.forget.new.windows (c.forget.ensures c.self.inside.windows c.in_ok-keep.ensures.ok) };
       forgets = c.self.invariant.forgets;
     })
 
