@@ -169,11 +169,7 @@ module _ (old : Remembered) (prefixes : ArePrefixes old.streams) (frontier : Cou
   still_kept : (lists : List (List Divergence)) (h : ℕ) → ((d : Divergence) → IsDivergence old.streams d → d.group ≡ h → (h ≡ g) × (d.instance ≡ least) → ⊥) → Lists DivergenceBelow (IsDecided (more lists) h) (decided_of old h)
   still_kept lists h none = listed_same DivergenceBelow (IsDecided old h) (IsDecided (more lists) h) (decided_of old h) (was.decided.lists h)
       (λ d is. record { divergence = is.divergence; group = is.group; below = still_below h d.instance is.below })
-      (λ d is. record {
-        divergence = is.divergence;
-        group = is.group;
-        below = ⊎_elim (λ (lt : d.instance < forgotten_of old h). lt) (λ (last : (h ≡ g) × (d.instance ≡ least)). absurd (none d is.divergence is.group last)) (below_cases h d.instance is.below);
-      })
+      (λ d is. grind (arith, is, none d, below_cases h d.instance is.below))
 
   forgets_more : (lists : List (List Divergence)) → length lists ≡ length old.streams.sizes → ((h : ℕ) → Lists DivergenceBelow (IsDecided (more lists) h) (get_or lists h [])) → IsForgetting (more lists) frontier
   forgets_more lists size listed = record {
@@ -236,14 +232,7 @@ pub decides : {T E : Type 0} (old new : Remembered) (frontier : Counts) (g k : �
 decides old new frontier g k c (Ok x) there passed is cause ok err = inr (passed, inr (record { group = g; instance = k; cause = c }, ok, record { group = there; divergent = cause_diverges (is_complete (list_of old.streams g)) (size_of old.streams g) (arrivals old.streams g k) c cause; cause = cause }, refl, is))
 decides old new frontier g k c (Err x) there passed is cause ok err = inl err
 
--- the streams stay
-pub passed_streams : (old new : Remembered) (frontier : Counts) (g : ℕ) → ForgetsPassed old frontier g new → new.streams ≡ old.streams
-passed_streams old new frontier g passed = grind arith
-
 -- ---- an instance meets
-
-pub forgets_streams : (old new : Remembered) (frontier : Counts) (g : ℕ) → ForgetsNext old frontier g new → new.streams ≡ old.streams
-forgets_streams old new frontier g next = grind arith
 
 -- the least one remembered is the next one, where the first item's next event is its barrier of that number
 pub least_is_next : (s : Streams) (frontier : Counts) (g k least m n : ℕ) → IsNextInstance s frontier g k → m ≡ least → Some n ≡ place_of s is_barrier (record { group = g; item = 0 }) m → n ≡ count_of frontier (record { group = g; item = 0 }) → IsNextInstance s frontier g least

@@ -1,20 +1,13 @@
-use Rattle.std.proofs.Common.{◌∙◌, ◌++◌, List, ap, arith, subst, sym}
-use Rattle.gr_model.specs.declared.report.Divergence.{Divergence}
+use Rattle.std.proofs.Common.{arith}
 use Rattle.gr_model.specs.Barriers.{arrivals}
-use Rattle.gr_model.specs.Reports.{IsDivergence}
 use Rattle.gr_model.specs.Streams.{size_of}
-use Rattle.gr_barriers.specs.Listings.{AreListedBefore}
-use Rattle.gr_lanes.specs.Remembered.{forgotten_of}
 use Rattle.gr_order.proofs.Diverging.{decided_found, found_turn, found_with, found_without, nobody_later, nobody_past}
 use Rattle.gr_order.proofs.instances.add_group.Goals as goal
 use Rattle.gr_order.proofs.instances.add_group.Goals.{in-Some+in_ok-push, in_default}
 
 pub loop-instance-init : goal.loop-instance-init
 loop-instance-init g c =
-    let s = c.args.lanes.now.streams in
-    let group = c.args.group in
-    let items = c.in_ok-extend_from_slice.ensures.items ∙ ap (λ (ds : List Divergence). c.args.list.now.items ++ ds) c.decided.ensures in
-    rw c.forgotten-instance.ensures (subst (AreListedBefore (IsDivergence s) group (forgotten_of c.args.lanes.now group)) (sym items) (decided_found c.args.lanes.now c.requires.decided group c.args.list.now.items c.requires.before))
+    rw (c.forgotten-instance.ensures, c.in_ok-extend_from_slice.ensures.items, c.decided.ensures) (decided_found c.args.lanes.now c.requires.decided c.args.group c.args.list.now.items c.requires.before)
 
 pub returns-then-is_empty : goal.returns-then-is_empty
 returns-then-is_empty g c =

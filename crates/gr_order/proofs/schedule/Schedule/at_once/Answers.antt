@@ -1,17 +1,14 @@
 use Rattle.std.proofs.Common.{◌∙◌, ap, arith, length, subst, sym}
-use Rattle.gr_lanes.specs.Takes.{next_of, with_record}
+use Rattle.gr_lanes.specs.Takes.{with_record}
 use Rattle.gr_steps.specs.Steps.{IsReady}
-use Rattle.gr_order.specs.Sequences.{Sequence}
 use Rattle.gr_order.proofs.AtOnceLemmas.{count_is, goes_at_once, next_is, not_at_once, ready_at_once}
 use Rattle.gr_order.proofs.schedule.Schedule.at_once.Goals as goal
 
 pub returns-in-None-waiting-clause-goes : goal.returns-in-None-waiting-clause-goes
 returns-in-None-waiting-clause-goes g c =
     let none = sym c.waiting.ensures ∙ c.in-None-waiting.is in
-    let go = goes_at_once c.self.invariant.kept c.args.group c.args.event.now none c.in-None.ensures.fault (c.is_mere_access.ensures.0 c.if-not-is_mere_access.false) (λ none_taken. absurd (omega (arith, ap length none_taken, c.taken.ensures, c.if-taken-eq0.false))) in (
-      rw (← c.self.view_is) go,
-      next_is c.self.invariant.kept c.args.group c.args.event.now (count_is c.self.invariant.kept c.args.group c.args.event.now none) c.get.result c.get.ensures.count ∙ ap (λ (v : Sequence). next_of v.taken c.args.group c.args.event.now) c.self.view_is,
-    )
+    let go = goes_at_once c.self.invariant.kept c.args.group c.args.event.now none c.in-None.ensures.fault (c.is_mere_access.ensures.0 c.if-not-is_mere_access.false) (λ none_taken. absurd (omega (arith, ap length none_taken, c.taken.ensures, c.if-taken-eq0.false))) in
+    rw (← c.self.view_is) (go, next_is c.self.invariant.kept c.args.group c.args.event.now (count_is c.self.invariant.kept c.args.group c.args.event.now none) c.get.result c.get.ensures.count)
 
 pub returns-in-None-waiting-clause-ready : goal.returns-in-None-waiting-clause-ready
 returns-in-None-waiting-clause-ready g c =

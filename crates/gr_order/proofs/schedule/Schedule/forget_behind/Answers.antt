@@ -1,12 +1,10 @@
-use Rattle.std.proofs.Common.{subst, sym}
-use Rattle.gr_model.specs.Streams.{Streams}
-use Rattle.gr_order.specs.Waiting.{IsKept}
-use Rattle.gr_order.proofs.ForgetLemmas.{forgets_passed, passed_streams}
+use Rattle.std.proofs.Common.{◌≡◌, arith}
+use Rattle.gr_order.proofs.ForgetLemmas.{forgets_passed}
 use Rattle.gr_order.proofs.schedule.Schedule.forget_behind.Goals as goal
 
 pub invariant_of-self : goal.invariant_of-self
-invariant_of-self g c = record {
-  kept = subst (λ (s : Streams). IsKept (record { taken = s; handled = c.self.inside.handled }) c.self.inside.frontier c.self.inside.windows c.self.inside.held)
-      (sym (passed_streams c.self.inside.lanes c.forget_if_passed.new.lanes c.self.inside.frontier c.args.group c.forget_if_passed.ensures)) c.self.invariant.kept;
-  forgets = forgets_passed c.self.inside.lanes c.self.invariant.kept.state.sequence.prefixes c.self.inside.frontier c.self.invariant.forgets c.args.group c.forget_if_passed.new.lanes c.forget_if_passed.ensures;
-}
+invariant_of-self g c =
+    let stay : c.forget_if_passed.new.lanes.streams ≡ c.self.inside.lanes.streams = grind (arith, c.forget_if_passed.ensures) in record {
+      kept = rw stay c.self.invariant.kept;
+      forgets = forgets_passed c.self.inside.lanes c.self.invariant.kept.state.sequence.prefixes c.self.inside.frontier c.self.invariant.forgets c.args.group c.forget_if_passed.new.lanes c.forget_if_passed.ensures;
+    }

@@ -1,5 +1,5 @@
 use Rattle.std.proofs.Common.{◌≡◌, ◌-◌, arith}
-use Rattle.gr_order.proofs.ForgetLemmas.{forgets_met, forgets_streams}
+use Rattle.gr_order.proofs.ForgetLemmas.{forgets_met}
 use Rattle.gr_order.proofs.MeetLemmas.{meets_next}
 use Rattle.gr_order.proofs.PassLemmas.{after_pass, barriers_are_held, below_largest, passes}
 use Rattle.gr_order.proofs.WaitLemmas.{waits_behind}
@@ -24,7 +24,7 @@ overflow_sub-self g c =
 
 -- what is forgotten leaves the streams as they are
 streams_stay : (g : given.Over) (c : goal.After-self-1 g) → c.forget_next.new.lanes.streams ≡ c.self.inside.lanes.streams
-streams_stay g c = forgets_streams c.self.inside.lanes c.forget_next.new.lanes c.self.inside.frontier c.args.group c.forget_next.ensures
+streams_stay g c = grind (arith, c.forget_next.ensures)
 
 pub invariant_of-self : goal.invariant_of-self
 invariant_of-self g c =

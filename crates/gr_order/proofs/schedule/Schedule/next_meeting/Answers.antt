@@ -1,4 +1,3 @@
-use Rattle.gr_model.specs.declared.event.EventId.{EventId}
 use Rattle.gr_order.proofs.ForgetLemmas.{next_remembered}
 use Rattle.std.proofs.Common.{arith, ◌∙◌, ap, Some, sym}
 use Rattle.gr_order.proofs.MeetLemmas.{is_numbered, numbered_meets}
@@ -6,8 +5,7 @@ use Rattle.gr_order.proofs.schedule.Schedule.next_meeting.Goals as goal
 
 pub barrier_number-requires : goal.barrier_number-requires
 barrier_number-requires g c =
-    let e : EventId = record { at = record { group = c.args.group; item = 0 }; index = c.get-index.result } in
-    next_remembered c.self.inside.lanes c.self.inside.frontier c.self.invariant.forgets e (omega (arith, c.get-index.ensures.count))
+    next_remembered c.self.inside.lanes c.self.inside.frontier c.self.invariant.forgets (record { at = record { group = c.args.group; item = 0 }; index = c.get-index.result }) (omega (arith, c.get-index.ensures.count))
 
 pub unreachable-requires : goal.unreachable-requires
 unreachable-requires g c =

@@ -1,6 +1,4 @@
-use Rattle.std.proofs.Common.{◌≡◌, ◌∙◌, List, ℕ, ap, arith, below_more, get_or}
-use Rattle.gr_model.specs.Streams.{size_of}
-use Rattle.gr_order.specs.Sequences.{Sequence}
+use Rattle.std.proofs.Common.{arith, below_more}
 use Rattle.gr_order.proofs.schedule.Schedule.ready_in.Goals as goal
 
 pub loop-item-preserved : goal.loop-item-preserved
@@ -8,5 +6,5 @@ loop-item-preserved g c = below_more _ _ c.loop-item.invariant c.in-None.ensures
 
 pub returns-in-None-meeting : goal.returns-in-None-meeting
 returns-in-None-meeting g c =
-    let size : c.items-item-end.result ≡ size_of c.args.self.now.taken c.args.group = c.items-item-end.ensures.size ∙ ap (λ (l : List ℕ). get_or l c.args.group 0) (c.shape.ensures.sizes ∙ ap (λ (q : Sequence). q.taken.sizes) c.self.view_is) in
-    record { handles = λ i within. c.loop-item.invariant i (omega arith); meets = c.in-None-meeting.ensures.meeting }
+    let size = rw c.shape.ensures.sizes at c.items-item-end.ensures.size in
+    record { handles = λ i within. c.loop-item.invariant i (let lt = rw (← c.self.view_is) at within in omega (arith, lt, size)); meets = c.in-None-meeting.ensures.meeting }
