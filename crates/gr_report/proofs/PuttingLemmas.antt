@@ -1,11 +1,11 @@
 -- Texts that are written one after the other.
-use Rattle.std.proofs.Common.{◌≡◌, ℕ, List, [], ◌∷◌, ◌++◌, Option, Result, Ok, Err, refl, sym, ap, ◌∙◌, append_assoc, length, take, drop, arith, ◌+◌, ◌-◌, ◌≤◌, ◌<◌, get_or}
+use Rattle.std.proofs.Common.{[], ◌≡◌, ℕ, List, ◌++◌, Option, Result, Ok, Err, sym, ap, ◌∙◌, append_assoc, length, take, drop, arith, ◌+◌, ◌-◌, ◌<◌, get_or}
 use Rattle.std.specs.Prelude.{IsErr}
 use Rattle.std.specs.Io.KnownBytes.{Appends, Keeps}
-use Rattle.std.proofs.KnownBytes.{Appends-trans, Appends-kept, Appends-nil}
+use Rattle.std.proofs.KnownBytes.{Appends-trans, Appends-kept}
 use Rattle.std.specs.List.{flat_map}
 use Rattle.std.proofs.lemmas.List.Concat.{flat_map-cons}
-use Rattle.std.proofs.lemmas.List.{at_drop_more, at_drop_all, append-nil, length-drop, take-append-drop, take_all}
+use Rattle.std.proofs.lemmas.List.{at_drop_more, append-nil, length-drop, take-append-drop, take_all}
 use Rattle.gr_report.specs.declared.putting.WriteFault.{WriteFault}
 use Rattle.gr_report.specs.Putting.{Puts}
 
@@ -41,25 +41,10 @@ Prefix-more old mid new text rest n f h =
     let whole : take (length rest - n) (drop n rest) ≡ drop n rest = take_all (length rest - n) (drop n rest) (omega (arith, length-drop n rest)) in
     rw whole (f.0 ++ take n rest, f.1 ∙ ap (λ (v : List ℕ). f.0 ++ v) (sym (take-append-drop n rest)) ∙ sym (append_assoc f.0 (take n rest) (drop n rest)), Appends-trans old mid new f.0 (take n rest) f.2 h)
 
-pub puts_whole : (old new : Option (List ℕ)) (text rest : List ℕ) → length rest ≡ 0 → Prefix old new text rest → Puts old new (Ok tt) text
-puts_whole old new text [] e f = record { whole = rw (f.1 ∙ append-nil f.0) f.2; prefix = tt }
-puts_whole old new text (b ∷ rest) e f = absurd (omega arith)
-
-pub puts_some : (old mid new : Option (List ℕ)) (text rest : List ℕ) (n : ℕ) → Prefix old mid text rest → Appends mid new (take n rest) → Puts old new (Err (record {})) text
-puts_some old mid new text rest n f h =
-    let g = Prefix-more old mid new text rest n f h in
-    record { whole = tt; prefix = (g.0, take (length rest - n) (drop n rest), g.1, g.2) }
-
-pub puts_failed : (old mid new : Option (List ℕ)) (text rest : List ℕ) → Prefix old mid text rest → Keeps mid new → Puts old new (Err (record {})) text
-puts_failed old mid new text rest f h = record { whole = tt; prefix = (f.0, rest, f.1, Appends-kept old mid new f.0 f.2 h) }
-
 -- ---- a list of lines
 
 flat_map-drop : {X : Type 0} (f : X → List ℕ) (xs : List X) (i : ℕ) (d : X) → i < length xs → flat_map f (drop i xs) ≡ f (get_or xs i d) ++ flat_map f (drop (i + 1) xs)
 flat_map-drop f xs i d lt = at_drop_more (flat_map f) xs i d lt ∙ flat_map-cons f (get_or xs i d) (drop (i + 1) xs)
-
-pub lines_start : {X : Type 0} (f : X → List ℕ) (xs : List X) (old : Option (List ℕ)) → Prefix old old (flat_map f xs) (flat_map f (drop 0 xs))
-lines_start f xs old = ([], refl, Appends-nil old)
 
 module _ {X : Type 0} (f : X → List ℕ) (xs : List X) (i : ℕ) (d : X) (old mid new : Option (List ℕ)) (text : List ℕ) (so_far : Prefix old mid text (flat_map f (drop i xs))) where
   pub lines_next : (x : Unit {0}) → i < length xs → Puts mid new (Ok x) (f (get_or xs i d)) → Prefix old new text (flat_map f (drop (i + 1) xs))
@@ -73,8 +58,3 @@ module _ {X : Type 0} (f : X → List ℕ) (xs : List X) (i : ℕ) (d : X) (old 
       let rest = flat_map f (drop (i + 1) xs) in
       let due : Puts old new (Err e) (so_far.0 ++ (f (get_or xs i d) ++ rest)) = puts_then {x = tt} (record { whole = so_far.2; prefix = tt }) (puts_more rest h) in
       rw (so_far.1, flat_map-drop f xs i d lt) due
-
-  pub lines_end : length xs ≤ i → Puts old mid (Ok tt) text
-  lines_end le =
-      let none : flat_map f (drop i xs) ≡ [] = at_drop_all (flat_map f) xs i le in
-      record { whole = rw (so_far.1 ∙ ap (λ (v : List ℕ). so_far.0 ++ v) none ∙ append-nil so_far.0) so_far.2; prefix = tt }

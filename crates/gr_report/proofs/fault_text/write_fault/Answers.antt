@@ -1,5 +1,0 @@
-use Rattle.gr_report.proofs.PuttingLemmas.{puts_kept}
-use Rattle.gr_report.proofs.fault_text.write_fault.Goals as goal
-
-pub returns-clause-prefix : goal.returns-clause-prefix
-returns-clause-prefix g c = (puts_kept _ c.in_ok-put_fault.ensures c.finish.ensures).prefix
