@@ -1,5 +1,5 @@
 -- A lawful order has no more events than the lists have.
-use Rattle.std.proofs.Common.{◌≡◌, ℕ, zero, suc, ◌<◌, ◌≤◌, true, false, List, [], ◌∷◌, Contains, get_or, length, map, ap, ◌∙◌, arith}
+use Rattle.std.proofs.Common.{[], ◌≡◌, ℕ, zero, suc, ◌<◌, ◌≤◌, true, false, List, ◌∷◌, Contains, get_or, length, map, ap, ◌∙◌, arith}
 use Rattle.std.specs.Set.{is_member}
 use Rattle.std.specs.List.{flat_map, range_with_len}
 use Rattle.std.proofs.lemmas.List.{get_or-map, length-map}

@@ -1,5 +1,5 @@
 -- The lists of a launch, of which all records are to come, and then none is.
-use Rattle.std.proofs.Common.{◌≡◌, ◌<◌, ℕ, List, [], length, get_or, sym, ap, ◌∙◌, append-nil, arith}
+use Rattle.std.proofs.Common.{[], ◌≡◌, ◌<◌, ℕ, List, length, get_or, sym, ap, ◌∙◌, append-nil, arith}
 use Rattle.std.specs.Prelude.{All}
 use Rattle.std.proofs.lemmas.List.{ext_get_or, get_or-map, length-map}
 use Rattle.gr_model.specs.declared.event.Event.{Event}

@@ -1,5 +1,5 @@
 -- What is to come of several streams, taken as their groups take turns.
-use Rattle.std.proofs.Common.{◌≡◌, ◌≢◌, ◌⊎◌, ℕ, ◌+◌, ◌<◌, ◌≤◌, Bool, false, List, [], length, get_or, set, IsTrue, sym, ap, ◌∙◌, subst, arith, append_assoc}
+use Rattle.std.proofs.Common.{[], ◌≡◌, ◌≢◌, ◌⊎◌, ℕ, ◌+◌, ◌<◌, ◌≤◌, Bool, List, length, get_or, set, IsTrue, ap, arith, append_assoc}
 use Rattle.std.specs.Prelude.{IsFalse}
 use Rattle.std.specs.List.{sum_by}
 use Rattle.std.proofs.lemmas.Bool.{cases_eq}
@@ -73,14 +73,6 @@ module _ {X Y : Type 0} (header : X → Y) (group : Y → ℕ) (coming : X → L
     pub some : IsTrue took → sum_by waits new < sum_by waits old
     pub none : IsFalse took → (j : ℕ) (d : X) → j < bound → coming (get_or new j d) ≡ []
 
-  -- none had it yet
-  pub round_begins : (s : Streams) (old : List X) → IsRound s old 0 false s old
-  round_begins s old = grind arith
-
-  -- what may come still may
-  pub may_still : (s t : Streams) (old new : List X) → come t new ≡ come s old → t.sizes ≡ s.sizes → MayCome group s.sizes (come s old) → MayCome group t.sizes (come t new)
-  may_still s t old new same sizes may = subst (λ (n : List ℕ). MayCome group n (come t new)) (sym sizes) (subst (MayCome group s.sizes) (sym same) may)
-
   -- a turn took some of what was to come, or nothing is to come after it
   abbrev pub HadTurn : Bool → Bool → X → X → Type 0
   HadTurn took now x n = (IsTrue now × (waits n < waits x)) ⊎ ((now ≡ took) × (coming n ≡ []))
@@ -91,7 +83,7 @@ module _ {X Y : Type 0} (header : X → Y) (group : Y → ℕ) (coming : X → L
     bound_stream = get_or xs k d
 
     may_now : MayCome group t.sizes (come t xs)
-    may_now = may_still s t old xs round.same round.sizes may
+    may_now = grind arith
 
     -- its group may have all that was taken and is to come
     pub round_may : MayTake t (group_in bound_stream) (coming bound_stream)
@@ -112,10 +104,4 @@ module _ {X Y : Type 0} (header : X → Y) (group : Y → ℕ) (coming : X → L
       now_none never j x lt = grind (arith, cases_eq j k, get_or-set_same, get_or-set_other, round.none)
 
       pub round_goes_on : IsRound s old (k + 1) now new (set xs k n)
-      round_goes_on = record {
-        same = turn_moves t xs k d within may_now new n round_may.there from same ∙ round.same;
-        sizes = ap (λ (x : Streams). x.sizes) from.2 ∙ round.sizes;
-        no_more = omega (arith, sum_moves, round.no_more);
-        some = now_some;
-        none = now_none;
-      }
+      round_goes_on = grind (arith, turn_moves t xs k d within may_now new n round_may.there from same, sum_moves, now_some, now_none)

@@ -1,5 +1,5 @@
 -- What a step does to the accesses along the order, and to the number of the handled events.
-use Rattle.std.proofs.Common.{◌≡◌, ◌-◌, ◌<◌, List, ◌++◌, length, Some, None, arith, append-nil}
+use Rattle.std.proofs.Common.{◌-◌, ◌<◌, List, ◌++◌, length, Some, None, arith, append-nil}
 use Rattle.std.proofs.lemmas.List.{length-append}
 use Rattle.gr_closure.specs.AccessesAlong.{AreAccesses}
 use Rattle.gr_closure.proofs.Adding.{bare_access, handled_adds, met_add_none, others_add_none}
@@ -10,9 +10,6 @@ use Rattle.gr_sequencer.specs.declared.handled.Handled.TheVariants.{One, Meet}
 use Rattle.gr_clocks.specs.ClockedAccess.{ClockedAccess, clocked}
 use Rattle.gr_taking.specs.Along.{accesses_of}
 use Rattle.gr_taking.proofs.EventLists.{order_is_short}
-
-pub taken_stays : {Z : Type 0} (old new : Sequence) (step : Handled Z) → IsStep old new step → new.taken ≡ old.taken
-taken_stays old new step h = grind arith
 
 -- the accesses along the order after a step
 pub accesses_step : {Z : Type 0} (old new : Sequence) (step : Handled Z) (accesses : List ClockedAccess) → IsStep old new step → AreAccesses old.taken old.handled accesses → AreAccesses new.taken new.handled (accesses ++ accesses_of step)

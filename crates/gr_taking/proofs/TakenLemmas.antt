@@ -1,13 +1,10 @@
 -- What a sequencer has taken, and what stands for the accesses that it answers.
-use Rattle.std.proofs.Common.{◌≡◌, ℕ, zero, suc, List, [], ◌∷◌, map, get_or, refl, arith}
-use Rattle.std.proofs.lemmas.List.{length-map}
+use Rattle.std.proofs.Common.{[], ◌≡◌, ℕ, zero, suc, List, ◌∷◌, map, get_or, refl}
 use Rattle.gr_model.specs.declared.event.Event.{Event}
-use Rattle.gr_model.specs.Streams.{Streams, AreAccepted}
-use Rattle.gr_model.proofs.GroupLaws.{part_of_shape}
-use Rattle.gr_steps.proofs.Orders.{lawful_empty}
-use Rattle.gr_lanes.specs.Takes.{CanTake, nothing_taken, with_record}
+use Rattle.gr_model.specs.Streams.{Streams}
+use Rattle.gr_lanes.specs.Takes.{CanTake, with_record}
 use Rattle.gr_lanes.proofs.Growth.{record_grows}
-use Rattle.gr_order.specs.Sequences.{IsDone, IsSequence, Sequence, nothing, taking}
+use Rattle.gr_order.specs.Sequences.{IsDone, IsSequence, Sequence, taking}
 use Rattle.gr_closure.proofs.Growing.{accesses_stay}
 use Rattle.gr_clocks.specs.ClockedAccess.{ClockedAccess}
 use Rattle.gr_taking.specs.Along.{IsAlong, IsAlongWhole}
@@ -26,16 +23,6 @@ pub empty_at : (sizes : List ℕ) (g : ℕ) → get_or (map (λ n. no_records) s
 empty_at [] i = refl
 empty_at (x ∷ xs) zero = refl
 empty_at (x ∷ xs) (suc i) = empty_at xs i
-
-pub nothing_is_sequence : (s : Streams) → AreAccepted s → IsSequence (nothing s.sizes)
-nothing_is_sequence s accepted = record {
-  prefixes = record {
-    shape = part_of_shape s.sizes accepted.shape;
-    count = length-map s.sizes (λ n. []);
-    each = λ g within. rw (empty_at s.sizes g) (record { few = omega arith; good = λ p x at. cc });
-  };
-  lawful = lawful_empty (nothing_taken s.sizes);
-}
 
 -- ---- all was taken
 

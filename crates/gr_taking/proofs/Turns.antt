@@ -1,6 +1,6 @@
 -- The first of the records that are to come of a group may be taken, and was.
-use Rattle.std.proofs.Common.{◌≡◌, ℕ, ◌<◌, List, ◌∷◌, length, sym, ap, ◌∙◌, subst, append_assoc, append-nil, set-set, get_or-set_same, arith}
-use Rattle.std.proofs.lemmas.List.{length-append, length-set, set-get_or, get_or_past}
+use Rattle.std.proofs.Common.{◌≡◌, ℕ, ◌<◌, List, ◌∷◌, length, sym, ap, ◌∙◌, subst, append_assoc, set-set, get_or-set_same, arith}
+use Rattle.std.proofs.lemmas.List.{length-append, length-set, get_or_past}
 use Rattle.gr_model.specs.declared.event.Event.{Event}
 use Rattle.gr_model.specs.declared.limits.TheConstants.{MOST_RECORDS}
 use Rattle.gr_model.specs.Streams.{Streams, list_of, size_of}
@@ -11,10 +11,6 @@ use Rattle.gr_taking.specs.Sources.{AreTakenFrom, MayTake}
 -- streams with these lists
 abbrev with_lists : Streams → List (List Event) → Streams
 with_lists s lists = record { sizes = s.sizes; lists = lists }
-
--- before any of a group's records to come was taken
-pub none_taken_from : (s : Streams) (g : ℕ) (old : List Event) → AreTakenFrom s g old s old
-none_taken_from s g old = grind (arith, append-nil, set-get_or)
 
 -- the first of the records to come was taken
 one_taken_from : (s t new : Streams) (g : ℕ) (old rest : List Event) (e : Event) → g < length s.lists → AreTakenFrom s g old t (e ∷ rest) → new ≡ with_record t g e → AreTakenFrom s g old new rest

@@ -1,8 +1,7 @@
-use Rattle.std.proofs.Common.{◌++◌, ◌∙◌, ap}
-use Rattle.gr_order.specs.Sequences.{Sequence}
+use Rattle.std.proofs.Common.{◌++◌}
 use Rattle.gr_sequencer.specs.Answers.{IsStep}
 use Rattle.gr_taking.specs.Along.{accesses_of}
-use Rattle.gr_taking.proofs.StepLemmas.{accesses_step, fewer_left, taken_stays}
+use Rattle.gr_taking.proofs.StepLemmas.{accesses_step, fewer_left}
 use Rattle.gr_taking.proofs.handling.handle_ready.Goals as goal
 
 pub loop-step-smaller : goal.loop-step-smaller
@@ -13,11 +12,3 @@ close-requires g c =
     let step : IsStep c.loop-step.sequencer c.step.new.self c.in-Some.step = rw c.in-Some.is at c.in_ok-step.ensures.some in
     let before = c.loop-step.invariant.along in
     (before.0 ++ accesses_of c.in-Some.step, accesses_step _ _ c.in-Some.step before.0 step before.1, c.in_ok-give.ensures before.0 before.2)
-
-pub loop-step-preserved : goal.loop-step-preserved
-loop-step-preserved g c =
-    let step : IsStep c.loop-step.sequencer c.step.new.self c.in-Some.step = rw c.in-Some.is at c.in_ok-step.ensures.some in
-    record {
-      taken = ap (λ (q : Sequence). q.taken) c.close.ensures.unchanged ∙ (taken_stays _ _ c.in-Some.step step ∙ c.loop-step.invariant.taken);
-      along = c.close.ensures.along;
-    }

@@ -1,14 +1,7 @@
 use Rattle.std.proofs.Common.{◌<◌, arith, get_or, inl, inr, length}
-use Rattle.gr_taking.proofs.RoundLemmas.{HadTurn, round_begins, round_goes_on, round_may}
+use Rattle.gr_taking.proofs.RoundLemmas.{HadTurn, round_goes_on, round_may}
 use Rattle.gr_taking.proofs.rounds.take_round.Goals.{else-branch, then-branch}
 use Rattle.gr_taking.proofs.rounds.take_round.Goals as goal
-
-pub loop-place-init : goal.loop-place-init
-loop-place-init g c = record {
-  round = round_begins g.S.Source.header g.S.Source.group_of g.S.Source.coming c.args.sequencer.now.taken c.args.sources.now;
-  sequence = c.requires.sequence;
-  along = c.requires.along;
-}
 
 pub take_turn-requires-clause-may : goal.take_turn-requires-clause-may
 take_turn-requires-clause-may g c =

@@ -2,18 +2,13 @@ use Rattle.std.proofs.Common.{[], ap, subst, sym, ◌∙◌}
 use Rattle.gr_closure.specs.AccessesAlong.{AreAccesses, of_none}
 use Rattle.gr_order.specs.Sequences.{Sequence, nothing}
 use Rattle.gr_taking.proofs.Lists.{all_came, lists_may_come}
-use Rattle.gr_taking.proofs.TakenLemmas.{nothing_is_sequence, whole_at_end}
+use Rattle.gr_taking.proofs.TakenLemmas.{whole_at_end}
 use Rattle.gr_taking.proofs.traces.follow.Goals as goal
 
 pub take_all-requires-clause-may : goal.take_all-requires-clause-may
 take_all-requires-clause-may g c =
     let new = c.in_ok-sequencer.ensures ∙ ap nothing (c.in_ok-copy.ensures ∙ c.shape.ensures.sizes) in
     rw (c.as_mut_slice.ensures.value, new) (lists_may_come c.args.traces.now c.shape.ensures.accepted c.in_ok-sources.sources.items c.in_ok-sources.ensures)
-
-pub take_all-requires-clause-sequence : goal.take_all-requires-clause-sequence
-take_all-requires-clause-sequence g c =
-    let new = c.in_ok-sequencer.ensures ∙ ap nothing (c.in_ok-copy.ensures ∙ c.shape.ensures.sizes) in
-    rw new (nothing_is_sequence c.args.traces.now c.shape.ensures.accepted)
 
 pub take_all-requires-clause-along : goal.take_all-requires-clause-along
 take_all-requires-clause-along g c = ([], subst (λ (q : Sequence). AreAccesses q.taken q.handled []) (sym c.in_ok-sequencer.ensures) of_none, c.requires)
