@@ -1,8 +1,7 @@
 -- What is read of a stream is a list that its group may have.
-use Rattle.std.proofs.Common.{◌≡◌, ℕ, zero, suc, ◌+◌, ◌<◌, ◌≤◌, Bool, true, false, cond, List, [], ◌∷◌, length, take, drop, Some, Result, Ok, Err, get_or, refl, sym, ap, ◌∙◌, subst, arith, IsTrue, ltb, true≢false}
+use Rattle.std.proofs.Common.{◌≡◌, ℕ, zero, suc, ◌+◌, ◌<◌, ◌≤◌, Bool, true, false, cond, List, [], ◌∷◌, length, take, drop, Some, Result, Ok, Err, get_or, refl, sym, ap, ◌∙◌, subst, arith, IsTrue, ltb, true≢false, ◌≢◌, ◌++◌, eqb-true}
 use Rattle.std.specs.List.{list_any}
 use Rattle.std.specs.Prelude.{◌==◌, not}
-use Rattle.std.proofs.Common.{◌≢◌, ◌++◌, eqb-true}
 use Rattle.std.proofs.lemmas.Bool.{ltb-false, eqb-false, not-false}
 use Rattle.std.proofs.lemmas.List.Folds.{list_any_at}
 use Rattle.std.proofs.lemmas.List.Elements.{All-push}

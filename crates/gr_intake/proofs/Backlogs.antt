@@ -1,8 +1,8 @@
 -- Records that wait: one more, and the first of them.
-use Rattle.std.proofs.Common.{◌≡◌, ◌⊎◌, ℕ, zero, suc, ◌+◌, ◌<◌, ◌≤◌, Bool, true, false, cond, List, [], ◌∷◌, ◌++◌, length, drop, filter, get_or, set, refl, sym, ap, ◌∙◌, subst, arith, append-nil, append_assoc, eqb-true}
+use Rattle.std.proofs.Common.{◌≡◌, ◌⊎◌, ℕ, zero, suc, ◌+◌, ◌<◌, ◌≤◌, Bool, true, false, cond, List, [], ◌∷◌, ◌++◌, length, drop, filter, get_or, set, refl, sym, ap, ◌∙◌, arith, append-nil, append_assoc, eqb-true}
 use Rattle.std.specs.Prelude.{◌==◌}
 use Rattle.std.specs.List.{flat_map}
-use Rattle.std.proofs.lemmas.List.{drop_all, drop_more, drop-append-le, length-append, length-drop, get_or-set_other, get_or_append_left, length-set}
+use Rattle.std.proofs.lemmas.List.{drop_all, drop_more, drop-append-le, length-append, get_or-set_other, get_or_append_left, length-set}
 use Rattle.gr_model.specs.declared.event.Event.{Event}
 use Rattle.gr_model.specs.declared.event.Name.{Name}
 use Rattle.gr_record.specs.declared.header.Header.{Header}
@@ -56,16 +56,6 @@ module _ (shorts : List Short) (read : ℕ) (lists : List (List Name)) (are : Ar
   front : drop read shorts ≡ s ∷ drop (read + 1) shorts
   front = drop_more shorts read s within ∙ ap (λ x. x ∷ drop (read + 1) shorts) (sym reads)
 
-  all_named : AreNamed (s ∷ drop (read + 1) shorts) lists
-  all_named = subst (λ (ss : List Short). AreNamed ss lists) front are
-
-  -- a list of names is there, where it has some
-  pub names_there : s.has_names ≡ true → 0 < length lists
-  names_there has = grind (arith, all_named)
-
-  pub behind_named : AreNamed (drop (read + 1) shorts) (behind_names s.has_names lists)
-  behind_named = grind (arith, all_named, length-drop)
-
   pub first_listed : listed (drop read shorts) lists ≡ with_names s (first_names s.has_names lists) ∷ listed (drop (read + 1) shorts) (behind_names s.has_names lists)
   unfolding listed
   first_listed = ap (λ (ss : List Short). listed ss lists) front
@@ -76,9 +66,6 @@ module _ (shorts : List Short) (read : ℕ) (lists : List (List Name)) (are : Ar
   -- the same of one that names none
   pub first_plain : s.has_names ≡ false → (e : Event) (after : List Event) → e ≡ with_names s [] → after ≡ listed (drop (read + 1) shorts) lists → listed (drop read shorts) lists ≡ e ∷ after
   first_plain none e after is rest = grind (arith, first_taken)
-
-  pub behind_plain : s.has_names ≡ false → AreNamed (drop (read + 1) shorts) lists
-  behind_plain none = subst (λ b. AreNamed (drop (read + 1) shorts) (behind_names b lists)) none behind_named
 
 -- where all were read, none is left
 pub none_listed : (shorts : List Short) (read : ℕ) (lists : List (List Name)) → length shorts ≤ read → listed (drop read shorts) lists ≡ []

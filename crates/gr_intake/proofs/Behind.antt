@@ -15,7 +15,7 @@ use Rattle.gr_record.specs.declared.header.Header.{Header}
 use Rattle.gr_record.specs.declared.header.Version.{Version}
 use Rattle.gr_record.specs.declared.layout.TheConstants.{HEADER_LENGTH}
 use Rattle.gr_record.specs.declared.stop.Stop.{Stop}
-use Rattle.gr_record.specs.Fronts.{Records, behind, records_at, records_of, step}
+use Rattle.gr_record.specs.Fronts.{Records, records_at, records_of, step}
 use Rattle.gr_record.specs.Reading as reading_spec
 use Rattle.gr_record.specs.Reading.{event_at, header_at}
 use Rattle.gr_record.specs.Versions.{record_length}

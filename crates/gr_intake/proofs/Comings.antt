@@ -18,8 +18,7 @@ use Rattle.gr_closure.proofs.Growing.{accesses_stay}
 use Rattle.gr_order.specs.Sequences as orders
 use Rattle.gr_order.specs.Sequences.{IsSequence, Sequence, nothing}
 use Rattle.gr_steps.proofs.StepGrowth.{lawful_grows}
-use Rattle.gr_shadow.specs.Launches.{LaunchKept}
-use Rattle.gr_shadow.specs.Launches.{StandsForLaunch}
+use Rattle.gr_shadow.specs.Launches.{LaunchKept, StandsForLaunch}
 use Rattle.gr_model.proofs.PutLemmas.{all_put, length_put, put_other, put_same, sum_put}
 use Rattle.gr_closure.specs.AccessesAlong.AreAccesses.{of_none}
 use Rattle.gr_lanes.specs.Takes.{CanTake, with_record}

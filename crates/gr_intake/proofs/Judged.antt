@@ -1,11 +1,10 @@
 -- The launch whose streams have come, or why there is none: the sizes of its groups tell.
 use Rattle.std.proofs.Common.{◌≡◌, ◌≢◌, ◌⊎◌, ℕ, zero, suc, ◌+◌, ◌<◌, List, [], ◌∷◌, ◌++◌, length, map, slice_index, All, Contains, Option, Some, None, refl, sym, ap, ◌∙◌, subst, arith, inl, inr, ⊎_elim, true≢false, append-nil}
 use Rattle.std.proofs.lemmas.Bool.{cases_eq}
-use Rattle.std.proofs.lemmas.Grind.{get_or_default_zero}
 use Rattle.std.proofs.lemmas.List.Elements.{All-contains}
 use Rattle.std.proofs.lemmas.Option.{slice_get-get_or}
 use Rattle.gr_model.specs.declared.event.Event.{Event}
-use Rattle.gr_model.specs.Shapes.{IsPartOfShape, IsShape}
+use Rattle.gr_model.specs.Shapes.{IsShape}
 use Rattle.gr_model.specs.Streams.{AreAccepted, IsAccepted, Streams, list_of, size_of}
 use Rattle.gr_record.specs.declared.fault.Fault.{Fault}
 use Rattle.gr_record.specs.declared.fault.Fault.TheVariants as faults
@@ -22,10 +21,6 @@ use Rattle.gr_intake.specs.Waiting.{Coming}
 -- no group below a place is without items
 abbrev pub AreSomeBelow : List ℕ → ℕ → Type 0
 AreSomeBelow sizes n = (k : ℕ) → k < n → slice_index sizes k ≢ 0
-
--- sizes of a part of a shape are a shape where there is a group, and none is without items
-pub shape_of_part : (sizes : List ℕ) → IsPartOfShape sizes → length sizes ≢ 0 → AreSomeBelow sizes (length sizes) → IsShape sizes
-shape_of_part sizes part some below = grind (arith, get_or_default_zero)
 
 -- ---- streams and their headers
 

@@ -7,8 +7,7 @@ use Rattle.gr_model.specs.Streams.{Streams}
 use Rattle.gr_order.specs.Sequences.{IsDone, IsSequence, Sequence}
 use Rattle.gr_clocks.specs.ClockedAccess.{ClockedAccess}
 use Rattle.gr_shadow.specs.Clashes.{IsHitIn}
-use Rattle.gr_shadow.specs.Launches.{LaunchKept}
-use Rattle.gr_shadow.specs.Launches.{StandsForLaunch}
+use Rattle.gr_shadow.specs.Launches.{LaunchKept, StandsForLaunch}
 use Rattle.gr_intake.specs.Sequencing.{AreShadowsOf}
 
 pub races_are_listed : (s : Streams) (q : Sequence) (kept : LaunchKept) (words : List Word) → q.taken ≡ s → IsDone q → IsSequence q → AreShadowsOf q kept → ((accesses : List ClockedAccess) → StandsForLaunch accesses kept → Lists WordBelow (IsHitIn accesses) words) → AreRaces s words

@@ -1,19 +1,10 @@
 -- An input that is read piece by piece.
-use Rattle.std.proofs.Common.{◌≡◌, ℕ, ◌<◌, List, [], ◌++◌, Option, None, Some, Result, Ok, Err, sym, ap, ◌∙◌, subst, append_assoc, append-nil, arith}
-use Rattle.std.specs.Prelude.{IfErr, IfOk, IfSome}
+use Rattle.std.proofs.Common.{◌≡◌, ℕ, List, ◌++◌, Option, None, Some, Result, Ok, Err, sym, ap, ◌∙◌, subst, append_assoc}
+use Rattle.std.specs.Prelude.{IfErr, IfSome}
 use Rattle.std.specs.Io.KnownBytes.{Consumes}
 use Rattle.gr_intake.specs.declared.intake.Intake.{Intake}
-use Rattle.gr_intake.specs.declared.open.Open.{Open}
-use Rattle.gr_intake.specs.Intakes.{Moves, behind, coming_in, unit_at, unit_of}
+use Rattle.gr_intake.specs.Intakes.{Moves, behind}
 use Rattle.gr_intake.specs.Joined.{joined_of}
-
--- ---- nothing was read
-
-pub nothing_came : {Z : Type 0} (i : Intake Z) → i.streams.items ≡ [] → i.current ≡ None → (bytes : List ℕ) → joined_of bytes ≡ behind i bytes
-nothing_came i empty none bytes = grind arith
-
-pub header_is_next : {Z : Type 0} (i : Intake Z) → i.current ≡ None → 0 < unit_of i
-header_is_next i none = subst (λ (o : Option (Open _)). 0 < unit_at (coming_in o)) (sym none) (omega arith)
 
 -- ---- what was read so far
 
@@ -29,10 +20,6 @@ piece_more i held bytes piece so_far = λ more. ap joined_of (append_assoc bytes
 pub piece_taken : {Z : Type 0} (i j : Intake Z) (held left bytes : List ℕ) → StandsSoFar i held bytes → Moves i held j left → StandsSoFar j left bytes
 piece_taken i j held left bytes so_far moves = λ more. so_far more ∙ moves.goes more
 
--- nothing more comes
-pub all_read : {Z : Type 0} (i : Intake Z) (held bytes : List ℕ) → StandsSoFar i held bytes → joined_of bytes ≡ behind i held
-all_read i held bytes so_far = ap joined_of (sym (append-nil bytes)) ∙ (so_far [] ∙ ap (behind i) (append-nil held))
-
 -- what holds of all bytes behind those that were read holds of what the reader had
 pub at_consumed : (old new : Option (List ℕ)) (bytes : List ℕ) (P : List ℕ → Type 0) → Consumes old new bytes → ((more : List ℕ) → P (bytes ++ more)) → IfSome old P
 at_consumed None new bytes P consumes all = tt
@@ -40,10 +27,6 @@ at_consumed (Some xs) None bytes P consumes all = absurd consumes
 at_consumed (Some xs) (Some ys) bytes P consumes all = subst P (sym consumes) (all ys)
 
 -- ---- answers
-
-pub if_ok : {X Y : Type 0} (P Q : X → Type 0) (r : Result X Y) → IfOk r P → ((x : X) → P x → Q x) → IfOk r Q
-if_ok P Q (Ok x) p go = go x p
-if_ok P Q (Err e) p go = tt
 
 pub if_err : {X Y : Type 0} (P Q : Y → Type 0) (r : Result X Y) → IfErr r P → ((y : Y) → P y → Q y) → IfErr r Q
 if_err P Q (Ok x) p go = tt

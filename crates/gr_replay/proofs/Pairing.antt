@@ -13,8 +13,7 @@ use Rattle.gr_clocks.specs.ClockedAccess.{ClockedAccess}
 use Rattle.gr_model.specs.Reports.{Lists, WordBelow}
 use Rattle.gr_shadow.specs.declared.clash.Clash.{Clash}
 use Rattle.gr_shadow.specs.Clashes.{IsClashIn, IsHitIn}
-use Rattle.gr_shadow.specs.Launches.{LaunchKept}
-use Rattle.gr_shadow.specs.Launches.{StandsForLaunch}
+use Rattle.gr_shadow.specs.Launches.{LaunchKept, StandsForLaunch}
 use Rattle.gr_replay.specs.Races.{AreRacesOfHits, IsRaceIn, IsRaceOf}
 use Rattle.gr_intake.specs.Sequencing.{AreShadowsOf}
 use Rattle.gr_intake.proofs.Reporting.{races_are_listed}

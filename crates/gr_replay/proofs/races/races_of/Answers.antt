@@ -1,14 +1,5 @@
-use Rattle.std.proofs.Common.{All, ap, map, sym, subst}
-use Rattle.std.proofs.lemmas.List.Elements.{All-nil}
-use Rattle.gr_model.specs.declared.race.Race.{Race}
-use Rattle.gr_replay.proofs.Pairing.{IsOfClashes, race_pairs_more, race_words_more, races_of_hits}
+use Rattle.gr_replay.proofs.Pairing.{race_pairs_more, race_words_more, races_of_hits}
 use Rattle.gr_replay.proofs.races.races_of.Goals as goal
-
-pub loop-clash-init : goal.loop-clash-init
-loop-clash-init g c = record {
-  words = ap (map (λ (r : Race). r.word)) c.new-races.ensures.items;
-  each = subst (All (IsOfClashes c.as_slice-clash-items.result.now)) (sym c.new-races.ensures.items) (All-nil (IsOfClashes c.as_slice-clash-items.result.now));
-}
 
 pub loop-clash-preserved : goal.loop-clash-preserved
 loop-clash-preserved g c =

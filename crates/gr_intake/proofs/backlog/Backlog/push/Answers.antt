@@ -24,11 +24,6 @@ invariant_of-self-2 g c =
     let before : c.min-self-inside.result ≤ c.in_ok-last.last = search rules in
     piece_written pieces first c.in_ok-last.last c.min-self-inside.result c.push.new.self (pieces_grow c.self.inside.pieces.items pieces first c.self.invariant c.in_ok-last.ensures.grown) (omega (arith, c.in_ok-last.ensures.place)) less before
 
-pub returns-in_err-last-clause-err : goal.returns-in_err-last-clause-err
-returns-in_err-last-clause-err g c =
-    let p = err_from_is_err_and c.from_residual.result c.from_residual.ensures.1 in
-    rw (p.1) (ap (λ (ps : List (List Event)). coming c.self.inside.header (waiting_in ps)) c.in_err-last.ensures.unchanged ∙ c.self.view_is)
-
 pub invariant_of-self-in_err-push : goal.invariant_of-self-in_err-push
 invariant_of-self-in_err-push g c =
     let pieces = c.last_with_room.new.pieces.items in

@@ -1,7 +1,5 @@
-use Rattle.std.proofs.Common.{◌≡◌, ◌++◌, ℕ, List, ap, sym, subst, ◌∙◌, length, arith}
+use Rattle.std.proofs.Common.{◌≡◌, ◌++◌, ap, sym, subst, ◌∙◌, length, arith}
 use Rattle.std.proofs.lemmas.List.{length-take-le}
-use Rattle.std.proofs.lemmas.Result.{err_from_is_err_and}
-use Rattle.gr_record.specs.InputFaults.{Fails}
 use Rattle.gr_record.specs.Laws.{AreBytes}
 use Rattle.gr_record.specs.declared.layout.TheConstants.{HEADER_LENGTH}
 use Rattle.gr_record.proofs.Found.{read_header_is_spelled}
@@ -17,14 +15,6 @@ begin-requires-clause-header g c =
     let fits : AreBytes bytes = λ i. let fit = c.type_inv.bytes i in omega arith in
     let all : length unit ≡ HEADER_LENGTH = ap length c.split_at.ensures.front ∙ length-take-le HEADER_LENGTH bytes (omega (arith, c.if-bytes-lt-HEADER_LENGTH.false)) in
     (read_header_is_spelled c.in_ok-header.header unit (subst AreBytes (sym c.split_at.ensures.front) (bytes_take HEADER_LENGTH bytes fits)) (omega (arith, all)) c.in_ok-header.ensures.header).1
-
-pub returns-in_err-header-clause-fault : goal.returns-in_err-header-clause-fault
-returns-in_err-header-clause-fault g c =
-    let unit = c.split_at.result.0.now in
-    let rest = c.split_at.result.1.now in
-    let bytes = c.args.bytes.now in
-    let p = err_from_is_err_and c.from_residual.result c.from_residual.ensures.1 in
-    rw (p.1, p.2) (λ more. subst (λ (b : List ℕ). Fails c.in_err-header.field-0.0 (behind c.args.self.now b)) (sym (split_more HEADER_LENGTH bytes unit rest more c.split_at.ensures.front c.split_at.ensures.back)) (c.in_err-header.ensures.fault (rest ++ more)))
 
 pub returns-clause-moves : goal.returns-clause-moves
 returns-clause-moves g c =

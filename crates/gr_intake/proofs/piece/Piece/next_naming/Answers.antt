@@ -1,23 +1,14 @@
 use Rattle.std.proofs.Common.{◌∙◌, ◌<◌, List, ap, drop, sym, refl, length, arith, ◌+◌, get_or}
 use Rattle.std.proofs.lemmas.Bool.{ltb-false, ltb-true}
-use Rattle.std.proofs.lemmas.List.{length-drop}
 use Rattle.gr_model.specs.declared.event.Name.{Name}
 use Rattle.gr_intake.specs.Waiting.{behind_names, first_names, listed}
-use Rattle.gr_intake.proofs.Backlogs.{first_taken, names_there, none_listed}
+use Rattle.gr_intake.proofs.Backlogs.{first_taken, none_listed}
 use Rattle.gr_intake.proofs.piece.Piece.next_naming.Goals as goal
 
 pub returns-in-None : goal.returns-in-None
 returns-in-None g c =
     let past = ltb-false c.self.inside.read (length c.deref.result.now) (sym c.in-None.ensures.lookup.0) in
     (sym c.self.view_is ∙ none_listed c.self.inside.shorts.items c.self.inside.read (drop c.self.inside.names_read c.self.inside.names.items) (omega (arith, past, ap length c.deref.ensures.value)), refl)
-
-pub next_names-names-requires-clause-there : goal.next_names-names-requires-clause-there
-next_names-names-requires-clause-there g c = λ has.
-    let lt = ltb-true c.self.inside.read (length c.deref.result.now) (sym c.in-Some.ensures.lookup.0) in
-    let there : c.self.inside.read < length c.self.inside.shorts.items = omega (arith, lt, ap length c.deref.ensures.value) in
-    let reads = c.in-Some.ensures.lookup.1 ∙ ap (λ l. get_or l c.self.inside.read c.in-Some.short.now) c.deref.ensures.value in
-    let some = names_there c.self.inside.shorts.items c.self.inside.read (drop c.self.inside.names_read c.self.inside.names.items) c.self.invariant.0 c.in-Some.short.now there reads has in
-    omega (arith, some, length-drop c.self.inside.names_read c.self.inside.names.items, ap length c.deref-2.ensures.value)
 
 pub returns : goal.returns
 returns g c =
