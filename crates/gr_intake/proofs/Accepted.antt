@@ -136,19 +136,15 @@ module _ (seen : List Flat) (bytes : List ℕ) (are : AreStreams seen) where
       (cond (list_any (λ s. not (s.header.launch == h.0.launch)) seen) (Err (faults.OtherLaunch (length seen)))
       (joined_spec.◌>>=◌ {Y = Flat × List ℕ} (at_place (length seen) (front_records_at h.0 h.1)) (λ x. Ok (record { header = h.0; events = x.0 }, x.1))))
 
-  by_launch : (h : Header) (middle : List ℕ) → list_any (λ s. s.header.group == h.group) seen ≡ false → (b : Bool) → list_any (λ s. not (s.header.launch == h.launch)) seen ≡ b
-      → Next (cond b (Err (faults.OtherLaunch (length seen))) (joined_spec.◌>>=◌ {Y = Flat × List ℕ} (at_place (length seen) (front_records_at h middle)) (λ x. Ok (record { header = h; events = x.0 }, x.1))))
-  by_launch h middle other true same f rest k = cc
-  by_launch h middle other false same f rest k = by_records h middle other same (front_records_at h middle) refl f rest k
-
-  by_group : (h : Header) (middle : List ℕ) → (b : Bool) → list_any (λ s. s.header.group == h.group) seen ≡ b
-      → Next (cond b (Err (faults.SameGroup (length seen))) (cond (list_any (λ s. not (s.header.launch == h.launch)) seen) (Err (faults.OtherLaunch (length seen))) (joined_spec.◌>>=◌ {Y = Flat × List ℕ} (at_place (length seen) (front_records_at h middle)) (λ x. Ok (record { header = h; events = x.0 }, x.1)))))
-  by_group h middle true other f rest k = cc
-  by_group h middle false other f rest k = by_launch h middle other (list_any (λ s. not (s.header.launch == h.launch)) seen) refl f rest k
+  by_seen : (h : Header) (middle : List ℕ) → (a b : Bool) → list_any (λ s. s.header.group == h.group) seen ≡ a → list_any (λ s. not (s.header.launch == h.launch)) seen ≡ b
+      → Next (cond a (Err (faults.SameGroup (length seen))) (cond b (Err (faults.OtherLaunch (length seen))) (joined_spec.◌>>=◌ {Y = Flat × List ℕ} (at_place (length seen) (front_records_at h middle)) (λ x. Ok (record { header = h; events = x.0 }, x.1)))))
+  by_seen h middle true b other same f rest k = cc
+  by_seen h middle false true other same f rest k = cc
+  by_seen h middle false false other same f rest k = by_records h middle other same (front_records_at h middle) refl f rest k
 
   by_header : (r : Result (Header × List ℕ) RecordError) → front_header_at bytes ≡ r → Next (joined_spec.◌>>=◌ {Y = Flat × List ℕ} (at_place (length seen) r) behind_header)
   by_header (Err d) is f rest k = cc
-  by_header (Ok (h, middle)) is f rest k = by_group h middle (list_any (λ s. s.header.group == h.group) seen) refl f rest k
+  by_header (Ok (h, middle)) is f rest k = by_seen h middle _ _ refl refl f rest k
 
   pub stream_is_one : Next (stream_at seen bytes)
   unfolding stream_at

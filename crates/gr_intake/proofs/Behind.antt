@@ -1,6 +1,6 @@
 -- What the bytes behind those that were read add: a header, a record, and bytes that are no whole one.
-use Rattle.std.proofs.Common.{◌≡◌, ℕ, zero, suc, ◌+◌, ◌-◌, ◌<◌, ◌≤◌, Bool, true, false, cond, List, [], ◌∷◌, ◌++◌, length, take, drop, Option, Some, None, Result, Ok, Err, refl, sym, ap, ◌∙◌, subst, arith, inl, inr, append-nil, append_assoc, eqb-true, ◌≢◌}
-use Rattle.std.specs.Prelude.{not, ◌==◌}
+use Rattle.std.proofs.Common.{◌≡◌, ℕ, zero, suc, ◌+◌, ◌-◌, ◌<◌, ◌≤◌, true, false, List, [], ◌∷◌, ◌++◌, length, take, drop, Option, Some, None, Result, Ok, Err, refl, sym, ap, ◌∙◌, subst, arith, inl, inr, append-nil, append_assoc, eqb-true, ◌≢◌}
+use Rattle.std.specs.Prelude.{IfOk, not, ◌==◌}
 use Rattle.std.specs.List.{list_any}
 use Rattle.std.proofs.lemmas.Bool.{cases_lt, eqb-false, le-ltb, lt-ltb, ne_eqb}
 use Rattle.std.proofs.lemmas.List.{drop_at, length-append, length-drop, take-append-drop, take_at}
@@ -22,7 +22,7 @@ use Rattle.gr_record.specs.Versions.{record_length}
 use Rattle.gr_record.specs.WholeStreams as record_spec
 use Rattle.gr_record.specs.WholeStreams.{front_header_at, front_records_at, up_to, whole}
 use Rattle.gr_record.proofs.Loop as loop
-use Rattle.gr_intake.proofs.Accepted.{same_done, same_found}
+use Rattle.gr_intake.proofs.Accepted.{same_done}
 use Rattle.gr_intake.specs.Intakes.{behind_events, next_event_at, read_behind, with_event}
 use Rattle.gr_intake.specs.Joined as joined_spec
 use Rattle.gr_intake.specs.Joined.{Flat, at_place, joined_at, stream_at}
@@ -79,37 +79,13 @@ records_shorter h bytes x is = grind (arith, up_to_rest, rest_no_longer)
 abbrev with_stream : ℕ → List Flat → Flat × List ℕ → Result (List Flat) Fault
 with_stream n seen s = joined_at n (seen ++ s.0 ∷ []) s.1
 
-module _ (seen : List Flat) (bytes : List ℕ) where
-  abbrev Shorter : Result (Flat × List ℕ) Fault → Type 0
-  Shorter r = (f : Flat) (rest : List ℕ) → r ≡ Ok (f, rest) → length rest < length bytes
-
-  by_records : (h : Header) (middle : List ℕ) → length middle < length bytes → (r : Result (List Event × List ℕ) RecordError) → front_records_at h middle ≡ r
-      → Shorter (joined_spec.◌>>=◌ {Y = Flat × List ℕ} (at_place (length seen) r) (λ x. Ok (record { header = h; events = x.0 }, x.1)))
-  by_records h middle less (Err d) is f rest k = absurd cc
-  by_records h middle less (Ok x) is f rest k = grind (arith, same_found, records_shorter)
-
-  by_seen : (h : Header) (middle : List ℕ) → length middle < length bytes → (a b : Bool)
-      → Shorter (cond a (Err (faults.SameGroup (length seen))) (cond b (Err (faults.OtherLaunch (length seen))) (joined_spec.◌>>=◌ {Y = Flat × List ℕ} (at_place (length seen) (front_records_at h middle)) (λ x. Ok (record { header = h; events = x.0 }, x.1)))))
-  by_seen h middle less true b f rest k = absurd cc
-  by_seen h middle less false true f rest k = absurd cc
-  by_seen h middle less false false f rest k = by_records h middle less (front_records_at h middle) refl f rest k
-
-  by_header : (r : Result (Header × List ℕ) RecordError) → ((x : Header × List ℕ) → r ≡ Ok x → length x.1 < length bytes)
-      → Shorter (joined_spec.◌>>=◌ {Y = Flat × List ℕ} (at_place (length seen) r) (λ h.
-      cond (list_any (λ s. s.header.group == h.0.group) seen) (Err (faults.SameGroup (length seen)))
-      (cond (list_any (λ s. not (s.header.launch == h.0.launch)) seen) (Err (faults.OtherLaunch (length seen)))
-      (joined_spec.◌>>=◌ {Y = Flat × List ℕ} (at_place (length seen) (front_records_at h.0 h.1)) (λ x. Ok (record { header = h.0; events = x.0 }, x.1))))))
-  by_header (Err d) less f rest k = absurd cc
-  by_header (Ok (h, middle)) less f rest k =
-      by_seen h middle (less (h, middle) refl) (list_any (λ s. s.header.group == h.group) seen) (list_any (λ s. not (s.header.launch == h.launch)) seen) f rest k
-
-header_shorter : (bytes : List ℕ) (x : Header × List ℕ) → front_header_at bytes ≡ Ok x → length x.1 < length bytes
+header_shorter : (bytes : List ℕ) → IfOk (front_header_at bytes) (λ x. length x.1 < length bytes)
 unfolding front_header_at
-header_shorter bytes x is = grind arith
+header_shorter bytes = grind arith
 
-stream_shorter : (seen : List Flat) (bytes : List ℕ) → Shorter seen bytes (stream_at seen bytes)
+stream_shorter : (seen : List Flat) (bytes : List ℕ) → IfOk (stream_at seen bytes) (λ s. length s.1 < length bytes)
 unfolding stream_at
-stream_shorter seen bytes f rest is = by_header seen bytes (front_header_at bytes) (header_shorter bytes) f rest is
+stream_shorter seen bytes = grind (arith, header_shorter bytes, records_shorter)
 
 -- where bytes are there and one stream more may follow, one is read
 goes_on : (m n : ℕ) (seen : List Flat) (bytes : List ℕ) → m ≡ suc n → (length bytes == 0) ≡ false → joined_at m seen bytes ≡ joined_spec.◌>>=◌ {Y = List Flat} (stream_at seen bytes) (with_stream n seen)
@@ -125,18 +101,7 @@ same_bound zero (suc m) seen (b ∷ bytes) le lt = absurd (omega (arith, le))
 same_bound (suc n) zero seen [] le lt = refl
 same_bound (suc n) zero seen (b ∷ bytes) le lt = absurd (omega (arith, lt))
 same_bound (suc n) (suc m) seen [] le lt = refl
-same_bound (suc n) (suc m) seen (b ∷ bytes) le lt =
-    goes_on (suc n) n seen (b ∷ bytes) refl some
-    ∙ (by_stream (stream_at seen (b ∷ bytes)) refl (λ f rest small. same_bound n m (seen ++ f ∷ []) rest (omega (arith, small, le)) (omega (arith, small, lt)))
-    ∙ sym (goes_on (suc m) m seen (b ∷ bytes) refl some))
-  where
-    some : (length (b ∷ bytes) == 0) ≡ false
-    some = ne_eqb (length (b ∷ bytes)) 0 (λ e. omega (arith, e))
-
-    by_stream : (r : Result (Flat × List ℕ) Fault) → stream_at seen (b ∷ bytes) ≡ r → ((f : Flat) (rest : List ℕ) → length rest < length (b ∷ bytes) → joined_at n (seen ++ f ∷ []) rest ≡ joined_at m (seen ++ f ∷ []) rest)
-        → joined_spec.◌>>=◌ {Y = List Flat} r (with_stream n seen) ≡ joined_spec.◌>>=◌ {Y = List Flat} r (with_stream m seen)
-    by_stream (Err e) is later = refl
-    by_stream (Ok (f, rest)) is later = later f rest (stream_shorter seen (b ∷ bytes) f rest is)
+same_bound (suc n) (suc m) seen (b ∷ bytes) le lt = grind (arith, stream_shorter seen (b ∷ bytes), same_bound n m)
 
 -- the records behind a header are those of a stream of which none has come
 whole_is : (h : Header) (rest : List ℕ) → front_records_at h rest ≡ whole (behind_events [] (records_of h (MOST_RECORDS - 0) rest))

@@ -149,6 +149,4 @@ loop-rest-preserved g c =
     }
 
 pub take-requires-clause-few : goal.take-requires-clause-few
-take-requires-clause-few g c =
-    let found = next_found c.loop-rest.current.backlog.header c.loop-rest.current.count c.split_at.result.0.now c.in-Ok.event (sym c.read.ensures ∙ c.in-Ok.is) in
-    omega (arith, c.loop-rest.invariant.kept.count, found.0, c.loop-rest.invariant.read.next.few)
+take-requires-clause-few g c = grind (arith, next_found)

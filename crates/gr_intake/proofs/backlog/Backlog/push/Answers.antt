@@ -1,4 +1,4 @@
-use Rattle.std.proofs.Common.{◌≡◌, ◌≤◌, ◌∷◌, ◌++◌, [], List, ap, set, ◌∙◌, arith, rules}
+use Rattle.std.proofs.Common.{◌≤◌, ◌∷◌, ◌++◌, [], List, ap, ◌∙◌, arith, rules}
 use Rattle.std.proofs.lemmas.List.{set-get_or}
 use Rattle.std.proofs.lemmas.Result.{err_from_is_err_and}
 use Rattle.gr_model.specs.declared.event.Event.{Event}
@@ -33,9 +33,4 @@ invariant_of-self-in_err-push g c =
     piece_written pieces first c.in_ok-last.last c.min-self-inside.result c.push.new.self (pieces_grow c.self.inside.pieces.items pieces first c.self.invariant c.in_ok-last.ensures.grown) (omega (arith, c.in_ok-last.ensures.place)) less before
 
 pub returns-in_err-push-clause-err : goal.returns-in_err-push-clause-err
-returns-in_err-push-clause-err g c =
-    let old = c.self.inside.pieces.items in
-    let pieces = c.last_with_room.new.pieces.items in
-    let p = err_from_is_err_and c.from_residual-in_err-push.result c.from_residual-in_err-push.ensures.1 in
-    let unmoved : set pieces c.in_ok-last.last c.push.new.self ≡ pieces = ap (set pieces c.in_ok-last.last) (c.in_err-push.ensures.err ∙ c.index_mut.ensures.value) ∙ set-get_or pieces c.in_ok-last.last c.index_mut.result.now in
-    rw (p.1) (ap (coming c.self.inside.header) (ap (λ (ps : List (List Event)). waiting_in ps) unmoved ∙ waiting_grows old pieces c.in_ok-last.ensures.grown) ∙ c.self.view_is)
+returns-in_err-push-clause-err g c = grind (arith, err_from_is_err_and, set-get_or, coming, waiting_in, waiting_grows)

@@ -1,20 +1,15 @@
-use Rattle.std.proofs.Common.{◌≡◌, ℕ, List, subst, sym}
+use Rattle.std.proofs.Common.{arith, ◌≡◌, List, subst, sym}
 use Rattle.gr_model.specs.Shapes.{IsShape}
 use Rattle.gr_record.specs.declared.header.Header.{Header}
 use Rattle.gr_taking.specs.Sources.{MayCome, come_from}
-use Rattle.gr_intake.specs.Intakes.{IsGap, come}
+use Rattle.gr_intake.specs.Intakes.{come}
 use Rattle.gr_intake.specs.Waiting.{Coming}
 use Rattle.gr_intake.proofs.Judged.{gap_is_launch_fault, groups_between, launch_taken}
 use Rattle.gr_intake.proofs.Sources.{come_as, streams_may_come}
 use Rattle.gr_intake.proofs.intake.Intake.report.Goals as goal
 
 pub returns-in-Some-clause-fault : goal.returns-in-Some-clause-fault
-returns-in-Some-clause-fault g c =
-    let i = c.args.self.now in
-    let read = c.requires.intake.0 in
-    let groups = groups_between i.sequencer.taken.sizes i.streams.items i.current c.requires.whole read.groups in
-    let gap = subst (λ (sizes : List ℕ). IsGap sizes c.in-Some.fault) c.shape.ensures.sizes c.in-Some.ensures in
-    gap_is_launch_fault i.sequencer.taken i.streams.items read.sequence.prefixes.count groups read.streams c.in-Some.fault gap
+returns-in-Some-clause-fault g c = grind (arith, groups_between, gap_is_launch_fault, c.requires.whole, c.shape.ensures.sizes)
 
 pub take_all-requires-clause-may : goal.take_all-requires-clause-may
 take_all-requires-clause-may g c =
