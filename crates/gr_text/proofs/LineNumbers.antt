@@ -32,6 +32,9 @@ pub each_some : {X : Type 0} (o : Option X) (P : X → Type 0) → ((x : X) → 
 each_some None P h = tt
 each_some (Some x) P h = h x refl
 
+pub number_told : (word : List ℕ) → (number_of word ≡ number_of word) × IfSome (number_of word) (λ n. (word ≡ decimal n) × (n < 2 ^ 32))
+number_told word = (refl, each_some (number_of word) _ (number_found word))
+
 pub none_of : {X : Type 0} (o : Option X) → ((x : X) → o ≡ Some x → ⊥) → o ≡ None
 none_of o h = grind arith
 

@@ -1,9 +1,8 @@
 -- A line has no line feed, and no `@` but that of its site; with its site it is read from its text, and what is read has that text.
-use Rattle.std.proofs.Common.{◌≡◌, ℕ, zero, suc, ◌^◌, ◌<◌, ◌≤◌, Bool, true, false, List, [], ◌∷◌, ◌++◌, All, refl, sym, ap, ◌∙◌, arith, inl, inr, true≢false, ◌+◌, ◌-◌, length, take, Option, Some, None, subst, append_assoc}
-use Rattle.std.specs.Prelude.{nat_le, nat_lt, not, ◌==◌, ◌&&◌, codes, decimal, ⊤, slice_index}
-use Rattle.std.proofs.lemmas.Bool.{and_parts, and_from, cases_Bool, eqb-true, eqb-false}
+use Rattle.std.proofs.Common.{◌≡◌, ℕ, suc, ◌^◌, ◌<◌, ◌≤◌, Bool, true, false, List, [], ◌∷◌, ◌++◌, All, refl, sym, ap, ◌∙◌, arith, inl, inr, true≢false, ◌+◌, ◌-◌, length, take, Option, Some, None, subst, append_assoc}
+use Rattle.std.specs.Prelude.{nat_lt, not, ◌==◌, ◌&&◌, codes, decimal, ⊤, slice_index}
+use Rattle.std.proofs.lemmas.Bool.{and_parts, cases_Bool, eqb-true, eqb-false}
 use Rattle.std.proofs.lemmas.Bool.Decides.{nat_tests}
-use Rattle.gr_model.specs.declared.event.Space.{Space}
 use Rattle.gr_model.specs.declared.event.Scope.{Scope}
 use Rattle.gr_model.specs.declared.event.Order.{Order}
 use Rattle.gr_model.specs.declared.event.Kind.{Kind}
@@ -19,34 +18,25 @@ use Rattle.gr_text.specs.declared.line.Line.TheVariants as lines
 use Rattle.gr_text.specs.declared.line.SitedLine.{SitedLine}
 use Rattle.gr_text.specs.LineLaws.{IsSaid, IsSiteOf, IsSitedSaid, SitedTextIsRead, SitedReadIsText}
 use Rattle.gr_text.specs.LineReading.{IsWithout, behind_mark, cut_at, unspaced, site_said, event_in, sited_by, sited_said}
-use Rattle.gr_text.specs.LineText.{line_text, sited_text, site_text, space_word, scope_word, order_word, flags_word, version_words, name_words, names_words, atomic_words, first_word, later_words, later_text, header_words}
-use Rattle.gr_text.proofs.LineWords.{are_digits, decimal_digits, first_back, first_found, short_again}
+use Rattle.gr_text.specs.LineText.{line_text, sited_text, site_text, name_words, names_words, atomic_words, first_word, later_words, later_text, header_words}
+use Rattle.gr_text.proofs.LineWords.{are, are-append, are_weaker, are_without, is_digit, decimal_digits, first_back, first_found, short_again}
 use Rattle.std.proofs.lemmas.List.{append-nil, length-append, take_at, get_or-append-add}
 use Rattle.gr_record.specs.Versions.{has_sites}
-use Rattle.gr_text.proofs.LinesFound.{bind_some, guard_some, unless_some, some_is, short_found, read_is_text}
+use Rattle.gr_text.proofs.LinesFound.{bind_some, guard_some, some_is, short_told, read_is_text}
 use Rattle.gr_text.proofs.LinesAgain.{text_is_read}
 
 -- each byte is above that of a line feed, and none is `@`
-abbrev are_plain : List ℕ → Bool
-are_plain [] = true
-are_plain (b ∷ bytes) = nat_lt 10 b && not (b == 64) && are_plain bytes
+abbrev is_plain : ℕ → Bool
+is_plain b = nat_lt 10 b && not (b == 64)
 
-abbrev pub ArePlain : List ℕ → Type 0
-ArePlain bytes = are_plain bytes ≡ true
+abbrev ArePlain : List ℕ → Type 0
+ArePlain bytes = are is_plain bytes ≡ true
 
-pub plain-append : (a b : List ℕ) → ArePlain a → ArePlain b → ArePlain (a ++ b)
-plain-append [] b h k = k
-plain-append (x ∷ a) b h k = let p = and_parts _ _ h in and_from _ _ p.0 (plain-append a b p.1 k)
-
-digit_plain : (b : ℕ) → (nat_le 48 b && nat_lt b 58) ≡ true → (nat_lt 10 b && not (b == 64)) ≡ true
+digit_plain : (b : ℕ) → is_digit b ≡ true → is_plain b ≡ true
 digit_plain b h = grind (arith, nat_tests)
 
-digits_plain : (ds : List ℕ) → are_digits ds ≡ true → ArePlain ds
-digits_plain [] h = refl
-digits_plain (b ∷ ds) h = let p = and_parts _ _ h in and_from _ _ (digit_plain b p.0) (digits_plain ds p.1)
-
 number_plain : (n : ℕ) → n < 2 ^ 32 → ArePlain (decimal n)
-number_plain n lt = digits_plain (decimal n) (decimal_digits n lt)
+number_plain n lt = are_weaker is_digit is_plain digit_plain (decimal n) (decimal_digits n lt)
 
 abbrev AreAllPlain : List (List ℕ) → Type 0
 AreAllPlain [] = ⊤
@@ -54,19 +44,7 @@ AreAllPlain (w ∷ ws) = ArePlain w × AreAllPlain ws
 
 later_plain : (ws : List (List ℕ)) → AreAllPlain ws → ArePlain (later_text ws)
 later_plain [] h = refl
-later_plain (w ∷ ws) h = plain-append w (later_text ws) h.0 (later_plain ws h.1)
-
-space_plain : (s : Space) → ArePlain (space_word s)
-space_plain s = grind arith
-
-scope_plain : (s : Scope) → ArePlain (scope_word s)
-scope_plain s = grind arith
-
-order_plain : (o : Order) → ArePlain (order_word o)
-order_plain o = grind arith
-
-flags_plain : (global local : Bool) → ArePlain (flags_word global local)
-flags_plain global local = grind arith
+later_plain (w ∷ ws) h = are-append is_plain w (later_text ws) h.0 (later_plain ws h.1)
 
 name_plain : (n : Name) (ws : List (List ℕ)) → IsNameInRange n → AreAllPlain ws → AreAllPlain (name_words n ++ ws)
 name_plain n ws ok h =
@@ -80,57 +58,46 @@ each_plain [] each = tt
 each_plain (n ∷ names) each = name_plain n (names_words names) (each 0 n (omega arith)) (each_plain names (λ k d lt. each (suc k) d (omega arith)))
 
 atomic_plain : (word : List ℕ) (kind : Kind) (scope : Scope) (order : Order) (e : Event) → ArePlain word → e.word < 2 ^ 32 → IsNamingOk kind e.names → AreAllPlain (atomic_words word scope order e)
-atomic_plain word kind scope order e is lt naming = (is, (space_plain e.space, (number_plain e.word lt, (scope_plain scope, (order_plain order, each_plain e.names (each_in_range kind e.names naming))))))
+atomic_plain word kind scope order e is lt naming = (is, (grind arith, (number_plain e.word lt, (grind arith, (grind arith, each_plain e.names (each_in_range kind e.names naming))))))
 
 event_plain : (kind : Kind) (e : Event) → e.item < 1024 → e.word < 2 ^ 32 → IsNamingOk kind e.names → ArePlain (first_word kind e.item ++ later_text (later_words kind e))
-event_plain Read e item word naming = plain-append (decimal e.item) _ (number_plain e.item (omega arith)) (later_plain (later_words Read e) (refl, (space_plain e.space, (number_plain e.word word, tt))))
-event_plain Write e item word naming = plain-append (decimal e.item) _ (number_plain e.item (omega arith)) (later_plain (later_words Write e) (refl, (space_plain e.space, (number_plain e.word word, tt))))
-event_plain (Load scope order) e item word naming = plain-append (decimal e.item) _ (number_plain e.item (omega arith)) (later_plain (later_words (Load scope order) e) (atomic_plain (codes "ld") (Load scope order) scope order e refl word naming))
-event_plain (Store scope order) e item word naming = plain-append (decimal e.item) _ (number_plain e.item (omega arith)) (later_plain (later_words (Store scope order) e) (atomic_plain (codes "st") (Store scope order) scope order e refl word naming))
-event_plain (Rmw scope order) e item word naming = plain-append (decimal e.item) _ (number_plain e.item (omega arith)) (later_plain (later_words (Rmw scope order) e) (atomic_plain (codes "rmw") (Rmw scope order) scope order e refl word naming))
-event_plain (Barrier global local) e item word naming = plain-append (decimal e.item) _ (number_plain e.item (omega arith)) (later_plain (later_words (Barrier global local) e) (refl, (number_plain e.word word, (flags_plain global local, tt))))
+event_plain Read e item word naming = are-append is_plain (decimal e.item) _ (number_plain e.item (omega arith)) (later_plain (later_words Read e) (refl, (grind arith, (number_plain e.word word, tt))))
+event_plain Write e item word naming = are-append is_plain (decimal e.item) _ (number_plain e.item (omega arith)) (later_plain (later_words Write e) (refl, (grind arith, (number_plain e.word word, tt))))
+event_plain (Load scope order) e item word naming = are-append is_plain (decimal e.item) _ (number_plain e.item (omega arith)) (later_plain (later_words (Load scope order) e) (atomic_plain (codes "ld") (Load scope order) scope order e refl word naming))
+event_plain (Store scope order) e item word naming = are-append is_plain (decimal e.item) _ (number_plain e.item (omega arith)) (later_plain (later_words (Store scope order) e) (atomic_plain (codes "st") (Store scope order) scope order e refl word naming))
+event_plain (Rmw scope order) e item word naming = are-append is_plain (decimal e.item) _ (number_plain e.item (omega arith)) (later_plain (later_words (Rmw scope order) e) (atomic_plain (codes "rmw") (Rmw scope order) scope order e refl word naming))
+event_plain (Barrier global local) e item word naming = are-append is_plain (decimal e.item) _ (number_plain e.item (omega arith)) (later_plain (later_words (Barrier global local) e) (refl, (number_plain e.word word, (grind arith, tt))))
 event_plain (End true) e item word naming = refl
 event_plain (End false) e item word naming = refl
-
-version_plain : (v : Version) → AreAllPlain (version_words v)
-version_plain v = grind arith
 
 pub line_plain : (v : Version) (x : Line) → IsSaid v x → ArePlain (line_text x)
 line_plain v (lines.Header h) ok =
     let group : h.group < 65535 = header_group h ok in
     let items : h.items ≤ 1024 = header_items h ok in
-    later_plain (header_words h) (number_plain h.group (omega arith), (refl, (number_plain h.items (omega arith), (refl, (number_plain h.launch ok.launch, version_plain h.version)))))
+    later_plain (header_words h) (number_plain h.group (omega arith), (refl, (number_plain h.items (omega arith), (refl, (number_plain h.launch ok.launch, grind arith)))))
 line_plain v (lines.Event e) (ok, range) = let few = items_within v in event_plain e.kind e (omega (arith, ok.ok.0)) ok.word ok.ok.1
 
 -- ---- with its site
 
 pub plain_without : (bytes : List ℕ) → ArePlain bytes → IsWithout 64 bytes
-plain_without [] h k d lt = absurd (omega arith)
-plain_without (b ∷ bytes) h zero d lt = λ e. true≢false (sym (and_parts _ _ (and_parts _ _ h).0).1 ∙ ap (λ (x : ℕ). not (x == 64)) e)
-plain_without (b ∷ bytes) h (suc k) d lt = plain_without bytes (and_parts _ _ h).1 k d (omega arith)
+plain_without bytes h = are_without is_plain 64 refl bytes h
 
 -- each byte is above that of a line feed
-abbrev pub are_above : List ℕ → Bool
-are_above [] = true
-are_above (b ∷ bytes) = nat_lt 10 b && are_above bytes
+abbrev pub AreAbove : List ℕ → Type 0
+AreAbove bytes = are (nat_lt 10) bytes ≡ true
 
-above-append : (a b : List ℕ) → are_above a ≡ true → are_above b ≡ true → are_above (a ++ b) ≡ true
-above-append [] b h k = k
-above-append (x ∷ a) b h k = let p = and_parts _ _ h in and_from _ _ p.0 (above-append a b p.1 k)
+plain_above : (bytes : List ℕ) → ArePlain bytes → AreAbove bytes
+plain_above bytes h = are_weaker is_plain (nat_lt 10) (λ b k. (and_parts _ _ k).0) bytes h
 
-plain_above : (bytes : List ℕ) → ArePlain bytes → are_above bytes ≡ true
-plain_above [] h = refl
-plain_above (b ∷ bytes) h = let p = and_parts _ _ h in and_from _ _ (and_parts _ _ p.0).0 (plain_above bytes p.1)
-
-site_above : (site : ℕ) → site < 2 ^ 16 → are_above (site_text site) ≡ true
+site_above : (site : ℕ) → site < 2 ^ 16 → AreAbove (site_text site)
 site_above site lt =
     elim (cases_Bool (site == 0)) [
       | inl none ↦ rw none refl
       | inr some ↦ rw some (plain_above (decimal site) (number_plain site (omega arith)))
     ]
 
-pub sited_above : (v : Version) (l : SitedLine) → IsSaid v l.line → l.site < 2 ^ 16 → are_above (sited_text l) ≡ true
-sited_above v l said lt = above-append (line_text l.line) (site_text l.site) (plain_above (line_text l.line) (line_plain v l.line said)) (site_above l.site lt)
+pub sited_above : (v : Version) (l : SitedLine) → IsSaid v l.line → l.site < 2 ^ 16 → AreAbove (sited_text l)
+sited_above v l said lt = are-append (nat_lt 10) (line_text l.line) (site_text l.site) (plain_above (line_text l.line) (line_plain v l.line said)) (site_above l.site lt)
 
 -- ---- a space at the end
 
@@ -159,11 +126,7 @@ unspaced_back front =
 
 site_found : (word : List ℕ) (site : ℕ) → site_said word ≡ Some site → (word ≡ decimal site) × (site < 2 ^ 16) × ((site == 0) ≡ false)
 unfolding site_said
-site_found word site h =
-    let n = bind_some _ _ _ h in
-    let f = short_found word n.0 n.1 in
-    let some = unless_some _ _ _ n.2 in
-    subst (λ (m : ℕ). (word ≡ decimal m) × (m < 2 ^ 16) × ((m == 0) ≡ false)) (some_is n.0 site some.1) (f.0, f.1, some.0)
+site_found word site h = grind (arith, short_told)
 
 -- ---- whole lines
 
@@ -182,7 +145,7 @@ unfolding sited_said site_said
 sited_end v e site said lt some has =
     let text = line_text (lines.Event e) in
     let before = text ++ 32 ∷ [] in
-    let plain : ArePlain before = plain-append text (32 ∷ []) (line_plain v (lines.Event e) said) refl in
+    let plain : ArePlain before = are-append is_plain text (32 ∷ []) (line_plain v (lines.Event e) said) refl in
     let cut = first_back 64 before (Some (decimal site)) (plain_without before plain) in
     rw (← append_assoc text (32 ∷ []) (64 ∷ decimal site), cut, has, short_again site lt, some, unspaced_back text, text_is_read v (lines.Event e) said) refl
 

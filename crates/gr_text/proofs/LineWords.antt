@@ -1,10 +1,9 @@
 -- Words of a line: what stands before the first byte of a kind, and numbers and keywords.
-use Rattle.std.proofs.Common.{◌≡◌, ℕ, zero, suc, ◌+◌, List, [], ◌∷◌, ◌++◌, take, drop, Option, Some, None, refl, ap, arith, inl, inr, ◌%◌, ◌^◌, ◌<◌, ◌≤◌, Bool, true, false, ◌∙◌}
+use Rattle.std.proofs.Common.{◌≡◌, ℕ, zero, suc, ◌+◌, List, [], ◌∷◌, ◌++◌, take, drop, Option, Some, None, refl, ap, arith, inl, inr, ◌%◌, ◌^◌, ◌<◌, Bool, true, false, ◌∙◌}
 use Rattle.std.specs.Prelude.{◌==◌, nat_lt, nat_le, ◌&&◌, not, decimal}
 use Rattle.std.proofs.lemmas.Bool.{eq-eqb, ne_eqb, eqb-true, cases_Bool, lt-ltb, le-leb, and_parts, and_from, both_ways}
 use Rattle.std.proofs.lemmas.List.{append-nil}
 use Rattle.gr_text.specs.LineReading.{IsWithout, IsFirst, behind_mark, cut_at, same, short_of, IsWord, first_of, space_said, scope_said, order_said, flags_said}
-use Rattle.std.proofs.lemmas.Bool.Decides.{nat_tests}
 use Rattle.std.proofs.lemmas.Fmt.{decimal_by_steps}
 use Rattle.gr_model.specs.declared.event.Space.{Space}
 use Rattle.gr_model.specs.declared.event.Scope.{Scope}
@@ -43,53 +42,50 @@ module _ (mark : ℕ) where
         | inr other ↦ rw other (ap (λ (x : List ℕ). b ∷ x) (first_found bytes))
       ]
 
--- ---- digits
+-- ---- bytes of one kind
 
-abbrev pub are_digits : List ℕ → Bool
-are_digits [] = true
-are_digits (b ∷ bytes) = nat_le 48 b && nat_lt b 58 && are_digits bytes
+-- each byte passes this test
+abbrev pub are : (ℕ → Bool) → List ℕ → Bool
+are p [] = true
+are p (b ∷ bytes) = p b && are p bytes
 
-digits_then : (ds : List ℕ) (c : ℕ) → are_digits ds ≡ true → 48 ≤ c → c < 58 → are_digits (ds ++ c ∷ []) ≡ true
-digits_then [] c h ge lt = and_from _ _ (and_from _ _ (le-leb 48 c ge) (lt-ltb c 58 lt)) refl
-digits_then (b ∷ bytes) c h ge lt =
-    let p = and_parts _ _ h in
-    and_from _ _ p.0 (digits_then bytes c p.1 ge lt)
+pub are-append : (p : ℕ → Bool) (a b : List ℕ) → are p a ≡ true → are p b ≡ true → are p (a ++ b) ≡ true
+are-append p [] b h k = k
+are-append p (x ∷ a) b h k = let t = and_parts _ _ h in and_from _ _ t.0 (are-append p a b t.1 k)
 
-pub decimal_digits : (n : ℕ) → n < 2 ^ 32 → are_digits (decimal n) ≡ true
-decimal_digits n lt =
-    decimal_by_steps (λ _ ds. are_digits ds ≡ true)
-    (λ m small. digits_then [] (48 + m) refl (omega arith) (omega arith))
-    (λ m ds big h. digits_then ds (48 + m % 10) h (omega arith) (omega arith))
-    n (omega arith)
+pub are_weaker : (p q : ℕ → Bool) → ((b : ℕ) → p b ≡ true → q b ≡ true) → (bytes : List ℕ) → are p bytes ≡ true → are q bytes ≡ true
+are_weaker p q weaker [] h = refl
+are_weaker p q weaker (b ∷ bytes) h = let t = and_parts _ _ h in and_from _ _ (weaker b t.0) (are_weaker p q weaker bytes t.1)
+
+pub are_without : (p : ℕ → Bool) (mark : ℕ) → p mark ≡ false → (bytes : List ℕ) → are p bytes ≡ true → IsWithout mark bytes
+are_without p mark isnt [] h k d lt = absurd (omega arith)
+are_without p mark isnt (b ∷ bytes) h zero d lt = λ e. both_ways _ (ap p e ∙ isnt) (and_parts _ _ h).0
+are_without p mark isnt (b ∷ bytes) h (suc k) d lt = are_without p mark isnt bytes (and_parts _ _ h).1 k d (omega arith)
+
+abbrev pub is_digit : ℕ → Bool
+is_digit b = nat_le 48 b && nat_lt b 58
+
+digit : (d : ℕ) → d < 10 → are is_digit ((48 + d) ∷ []) ≡ true
+digit d lt = and_from _ _ (and_from _ _ (le-leb 48 (48 + d) (omega arith)) (lt-ltb (48 + d) 58 (omega arith))) refl
+
+pub decimal_digits : (n : ℕ) → n < 2 ^ 32 → are is_digit (decimal n) ≡ true
+decimal_digits n lt = decimal_by_steps (λ _ ds. are is_digit ds ≡ true) digit (λ m ds big h. are-append is_digit ds ((48 + m % 10) ∷ []) h (digit (m % 10) (omega arith))) n (omega arith)
 
 -- a number is no keyword
-pub no_key : (n : ℕ) (key : List ℕ) → n < 2 ^ 32 → are_digits key ≡ false → same (decimal n) key ≡ false
+pub no_key : (n : ℕ) (key : List ℕ) → n < 2 ^ 32 → are is_digit key ≡ false → same (decimal n) key ≡ false
 no_key n key lt other =
     elim (cases_Bool (same (decimal n) key)) [
-      | inl is ↦ absurd (both_ways _ (ap are_digits (same_is (decimal n) key is) ∙ other) (decimal_digits n lt))
+      | inl is ↦ absurd (both_ways _ (ap (are is_digit) (same_is (decimal n) key is) ∙ other) (decimal_digits n lt))
       | inr no_match ↦ no_match
     ]
 
 -- ---- keywords
 
-abbrev pub has_no_space : List ℕ → Bool
-has_no_space [] = true
-has_no_space (b ∷ bytes) = not (b == 32) && has_no_space bytes
-
-pub key_word : (key : List ℕ) → has_no_space key ≡ true → IsWord key
-key_word [] h k d lt = absurd (omega arith)
-key_word (b ∷ bytes) h zero d lt = λ e. both_ways _ (ap (λ (x : ℕ). not (x == 32)) e) (and_parts _ _ h).0
-key_word (b ∷ bytes) h (suc k) d lt = key_word bytes (and_parts _ _ h).1 k d (omega arith)
-
-digit_no_space : (b : ℕ) → (nat_le 48 b && nat_lt b 58) ≡ true → not (b == 32) ≡ true
-digit_no_space b h = grind (arith, nat_tests)
-
-digits_no_space : (ds : List ℕ) → are_digits ds ≡ true → has_no_space ds ≡ true
-digits_no_space [] h = refl
-digits_no_space (b ∷ ds) h = let p = and_parts _ _ h in and_from _ _ (digit_no_space b p.0) (digits_no_space ds p.1)
+pub key_word : (key : List ℕ) → are (λ b. not (b == 32)) key ≡ true → IsWord key
+key_word key h = are_without (λ b. not (b == 32)) 32 refl key h
 
 pub decimal_word : (n : ℕ) → n < 2 ^ 32 → IsWord (decimal n)
-decimal_word n lt = key_word (decimal n) (digits_no_space (decimal n) (decimal_digits n lt))
+decimal_word n lt = are_without is_digit 32 refl (decimal n) (decimal_digits n lt)
 
 pub space_is_word : (s : Space) → IsWord (space_word s)
 space_is_word s = key_word (space_word s) (grind arith)

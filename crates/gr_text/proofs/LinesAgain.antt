@@ -13,7 +13,7 @@ use Rattle.gr_model.specs.declared.event.Event.{Event}
 use Rattle.gr_model.specs.Events.{IsNamingOk, IsKindOk, end_of}
 use Rattle.gr_record.specs.declared.header.Header.{Header}
 use Rattle.gr_record.specs.declared.header.Version.{Version}
-use Rattle.gr_record.specs.declared.header.Version.TheVariants.{One, Two, Three, Four}
+use Rattle.gr_record.specs.declared.header.Version.TheVariants.{One, Four}
 use Rattle.gr_model.specs.NameLists.{IsNameInRange}
 use Rattle.gr_text.specs.declared.line.Line.TheVariants as lines
 use Rattle.gr_record.specs.Versions.{most_groups, most_items}
@@ -29,9 +29,7 @@ use Rattle.gr_record.proofs.Places.{header_group, header_items, items_within, na
 version_again : (v : Version) (word : List ℕ) → IsWord word → ((first_of (word ++ later_text (version_words v))).0 ≡ word) × (version_said (first_of (word ++ later_text (version_words v))).1 ≡ Some v)
 unfolding same
 version_again One word is = rw (first_of_last word is) (refl, refl)
-version_again Two word is = rw (first_of_space word _ is) (refl, refl)
-version_again Three word is = rw (first_of_space word _ is) (refl, refl)
-version_again Four word is = rw (first_of_space word _ is) (refl, refl)
+version_again v word is = rw (first_of_space word _ is) (refl, refl)
 
 header_again : (v : Version) (h : Header) → IsHeader h → line_said v (line_text (lines.Header h)) ≡ Some (lines.Header h)
 unfolding line_said header_said
@@ -127,9 +125,7 @@ module _ (v : Version) where
       → line_said v (line_text (lines.Event (record { item = item; kind = kind; space = space; word = word; names = names }))) ≡ Some (lines.Event (record { item = item; kind = kind; space = space; word = word; names = names }))
   unfolding kind_said same
   event_again item word Read space [] lt fits naming named ok = event_line _ (codes "r") (space_word space ∷ decimal word ∷ []) lt refl named (read_again item word space fits)
-  event_again item word Read space (n ∷ names) lt fits naming named ok = cc
   event_again item word Write space [] lt fits naming named ok = event_line _ (codes "w") (space_word space ∷ decimal word ∷ []) lt refl named (write_again item word space fits)
-  event_again item word Write space (n ∷ names) lt fits naming named ok = cc
   event_again item word (Load scope order) space names lt fits naming named ok = event_line _ (codes "ld") (space_word space ∷ decimal word ∷ scope_word scope ∷ order_word order ∷ names_words names) lt (ap not ok) named
       (access_again item word space fits scope order names (codes "ld") (Load scope order) (key_word (codes "ld") refl) refl refl refl refl naming)
   event_again item word (Store scope order) space names lt fits naming named ok = event_line _ (codes "st") (space_word space ∷ decimal word ∷ scope_word scope ∷ order_word order ∷ names_words names) lt (ap not ok) named
@@ -137,10 +133,9 @@ module _ (v : Version) where
   event_again item word (Rmw scope order) space names lt fits naming named ok = event_line _ (codes "rmw") (space_word space ∷ decimal word ∷ scope_word scope ∷ order_word order ∷ names_words names) lt refl named
       (access_again item word space fits scope order names (codes "rmw") (Rmw scope order) (key_word (codes "rmw") refl) refl refl refl refl naming)
   event_again item word (Barrier global local) space [] lt fits naming named ok = rw ok (event_line _ (codes "bar") (decimal word ∷ flags_word global local ∷ []) lt refl named (barrier_again item word space fits global local))
-  event_again item word (Barrier global local) space (n ∷ names) lt fits naming named ok = cc
   event_again item word (End true) space [] lt fits naming named ok = rw (ok.0, ok.1, ok.2) (end_again true)
   event_again item word (End false) space [] lt fits naming named ok = rw (ok.0, ok.1, ok.2) (end_again false)
-  event_again item word (End cut) space (n ∷ names) lt fits naming named ok = cc
+  event_again item word kind space names lt fits naming named ok = cc
 
 pub text_is_read : TextIsRead
 text_is_read v (lines.Header h) ok = header_again v h ok

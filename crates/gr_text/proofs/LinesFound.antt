@@ -1,6 +1,6 @@
 -- What is read from a line has that line.
 use Rattle.std.proofs.Common.{◌≡◌, ℕ, ◌^◌, ◌<◌, ◌≤◌, Bool, true, false, cond, List, [], ◌∷◌, ◌++◌, zero, suc, Option, Some, None, refl, sym, ap, ap₂, subst, ◌∙◌, arith}
-use Rattle.std.specs.Prelude.{decimal, codes}
+use Rattle.std.specs.Prelude.{decimal, codes, IfSome}
 use Rattle.std.proofs.lemmas.Bool.{ltb-true, and_parts, not-true}
 use Rattle.std.proofs.lemmas.Bool.Decides.{nat_tests}
 use Rattle.gr_model.specs.declared.event.Space.{Space}
@@ -22,9 +22,9 @@ use Rattle.gr_record.specs.Reading.{is_order_ok, naming}
 use Rattle.gr_record.specs.Versions.{most_groups, most_items}
 use Rattle.gr_record.specs.Spelling.{IsHeader}
 use Rattle.gr_text.specs.LineText.{space_word, scope_word, order_word, flags_word, version_words, names_words, first_word, later_words, later_text, line_text}
-use Rattle.gr_text.specs.LineReading.{short_of, behind_space, first_of, ◌>>=◌, at_end, space_said, scope_said, order_said, flags_said, header_said, header_made, version_said, name_said, names_said, kind_said, atomic_said, barrier_said, event_said, checked, end_said, line_said}
+use Rattle.gr_text.specs.LineReading.{short_of, cut_at, behind_space, first_of, ◌>>=◌, at_end, space_said, scope_said, order_said, flags_said, header_said, header_made, version_said, name_said, names_said, kind_said, atomic_said, barrier_said, event_said, checked, end_said, line_said}
 use Rattle.gr_text.specs.LineLaws.{IsSaid, ReadIsText}
-use Rattle.gr_text.proofs.LineNumbers.{same_is, same_told, number_found}
+use Rattle.gr_text.proofs.LineNumbers.{each_some, number_found, number_told, same_is, same_told}
 use Rattle.gr_text.proofs.LineWords.{first_found}
 
 -- ---- steps that did not fail
@@ -39,9 +39,6 @@ at_end_some rest o y e = grind arith
 pub guard_some : {X : Type 0} (b : Bool) (o : Option X) (y : X) → cond b o None ≡ Some y → (b ≡ true) × (o ≡ Some y)
 guard_some b o y e = grind arith
 
-pub unless_some : {X : Type 0} (b : Bool) (o : Option X) (y : X) → cond b None o ≡ Some y → (b ≡ false) × (o ≡ Some y)
-unless_some b o y e = grind arith
-
 choose : {X : Type 0} (b : Bool) (o p : Option X) (y : X) → cond b o p ≡ Some y → (G : Type 0) → (b ≡ true → o ≡ Some y → G) → (p ≡ Some y → G) → G
 choose true o p y e G this that = this refl e
 choose false o p y e G this that = that e
@@ -52,13 +49,12 @@ some_is x y e = cc
 -- ---- words
 
 -- a number of 16 bits
-pub short_found : (word : List ℕ) (n : ℕ) → short_of word ≡ Some n → (word ≡ decimal n) × (n < 2 ^ 16)
+short_found : (word : List ℕ) (n : ℕ) → short_of word ≡ Some n → (word ≡ decimal n) × (n < 2 ^ 16)
 unfolding short_of
-short_found word n e =
-    let b = bind_some _ _ _ e in
-    let g = guard_some _ _ _ b.2 in
-    let f = number_found word b.0 b.1 in
-    subst (λ (k : ℕ). (word ≡ decimal k) × (k < 2 ^ 16)) (some_is b.0 n g.1) (f.0, ltb-true _ _ g.0)
+short_found word n e = grind (arith, nat_tests, number_told)
+
+pub short_told : (word : List ℕ) → (short_of word ≡ short_of word) × IfSome (short_of word) (λ n. (word ≡ decimal n) × (n < 2 ^ 16))
+short_told word = (refl, each_some (short_of word) _ (short_found word))
 
 space_found : (word : List ℕ) (s : Space) → space_said word ≡ Some s → word ≡ space_word s
 unfolding space_said
@@ -118,23 +114,12 @@ header_found bytes h e =
       spaced b.1 (short_found _ g.0 g.1).0 (spaced c.1 (same_is _ (codes "items") keys.0) (spaced d.1 (short_found _ i.0 i.1).0 (spaced f.1 (same_is _ (codes "launch") keys.1) (joined (first_found 32 f.0) launch.0 (version_found _ v.0 v.1))))),
     )
 
-abbrev Named : Type 0
-Named = Name × Option (List ℕ)
+first_told : (bytes : List ℕ) → (cut_at 32 bytes ≡ cut_at 32 bytes) × (bytes ≡ (cut_at 32 bytes).0 ++ behind_space (cut_at 32 bytes).1)
+first_told bytes = (refl, first_found 32 bytes)
 
-name_found : (bytes : List ℕ) (x : Named) (words : List (List ℕ)) → name_said bytes ≡ Some x → behind_space x.1 ≡ later_text words → bytes ≡ codes "<" ++ later_text (decimal x.0.at.group ∷ decimal x.0.at.item ∷ decimal x.0.release ∷ words)
+name_found : (bytes : List ℕ) (x : Name × Option (List ℕ)) (words : List (List ℕ)) → name_said bytes ≡ Some x → behind_space x.1 ≡ later_text words → bytes ≡ codes "<" ++ later_text (decimal x.0.at.group ∷ decimal x.0.at.item ∷ decimal x.0.release ∷ words)
 unfolding name_said
-name_found bytes x words e behind =
-    let b = word_found bytes _ x e in
-    let c = word_found b.0 _ x b.2 in
-    let d = word_found c.0 _ x c.2 in
-    let k = guard_some _ _ x d.2 in
-    let g = bind_some _ _ x k.1 in
-    let i = bind_some _ _ x g.2 in
-    let r = bind_some _ _ x i.2 in
-    let same = some_is (record { at = record { group = g.0; item = i.0 }; release = r.0 }, (first_of d.0).1) x r.2 in
-    let behind_d : behind_space (first_of d.0).1 ≡ later_text words = ap (λ (y : Named). behind_space y.1) same ∙ behind in
-    subst (λ (y : Named). bytes ≡ codes "<" ++ later_text (decimal y.0.at.group ∷ decimal y.0.at.item ∷ decimal y.0.release ∷ words)) same
-    (spaced b.1 (same_is _ (codes "<") k.0) (spaced c.1 (short_found _ g.0 g.1).0 (spaced d.1 (short_found _ i.0 i.1).0 (joined (first_found 32 d.0) (number_found _ r.0 r.1).0 behind_d))))
+name_found bytes x words e behind = grind (arith, first_told, short_told, number_told, same_told)
 
 names_found : (rest : Option (List ℕ)) (most : ℕ) (names : List Name) → names_said rest most ≡ Some names → behind_space rest ≡ later_text (names_words names)
 unfolding names_said
@@ -172,14 +157,10 @@ record IsAtomic (key : List ℕ) (scope : Scope) (order : Order) (k : Kind) : Ty
 
 kind_found : (key : List ℕ) (scope : Scope) (order : Order) (k : Kind) → kind_said key scope order ≡ Some k → IsAtomic key scope order k
 unfolding kind_said
-kind_found key scope order k e =
-    choose _ _ _ k e (IsAtomic key scope order k)
-    (λ is load. subst (IsAtomic key scope order) (some_is (Load scope order) k load) (record { text = λ x. rw (same_is key (codes "ld") is) refl; ok = λ item space word h. not-true _ h }))
-    (λ other. choose _ _ _ k other (IsAtomic key scope order k)
-    (λ is store. subst (IsAtomic key scope order) (some_is (Store scope order) k store) (record { text = λ x. rw (same_is key (codes "st") is) refl; ok = λ item space word h. not-true _ h }))
-    (λ last.
-    let rmw = guard_some _ (Some (Rmw scope order)) k last in
-    subst (IsAtomic key scope order) (some_is (Rmw scope order) k rmw.1) (record { text = λ x. rw (same_is key (codes "rmw") rmw.0) refl; ok = λ item space word h. tt })))
+kind_found key scope order (Load s o) e = record { text = λ x. grind (arith, same_told); ok = λ item space word h. not-true _ h }
+kind_found key scope order (Store s o) e = record { text = λ x. grind (arith, same_told); ok = λ item space word h. not-true _ h }
+kind_found key scope order (Rmw s o) e = record { text = λ x. grind (arith, same_told); ok = λ item space word h. tt }
+kind_found key scope order k e = absurd (grind arith)
 
 event_found : (item : ℕ) (bytes : List ℕ) (e : Event) → event_said item bytes ≡ Some e → Said item bytes e
 unfolding event_said barrier_said atomic_said

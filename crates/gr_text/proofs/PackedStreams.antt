@@ -29,7 +29,7 @@ use Rattle.gr_text.specs.Lines.{lines_of}
 use Rattle.gr_text.specs.Texts.{◌>>=◌, record_line, version_at, lines_bytes, whole_line, said_at, line_at, over_at, said_from, said_in}
 use Rattle.gr_text.specs.Dumps.{WholeStream, parts_in}
 use Rattle.gr_text.specs.Wholes.{IsWhole, bytes_of, text_of, PackedAreStreams}
-use Rattle.gr_text.proofs.Steps.{bind_ok, line_at_ok, record_at_ok}
+use Rattle.gr_text.proofs.Steps.{bind_ok, map_ok, line_at_ok, record_at_ok}
 
 -- ---- a text from its lines
 
@@ -87,28 +87,6 @@ begins h site xs ok none r =
       parts = ap₂ (λ (n : ℕ) (v : List SitedLine). record { line = lines.Header h; site = n } ∷ v) none r.parts;
     }
 
-ends : (h : Header) (left : ℕ) (x : Sited) (xs : List SitedLine) → IsRecord h x → is_end x.event ≡ true → 1 ≤ left → Streams xs → Rest h left (record_line x ∷ xs)
-ends h left x xs ok end some s = record {
-  records = x ∷ [];
-  streams = s.streams;
-  runs = (ok, λ _. refl, tt);
-  few = omega arith;
-  complete = end;
-  whole = s.whole;
-  parts = ap (λ (v : List SitedLine). record_line x ∷ v) s.parts;
-}
-
-goes_on : (h : Header) (left : ℕ) (x : Sited) (xs : List SitedLine) → IsRecord h x → is_end x.event ≡ false → 1 ≤ left → Rest h (left - 1) xs → Rest h left (record_line x ∷ xs)
-goes_on h left x xs ok on some r = record {
-  records = x ∷ r.records;
-  streams = r.streams;
-  runs = (ok, λ end. absurd (both_ways (is_end x.event) on end), r.runs);
-  few = omega (arith, r.few);
-  complete = complete_behind x.event (events_of r.records) on ∙ r.complete;
-  whole = r.whole;
-  parts = ap (λ (v : List SitedLine). record_line x ∷ v) r.parts;
-}
-
 -- ---- line by line
 
 is_record : (h : Header) (r : Sited) → r.event.item < h.items → length r.event.names ≤ places h.version → IsSitedSaid h.version (record_line r) → IsRecord h r
@@ -129,8 +107,24 @@ follows n place (Some l) x k = by_place place l.line l.site k
         r = record { event = e; site = site }
 
         by_end : (b : Bool) → is_end e ≡ b → e.item < h.items → length e.names ≤ places h.version → 1 ≤ left → IsSitedSaid h.version (record_line r) → (xs : List SitedLine) → Follow (cond b Outside (Inside h (left - 1))) xs → Follow (Inside h left) (record_line r ∷ xs)
-        by_end true end lt room some said xs s = ends h left r xs (is_record h r lt room said) end some s
-        by_end false on lt room some said xs s = goes_on h left r xs (is_record h r lt room said) on some s
+        by_end true end lt room some said xs s = record {
+          records = r ∷ [];
+          streams = s.streams;
+          runs = (is_record h r lt room said, λ _. refl, tt);
+          few = omega arith;
+          complete = end;
+          whole = s.whole;
+          parts = ap (λ (v : List SitedLine). record_line r ∷ v) s.parts;
+        }
+        by_end false on lt room some said xs s = record {
+          records = r ∷ s.records;
+          streams = s.streams;
+          runs = (is_record h r lt room said, λ end. absurd (both_ways (is_end e) on end), s.runs);
+          few = omega (arith, s.few);
+          complete = complete_behind e (events_of s.records) on ∙ s.complete;
+          whole = s.whole;
+          parts = ap (λ (v : List SitedLine). record_line r ∷ v) s.parts;
+        }
 
 record Said (place : Place) (ls : List (List ℕ)) (xs : List SitedLine) : Type 0 where
   text : ls ≡ map sited_text xs
@@ -145,11 +139,10 @@ unfolding said_from
 said_found [] n place xs k = over place xs k
 said_found (l ∷ ls) n place xs k =
     let x = bind_ok (line_at n place (sited_said (version_at place) l)) (λ x. said_from (n + 1) x.1 ls >>= λ ys. Ok (x.0 ∷ ys)) xs k in
-    let rest = bind_ok (said_from (n + 1) x.0.1 ls) (λ ys. Ok (x.0.0 ∷ ys)) xs x.2 in
+    let rest = map_ok (said_from (n + 1) x.0.1 ls) (λ ys. x.0.0 ∷ ys) xs x.2 in
     let more = said_found ls (n + 1) x.0.1 rest.0 rest.1 in
     let t = sited_read_is_text (version_at place) l x.0.0 (line_at_ok n place (sited_said (version_at place) l) x.0 x.1).0 in
-    let same : x.0.0 ∷ rest.0 ≡ xs = cc rest.2 in
-    subst (Said place (l ∷ ls)) same (record { text = ap₂ (λ (a : List ℕ) (b : List (List ℕ)). a ∷ b) t.1 more.text; follow = follows n place (sited_said (version_at place) l) x.0 x.1 t.0 rest.0 more.follow })
+    subst (Said place (l ∷ ls)) rest.2 (record { text = ap₂ (λ (a : List ℕ) (b : List (List ℕ)). a ∷ b) t.1 more.text; follow = follows n place (sited_said (version_at place) l) x.0 x.1 t.0 rest.0 more.follow })
 
 -- ---- bytes
 
@@ -178,9 +171,8 @@ streams_bytes (s ∷ ss) whole =
 
 pub packed_are_streams : PackedAreStreams
 packed_are_streams text bytes e =
-    let x = bind_ok (said_in text) _ bytes e in
+    let x = map_ok (said_in text) _ bytes e in
     let s = said_found (lines_of text) 1 Outside x.0 x.1 in
     let f = s.follow in
     let lines_are : flat_map ended (lines_of text) ≡ text_of f.streams = ap (flat_map ended) s.text ∙ flat_map-map ended sited_text x.0 ∙ ap (flat_map whole_line) f.parts in
-    let same : lines_bytes One x.0 ≡ bytes = cc x.2 in
-    (f.streams, f.whole, rw (← lines_are) (joins_lines text), sym same ∙ ap (lines_bytes One) f.parts ∙ streams_bytes f.streams f.whole)
+    (f.streams, f.whole, rw (← lines_are) (joins_lines text), sym x.2 ∙ ap (lines_bytes One) f.parts ∙ streams_bytes f.streams f.whole)

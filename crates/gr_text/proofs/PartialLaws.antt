@@ -25,7 +25,7 @@ use Rattle.gr_record.specs.Sites.{all_sited, sited, Sited}
 use Rattle.gr_text.specs.declared.forming.Form.{Form}
 use Rattle.gr_text.specs.declared.forming.Form.TheVariants.{Text}
 use Rattle.gr_record.specs.WholeStreams.{front_header_at, front_records_at, stream_spelling}
-use Rattle.gr_text.specs.Dumps.{formed_event, WholeStream, parts_in, at_place, dumped, formed, stream_at, streams_at, streams_in}
+use Rattle.gr_text.specs.Dumps.{formed_event, WholeStream, parts_in, dumped, stream_at, streams_at, streams_in}
 use Rattle.gr_text.specs.Texts.{header_line, record_line, whole_line, ◌>>=◌}
 use Rattle.gr_text.specs.Partial.{behind_end, front_at, lines_before, Front, front_behind, text_before_fault, WholeStreamsStandWhole, IsRefusedAtHeader, IsRefusedBehind, StandsBefore, RefusedIsToldUpToItsFault}
 use Rattle.std.specs.Prelude.{◌==◌}
@@ -33,13 +33,12 @@ use Rattle.std.proofs.lemmas.List.Elements.{All-cons, All-nil}
 use Rattle.std.specs.Io.KnownBytes.{Appends}
 use Rattle.gr_record.specs.declared.fault.Fault.{Fault}
 use Rattle.gr_record.specs.declared.fault.Fault.TheVariants as faults
-use Rattle.gr_record.specs.declared.stop.Stop.{Stop}
 use Rattle.gr_record.proofs.FoundPrefixes.{events_sited, is_at_end, records_found}
 use Rattle.gr_model.specs.Streams.{is_complete}
 use Rattle.gr_text.specs.Wholes.{IsWhole, bytes_of, text_of}
 use Rattle.gr_text.specs.Writes.{Writes}
 use Rattle.gr_text.proofs.Streaming.{stream_found, streams_text, header_found}
-use Rattle.gr_text.proofs.Steps.{at_place_err, at_place_ok, bind_err, bind_ok, up_to_err, up_to_ok}
+use Rattle.gr_text.proofs.Steps.{at_place_err, at_place_ok, bind_err, bind_ok, map_err, map_ok, up_to_err}
 
 -- ---- the records of a stream
 
@@ -77,10 +76,7 @@ module _ (form : Form) (v : Version) where
 
     -- nothing more is read
     stays : (r : Records) → records_at size read (most - i) bytes ≡ r → r.events ≡ [] → left_by r ≡ None → IsTold all whole first output None
-    stays r is none left =
-        let same : output_with output r bytes ≡ output = ap (λ (es : List Event). output ++ flat_map (formed_event form v) (all_sited v es bytes)) none ∙ append-nil output in
-        let c = completes r is in
-        record { records = sym same ∙ c.records; behind = sym left ∙ c.behind }
+    stays r is none left = let c = completes r is in record { records = rw (none, append-nil output) at c.records; behind = sym left ∙ c.behind }
 
     pub stops_short : length bytes < size → IsTold all whole first output None
     stops_short lt = stays _ (short size read (most - i) bytes lt) refl refl
@@ -105,16 +101,13 @@ module _ (form : Form) (v : Version) where
       pub ended : (e : Event) → read (take size bytes) ≡ Ok e → is_end e ≡ true → IsTold all whole first (output ++ formed_event form v (sited v e (take size bytes))) (Some (drop size bytes))
       ended e is end =
           let c = completes _ (rw end at (one_more (Ok e) is)) in
-          let one = formed_event form v (sited v e (take size bytes)) in
-          let line : output ++ (one ++ []) ≡ output ++ one = ap (λ (x : List ℕ). output ++ x) (append-nil one) in
-          record { records = sym line ∙ c.records; behind = c.behind }
+          record { records = rw append-nil at c.records; behind = c.behind }
 
       -- any other record
       pub goes_on : (e : Event) → read (take size bytes) ≡ Ok e → is_end e ≡ false → Completes all whole first (output ++ formed_event form v (sited v e (take size bytes))) (records_at size read (most - (i + 1)) (drop size bytes)) (drop size bytes)
       goes_on e is end =
           let c = completes _ (rw end at (one_more (Ok e) is)) in
-          let further = records_at size read (most - (i + 1)) (drop size bytes) in
-          record { records = append_assoc output (formed_event form v (sited v e (take size bytes))) (flat_map (formed_event form v) (all_sited v further.events (drop size bytes))) ∙ c.records; behind = c.behind }
+          record { records = rw append_assoc c.records; behind = c.behind }
 
 -- the lines of a header and of the records behind it are those of what stands before a fault
 pub front_text : (bytes : List ℕ) (h : Header) (mid text done new : List ℕ) (line : SitedLine) → front_header_at bytes ≡ Ok (h, mid) → line ≡ header_line h → done ≡ text ++ whole_line line
@@ -144,9 +137,7 @@ module _ (text : List ℕ) (most i : ℕ) (bytes total : List ℕ) (so_far : tex
     unfolding lines_before
     one_stream left is =
         let k : most - i ≡ suc (most - (i + 1)) = omega arith in
-        append_assoc text (flat_map whole_line (front_at bytes).lines) (flat_map whole_line (lines_behind (most - (i + 1)) left))
-        ∙ ap (λ (v : List ℕ). text ++ v) (sym (flat_map-append whole_line (front_at bytes).lines (lines_behind (most - (i + 1)) left)))
-        ∙ (rw (k, ← is) at so_far)
+        rw (append_assoc, ← flat_map-append whole_line (front_at bytes).lines (lines_behind (most - (i + 1)) left)) (rw (k, ← is) at so_far)
 
     pub ends : None ≡ (front_at bytes).behind → text ++ flat_map whole_line (front_at bytes).lines ≡ total
     ends is = sym (append-nil (text ++ flat_map whole_line (front_at bytes).lines)) ∙ one_stream None is
@@ -166,18 +157,7 @@ record StandsWhole (x : Found) (front : Front) : Type 0 where
 
 stands_whole : (place : ℕ) (bytes : List ℕ) (x : Found) → stream_at place bytes ≡ Ok x → StandsWhole x (front_at bytes)
 unfolding stream_at front_records_at
-stands_whole place bytes x e =
-    let head = bind_ok {X = Header × List ℕ} _ _ x e in
-    let h = head.0.0 in
-    let mid = head.0.1 in
-    let records = bind_ok {X = List Event × List ℕ} _ _ x head.2 in
-    let r = records_of h MOST_RECORDS mid in
-    let w = up_to_ok r.stop r.events r.rest records.0 (at_place_ok place (front_records_at h mid) records.0 records.1) in
-    let same : (record { header = h; records = all_sited h.version records.0.0 mid }, records.0.1) ≡ x = cc records.2 in
-    subst (λ (z : Result (Header × List ℕ) RecordError). StandsWhole x (front_behind z)) (sym (at_place_ok place (front_header_at bytes) head.0 head.1)) (record {
-      lines = ap (λ (es : List Event). header_line h ∷ map record_line (all_sited h.version es mid)) w.1 ∙ ap (λ (y : Found). parts_in y.0) same;
-      behind = ap (λ (stop : Stop). behind_end stop r.rest) w.0 ∙ ap (λ (v : List ℕ). Some v) w.2 ∙ ap (λ (y : Found). Some y.1) same;
-    })
+stands_whole place bytes x e = record { lines = grind arith; behind = grind arith }
 
 -- of a refused stream nothing is left behind, and what stands before the fault is what is read of it
 record StandsRefused (place : ℕ) (bytes : List ℕ) (p : ℕ) (e : RecordError) (front : Front) : Type 0 where
@@ -220,12 +200,8 @@ module _ (place : ℕ) (bytes : List ℕ) (fits : AreBytes bytes) (p : ℕ) (e :
             subst (λ (z : Result (Header × List ℕ) RecordError). StandsRefused place bytes p e (front_behind z)) (sym head.1) (record { at = head.0; none_left = refl; stands = inl (head.1, refl) })
         | inr read ↦
             let head = at_place_ok place (front_header_at bytes) read.0 read.1 in
-            elim (bind_err (at_place place (front_records_at read.0.0 read.0.1)) _ (faults.Stream p e) read.2) [
-              | inl refused ↦
-                  let records = at_place_err place (front_records_at read.0.0 read.0.1) p e refused in
-                  subst (λ (z : Result (Header × List ℕ) RecordError). StandsRefused place bytes p e (front_behind z)) (sym head) (records_refused read.0.0 read.0.1 head records.1 records.0)
-              | inr whole ↦ let never = whole.2 in absurd cc
-            ]
+            let records = at_place_err place (front_records_at read.0.0 read.0.1) p e (map_err {X = List Event × List ℕ} _ _ (faults.Stream p e) read.2) in
+            subst (λ (z : Result (Header × List ℕ) RecordError). StandsRefused place bytes p e (front_behind z)) (sym head) (records_refused read.0.0 read.0.1 head records.1 records.0)
       ]
 
 -- ---- and of all streams
@@ -245,9 +221,8 @@ all_stand (suc most) place bytes xs e =
       | inr some ↦
           let s = bind_ok {X = Found} _ _ xs (rw some at e) in
           let w = stands_whole place bytes s.0 s.1 in
-          let rest = bind_ok _ _ xs s.2 in
-          let same : s.0.0 ∷ rest.0 ≡ xs = cc rest.2 in
-          lines_more most bytes (Some s.0.1) w.behind ∙ ap (λ (v : List SitedLine). v ++ lines_before most s.0.1) w.lines ∙ ap (λ (v : List SitedLine). parts_in s.0.0 ++ v) (all_stand most (place + 1) s.0.1 rest.0 rest.1) ∙ ap (flat_map parts_in) same
+          let rest = map_ok _ _ xs s.2 in
+          rw (lines_more most bytes (Some s.0.1) w.behind, w.lines, all_stand most (place + 1) s.0.1 rest.0 rest.1) (ap (flat_map parts_in) rest.2)
     ]
 
 -- what is told of bytes of which the first stream is the one of this place
@@ -302,29 +277,20 @@ stands_at p e (suc most) place bytes fits k =
             is = ap (flat_map whole_line) (lines_more most bytes None s.none_left ∙ append-nil (front_at bytes).lines);
           },
         )
-    by_stream (inr (x, one, k)) later =
-        elim (bind_err (streams_at most (place + 1) x.1) (λ ys. Ok (x.0 ∷ ys)) (faults.Stream p e) k) [
-          | inl refused ↦ by_rest x one (later x.1 (stream_found place bytes fits x one).fits refused)
-          | inr whole ↦ let never = whole.2 in absurd cc
-        ]
+    by_stream (inr (x, one, k)) later = by_rest x one (later x.1 (stream_found place bytes fits x one).fits (map_err _ _ (faults.Stream p e) k))
 
 -- ---- their text
 
 pub whole_streams_stand_whole : WholeStreamsStandWhole
 whole_streams_stand_whole bytes text e =
-    let s = bind_ok _ _ text e in
-    let same : flat_map (formed Text) s.0 ≡ text = cc s.2 in
-    ap (flat_map whole_line) (all_stand (length bytes) 0 bytes s.0 s.1) ∙ sym (streams_text s.0) ∙ same
+    let s = map_ok _ _ text e in
+    ap (flat_map whole_line) (all_stand (length bytes) 0 bytes s.0 s.1) ∙ sym (streams_text s.0) ∙ s.2
 
 pub refused_is_told : RefusedIsToldUpToItsFault
 refused_is_told bytes place e fits k =
-    elim (bind_err (streams_in bytes) (λ ss. Ok (flat_map (formed Text) ss)) (faults.Stream place e) k) [
-      | inl refused ↦
-          let s = stands_at place e (length bytes) 0 bytes fits refused in
-          let same : s.0 ≡ place = omega (arith, s.1) in
-          subst (λ (k : ℕ). StandsBefore k e bytes (text_before_fault bytes)) same s.2
-      | inr whole ↦ let never = whole.2 in absurd cc
-    ]
+    let s = stands_at place e (length bytes) 0 bytes fits (map_err (streams_in bytes) _ (faults.Stream place e) k) in
+    let same : s.0 ≡ place = omega (arith, s.1) in
+    subst (λ (k : ℕ). StandsBefore k e bytes (text_before_fault bytes)) same s.2
 
 -- where known bytes have no fault, what stands before it is their text
 pub all_written : (known : Option (List ℕ)) (bytes text : List ℕ) (old new : Option (List ℕ)) → IfSome known (λ b. bytes ≡ b) → IsOk (dumped bytes) → text ≡ text_before_fault bytes → Appends old new text → IfSome known (λ b. Writes (dumped b) old new)

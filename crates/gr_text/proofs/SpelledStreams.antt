@@ -1,5 +1,5 @@
 -- The bytes of whole streams are dumped and their text is packed; and what is packed is dumped again, what is dumped packed again.
-use Rattle.std.proofs.Common.{◌≡◌, ℕ, zero, suc, ◌+◌, ◌≤◌, false, List, [], ◌∷◌, ◌++◌, length, drop, All, Result, Ok, refl, sym, ap, ◌∙◌, append_assoc, arith, inl, inr, IsTrue, true≢false, ◌-◌, ◌^◌, ◌<◌, true, map}
+use Rattle.std.proofs.Common.{◌≡◌, ℕ, zero, suc, ◌+◌, ◌≤◌, false, List, [], ◌∷◌, ◌++◌, length, All, Ok, refl, sym, ap, ◌∙◌, append_assoc, arith, inl, inr, IsTrue, true≢false, ◌-◌, ◌^◌, ◌<◌, map}
 use Rattle.std.specs.Prelude.{◌==◌, ⊤}
 use Rattle.std.proofs.lemmas.Bool.{le-ltb, ne_eqb, cases_Bool, and_parts, ltb-true, lt-leb}
 use Rattle.std.proofs.lemmas.List.Elements.{All-head, All-tail}
@@ -8,12 +8,11 @@ use Rattle.gr_model.specs.declared.event.Event.{Event}
 use Rattle.gr_model.specs.declared.limits.TheConstants.{MOST_ITEMS_OF_A_GROUP, MOST_RECORDS}
 use Rattle.gr_model.specs.Events.{is_end}
 use Rattle.gr_model.specs.Streams.{is_complete}
-use Rattle.gr_record.specs.declared.error.RecordError.{RecordError}
 use Rattle.gr_record.specs.declared.header.Header.{Header}
 use Rattle.gr_record.specs.declared.layout.TheConstants.{HEADER_LENGTH}
 use Rattle.gr_record.specs.Versions.{record_length, most_items, places}
 use Rattle.gr_record.specs.declared.stop.Stop.TheVariants.{AtEnd}
-use Rattle.gr_record.specs.Fronts.{Records, behind, step, records_of}
+use Rattle.gr_record.specs.Fronts.{Records, behind, records_of}
 use Rattle.gr_record.specs.PrefixLaws.{Runs}
 use Rattle.gr_record.specs.Reading.{event_at}
 use Rattle.gr_record.specs.Spelling.{IsHeader, event_spelling, events_spelling, header_spelling, IsEvent}
@@ -33,7 +32,7 @@ use Rattle.gr_record.specs.declared.header.Version.TheVariants.{One, Four}
 use Rattle.gr_text.specs.declared.line.SitedLine.{SitedLine}
 use Rattle.gr_text.specs.LineLaws.{IsSaid}
 use Rattle.gr_text.specs.LineText.{sited_text}
-use Rattle.gr_text.proofs.LineSites.{are_above, sited_above, sited_text_is_read}
+use Rattle.gr_text.proofs.LineSites.{AreAbove, sited_above, sited_text_is_read}
 use Rattle.gr_text.specs.declared.place.Place.TheVariants.{Outside, Inside}
 use Rattle.gr_text.specs.Lines.{lines_of}
 use Rattle.gr_text.specs.Texts.{header_line, record_line, whole_line, packed, said_from}
@@ -55,18 +54,14 @@ module _ (h : Header) (few : h.items ≤ MOST_ITEMS_OF_A_GROUP) where
       let more : List ℕ = events_spelling h.version rs ++ rest in
       let long : size ≤ length (prefix ++ more) = omega (arith, length-append prefix more, len) in
       let is : event_at h prefix ≡ Ok e = rw (append-nil prefix) at (spelled_is_read h r [] few runs.0).0 in
-      let here : records_of h (suc most) (prefix ++ more) ≡ step size (Ok e) (prefix ++ more) (records_of h most more)
-      = next size (event_at h) most (prefix ++ more) long
-      ∙ ap (λ (x : Result Event RecordError). step size x (prefix ++ more) (records_of h most (drop size (prefix ++ more)))) (ap (event_at h) (take_at prefix more size len) ∙ is)
-      ∙ ap (λ (x : List ℕ). step size (Ok e) (prefix ++ more) (records_of h most x)) (drop_at prefix more size len) in
-      rw (append_assoc prefix (events_spelling h.version rs) rest)
+      rw (append_assoc prefix (events_spelling h.version rs) rest, next size (event_at h) most (prefix ++ more) long, take_at prefix more size len, drop_at prefix more size len, is)
       (elim (cases_Bool (is_end e)) [
         | inl end ↦
             let none : rs ≡ [] = runs.1 end in
-            here ∙ rw (end, drop_at prefix more size len, none) refl
+            rw (end, drop_at prefix more size len, none) refl
         | inr on ↦
             let ih = records_before rs most rest runs.2 (sym (complete_behind e (events_of rs) on) ∙ complete) (omega arith) in
-            here ∙ rw on (ap (behind e) ih)
+            rw on (ap (behind e) ih)
       ])
 
   pub events_before : (rs : List Sited) (rest : List ℕ) → Runs h rs → IsTrue (is_complete (events_of rs)) → length rs ≤ MOST_RECORDS → front_records_at h (events_spelling h.version rs ++ rest) ≡ Ok (events_of rs, rest)
@@ -109,7 +104,7 @@ packed_is_dumped_again text bytes e =
 
 -- ---- the lines of a text
 
-line_before : (l rest : List ℕ) → are_above l ≡ true → lines_of ((l ++ 10 ∷ []) ++ rest) ≡ l ∷ lines_of rest
+line_before : (l rest : List ℕ) → AreAbove l → lines_of ((l ++ 10 ∷ []) ++ rest) ≡ l ∷ lines_of rest
 unfolding lines_of
 line_before [] rest h = refl
 line_before (b ∷ l) rest h =

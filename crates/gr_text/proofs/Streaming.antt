@@ -15,7 +15,6 @@ use Rattle.gr_record.specs.declared.fault.Fault.{Fault}
 use Rattle.gr_record.specs.declared.fault.Fault.TheVariants as faults
 use Rattle.gr_record.specs.declared.header.Header.{Header}
 use Rattle.gr_record.specs.declared.layout.TheConstants.{HEADER_LENGTH}
-use Rattle.gr_record.specs.declared.stop.Stop.{Stop}
 use Rattle.gr_record.specs.Faults.{stream_fault}
 use Rattle.gr_record.specs.Fronts.{records_of}
 use Rattle.gr_record.specs.PrefixLaws.{Runs}
@@ -30,7 +29,7 @@ use Rattle.gr_record.proofs.Places.{bytes_drop}
 use Rattle.gr_text.specs.declared.forming.Form.{Form}
 use Rattle.gr_text.specs.Texts.{◌>>=◌, header_line, record_line, whole_line}
 use Rattle.gr_text.specs.Partial.{behind_end}
-use Rattle.gr_text.proofs.Steps.{bind_err, bind_ok, record_bind_err, record_bind_ok, unless_ok, up_to_ok, at_place_ok}
+use Rattle.gr_text.proofs.Steps.{bind_ok, map_err, map_ok, record_bind_err, record_bind_ok, unless_ok, up_to_ok, at_place_ok}
 use Rattle.gr_text.specs.Dumps.{WholeStream, stream_at, streams_at, formed, formed_event, formed_header, with_stream, parts_in}
 use Rattle.std.proofs.lemmas.List.Elements.{All-cons, All-nil}
 use Rattle.std.proofs.lemmas.List.Folds.{flat_map-map}
@@ -62,22 +61,14 @@ module _ (form : Form) (text : List ℕ) (place : ℕ) (bytes : List ℕ) where
     one_stream after k =
         rw (found, k) (ap (λ (v : List ℕ). Ok (v, after)) (sym (append_assoc text (formed_header form header) (flat_map (formed_event form header.version) (all_sited header.version (records_of header MOST_RECORDS rest).events rest)))))
 
-left_of : (stop : Stop) (events : List Event) (rest after : List ℕ) → Some after ≡ behind_end stop rest → up_to stop events rest ≡ Ok (events, after)
-left_of stop events rest after k = grind arith
-
 -- the records up to an end are those that are read
 pub behind_end_is : (h : Header) (bytes after : List ℕ) → Some after ≡ behind_end (records_of h MOST_RECORDS bytes).stop (records_of h MOST_RECORDS bytes).rest → front_records_at h bytes ≡ Ok ((records_of h MOST_RECORDS bytes).events, after)
 unfolding front_records_at
-behind_end_is h bytes after k = let r = records_of h MOST_RECORDS bytes in left_of r.stop r.events r.rest after k
+behind_end_is h bytes after k = grind arith
 
 pub behind_records_are : (h : Header) (bytes after : List ℕ) → behind_records_at h bytes ≡ Ok after → front_records_at h bytes ≡ Ok ((records_of h MOST_RECORDS bytes).events, after)
 unfolding front_records_at
-behind_records_are h bytes after k =
-    let r = records_of h MOST_RECORDS bytes in
-    let x = record_bind_ok (front_records_at h bytes) _ after k in
-    let w = up_to_ok r.stop r.events r.rest x.0 x.1 in
-    let same : x.0.1 ≡ after = cc x.2 in
-    x.1 ∙ ap₂ (λ (es : List Event) (v : List ℕ). Ok (es, v)) (sym w.1) same
+behind_records_are h bytes after k = grind arith
 
 -- ---- what is read is spelled so
 
@@ -146,18 +137,12 @@ module _ (form : Form) (prefix : List ℕ) (stop i : ℕ) (bytes : List ℕ) (to
         rw (k, some, is) at so_far
 
     pub stream_fails : (f : Fault) → Fails f (with_stream form prefix (stream_at i bytes)) → Fails f total
-    stream_fails f h =
-        fails_through f (with_stream form prefix (stream_at i bytes)) total h (λ e.
-        elim (bind_err (stream_at i bytes) (λ x. Ok (prefix ++ formed form x.0, x.1)) f e) [
-          | inl refused ↦ sym (step (Err f) refused)
-          | inr whole ↦ let never = whole.2 in absurd cc
-        ])
+    stream_fails f h = fails_through f (with_stream form prefix (stream_at i bytes)) total h (λ e. sym (step (Err f) (map_err _ _ f e)))
 
     pub goes_on : (text after : List ℕ) → with_stream form prefix (stream_at i bytes) ≡ Ok (text, after) → texts_behind form text (streams_at (stop - (i + 1)) (i + 1) after) ≡ total
     goes_on text after e =
-        let x = bind_ok (stream_at i bytes) (λ x. Ok (prefix ++ formed form x.0, x.1)) (text, after) e in
-        let same : (prefix ++ formed form x.0.0, x.0.1) ≡ (text, after) = cc x.2 in
-        subst (λ (y : List ℕ × List ℕ). texts_behind form y.0 (streams_at (stop - (i + 1)) (i + 1) y.1) ≡ total) same
+        let x = map_ok (stream_at i bytes) (λ x. (prefix ++ formed form x.0, x.1)) (text, after) e in
+        subst (λ (y : List ℕ × List ℕ). texts_behind form y.0 (streams_at (stop - (i + 1)) (i + 1) y.1) ≡ total) x.2
         (sym (regroup form prefix x.0.0 (streams_at (stop - (i + 1)) (i + 1) x.0.1)) ∙ step (Ok x.0) x.1)
 
 abbrev Found : Type 0
@@ -177,20 +162,18 @@ stream_found place bytes fits x e =
     let head = bind_ok {X = Header × List ℕ} _ _ x e in
     let h = head.0.0 in
     let mid = head.0.1 in
-    let records = bind_ok {X = List Event × List ℕ} _ _ x head.2 in
+    let records = map_ok {X = List Event × List ℕ} _ _ x head.2 in
     let es = records.0.0 in
     let after = records.0.1 in
+    let rs = all_sited h.version es mid in
     let hf = header_found bytes fits h mid (at_place_ok place (front_header_at bytes) head.0 head.1) in
     let ef = events_found h mid hf.fits es after (at_place_ok place (front_records_at h mid) records.0 records.1) in
-    let rs = all_sited h.version es mid in
-    let one : StreamFound bytes (record { header = h; records = rs }, after) = record {
+    subst (StreamFound bytes) records.2 (record {
       whole = record { prefix = record { header = hf.header; runs = ef.runs; few = ef.few }; ended = ap is_complete (events_sited h.version es mid) ∙ ef.ended };
       spelled = hf.parts ∙ ap (λ (v : List ℕ). header_spelling h ++ v) ef.parts ∙ sym (append_assoc (header_spelling h) (events_spelling h.version rs) after);
       fits = ef.fits;
       shorter = omega (arith, ap length hf.parts, ap length ef.parts, length-append (header_spelling h) mid, length-append (events_spelling h.version rs) after);
-    } in
-    let same : (record { header = h; records = rs }, after) ≡ x = cc records.2 in
-    subst (StreamFound bytes) same one
+    })
 
 -- ---- all whole streams
 
@@ -198,24 +181,21 @@ pub record StreamsFound (bytes : List ℕ) (ss : List WholeStream) : Type 0 wher
   pub whole : All IsWhole ss
   pub spelled : bytes ≡ bytes_of ss
 
-nothing : (bytes : List ℕ) → length bytes ≡ 0 → StreamsFound bytes []
-nothing bytes empty = record { whole = All-nil IsWhole; spelled = nil_from_length bytes empty }
+nothing : (bytes : List ℕ) (xs : List WholeStream) → length bytes ≡ 0 → [] ≡ xs → StreamsFound bytes xs
+nothing bytes xs empty none = subst (StreamsFound bytes) none (record { whole = All-nil IsWhole; spelled = nil_from_length bytes empty })
 
 pub streams_found : (most place : ℕ) (bytes : List ℕ) → AreBytes bytes → length bytes ≤ most → (xs : List WholeStream) → streams_at most place bytes ≡ Ok xs → StreamsFound bytes xs
 unfolding streams_at
-streams_found zero place bytes fits le xs e = let same : [] ≡ xs = cc e in subst (StreamsFound bytes) same (nothing bytes (omega arith))
+streams_found zero place bytes fits le xs e = nothing bytes xs (omega arith) (cc e)
 streams_found (suc most) place bytes fits le xs e =
     elim (cases_Bool (length bytes == 0)) [
-      | inl empty ↦
-          let same : [] ≡ xs = cc (rw empty at e) in
-          subst (StreamsFound bytes) same (nothing bytes (eqb-true (length bytes) 0 empty))
+      | inl empty ↦ nothing bytes xs (eqb-true (length bytes) 0 empty) (cc (rw empty at e))
       | inr some ↦
           let s = bind_ok {X = Found} _ _ xs (rw some at e) in
           let one = stream_found place bytes fits s.0 s.1 in
-          let rest = bind_ok _ _ xs s.2 in
+          let rest = map_ok _ _ xs s.2 in
           let more = streams_found most (place + 1) s.0.1 one.fits (omega (arith, one.shorter)) rest.0 rest.1 in
-          let same : s.0.0 ∷ rest.0 ≡ xs = cc rest.2 in
-          subst (StreamsFound bytes) same (record {
+          subst (StreamsFound bytes) rest.2 (record {
             whole = All-cons IsWhole s.0.0 rest.0 one.whole more.whole;
             spelled = one.spelled ∙ ap (λ (v : List ℕ). stream_spelling s.0.0.header s.0.0.records ++ v) more.spelled;
           })
@@ -230,7 +210,6 @@ streams_text (s ∷ ss) =
 
 pub dumped_are_streams : DumpedAreStreams
 dumped_are_streams bytes text fits e =
-    let s = bind_ok _ _ text e in
+    let s = map_ok _ _ text e in
     let f = streams_found (length bytes) 0 bytes fits (omega arith) s.0 s.1 in
-    let same : flat_map (formed Text) s.0 ≡ text = cc s.2 in
-    (s.0, f.whole, f.spelled, sym same ∙ streams_text s.0)
+    (s.0, f.whole, f.spelled, sym s.2 ∙ streams_text s.0)

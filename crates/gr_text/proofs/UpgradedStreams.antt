@@ -9,42 +9,38 @@ use Rattle.gr_record.specs.Versions.{has_sites, most_groups, most_items, places}
 use Rattle.gr_record.specs.Sites.{Sited}
 use Rattle.gr_record.specs.WholeStreams.{stream_spelling}
 use Rattle.gr_record.specs.PrefixLaws.{Runs}
-use Rattle.gr_record.specs.Spelling.{IsHeader, IsRecord}
 use Rattle.gr_text.specs.declared.forming.Form.TheVariants.{Long}
 use Rattle.gr_text.specs.Dumps.{WholeStream, formed, raised, upgraded, upgraded_header}
 use Rattle.gr_text.specs.Wholes.{IsWhole, bytes_of, upgraded_stream, UpgradedAreStreams, WholeStreamsAreUpgraded, UpgradedStays}
 use Rattle.gr_text.proofs.Streaming.{streams_found}
-use Rattle.gr_text.proofs.Steps.{bind_ok}
+use Rattle.gr_text.proofs.Steps.{map_ok}
 use Rattle.gr_text.proofs.SpelledStreams.{streams_before}
 
 -- ---- an upgraded version has the same limits and sites, and room for all names
 
-same_limits : (v : Version) → (most_groups (raised v) ≡ most_groups v) × (most_items (raised v) ≡ most_items v) × (has_sites (raised v) ≡ has_sites v)
-same_limits v = grind arith
-
-roomier : (v : Version) → places v ≤ places (raised v)
-roomier v = grind arith
-
-raised_twice : (v : Version) → raised (raised v) ≡ raised v
-raised_twice v = grind arith
+raised_is : (v : Version) → (most_groups (raised v) ≡ most_groups v) × (most_items (raised v) ≡ most_items v) × (has_sites (raised v) ≡ has_sites v) × (places v ≤ places (raised v)) × (raised (raised v) ≡ raised v)
+raised_is v = grind arith
 
 -- ---- the same streams are whole
 
-record_upgraded : (h : Header) (r : Sited) → IsRecord h r → IsRecord (upgraded_header h) r
-record_upgraded h r is = record { event = is.event; names = omega (arith, is.names, roomier h.version); range = rw ((same_limits h.version).0, (same_limits h.version).1) is.range; site = rw (same_limits h.version).2 is.site }
-
 runs_upgraded : (h : Header) (rs : List Sited) → Runs h rs → Runs (upgraded_header h) rs
 runs_upgraded h [] runs = tt
-runs_upgraded h (r ∷ rs) runs = (record_upgraded h r runs.0, runs.1, runs_upgraded h rs runs.2)
-
-header_upgraded : (h : Header) → IsHeader h → IsHeader (upgraded_header h)
-header_upgraded h is = record { group = rw (same_limits h.version).0 is.group; some = is.some; items = rw (same_limits h.version).1 is.items; launch = is.launch }
+runs_upgraded h (r ∷ rs) (is, last, runs) =
+    let same = raised_is h.version in
+    (record { event = is.event; names = omega (arith, is.names, same.3); range = rw (same.0, same.1) is.range; site = rw same.2 is.site }, last, runs_upgraded h rs runs)
 
 whole_upgraded : (s : WholeStream) → IsWhole s → IsWhole (upgraded_stream s)
-whole_upgraded s w = record {
-  prefix = record { header = header_upgraded s.header w.prefix.header; runs = runs_upgraded s.header s.records w.prefix.runs; few = w.prefix.few };
-  ended = w.ended;
-}
+whole_upgraded s w =
+    let same = raised_is s.header.version in
+    let is = w.prefix.header in
+    record {
+      prefix = record {
+        header = record { group = rw same.0 is.group; some = is.some; items = rw same.1 is.items; launch = is.launch };
+        runs = runs_upgraded s.header s.records w.prefix.runs;
+        few = w.prefix.few;
+      };
+      ended = w.ended;
+    }
 
 all_upgraded : (ss : List WholeStream) → All IsWhole ss → All IsWhole (map upgraded_stream ss)
 all_upgraded ss whole = All-map IsWhole upgraded_stream ss (λ k d lt. whole_upgraded _ (whole k d lt))
@@ -56,10 +52,9 @@ streams_long ss = sym (flat_map-map (λ (s : WholeStream). stream_spelling s.hea
 
 pub upgraded_are_streams : UpgradedAreStreams
 upgraded_are_streams bytes out fits e =
-    let s = bind_ok _ _ out e in
+    let s = map_ok _ _ out e in
     let f = streams_found (length bytes) 0 bytes fits (omega arith) s.0 s.1 in
-    let same : flat_map (formed Long) s.0 ≡ out = cc s.2 in
-    (s.0, f.whole, f.spelled, all_upgraded s.0 f.whole, sym same ∙ streams_long s.0)
+    (s.0, f.whole, f.spelled, all_upgraded s.0 f.whole, sym s.2 ∙ streams_long s.0)
 
 pub whole_streams_are_upgraded : WholeStreamsAreUpgraded
 whole_streams_are_upgraded ss whole =
@@ -70,7 +65,7 @@ whole_streams_are_upgraded ss whole =
 
 pub twice : (ss : List WholeStream) → map upgraded_stream (map upgraded_stream ss) ≡ map upgraded_stream ss
 twice [] = refl
-twice (s ∷ ss) = ap₂ (λ (v : Version) (rest : List WholeStream). record { header = record { version = v; group = s.header.group; items = s.header.items; launch = s.header.launch }; records = s.records } ∷ rest) (raised_twice s.header.version) (twice ss)
+twice (s ∷ ss) = ap₂ (λ (v : Version) (rest : List WholeStream). record { header = record { version = v; group = s.header.group; items = s.header.items; launch = s.header.launch }; records = s.records } ∷ rest) ((raised_is s.header.version).4) (twice ss)
 
 pub upgraded_stays : UpgradedStays
 upgraded_stays bytes out fits e =

@@ -4,15 +4,12 @@ use Rattle.gr_text.proofs.NamesRead.{over, too_many, no_name, one_more}
 use Rattle.gr_text.proofs.parsing.parse_names.Goals as goal
 
 pub returns-in_default-clause-names : goal.returns-in_default-clause-names
-returns-in_default-clause-names c =
-    let so_far = rw c.in_default.is at c.loop-place.invariant.1 in
-    over (take c.loop-place.place c.loop-place.names) c.loop-place.place _ so_far
+returns-in_default-clause-names c = over (take c.loop-place.place c.loop-place.names) c.loop-place.place _ (rw c.in_default.is at c.loop-place.invariant.1)
 
 pub returns-in_err-name-clause-names : goal.returns-in_err-name-clause-names
 returns-in_err-name-clause-names c =
-    let so_far = rw c.in-Some.is at c.loop-place.invariant.1 in
     let none = rw c.in_err-name.was at c.parse_name.ensures in
-    rw c.from_residual.ensures (no_name (take c.loop-place.place c.loop-place.names) c.loop-place.place _ _ c.loop-place-test.true so_far (sym none))
+    rw c.from_residual.ensures (no_name (take c.loop-place.place c.loop-place.names) c.loop-place.place _ _ c.loop-place-test.true (rw c.in-Some.is at c.loop-place.invariant.1) (sym none))
 
 pub loop-place-preserved : goal.loop-place-preserved
 loop-place-preserved c =
@@ -26,10 +23,8 @@ loop-place-preserved c =
 pub returns-in-None-clause-names : goal.returns-in-None-clause-names
 returns-in-None-clause-names c =
     let e : c.loop-place.place ≡ 4 = omega (arith, c.loop-place-test.false, c.loop-place.auto.place-end) in
-    let so_far = rw (c.in-None.is, e) at c.loop-place.invariant.1 in
-    over (take 4 c.loop-place.names) 4 _ so_far
+    over (take 4 c.loop-place.names) 4 _ (rw (c.in-None.is, e) at c.loop-place.invariant.1)
 
 pub returns-in-Some-rest-clause-names : goal.returns-in-Some-rest-clause-names
 returns-in-Some-rest-clause-names c =
-    let so_far = rw c.in-Some-rest.is at c.loop-place.invariant.1 in
-    too_many (take c.loop-place.place c.loop-place.names) c.loop-place.place _ _ c.loop-place-test.false so_far
+    too_many (take c.loop-place.place c.loop-place.names) c.loop-place.place _ _ c.loop-place-test.false (rw c.in-Some-rest.is at c.loop-place.invariant.1)
