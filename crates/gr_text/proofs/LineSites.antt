@@ -1,5 +1,5 @@
 -- A line has no line feed, and no `@` but that of its site; with its site it is read from its text, and what is read has that text.
-use Rattle.std.proofs.Common.{◌≡◌, ℕ, suc, ◌^◌, ◌<◌, ◌≤◌, Bool, true, false, List, [], ◌∷◌, ◌++◌, All, refl, sym, ap, ◌∙◌, arith, inl, inr, true≢false, ◌+◌, ◌-◌, length, take, Option, Some, None, subst, append_assoc}
+use Rattle.std.proofs.Common.{◌≡◌, ℕ, suc, ◌^◌, ◌<◌, Bool, true, false, List, [], ◌∷◌, ◌++◌, All, refl, sym, ap, ◌∙◌, arith, inl, inr, true≢false, ◌+◌, ◌-◌, length, take, Option, Some, None, subst, append_assoc}
 use Rattle.std.specs.Prelude.{nat_lt, not, ◌==◌, ◌&&◌, codes, decimal, ⊤, slice_index}
 use Rattle.std.proofs.lemmas.Bool.{and_parts, cases_Bool, eqb-true, eqb-false}
 use Rattle.std.proofs.lemmas.Bool.Decides.{nat_tests}
@@ -47,11 +47,7 @@ later_plain [] h = refl
 later_plain (w ∷ ws) h = are-append is_plain w (later_text ws) h.0 (later_plain ws h.1)
 
 name_plain : (n : Name) (ws : List (List ℕ)) → IsNameInRange n → AreAllPlain ws → AreAllPlain (name_words n ++ ws)
-name_plain n ws ok h =
-    let group : n.at.group < 65535 = ok.0 in
-    let item : n.at.item < 1024 = ok.1 in
-    let release : n.release < 16777216 = ok.2 in
-    (refl, (number_plain n.at.group (omega arith), (number_plain n.at.item (omega arith), (number_plain n.release (omega arith), h))))
+name_plain n ws ok h = (refl, (number_plain n.at.group (omega (arith, ok.0)), (number_plain n.at.item (omega (arith, ok.1)), (number_plain n.release (omega (arith, ok.2)), h))))
 
 each_plain : (names : List Name) → All IsNameInRange names → AreAllPlain (names_words names)
 each_plain [] each = tt
@@ -72,9 +68,7 @@ event_plain (End false) e item word naming = refl
 
 pub line_plain : (v : Version) (x : Line) → IsSaid v x → ArePlain (line_text x)
 line_plain v (lines.Header h) ok =
-    let group : h.group < 65535 = header_group h ok in
-    let items : h.items ≤ 1024 = header_items h ok in
-    later_plain (header_words h) (number_plain h.group (omega arith), (refl, (number_plain h.items (omega arith), (refl, (number_plain h.launch ok.launch, grind arith)))))
+    later_plain (header_words h) (number_plain h.group (omega (arith, header_group h ok)), (refl, (number_plain h.items (omega (arith, header_items h ok)), (refl, (number_plain h.launch ok.launch, grind arith)))))
 line_plain v (lines.Event e) (ok, range) = let few = items_within v in event_plain e.kind e (omega (arith, ok.ok.0)) ok.word ok.ok.1
 
 -- ---- with its site

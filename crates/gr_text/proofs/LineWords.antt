@@ -87,35 +87,23 @@ key_word key h = are_without (λ b. not (b == 32)) 32 refl key h
 pub decimal_word : (n : ℕ) → n < 2 ^ 32 → IsWord (decimal n)
 decimal_word n lt = are_without is_digit 32 refl (decimal n) (decimal_digits n lt)
 
-pub space_is_word : (s : Space) → IsWord (space_word s)
-space_is_word s = key_word (space_word s) (grind arith)
-
-pub scope_is_word : (s : Scope) → IsWord (scope_word s)
-scope_is_word s = key_word (scope_word s) (grind arith)
-
-pub order_is_word : (o : Order) → IsWord (order_word o)
-order_is_word o = key_word (order_word o) (grind arith)
-
-pub flags_are_word : (global local : Bool) → IsWord (flags_word global local)
-flags_are_word global local = key_word (flags_word global local) (grind arith)
-
 -- ---- words that are read again
 
-pub space_again : (s : Space) → space_said (space_word s) ≡ Some s
+pub space_again : (s : Space) → IsWord (space_word s) × (space_said (space_word s) ≡ Some s)
 unfolding space_said same
-space_again s = grind arith
+space_again s = (key_word (space_word s) (grind arith), grind arith)
 
-pub scope_again : (s : Scope) → scope_said (scope_word s) ≡ Some s
+pub scope_again : (s : Scope) → IsWord (scope_word s) × (scope_said (scope_word s) ≡ Some s)
 unfolding scope_said same
-scope_again s = grind arith
+scope_again s = (key_word (scope_word s) (grind arith), grind arith)
 
-pub order_again : (o : Order) → order_said (order_word o) ≡ Some o
+pub order_again : (o : Order) → IsWord (order_word o) × (order_said (order_word o) ≡ Some o)
 unfolding order_said same
-order_again o = grind arith
+order_again o = (key_word (order_word o) (grind arith), grind arith)
 
-pub flags_again : (global local : Bool) → flags_said (flags_word global local) ≡ Some (global, local)
+pub flags_again : (global local : Bool) → IsWord (flags_word global local) × (flags_said (flags_word global local) ≡ Some (global, local))
 unfolding flags_said same
-flags_again global local = grind arith
+flags_again global local = (key_word (flags_word global local) (grind arith), grind arith)
 
 pub short_again : (n : ℕ) → n < 65536 → short_of (decimal n) ≡ Some n
 unfolding short_of

@@ -23,7 +23,7 @@ use Rattle.gr_text.specs.LineText.{space_word, scope_word, order_word, flags_wor
 use Rattle.gr_text.specs.LineReading.{same, IsWord, first_of, header_said, version_said, name_said, names_said, kind_said, atomic_said, barrier_said, event_said, line_said}
 use Rattle.gr_text.specs.LineLaws.{TextIsRead}
 use Rattle.gr_text.proofs.LineNumbers.{same_self, number_back}
-use Rattle.gr_text.proofs.LineWords.{decimal_word, no_key, key_word, space_is_word, scope_is_word, order_is_word, flags_are_word, space_again, scope_again, order_again, flags_again, short_again, first_of_space, first_of_last}
+use Rattle.gr_text.proofs.LineWords.{decimal_word, no_key, key_word, space_again, scope_again, order_again, flags_again, short_again, first_of_space, first_of_last}
 use Rattle.gr_record.proofs.Places.{header_group, header_items, items_within, naming_back, few_names, each_in_range}
 
 version_again : (v : Version) (word : List ℕ) → IsWord word → ((first_of (word ++ later_text (version_words v))).0 ≡ word) × (version_said (first_of (word ++ later_text (version_words v))).1 ≡ Some v)
@@ -74,7 +74,7 @@ atomic_again : (key : List ℕ) (kind : Kind) (item : ℕ) (space : Space) (word
 unfolding atomic_said
 atomic_again key kind item space word scope order names is ok =
     let said = names_again names 4 (few_names kind names ok) (each_in_range kind names ok) in
-    rw (first_of_space (scope_word scope) _ (scope_is_word scope), word_before (order_word order) (names_words names) (order_is_word order), scope_again scope, order_again order, is, said, naming_back Four kind names ok (each_in_range kind names ok)) refl
+    rw (first_of_space (scope_word scope) _ (scope_again scope).0, word_before (order_word order) (names_words names) (order_again order).0, (scope_again scope).1, (order_again order).1, is, said, naming_back Four kind names ok (each_in_range kind names ok)) refl
 
 module _ (item word : ℕ) (space : Space) (fits : word < 2 ^ 32) where
   abbrev place_words : List (List ℕ) → List (List ℕ)
@@ -83,17 +83,17 @@ module _ (item word : ℕ) (space : Space) (fits : word < 2 ^ 32) where
   read_again : event_said item (codes "r" ++ later_text (place_words [])) ≡ Some (record { item = item; kind = Read; space = space; word = word; names = [] })
   unfolding event_said same
   read_again =
-      rw (first_of_space (codes "r") _ (key_word (codes "r") refl), first_of_space (space_word space) _ (space_is_word space), first_of_last (decimal word) (decimal_word word fits), space_again space, number_back word fits) refl
+      rw (first_of_space (codes "r") _ (key_word (codes "r") refl), first_of_space (space_word space) _ (space_again space).0, first_of_last (decimal word) (decimal_word word fits), (space_again space).1, number_back word fits) refl
 
   write_again : event_said item (codes "w" ++ later_text (place_words [])) ≡ Some (record { item = item; kind = Write; space = space; word = word; names = [] })
   unfolding event_said same
   write_again =
-      rw (first_of_space (codes "w") _ (key_word (codes "w") refl), first_of_space (space_word space) _ (space_is_word space), first_of_last (decimal word) (decimal_word word fits), space_again space, number_back word fits) refl
+      rw (first_of_space (codes "w") _ (key_word (codes "w") refl), first_of_space (space_word space) _ (space_again space).0, first_of_last (decimal word) (decimal_word word fits), (space_again space).1, number_back word fits) refl
 
   barrier_again : (global local : Bool) → event_said item (codes "bar" ++ later_text (decimal word ∷ flags_word global local ∷ [])) ≡ Some (record { item = item; kind = Barrier global local; space = Global; word = word; names = [] })
   unfolding event_said barrier_said same
   barrier_again global local =
-      rw (first_of_space (codes "bar") _ (key_word (codes "bar") refl), first_of_space (decimal word) _ (decimal_word word fits), first_of_last (flags_word global local) (flags_are_word global local), number_back word fits, flags_again global local) refl
+      rw (first_of_space (codes "bar") _ (key_word (codes "bar") refl), first_of_space (decimal word) _ (decimal_word word fits), first_of_last (flags_word global local) (flags_again global local).0, number_back word fits, (flags_again global local).1) refl
 
   module _ (scope : Scope) (order : Order) (names : List Name) where
     abbrev words_behind : List (List ℕ)
@@ -103,7 +103,7 @@ module _ (item word : ℕ) (space : Space) (fits : word < 2 ^ 32) where
         → event_said item (key ++ later_text (place_words words_behind)) ≡ Some (record { item = item; kind = kind; space = space; word = word; names = names })
     unfolding event_said
     access_again key kind is no_barrier no_read no_write said ok =
-        rw (first_of_space key _ is, no_barrier, no_read, no_write, first_of_space (space_word space) _ (space_is_word space), first_of_space (decimal word) _ (decimal_word word fits), space_again space, number_back word fits) (atomic_again key kind item space word scope order names said ok)
+        rw (first_of_space key _ is, no_barrier, no_read, no_write, first_of_space (space_word space) _ (space_again space).0, first_of_space (decimal word) _ (decimal_word word fits), (space_again space).1, number_back word fits) (atomic_again key kind item space word scope order names said ok)
 
 -- ---- the whole line
 

@@ -1,14 +1,7 @@
 -- The first line of a text.
-use Rattle.std.proofs.Common.{◌≡◌, ◌≢◌, ℕ, zero, suc, ◌+◌, ◌<◌, List, [], ◌∷◌, length, take, drop, refl, arith}
+use Rattle.std.proofs.Common.{◌≡◌, ℕ, zero, suc, ◌+◌, ◌<◌, List, [], ◌∷◌, length, take, drop, refl, arith}
 use Rattle.std.proofs.lemmas.Bool.{eq-eqb, ne_eqb}
 use Rattle.gr_text.specs.Lines.{lines_of, IsFeedless, IsFirstFeed}
-
-one_line : (b : ℕ) (bytes : List ℕ) → b ≢ 10 → IsFeedless bytes → lines_of (b ∷ bytes) ≡ (b ∷ bytes) ∷ []
-unfolding lines_of
-one_line b [] other bare = rw (ne_eqb b 10 other) refl
-one_line b (c ∷ bytes) other bare =
-    let ih = one_line c bytes (bare 0 0 (omega arith)) (λ k d lt. bare (suc k) d (omega arith)) in
-    rw (ne_eqb b 10 other, ih) refl
 
 -- a text that is over has no line
 pub no_line : (text : List ℕ) → length text ≡ 0 → lines_of text ≡ []
@@ -20,7 +13,10 @@ no_line (b ∷ bytes) none = absurd (omega arith)
 pub feedless_line : (text : List ℕ) → IsFeedless text → 0 < length text → lines_of text ≡ text ∷ lines_of []
 unfolding lines_of
 feedless_line [] bare some = absurd (omega arith)
-feedless_line (b ∷ bytes) bare some = one_line b bytes (bare 0 0 (omega arith)) (λ k d lt. bare (suc k) d (omega arith))
+feedless_line (b ∷ []) bare some = rw (ne_eqb b 10 (bare 0 0 (omega arith))) refl
+feedless_line (b ∷ c ∷ bytes) bare some =
+    let ih = feedless_line (c ∷ bytes) (λ k d lt. bare (suc k) d (omega arith)) (omega arith) in
+    rw (ne_eqb b 10 (bare 0 0 (omega arith)), ih) refl
 
 -- the first line ends at the first line feed
 pub first_line : (at : ℕ) (text : List ℕ) → IsFirstFeed text at → lines_of text ≡ take at text ∷ lines_of (drop (at + 1) text)

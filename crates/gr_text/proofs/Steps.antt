@@ -1,5 +1,5 @@
 -- Rows of steps, each of which may fail, and what is known where the row came to its end.
-use Rattle.std.proofs.Common.{◌≡◌, ◌⊎◌, ℕ, ◌-◌, ◌<◌, ◌≤◌, Bool, false, cond, List, length, Option, Some, None, Result, Ok, Err, refl, arith}
+use Rattle.std.proofs.Common.{◌≡◌, ◌⊎◌, ℕ, ◌-◌, ◌<◌, ◌≤◌, false, cond, List, length, Option, Some, None, Result, Ok, Err, refl, arith}
 use Rattle.std.specs.Prelude.{IfOk}
 use Rattle.std.proofs.lemmas.Bool.Decides.{nat_tests}
 use Rattle.gr_model.specs.declared.event.Event.{Event}
@@ -45,16 +45,8 @@ pub at_place_err : {X : Type 0} (place : ℕ) (r : Result X RecordError) (p : �
 at_place_err place r p d e = grind arith
 
 -- in a record's own row
-pub record_bind_ok : {X Y : Type 0} (r : Result X RecordError) (f : X → Result Y RecordError) (y : Y) → record_spec.◌>>=◌ r f ≡ Ok y → (x : X) × (r ≡ Ok x) × (f x ≡ Ok y)
-record_bind_ok (Ok x) f y e = (x, refl, e)
-record_bind_ok (Err d) f y e = absurd cc
-
 pub record_bind_err : {X Y : Type 0} (r : Result X RecordError) (view : X → Y) (d : RecordError) → record_spec.◌>>=◌ r (λ x. Ok (view x)) ≡ Err d → r ≡ Err d
 record_bind_err r view d e = grind arith
-
--- a test before a row
-pub unless_ok : {X F : Type 0} (b : Bool) (d : F) (r : Result X F) (y : X) → cond b (Err d) r ≡ Ok y → (b ≡ false) × (r ≡ Ok y)
-unless_ok b d r y e = grind arith
 
 -- records up to an end are whole, and others are refused
 pub up_to_ok : (stop : Stop) (events : List Event) (rest : List ℕ) (x : List Event × List ℕ) → up_to stop events rest ≡ Ok x → (stop ≡ AtEnd) × (events ≡ x.0) × (rest ≡ x.1)

@@ -1,6 +1,6 @@
 -- The streams in a list of bytes, one after another, as a loop reads them.
 use Rattle.std.proofs.Common.{◌≡◌, ℕ, zero, suc, ◌+◌, ◌-◌, ◌<◌, ◌≤◌, true, false, List, [], ◌∷◌, ◌++◌, length, drop, Some, Result, Ok, Err, refl, sym, ap, ap₂, subst, ◌∙◌, append_assoc, arith, inl, inr, IsTrue, All}
-use Rattle.std.specs.Prelude.{◌==◌}
+use Rattle.std.specs.Prelude.{nat_lt, ◌==◌}
 use Rattle.std.proofs.lemmas.Bool.{ltb-false, cases_Bool, eqb-true}
 use Rattle.std.proofs.lemmas.List.{append-nil, get_or-append-add, take-append-drop, length-append, nil_from_length}
 use Rattle.std.specs.List.{flat_map}
@@ -19,6 +19,7 @@ use Rattle.gr_record.specs.Faults.{stream_fault}
 use Rattle.gr_record.specs.Fronts.{records_of}
 use Rattle.gr_record.specs.PrefixLaws.{Runs}
 use Rattle.gr_record.specs.Laws.{AreBytes}
+use Rattle.gr_record.specs.Reading.{header_at}
 use Rattle.gr_record.specs.Sites.{all_sited}
 use Rattle.gr_record.specs.Spelling.{IsHeader, header_spelling, events_spelling}
 use Rattle.gr_record.specs.WholeStreams as record_spec
@@ -29,7 +30,7 @@ use Rattle.gr_record.proofs.Places.{bytes_drop}
 use Rattle.gr_text.specs.declared.forming.Form.{Form}
 use Rattle.gr_text.specs.Texts.{◌>>=◌, header_line, record_line, whole_line}
 use Rattle.gr_text.specs.Partial.{behind_end}
-use Rattle.gr_text.proofs.Steps.{bind_ok, map_err, map_ok, record_bind_err, record_bind_ok, unless_ok, up_to_ok, at_place_ok}
+use Rattle.gr_text.proofs.Steps.{bind_ok, map_err, map_ok, record_bind_err, up_to_ok, at_place_ok}
 use Rattle.gr_text.specs.Dumps.{WholeStream, stream_at, streams_at, formed, formed_event, formed_header, with_stream, parts_in}
 use Rattle.std.proofs.lemmas.List.Elements.{All-cons, All-nil}
 use Rattle.std.proofs.lemmas.List.Folds.{flat_map-map}
@@ -83,12 +84,9 @@ pub record HeaderFound (bytes : List ℕ) (h : Header) (rest : List ℕ) : Type 
 pub header_found : (bytes : List ℕ) → AreBytes bytes → (h : Header) (rest : List ℕ) → front_header_at bytes ≡ Ok (h, rest) → HeaderFound bytes h rest
 unfolding front_header_at
 header_found bytes fits h rest e =
-    let long = unless_ok _ _ _ (h, rest) e in
-    let x = record_bind_ok _ _ (h, rest) long.1 in
-    let s = read_header_is_spelled x.0 bytes fits (ltb-false (length bytes) HEADER_LENGTH long.0) x.1 in
-    let one : HeaderFound bytes x.0 (drop HEADER_LENGTH bytes) = record { parts = sym (take-append-drop HEADER_LENGTH bytes) ∙ ap (λ (v : List ℕ). v ++ drop HEADER_LENGTH bytes) s.0; header = s.1; fits = bytes_drop HEADER_LENGTH bytes fits } in
-    let same : (x.0, drop HEADER_LENGTH bytes) ≡ (h, rest) = cc x.2 in
-    subst (λ (y : Header × List ℕ). HeaderFound bytes y.0 y.1) same one
+    let is : (nat_lt (length bytes) HEADER_LENGTH ≡ false) × (header_at bytes ≡ Ok h) × (drop HEADER_LENGTH bytes ≡ rest) = grind arith in
+    let s = read_header_is_spelled h bytes fits (ltb-false (length bytes) HEADER_LENGTH is.0) is.1 in
+    rw (← is.2) (record { parts = sym (take-append-drop HEADER_LENGTH bytes) ∙ ap (λ (v : List ℕ). v ++ drop HEADER_LENGTH bytes) s.0; header = s.1; fits = bytes_drop HEADER_LENGTH bytes fits })
 
 pub record RecordsFound (h : Header) (bytes : List ℕ) (events : List Event) (rest : List ℕ) : Type 0 where
   pub parts : bytes ≡ events_spelling h.version (all_sited h.version events bytes) ++ rest

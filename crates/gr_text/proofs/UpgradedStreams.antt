@@ -1,5 +1,5 @@
 -- Streams that are upgraded are whole streams, of the same groups, items, launches and records.
-use Rattle.std.proofs.Common.{◌≡◌, ◌≤◌, ℕ, List, [], ◌∷◌, length, map, All, Ok, refl, sym, ap, ap₂, ◌∙◌, arith}
+use Rattle.std.proofs.Common.{◌≡◌, ◌≤◌, ℕ, List, [], ◌∷◌, length, map, Ok, refl, sym, ap, ap₂, ◌∙◌, arith}
 use Rattle.std.specs.List.{flat_map}
 use Rattle.std.proofs.lemmas.List.Elements.{All-map}
 use Rattle.std.proofs.lemmas.List.Folds.{flat_map-map}
@@ -42,9 +42,6 @@ whole_upgraded s w =
       ended = w.ended;
     }
 
-all_upgraded : (ss : List WholeStream) → All IsWhole ss → All IsWhole (map upgraded_stream ss)
-all_upgraded ss whole = All-map IsWhole upgraded_stream ss (λ k d lt. whole_upgraded _ (whole k d lt))
-
 -- ---- their bytes
 
 streams_long : (ss : List WholeStream) → flat_map (formed Long) ss ≡ bytes_of (map upgraded_stream ss)
@@ -54,7 +51,7 @@ pub upgraded_are_streams : UpgradedAreStreams
 upgraded_are_streams bytes out fits e =
     let s = map_ok _ _ out e in
     let f = streams_found (length bytes) 0 bytes fits (omega arith) s.0 s.1 in
-    (s.0, f.whole, f.spelled, all_upgraded s.0 f.whole, sym s.2 ∙ streams_long s.0)
+    (s.0, f.whole, f.spelled, All-map IsWhole upgraded_stream s.0 (λ k d lt. whole_upgraded _ (f.whole k d lt)), sym s.2 ∙ streams_long s.0)
 
 pub whole_streams_are_upgraded : WholeStreamsAreUpgraded
 whole_streams_are_upgraded ss whole =
