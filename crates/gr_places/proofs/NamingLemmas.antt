@@ -1,5 +1,5 @@
 -- Texts as NAME[INDEX], and the words of buffers that they say.
-use Rattle.std.proofs.Common.{◌≡◌, ◌≢◌, ℕ, suc, ◌-◌, ◌^◌, ◌<◌, ◌≤◌, Bool, true, false, cond, List, [], ◌∷◌, ◌++◌, Option, Some, None, refl, sym, ap, subst, ◌∙◌, length, arith, nat_eq, take, drop, get_or, map, MatchOption}
+use Rattle.std.proofs.Common.{◌≡◌, ◌≢◌, ℕ, suc, ◌-◌, ◌^◌, ◌<◌, Bool, true, false, List, [], ◌∷◌, ◌++◌, Option, Some, None, refl, sym, ap, subst, ◌∙◌, length, arith, nat_eq, take, drop, get_or, map, MatchOption}
 use Rattle.std.specs.Prelude.{decimal}
 use Rattle.std.specs.List.{find}
 use Rattle.std.specs.Option.{is_some, option_map, option_and_then}
@@ -11,12 +11,11 @@ use Rattle.std.proofs.lemmas.List.{append_cancel_left, append_cancel_right, drop
 use Rattle.gr_text.specs.LineReading as reading
 use Rattle.gr_text.proofs.LineNumbers.{number_back, number_found, same_is, same_self}
 use Rattle.gr_model.specs.declared.event.Word.{Word}
-use Rattle.gr_model.specs.declared.event.Word.TheVariants.{Global, Local}
 use Rattle.gr_places.specs.declared.buffers.BufferLine.{BufferLine}
 use Rattle.gr_places.specs.declared.buffers.Element.{Element}
-use Rattle.gr_places.specs.SideLines.{BufferSaid, ElementSaid, buffer_line, element, element_of, index_from, index_in, index_within}
+use Rattle.gr_places.specs.SideLines.{BufferSaid, ElementSaid, buffer_line, element, element_of, index_in}
 use Rattle.gr_places.proofs.Reading.{element_found, made}
-use Rattle.gr_places.specs.Naming.{IsSaid, IsSaidIn, IsText, in_brackets, is_same, number_at, number_of, word_at, word_from}
+use Rattle.gr_places.specs.Naming.{IsSaid, IsSaidIn, IsText, in_brackets, is_same, number_of, word_at}
 
 -- ---- options
 
@@ -38,10 +37,6 @@ from_map : {X Y : Type 0} (g : X → Y) (o : Option X) (y : Y) → option_map g 
 from_map g None y e = absurd cc
 from_map g (Some x) y e = (x, refl, cc)
 
-chosen_of : {X : Type 0} (b : Bool) (o : Option X) (y : X) → cond b o None ≡ Some y → (b ≡ true) × (o ≡ Some y)
-chosen_of true o y e = (refl, e)
-chosen_of false o y e = absurd cc
-
 not_both : {X : Type 0} (o : Option X) (x : X) → o ≡ None → o ≡ Some x → ⊥
 not_both o x p q = absurd cc
 
@@ -52,9 +47,7 @@ no_front s p e rest is = other_text (take (length p) s) p (sym e) (ap (take (len
 
 pub front : (s p x : List ℕ) → pointwise nat_eq (take (length p) s) p ≡ true → x ≡ drop (length p) s → s ≡ p ++ x
 front s p x e is =
-    sym (take-append-drop (length p) s)
-    ∙ ap (λ (l : List ℕ). l ++ drop (length p) s) (same_text (take (length p) s) p (sym e))
-    ∙ ap (λ (l : List ℕ). p ++ l) (sym is)
+    cc (take-append-drop (length p) s, same_text (take (length p) s) p (sym e))
 
 pub no_end : (s p : List ℕ) → pointwise nat_eq (drop (length s - length p) s) p ≡ false → (rest : List ℕ) → s ≢ rest ++ p
 no_end s p e rest is =
@@ -63,9 +56,7 @@ no_end s p e rest is =
 
 pub end : (s p x : List ℕ) → pointwise nat_eq (drop (length s - length p) s) p ≡ true → x ≡ take (length s - length p) s → s ≡ x ++ p
 end s p x e is =
-    sym (take-append-drop (length s - length p) s)
-    ∙ ap (λ (l : List ℕ). take (length s - length p) s ++ l) (same_text (drop (length s - length p) s) p (sym e))
-    ∙ ap (λ (l : List ℕ). l ++ p) (sym is)
+    cc (take-append-drop (length s - length p) s, same_text (drop (length s - length p) s) p (sym e))
 
 -- ---- a name and an index
 
@@ -81,9 +72,7 @@ behind_open name text indexed closed is opened k t =
 -- the text is what its parts are
 pub is_whole : (name text indexed closed digits : List ℕ) (k : ℕ) → text ≡ name ++ indexed → indexed ≡ (91 ∷ []) ++ closed → closed ≡ digits ++ (93 ∷ []) → digits ≡ decimal k → IsText name k text
 is_whole name text indexed closed digits k is opened shut number =
-    let inner : closed ≡ decimal k ++ (93 ∷ []) = shut ∙ ap (λ (l : List ℕ). l ++ (93 ∷ [])) number in
-    let outer : indexed ≡ in_brackets k = opened ∙ ap (λ (l : List ℕ). 91 ∷ l) inner in
-    is ∙ ap (λ (l : List ℕ). name ++ l) outer
+    rw (is, opened, shut, number) refl
 
 -- a name with an index says one index
 pub one_index : (name text : List ℕ) (k j : ℕ) → k < 2 ^ 32 → j < 2 ^ 32 → IsText name k text → IsText name j text → k ≡ j
@@ -96,48 +85,14 @@ one_index name text k j kl jl a b =
 
 -- ---- a word and its place in a line
 
-within_found : (f words n k : ℕ) → index_within f words n ≡ Some k → (f ≤ n) × (n - f < words) × (n - f ≡ k)
-within_found f words n k e = grind (arith, nat_tests)
-
-number_made : (f words n k : ℕ) → index_within f words n ≡ Some k → n < 2 ^ 32 → number_at f words k ≡ Some n
-number_made f words n k e lt = grind (arith, nat_tests)
-
-index_made : (f words k n : ℕ) → number_at f words k ≡ Some n → (index_within f words n ≡ Some k) × (n < 2 ^ 32)
-index_made f words k n e = grind (arith, nat_tests)
-
-word_made : (first : Word) (words k : ℕ) (w : Word) → index_from first words w ≡ Some k → number_of w < 2 ^ 32 → word_from first words k ≡ Some w
-word_made (Global f) words k (Global n) e lt = ap (option_map Global) (number_made f words n k e lt)
-word_made (Global f) words k (Local h n) e lt = absurd cc
-word_made (Local g f) words k (Global n) e lt = absurd cc
-word_made (Local g f) words k (Local h n) e lt =
-    let c = chosen_of _ (index_within f words n) k e in
-    ap (option_map (Local g)) (number_made f words n k c.1 lt) ∙ ap (λ (it : ℕ). Some (Local it n)) (eqb-true g h c.0)
-
 pub word_of_index : (b : BufferSaid) (w : Word) (k : ℕ) → index_in b w ≡ Some k → number_of w < 2 ^ 32 → word_at b k ≡ Some w
-word_of_index b w k e lt = word_made b.first b.words k w e lt
-
-index_back : (first : Word) (words k : ℕ) (w : Word) → word_from first words k ≡ Some w → (index_from first words w ≡ Some k) × (number_of w < 2 ^ 32)
-index_back (Global f) words k w e =
-    let m = from_map Global (number_at f words k) w e in
-    subst (λ (v : Word). (index_from (Global f) words v ≡ Some k) × (number_of v < 2 ^ 32)) m.2 (index_made f words k m.0 m.1)
-index_back (Local g f) words k w e =
-    let m = from_map (Local g) (number_at f words k) w e in
-    let i = index_made f words k m.0 m.1 in
-    subst (λ (v : Word). (index_from (Local g f) words v ≡ Some k) × (number_of v < 2 ^ 32)) m.2 (rw (eq-eqb g g refl) i.0, i.1)
+word_of_index b w k e lt = grind (arith, nat_tests)
 
 pub index_of_word : (b : BufferSaid) (w : Word) (k : ℕ) → word_at b k ≡ Some w → (index_in b w ≡ Some k) × (number_of w < 2 ^ 32)
-index_of_word b w k e = index_back b.first b.words k w e
-
-index_below : (first : Word) (words k : ℕ) (w : Word) → index_from first words w ≡ Some k → number_of w < 2 ^ 32 → k < 2 ^ 32
-index_below (Global f) words k (Global n) e lt = let i = within_found f words n k e in let is = i.2 in omega (arith, is, lt)
-index_below (Global f) words k (Local h n) e lt = absurd cc
-index_below (Local g f) words k (Global n) e lt = absurd cc
-index_below (Local g f) words k (Local h n) e lt =
-    let c = chosen_of _ (index_within f words n) k e in
-    let i = within_found f words n k c.1 in let is = i.2 in omega (arith, is, lt)
+index_of_word b w k e = grind (arith, nat_tests)
 
 pub small_index : (b : BufferSaid) (w : Word) (k : ℕ) → index_in b w ≡ Some k → number_of w < 2 ^ 32 → k < 2 ^ 32
-small_index b w k e lt = index_below b.first b.words k w e lt
+small_index b w k e lt = grind (arith, nat_tests)
 
 -- ---- the buffer of a word
 
@@ -146,9 +101,7 @@ pub same_element : (o : Option Element) (name : List ℕ) (k : ℕ) → is_same 
 same_element None name k e = absurd cc
 same_element (Some it) name k e =
     let p = and_parts _ _ e in
-    let n = same_is it.name.now name p.1 in
-    let i = eqb-true it.index k p.0 in
-    rw (n, i) refl
+    rw (same_is it.name.now name p.1, eqb-true it.index k p.0) refl
 
 -- what a test of both parts answers
 pub same_when : (o : Option Element) (it : Element) (name : List ℕ) (k : ℕ) (r : Bool) → o ≡ Some it → nat_eq it.index k ≡ true → r ≡ pointwise nat_eq it.name.now name → r ≡ is_same o name k
@@ -189,19 +142,13 @@ no_word lines line text k lt t none w s =
     let same = one_index line.name text s.index k (small_index line w s.index s.at_index s.small) lt s.is_text t in
     not_both (word_at line k) w none (ap (word_at line) (sym same) ∙ word_of_index line w s.index s.at_index s.small)
 
-same_word : (o : Option Word) (v w : Word) → o ≡ Some v → o ≡ Some w → w ≡ v
-same_word o v w p q = cc
-
-false_true : (b : Bool) → b ≡ false → b ≡ true → ⊥
-false_true b p q = absurd cc
-
 pub other_word : (lines : List BufferSaid) (line : BufferSaid) (text : List ℕ) (k : ℕ) (v : Word) (o : Option Element) → k < 2 ^ 32 → IsText line.name k text → word_at line k ≡ Some v → option_map element o ≡ element_of lines v → is_same o line.name k ≡ false → (w : Word) → ¬ IsSaidIn lines line text w
 other_word lines line text k v o lt t at found other w s =
     let same = one_index line.name text s.index k (small_index line w s.index s.at_index s.small) lt s.is_text t in
-    let word = same_word (word_at line k) v w at (ap (word_at line) (sym same) ∙ word_of_index line w s.index s.at_index s.small) in
+    let word : w ≡ v = cc (at, ap (word_at line) (sym same) ∙ word_of_index line w s.index s.at_index s.small) in
     let is : option_map element o ≡ Some (record { name = line.name; index = k }) =
     found ∙ ap (element_of lines) (sym word) ∙ s.is_element ∙ ap (λ (i : ℕ). Some (record { name = line.name; index = i })) same in
-    false_true (is_same o line.name k) other (element_same o line.name k is)
+    let yes = element_same o line.name k is in cc
 
 pub this_word : (lines : List BufferSaid) (line : BufferSaid) (text : List ℕ) (k : ℕ) (v : Word) (o : Option Element) → IsText line.name k text → word_at line k ≡ Some v → option_map element o ≡ element_of lines v → is_same o line.name k ≡ true → IsSaidIn lines line text v
 this_word lines line text k v o t at found same =
