@@ -17,10 +17,8 @@ module _ (size : ℕ) (read : List ℕ → Result Event RecordError) (prefix : L
   -- nothing more is read
   stays : (r : Records) → records_at size read (most - i) bytes ≡ r → r.events ≡ [] → r.rest ≡ bytes → IsAt i bytes whole
   stays r is none left =
-      let same : with_prefix prefix r ≡ whole = ap (with_prefix prefix) (sym is) ∙ so_far in
-      let all : prefix ++ r.events ≡ whole.events = ap (λ (x : Records). x.events) same in
-      let none_more : prefix ++ r.events ≡ prefix = ap (λ (es : List Event). prefix ++ es) none ∙ append-nil prefix in
-      record { number = sym counted ∙ ap (λ (es : List Event). length es) (sym none_more ∙ all); rest = sym left ∙ ap (λ (x : Records). x.rest) same }
+      let all = rw is at so_far in
+      record { number = sym counted ∙ ap (λ (es : List Event). length es) (rw (none, append-nil prefix) at (ap (λ (x : Records). x.events) all)); rest = sym left ∙ ap (λ (x : Records). x.rest) all }
 
   pub stops_short : length bytes < size → IsAt i bytes whole
   stops_short lt = stays _ (short size read (most - i) bytes lt) refl refl

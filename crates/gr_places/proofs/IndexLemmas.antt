@@ -5,7 +5,6 @@ use Rattle.std.proofs.lemmas.List.{at_drop_more}
 use Rattle.std.specs.Option.{option_map}
 use Rattle.gr_text.specs.LineReading.{same}
 use Rattle.gr_places.specs.declared.places.Placed.{Placed}
-use Rattle.gr_places.specs.declared.places.Placed.TheVariants.{Event, Site}
 use Rattle.gr_places.specs.declared.places.PlaceLine.{PlaceLine}
 use Rattle.gr_places.specs.PlaceIndexes.{AreTexts, number_in, same_key, text_in}
 use Rattle.gr_places.specs.SideLines.{PlaceSaid, place_line, place_of, same_placed}
@@ -17,10 +16,7 @@ AreNumbersFrom n entries lines = (text : Bor (List ℕ)) → number_in entries t
 -- ---- the tests are one
 
 pub same_keys : (p q : Placed) → same_key p q ≡ same_placed p q
-same_keys (Event e) (Event f) = refl
-same_keys (Site s) (Site t) = refl
-same_keys (Event e) (Site t) = refl
-same_keys (Site s) (Event f) = refl
+same_keys p q = grind arith
 
 -- ---- one line before those that are kept
 

@@ -29,12 +29,6 @@ pub record Stops (seen : List Flat) (bytes : List ℕ) (place : ℕ) (e : Record
 abbrev streamed : Result Flat Fault → Result Flat Fault
 streamed r = r
 
-abbrev listed : Result (List Flat) Fault → Result (List Flat) Fault
-listed r = r
-
-same_stream : (p q : ℕ) (d e : RecordError) → streamed (Err (faults.Stream p d)) ≡ streamed (Err (faults.Stream q e)) → (p ≡ q) × (d ≡ e)
-same_stream p q d e h = (cc, cc)
-
 module _ (seen : List Flat) (bytes : List ℕ) (place : ℕ) (e : RecordError) where
   abbrev only : Flat × List ℕ → Result Flat Fault
   only s = if length s.1 == 0 then Ok s.0 else Err (faults.Stream (length seen) errors.AfterEnd)
@@ -43,7 +37,7 @@ module _ (seen : List Flat) (bytes : List ℕ) (place : ℕ) (e : RecordError) w
   kept h r = Ok (record { header = h; events = r.0 }, r.1)
 
   refused_at : (d : RecordError) → streamed (Err (faults.Stream (length seen) d)) ≡ Err (faults.Stream place e) → last_answer (reading MOST_RECORDS bytes).stop ≡ Err d → Stops seen bytes place e
-  refused_at d is stop = let s = same_stream (length seen) place d e is in record { at = sym s.0; stop = stop ∙ ap Err s.1 }
+  refused_at d is stop = let s : (length seen ≡ place) × (d ≡ e) = (cc, cc) in record { at = sym s.0; stop = stop ∙ ap Err s.1 }
 
   records_stop : (h : Header) (stop : Stop) (events : List Event) (rest : List ℕ) → (reading MOST_RECORDS bytes).stop ≡ close stop rest → ((at_place (length seen) (up_to stop events rest) >>= kept h) >>= only) ≡ Err (faults.Stream place e) → Stops seen bytes place e
   records_stop h Inside events rest stops is = refused_at errors.Truncated is (ap last_answer stops)
@@ -86,9 +80,6 @@ pub record StopsAmong (before : ℕ) (inputs : List (List ℕ)) (place : ℕ) (e
   pub stop : last_answer (reading MOST_RECORDS bytes).stop ≡ Err e
 
 module _ (place : ℕ) (e : RecordError) where
-  failed : (f : Fault) → listed (Err f) ≡ Err (faults.Stream place e) → f ≡ faults.Stream place e
-  failed f is = cc
-
   each_stops : (inputs : List (List ℕ)) (seen : List Flat) → each_at seen inputs ≡ Err (faults.Stream place e) → StopsAmong (length seen) inputs place e
   unfolding each_at
   each_stops [] seen is = absurd cc
@@ -97,7 +88,7 @@ module _ (place : ℕ) (e : RecordError) where
       by_stream : ((f : Flat) → each_at (seen ++ f ∷ []) inputs ≡ Err (faults.Stream place e) → StopsAmong (length (seen ++ f ∷ [])) inputs place e)
           → (x : Result Flat Fault) → only_stream_at seen bytes ≡ x → (x >>= λ f. each_at (seen ++ f ∷ []) inputs) ≡ Err (faults.Stream place e) → StopsAmong (length seen) (bytes ∷ inputs) place e
       by_stream later (Err f) found is =
-          let s = stream_stops seen bytes place e (found ∙ ap Err (failed f is)) in
+          let s = stream_stops seen bytes place e (let bad : f ≡ faults.Stream place e = cc in found ∙ ap Err bad) in
           record { number = 0; bytes = bytes; at = omega (arith, s.at); there = refl; stop = s.stop }
       by_stream later (Ok f) found is =
           let s = later f is in

@@ -9,8 +9,7 @@ module _ {T E : Type 0} (Gives : List ℕ → Result T E → Type 0) where
   one_more : (names : List (List ℕ)) (files : List T) (name : List ℕ) (file : T) → AreOpened Gives names files → Gives name (Ok file) → AreOpened Gives (names ++ name ∷ []) (files ++ file ∷ [])
   one_more [] [] name file h one = (one, tt)
   one_more (n ∷ names) (f ∷ files) name file h one = (h.0, one_more names files name file h.1 one)
-  one_more [] (f ∷ files) name file h one = absurd h
-  one_more (n ∷ names) [] name file h one = absurd h
+  one_more _ _ name file h one = absurd h
 
   module _ (names : List (List ℕ)) (i : ℕ) (files : List T) (name : List ℕ) (lt : i < length names) (at : get_or names i name ≡ name) (so_far : AreOpened Gives (take i names) files) where
     pub opened_more : (file : T) → Gives name (Ok file) → AreOpened Gives (take (i + 1) names) (files ++ file ∷ [])

@@ -19,8 +19,7 @@ behind done (Ok xs) = Ok (done ++ xs)
 behind done (Err f) = Err f
 
 pub behind_more : {X : Type 0} (done : List X) (n : ℕ) (x : X) (rest : Result (List X) ℕ) → behind done (said_next n (Some x) rest) ≡ behind (done ++ x ∷ []) rest
-behind_more done n x (Ok xs) = ap (λ (ys : List _). Ok ys) (sym (append_assoc done (x ∷ []) xs))
-behind_more done n x (Err f) = refl
+behind_more done n x rest = grind (arith, append_assoc)
 
 pub behind_all : {X : Type 0} (done : List X) → behind done (Ok []) ≡ Ok done
 behind_all done = ap (λ (ys : List _). Ok ys) (append-nil done)
@@ -62,18 +61,8 @@ text_read view Q bytes (Err e) some m = sym (text_other bytes m.0)
 
 -- ---- what is found in lines
 
-mapped_twice : {X Y Z : Type 0} (f : Y → Z) (g : X → Y) (o : Option X) → option_map f (option_map g o) ≡ option_map (λ x. f (g x)) o
-mapped_twice f g None = refl
-mapped_twice f g (Some x) = refl
-
-then_mapped : {X Y Z : Type 0} (f : Y → Option Z) (g : X → Y) (o : Option X) → option_and_then f (option_map g o) ≡ option_and_then (λ x. f (g x)) o
-then_mapped f g None = refl
-then_mapped f g (Some x) = refl
-
 pub place_found : (lines : List PlaceLine) (p : Placed) (o : Option PlaceLine) → o ≡ find (λ (l : PlaceLine). same_placed l.of p) lines → option_map (λ (l : PlaceLine). l.text.now) o ≡ place_of (map place_line lines) p
-place_found lines p o is =
-    ap (option_map (λ (l : PlaceLine). l.text.now)) is
-    ∙ sym (ap (option_map (λ (l : PlaceSaid). l.text)) (find_viewed place_line (λ (l : PlaceSaid). same_placed l.of p) lines) ∙ mapped_twice (λ (l : PlaceSaid). l.text) place_line (find (λ (l : PlaceLine). same_placed l.of p) lines))
+place_found lines p o is = grind (arith, find_viewed place_line (λ (l : PlaceSaid). same_placed l.of p) lines)
 
 -- the element that a line makes of a word
 abbrev pub with_index : Word → BufferSaid → Option ElementSaid
@@ -83,6 +72,4 @@ abbrev pub made : Word → BufferLine → Option ElementSaid
 made w l = with_index w (buffer_line l)
 
 pub element_found : (lines : List BufferLine) (w : Word) (o : Option BufferLine) → o ≡ find (λ (l : BufferLine). is_some (index_in (buffer_line l) w)) lines → option_and_then (made w) o ≡ element_of (map buffer_line lines) w
-element_found lines w o is =
-    ap (option_and_then (made w)) is
-    ∙ sym (ap (option_and_then (with_index w)) (find_viewed buffer_line (λ (b : BufferSaid). is_some (index_in b w)) lines) ∙ then_mapped (with_index w) buffer_line (find (λ (l : BufferLine). is_some (index_in (buffer_line l) w)) lines))
+element_found lines w o is = grind (arith, find_viewed buffer_line (λ (b : BufferSaid). is_some (index_in b w)) lines)

@@ -49,8 +49,7 @@ module _ (bytes : List ℕ) where
       sym (ap header_at (sym (take-append-drop HEADER_LENGTH bytes)) ∙ same_header (drop HEADER_LENGTH bytes) (take HEADER_LENGTH bytes) len)
 
   refused_by : (x : Result Header RecordError) (e : RecordError) → (x >>= λ h. found (h, drop HEADER_LENGTH bytes)) ≡ Err e → (under x MOST_RECORDS bytes).header ≡ None
-  refused_by (Err d) e is = refl
-  refused_by (Ok k) e is = absurd cc
+  refused_by x e is = grind arith
 
   read_by : (x : Result Header RecordError) (h : Header) (rest : List ℕ) → (x >>= λ k. found (k, drop HEADER_LENGTH bytes)) ≡ Ok (h, rest) → (under x MOST_RECORDS bytes ≡ closed (Some h) (records_of h MOST_RECORDS rest)) × (length rest ≤ length bytes)
   read_by (Err d) h rest is = absurd cc
@@ -95,8 +94,7 @@ module _ (bytes : List ℕ) where
 
 module _ (bytes : List ℕ) where
   stops_by : (x : Result Header RecordError) (e : RecordError) → (x >>= λ h. found (h, drop HEADER_LENGTH bytes)) ≡ Err e → last_answer (under x MOST_RECORDS bytes).stop ≡ Err e
-  stops_by (Err d) e is = cc
-  stops_by (Ok k) e is = absurd cc
+  stops_by x e is = grind arith
 
   -- at a header
   pub header_stops : (e : RecordError) → front_header_at bytes ≡ Err e → last_answer (reading MOST_RECORDS bytes).stop ≡ Err e
