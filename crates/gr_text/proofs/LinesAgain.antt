@@ -11,14 +11,12 @@ use Rattle.gr_model.specs.declared.event.Kind.TheVariants.{Read, Write, Load, St
 use Rattle.gr_model.specs.declared.event.Name.{Name}
 use Rattle.gr_model.specs.declared.event.Event.{Event}
 use Rattle.gr_model.specs.Events.{IsNamingOk, IsKindOk, end_of}
-use Rattle.gr_record.specs.declared.header.Header.{Header}
 use Rattle.gr_record.specs.declared.header.Version.{Version}
 use Rattle.gr_record.specs.declared.header.Version.TheVariants.{One, Four}
 use Rattle.gr_model.specs.NameLists.{IsNameInRange}
 use Rattle.gr_text.specs.declared.line.Line.TheVariants as lines
 use Rattle.gr_record.specs.Versions.{most_groups, most_items}
 use Rattle.gr_record.specs.Reading.{is_order_ok, is_naming_ok}
-use Rattle.gr_record.specs.Spelling.{IsHeader}
 use Rattle.gr_text.specs.LineText.{space_word, scope_word, order_word, flags_word, version_words, names_words, later_text, line_text}
 use Rattle.gr_text.specs.LineReading.{same, IsWord, first_of, header_said, version_said, name_said, names_said, kind_said, atomic_said, barrier_said, event_said, line_said}
 use Rattle.gr_text.specs.LineLaws.{TextIsRead}
@@ -30,16 +28,6 @@ version_again : (v : Version) (word : List ℕ) → IsWord word → ((first_of (
 unfolding same
 version_again One word is = rw (first_of_last word is) (refl, refl)
 version_again v word is = rw (first_of_space word _ is) (refl, refl)
-
-header_again : (v : Version) (h : Header) → IsHeader h → line_said v (line_text (lines.Header h)) ≡ Some (lines.Header h)
-unfolding line_said header_said
-header_again v h ok =
-    let few : h.group < 65535 = header_group h ok in
-    let small : h.items ≤ 1024 = header_items h ok in
-    let w5 = version_again h.version (decimal h.launch) (decimal_word h.launch ok.launch) in
-    rw (first_of_space (codes "group") _ (key_word (codes "group") refl), same_self (codes "group"), first_of_space (decimal h.group) _ (decimal_word h.group (omega arith)), first_of_space (codes "items") _ (key_word (codes "items") refl))
-    (rw (first_of_space (decimal h.items) _ (decimal_word h.items (omega arith)), first_of_space (codes "launch") _ (key_word (codes "launch") refl), w5.1, w5.0, same_self (codes "items"), same_self (codes "launch"))
-    (rw (short_again h.group (omega arith), short_again h.items (omega arith), number_back h.launch ok.launch, lt-ltb h.group (most_groups h.version) ok.group, le-leb 1 h.items ok.some, le-leb h.items (most_items h.version) ok.items) refl))
 
 -- what stands behind a word, where other words follow
 abbrev tail_text : List (List ℕ) → Option (List ℕ)
@@ -138,5 +126,12 @@ module _ (v : Version) where
   event_again item word kind space names lt fits naming named ok = cc
 
 pub text_is_read : TextIsRead
-text_is_read v (lines.Header h) ok = header_again v h ok
+unfolding line_said header_said
+text_is_read v (lines.Header h) ok =
+    let few : h.group < 65535 = header_group h ok in
+    let small : h.items ≤ 1024 = header_items h ok in
+    let w5 = version_again h.version (decimal h.launch) (decimal_word h.launch ok.launch) in
+    rw (first_of_space (codes "group") _ (key_word (codes "group") refl), same_self (codes "group"), first_of_space (decimal h.group) _ (decimal_word h.group (omega arith)), first_of_space (codes "items") _ (key_word (codes "items") refl))
+    (rw (first_of_space (decimal h.items) _ (decimal_word h.items (omega arith)), first_of_space (codes "launch") _ (key_word (codes "launch") refl), w5.1, w5.0, same_self (codes "items"), same_self (codes "launch"))
+    (rw (short_again h.group (omega arith), short_again h.items (omega arith), number_back h.launch ok.launch, lt-ltb h.group (most_groups h.version) ok.group, le-leb 1 h.items ok.some, le-leb h.items (most_items h.version) ok.items) refl))
 text_is_read v (lines.Event e) (ok, range) = event_again v e.item e.word e.kind e.space e.names ok.ok.0 ok.word ok.ok.1 (naming_back v e.kind e.names ok.ok.1 range) ok.ok.2

@@ -20,7 +20,7 @@ use Rattle.gr_record.specs.Sites.{Sited, events_of}
 use Rattle.gr_text.specs.LineLaws.{IsSitedSaid}
 use Rattle.gr_text.specs.LineReading.{sited_said}
 use Rattle.gr_text.specs.LineText.{sited_text}
-use Rattle.gr_record.specs.Spelling.{IsHeader, IsRecord, header_spelling, event_spelling, events_spelling}
+use Rattle.gr_record.specs.Spelling.{IsRecord, header_spelling, event_spelling, events_spelling}
 use Rattle.gr_record.proofs.FoundPrefixes.{complete_behind}
 use Rattle.gr_text.proofs.LineSites.{sited_read_is_text}
 use Rattle.gr_text.specs.declared.place.Place.{Place}
@@ -78,15 +78,6 @@ abbrev Follow : Place → List SitedLine → Type 0
 Follow Outside xs = Streams xs
 Follow (Inside h left) xs = Rest h left xs
 
-begins : (h : Header) (site : ℕ) (xs : List SitedLine) → IsHeader h → site ≡ 0 → Rest h MOST_RECORDS xs → Streams (record { line = lines.Header h; site = site } ∷ xs)
-begins h site xs ok none r =
-    let s : WholeStream = record { header = h; records = r.records } in
-    record {
-      streams = s ∷ r.streams;
-      whole = All-cons IsWhole s r.streams (record { prefix = record { header = ok; runs = r.runs; few = r.few }; ended = r.complete }) r.whole;
-      parts = ap₂ (λ (n : ℕ) (v : List SitedLine). record { line = lines.Header h; site = n } ∷ v) none r.parts;
-    }
-
 -- ---- line by line
 
 is_record : (h : Header) (r : Sited) → r.event.item < h.items → length r.event.names ≤ places h.version → IsSitedSaid h.version (record_line r) → IsRecord h r
@@ -98,7 +89,15 @@ follows n place None x k = absurd cc
 follows n place (Some l) x k = by_place place l.line l.site k
   where
     by_place : (place : Place) (line : Line) (site : ℕ) → said_at n place line site ≡ Ok x → IsSitedSaid (version_at place) x.0 → (xs : List SitedLine) → Follow x.1 xs → Follow place (x.0 ∷ xs)
-    by_place Outside (lines.Header h) site k = let same : x ≡ (record { line = lines.Header h; site = site }, Inside h MOST_RECORDS) = cc k in rw same (λ ok xs r. begins h site xs ok.0 ok.1 r)
+    by_place Outside (lines.Header h) site k =
+        let same : x ≡ (record { line = lines.Header h; site = site }, Inside h MOST_RECORDS) = cc k in
+        rw same (λ ok xs r.
+        let s : WholeStream = record { header = h; records = r.records } in
+        record {
+          streams = s ∷ r.streams;
+          whole = All-cons IsWhole s r.streams (record { prefix = record { header = ok.0; runs = r.runs; few = r.few }; ended = r.complete }) r.whole;
+          parts = ap₂ (λ (n : ℕ) (v : List SitedLine). record { line = lines.Header h; site = n } ∷ v) ok.1 r.parts;
+        })
     by_place Outside (lines.Event e) site k = absurd cc
     by_place (Inside h left) (lines.Header g) site k = absurd cc
     by_place (Inside h left) (lines.Event e) site k = let o = record_at_ok n h left (record { event = e; site = site }) x k in rw o.3 (by_end (is_end e) refl o.0 o.1 o.2)
