@@ -79,15 +79,7 @@ module _ (seen : List Flat) where
 
   pub stream_on : (bytes more : List ℕ) (f : Flat) → IsStreamOf bytes f → stream_at seen (bytes ++ more) ≡ checked f >>= followed more
   unfolding stream_at
-  stream_on bytes more f is =
-      rw (header_on bytes more f.header is.behind is.header)
-      (by_both (list_any (λ s. s.header.group == f.header.group) seen) (list_any (λ s. not (s.header.launch == f.header.launch)) seen))
-    where
-      by_both : (a b : Bool) → cond a (Err (faults.SameGroup (length seen))) (cond b (Err (faults.OtherLaunch (length seen))) (at_place (length seen) (front_records_at f.header (is.behind ++ more)) >>= kept f.header))
-          ≡ cond a (Err (faults.SameGroup (length seen))) (cond b (Err (faults.OtherLaunch (length seen))) (Ok f)) >>= followed more
-      by_both true b = refl
-      by_both false true = refl
-      by_both false false = rw (records_on f.header is.behind more f.events is.records) refl
+  stream_on bytes more f is = grind (arith, header_on bytes more f.header is.behind is.header, records_on f.header is.behind more f.events is.records)
 
   abbrev only : Flat × List ℕ → Result Flat Fault
   only s = if length s.1 == 0 then Ok s.0 else Err (faults.Stream (length seen) errors.AfterEnd)

@@ -8,7 +8,7 @@ use Rattle.std.proofs.Math.Seq.{get_or-append_seam}
 use Rattle.gr_model.specs.Streams.{Streams}
 use Rattle.gr_record.specs.declared.fault.Fault.{Fault}
 use Rattle.gr_record.specs.declared.header.Version.TheVariants.{One}
-use Rattle.gr_intake.specs.Joined.{Flat, ◌>>=◌}
+use Rattle.gr_intake.specs.Joined.{Flat}
 use Rattle.gr_intake.specs.Launch.{AreApart, IsLaunchOf}
 use Rattle.gr_intake.proofs.Accepted.{none_are}
 use Rattle.gr_replay.specs.Each.{only_stream_at}
@@ -52,11 +52,7 @@ checked_is seen f g is = grind arith
 
 all_are : (fs seen out : List Flat) → all_checked seen fs ≡ Ok out → out ≡ seen ++ fs
 all_are [] seen out is = sym (same_read seen out is) ∙ sym (append-nil seen)
-all_are (f ∷ fs) seen out is = by_checked (checked seen f) refl is (λ g later. all_are fs (seen ++ g ∷ []) out later)
-  where
-    by_checked : (r : Result Flat Fault) → checked seen f ≡ r → (r >>= λ g. all_checked (seen ++ g ∷ []) fs) ≡ Ok out → ((g : Flat) → all_checked (seen ++ g ∷ []) fs ≡ Ok out → out ≡ (seen ++ g ∷ []) ++ fs) → out ≡ seen ++ f ∷ fs
-    by_checked (Err e) one k later = absurd cc
-    by_checked (Ok g) one k later = later g k ∙ (append_assoc seen (g ∷ []) fs ∙ ap (λ (x : Flat). seen ++ x ∷ fs) (checked_is seen f g one))
+all_are (f ∷ fs) seen out is = grind (arith, all_are fs (seen ++ f ∷ []) out, append_assoc seen (f ∷ []) fs)
 
 before_it : (R : Flat → Flat → Type 0) (seen : List Flat) (f : Flat) (fs : List Flat) → AllPairs R (seen ++ f ∷ fs) → All (λ s. R s f) seen
 before_it R seen f fs pairs k d lt = grind (arith, length-append seen (f ∷ fs), get_or_append_left seen (f ∷ fs) d k lt, get_or-append_seam seen f fs d)

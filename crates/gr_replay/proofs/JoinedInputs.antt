@@ -1,7 +1,5 @@
 -- Inputs, each of which is one stream, and their bytes one after another.
-use Rattle.std.proofs.Common.{◌≡◌, ℕ, zero, suc, ◌≤◌, false, List, [], ◌∷◌, ◌++◌, length, All, Result, Ok, Err, refl, sym, ◌∙◌, subst, arith}
-use Rattle.std.specs.Prelude.{◌==◌}
-use Rattle.std.proofs.lemmas.Bool.{ne_eqb}
+use Rattle.std.proofs.Common.{◌≡◌, ℕ, zero, suc, ◌≤◌, List, [], ◌∷◌, ◌++◌, length, All, Result, Ok, Err, refl, sym, ◌∙◌, subst, arith}
 use Rattle.std.proofs.lemmas.List.{length-append}
 use Rattle.gr_record.specs.declared.fault.Fault.{Fault}
 use Rattle.gr_intake.specs.Joined.{Flat, ◌>>=◌, joined_at, joined_of}
@@ -11,7 +9,7 @@ use Rattle.gr_intake.proofs.Accepted.{stream_is_one}
 use Rattle.gr_replay.specs.Each.{ReadsEach, each_at, each_of, only_stream_at}
 use Rattle.gr_replay.specs.Replays.{IsExact, IsExactOfEach}
 use Rattle.gr_replay.specs.Laws.{InputsAreJoined, IsOneStream, JoinedReportIsEqual, JoinedReportIsSame, joined}
-use Rattle.gr_replay.proofs.Alone.{IsStreamOf, checked, followed, header_long, only_is, only_on, only_read, stream_on}
+use Rattle.gr_replay.proofs.Alone.{IsStreamOf, checked, header_long, only_is, only_on, only_read, stream_on}
 use Rattle.gr_replay.proofs.Joining.{nothing_left}
 use Rattle.gr_replay.proofs.OneLaunch.{bytes_have_one_report, same_read}
 
@@ -32,11 +30,7 @@ unfolding each_at
 each_checked [] [] seen are = refl
 each_checked [] (f ∷ fs) seen are = absurd are
 each_checked (bytes ∷ inputs) [] seen are = absurd are
-each_checked (bytes ∷ inputs) (f ∷ fs) seen are = rw (only_on seen bytes f are.0) (by_checked (checked seen f) (λ g. each_checked inputs fs (seen ++ g ∷ []) are.1))
-  where
-    by_checked : (r : Result Flat Fault) → ((g : Flat) → each_at (seen ++ g ∷ []) inputs ≡ all_checked (seen ++ g ∷ []) fs) → (r >>= λ g. each_at (seen ++ g ∷ []) inputs) ≡ (r >>= λ g. all_checked (seen ++ g ∷ []) fs)
-    by_checked (Ok g) later = later g
-    by_checked (Err e) later = refl
+each_checked (bytes ∷ inputs) (f ∷ fs) seen are = grind (arith, only_on seen bytes f are.0, each_checked inputs fs (seen ++ f ∷ []) are.1)
 
 pub joined_checked : (n : ℕ) (inputs : List (List ℕ)) (fs seen : List Flat) → AreStreamsOf inputs fs → length (joined inputs) ≤ n → joined_at n seen (joined inputs) ≡ all_checked seen fs
 unfolding joined_at
@@ -46,13 +40,7 @@ joined_checked n (bytes ∷ inputs) [] seen are le = absurd are
 joined_checked zero (bytes ∷ inputs) (f ∷ fs) seen are le = let long = header_long bytes _ are.0.header in absurd (omega (arith, length-append bytes (joined inputs)))
 joined_checked (suc n) (bytes ∷ inputs) (f ∷ fs) seen are le =
     let long = header_long bytes _ are.0.header in
-    let both = length-append bytes (joined inputs) in
-    let some : (length (bytes ++ joined inputs) == 0) ≡ false = ne_eqb (length (bytes ++ joined inputs)) 0 (λ none. absurd (omega (arith, none, both))) in
-    rw (some, stream_on seen bytes (joined inputs) f are.0) (by_checked (checked seen f) (λ g. joined_checked n inputs fs (seen ++ g ∷ []) are.1 (omega (arith, both))))
-  where
-    by_checked : (r : Result Flat Fault) → ((g : Flat) → joined_at n (seen ++ g ∷ []) (joined inputs) ≡ all_checked (seen ++ g ∷ []) fs) → ((r >>= followed seen (joined inputs)) >>= λ s. joined_at n (seen ++ s.0 ∷ []) s.1) ≡ (r >>= λ g. all_checked (seen ++ g ∷ []) fs)
-    by_checked (Ok g) later = later g
-    by_checked (Err e) later = refl
+    grind (arith, length-append bytes (joined inputs), stream_on seen bytes (joined inputs) f are.0, joined_checked n inputs fs (seen ++ f ∷ []) are.1)
 
 pub all_of : (inputs : List (List ℕ)) (fs : List Flat) → AreStreamsOf inputs fs → joined_of (joined inputs) ≡ all_checked [] fs
 all_of inputs fs are = joined_checked (length (joined inputs)) inputs fs [] are (omega arith)

@@ -42,12 +42,7 @@ checked_up seen f = grind (arith, any_up, length-map)
 
 all_checked_up : (seen fs : List Flat) → all_checked (map up seen) (map up fs) ≡ all_checked seen fs >>= all_up
 all_checked_up seen [] = refl
-all_checked_up seen (f ∷ fs) = rw (checked_up seen f) (by_checked (checked seen f) (λ g. all_checked_up (seen ++ g ∷ []) fs))
-  where
-    by_checked : (r : Result Flat Fault) → ((g : Flat) → all_checked (map up (seen ++ g ∷ [])) (map up fs) ≡ all_checked (seen ++ g ∷ []) fs >>= all_up)
-        → ((r >>= one_up) >>= λ g. all_checked (map up seen ++ g ∷ []) (map up fs)) ≡ (r >>= λ g. all_checked (seen ++ g ∷ []) fs) >>= all_up
-    by_checked (Ok g) later = ap (λ (l : List Flat). all_checked l (map up fs)) (sym (map_push up seen g)) ∙ later g
-    by_checked (Err e) later = refl
+all_checked_up seen (f ∷ fs) = grind (arith, checked_up seen f, all_checked_up (seen ++ f ∷ []) fs, map_push up seen f)
 
 contains_up : (seen : List Flat) (f : Flat) → Contains seen f → Contains (map up seen) (up f)
 contains_up seen f (k, lt, is) = (k, omega (arith, lt, length-map seen up), get_or-map up seen k f (up f) lt ∙ ap up is)

@@ -1,4 +1,4 @@
-use Rattle.std.proofs.Common.{◌≡◌, ◌<◌, ◌≤◌, ◌++◌, ◌∷◌, [], length, arith}
+use Rattle.std.proofs.Common.{◌≡◌, ◌<◌, ◌++◌, ◌∷◌, [], length, arith}
 use Rattle.std.proofs.lemmas.List.{length-map, map_push}
 use Rattle.std.proofs.lemmas.Result.{err_from_is_err_and}
 use Rattle.gr_replay.specs.Each.{inputs_of}
@@ -28,6 +28,4 @@ loop-input-preserved g c =
     }
 
 pub returns-clause-exact : goal.returns-clause-exact
-returns-clause-exact g c =
-    let le : length (inputs_of c.args.inputs.now) ≤ c.loop-input.input-index = omega (arith, length-map c.args.inputs.now (λ v. v.items), c.loop-input-test.false) in
-    all_read (flats c.loop-input.streams.items) (inputs_of c.args.inputs.now) c.loop-input.input-index _ c.loop-input.invariant.so_far le
+returns-clause-exact g c = grind (arith, length-map, all_read, c.loop-input.invariant.so_far)

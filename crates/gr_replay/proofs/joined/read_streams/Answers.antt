@@ -1,7 +1,7 @@
-use Rattle.std.proofs.Common.{◌≡◌, ◌++◌, ◌∷◌, [], length, sym, ◌∙◌}
+use Rattle.std.proofs.Common.{arith, [], length, sym, ◌∙◌}
 use Rattle.std.proofs.lemmas.List.{map_push}
 use Rattle.std.proofs.lemmas.Result.{err_from_is_err_and}
-use Rattle.gr_replay.specs.InMemory.{flat, flats}
+use Rattle.gr_replay.specs.InMemory.{flats}
 use Rattle.gr_intake.proofs.Accepted.{joined_are, none_are}
 use Rattle.gr_replay.proofs.Joining.{ends, is_full, stream_fails, goes_on}
 use Rattle.gr_replay.proofs.joined.read_streams.Goals as goal
@@ -11,17 +11,10 @@ returns-then-is_empty-clause-exact g c =
     ends (flats c.loop.streams.items) (length c.args.bytes.now) c.loop.counter c.loop.rest.now _ c.loop.invariant (sym c.is_empty.ensures ∙ c.if-is_empty.true)
 
 pub returns-in_err-stream : goal.returns-in_err-stream
-returns-in_err-stream g c =
-    let p = err_from_is_err_and c.from_residual.result c.from_residual.ensures.1 in
-    let h = rw c.as_slice.ensures.value at c.in_err-stream.ensures.exact in
-    rw (p.1, p.2) (record { exact = stream_fails (flats c.loop.streams.items) (length c.args.bytes.now) c.loop.counter c.loop.rest.now _ c.loop.invariant c.loop-test.true (sym c.is_empty.ensures ∙ c.if-is_empty.false) _ h; good = tt; values = c.in_err-stream.ensures.values })
+returns-in_err-stream g c = grind (arith, err_from_is_err_and, stream_fails, c.as_slice.ensures.value, c.in_err-stream.ensures.exact)
 
 pub loop-preserved : goal.loop-preserved
-loop-preserved g c =
-    let s = c.in_ok-stream.stream in
-    let h = rw c.as_slice.ensures.value at c.in_ok-stream.ensures.exact in
-    let e : flats c.keep.new.streams.items ≡ flats c.loop.streams.items ++ flat s ∷ [] = rw c.in_ok-keep.ensures.kept (map_push _ c.loop.streams.items s) in
-    rw e (goes_on (flats c.loop.streams.items) (length c.args.bytes.now) c.loop.counter c.loop.rest.now _ c.loop.invariant c.loop-test.true (sym c.is_empty.ensures ∙ c.if-is_empty.false) _ _ h)
+loop-preserved g c = grind (arith, map_push, goes_on, c.as_slice.ensures.value, c.in_ok-stream.ensures.exact, c.in_ok-keep.ensures.kept)
 
 pub returns-clause-exact : goal.returns-clause-exact
 returns-clause-exact g c = is_full (flats c.loop.streams.items) (length c.args.bytes.now) c.loop.counter c.loop.rest.now _ c.loop.invariant c.loop-test.false
