@@ -47,9 +47,6 @@ module _ (fs gs : List Flat) (moved : IsPermutation fs gs) where
 
 -- ---- what is checked, and when nothing is refused
 
-checked_is : (seen : List Flat) (f g : Flat) → checked seen f ≡ Ok g → g ≡ f
-checked_is seen f g is = grind arith
-
 all_are : (fs seen out : List Flat) → all_checked seen fs ≡ Ok out → out ≡ seen ++ fs
 all_are [] seen out is = sym (same_read seen out is) ∙ sym (append-nil seen)
 all_are (f ∷ fs) seen out is = grind (arith, all_are fs (seen ++ f ∷ []) out, append_assoc seen (f ∷ []) fs)

@@ -1,6 +1,6 @@
 -- An input that is read piece by piece.
-use Rattle.std.proofs.Common.{◌≡◌, ℕ, List, ◌++◌, Option, None, Some, Result, Ok, Err, sym, ap, ◌∙◌, subst, append_assoc}
-use Rattle.std.specs.Prelude.{IfErr, IfSome}
+use Rattle.std.proofs.Common.{◌≡◌, ℕ, List, ◌++◌, Option, None, Some, sym, ap, ◌∙◌, subst, append_assoc}
+use Rattle.std.specs.Prelude.{IfSome}
 use Rattle.std.specs.Io.KnownBytes.{Consumes}
 use Rattle.gr_intake.specs.declared.intake.Intake.{Intake}
 use Rattle.gr_intake.specs.Intakes.{Moves, behind}
@@ -25,13 +25,3 @@ pub at_consumed : (old new : Option (List ℕ)) (bytes : List ℕ) (P : List ℕ
 at_consumed None new bytes P consumes all = tt
 at_consumed (Some xs) None bytes P consumes all = absurd consumes
 at_consumed (Some xs) (Some ys) bytes P consumes all = subst P (sym consumes) (all ys)
-
--- ---- answers
-
-pub if_err : {X Y : Type 0} (P Q : Y → Type 0) (r : Result X Y) → IfErr r P → ((y : Y) → P y → Q y) → IfErr r Q
-if_err P Q (Ok x) p go = tt
-if_err P Q (Err e) p go = go e p
-
-pub if_some : {X : Type 0} (P Q : X → Type 0) (o : Option X) → IfSome o P → ((x : X) → P x → Q x) → IfSome o Q
-if_some P Q None p go = tt
-if_some P Q (Some x) p go = go x p
