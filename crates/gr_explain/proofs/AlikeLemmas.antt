@@ -1,5 +1,5 @@
 -- Accesses of one tag and class, of each item the one with the greatest index.
-use Rattle.std.proofs.Common.{◌≡◌, ◌==◌, eqb, if◌then◌else◌, ◌⊎◌, ℕ, ◌≤◌, Bool, true, false, cond, Contains, List, [], ◌∷◌, ◌++◌, Option, None, Some, arith, map, refl, sym, ap, ◌∙◌, subst, inl, inr, ⊎_elim}
+use Rattle.std.proofs.Common.{◌≡◌, ◌==◌, eqb, if◌then◌else◌, ◌⊎◌, ℕ, ◌≤◌, Bool, true, false, cond, Contains, List, [], ◌∷◌, ◌++◌, Option, None, Some, arith, map, refl, sym, ◌∙◌, inl, inr, ⊎_elim}
 use Rattle.std.specs.List.{find}
 use Rattle.std.specs.Map.{lookup}
 use Rattle.std.specs.Option.{option_eq, unwrap_or}
@@ -46,11 +46,11 @@ none_of_only two c y events (Some g) of same is = none_of_others two c y events 
 -- one more event
 pub only_kept : (only : Option ℕ) (old new : List EventId) (e : EventId) → AreOfOnly only old → ((d : EventId) → Contains new d → Contains (old ++ e ∷ []) d) → AreOfOnly (only_with only e.at.group) new
 only_kept None old new e of each = tt
-only_kept (Some g) old new e of each = by_test (g == e.at.group) refl
-  where
-    by_test : (b : Bool) → (g == e.at.group) ≡ b → AreOfOnly (if b then Some g else None) new
-    by_test true same = λ d there. ⊎_elim (λ was. of d was) (λ (last : e ≡ d). grind (arith, nat_tests, same, last)) (Contains-push_cases old e d (each d there))
-    by_test false same = tt
+only_kept (Some g) old new e of each =
+    elim (g == e.at.group) as (λ b. (g == e.at.group) ≡ b → AreOfOnly (if b then Some g else None) new) [
+      | true ↦ λ same. λ d there. ⊎_elim (λ was. of d was) (λ (last : e ≡ d). grind (arith, nat_tests, same, last)) (Contains-push_cases old e d (each d there))
+      | false ↦ λ _. tt
+    ] refl
 
 -- ---- which event is chosen
 
@@ -62,10 +62,7 @@ module _ (l : AlikeEvents) (y : ClockedAccess) where
   sought two = find (is_sought two l.class y) l.events
 
   pub none_chosen : sought false ≡ None → IsChosen l y None
-  none_chosen none = record {
-    one = tt;
-    whole = λ two e there is. found_none (is_sought false l.class y) l.events e none there (grind (arith, is));
-  }
+  none_chosen none = record { one = tt; whole = λ two e there is. found_none (is_sought false l.class y) l.events e none there (grind (arith, is)) }
 
   module _ (e : EventId) where
     chosen : Contains l.events e → event_clashes l.class y e ≡ true → ((f : EventId) → Contains l.events f → is_sought true l.class y f ≡ true → are_of_groups true e (event_of y) ≡ true) → IsChosen l y (Some e)
@@ -77,20 +74,18 @@ module _ (l : AlikeEvents) (y : ClockedAccess) where
 
     -- one of another group
     pub other_chosen : (two : Bool) → sought two ≡ Some e → are_of_groups true e (event_of y) ≡ true → IsChosen l y (Some e)
-    other_chosen two found other =
-        let is = find_is (is_sought two l.class y) l.events e found in
-        chosen (is.0) (let so = is.1 in grind (arith, so)) (λ f there so. other)
+    other_chosen two found other = let is = find_is (is_sought two l.class y) l.events e found in chosen is.0 (let so = is.1 in grind (arith, so)) (λ f there so. other)
 
     -- one of the access's group, where there is none of another group
     pub same_chosen : sought false ≡ Some e → sought true ≡ None → IsChosen l y (Some e)
     same_chosen found none =
         let is = find_is (is_sought false l.class y) l.events e found in
-        chosen (is.0) (let so = is.1 in grind (arith, so)) (λ f there so. absurd (found_none (is_sought true l.class y) l.events f none there so))
+        chosen is.0 (let so = is.1 in grind (arith, so)) (λ f there so. absurd (found_none (is_sought true l.class y) l.events f none there so))
 
   -- one of another group, or else that
   pub picked : (e f : EventId) (o : Option EventId) → sought false ≡ Some e → sought true ≡ o → f ≡ unwrap_or o e → IsChosen l y (Some f)
-  picked e f None found none is = subst (λ x. IsChosen l y (Some x)) (sym is) (same_chosen e found none)
-  picked e f (Some g) found other is = subst (λ x. IsChosen l y (Some x)) (sym is) (let there = find_is (is_sought true l.class y) l.events g other in let so = there.1 in other_chosen g true other (grind (arith, so)))
+  picked e f None found none is = rw is (same_chosen e found none)
+  picked e f (Some g) found other is = rw is (other_chosen g true other (let so = (find_is (is_sought true l.class y) l.events g other).1 in grind (arith, so)))
 
 -- ---- the greatest index of each item
 
@@ -98,16 +93,13 @@ pub in_place_of_itself : (e : EventId) → IsInPlaceOf e e
 in_place_of_itself e = record { item = refl; index = omega arith }
 
 pub in_place_of_both : (d e f : EventId) → IsInPlaceOf d e → IsInPlaceOf e f → IsInPlaceOf d f
-in_place_of_both d e f p q = let a = p.index in let b = q.index in record { item = p.item ∙ q.item; index = omega arith }
+in_place_of_both d e f p q = record { item = p.item ∙ q.item; index = (let a = p.index in let b = q.index in omega arith) }
 
 abbrev pub events_of : List (ItemId × ℕ) → List EventId
 events_of entries = map entry_event entries
 
 abbrev pub same_key : ItemId → ItemId → Bool
 same_key i j = (equality.eq-value).it i j
-
-same_keys : (i j : ItemId) → same_key i j ≡ true → i ≡ j
-same_keys i j is = same_items i j is
 
 -- an index that may be kept of an item: it is not below the new one and the one that was kept, and is one of them
 record IsGreatest (o : Option ℕ) (n v : ℕ) : Type 0 where
@@ -122,9 +114,9 @@ greatest_is (Some k) n = record { new = grind (arith, nat_tests); old = λ m is.
 -- events behind the same one
 keeps_cons : (x : EventId) (kept all : List EventId) → KeepsEvents kept all → KeepsEvents (x ∷ kept) (x ∷ all)
 keeps_cons x kept all keeps = record {
-  each = λ e there. ⊎_elim (λ is. subst (Contains (x ∷ all)) is (Contains-first x all)) (λ rest. Contains-rest x all e (keeps.each e rest)) (first_or_rest x kept e there);
+  each = λ e there. ⊎_elim (λ is. rw (← is) (Contains-first x all)) (λ rest. Contains-rest x all e (keeps.each e rest)) (first_or_rest x kept e there);
   some = λ e there. ⊎_elim
-      (λ is. (x, Contains-first x kept, subst (IsInPlaceOf x) is (in_place_of_itself x)))
+      (λ is. (x, Contains-first x kept, rw (← is) (in_place_of_itself x)))
       (λ rest. let d = keeps.some e rest in (d.0, Contains-rest x kept d.0 d.1, d.2))
       (first_or_rest x all e there);
 }
@@ -133,12 +125,12 @@ keeps_cons x kept all keeps = record {
 keeps_one : (d e n : EventId) (events : List EventId) → IsInPlaceOf d e → IsInPlaceOf d n → (d ≡ n) ⊎ (d ≡ e) → KeepsEvents (d ∷ events) ((e ∷ events) ++ n ∷ [])
 keeps_one d e n events for_old for_new either = record {
   each = λ f there. ⊎_elim
-      (λ is. ⊎_elim (λ new. subst (Contains ((e ∷ events) ++ n ∷ [])) (sym new ∙ is) (Contains-push (e ∷ events) n)) (λ old. subst (Contains ((e ∷ events) ++ n ∷ [])) (sym old ∙ is) (Contains-first e (events ++ n ∷ []))) either)
+      (λ is. ⊎_elim (λ new. rw (← is, new) (Contains-push (e ∷ events) n)) (λ old. rw (← is, old) (Contains-first e (events ++ n ∷ []))) either)
       (λ rest. Contains-append_left (e ∷ events) (n ∷ []) f (Contains-rest e events f rest))
       (first_or_rest d events f there);
   some = λ f there. ⊎_elim
-      (λ (old : Contains (e ∷ events) f). ⊎_elim (λ is. (d, Contains-first d events, subst (IsInPlaceOf d) is for_old)) (λ rest. (f, Contains-rest d events f rest, in_place_of_itself f)) (first_or_rest e events f old))
-      (λ is. (d, Contains-first d events, subst (IsInPlaceOf d) is for_new))
+      (λ (old : Contains (e ∷ events) f). ⊎_elim (λ is. (d, Contains-first d events, rw (← is) for_old)) (λ rest. (f, Contains-rest d events f rest, in_place_of_itself f)) (first_or_rest e events f old))
+      (λ is. (d, Contains-first d events, rw (← is) for_new))
       (Contains-push_cases (e ∷ events) n f there);
 }
 
@@ -149,25 +141,19 @@ module _ (i : ItemId) (n v : ℕ) where
   kept_in : (entries : List (ItemId × ℕ)) → IsGreatest (lookup (same_key i) entries) n v → KeepsEvents (events_of (insert_entry same_key entries i v)) (events_of entries ++ new ∷ [])
   kept_in [] is =
       let same : n ≡ v = ⊎_elim (λ (new : v ≡ n). sym new) (λ (no : None ≡ Some v). cc) is.either in
-      subst (λ (k : ℕ). KeepsEvents (record { at = i; index = k } ∷ []) (new ∷ [])) same (record { each = λ e there. there; some = λ e there. (e, there, in_place_of_itself e) })
-  kept_in (x ∷ entries) is = by (same_key i x.0) refl (kept_in entries) is
-    where
-      by : (b : Bool) → same_key i x.0 ≡ b
-          → (IsGreatest (lookup (same_key i) entries) n v → KeepsEvents (events_of (insert_entry same_key entries i v)) (events_of entries ++ new ∷ []))
-          → IsGreatest (cond b (Some x.1) (lookup (same_key i) entries)) n v
-          → KeepsEvents (events_of (cond b ((x.0, v) ∷ entries) (x ∷ insert_entry same_key entries i v))) (events_of (x ∷ entries) ++ new ∷ [])
-      by true t rest is =
-          let at : i ≡ x.0 = same_keys i x.0 t in
-          keeps_one (entry_event (x.0, v)) (entry_event x) new (events_of entries) (record { item = refl; index = is.old x.1 refl }) (record { item = sym at; index = is.new })
-          (⊎_elim (λ (same : v ≡ n). inl (λ j. record { at = sym at j; index = same j })) (λ (same : Some x.1 ≡ Some v). let one : x.1 ≡ v = cc in inr (λ j. record { at = x.0; index = sym one j })) is.either)
-      by false f rest is = keeps_cons (entry_event x) (events_of (insert_entry same_key entries i v)) (events_of entries ++ new ∷ []) (rest is)
+      rw (← same) (record { each = λ e there. there; some = λ e there. (e, there, in_place_of_itself e) })
+  kept_in (x ∷ entries) is =
+      elim (same_key i x.0) as (λ b. same_key i x.0 ≡ b → IsGreatest (cond b (Some x.1) (lookup (same_key i) entries)) n v → KeepsEvents (events_of (cond b ((x.0, v) ∷ entries) (x ∷ insert_entry same_key entries i v))) (events_of (x ∷ entries) ++ new ∷ [])) [
+        | true ↦ λ t is.
+            let at : i ≡ x.0 = same_items i x.0 t in
+            keeps_one (entry_event (x.0, v)) (entry_event x) new (events_of entries) (record { item = refl; index = is.old x.1 refl }) (record { item = sym at; index = is.new })
+            (⊎_elim (λ (same : v ≡ n). inl (λ j. record { at = sym at j; index = same j })) (λ (same : Some x.1 ≡ Some v). let one : x.1 ≡ v = cc in inr (λ j. record { at = x.0; index = sym one j })) is.either)
+        | false ↦ λ _ is. keeps_cons (entry_event x) (events_of (insert_entry same_key entries i v)) (events_of entries ++ new ∷ []) (kept_in entries is)
+      ] refl is
 
 -- of the item of an access the greatest index is kept, and of each other item what was
-added : (entries : List (ItemId × ℕ)) (i : ItemId) (n : ℕ) → KeepsEvents (events_of (insert_entry same_key entries i (greatest (lookup (same_key i) entries) n))) (events_of entries ++ record { at = i; index = n } ∷ [])
-added entries i n = kept_in i n (greatest (lookup (same_key i) entries) n) entries (greatest_is (lookup (same_key i) entries) n)
-
 pub inserted : (entries after : List (ItemId × ℕ)) (i : ItemId) (n v : ℕ) → v ≡ greatest (lookup (same_key i) entries) n → after ≡ insert_entry same_key entries i v → KeepsEvents (events_of after) (events_of entries ++ record { at = i; index = n } ∷ [])
-inserted entries after i n v value is = subst (λ (l : List (ItemId × ℕ)). KeepsEvents (events_of l) (events_of entries ++ record { at = i; index = n } ∷ [])) (sym (is ∙ ap (insert_entry same_key entries i) value)) (added entries i n)
+inserted entries after i n v value is = rw (is, value) (kept_in i n (greatest (lookup (same_key i) entries) n) entries (greatest_is (lookup (same_key i) entries) n))
 
 -- ---- clashes
 

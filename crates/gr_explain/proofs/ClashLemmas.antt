@@ -1,5 +1,5 @@
 -- The accesses to a word in a list and those of them that clash, where one more comes.
-use Rattle.std.proofs.Common.{◌≡◌, ◌⊎◌, ◌<◌, true, List, [], ◌∷◌, ◌++◌, length, Some, slice_get, refl, sym, ap, ◌∙◌, subst, inl, inr, ⊎_elim, arith}
+use Rattle.std.proofs.Common.{◌≡◌, ◌⊎◌, ◌<◌, true, List, [], ◌∷◌, ◌++◌, length, Some, slice_get, refl, sym, ap, ◌∙◌, inl, inr, ⊎_elim, arith}
 use Rattle.std.proofs.lemmas.List.{length-append}
 use Rattle.std.proofs.lemmas.List.Elements.{Contains-append_left, Contains-push, Contains-push_cases}
 use Rattle.std.proofs.lemmas.Option.{get_or_from_slice_get, slice_get_within}
@@ -8,7 +8,7 @@ use Rattle.gr_model.specs.declared.event.EventId.{EventId}
 use Rattle.gr_model.specs.declared.event.Word.{Word}
 use Rattle.gr_model.specs.RacePairs.{Pair}
 use Rattle.gr_model.proofs.Places.{Contains-at, slice_get-append}
-use Rattle.gr_shadow.specs.Clashes.{ClockedAccess, IsClashIn, clashes, clashes_with, event_of}
+use Rattle.gr_shadow.specs.Clashes.{ClockedAccess, IsClashIn, clashes_with, event_of}
 use Rattle.gr_explain.specs.ClashPairs.{IsClashPair, IsOfList}
 use Rattle.gr_explain.proofs.Lists.{at_last, last_cases}
 
@@ -47,7 +47,7 @@ module _ (w : Word) (accesses : List ClockedAccess) (y : ClockedAccess) where
         of = record { access = x; there = (p, earlier.0, get_or_from_slice_get accesses p x x earlier.1); word = h.clash.first; event = h.earlier; class = refl };
         word = ap (λ (a : ClockedAccess). a.word) (sym last.1) ∙ h.clash.second;
         event = ap event_of (sym last.1) ∙ h.later;
-        clash = subst (λ (d : EventId). clashes_with d.at d.index x.class y ≡ true) h.earlier (subst (λ (a : ClockedAccess). clashes x a ≡ true) last.1 h.clash.clashes);
+        clash = (let is = h.clash.clashes in grind (arith, last.1, h.earlier, is));
       }))
       (last_cases accesses y q z at_q))
       (λ (last : (p ≡ length accesses) × (x ≡ y)). absurd (omega (arith, lt, last.0, slice_get_within (accesses ++ y ∷ []) q z at_q, length-append accesses (y ∷ []))))
@@ -67,13 +67,5 @@ module _ (accesses : List ClockedAccess) (y : ClockedAccess) (e : EventId) (c : 
     of.there.1,
     slice_get-append accesses (y ∷ []) of.there.0 of.access (Contains-at accesses of.access of.there),
     at_last accesses y,
-    record {
-      clash = record {
-        first = of.word;
-        second = refl;
-        clashes = subst (λ (k : Class). clashes_with of.access.item of.access.index k y ≡ true) (sym of.class) (subst (λ (d : EventId). clashes_with d.at d.index c y ≡ true) (sym of.event) clash);
-      };
-      earlier = of.event;
-      later = refl;
-    },
+    record { clash = record { first = of.word; second = refl; clashes = grind (arith, clash, of.class, of.event) }; earlier = of.event; later = refl },
   )

@@ -7,17 +7,13 @@ use Rattle.gr_model.specs.declared.race.Race.{Race}
 use Rattle.gr_explain.specs.Events.{Has, same_event}
 use Rattle.gr_explain.specs.Accesses.{AreWanted}
 
-module _ (old new : List EventId) (e : EventId) (update : (d : EventId) → list_any (same_event d) new ≡ cond (same_event e d) true (list_any (same_event d) old)) where
-  has_still : (d : EventId) → Has old d → Has new d
-  has_still d has = grind (arith, update d)
-
 -- where both events of a pair are added
 module _ (old mid new : List EventId) (r : Race) (one : (d : EventId) → list_any (same_event d) mid ≡ cond (same_event r.first d) true (list_any (same_event d) old)) (two : (d : EventId) → list_any (same_event d) new ≡ cond (same_event r.second d) true (list_any (same_event d) mid)) where
   pub wanted_still : (q : Race) → AreWanted old q → AreWanted new q
-  wanted_still q wanted = record {
-    first = has_still mid new r.second two q.first (has_still old mid r.first one q.first wanted.first);
-    second = has_still mid new r.second two q.second (has_still old mid r.first one q.second wanted.second);
-  }
+  wanted_still q wanted = record { first = still q.first wanted.first; second = still q.second wanted.second }
+    where
+      still : (d : EventId) → Has old d → Has new d
+      still d has = grind (arith, one d, two d)
 
 pub all_wanted : (old new : List EventId) (races : List Race) (i : ℕ) (r : Race) → i < length races → ((q : Race) → AreWanted old q → AreWanted new q) → AreWanted new (get_or races i r) → All (AreWanted old) (take i races) → All (AreWanted new) (take (i + 1) races)
 all_wanted old new races i r lt still now so_far = All-more (AreWanted new) races i r lt (All-weaker (AreWanted old) (AreWanted new) still (take i races) so_far) now

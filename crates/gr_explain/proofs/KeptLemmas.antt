@@ -1,5 +1,6 @@
 -- What is kept of the wanted events, where one more access comes, and along all grounded events.
-use Rattle.std.proofs.Common.{◌≡◌, ◌≢◌, ◌⊎◌, Bool, true, false, cond, Contains, List, [], ◌∷◌, ◌++◌, Option, Some, None, slice_get, refl, sym, ap, ◌∙◌, subst, arith, inl, inr, ⊎_elim, true≢false, zero, suc, ℕ}
+use Rattle.std.proofs.Common.{◌≡◌, ◌≢◌, ◌⊎◌, true, false, cond, Contains, List, [], ◌∷◌, ◌++◌, Option, Some, None, slice_get, sym, ap, ◌∙◌, subst, arith, inl, inr, ⊎_elim, zero, suc, ℕ}
+use Rattle.std.proofs.lemmas.Bool.{cases_Bool}
 use Rattle.std.proofs.lemmas.List.Elements.{Contains-append_left, Contains-push, Contains-push_cases}
 use Rattle.gr_model.specs.declared.event.EventId.{EventId}
 use Rattle.gr_model.specs.LawfulOrders.{IsIn, IsWholeOrder}
@@ -33,15 +34,10 @@ module _ {Z : Type 0} (wanted : List EventId) (accesses : List ClockedAccess) (a
 
   -- its event is wanted, and it is kept
   pub wanted_added : ((d : EventId) → access_at new d ≡ cond (same_event (event_of (clocked a)) d) (Some a) (access_at old d)) → AreThoseOf wanted accesses old → AreThoseOf wanted (accesses ++ clocked a ∷ []) new
-  wanted_added update those d has = by_test (same_event (event_of (clocked a)) d) refl
-    where
-      by_test : (b : Bool) → same_event (event_of (clocked a)) d ≡ b → IsThatOf (accesses ++ clocked a ∷ []) d (access_at new d)
-      by_test true t =
-          let here : access_at new d ≡ Some a = update d ∙ ap (λ b. cond b (Some a) (access_at old d)) t in
-          subst (IsThatOf (accesses ++ clocked a ∷ []) d) (sym here) (Contains-push accesses (clocked a), event_from_equal (event_of (clocked a)) d t)
-      by_test false f =
-          other_stays d (λ same. true≢false (sym (subst (λ (e : EventId). same_event (event_of (clocked a)) e ≡ true) same (event_itself (event_of (clocked a)))) ∙ f))
-          (update d ∙ ap (λ b. cond b (Some a) (access_at old d)) f) (those d has)
+  wanted_added update those d has = ⊎_elim
+      (λ (is : same_event (event_of (clocked a)) d ≡ true). rw (update d, is) (Contains-push accesses (clocked a), event_from_equal (event_of (clocked a)) d is))
+      (λ (fails : same_event (event_of (clocked a)) d ≡ false). other_stays d (λ same. grind (arith, event_itself)) (grind (arith, update d)) (those d has))
+      (cases_Bool (same_event (event_of (clocked a)) d))
 
   -- its event is not wanted, and nothing changes
   pub unwanted_added : ¬ Has wanted (event_of (clocked a)) → new ≡ old → AreThoseOf wanted accesses old → AreThoseOf wanted (accesses ++ clocked a ∷ []) new
@@ -65,39 +61,24 @@ module _ (s : Streams) where
 
   -- an event of the order has its access, unless it has no word
   pub access_there : (order : List EventId) (accesses : List ClockedAccess) (p : ℕ) (d : EventId) → AreAccesses s order accesses → slice_get order p ≡ Some d → (word_at s d ≡ None) ⊎ ((x : ClockedAccess) × Contains accesses x × (event_of x ≡ d))
-  access_there _ _ p d of_none at = let no : None ≡ Some d = at in cc
+  access_there _ _ p d of_none at = cc
   access_there _ _ zero d (of_access {e = e} {x = x} {order = order} {accesses = accesses} of_e rest) at =
-      let h : Some e ≡ Some d = at in
       let same : e ≡ d = cc in
       inr (x, Contains-first x accesses, from_parts (event_of x) e of_e.item of_e.index ∙ same)
-  access_there _ _ (suc p) d (of_access {e = e} {x = x} {order = order} {accesses = accesses} of_e rest) at = ⊎_elim
-      (λ (none : word_at s d ≡ None). inl none)
-      (λ (h : (y : ClockedAccess) × Contains accesses y × (event_of y ≡ d)). inr (h.0, Contains-rest x accesses h.0 h.1, h.2))
-      (access_there order accesses p d rest at)
-  access_there _ _ zero d (of_other {e = e} {order = order} {accesses = accesses} none rest) at = let h : Some e ≡ Some d = at in let same : e ≡ d = cc in inl (subst (λ (f : EventId). word_at s f ≡ None) same none)
+  access_there _ _ (suc p) d (of_access {e = e} {x = x} {order = order} {accesses = accesses} of_e rest) at = ⊎_elim (λ none. inl none) (λ h. inr (h.0, Contains-rest x accesses h.0 h.1, h.2)) (access_there order accesses p d rest at)
+  access_there _ _ zero d (of_other {e = e} {order = order} {accesses = accesses} none rest) at = let same : e ≡ d = cc in inl (rw (← same) none)
   access_there _ _ (suc p) d (of_other {e = e} {order = order} {accesses = accesses} none rest) at = access_there order accesses p d rest at
 
 -- an access tells the same with its allocator
 full_access : {Z : Type 0} (s : Streams) (e : EventId) (a : Access Z) → IsAccess s e (bare (clocked a)) → IsAccess s e a
-full_access s e a of_e = record {
-  word = of_e.word;
-  item = of_e.item;
-  index = of_e.index;
-  event = of_e.event;
-  at_event = of_e.at_event;
-  class = of_e.class;
-  counts = of_e.counts;
-}
+full_access s e a of_e = record { word = of_e.word; item = of_e.item; index = of_e.index; event = of_e.event; at_event = of_e.at_event; class = of_e.class; counts = of_e.counts }
 
 -- along all grounded events, what is kept of a wanted event is its access
 module _ {Z : Type 0} (s : Streams) (wanted : List EventId) (kept : List (EventId × Access Z)) (order : List EventId) (whole : IsWholeOrder s order) (accesses : List ClockedAccess) (are : AreAccesses s order accesses) where
   kept_of : (d : EventId) (o : Option (Access Z)) → IsThatOf accesses d o → IsKept s d o
   kept_of d None none = λ grounded.
       let there = whole.whole d grounded in
-      ⊎_elim
-      (λ (no_word : word_at s d ≡ None). no_word)
-      (λ (h : (x : ClockedAccess) × Contains accesses x × (event_of x ≡ d)). absurd (none h.0 h.1 h.2))
-      (access_there s order accesses there.0 d are there.1)
+      ⊎_elim (λ no_word. no_word) (λ h. absurd (none h.0 h.1 h.2)) (access_there s order accesses there.0 d are there.1)
   kept_of d (Some a) that =
       let h = event_there s order accesses (clocked a) are that.0 in
       let there : IsIn order d = subst (IsIn order) that.1 h.0 in

@@ -1,12 +1,11 @@
 -- The racing pairs of a word, and the clashes of the accesses along a lawful order of all grounded events.
-use Rattle.std.proofs.Common.{◌≡◌, ◌⊎◌, ◌<◌, Contains, List, slice_get, Option, Some, None, MatchOption, sym, ap, ◌∙◌, subst, inl, inr, refl, ⊎_elim}
+use Rattle.std.proofs.Common.{arith, ◌≡◌, ◌<◌, Contains, List, Option, Some, None, MatchOption, sym, ap, ◌∙◌, inl, inr, refl, ⊎_elim}
 use Rattle.std.proofs.lemmas.Bool.{cases_order}
 use Rattle.gr_model.specs.declared.event.EventId.{EventId}
 use Rattle.gr_model.specs.declared.event.Word.{Word}
 use Rattle.gr_model.specs.LawfulOrders.{IsWholeOrder}
 use Rattle.gr_model.specs.RacePairs.{IsRacePair, Pair}
 use Rattle.gr_model.specs.Races.{IsRacy, RacesInOrder}
-use Rattle.gr_model.specs.Reports.{EventBelow}
 use Rattle.gr_model.specs.Streams.{Streams, word_at}
 use Rattle.gr_model.specs.Waits.{IsGrounded}
 use Rattle.gr_model.proofs.HitsAreRaces.{may_race_swaps}
@@ -34,23 +33,11 @@ module _ (s : Streams) (w : Word) (order : List EventId) (accesses : List Clocke
   its_access : (e : EventId) → IsGrounded s e → word_at s e ≡ Some w → HasAccess e
   its_access e grounded word =
       let p = whole.whole e grounded in
-      ⊎_elim
-      (λ (none : word_at s e ≡ None). absurd (let no : None ≡ Some w = sym none ∙ word in cc))
-      (λ (x : (a : ClockedAccess) × Contains accesses a × (event_of a ≡ e)). record { access = x.0; there = x.1; event = x.2; is = subst (λ (d : EventId). IsAccess s d (bare x.0)) x.2 (event_there s order accesses x.0 are x.1).1 })
-      (access_there s order accesses p.0 e are p.1)
+      ⊎_elim (λ (none : word_at s e ≡ None). cc) (λ x. record { access = x.0; there = x.1; event = x.2; is = rw x.2 at (event_there s order accesses x.0 are x.1).1 }) (access_there s order accesses p.0 e are p.1)
 
   -- the later one of two accesses clashes with the earlier one if their events do
   clashes : (e f : EventId) (x : HasAccess e) (y : HasAccess f) → RacesInOrder s w e f → x.there.0 < y.there.0 → IsClashIn accesses w e f
-  clashes e f x y race lt = (
-    x.there.0,
-    y.there.0,
-    x.access,
-    y.access,
-    lt,
-    Contains-at accesses x.access x.there,
-    Contains-at accesses y.access y.there,
-    record { clash = clash_is_hit s w e f x.access y.access x.is y.is race; earlier = x.event; later = y.event },
-  )
+  clashes e f x y race lt = (x.there.0, y.there.0, x.access, y.access, lt, Contains-at accesses x.access x.there, Contains-at accesses y.access y.there, record { clash = clash_is_hit s w e f x.access y.access x.is y.is race; earlier = x.event; later = y.event })
 
   pub race_is_clash : (pair : Pair) → IsRacePair s w pair → IsClashPair w accesses pair
   race_is_clash (e, f) is =
@@ -59,8 +46,7 @@ module _ (s : Streams) (w : Word) (order : List EventId) (accesses : List Clocke
       let y = its_access f is.second race.may_race.word_second in
       ⊎_elim
       (λ (same : x.there.0 ≡ y.there.0).
-      let one : Some x.access ≡ Some y.access = sym (Contains-at accesses x.access x.there) ∙ (ap (slice_get accesses) same ∙ Contains-at accesses y.access y.there) in
-      let access : x.access ≡ y.access = cc in
+      let access : x.access ≡ y.access = grind (arith, Contains-at accesses x.access x.there, Contains-at accesses y.access y.there) in
       absurd (race.may_race.others (ap (λ (d : EventId). d.at) (sym x.event ∙ (ap event_of access ∙ y.event)))))
       (⊎_elim
       (λ lt. record { earlier = e; later = f; clash = clashes e f x y (record { may_race = race.may_race; not_before = race.not_before }) lt; turned = inl refl; below = is.below })
@@ -78,16 +64,10 @@ module _ (s : Streams) (w : Word) (order : List EventId) (accesses : List Clocke
 
 -- a word that has a racing pair is racy, and else it is not
 pub not_racy : (s : Streams) (w : Word) → ((pair : Pair) → ¬ IsRacePair s w pair) → ¬ IsRacy s (IsGrounded s) w
-not_racy s w none racy =
-    let e = racy.0 in
-    let f = racy.1 in
-    let race = racy.4 in
-    by_order (either_way e f)
-  where
-    by_order : EventBelow racy.0 racy.1 ⊎ EventBelow racy.1 racy.0 ⊎ (racy.0 ≡ racy.1) → ⊥
-    by_order (inl below) = none (racy.0, racy.1) (record { below = below; first = racy.2; second = racy.3; race = racy.4 })
-    by_order (inr (inl below)) = none (racy.1, racy.0) (record { below = below; first = racy.3; second = racy.2; race = race_swap s w racy.0 racy.1 racy.4 })
-    by_order (inr (inr same)) = racy.4.may_race.others (ap (λ x. x.at) same)
+not_racy s w none (e, f, of_e, of_f, race) = ⊎_elim
+    (λ below. none (e, f) (record { below = below; first = of_e; second = of_f; race = race }))
+    (λ other. ⊎_elim (λ below. none (f, e) (record { below = below; first = of_f; second = of_e; race = race_swap s w e f race })) (λ same. race.may_race.others (ap (λ x. x.at) same)) other)
+    (either_way e f)
 
 pub least_or_none : (s : Streams) (w : Word) (o : Option Pair) → IsLeastOf (IsRacePair s w) o → MatchOption o (¬ IsRacy s (IsGrounded s) w) (λ pair. IsLeastRace s w pair)
 least_or_none s w None none = not_racy s w none

@@ -1,11 +1,11 @@
 -- The accesses to a word that a search stands for, where one more comes.
-use Rattle.std.proofs.Common.{◌≡◌, ◌≢◌, ◌⊎◌, ◌↔◌, true, false, Contains, ℕ, ◌<◌, List, [], ◌∷◌, ◌++◌, length, get_or, slice_set, Some, refl, sym, ap, ◌∙◌, subst, inl, inr, ⊎_elim}
+use Rattle.std.proofs.Common.{arith, ◌≡◌, ◌≢◌, ◌⊎◌, ◌↔◌, true, false, Contains, ℕ, ◌<◌, List, [], ◌∷◌, ◌++◌, length, get_or, slice_set, Some, refl, sym, ap, ◌∙◌, inl, inr, ⊎_elim}
 use Rattle.std.proofs.lemmas.List.Elements.{Contains-append_left, Contains-push, Contains-push_cases}
 use Rattle.gr_model.specs.declared.event.EventId.{EventId}
 use Rattle.gr_model.specs.declared.event.Word.{Word}
-use Rattle.gr_model.specs.RacePairs.{IsTurned, Pair}
+use Rattle.gr_model.specs.RacePairs.{Pair}
 use Rattle.gr_model.specs.declared.class.Class.{Class}
-use Rattle.gr_shadow.specs.Clashes.{ClockedAccess, clashes_with, event_of}
+use Rattle.gr_shadow.specs.Clashes.{ClockedAccess, event_of}
 use Rattle.gr_explain.specs.ClashPairs.{IsClashPair}
 use Rattle.gr_explain.specs.LeastRaces.{IsLeastOf}
 use Rattle.gr_explain.specs.Search.{IsAdded, IsPairOf, IsSeen, IsSeenMore, StandsFor}
@@ -23,16 +23,13 @@ put_in old new before after event class is among has seen_before was still e c =
   λ (seen : IsSeen new e c). ⊎_elim
       (λ (here : after ≡ seen.list).
       let class_is : class ≡ c = sym is ∙ (ap (λ (l : SeenList). l.class) here ∙ seen.class) in
-      ⊎_elim
-      (λ (now : e ≡ event). inl (now, sym class_is))
-      (λ earlier. inr (subst (IsSeen old e) class_is (seen_before e earlier)))
-      ((among e).0 (subst (λ (l : SeenList). IsAmong l.events e) (sym here) seen.among)))
+      ⊎_elim (λ now. inl (now, sym class_is)) (λ earlier. inr (rw class_is at (seen_before e earlier))) ((among e).0 (rw (← here) at seen.among)))
       (λ there. inr (record { list = seen.list; there = there; class = seen.class; among = seen.among }))
       (was seen.list seen.there),
   ⊎_elim
-      (λ (now : (e ≡ event) × (c ≡ class)). record { list = after; there = has; class = is ∙ sym now.1; among = (among e).1 (inl now.0) })
+      (λ now. record { list = after; there = has; class = is ∙ sym now.1; among = (among e).1 (inl now.0) })
       (λ (seen : IsSeen old e c). ⊎_elim
-      (λ (here : (seen.list.class ≡ class) × (before ≡ seen.list.events)). record { list = after; there = has; class = is ∙ (sym here.0 ∙ seen.class); among = (among e).1 (inr (subst (λ (l : List EventId). IsAmong l e) (sym here.1) seen.among)) })
+      (λ here. record { list = after; there = has; class = is ∙ (sym here.0 ∙ seen.class); among = (among e).1 (inr (rw here.1 seen.among)) })
       (λ there. record { list = seen.list; there = there; class = seen.class; among = seen.among })
       (still seen.list seen.there)),
 )
@@ -41,20 +38,14 @@ put_in old new before after event class is among has seen_before was still e c =
 pub put_in_list : (classes : List SeenList) (place : ℕ) (before after : SeenList) (event : EventId) (class : Class) → place < length classes → before ≡ get_or classes place before → after.class ≡ class → after.class ≡ before.class → ((e : EventId) → IsAmong after.events e ↔ ((e ≡ event) ⊎ IsAmong before.events e)) → IsSeenMore classes event class (slice_set classes place after)
 put_in_list classes place before after event class lt is_before is same among =
     put_in classes (slice_set classes place after) before.events after event class is among (set_has classes place after lt)
-    (λ e was. record { list = before; there = (place, lt, sym is_before); class = sym same ∙ is; among = was })
-    (set_was classes place after)
-    (λ l there. ⊎_elim
-    (λ (here : get_or classes place before ≡ l). let list : before ≡ l = is_before ∙ here in inl (sym (ap (λ (k : SeenList). k.class) list) ∙ (sym same ∙ is), ap (λ (k : SeenList). k.events) list))
-    (λ still. inr still)
-    (set_still classes place after before l there))
+    (λ e was. record { list = before; there = (place, lt, sym is_before); class = sym same ∙ is; among = was }) (set_was classes place after)
+    (λ l there. grind (arith, set_still classes place after before l there))
 
 -- where a list of its class is new
 pub put_behind : (classes : List SeenList) (after : SeenList) (event : EventId) (class : Class) → after.class ≡ class → ((e : EventId) → IsAmong after.events e ↔ ((e ≡ event) ⊎ IsAmong [] e)) → IsSeenMore classes event class (classes ++ after ∷ [])
 put_behind classes after event class is among =
-    put_in classes (classes ++ after ∷ []) [] after event class is among (Contains-push classes after)
-    (λ e none. absurd (let no : false ≡ true = none in cc))
-    (λ l there. ⊎_elim (λ was. inr was) (λ here. inl here) (Contains-push_cases classes after l there))
-    (λ l there. inr (Contains-append_left classes (after ∷ []) l there))
+    put_in classes (classes ++ after ∷ []) [] after event class is among (Contains-push classes after) (λ e none. absurd (let no : false ≡ true = none in cc))
+    (λ l there. grind (arith, Contains-push_cases classes after l there)) (λ l there. inr (Contains-append_left classes (after ∷ []) l there))
 
 -- ---- the pairs of a later access with those of the first lists
 
@@ -66,7 +57,7 @@ module _ (classes : List SeenList) (d : SeenList) (y : ClockedAccess) (pair : Pa
   pub pairs_before : IsPairOf (classes ++ d ∷ []) y pair → IsPairOf classes y pair ⊎ IsPairWith d y pair
   pairs_before of = ⊎_elim
       (λ was. inl (record { list = of.list; there = was; pair_with = of.pair_with }))
-      (λ (last : d ≡ of.list). inr (subst (λ (l : SeenList). IsPairWith l y pair) (sym last) of.pair_with))
+      (λ (last : d ≡ of.list). inr (rw last of.pair_with))
       (Contains-push_cases classes d of.list of.there)
 
 -- ---- one more access
@@ -74,34 +65,22 @@ module _ (classes : List SeenList) (d : SeenList) (y : ClockedAccess) (pair : Pa
 -- an access to another word changes nothing
 other_stands : {Z : Type 0} (w : Word) (accesses : List ClockedAccess) (y : ClockedAccess) → y.word ≢ w → (search : Search Z) → StandsFor w accesses search → StandsFor w (accesses ++ y ∷ []) search
 other_stands w accesses y other search stands = record {
-  seen = λ e c. (
-    λ seen. still_of w accesses y e c ((stands.seen e c).0 seen),
-    λ of. (stands.seen e c).1 (⊎_elim (λ was. was) (λ last. absurd (other last.0)) (of_cases w accesses y e c of)),
-  );
-  least = least_same (IsClashPair w accesses) (IsClashPair w (accesses ++ y ∷ [])) search.least
-      (still_pair w accesses y)
-      (λ pair is. record {
-        earlier = is.earlier;
-        later = is.later;
-        clash = ⊎_elim (λ was. was) (λ new. absurd (other new.word)) (clash_was w accesses y is.earlier is.later is.clash);
-        turned = is.turned;
-        below = is.below;
-      })
+  seen = λ e c. (λ seen. still_of w accesses y e c ((stands.seen e c).0 seen), λ of. (stands.seen e c).1 (⊎_elim (λ was. was) (λ last. absurd (other last.0)) (of_cases w accesses y e c of)));
+  least = least_same (IsClashPair w accesses) (IsClashPair w (accesses ++ y ∷ [])) search.least (still_pair w accesses y)
+      (λ pair is. record { earlier = is.earlier; later = is.later; clash = ⊎_elim (λ was. was) (λ new. absurd (other new.word)) (clash_was w accesses y is.earlier is.later is.clash); turned = is.turned; below = is.below })
       stands.least;
 }
 
 module _ (accesses : List ClockedAccess) (y : ClockedAccess) {Z : Type 0} (old : Search Z) (stands : StandsFor y.word accesses old) where
   -- the pair of the access with one of before is a clash
   pair_is_clash : (pair : Pair) → IsPairOf old.classes.items y pair → IsClashPair y.word (accesses ++ y ∷ []) pair
-  pair_is_clash pair of =
-      let e = of.pair_with.earlier in
-      record {
-        earlier = e;
-        later = event_of y;
-        clash = clash_added accesses y e of.list.class ((stands.seen e of.list.class).0 (record { list = of.list; there = of.there; class = refl; among = of.pair_with.clashing.among })) of.pair_with.clashing.clash;
-        turned = of.pair_with.turned;
-        below = of.pair_with.below;
-      }
+  pair_is_clash pair of = record {
+    earlier = of.pair_with.earlier;
+    later = event_of y;
+    clash = clash_added accesses y of.pair_with.earlier of.list.class ((stands.seen of.pair_with.earlier of.list.class).0 (record { list = of.list; there = of.there; class = refl; among = of.pair_with.clashing.among })) of.pair_with.clashing.clash;
+    turned = of.pair_with.turned;
+    below = of.pair_with.below;
+  }
 
   -- a clash is one of before, or the pair of the access with one of before
   clash_cases : (pair : Pair) → IsClashPair y.word (accesses ++ y ∷ []) pair → IsClashPair y.word accesses pair ⊎ IsPairOf old.classes.items y pair
@@ -109,40 +88,23 @@ module _ (accesses : List ClockedAccess) (y : ClockedAccess) {Z : Type 0} (old :
       (λ was. inl (record { earlier = is.earlier; later = is.later; clash = was; turned = is.turned; below = is.below }))
       (λ new.
       let seen = (stands.seen is.earlier new.class).1 new.of in
-      inr (record {
-        list = seen.list;
-        there = seen.there;
-        pair_with = record {
-          earlier = is.earlier;
-          clashing = record { among = seen.among; clash = subst (λ (c : Class). clashes_with is.earlier.at is.earlier.index c y ≡ true) (sym seen.class) new.clash };
-          turned = subst (λ (f : EventId). IsTurned is.earlier f pair) (sym new.event) is.turned;
-          below = is.below;
-        };
-      }))
+      let clash = new.clash in
+      inr (record { list = seen.list; there = seen.there; pair_with = record { earlier = is.earlier; clashing = record { among = seen.among; clash = rw seen.class clash }; turned = rw new.event is.turned; below = is.below } }))
       (clash_was y.word accesses y is.earlier is.later is.clash)
 
   pub access_stands : (new : Search Z) → IsLeastOf (λ p. (old.least ≡ Some p) ⊎ IsPairOf old.classes.items y p) new.least → IsSeenMore old.classes.items (event_of y) y.class new.classes.items → StandsFor y.word (accesses ++ y ∷ []) new
   access_stands new least more = record {
     seen = λ e c. (
-      λ seen. ⊎_elim
-          (λ (here : (e ≡ event_of y) × (c ≡ y.class)). new_is_of accesses y e c (sym here.0) (sym here.1))
-          (λ was. still_of y.word accesses y e c ((stands.seen e c).0 was))
-          ((more e c).0 seen),
-      λ of. (more e c).1 (⊎_elim
-          (λ was. inr ((stands.seen e c).1 was))
-          (λ last. inl (sym last.1, sym last.2))
-          (of_cases y.word accesses y e c of)),
+      λ seen. ⊎_elim (λ here. new_is_of accesses y e c (sym here.0) (sym here.1)) (λ was. still_of y.word accesses y e c ((stands.seen e c).0 was)) ((more e c).0 seen),
+      λ of. (more e c).1 (⊎_elim (λ was. inr ((stands.seen e c).1 was)) (λ last. inl (sym last.1, sym last.2)) (of_cases y.word accesses y e c of)),
     );
     least =
         least_same (λ p. IsClashPair y.word accesses p ⊎ IsPairOf old.classes.items y p) (IsClashPair y.word (accesses ++ y ∷ [])) new.least
-        (λ p h. ⊎_elim (still_pair y.word accesses y p) (pair_is_clash p) h)
-        clash_cases
+        (λ p h. ⊎_elim (still_pair y.word accesses y p) (pair_is_clash p) h) clash_cases
         (least_then (IsClashPair y.word accesses) (IsPairOf old.classes.items y) old.least new.least stands.least least);
   }
 
 -- an access that comes stands, whether it is of the word or of another one
 pub access_added : {Z : Type 0} (w : Word) (y : ClockedAccess) (old new : Search Z) → ((y.word ≡ w) × IsAdded y old new) ⊎ ((y.word ≢ w) × (new ≡ old)) → (accesses : List ClockedAccess) → StandsFor w accesses old → StandsFor w (accesses ++ y ∷ []) new
-access_added w y old new (inl (same, added)) accesses stands =
-    subst (λ (v : Word). StandsFor v (accesses ++ y ∷ []) new) same (added accesses (subst (λ (v : Word). StandsFor v accesses old) (sym same) stands))
-access_added {Z} w y old new (inr (other, is)) accesses stands =
-    subst (λ (search : Search Z). StandsFor w (accesses ++ y ∷ []) search) (sym is) (other_stands w accesses y other old stands)
+access_added w y old new (inl (same, added)) accesses stands = rw (← same) (added accesses (rw same stands))
+access_added w y old new (inr (other, is)) accesses stands = rw is (other_stands w accesses y other old stands)

@@ -1,5 +1,5 @@
 -- The pairs of a later access with the accesses of some items.
-use Rattle.std.proofs.Common.{◌≡◌, ◌≢◌, ◌⊎◌, ◌≤◌, IsTrue, List, [], ◌∷◌, ◌++◌, Option, Some, None, refl, sym, ap, ◌∙◌, subst, inl, inr, ⊎_elim, arith, true≢false}
+use Rattle.std.proofs.Common.{◌≡◌, ◌≢◌, ◌⊎◌, ◌≤◌, IsTrue, List, [], ◌∷◌, ◌++◌, Option, Some, None, sym, ap, ◌∙◌, inl, inr, ⊎_elim, arith, true≢false}
 use Rattle.std.specs.BTreeMap.{is_at}
 use Rattle.std.proofs.lemmas.Bool.Decides.{nat_tests}
 use Rattle.std.proofs.lemmas.List.Folds.{list_any-append}
@@ -111,18 +111,13 @@ pair_not_below e f pair least turned above_e above_f below = grind arith
 -- so the least pair of those with the items before an item is the least of all
 module _ (seen : SeenList) (y : ClockedAccess) (before : List ItemId) (i : ItemId) (items : List ItemId) (have : HaveItems (before ++ i ∷ items) seen.events) (sorted : IsStrictlySortedBy (item_order.cmp-value).it (before ++ i ∷ items)) (old : Option Pair) where
   pub least_passed : (least : Option Pair) → IsPassed least i (event_of y) → IsLeastOf (λ p. (old ≡ Some p) ⊎ IsPairOn seen y before p) least → IsLeastOf (λ p. (old ≡ Some p) ⊎ IsPairWith seen y p) least
-  least_passed least passed is = by_least least refl is
-    where
-      by_least : (o : Option Pair) → least ≡ o → IsLeastOf (λ p. (old ≡ Some p) ⊎ IsPairOn seen y before p) o → IsLeastOf (λ p. (old ≡ Some p) ⊎ IsPairWith seen y p) o
-      by_least None none h = absurd (let no : Some passed.pair ≡ None = sym passed.least_is ∙ none in cc)
-      by_least (Some l) some h = (
-        ⊎_elim (λ a. inl a) (λ (b : IsPairOn seen y before l). inr b.pair_with) h.0,
-        λ p d. ⊎_elim (λ a. h.1 p (inl a)) (λ (with : IsPairWith seen y p). ⊎_elim
-            (λ was. h.1 p (inr (record { pair_with = with; item = was })))
-            (λ later.
-            let same : l ≡ passed.pair = let both : Some l ≡ Some passed.pair = sym some ∙ passed.least_is in cc in
-            let first : IsItemBelow l.0.at i = subst (λ (q : Pair). IsItemBelow q.0.at i) (sym same) passed.item_below in
-            let event : EventBelow l.0 (event_of y) = subst (λ (q : Pair). EventBelow q.0 (event_of y)) (sym same) passed.event_below in
-            pair_not_below with.earlier (event_of y) p l with.turned (event_below_item l.0 with.earlier (still_below l.0.at i with.earlier.at first later)) event)
-            (later_item before i items with.earlier.at sorted (have with.earlier with.clashing.among))) d,
-      )
+  least_passed None passed h = absurd (let none = passed.least_is in cc)
+  least_passed (Some l) passed h = (
+    ⊎_elim (λ a. inl a) (λ (b : IsPairOn seen y before l). inr b.pair_with) h.0,
+    λ p d. ⊎_elim (λ a. h.1 p (inl a)) (λ (with : IsPairWith seen y p). ⊎_elim
+        (λ was. h.1 p (inr (record { pair_with = with; item = was })))
+        (λ later.
+        let same : passed.pair ≡ l = let is = passed.least_is in cc in
+        pair_not_below with.earlier (event_of y) p l with.turned (event_below_item l.0 with.earlier (still_below l.0.at i with.earlier.at (rw same at passed.item_below) later)) (rw same at passed.event_below))
+        (later_item before i items with.earlier.at sorted (have with.earlier with.clashing.among))) d,
+  )

@@ -8,7 +8,6 @@ use Rattle.std.proofs.lemmas.List.Folds.{list_any-append, list_any_at}
 use Rattle.std.proofs.lemmas.List.Quantifiers.{all_pairs_push}
 use Rattle.gr_model.specs.declared.event.EventId.{EventId}
 use Rattle.gr_model.specs.declared.event.Word.{Word}
-use Rattle.gr_model.specs.RacePairs.{HasTags, IsTurned}
 use Rattle.gr_model.specs.declared.class.Class.{Class}
 use Rattle.gr_clocks.proofs.RowLemmas.{same_item_self}
 use Rattle.gr_shadow.specs.Clashes.{ClockedAccess, event_of}
@@ -144,16 +143,15 @@ keeps_in old new before after tag y tag_is class_is keeps has kept_before was st
       let same_tag : tag ≡ t = sym tag_is ∙ (ap (λ (l : AlikeEvents). l.tag) here ∙ kept.tag_is) in
       let same_class : y.class ≡ c = sym class_is ∙ (ap (λ (l : AlikeEvents). l.class) here ∙ kept.class_is) in
       ⊎_elim
-      (λ (earlier : Contains before e). inr (subst (λ (a : ℕ). IsKeptIn old a c e) same_tag (subst (λ (d : Class). IsKeptIn old tag d e) same_class (kept_before e earlier))))
+      (λ (earlier : Contains before e). inr (rw (← same_tag, ← same_class) (kept_before e earlier)))
       (λ (last : event_of y ≡ e). inl (record { tag_is = sym same_tag; class_is = sym same_class; event_is = sym last }))
-      (Contains-push_cases before (event_of y) e (keeps.each e (subst (λ (l : AlikeEvents). Contains l.events e) (sym here) kept.event))))
+      (Contains-push_cases before (event_of y) e (keeps.each e (rw here kept.event))))
       (λ there. inr (record { list = kept.list; there = there; tag_is = kept.tag_is; class_is = kept.class_is; event = kept.event }))
       (was kept.list kept.there);
   some = λ t c e. ⊎_elim
-      (λ (that : IsThat y tag t c e). now t c e that.tag_is that.class_is (subst (Contains (before ++ event_of y ∷ [])) (sym that.event_is) (Contains-push before (event_of y))))
+      (λ (that : IsThat y tag t c e). now t c e that.tag_is that.class_is (rw that.event_is (Contains-push before (event_of y))))
       (λ (kept : IsKeptIn old t c e). ⊎_elim
-      (λ (here : (kept.list.tag ≡ tag) × (kept.list.class ≡ y.class) × (before ≡ kept.list.events)).
-      now t c e (sym kept.tag_is ∙ here.0) (sym kept.class_is ∙ here.1) (Contains-append_left before (event_of y ∷ []) e (subst (λ (l : List EventId). Contains l e) (sym here.2) kept.event)))
+      (λ here. now t c e (sym kept.tag_is ∙ here.0) (sym kept.class_is ∙ here.1) (Contains-append_left before (event_of y ∷ []) e (rw here.2 kept.event)))
       (λ there. (e, record { list = kept.list; there = there; tag_is = kept.tag_is; class_is = kept.class_is; event = kept.event }, in_place_of_itself e))
       (still kept.list kept.there));
 }
@@ -167,20 +165,14 @@ keeps_in old new before after tag y tag_is class_is keeps has kept_before was st
 pub keeps_set : (lists : List AlikeEvents) (place : ℕ) (before after : AlikeEvents) (tag : ℕ) (y : ClockedAccess) → place < length lists → before ≡ get_or lists place before → before.tag ≡ tag → before.class ≡ y.class → after.tag ≡ before.tag → after.class ≡ before.class → KeepsEvents after.events (before.events ++ event_of y ∷ []) → KeepsMore lists tag y (slice_set lists place after)
 keeps_set lists place before after tag y lt is of_tag of_class same_tag same_class keeps =
     keeps_in lists (slice_set lists place after) before.events after tag y (same_tag ∙ of_tag) (same_class ∙ of_class) keeps (set_has lists place after lt)
-    (λ e was. record { list = before; there = (place, lt, sym is); tag_is = of_tag; class_is = of_class; event = was })
-    (set_was lists place after)
-    (λ l there. ⊎_elim
-    (λ (here : get_or lists place before ≡ l). let list : before ≡ l = is ∙ here in inl (subst (λ (k : AlikeEvents). (k.tag ≡ tag) × (k.class ≡ y.class) × (before.events ≡ k.events)) list (of_tag, of_class, refl)))
-    (λ still. inr still)
-    (set_still lists place after before l there))
+    (λ e was. record { list = before; there = (place, lt, sym is); tag_is = of_tag; class_is = of_class; event = was }) (set_was lists place after)
+    (λ l there. grind (arith, set_still lists place after before l there))
 
 -- where it is a new one
 pub keeps_push : (lists : List AlikeEvents) (after : AlikeEvents) (tag : ℕ) (y : ClockedAccess) → after.tag ≡ tag → after.class ≡ y.class → KeepsEvents after.events ([] ++ event_of y ∷ []) → KeepsMore lists tag y (lists ++ after ∷ [])
 keeps_push lists after tag y of_tag of_class keeps =
-    keeps_in lists (lists ++ after ∷ []) [] after tag y of_tag of_class keeps (Contains-push lists after)
-    (λ e none. absurd (omega (arith, none.1)))
-    (λ l there. ⊎_elim (λ was. inr was) (λ here. inl here) (Contains-push_cases lists after l there))
-    (λ l there. inr (Contains-append_left lists (after ∷ []) l there))
+    keeps_in lists (lists ++ after ∷ []) [] after tag y of_tag of_class keeps (Contains-push lists after) (λ e none. absurd (omega (arith, none.1)))
+    (λ l there. grind (arith, Contains-push_cases lists after l there)) (λ l there. inr (Contains-append_left lists (after ∷ []) l there))
 
 -- ---- one more access
 
@@ -212,20 +204,12 @@ module _ {Z : Type 0} (tag_of : EventId → ℕ) (accesses : List ClockedAccess)
       let l = among.list in
       let e = among.earlier in
       let of = stands.each l.tag l.class e (record { list = l; there = among.there; tag_is = refl; class_is = refl; event = among.event }) in
+      let turned = among.found.turned in
       record {
         word = among.found.word;
-        clash = record {
-          earlier = e;
-          later = event_of y;
-          clash = clash_added accesses y e l.class of.access among.clash;
-          turned = among.found.turned;
-          below = among.found.below (differ l.class e among.clash);
-        };
-        tags = tagged t.race.first t.race.second e among.found.turned (of.tag_is ∙ sym among.found.first_tag) (tag_is ∙ sym among.found.second_tag);
+        clash = record { earlier = e; later = event_of y; clash = clash_added accesses y e l.class of.access among.clash; turned = turned; below = among.found.below (differ l.class e among.clash) };
+        tags = grind (arith, of.tag_is, among.found.first_tag, among.found.second_tag, tag_is, turned);
       }
-    where
-      tagged : (first second e : EventId) → IsTurned e (event_of y) (first, second) → tag_of e ≡ t.tag → tag_of (event_of y) ≡ t.other → HasTags tag_of (first, second) t.tag t.other
-      tagged first second e turned one other = grind arith
 
   -- two tags of which it clashes have a race now
   clash_found : (two : Bool) (e f : EventId) → IsNewClash y.word accesses y e f → are_of_groups two e f ≡ true → has_tags two new.found.items (tag_of e) (tag_of f) ≡ true
@@ -235,7 +219,7 @@ module _ {Z : Type 0} (tag_of : EventId → ℕ) (accesses : List ClockedAccess)
       let same_class : d.1.list.class ≡ clash.class = d.1.class_is in
       let sought : is_sought two d.1.list.class y d.0 ≡ true = grind (arith, clashes, groups, d.2.item, clash.event, same_class) in
       let now = finds.whole two d.1.list d.0 d.1.there d.1.event sought in
-      subst (λ (a : ℕ). has_tags two new.found.items a (tag_of f) ≡ true) d.1.tag_is (subst (λ (b : ℕ). has_tags two new.found.items d.1.list.tag b ≡ true) (sym tag_is ∙ ap tag_of clash.event) now)
+      rw (← d.1.tag_is, ← clash.event, tag_is) now
 
   some_of : (t : ℕ) (c : Class) (e : EventId) → IsOfTag tag_of y.word (accesses ++ y ∷ []) t c e → (d : EventId) × IsKeptIn new.lists.items t c d × IsInPlaceOf d e
   some_of t c e of = ⊎_elim

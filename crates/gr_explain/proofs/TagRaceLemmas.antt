@@ -1,5 +1,5 @@
 -- The races of words, one for each two tags, where what stands for the accesses along a lawful order of all grounded events is known.
-use Rattle.std.proofs.Common.{◌≡◌, ◌⊎◌, ℕ, suc, Bool, true, false, All, AllPairs, Contains, List, [], ◌∷◌, ◌++◌, Option, arith, get_or, map, refl, sym, ◌∙◌, subst, inl, inr, ⊎_elim, true≢false}
+use Rattle.std.proofs.Common.{◌<◌, length, ◌≡◌, ◌⊎◌, ℕ, suc, Bool, true, false, All, AllPairs, Contains, List, [], ◌∷◌, ◌++◌, arith, get_or, map, refl, sym, ◌∙◌, subst, inl, inr, ⊎_elim}
 use Rattle.std.proofs.lemmas.Bool.Decides.{nat_tests}
 use Rattle.std.proofs.lemmas.List.{get_or-map, length-map}
 use Rattle.std.proofs.lemmas.List.Elements.{All-append, All-contains, All-map, All-weaker, Contains-append_left, Contains-append_right, Contains-get_or}
@@ -17,7 +17,7 @@ use Rattle.gr_shadow.proofs.KeepsLemmas.{Contains-first, Contains-rest}
 use Rattle.gr_explain.specs.Alike.{are_of_groups}
 use Rattle.gr_explain.specs.TagPairs.{HaveOtherTags, IsTaggedClash, StandsForTags, is_of_tags, is_so}
 use Rattle.gr_explain.specs.TagRaces.{AreOfTwoGroups, AreTagRaces, HasRaceOfTags, IsApart}
-use Rattle.gr_explain.specs.WordPairs.{StandForWords, races_at, races_of}
+use Rattle.gr_explain.specs.WordPairs.{StandForWords, races_at}
 use Rattle.gr_explain.specs.declared.tag_pairs.TaggedRace.{TaggedRace}
 use Rattle.gr_explain.specs.declared.tag_pairs.TagPairs.{TagPairs}
 use Rattle.gr_explain.proofs.Lists.{any_there, first_or_rest, mapped_there}
@@ -28,17 +28,8 @@ use Rattle.gr_explain.proofs.RacePairs.{clash_is_race, race_is_clash}
 abbrev pub AreSameTwo : ℕ → ℕ → ℕ → ℕ → Type 0
 AreSameTwo a b c d = (a ≡ c × b ≡ d) ⊎ (a ≡ d × b ≡ c)
 
-two_back : (a b c d : ℕ) → AreSameTwo a b c d → AreSameTwo c d a b
-two_back a b c d h = grind arith
-
-two_then : (a b c d e f : ℕ) → AreSameTwo a b c d → AreSameTwo c d e f → AreSameTwo a b e f
-two_then a b c d e f h k = grind arith
-
 two_told : (a b : ℕ) (t : TaggedRace) → is_of_tags a b t ≡ true → AreSameTwo t.tag t.other a b
 two_told a b t h = grind (arith, nat_tests)
-
-tell_two : (a b : ℕ) (t : TaggedRace) → AreSameTwo t.tag t.other a b → is_of_tags a b t ≡ true
-tell_two a b t h = grind (arith, nat_tests)
 
 turned_two : (tag_of : EventId → ℕ) (e f : EventId) (pair : Pair) → IsTurned e f pair → AreSameTwo (tag_of e) (tag_of f) (tag_of pair.0) (tag_of pair.1)
 turned_two tag_of e f pair turned = grind arith
@@ -62,9 +53,6 @@ pairs_first R x xs pairs z there = subst (R x) there.2 (pairs 0 (suc there.0) z 
 pairs_rest : {X : Type 0} (R : X → X → Type 0) (x : X) (xs : List X) → AllPairs R (x ∷ xs) → AllPairs R xs
 pairs_rest R x xs pairs i j d lt within = pairs (suc i) (suc j) d (omega (arith, lt)) (omega (arith, within))
 
-pairs_none : {X : Type 0} (R : X → X → Type 0) → AllPairs R []
-pairs_none R i j d lt within = absurd (omega (arith, within))
-
 pairs_append : {X : Type 0} (R : X → X → Type 0) (xs ys : List X) → AllPairs R xs → AllPairs R ys → ((x y : X) → Contains xs x → Contains ys y → R x y) → AllPairs R (xs ++ ys)
 pairs_append R [] ys of_xs of_ys across = of_ys
 pairs_append {X} R (x ∷ xs) ys of_xs of_ys across =
@@ -86,29 +74,22 @@ record AreOfWord (s : Streams) (tag_of : EventId → ℕ) (w : Word) (races : Li
 
 module _ (s : Streams) (order : List EventId) (accesses : List ClockedAccess) (lawful : IsWholeOrder s order) (are : AreAccesses s order accesses) (tag_of : EventId → ℕ) where
   apart_tags : (w : Word) (t u : TaggedRace) → IsTaggedClash tag_of w accesses t → IsTaggedClash tag_of w accesses u → is_of_tags t.tag t.other u ≡ false → IsApart tag_of t.race u.race
-  apart_tags w t u of_t of_u other = inr (
-    of_t.word ∙ sym of_u.word,
-    λ same.
-        let told = two_then u.tag u.other (tag_of u.race.first) (tag_of u.race.second) t.tag t.other
-        (two_back (tag_of u.race.first) (tag_of u.race.second) u.tag u.other of_u.tags)
-        (two_then (tag_of u.race.first) (tag_of u.race.second) (tag_of t.race.first) (tag_of t.race.second) t.tag t.other (two_back (tag_of t.race.first) (tag_of t.race.second) (tag_of u.race.first) (tag_of u.race.second) same) of_t.tags) in
-        true≢false (sym (tell_two t.tag t.other u told) ∙ other),
-  )
+  apart_tags w t u of_t of_u other = inr (of_t.word ∙ sym of_u.word, λ same. (let a = of_t.tags in let b = of_u.tags in grind (arith, nat_tests, other, a, b, same)))
 
   apart_races : (w : Word) (found : List TaggedRace) → ((t : TaggedRace) → Contains found t → IsTaggedClash tag_of w accesses t) → HaveOtherTags found → AllPairs (IsApart tag_of) (map race_of found)
   apart_races w found sound others i j d lt within =
       let none : TaggedRace = record { race = d; tag = 0; other = 0 } in
-      let t = get_or found i none in
-      let u = get_or found j none in
-      rw (get_or-map race_of found i none d (omega (arith, lt, within, length-map found race_of)), get_or-map race_of found j none d (omega (arith, within, length-map found race_of)))
-      (apart_tags w t u (sound t (Contains-get_or found i none (omega (arith, lt, within, length-map found race_of)))) (sound u (Contains-get_or found j none (omega (arith, within, length-map found race_of)))) (others i j none lt (omega (arith, within, length-map found race_of))))
+      let last : j < length found = omega (arith, within, length-map found race_of) in
+      let first : i < length found = omega (arith, lt, last) in
+      rw (get_or-map race_of found i none d first, get_or-map race_of found j none d last)
+      (apart_tags w (get_or found i none) (get_or found j none) (sound _ (Contains-get_or found i none first)) (sound _ (Contains-get_or found j none last)) (others i j none lt last))
 
   of_word : {Z : Type 0} (w : Word) (pairs : TagPairs Z) → StandsForTags tag_of w accesses pairs → AreOfWord s tag_of w (map race_of pairs.found.items)
   of_word w pairs stands = record {
     pairs = All-map (λ (r : Race). IsRacePair s r.word (r.first, r.second)) race_of found (λ k d lt.
         let t = get_or found k d in
         let of = stands.sound t (Contains-get_or found k d lt) in
-        subst (λ (v : Word). IsRacePair s v (t.race.first, t.race.second)) (sym of.word) (clash_is_race s w order accesses lawful are (t.race.first, t.race.second) of.clash));
+        rw of.word (clash_is_race s w order accesses lawful are (t.race.first, t.race.second) of.clash));
     word = All-map (λ (r : Race). r.word ≡ w) race_of found (λ k d lt. (stands.sound (get_or found k d) (Contains-get_or found k d lt)).word);
     whole = λ two a b h groups.
         let clash = race_is_clash s w order accesses lawful are h.pair h.race in
@@ -120,10 +101,7 @@ module _ (s : Streams) (order : List EventId) (accesses : List ClockedAccess) (l
           race = t.0.race;
           there = mapped_there race_of found t.0 t.1;
           word = of.word;
-          tags =
-              two_then (tag_of t.0.race.first) (tag_of t.0.race.second) t.0.tag t.0.other a b of.tags
-              (two_then t.0.tag t.0.other e f a b (two_told e f t.0 (so_tags two e f t.0 t.2))
-              (two_then e f (tag_of h.pair.0) (tag_of h.pair.1) a b (turned_two tag_of clash.earlier clash.later h.pair clash.turned) h.tags));
+          tags = (let a = of.tags in let b = two_told e f t.0 (so_tags two e f t.0 t.2) in let k = turned_two tag_of clash.earlier clash.later h.pair clash.turned in let l = h.tags in grind (arith, a, b, k, l));
           groups = λ is. so_groups e f t.0 (subst (λ (b : Bool). is_so b e f t.0 ≡ true) is t.2);
         };
     apart = apart_races w found stands.sound stands.others;
@@ -138,32 +116,22 @@ module _ (s : Streams) (order : List EventId) (accesses : List ClockedAccess) (l
   more_races w words first rest below of_first of_rest = record {
     pairs = All-append (λ (r : Race). IsRacePair s r.word (r.first, r.second)) first rest of_first.pairs of_rest.pairs;
     within = All-append (λ (r : Race). Contains (w ∷ words) r.word) first rest
-        (All-weaker (λ (r : Race). r.word ≡ w) (λ (r : Race). Contains (w ∷ words) r.word) (λ r is. subst (Contains (w ∷ words)) (sym is) (Contains-first w words)) first of_first.word)
+        (All-weaker (λ (r : Race). r.word ≡ w) (λ (r : Race). Contains (w ∷ words) r.word) (λ r is. rw is (Contains-first w words)) first of_first.word)
         (All-weaker (λ (r : Race). Contains words r.word) (λ (r : Race). Contains (w ∷ words) r.word) (λ r there. Contains-rest w words r.word there) rest of_rest.within);
     whole = λ two v a b in_words h groups. ⊎_elim
         (λ (is : w ≡ v).
-        let found = of_first.whole two a b (record { pair = h.pair; race = subst (λ (x : Word). IsRacePair s x h.pair) (sym is) h.race; tags = h.tags }) groups in
+        let found = of_first.whole two a b (record { pair = h.pair; race = rw is h.race; tags = h.tags }) groups in
         record { race = found.race; there = Contains-append_left first rest found.race found.there; word = found.word ∙ is; tags = found.tags; groups = found.groups })
         (λ (later : Contains words v).
         let found = of_rest.whole two v a b later h groups in
         record { race = found.race; there = Contains-append_right first rest found.race found.there; word = found.word; tags = found.tags; groups = found.groups })
         (first_or_rest w words v in_words);
-    apart = pairs_append (IsApart tag_of) first rest of_first.apart of_rest.apart (λ r q in_first in_rest. inl (
-        subst (λ (x : Word). WordBelow x q.word) (sym (All-contains (λ (p : Race). p.word ≡ w) first r of_first.word in_first)) (below q.word (All-contains (λ (p : Race). Contains words p.word) rest q of_rest.within in_rest))));
-  }
-
-  pub no_races : AreTagRaces s tag_of [] []
-  no_races = record {
-    pairs = λ k d lt. absurd (omega (arith, lt));
-    within = λ k d lt. absurd (omega (arith, lt));
-    whole = λ two w a b there h groups. absurd (omega (arith, there.1));
-    apart = pairs_none (IsApart tag_of);
+    apart = pairs_append (IsApart tag_of) first rest of_first.apart of_rest.apart
+        (λ r q in_first in_rest. inl (rw (All-contains (λ (p : Race). p.word ≡ w) first r of_first.word in_first) (below q.word (All-contains (λ (p : Race). Contains words p.word) rest q of_rest.within in_rest))));
   }
 
   pub tag_races : {Z : Type 0} (entries : List (Word × TagPairs Z)) (words : List Word) → AllPairs WordBelow words → StandForWords tag_of words accesses entries → AreTagRaces s tag_of words (races_at entries words)
-  tag_races entries [] ascending stand = no_races
+  tag_races entries [] ascending stand = record { pairs = λ k d lt. absurd (omega (arith, lt)); within = λ k d lt. absurd (omega (arith, lt)); whole = λ two w a b there h groups. absurd (omega (arith, there.1)); apart = λ i j d lt within. absurd (omega (arith, within)) }
   tag_races {Z} entries (w ∷ words) ascending stand =
       let h = stand w (Contains-first w words) in
-      subst (λ (o : Option (TagPairs Z)). AreTagRaces s tag_of (w ∷ words) (races_of o ++ races_at entries words)) (sym h.at)
-      (more_races w words (map race_of h.pairs.found.items) (races_at entries words) (pairs_first WordBelow w words ascending) (of_word w h.pairs h.stands)
-      (tag_races entries words (pairs_rest WordBelow w words ascending) (λ v there. stand v (Contains-rest w words v there))))
+      rw h.at (more_races w words (map race_of h.pairs.found.items) (races_at entries words) (pairs_first WordBelow w words ascending) (of_word w h.pairs h.stands) (tag_races entries words (pairs_rest WordBelow w words ascending) (λ v there. stand v (Contains-rest w words v there))))

@@ -1,6 +1,7 @@
 -- The pairs of tags that race on each of some words, where one more access comes.
-use Rattle.std.proofs.Common.{◌≡◌, ◌≢◌, ℕ, ◌+◌, ◌<◌, Bool, true, false, cond, Contains, List, [], ◌∷◌, ◌++◌, Some, None, get_or, length, take, refl, sym, ap, ◌∙◌, subst, ⊎_elim, arith}
+use Rattle.std.proofs.Common.{◌≡◌, ◌≢◌, ℕ, ◌+◌, ◌<◌, true, false, cond, Contains, List, [], ◌∷◌, ◌++◌, Some, None, get_or, length, take, refl, ⊎_elim, arith}
 use Rattle.std.specs.Map.{lookup}
+use Rattle.std.proofs.lemmas.Bool.{cases_Bool}
 use Rattle.std.proofs.lemmas.List.{take_more}
 use Rattle.std.proofs.lemmas.List.Elements.{Contains-push_cases}
 use Rattle.gr_model.specs.declared.event.EventId.{EventId}
@@ -24,35 +25,30 @@ module _ {Z : Type 0} where
 
   -- one word more, of which no access came
   pub word_more : (tag_of : EventId → ℕ) (words : List Word) (k : ℕ) (v : Word) (old new : List (Word × TagPairs Z)) (p : TagPairs Z) → k < length words → HasUpdate old (get_or words k v) p new → ((w : Word) → StandsForTags tag_of w [] p) → StandForWords tag_of (take k words) [] old → StandForWords tag_of (take (k + 1) words) [] new
-  word_more tag_of words k v old new p lt update none stand w in_more = by_test (same_word (get_or words k v) w) refl
-    where
-      by_test : (b : Bool) → same_word (get_or words k v) w ≡ b → HasPairs tag_of [] new w
-      by_test true t = record { pairs = p; at = grind (arith, update w); stands = none w }
-      by_test false f = ⊎_elim
-          (λ (was : Contains (take k words) w). let h = stand w was in record { pairs = h.pairs; at = grind (arith, update w, h.at); stands = h.stands })
-          (λ (last : get_or words k v ≡ w). absurd (apart (get_or words k v) w f last))
-          (Contains-push_cases (take k words) (get_or words k v) w (subst (λ (l : List Word). Contains l w) (take_more words k v lt) in_more))
+  word_more tag_of words k v old new p lt update none stand w in_more = ⊎_elim
+      (λ (is : same_word (get_or words k v) w ≡ true). record { pairs = p; at = grind (arith, update w, is); stands = none w })
+      (λ (fails : same_word (get_or words k v) w ≡ false). ⊎_elim
+      (λ (was : Contains (take k words) w). let h = stand w was in record { pairs = h.pairs; at = grind (arith, update w, h.at, fails); stands = h.stands })
+      (λ (last : get_or words k v ≡ w). absurd (apart (get_or words k v) w fails last))
+      (Contains-push_cases (take k words) (get_or words k v) w (rw (take_more words k v lt) at in_more)))
+      (cases_Bool (same_word (get_or words k v) w))
 
   module _ (tag_of : EventId → ℕ) (words : List Word) (accesses : List ClockedAccess) (y : ClockedAccess) where
     -- an access to one of the words
     pub word_added : (old new : List (Word × TagPairs Z)) (p q : TagPairs Z) → lookup (same_word y.word) old ≡ Some p → HasUpdate old y.word q new → IsTagAdded y (tag_of (event_of y)) p q → StandForWords tag_of words accesses old → StandForWords tag_of words (accesses ++ y ∷ []) new
-    word_added old new p q found update added stand w in_words = by_test (same_word y.word w) refl
+    word_added old new p q found update added stand w in_words = ⊎_elim
+        (λ (is : same_word y.word w ≡ true).
+        let same : y.word ≡ w = same_from_equal y.word w is in
+        let one : h.pairs ≡ p = grind (arith, h.at, found, same) in
+        record { pairs = q; at = grind (arith, update w, is); stands = rw (← same) (added tag_of accesses refl (rw (same, ← one) h.stands)) })
+        (λ fails. record { pairs = h.pairs; at = grind (arith, update w, h.at, fails); stands = other_stands_for_tags tag_of w accesses y (apart y.word w fails) h.pairs h.stands })
+        (cases_Bool (same_word y.word w))
       where
         h : HasPairs tag_of accesses old w
         h = stand w in_words
-
-        by_test : (b : Bool) → same_word y.word w ≡ b → HasPairs tag_of (accesses ++ y ∷ []) new w
-        by_test true t =
-            let same : y.word ≡ w = same_from_equal y.word w t in
-            let one : Some h.pairs ≡ Some p = sym h.at ∙ (ap (λ (v : Word). lookup (same_word v) old) (sym same) ∙ found) in
-            let is : h.pairs ≡ p = cc in
-            let before : StandsForTags tag_of y.word accesses p = subst (λ (x : TagPairs Z). StandsForTags tag_of y.word accesses x) is (subst (λ (v : Word). StandsForTags tag_of v accesses h.pairs) (sym same) h.stands) in
-            record { pairs = q; at = grind (arith, update w); stands = subst (λ (v : Word). StandsForTags tag_of v (accesses ++ y ∷ []) q) same (added tag_of accesses refl before) }
-        by_test false f = record { pairs = h.pairs; at = grind (arith, update w, h.at); stands = other_stands_for_tags tag_of w accesses y (apart y.word w f) h.pairs h.stands }
 
     -- an access to another one
     pub no_word_added : (old new : List (Word × TagPairs Z)) → lookup (same_word y.word) old ≡ None → new ≡ old → StandForWords tag_of words accesses old → StandForWords tag_of words (accesses ++ y ∷ []) new
     no_word_added old new absent same stand w in_words =
         let h = stand w in_words in
-        let other : y.word ≢ w = λ is. (let no : None ≡ Some h.pairs = sym absent ∙ (ap (λ (v : Word). lookup (same_word v) old) is ∙ h.at) in cc) in
-        record { pairs = h.pairs; at = ap (λ (l : List (Word × TagPairs Z)). lookup (same_word w) l) same ∙ h.at; stands = other_stands_for_tags tag_of w accesses y other h.pairs h.stands }
+        record { pairs = h.pairs; at = grind (arith, same, h.at); stands = other_stands_for_tags tag_of w accesses y (λ is. grind (arith, absent, h.at, is)) h.pairs h.stands }

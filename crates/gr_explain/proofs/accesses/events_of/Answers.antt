@@ -1,7 +1,4 @@
-use Rattle.std.proofs.Common.{All, List, subst}
 use Rattle.std.proofs.lemmas.List.{take_all}
-use Rattle.gr_model.specs.declared.race.Race.{Race}
-use Rattle.gr_explain.specs.Accesses.{AreWanted}
 use Rattle.gr_explain.proofs.EventSets.{all_wanted}
 use Rattle.gr_explain.proofs.accesses.events_of.Goals as goal
 
@@ -11,4 +8,4 @@ loop-race-preserved g c =
     c.in_ok-add_pair.ensures.others c.in_ok-add_pair.ensures.added c.loop-race.invariant
 
 pub returns : goal.returns
-returns g c = subst (λ (races : List Race). All (AreWanted c.loop-race.events.keys) races) (take_all c.loop-race.race-index c.args.races.now c.loop-race-test.false) c.loop-race.invariant
+returns g c = rw (← take_all c.loop-race.race-index c.args.races.now c.loop-race-test.false) c.loop-race.invariant

@@ -1,9 +1,7 @@
-use Rattle.std.proofs.Common.{List, subst}
 use Rattle.std.proofs.lemmas.List.{take_all}
 use Rattle.std.proofs.lemmas.List.Elements.{All-get_or}
-use Rattle.gr_model.specs.declared.race.Race.{Race}
 use Rattle.gr_explain.specs.Accesses.{AreBothKept}
-use Rattle.gr_explain.specs.Judged.{AreAccesses, AreJudgements, IsJudged}
+use Rattle.gr_explain.specs.Judged.{AreAccesses, IsJudged}
 use Rattle.gr_explain.proofs.AnswerLemmas.{answers_next}
 use Rattle.gr_explain.proofs.judging.judgements_of.Goals as goal
 
@@ -15,5 +13,4 @@ loop-race-preserved g c s are kept =
     answers_next (IsJudged s) races i _ c.loop-race.judgements.items c.push.new.self.items c.judgement_of.result c.loop-race-test.true c.in_ok-push.ensures.items (c.loop-race.invariant s are kept) judged
 
 pub returns : goal.returns
-returns g c s are kept =
-    subst (λ (races : List Race). AreJudgements s races c.loop-race.judgements.items) (take_all c.loop-race.race-index c.args.races.now c.loop-race-test.false) (c.loop-race.invariant s are kept)
+returns g c s are kept = rw (← take_all c.loop-race.race-index c.args.races.now c.loop-race-test.false) (c.loop-race.invariant s are kept)

@@ -1,5 +1,4 @@
-use Rattle.std.proofs.Common.{◌∷◌, [], arith, subst, sym}
-use Rattle.gr_explain.specs.TagRaces.{AreTagRaces}
+use Rattle.std.proofs.Common.{◌∷◌, [], arith}
 use Rattle.gr_explain.proofs.RacePairs.{least_clash_is_race, least_or_none}
 use Rattle.gr_explain.proofs.TagRaceLemmas.{tag_races}
 use Rattle.gr_explain.proofs.tagged.explain_by_tags.Goals as goal
@@ -9,15 +8,10 @@ follow-requires g c = (c.new.ensures c.args.word, c.in_ok-pairs_of_words.ensures
 
 pub returns-clause-least : goal.returns-clause-least
 returns-clause-least g c =
-    let s = c.args.traces.now in
     let along = c.in_ok-follow.ensures.whole in
-    let search = c.follow.new.kept.search in
-    least_or_none s c.args.word search.least (least_clash_is_race s c.args.word along.order along.accesses along.whole along.are search.least along.stands.0.least)
+    least_or_none c.args.traces.now c.args.word c.follow.new.kept.search.least (least_clash_is_race c.args.traces.now c.args.word along.order along.accesses along.whole along.are c.follow.new.kept.search.least along.stands.0.least)
 
 pub returns-clause-races : goal.returns-clause-races
 returns-clause-races g c =
-    let s = c.args.traces.now in
-    let tag_of = g.T.Tags.tag_of c.args.tags.now in
     let along = c.in_ok-follow.ensures.whole in
-    subst (AreTagRaces s tag_of (c.args.word ∷ [])) (sym c.in_ok-races.ensures)
-    (tag_races s along.order along.accesses along.whole along.are tag_of c.follow.new.kept.pairs.entries (c.args.word ∷ []) (λ i j d lt there. absurd (omega (arith, lt, there))) along.stands.1)
+    rw c.in_ok-races.ensures (tag_races c.args.traces.now along.order along.accesses along.whole along.are (g.T.Tags.tag_of c.args.tags.now) c.follow.new.kept.pairs.entries (c.args.word ∷ []) (λ i j d lt there. absurd (omega (arith, lt, there))) along.stands.1)

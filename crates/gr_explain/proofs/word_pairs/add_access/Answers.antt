@@ -1,4 +1,4 @@
-use Rattle.std.proofs.Common.{ℕ, ◌∙◌, ap, subst, sym}
+use Rattle.std.proofs.Common.{ℕ, arith, ◌∙◌, ap, subst, sym}
 use Rattle.std.specs.Prelude.{is_some}
 use Rattle.std.specs.Option.{option_copied_mut}
 use Rattle.std.proofs.lemmas.Result.{on_ok_weaker}
@@ -20,6 +20,4 @@ returns-in-Some g c =
     (λ w. ((c.get_mut.follows.holds after).3 (ap is_some found)).0 w) (subst (λ (t : ℕ). IsTagAdded y t before after) tag_is added) stand) c.add.ensures
 
 pub returns-in-None : goal.returns-in-None
-returns-in-None g c words accesses stand =
-    let absent = sym c.get_mut.ensures.value ∙ ap option_copied_mut c.in-None.is in
-    no_word_added (g.T.Tags.tag_of c.args.tags.now) words accesses (clocked c.args.access.now) c.args.pairs.now.entries c.get_mut.follows.lender-at-none.entries absent (ap (λ m. m.entries) c.get_mut.follows.holds-at-none) stand
+returns-in-None g c words accesses stand = grind (arith, no_word_added (g.T.Tags.tag_of c.args.tags.now) words accesses (clocked c.args.access.now) c.args.pairs.now.entries c.get_mut.follows.lender-at-none.entries)

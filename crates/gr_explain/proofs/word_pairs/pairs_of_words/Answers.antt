@@ -1,7 +1,4 @@
-use Rattle.std.proofs.Common.{List, [], subst}
 use Rattle.std.proofs.lemmas.List.{take_all}
-use Rattle.gr_model.specs.declared.event.Word.{Word}
-use Rattle.gr_explain.specs.WordPairs.{StandForWords}
 use Rattle.gr_explain.proofs.WordPairLemmas.{word_more}
 use Rattle.gr_explain.proofs.word_pairs.pairs_of_words.Goals as goal
 
@@ -11,5 +8,4 @@ loop-word-preserved g c tag_of =
     c.loop-word-test.true (λ w. c.in_ok-insert.ensures.updates.0 w) (c.new.ensures tag_of) (c.loop-word.invariant tag_of)
 
 pub returns : goal.returns
-returns g c tag_of =
-    subst (λ (words : List Word). StandForWords tag_of words [] c.loop-word.pairs.entries) (take_all c.loop-word.word-index c.args.words.now c.loop-word-test.false) (c.loop-word.invariant tag_of)
+returns g c tag_of = rw (← take_all c.loop-word.word-index c.args.words.now c.loop-word-test.false) (c.loop-word.invariant tag_of)

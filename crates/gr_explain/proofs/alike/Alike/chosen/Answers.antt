@@ -1,15 +1,14 @@
-use Rattle.std.proofs.Common.{◌∙◌, arith, false, sym}
+use Rattle.std.proofs.Common.{arith, false}
 use Rattle.std.proofs.lemmas.Bool.Decides.{nat_tests}
 use Rattle.gr_clocks.specs.ClockedAccess.{clocked}
 use Rattle.gr_explain.proofs.AlikeLemmas.{none_chosen, other_chosen, picked}
 use Rattle.gr_explain.proofs.alike.Alike.chosen.Goals as goal
 
 pub returns-in-None : goal.returns-in-None
-returns-in-None g c = none_chosen c.args.self.now (clocked c.args.access.now) (sym c.clashing.ensures ∙ c.in-None.is)
+returns-in-None g c = grind (arith, none_chosen c.args.self.now (clocked c.args.access.now))
 
 pub returns-then-event-access : goal.returns-then-event-access
-returns-then-event-access g c = other_chosen c.args.self.now (clocked c.args.access.now) c.in-Some.event false (sym c.clashing.ensures ∙ c.in-Some.is) (let apart = c.if-event-access.true in grind (arith, nat_tests, apart))
+returns-then-event-access g c = grind (arith, nat_tests, other_chosen c.args.self.now (clocked c.args.access.now) c.in-Some.event false)
 
 pub returns-else-event-access : goal.returns-else-event-access
-returns-else-event-access g c =
-    picked c.args.self.now (clocked c.args.access.now) c.in-Some.event c.unwrap_or.result c.clashing-else-event-access.result (sym c.clashing.ensures ∙ c.in-Some.is) (sym c.clashing-else-event-access.ensures) c.unwrap_or.ensures
+returns-else-event-access g c = grind (arith, picked c.args.self.now (clocked c.args.access.now) c.in-Some.event c.unwrap_or.result c.clashing-else-event-access.result)
