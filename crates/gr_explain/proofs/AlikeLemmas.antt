@@ -21,23 +21,14 @@ use Rattle.gr_explain.specs.Alike.{AlikeEvents, AreOfOnly, IsChosen, IsInPlaceOf
 -- ---- exempt in whatever groups
 
 -- two classes whose accesses are exempt though they are of two groups are exempt in any
-exempt_apart : (c d : Class) (g h : ℕ) → exempt c 0 d 1 ≡ true → exempt c g d h ≡ true
-exempt_apart c d g h is = grind arith
-
-no_clash : (c : Class) (y : ClockedAccess) (e : EventId) → exempt c 0 y.class 1 ≡ true → event_clashes c y e ≡ false
-no_clash c y e is = grind (arith, exempt_apart c y.class e.at.group y.item.group is)
-
 pub none_clashes : (two : Bool) (c : Class) (y : ClockedAccess) (events : List EventId) → exempt c 0 y.class 1 ≡ true → find (is_sought two c y) events ≡ None
 none_clashes two c y [] is = refl
-none_clashes two c y (e ∷ events) is = grind (arith, no_clash c y e is, none_clashes two c y events is)
+none_clashes two c y (e ∷ events) is = grind (arith, none_clashes two c y events is)
 
 -- none of these is of another group
-none_of_other : (c : Class) (y : ClockedAccess) (e : EventId) → e.at.group ≡ y.item.group → is_sought true c y e ≡ false
-none_of_other c y e same = grind (arith, nat_tests)
-
 none_of_others : (two : Bool) (c : Class) (y : ClockedAccess) (events : List EventId) → ((e : EventId) → Contains events e → e.at.group ≡ y.item.group) → two ≡ true → find (is_sought two c y) events ≡ None
 none_of_others two c y [] of is = refl
-none_of_others two c y (e ∷ events) of is = grind (arith, is, none_of_other c y e (of e (Contains-first e events)), none_of_others two c y events (λ d there. of d (Contains-rest e events d there)) is)
+none_of_others two c y (e ∷ events) of is = grind (arith, is, nat_tests, of e (Contains-first e events), none_of_others two c y events (λ d there. of d (Contains-rest e events d there)) is)
 
 pub none_of_only : (two : Bool) (c : Class) (y : ClockedAccess) (events : List EventId) (only : Option ℕ) → AreOfOnly only events → option_eq eqb only (Some y.item.group) ≡ true → two ≡ true → find (is_sought two c y) events ≡ None
 none_of_only two c y events None of same is = absurd cc
@@ -66,11 +57,7 @@ module _ (l : AlikeEvents) (y : ClockedAccess) where
 
   module _ (e : EventId) where
     chosen : Contains l.events e → event_clashes l.class y e ≡ true → ((f : EventId) → Contains l.events f → is_sought true l.class y f ≡ true → are_of_groups true e (event_of y) ≡ true) → IsChosen l y (Some e)
-    chosen there clash best = record { one = (there, clash); whole = whole }
-      where
-        whole : (two : Bool) (f : EventId) → Contains l.events f → is_sought two l.class y f ≡ true → are_of_groups two e (event_of y) ≡ true
-        whole true f in_events is = best f in_events is
-        whole false f in_events is = refl
+    chosen there clash best = record { one = (there, clash); whole = λ two f in_events is. grind (arith, best f in_events) }
 
     -- one of another group
     pub other_chosen : (two : Bool) → sought two ≡ Some e → are_of_groups true e (event_of y) ≡ true → IsChosen l y (Some e)

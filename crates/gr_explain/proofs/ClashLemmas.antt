@@ -59,13 +59,4 @@ module _ (accesses : List ClockedAccess) (y : ClockedAccess) (e : EventId) (c : 
 
   -- an access clashes with that of an event in the list
   pub clash_added : IsOfList y.word accesses e c → clashes_with e.at e.index c y ≡ true → IsClashIn (accesses ++ y ∷ []) y.word e (event_of y)
-  clash_added of clash = (
-    of.there.0,
-    length accesses,
-    of.access,
-    y,
-    of.there.1,
-    slice_get-append accesses (y ∷ []) of.there.0 of.access (Contains-at accesses of.access of.there),
-    at_last accesses y,
-    record { clash = record { first = of.word; second = refl; clashes = grind (arith, clash, of.class, of.event) }; earlier = of.event; later = refl },
-  )
+  clash_added of clash = (of.there.0, length accesses, of.access, y, of.there.1, slice_get-append accesses (y ∷ []) of.there.0 of.access (Contains-at accesses of.access of.there), at_last accesses y, record { clash = record { first = of.word; second = refl; clashes = grind (arith, clash, of.class, of.event) }; earlier = of.event; later = refl })

@@ -1,6 +1,5 @@
 pub mod RecordLemmas
 pub mod Sets
-pub mod EventOrder
 pub mod PairOrder
 pub mod AnswerLemmas
 pub mod EventSets
@@ -15,4 +14,3 @@ pub mod AlikeLemmas
 pub mod TagPairLemmas
 pub mod TagRaceLemmas
 pub mod WordPairLemmas
-pub mod Keeping

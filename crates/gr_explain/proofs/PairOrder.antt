@@ -8,9 +8,6 @@ use Rattle.gr_explain.specs.LeastRaces.{IsLeast, IsLeastOf, PairBelow}
 
 -- ---- events
 
-pub one_way : (e f : EventId) → EventBelow e f → EventBelow f e → ⊥
-one_way e f a b = grind arith
-
 -- one is below the other, or they have the same parts
 three_ways : (e f : EventId) → EventBelow e f ⊎ EventBelow f e ⊎ ((e.at.group ≡ f.at.group) × (e.at.item ≡ f.at.item) × (e.index ≡ f.index))
 three_ways e f = grind arith

@@ -22,6 +22,13 @@ use Rattle.gr_explain.specs.ClashPairs.{IsClashPair}
 use Rattle.gr_explain.proofs.KeptLemmas.{access_there, event_there}
 use Rattle.gr_explain.proofs.PairOrder.{either_way, least_same}
 
+-- a word that has a racing pair is racy, and else it is not
+not_racy : (s : Streams) (w : Word) → ((pair : Pair) → ¬ IsRacePair s w pair) → ¬ IsRacy s (IsGrounded s) w
+not_racy s w none (e, f, of_e, of_f, race) = ⊎_elim
+    (λ below. none (e, f) (record { below = below; first = of_e; second = of_f; race = race }))
+    (λ other. ⊎_elim (λ below. none (f, e) (record { below = below; first = of_f; second = of_e; race = race_swap s w e f race })) (λ same. race.may_race.others (ap (λ x. x.at) same)) other)
+    (either_way e f)
+
 module _ (s : Streams) (w : Word) (order : List EventId) (accesses : List ClockedAccess) (whole : IsWholeOrder s order) (are : AreAccesses s order accesses) where
   -- the access of an event among these
   record HasAccess (e : EventId) : Type 0 where
@@ -56,19 +63,7 @@ module _ (s : Streams) (w : Word) (order : List EventId) (accesses : List Clocke
   pub clash_is_race : (pair : Pair) → IsClashPair w accesses pair → IsRacePair s w pair
   clash_is_race pair is = clashes_are_race_pairs s order accesses w is.earlier is.later pair whole.lawful are is.clash is.turned is.below
 
-  -- the least clash of the accesses is the least racing pair
-  pub least_clash_is_race : (least : Option Pair) → IsLeastOf (IsClashPair w accesses) least → IsLeastOf (IsRacePair s w) least
-  least_clash_is_race least is = least_same (IsClashPair w accesses) (IsRacePair s w) least clash_is_race race_is_clash is
-
--- ---- the least one
-
--- a word that has a racing pair is racy, and else it is not
-pub not_racy : (s : Streams) (w : Word) → ((pair : Pair) → ¬ IsRacePair s w pair) → ¬ IsRacy s (IsGrounded s) w
-not_racy s w none (e, f, of_e, of_f, race) = ⊎_elim
-    (λ below. none (e, f) (record { below = below; first = of_e; second = of_f; race = race }))
-    (λ other. ⊎_elim (λ below. none (f, e) (record { below = below; first = of_f; second = of_e; race = race_swap s w e f race })) (λ same. race.may_race.others (ap (λ x. x.at) same)) other)
-    (either_way e f)
-
-pub least_or_none : (s : Streams) (w : Word) (o : Option Pair) → IsLeastOf (IsRacePair s w) o → MatchOption o (¬ IsRacy s (IsGrounded s) w) (λ pair. IsLeastRace s w pair)
-least_or_none s w None none = not_racy s w none
-least_or_none s w (Some pair) is = is
+  -- the least clash of the accesses is the least racing pair, and without one the word is not racy
+  pub least_race : (least : Option Pair) → IsLeastOf (IsClashPair w accesses) least → MatchOption least (¬ IsRacy s (IsGrounded s) w) (λ pair. IsLeastRace s w pair)
+  least_race None none = not_racy s w (λ pair is. none pair (race_is_clash pair is))
+  least_race (Some least) is = least_same (IsClashPair w accesses) (IsRacePair s w) (Some least) clash_is_race race_is_clash is

@@ -1,13 +1,12 @@
 -- Where the records of each item are, and the events that they are.
-use Rattle.std.proofs.Common.{◌≡◌, ◌+◌, ◌<◌, ◌≤◌, ℕ, zero, suc, Bool, true, false, cond, List, [], ◌∷◌, ◌++◌, Option, Some, None, append-nil, arith, ap, eq-or-lt_of_le, filter, get_or, length, refl, set, slice_get, sym, take, ◌∙◌, ◌⊎◌, subst, inl, inr, ⊎_elim}
+use Rattle.std.proofs.Common.{◌≡◌, ◌+◌, ◌<◌, ◌≤◌, ℕ, zero, suc, Bool, true, false, cond, List, [], ◌∷◌, ◌++◌, Option, Some, None, append-nil, arith, ap, eq-or-lt_of_le, filter, get_or, length, refl, slice_get, sym, take, ◌∙◌, ◌⊎◌, subst, inl, inr, ⊎_elim}
 use Rattle.std.specs.Prelude.{◌==◌, not, HoldsAt, MatchOption}
 use Rattle.std.specs.Borrow.{Bor}
 use Rattle.std.specs.Option.{option_copied}
 use Rattle.std.proofs.Math.Seq.{get_or-append_seam}
-use Rattle.std.proofs.lemmas.Bool.Decides.{nat_tests}
 use Rattle.std.proofs.lemmas.Bool.{and_parts, cases_lt, eqb-true}
 use Rattle.std.proofs.lemmas.Option.{slice_get-get_or, slice_get_past}
-use Rattle.std.proofs.lemmas.List.{get_or_append_left, get_or_past, get_or-set_other, get_or-set_same, length-append, length-take-le, take_more}
+use Rattle.std.proofs.lemmas.List.{get_or_append_left, get_or_past, length-append, length-take-le, take_more}
 use Rattle.gr_model.specs.declared.event.Event.{Event}
 use Rattle.gr_model.specs.declared.event.EventId.{EventId}
 use Rattle.gr_model.specs.Events.{is_end}
@@ -46,10 +45,6 @@ none_of_others items item list k good past = ⊎_elim
     (λ h. absurd (omega (arith, past, eqb-true h.1.item item (and_parts (h.1.item == item) (not (is_end h.1)) h.5).0, (good h.0 h.1 h.4).0.0)))
     (place_at (is_of item) 0 list k)
 
--- a place is added to those of one item
-pub place_added : (old new : List (List ℕ)) (k place : ℕ) (x : Event) → x.item ≡ k → is_end x ≡ false → k < length old → new ≡ set old k (get_or old k [] ++ place ∷ []) → (i : ℕ) → get_or new i [] ≡ cond (is_of i x) (get_or old i [] ++ place ∷ []) (get_or old i [])
-place_added old new k place x item on lt is i = grind (arith, nat_tests, get_or-set_same, get_or-set_other, ap (λ (l : List (List ℕ)). get_or l i []) is)
-
 -- ---- one record more
 
 pub index_more : (items k : ℕ) (list : List Event) (y : Event) (old new : List (List ℕ)) → k < length list → y ≡ get_or list k y → IsIndexOf items (take k list) old → length new ≡ length old → ((i : ℕ) → i < length old → get_or new i [] ≡ cond (is_of i y) (get_or old i [] ++ k ∷ []) (get_or old i [])) → IsIndexOf items (take (k + 1) list) new
@@ -70,12 +65,8 @@ pub indices_more : (s : Streams) (g : ℕ) (old : List (List (List ℕ))) (index
 indices_more s g old index first is = record {
   count = omega (arith, length-append old (index ∷ []), first.count);
   each = λ h lt. ⊎_elim
-      (λ (same : h ≡ g).
-      let here : get_or (old ++ index ∷ []) h [] ≡ index = ap (λ (n : ℕ). get_or (old ++ index ∷ []) n []) (same ∙ sym first.count) ∙ get_or-append_seam old index [] [] in
-      subst (λ (l : List (List ℕ)). IsIndexOf (size_of s h) (list_of s h) l) (sym here) (subst (λ n. IsIndexOf (size_of s n) (list_of s n) index) (sym same) is))
-      (λ (less : h < g).
-      let there : get_or (old ++ index ∷ []) h [] ≡ get_or old h [] = get_or_append_left old (index ∷ []) [] h (omega (arith, less, first.count)) in
-      subst (λ (l : List (List ℕ)). IsIndexOf (size_of s h) (list_of s h) l) (sym there) (first.each h less))
+      (λ (same : h ≡ g). rw (same, ← first.count, get_or-append_seam old index [] []) (rw (← first.count) at is))
+      (λ (less : h < g). rw (get_or_append_left old (index ∷ []) [] h (omega (arith, less, first.count))) (first.each h less))
       (eq-or-lt_of_le (let le : h ≤ g = omega (arith, lt) in le));
 }
 

@@ -74,13 +74,9 @@ other_stands w accesses y other search stands = record {
 module _ (accesses : List ClockedAccess) (y : ClockedAccess) {Z : Type 0} (old : Search Z) (stands : StandsFor y.word accesses old) where
   -- the pair of the access with one of before is a clash
   pair_is_clash : (pair : Pair) → IsPairOf old.classes.items y pair → IsClashPair y.word (accesses ++ y ∷ []) pair
-  pair_is_clash pair of = record {
-    earlier = of.pair_with.earlier;
-    later = event_of y;
-    clash = clash_added accesses y of.pair_with.earlier of.list.class ((stands.seen of.pair_with.earlier of.list.class).0 (record { list = of.list; there = of.there; class = refl; among = of.pair_with.clashing.among })) of.pair_with.clashing.clash;
-    turned = of.pair_with.turned;
-    below = of.pair_with.below;
-  }
+  pair_is_clash pair of =
+      let clash = clash_added accesses y of.pair_with.earlier of.list.class ((stands.seen of.pair_with.earlier of.list.class).0 (record { list = of.list; there = of.there; class = refl; among = of.pair_with.clashing.among })) of.pair_with.clashing.clash in
+      record { earlier = of.pair_with.earlier; later = event_of y; clash = clash; turned = of.pair_with.turned; below = of.pair_with.below }
 
   -- a clash is one of before, or the pair of the access with one of before
   clash_cases : (pair : Pair) → IsClashPair y.word (accesses ++ y ∷ []) pair → IsClashPair y.word accesses pair ⊎ IsPairOf old.classes.items y pair

@@ -78,11 +78,6 @@ module _ (seen : SeenList) (y : ClockedAccess) (items : List ItemId) (i : ItemId
           inr (not_below_first d e (event_of y) pair least (same ∙ sym first.0) (first.2 e same on.pair_with.clashing) (λ is. clashing_apart seen y d first.1 (sym is)) on.pair_with.turned on.pair_with.below turned up))
           (has_more items i on.pair_with.earlier.at on.item)
 
--- ---- all items
-
-pub all_on : (seen : SeenList) (y : ClockedAccess) (items : List ItemId) → HaveItems items seen.events → (pair : Pair) → IsPairWith seen y pair → IsPairOn seen y items pair
-all_on seen y items have pair is = record { pair_with = is; item = have is.earlier is.clashing.among }
-
 -- ---- where the least pair so far is below all that are left
 
 item_below_from_less : (i j : ItemId) → (item_order.cmp-value).it i j ≡ Less → IsItemBelow i j
@@ -97,12 +92,9 @@ later_item : (before : List ItemId) (i : ItemId) (items : List ItemId) (j : Item
 later_item [] i items j sorted has = grind (arith, item_ties, same_items, above_all i items j (sorted_head (item_order.cmp-value).it i items sorted))
 later_item (k ∷ before) i items j sorted has = grind (arith, later_item before i items j (sorted_tail (item_order.cmp-value).it k (before ++ i ∷ items) sorted))
 
--- an item that is below an item is below one that is it or above it
-still_below : (h i j : ItemId) → IsItemBelow h i → (j ≡ i) ⊎ IsItemBelow i j → IsItemBelow h j
-still_below h i j below later = grind arith
-
-event_below_item : (e f : EventId) → IsItemBelow e.at f.at → EventBelow e f
-event_below_item e f h = grind arith
+-- an event of an item below an item is below each of that item or of one above it
+below_later : (e f : EventId) (i : ItemId) → IsItemBelow e.at i → (f.at ≡ i) ⊎ IsItemBelow i f.at → EventBelow e f
+below_later e f i below later = grind arith
 
 -- a pair of two events above the first of the least pair is not below that
 pub pair_not_below : (e f : EventId) (pair least : Pair) → IsTurned e f pair → EventBelow least.0 e → EventBelow least.0 f → ¬ PairBelow pair least
@@ -118,6 +110,6 @@ module _ (seen : SeenList) (y : ClockedAccess) (before : List ItemId) (i : ItemI
         (λ was. h.1 p (inr (record { pair_with = with; item = was })))
         (λ later.
         let same : passed.pair ≡ l = let is = passed.least_is in cc in
-        pair_not_below with.earlier (event_of y) p l with.turned (event_below_item l.0 with.earlier (still_below l.0.at i with.earlier.at (rw same at passed.item_below) later)) (rw same at passed.event_below))
+        pair_not_below with.earlier (event_of y) p l with.turned (below_later l.0 with.earlier i (rw same at passed.item_below) later) (rw same at passed.event_below))
         (later_item before i items with.earlier.at sorted (have with.earlier with.clashing.among))) d,
   )

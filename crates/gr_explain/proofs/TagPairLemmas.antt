@@ -4,15 +4,15 @@ use Rattle.std.specs.List.{list_any, position}
 use Rattle.std.proofs.lemmas.Bool.Decides.{nat_tests}
 use Rattle.std.proofs.lemmas.Grind.{common_steps}
 use Rattle.std.proofs.lemmas.List.Elements.{Contains-append_cases, Contains-append_left, Contains-append_right, Contains-get_or, Contains-push, Contains-push_cases}
-use Rattle.std.proofs.lemmas.List.Folds.{list_any-append, list_any_at}
+use Rattle.std.proofs.lemmas.List.Folds.{list_any-append}
 use Rattle.std.proofs.lemmas.List.Quantifiers.{all_pairs_push}
 use Rattle.gr_model.specs.declared.event.EventId.{EventId}
 use Rattle.gr_model.specs.declared.event.Word.{Word}
 use Rattle.gr_model.specs.declared.class.Class.{Class}
 use Rattle.gr_clocks.proofs.RowLemmas.{same_item_self}
 use Rattle.gr_shadow.specs.Clashes.{ClockedAccess, event_of}
-use Rattle.gr_shadow.proofs.KeepsLemmas.{find_is}
-use Rattle.gr_explain.specs.Alike.{AlikeEvents, IsChosen, IsInPlaceOf, KeepsEvents, are_of_groups, event_clashes, is_sought}
+use Rattle.gr_shadow.proofs.KeepsLemmas.{find_is, finds as contains_any}
+use Rattle.gr_explain.specs.Alike.{AlikeEvents, IsChosen, IsInPlaceOf, KeepsEvents, are_of_groups, is_sought}
 use Rattle.gr_explain.specs.TagPairs.{Finds, IsFound, IsFoundAmong, IsKeptIn, IsOfTag, IsTaggedClash, IsPreferred, IsThat, KeepsMore, StandsForTags, has_tags, is_of_tags, is_so}
 use Rattle.gr_explain.specs.declared.tag_pairs.TaggedRace.{TaggedRace}
 use Rattle.gr_explain.specs.declared.tag_pairs.TagPairs.{TagPairs}
@@ -25,24 +25,18 @@ use Rattle.gr_explain.proofs.Lists.{any_there, pairs_set, set_has, set_still, se
 not_any : {X : Type 0} (f : X → Bool) (xs : List X) → list_any f xs ≡ false → (k : ℕ) (d : X) → k < length xs → f (get_or xs k d) ≡ false
 not_any f xs none k d lt = grind (arith, common_steps)
 
-contains_any : {X : Type 0} (f : X → Bool) (xs : List X) (x : X) → Contains xs x → f x ≡ true → list_any f xs ≡ true
-contains_any f xs x (k, lt, is) holds = list_any_at f xs k x lt (ap f is ∙ holds)
-
 -- the place of a value that passes, or none
 pub none_at : {X : Type 0} (f : X → Bool) (xs : List X) → position f xs ≡ None → list_any f xs ≡ false
 none_at f [] none = refl
 none_at f (x ∷ xs) none = grind (arith, none_at f xs)
-
-only_one : {X : Type 0} (x z : X) → Contains (x ∷ []) z → x ≡ z
-only_one x z (zero, lt, is) = is
-only_one x z (suc k, lt, is) = absurd (omega (arith, lt))
 
 -- ---- the races of a later access
 
 module _ (y : ClockedAccess) (tag : ℕ) where
   -- what holds of one list holds of each in its list
   of_one : (l m : AlikeEvents) → Contains (l ∷ []) m → (P : AlikeEvents → Type 0) → P l → P m
-  of_one l m there P holds = subst P (only_one l m there) holds
+  of_one l m (zero, lt, is) P holds = subst P is holds
+  of_one l m (suc k, lt, is) P holds = absurd (omega (arith, lt))
 
   -- where it clashes with one, and there is no race of the two tags
   module _ (l : AlikeEvents) (e : EventId) (t : TaggedRace) (old : List TaggedRace) (had : list_any (is_of_tags l.tag tag) old ≡ false) (is : IsChosen l y (Some e)) (found : IsFound e l.tag y tag t) where
@@ -95,11 +89,7 @@ module _ (y : ClockedAccess) (tag : ℕ) where
   -- a race of the two tags, where one of these of another group clashes, or none does
   module _ (l : AlikeEvents) (old : TaggedRace) (tags : is_of_tags l.tag tag old ≡ true) where
     pub stays : sought l y true ≡ None → IsPreferred l y tag old old
-    stays none = record { one = inl refl; tags = tags; kept = λ two h. h; whole = whole }
-      where
-        whole : (two : Bool) (e : EventId) → Contains l.events e → is_sought two l.class y e ≡ true → are_of_groups two old.race.first old.race.second ≡ true
-        whole true e there is = absurd (found_none (is_sought true l.class y) l.events e none there is)
-        whole false e there is = refl
+    stays none = record { one = inl refl; tags = tags; kept = λ two h. h; whole = λ two e there is. grind (arith, found_none (is_sought true l.class y) l.events e none there) }
 
     pub gives_way : (e : EventId) (t : TaggedRace) → sought l y true ≡ Some e → IsFound e l.tag y tag t → IsPreferred l y tag old t
     gives_way e t is found = record {
@@ -194,10 +184,6 @@ other_stands_for_tags tag_of w accesses y other pairs stands = record {
 }
 
 module _ {Z : Type 0} (tag_of : EventId → ℕ) (accesses : List ClockedAccess) (y : ClockedAccess) (tag : ℕ) (tag_is : tag_of (event_of y) ≡ tag) (old new : TagPairs Z) (stands : StandsForTags tag_of y.word accesses old) (finds : Finds y tag old.lists.items old.found.items new.found.items) (keeps : KeepsMore old.lists.items tag y new.lists.items) where
-  -- a later access and the one with which it clashes differ
-  differ : (c : Class) (e : EventId) → event_clashes c y e ≡ true → ¬ (e ≡ event_of y)
-  differ c e clash same = grind (arith, clash, same_item_self)
-
   -- a race of it that was added
   added_race : (t : TaggedRace) → IsFoundAmong old.lists.items y tag t → IsTaggedClash tag_of y.word (accesses ++ y ∷ []) t
   added_race t among =
@@ -205,9 +191,10 @@ module _ {Z : Type 0} (tag_of : EventId → ℕ) (accesses : List ClockedAccess)
       let e = among.earlier in
       let of = stands.each l.tag l.class e (record { list = l; there = among.there; tag_is = refl; class_is = refl; event = among.event }) in
       let turned = among.found.turned in
+      let clashes = among.clash in
       record {
         word = among.found.word;
-        clash = record { earlier = e; later = event_of y; clash = clash_added accesses y e l.class of.access among.clash; turned = turned; below = among.found.below (differ l.class e among.clash) };
+        clash = record { earlier = e; later = event_of y; clash = clash_added accesses y e l.class of.access among.clash; turned = turned; below = among.found.below (λ same. grind (arith, clashes, same, same_item_self)) };
         tags = grind (arith, of.tag_is, among.found.first_tag, among.found.second_tag, tag_is, turned);
       }
 

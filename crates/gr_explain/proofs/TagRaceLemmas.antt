@@ -1,5 +1,5 @@
 -- The races of words, one for each two tags, where what stands for the accesses along a lawful order of all grounded events is known.
-use Rattle.std.proofs.Common.{◌<◌, length, ◌≡◌, ◌⊎◌, ℕ, suc, Bool, true, false, All, AllPairs, Contains, List, [], ◌∷◌, ◌++◌, arith, get_or, map, refl, sym, ◌∙◌, subst, inl, inr, ⊎_elim}
+use Rattle.std.proofs.Common.{◌<◌, length, ◌≡◌, ◌⊎◌, ℕ, suc, Bool, true, false, All, AllPairs, Contains, List, [], ◌∷◌, ◌++◌, arith, get_or, map, sym, ◌∙◌, subst, inl, inr, ⊎_elim}
 use Rattle.std.proofs.lemmas.Bool.Decides.{nat_tests}
 use Rattle.std.proofs.lemmas.List.{get_or-map, length-map}
 use Rattle.std.proofs.lemmas.List.Elements.{All-append, All-contains, All-map, All-weaker, Contains-append_left, Contains-append_right, Contains-get_or}
@@ -28,19 +28,15 @@ use Rattle.gr_explain.proofs.RacePairs.{clash_is_race, race_is_clash}
 abbrev pub AreSameTwo : ℕ → ℕ → ℕ → ℕ → Type 0
 AreSameTwo a b c d = (a ≡ c × b ≡ d) ⊎ (a ≡ d × b ≡ c)
 
-two_told : (a b : ℕ) (t : TaggedRace) → is_of_tags a b t ≡ true → AreSameTwo t.tag t.other a b
-two_told a b t h = grind (arith, nat_tests)
-
 turned_two : (tag_of : EventId → ℕ) (e f : EventId) (pair : Pair) → IsTurned e f pair → AreSameTwo (tag_of e) (tag_of f) (tag_of pair.0) (tag_of pair.1)
 turned_two tag_of e f pair turned = grind arith
 
 -- the two groups of a pair, where they are asked for
 groups_of : (two : Bool) (e f : EventId) (pair : Pair) → IsTurned e f pair → (two ≡ true → AreOfTwoGroups pair) → are_of_groups two e f ≡ true
-groups_of false e f pair turned groups = refl
-groups_of true e f pair turned groups = let apart = groups refl in grind (arith, nat_tests)
+groups_of two e f pair turned groups = grind (arith, nat_tests, groups)
 
-so_tags : (two : Bool) (a b : ℕ) (t : TaggedRace) → is_so two a b t ≡ true → is_of_tags a b t ≡ true
-so_tags two a b t so = grind (arith, so)
+so_tags : (two : Bool) (a b : ℕ) (t : TaggedRace) → is_so two a b t ≡ true → AreSameTwo t.tag t.other a b
+so_tags two a b t so = grind (arith, nat_tests, so)
 
 so_groups : (a b : ℕ) (t : TaggedRace) → is_so true a b t ≡ true → AreOfTwoGroups (t.race.first, t.race.second)
 so_groups a b t so = grind (arith, nat_tests, so)
@@ -101,7 +97,7 @@ module _ (s : Streams) (order : List EventId) (accesses : List ClockedAccess) (l
           race = t.0.race;
           there = mapped_there race_of found t.0 t.1;
           word = of.word;
-          tags = (let a = of.tags in let b = two_told e f t.0 (so_tags two e f t.0 t.2) in let k = turned_two tag_of clash.earlier clash.later h.pair clash.turned in let l = h.tags in grind (arith, a, b, k, l));
+          tags = (let a = of.tags in let b = so_tags two e f t.0 t.2 in let k = turned_two tag_of clash.earlier clash.later h.pair clash.turned in let l = h.tags in grind (arith, a, b, k, l));
           groups = λ is. so_groups e f t.0 (subst (λ (b : Bool). is_so b e f t.0 ≡ true) is t.2);
         };
     apart = apart_races w found stands.sound stands.others;

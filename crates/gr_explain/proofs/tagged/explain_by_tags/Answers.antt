@@ -1,5 +1,5 @@
 use Rattle.std.proofs.Common.{◌∷◌, [], arith}
-use Rattle.gr_explain.proofs.RacePairs.{least_clash_is_race, least_or_none}
+use Rattle.gr_explain.proofs.RacePairs.{least_race}
 use Rattle.gr_explain.proofs.TagRaceLemmas.{tag_races}
 use Rattle.gr_explain.proofs.tagged.explain_by_tags.Goals as goal
 
@@ -9,7 +9,7 @@ follow-requires g c = (c.new.ensures c.args.word, c.in_ok-pairs_of_words.ensures
 pub returns-clause-least : goal.returns-clause-least
 returns-clause-least g c =
     let along = c.in_ok-follow.ensures.whole in
-    least_or_none c.args.traces.now c.args.word c.follow.new.kept.search.least (least_clash_is_race c.args.traces.now c.args.word along.order along.accesses along.whole along.are c.follow.new.kept.search.least along.stands.0.least)
+    least_race c.args.traces.now c.args.word along.order along.accesses along.whole along.are c.follow.new.kept.search.least along.stands.0.least
 
 pub returns-clause-races : goal.returns-clause-races
 returns-clause-races g c =

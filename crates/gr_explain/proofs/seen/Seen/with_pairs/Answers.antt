@@ -8,7 +8,7 @@ use Rattle.gr_clocks.specs.ClockedAccess.{clocked}
 use Rattle.gr_shadow.specs.Clashes.{event_of}
 use Rattle.gr_explain.specs.Seen.{HaveItems, IsFirstOf, IsPairWith, SeenList}
 use Rattle.gr_explain.proofs.PairOrder.{least_group, least_same}
-use Rattle.gr_explain.proofs.SeenLemmas.{IsPairOn, all_on, first_apart, first_on, least_passed, none_more, on_or_not_below, still_on}
+use Rattle.gr_explain.proofs.SeenLemmas.{IsPairOn, first_apart, first_on, least_passed, none_more, on_or_not_below, still_on}
 use Rattle.gr_explain.proofs.seen.Seen.with_pairs.Goals as goal
 
 pub loop-item-preserved-in-None-first_of : goal.loop-item-preserved-in-None-first_of
@@ -46,7 +46,7 @@ returns g c =
     let have : HaveItems c.self.inside.items.keys seen.events = subst (λ (s : SeenList). HaveItems c.self.inside.items.keys s.events) c.self.view_is c.self.invariant in
     let all : map deref c.loop-item.yielded ≡ c.self.inside.items.keys = search (rules, iter_end) in
     least_same (λ p. (c.args.least ≡ Some p) ⊎ IsPairOn seen y (map deref c.loop-item.yielded) p) (λ p. (c.args.least ≡ Some p) ⊎ IsPairWith seen y p) c.loop-item.least
-    (λ p h. ⊎_elim (λ a. inl a) (λ (b : IsPairOn seen y (map deref c.loop-item.yielded) p). inr b.pair_with) h) (λ p h. ⊎_elim (λ a. inl a) (λ is. inr (rw all (all_on seen y c.self.inside.items.keys have p is))) h)
+    (λ p h. ⊎_elim (λ a. inl a) (λ (b : IsPairOn seen y (map deref c.loop-item.yielded) p). inr b.pair_with) h) (λ p h. ⊎_elim (λ a. inl a) (λ is. inr (rw all (record { pair_with = is; item = have is.earlier is.clashing.among }))) h)
     c.loop-item.invariant
 
 pub returns-then-is_passed : goal.returns-then-is_passed
