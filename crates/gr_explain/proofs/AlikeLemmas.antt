@@ -63,15 +63,11 @@ module _ (l : AlikeEvents) (y : ClockedAccess) where
     pub other_chosen : (two : Bool) → sought two ≡ Some e → are_of_groups true e (event_of y) ≡ true → IsChosen l y (Some e)
     other_chosen two found other = let is = find_is (is_sought two l.class y) l.events e found in chosen is.0 (let so = is.1 in grind (arith, so)) (λ f there so. other)
 
-    -- one of the access's group, where there is none of another group
-    pub same_chosen : sought false ≡ Some e → sought true ≡ None → IsChosen l y (Some e)
-    same_chosen found none =
-        let is = find_is (is_sought false l.class y) l.events e found in
-        chosen is.0 (let so = is.1 in grind (arith, so)) (λ f there so. absurd (found_none (is_sought true l.class y) l.events f none there so))
-
   -- one of another group, or else that
   pub picked : (e f : EventId) (o : Option EventId) → sought false ≡ Some e → sought true ≡ o → f ≡ unwrap_or o e → IsChosen l y (Some f)
-  picked e f None found none is = rw is (same_chosen e found none)
+  picked e f None found none is =
+      let at = find_is (is_sought false l.class y) l.events e found in
+      rw is (chosen e at.0 (let so = at.1 in grind (arith, so)) (λ f there so. absurd (found_none (is_sought true l.class y) l.events f none there so)))
   picked e f (Some g) found other is = rw is (other_chosen g true other (let so = (find_is (is_sought true l.class y) l.events g other).1 in grind (arith, so)))
 
 -- ---- the greatest index of each item

@@ -42,13 +42,10 @@ module _ (w : Word) (accesses : List ClockedAccess) (y : ClockedAccess) where
   clash_was e f (p, q, x, z, lt, at_p, at_q, h) = ⊎_elim
       (λ (earlier : (p < length accesses) × (slice_get accesses p ≡ Some x)). ⊎_elim
       (λ (later : (q < length accesses) × (slice_get accesses q ≡ Some z)). inl (p, q, x, z, lt, earlier.1, later.1, h))
-      (λ (last : (q ≡ length accesses) × (z ≡ y)). inr (record {
-        class = x.class;
-        of = record { access = x; there = (p, earlier.0, get_or_from_slice_get accesses p x x earlier.1); word = h.clash.first; event = h.earlier; class = refl };
-        word = ap (λ (a : ClockedAccess). a.word) (sym last.1) ∙ h.clash.second;
-        event = ap event_of (sym last.1) ∙ h.later;
-        clash = (let is = h.clash.clashes in grind (arith, last.1, h.earlier, is));
-      }))
+      (λ (last : (q ≡ length accesses) × (z ≡ y)).
+      let of : IsOfList w accesses e x.class = record { access = x; there = (p, earlier.0, get_or_from_slice_get accesses p x x earlier.1); word = h.clash.first; event = h.earlier; class = refl } in
+      let clash = h.clash.clashes in
+      inr (record { class = x.class; of = of; word = ap (λ (a : ClockedAccess). a.word) (sym last.1) ∙ h.clash.second; event = ap event_of (sym last.1) ∙ h.later; clash = grind (arith, last.1, h.earlier, clash) }))
       (last_cases accesses y q z at_q))
       (λ (last : (p ≡ length accesses) × (x ≡ y)). absurd (omega (arith, lt, last.0, slice_get_within (accesses ++ y ∷ []) q z at_q, length-append accesses (y ∷ []))))
       (last_cases accesses y p x at_p)

@@ -22,27 +22,20 @@ use Rattle.gr_explain.proofs.Sets.{event_from_equal, event_itself}
 
 module _ {Z : Type 0} (wanted : List EventId) (accesses : List ClockedAccess) (a : Access Z) (old new : List (EventId × Access Z)) where
   -- of an event that is another one
-  other_stays : (d : EventId) → event_of (clocked a) ≢ d → access_at new d ≡ access_at old d → IsThatOf accesses d (access_at old d) → IsThatOf (accesses ++ clocked a ∷ []) d (access_at new d)
-  other_stays d other same that = subst (IsThatOf (accesses ++ clocked a ∷ []) d) (sym same) (by_case (access_at old d) that)
-    where
-      by_case : (o : Option (Access Z)) → IsThatOf accesses d o → IsThatOf (accesses ++ clocked a ∷ []) d o
-      by_case None none = λ x there is. ⊎_elim
-          (λ (was : Contains accesses x). none x was is)
-          (λ (last : clocked a ≡ x). other (ap event_of last ∙ is))
-          (Contains-push_cases accesses (clocked a) x there)
-      by_case (Some b) that = (Contains-append_left accesses (clocked a ∷ []) (clocked b) that.0, that.1)
+  other_stays : (d : EventId) (o : Option (Access Z)) → event_of (clocked a) ≢ d → IsThatOf accesses d o → IsThatOf (accesses ++ clocked a ∷ []) d o
+  other_stays d None other none = λ x there is. ⊎_elim (λ (was : Contains accesses x). none x was is) (λ (last : clocked a ≡ x). other (ap event_of last ∙ is)) (Contains-push_cases accesses (clocked a) x there)
+  other_stays d (Some b) other that = (Contains-append_left accesses (clocked a ∷ []) (clocked b) that.0, that.1)
 
   -- its event is wanted, and it is kept
   pub wanted_added : ((d : EventId) → access_at new d ≡ cond (same_event (event_of (clocked a)) d) (Some a) (access_at old d)) → AreThoseOf wanted accesses old → AreThoseOf wanted (accesses ++ clocked a ∷ []) new
   wanted_added update those d has = ⊎_elim
       (λ (is : same_event (event_of (clocked a)) d ≡ true). rw (update d, is) (Contains-push accesses (clocked a), event_from_equal (event_of (clocked a)) d is))
-      (λ (fails : same_event (event_of (clocked a)) d ≡ false). other_stays d (λ same. grind (arith, event_itself)) (grind (arith, update d)) (those d has))
+      (λ (fails : same_event (event_of (clocked a)) d ≡ false). rw (update d, fails) (other_stays d (access_at old d) (λ same. grind (arith, event_itself)) (those d has)))
       (cases_Bool (same_event (event_of (clocked a)) d))
 
   -- its event is not wanted, and nothing changes
   pub unwanted_added : ¬ Has wanted (event_of (clocked a)) → new ≡ old → AreThoseOf wanted accesses old → AreThoseOf wanted (accesses ++ clocked a ∷ []) new
-  unwanted_added not_wanted same those d has =
-      other_stays d (λ is. not_wanted (subst (Has wanted) (sym is) has)) (ap (λ (kept : List (EventId × Access Z)). access_at kept d) same) (those d has)
+  unwanted_added not_wanted same those d has = rw same (other_stays d (access_at old d) (λ is. not_wanted (subst (Has wanted) (sym is) has)) (those d has))
 
 -- ---- the accesses along an order, and its events
 

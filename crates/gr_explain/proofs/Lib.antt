@@ -2,9 +2,7 @@ pub mod RecordLemmas
 pub mod Sets
 pub mod PairOrder
 pub mod AnswerLemmas
-pub mod EventSets
 pub mod KeptLemmas
-pub mod JudgedLemmas
 pub mod SeenLemmas
 pub mod Lists
 pub mod ClashLemmas

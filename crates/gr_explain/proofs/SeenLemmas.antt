@@ -1,5 +1,5 @@
 -- The pairs of a later access with the accesses of some items.
-use Rattle.std.proofs.Common.{◌≡◌, ◌≢◌, ◌⊎◌, ◌≤◌, IsTrue, List, [], ◌∷◌, ◌++◌, Option, Some, None, sym, ap, ◌∙◌, inl, inr, ⊎_elim, arith, true≢false}
+use Rattle.std.proofs.Common.{◌↔◌, ◌≡◌, ◌≢◌, ◌⊎◌, ◌≤◌, IsTrue, List, [], ◌∷◌, ◌++◌, Option, Some, None, sym, ap, ◌∙◌, inl, inr, ⊎_elim, arith, true≢false}
 use Rattle.std.specs.BTreeMap.{is_at}
 use Rattle.std.proofs.lemmas.Bool.Decides.{nat_tests}
 use Rattle.std.proofs.lemmas.List.Folds.{list_any-append}
@@ -27,11 +27,8 @@ HasItem items i = IsTrue (list_any (is_at ((item_order.cmp-value).it i)) items)
 item_ties : (i j : ItemId) → is_at ((item_order.cmp-value).it i) j ≡ same_item i j
 item_ties i j = grind (arith, nat_tests)
 
-has_more : (items : List ItemId) (i j : ItemId) → HasItem (items ++ i ∷ []) j → HasItem items j ⊎ (j ≡ i)
-has_more items i j h = grind (arith, list_any-append, item_ties, same_items)
-
-more_has : (items : List ItemId) (i j : ItemId) → HasItem items j ⊎ (j ≡ i) → HasItem (items ++ i ∷ []) j
-more_has items i j h = grind (arith, list_any-append, item_ties, same_item_self)
+items_more : (items : List ItemId) (i j : ItemId) → HasItem (items ++ i ∷ []) j ↔ (HasItem items j ⊎ (j ≡ i))
+items_more items i j = (λ h. grind (arith, list_any-append, item_ties, same_items), λ h. grind (arith, list_any-append, item_ties, same_item_self))
 
 -- ---- pairs
 
@@ -52,14 +49,14 @@ not_below_first d e f pair least same le apart turned up turned_least up_least b
 
 module _ (seen : SeenList) (y : ClockedAccess) (items : List ItemId) (i : ItemId) where
   pub still_on : (pair : Pair) → IsPairOn seen y items pair → IsPairOn seen y (items ++ i ∷ []) pair
-  still_on pair on = record { pair_with = on.pair_with; item = more_has items i on.pair_with.earlier.at (inl on.item) }
+  still_on pair on = record { pair_with = on.pair_with; item = (items_more items i on.pair_with.earlier.at).1 (inl on.item) }
 
   -- none of the item clashes
   pub none_more : IsFirstOf seen y i None → (pair : Pair) → IsPairOn seen y (items ++ i ∷ []) pair → IsPairOn seen y items pair
   none_more none pair on = ⊎_elim
       (λ was. record { pair_with = on.pair_with; item = was })
       (λ (same : on.pair_with.earlier.at ≡ i). absurd (none on.pair_with.earlier same on.pair_with.clashing))
-      (has_more items i on.pair_with.earlier.at on.item)
+      ((items_more items i on.pair_with.earlier.at).0 on.item)
 
   module _ (d : EventId) (first : IsFirstOf seen y i (Some d)) (least : Pair) (turned : IsTurned d (event_of y) least) where
     pub first_apart : d ≢ event_of y
@@ -67,7 +64,7 @@ module _ (seen : SeenList) (y : ClockedAccess) (items : List ItemId) (i : ItemId
 
     module _ (up : EventBelow least.0 least.1) where
       pub first_on : IsPairOn seen y (items ++ i ∷ []) least
-      first_on = record { pair_with = record { earlier = d; clashing = first.1; turned = turned; below = up }; item = more_has items i d.at (inr first.0) }
+      first_on = record { pair_with = record { earlier = d; clashing = first.1; turned = turned; below = up }; item = (items_more items i d.at).1 (inr first.0) }
 
       -- a pair is one of before, or none that is below the first one's
       pub on_or_not_below : (pair : Pair) → IsPairOn seen y (items ++ i ∷ []) pair → IsPairOn seen y items pair ⊎ ¬ PairBelow pair least
@@ -76,7 +73,7 @@ module _ (seen : SeenList) (y : ClockedAccess) (items : List ItemId) (i : ItemId
           (λ (same : on.pair_with.earlier.at ≡ i).
           let e = on.pair_with.earlier in
           inr (not_below_first d e (event_of y) pair least (same ∙ sym first.0) (first.2 e same on.pair_with.clashing) (λ is. clashing_apart seen y d first.1 (sym is)) on.pair_with.turned on.pair_with.below turned up))
-          (has_more items i on.pair_with.earlier.at on.item)
+          ((items_more items i on.pair_with.earlier.at).0 on.item)
 
 -- ---- where the least pair so far is below all that are left
 

@@ -35,11 +35,8 @@ turned_two tag_of e f pair turned = grind arith
 groups_of : (two : Bool) (e f : EventId) (pair : Pair) → IsTurned e f pair → (two ≡ true → AreOfTwoGroups pair) → are_of_groups two e f ≡ true
 groups_of two e f pair turned groups = grind (arith, nat_tests, groups)
 
-so_tags : (two : Bool) (a b : ℕ) (t : TaggedRace) → is_so two a b t ≡ true → AreSameTwo t.tag t.other a b
-so_tags two a b t so = grind (arith, nat_tests, so)
-
-so_groups : (a b : ℕ) (t : TaggedRace) → is_so true a b t ≡ true → AreOfTwoGroups (t.race.first, t.race.second)
-so_groups a b t so = grind (arith, nat_tests, so)
+so_told : (two : Bool) (a b : ℕ) (t : TaggedRace) → is_so two a b t ≡ true → AreSameTwo t.tag t.other a b × (two ≡ true → AreOfTwoGroups (t.race.first, t.race.second))
+so_told two a b t so = (grind (arith, nat_tests, so), λ is. grind (arith, nat_tests, so, is))
 
 -- ---- lists
 
@@ -93,13 +90,12 @@ module _ (s : Streams) (order : List EventId) (accesses : List ClockedAccess) (l
         let f = tag_of clash.later in
         let t = any_there (is_so two e f) found (stands.whole two clash.earlier clash.later clash.clash (groups_of two clash.earlier clash.later h.pair clash.turned groups)) in
         let of = stands.sound t.0 t.1 in
-        record {
-          race = t.0.race;
-          there = mapped_there race_of found t.0 t.1;
-          word = of.word;
-          tags = (let a = of.tags in let b = so_tags two e f t.0 t.2 in let k = turned_two tag_of clash.earlier clash.later h.pair clash.turned in let l = h.tags in grind (arith, a, b, k, l));
-          groups = λ is. so_groups e f t.0 (subst (λ (b : Bool). is_so b e f t.0 ≡ true) is t.2);
-        };
+        let told = so_told two e f t.0 t.2 in
+        let a = of.tags in
+        let b = told.0 in
+        let k = turned_two tag_of clash.earlier clash.later h.pair clash.turned in
+        let l = h.tags in
+        record { race = t.0.race; there = mapped_there race_of found t.0 t.1; word = of.word; tags = grind (arith, a, b, k, l); groups = told.1 };
     apart = apart_races w found stands.sound stands.others;
   }
     where

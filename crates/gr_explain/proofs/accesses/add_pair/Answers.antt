@@ -1,4 +1,4 @@
-use Rattle.gr_explain.proofs.EventSets.{wanted_still}
+use Rattle.gr_explain.proofs.Sets.{wanted_still}
 use Rattle.gr_explain.proofs.accesses.add_pair.Goals as goal
 
 pub returns-clause-others : goal.returns-clause-others

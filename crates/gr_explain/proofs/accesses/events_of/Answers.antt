@@ -1,5 +1,5 @@
 use Rattle.std.proofs.lemmas.List.{take_all}
-use Rattle.gr_explain.proofs.EventSets.{all_wanted}
+use Rattle.gr_explain.proofs.Sets.{all_wanted}
 use Rattle.gr_explain.proofs.accesses.events_of.Goals as goal
 
 pub loop-race-preserved : goal.loop-race-preserved

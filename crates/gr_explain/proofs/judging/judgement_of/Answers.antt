@@ -1,5 +1,5 @@
 use Rattle.std.proofs.Common.{arith}
-use Rattle.gr_explain.proofs.JudgedLemmas.{clashes_are_race, race_clashes}
+use Rattle.gr_explain.proofs.RacePairs.{clashes_are_race, race_clashes}
 use Rattle.gr_explain.proofs.judging.judgement_of.Goals as goal
 
 pub returns-then-are_race : goal.returns-then-are_race
