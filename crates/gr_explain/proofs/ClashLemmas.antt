@@ -23,11 +23,10 @@ module _ (w : Word) (accesses : List ClockedAccess) (y : ClockedAccess) where
       (λ (last : y ≡ of.access). inr (ap (λ (x : ClockedAccess). x.word) last ∙ of.word, ap event_of last ∙ of.event, ap (λ (x : ClockedAccess). x.class) last ∙ of.class))
       (Contains-push_cases accesses y of.access of.there)
 
-  pub still_clash : (e f : EventId) → IsClashIn accesses w e f → IsClashIn (accesses ++ y ∷ []) w e f
-  still_clash e f h = (h.0, h.1, h.2, h.3, h.4, slice_get-append accesses (y ∷ []) h.0 h.2 h.5, slice_get-append accesses (y ∷ []) h.1 h.3 h.6, h.7)
-
   pub still_pair : (pair : Pair) → IsClashPair w accesses pair → IsClashPair w (accesses ++ y ∷ []) pair
-  still_pair pair is = record { earlier = is.earlier; later = is.later; clash = still_clash is.earlier is.later is.clash; turned = is.turned; below = is.below }
+  still_pair pair is =
+      let h = is.clash in
+      record { earlier = is.earlier; later = is.later; clash = (h.0, h.1, h.2, h.3, h.4, slice_get-append accesses (y ∷ []) h.0 h.2 h.5, slice_get-append accesses (y ∷ []) h.1 h.3 h.6, h.7); turned = is.turned; below = is.below }
 
   -- an access to the word clashes with that of an earlier event
   pub record IsNewClash (e f : EventId) : Type 0 where

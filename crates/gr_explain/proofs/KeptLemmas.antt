@@ -62,10 +62,6 @@ module _ (s : Streams) where
   access_there _ _ zero d (of_other {e = e} {order = order} {accesses = accesses} none rest) at = let same : e ≡ d = cc in inl (rw (← same) none)
   access_there _ _ (suc p) d (of_other {e = e} {order = order} {accesses = accesses} none rest) at = access_there order accesses p d rest at
 
--- an access tells the same with its allocator
-full_access : {Z : Type 0} (s : Streams) (e : EventId) (a : Access Z) → IsAccess s e (bare (clocked a)) → IsAccess s e a
-full_access s e a of_e = record { word = of_e.word; item = of_e.item; index = of_e.index; event = of_e.event; at_event = of_e.at_event; class = of_e.class; counts = of_e.counts }
-
 -- along all grounded events, what is kept of a wanted event is its access
 module _ {Z : Type 0} (s : Streams) (wanted : List EventId) (kept : List (EventId × Access Z)) (order : List EventId) (whole : IsWholeOrder s order) (accesses : List ClockedAccess) (are : AreAccesses s order accesses) where
   kept_of : (d : EventId) (o : Option (Access Z)) → IsThatOf accesses d o → IsKept s d o
@@ -74,8 +70,10 @@ module _ {Z : Type 0} (s : Streams) (wanted : List EventId) (kept : List (EventI
       ⊎_elim (λ no_word. no_word) (λ h. absurd (none h.0 h.1 h.2)) (access_there s order accesses there.0 d are there.1)
   kept_of d (Some a) that =
       let h = event_there s order accesses (clocked a) are that.0 in
-      let there : IsIn order d = subst (IsIn order) that.1 h.0 in
-      (lawful_is_grounded s order d whole.lawful there, full_access s d a (subst (λ (e : EventId). IsAccess s e (bare (clocked a))) that.1 h.1))
+      let of : IsAccess s d (bare (clocked a)) = subst (λ (e : EventId). IsAccess s e (bare (clocked a))) that.1 h.1 in (
+        lawful_is_grounded s order d whole.lawful (subst (IsIn order) that.1 h.0),
+        record { word = of.word; item = of.item; index = of.index; event = of.event; at_event = of.at_event; class = of.class; counts = of.counts },
+      )
 
   pub kept_of_whole : AreThoseOf wanted accesses kept → AreKept s wanted kept
   kept_of_whole those d has = kept_of d (access_at kept d) (those d has)

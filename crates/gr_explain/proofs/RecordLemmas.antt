@@ -1,5 +1,5 @@
 -- Where the records of each item are, and the events that they are.
-use Rattle.std.proofs.Common.{◌≡◌, ◌+◌, ◌<◌, ◌≤◌, ℕ, zero, suc, Bool, true, false, cond, List, [], ◌∷◌, ◌++◌, Option, Some, None, append-nil, arith, ap, eq-or-lt_of_le, filter, get_or, length, refl, slice_get, sym, take, ◌∙◌, ◌⊎◌, subst, inl, inr, ⊎_elim}
+use Rattle.std.proofs.Common.{◌≡◌, ◌+◌, ◌<◌, ◌≤◌, ℕ, zero, suc, Bool, true, cond, List, [], ◌∷◌, ◌++◌, Option, Some, None, append-nil, arith, ap, eq-or-lt_of_le, filter, get_or, length, refl, slice_get, sym, take, ◌∙◌, ◌⊎◌, subst, inl, inr, ⊎_elim}
 use Rattle.std.specs.Prelude.{◌==◌, not, HoldsAt, MatchOption}
 use Rattle.std.specs.Borrow.{Bor}
 use Rattle.std.specs.Option.{option_copied}
@@ -28,15 +28,9 @@ module _ {X : Type 0} (test : X → Bool) where
   pub place_at : (i : ℕ) (xs : List X) (k : ℕ) → AreAt i xs (slice_get (places_from test i xs) k) (slice_get (filter test xs) k)
   place_at i [] k = inl (refl, refl)
   place_at i (x ∷ xs) zero =
-      elim (test x) as (λ b. test x ≡ b → AreAt i (x ∷ xs) (slice_get (cond b (i ∷ places_from test (suc i) xs) (places_from test (suc i) xs)) 0) (slice_get (cond b (x ∷ filter test xs) (filter test xs)) 0)) [
-        | true ↦ λ t. inr (0, x, ap Some (omega arith), refl, refl, t)
-        | false ↦ λ f. later i x xs _ _ (place_at (suc i) xs 0)
-      ] refl
-  place_at i (x ∷ xs) (suc k) =
-      elim (test x) as (λ b. AreAt i (x ∷ xs) (slice_get (cond b (i ∷ places_from test (suc i) xs) (places_from test (suc i) xs)) (suc k)) (slice_get (cond b (x ∷ filter test xs) (filter test xs)) (suc k))) [
-        | true ↦ later i x xs _ _ (place_at (suc i) xs k)
-        | false ↦ later i x xs _ _ (place_at (suc i) xs (suc k))
-      ]
+      let here : test x ≡ true → AreAt i (x ∷ xs) (Some i) (Some x) = λ t. inr (0, x, ap Some (omega arith), refl, refl, t) in
+      grind (arith, here, later i x xs _ _ (place_at (suc i) xs 0))
+  place_at i (x ∷ xs) (suc k) = grind (arith, later i x xs _ _ (place_at (suc i) xs k), later i x xs _ _ (place_at (suc i) xs (suc k)))
 
 -- an item that a group does not have has no records
 none_of_others : (items item : ℕ) (list : List Event) (k : ℕ) → AreGood items list → items ≤ item → slice_get (places_from (is_of item) 0 list) k ≡ None
