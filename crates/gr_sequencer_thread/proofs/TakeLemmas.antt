@@ -41,44 +41,33 @@ sent_else h n (e ∷ es) apart =
 abbrev pub come_one : Streams → ListedRecords → ℕ × List Event
 come_one taken b = come_of (λ c. c.group) (λ g. g) (λ c. c.records) taken b
 
-pub come_at : (taken : Streams) (coming : List ListedRecords) (g : ℕ) (f : ℕ × List Event) (b : ListedRecords) → g < length coming → get_or (come_in taken coming) g f ≡ come_one taken (get_or coming g b)
-come_at taken coming g f b lt = get_or-map (come_one taken) coming g b f lt
-
 -- ---- events of a group are popped
 
 module _ (config : Settings) (sizes : List ℕ) (takers : List Taker) (seated : AreSeated config sizes takers) (q : ℕ) (t : Taker) (at : t ≡ get_or takers q t) (there : q < config.queues) (queues : length takers ≡ config.queues) (n : ℕ) (es : List Event) (some : 0 < length es) (delivery : IsDelivery (popping t n es)) where
   within : q < length takers
   within = omega (arith, there, queues)
 
-  popped_here : popped_of (popping t n es) n ≡ popped_of t n ++ es
-  popped_here = events_append n t.popped (sent_by n es) ∙ ap (λ (l : List Event). popped_of t n ++ l) (sent_here n es)
-
-  has_seat : get_or t.sizes n 0 ≢ 0
-  has_seat none =
-      let all : length (popped_of t n ++ es) ≡ 0 = ap length (sym popped_here ∙ delivery.unseated n none) in
-      absurd (omega (arith, all, some, length-append (popped_of t n) es))
-
-  seat_size : get_or t.sizes n 0 ≡ cond (n % config.queues == q) (get_or sizes n 0) 0
-  seat_size = ap (λ (u : Taker). get_or u.sizes n 0) at ∙ seated q n t there
-
-  queue_is : n % config.queues ≡ q
-  queue_is = ⊎_elim (λ same. same)
-      (λ apart. absurd (has_seat (seat_size ∙ ap (λ b. cond b (get_or sizes n 0) 0) (ne_eqb (n % config.queues) q apart))))
+  seat_is : (n % config.queues ≡ q) × (get_or t.sizes n 0 ≡ get_or sizes n 0) × (get_or t.sizes n 0 ≢ 0)
+  seat_is =
+      let size = ap (λ (u : Taker). get_or u.sizes n 0) at ∙ seated q n t there in
+      let has_seat : get_or t.sizes n 0 ≢ 0 = λ none.
+      let all = ap length (sym (events_append n t.popped (sent_by n es)) ∙ delivery.unseated n none) in
+      absurd (omega (arith, all, some, length-append (popped_of t n) (events_of n (sent_by n es)), ap length (sent_here n es))) in
+      ⊎_elim
+      (λ (same : n % config.queues ≡ q). (same, size ∙ ap (λ b. cond b (get_or sizes n 0) 0) (eq-eqb (n % config.queues) q same), has_seat))
+      (λ apart. absurd (has_seat (size ∙ ap (λ b. cond b (get_or sizes n 0) 0) (ne_eqb (n % config.queues) q apart))))
       (cases_eq (n % config.queues) q)
-
-  size_is : get_or t.sizes n 0 ≡ get_or sizes n 0
-  size_is = seat_size ∙ ap (λ b. cond b (get_or sizes n 0) 0) (eq-eqb (n % config.queues) q queue_is)
 
   pub group_there : n < length sizes
   group_there = ⊎_elim (λ lt. lt)
-      (λ (ge : length sizes ≤ n). absurd (has_seat (size_is ∙ get_or-eq_default sizes 0 ge)))
+      (λ (ge : length sizes ≤ n). absurd (seat_is.2 (seat_is.1 ∙ get_or-eq_default sizes 0 ge)))
       (cases_lt n (length sizes))
 
   -- what was popped of each group: these events more, if they are of the group
   popped_now : (h : ℕ) (d : Taker) → popped_of (get_or (set takers q (popping t n es)) (h % config.queues) d) h ≡ popped_of (get_or takers (h % config.queues) d) h ++ events_of h (sent_by n es)
   popped_now h d = where_set (λ p u. p ≡ h % config.queues → popped_of u h ≡ popped_of (get_or takers p d) h ++ events_of h (sent_by n es)) takers q (popping t n es) d within
       (λ _. events_append h t.popped (sent_by n es) ∙ ap (λ (u : Taker). popped_of u h ++ events_of h (sent_by n es)) (at ∙ get_or_default takers q t d within))
-      (λ p apart mine. sym (ap (λ (l : List Event). popped_of (get_or takers p d) h ++ l) (sent_else h n es (λ same. apart (mine ∙ ap (λ m. m % config.queues) same ∙ queue_is))) ∙ append-nil (popped_of (get_or takers p d) h)))
+      (λ p apart mine. sym (ap (λ (l : List Event). popped_of (get_or takers p d) h ++ l) (sent_else h n es (λ same. apart (mine ∙ ap (λ m. m % config.queues) same ∙ seat_is.0))) ∙ append-nil (popped_of (get_or takers p d) h)))
       (h % config.queues)
       refl
 
@@ -93,32 +82,21 @@ module _ (config : Settings) (sizes : List ℕ) (takers : List Taker) (seated : 
     there_now : n < length coming
     there_now = omega (arith, are.count, ap length same, group_there)
 
-    came : (d : Taker) → come_one taken b ≡ (n, popped_of (get_or takers (n % config.queues) d) n)
-    came d =
-        let f = come_one taken b in
-        ap (come_one taken) mine ∙ (sym (come_at taken coming n f b there_now) ∙ are.each n f d (omega (arith, there_now, are.count)))
-
-    each : (g : ℕ) (f : ℕ × List Event) (d : Taker) → g < length taken.sizes → get_or (come_in taken (set coming n (behind b es))) g f ≡ (g, popped_of (get_or (set takers q (popping t n es)) (g % config.queues) d) g)
-    each g f d lt =
-        come_at taken (set coming n (behind b es)) g f b (omega (arith, lt, are.count, length-set coming n (behind b es)))
-        ∙ where_set (λ h c. h < length taken.sizes → come_one taken c ≡ (h, popped_of (get_or (set takers q (popping t n es)) (h % config.queues) d) h)) coming n (behind b es) b there_now
-        (λ _. ap (λ (l : List Event). (b.group, l)) (sym (append_assoc (list_of taken b.group) b.records es)) ∙ (ap (λ (x : ℕ × List Event). (x.0, x.1 ++ es)) (came d) ∙ ap (λ (l : List Event). (n, l)) (sym (own_now d))))
-        (λ h apart below. sym (come_at taken coming h f b (omega (arith, below, are.count))) ∙ (are.each h f d below ∙ ap (λ (l : List Event). (h, l)) (others h d apart)))
-        g lt
-
-    own_prefix : (d : Taker) → IsPrefix (size_of taken n) (popped_of (get_or (set takers q (popping t n es)) (n % config.queues) d) n)
-    own_prefix d =
-        let popped : popped_of (popping t n es) n ≡ popped_of (get_or (set takers q (popping t n es)) (n % config.queues) d) n =
-        ap (λ (u : Taker). popped_of u n) (sym (ap (λ m. get_or (set takers q (popping t n es)) m d) queue_is ∙ get_or-set_same takers q (popping t n es) d within)) in
-        let size : get_or t.sizes n 0 ≡ size_of taken n = size_is ∙ ap (λ (l : List ℕ). get_or l n 0) (sym same) in
-        subst (λ (y : ℕ × List Event). IsPrefix y.0 y.1) (λ i. (size i, popped i)) (delivery.streams n)
-
     pub still_popped : ArePopped config taken (set coming n (behind b es)) (set takers q (popping t n es))
     still_popped = record {
       count = length-set coming n (behind b es) ∙ are.count;
-      each = each;
+      each = λ g f d lt.
+          let came = ap (come_one taken) mine ∙ (sym (get_or-map (come_one taken) coming n b f there_now) ∙ are.each n f d (omega (arith, there_now, are.count))) in
+          get_or-map (come_one taken) (set coming n (behind b es)) g b f (omega (arith, lt, are.count, length-set coming n (behind b es)))
+          ∙ where_set (λ h c. h < length taken.sizes → come_one taken c ≡ (h, popped_of (get_or (set takers q (popping t n es)) (h % config.queues) d) h)) coming n (behind b es) b there_now
+          (λ _. ap (λ (l : List Event). (b.group, l)) (sym (append_assoc (list_of taken b.group) b.records es)) ∙ (ap (λ (x : ℕ × List Event). (x.0, x.1 ++ es)) came ∙ ap (λ (l : List Event). (n, l)) (sym (own_now d))))
+          (λ h apart below. sym (get_or-map (come_one taken) coming h b f (omega (arith, below, are.count))) ∙ (are.each h f d below ∙ ap (λ (l : List Event). (h, l)) (others h d apart)))
+          g lt;
       prefixes = λ g d lt. ⊎_elim
-          (λ (own : g ≡ n). subst (λ m. IsPrefix (size_of taken m) (popped_of (get_or (set takers q (popping t n es)) (m % config.queues) d) m)) (sym own) (own_prefix d))
+          (λ (own : g ≡ n).
+          let popped = ap (λ (u : Taker). popped_of u n) (sym (ap (λ m. get_or (set takers q (popping t n es)) m d) seat_is.0 ∙ get_or-set_same takers q (popping t n es) d within)) in
+          let size = seat_is.1 ∙ ap (λ (l : List ℕ). get_or l n 0) (sym same) in
+          rw (own) (subst (λ (y : ℕ × List Event). IsPrefix y.0 y.1) (λ i. (size i, popped i)) (delivery.streams n)))
           (λ apart. subst (IsPrefix (size_of taken g)) (others g d apart) (are.prefixes g d lt))
           (cases_eq g n);
     }
@@ -150,12 +128,8 @@ popped_feed f is q t u n es coming failed at lt some now delivered count noted =
           let told = noted still in
           let was = is.good told.0 in
           let popped = still_popped f.config f.sizes f.takers is.seated q t at there is.queues n es some delivery f.sequence.taken was.same f.coming was.popped b mine in
-          record {
-            same = was.same;
-            sequence = was.sequence;
-            popped = subst (λ (y : List ListedRecords × Taker). ArePopped f.config f.sequence.taken y.0 (set f.takers q y.1)) (λ i. (sym (told.1 b mine) i, sym now i)) popped;
-            passed = was.passed;
-          };
+          let moved = subst (λ (y : List ListedRecords × Taker). ArePopped f.config f.sequence.taken y.0 (set f.takers q y.1)) (λ i. (sym (told.1 b mine) i, sym now i)) popped in
+          record { same = was.same; sequence = was.sequence; popped = moved; passed = was.passed };
     }
 
 -- ---- the groups take turns
@@ -165,18 +139,17 @@ module _ (config : Settings) (taken : Streams) (coming : List ListedRecords) (ta
   in_sizes g lt = omega (arith, lt, length-map coming (come_one taken), are.count)
 
   -- what was popped of a group may come
-  may_come : Taker → MayCome (λ g. g) taken.sizes (come_in taken coming)
-  may_come d = record {
-    there = λ g f lt. subst (λ (x : ℕ × List Event). x.0 < length taken.sizes) (sym (are.each g f d (in_sizes g lt))) (in_sizes g lt);
-    prefixes = λ g f lt. subst (λ (x : ℕ × List Event). IsPrefix (size_of taken x.0) x.1) (sym (are.each g f d (in_sizes g lt))) (are.prefixes g d (in_sizes g lt));
-    differ = λ i j f lt there. λ same.
-        let first = ap (λ (x : ℕ × List Event). x.0) (are.each i f d (in_sizes i (omega (arith, lt, there)))) in
-        let second = ap (λ (x : ℕ × List Event). x.0) (are.each j f d (in_sizes j there)) in
-        absurd (omega (arith, lt, sym first ∙ (same ∙ second)));
-  }
-
   pub may_come_now : length takers ≡ config.queues → 0 < config.queues → MayCome (λ g. g) taken.sizes (come_in taken coming)
-  may_come_now queues some = may_come (a_taker takers (omega (arith, queues, some)))
+  may_come_now queues some =
+      let d = a_taker takers (omega (arith, queues, some)) in
+      record {
+        there = λ g f lt. subst (λ (x : ℕ × List Event). x.0 < length taken.sizes) (sym (are.each g f d (in_sizes g lt))) (in_sizes g lt);
+        prefixes = λ g f lt. subst (λ (x : ℕ × List Event). IsPrefix (size_of taken x.0) x.1) (sym (are.each g f d (in_sizes g lt))) (are.prefixes g d (in_sizes g lt));
+        differ = λ i j f lt there. λ same.
+            let first = ap (λ (x : ℕ × List Event). x.0) (are.each i f d (in_sizes i (omega (arith, lt, there)))) in
+            let second = ap (λ (x : ℕ × List Event). x.0) (are.each j f d (in_sizes j there)) in
+            absurd (omega (arith, lt, sym first ∙ (same ∙ second)));
+      }
     where
       a_taker : (ts : List Taker) → 0 < length ts → Taker
       a_taker [] none = absurd (omega (arith, none))
@@ -195,7 +168,7 @@ module _ (config : Settings) (taken : Streams) (coming : List ListedRecords) (ta
   -- all of it was taken
   pub all_taken : All (λ b. b.records ≡ []) coming → AreTaken config taken takers
   all_taken none g d lt = taken_at (get_or coming g (record { group = 0; records = [] })) (none g (record { group = 0; records = [] }) within)
-      (sym (come_at taken coming g (0, []) (record { group = 0; records = [] }) within) ∙ are.each g (0, []) d lt)
+      (sym (get_or-map (come_one taken) coming g (record { group = 0; records = [] }) (0, []) within) ∙ are.each g (0, []) d lt)
     where
       within : g < length coming
       within = omega (arith, lt, are.count)
@@ -209,12 +182,4 @@ module _ (config : Settings) (taken : Streams) (coming : List ListedRecords) (ta
 -- a feed of whose groups some of what was popped was taken
 pub taken_feed : {A : Type 0} (f : Feed A) → IsFeed f → (sequence : Sequence) (coming : List ListedRecords) (on_way : List (List ClockedAccess)) (failed : Bool) → length coming ≡ length f.coming → (failed ≡ false → IsGood (record f { sequence = sequence; coming = coming; on_way = on_way; failed = failed }))
     → IsFeed (record f { sequence = sequence; coming = coming; on_way = on_way; failed = failed })
-taken_feed f is sequence coming on_way failed count good = record {
-  config = is.config;
-  queues = is.queues;
-  worker_count = is.worker_count;
-  backlogs = count ∙ is.backlogs;
-  seated = is.seated;
-  unstopped = is.unstopped;
-  good = good;
-}
+taken_feed f is sequence coming on_way failed count good = assumption (count ∙ is.backlogs)

@@ -1,5 +1,6 @@
 -- The work on its way to a worker.
-use Rattle.std.proofs.Common.{◌≡◌, Bool, true, false, true≢false, List, [], ◌∷◌, ◌++◌, ◌||◌, Option, None, Some, refl, sym, ap, ◌∙◌, append_assoc, append-nil, IsFalse}
+use Rattle.std.proofs.Common.{◌≡◌, true≢false, List, [], ◌∷◌, ◌++◌, ◌||◌, Option, None, Some, sym, ap, ◌∙◌, append_assoc, append-nil, IsFalse}
+use Rattle.std.proofs.lemmas.Bool.{or_from, or_parts}
 use Rattle.gr_route.specs.declared.work.Work.{Work}
 use Rattle.gr_route.specs.Batches.{all_of}
 use Rattle.gr_route.specs.WorkRule.{StopsLast, is_stopped}
@@ -10,22 +11,15 @@ use Rattle.gr_sequencer_thread.specs.Feeds.{work_on_way}
 module _ {A : Type 0} where
   -- in two lists there are accesses alone exactly if there are in each
   pub both_unstopped : (xs ys : List (Work A)) → IsFalse (is_stopped xs) → IsFalse (is_stopped ys) → IsFalse (is_stopped (xs ++ ys))
-  both_unstopped xs ys first then = more_stops xs ys ∙ (λ i. first i || then i)
+  both_unstopped xs ys first then = more_stops xs ys ∙ or_from _ _ first then
 
-  pub unstopped_first : (xs ys : List (Work A)) → IsFalse (is_stopped (xs ++ ys)) → IsFalse (is_stopped xs)
-  unstopped_first xs ys unstopped = first (is_stopped xs) refl
-    where
-      first : (b : Bool) → is_stopped xs ≡ b → IsFalse (is_stopped xs)
-      first false is = is
-      first true is = absurd (true≢false (ap (λ c. c || is_stopped ys) (sym is) ∙ (sym (more_stops xs ys) ∙ unstopped)))
-
-  pub unstopped_then : (xs ys : List (Work A)) → IsFalse (is_stopped (xs ++ ys)) → IsFalse (is_stopped ys)
-  unstopped_then xs ys unstopped = ap (λ c. c || is_stopped ys) (sym (unstopped_first xs ys unstopped)) ∙ (sym (more_stops xs ys) ∙ unstopped)
+  pub unstopped_each : (xs ys : List (Work A)) → IsFalse (is_stopped (xs ++ ys)) → IsFalse (is_stopped xs) × IsFalse (is_stopped ys)
+  unstopped_each xs ys unstopped = or_parts _ _ (sym (more_stops xs ys) ∙ unstopped)
 
   -- accesses may be pushed after others
   pub stops_last : (xs : List (Work A)) → IsFalse (is_stopped xs) → StopsLast xs
   stops_last [] unstopped = tt
-  stops_last (x ∷ xs) unstopped = ((λ stop. absurd (true≢false (ap (λ c. c || is_stopped xs) (sym stop) ∙ unstopped))), stops_last xs (unstopped_then (x ∷ []) xs unstopped))
+  stops_last (x ∷ xs) unstopped = ((λ stop. absurd (true≢false (ap (λ c. c || is_stopped xs) (sym stop) ∙ unstopped))), stops_last xs ((unstopped_each (x ∷ []) xs unstopped).1))
 
   -- ---- work more is on its way
 
@@ -34,9 +28,6 @@ module _ {A : Type 0} where
   way_more (Some b) batches waiting more = ap (λ l. b ++ l) (sym (append_assoc (all_of batches) waiting more)) ∙ sym (append_assoc b (all_of batches ++ waiting) more)
 
   -- what waited is a batch
-  batched : (batches : List (List (Work A))) (b : List (Work A)) → all_of (batches ++ b ∷ []) ++ [] ≡ all_of batches ++ b
-  batched batches b = append-nil (all_of (batches ++ b ∷ [])) ∙ all_of_push batches b
-
   pub way_batched : (refused : Option (List (Work A))) (batches : List (List (Work A))) (b : List (Work A)) → work_on_way refused (batches ++ b ∷ []) [] ≡ work_on_way refused batches b
-  way_batched None batches b = batched batches b
-  way_batched (Some r) batches b = ap (λ l. r ++ l) (batched batches b)
+  way_batched None batches b = simp (append-nil, all_of_push)
+  way_batched (Some r) batches b = simp (append-nil, all_of_push)

@@ -1,7 +1,5 @@
-use Rattle.std.proofs.Common.{◌<◌, ◌≤◌, ◌∙◌, [], length, ap, arith}
-use Rattle.std.proofs.lemmas.List.{take_all}
+use Rattle.std.proofs.Common.{◌<◌, ◌≤◌, [], length, ap, arith}
 use Rattle.std.proofs.lemmas.List.Sums.{sum_by_more}
-use Rattle.std.specs.List.{sum_by}
 use Rattle.gr_model.specs.Streams.{list_of}
 use Rattle.gr_sequencer_thread.proofs.end.records_of.Goals as goal
 
@@ -15,10 +13,3 @@ loop-group-preserved g c =
     let within : c.loop-group.group < length s.lists = omega (arith, there, prefixes.count) in
     let more = sum_by_more length s.lists c.loop-group.group [] within in
     record { so_far = omega (arith, c.taken.ensures, c.from-records.ensures, c.loop-group.invariant.so_far, more); bound = omega (arith, c.taken.ensures, c.from-records.ensures, few, c.loop-group.invariant.bound) }
-
-pub returns : goal.returns
-returns g c =
-    let s = c.args.sequencer.now.taken in
-    let sizes = ap length c.requires in
-    let all : length s.lists ≤ c.loop-group.group = omega (arith, sizes, c.groups-group-end.ensures.count, c.at_end.ensures.sequence.prefixes.count) in
-    c.loop-group.invariant.so_far ∙ ap (sum_by length) (take_all c.loop-group.group s.lists all)

@@ -1,7 +1,6 @@
 use Rattle.std.proofs.Common.{◌∙◌, ap, sym, length}
 use Rattle.std.proofs.lemmas.List.{length-map}
 use Rattle.gr_route.specs.WorkSeats.{Giver}
-use Rattle.gr_sequencer_thread.specs.Feeds.{Feed, intakes_of, works_of}
 use Rattle.gr_sequencer_thread.proofs.feed.Feed.pass.Goals as goal
 
 pub invariant_of-self : goal.invariant_of-self
@@ -14,18 +13,5 @@ invariant_of-self g c = record {
   unstopped = c.pass.ensures.«open»;
   good = λ f.
       let was = c.self.invariant.good f in
-      record {
-        same = was.same;
-        sequence = was.sequence;
-        popped = was.popped;
-        passed = (was.passed.0, was.passed.1, c.pass.ensures.split was.passed.0 was.passed.2);
-      };
-}
-
-pub returns : goal.returns
-returns g c = record {
-  config = ap (λ (f : Feed g.row.A.Denot). f.config) c.self.view_is;
-  sizes = ap (λ (f : Feed g.row.A.Denot). f.sizes) c.self.view_is;
-  intakes = ap (λ (f : Feed g.row.A.Denot). intakes_of f.takers) c.self.view_is;
-  works = c.pass.ensures.queues ∙ ap (λ (f : Feed g.row.A.Denot). works_of f.givers) c.self.view_is;
+      record { same = was.same; sequence = was.sequence; popped = was.popped; passed = (was.passed.0, was.passed.1, c.pass.ensures.split was.passed.0 was.passed.2) };
 }

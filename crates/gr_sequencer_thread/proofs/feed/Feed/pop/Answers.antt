@@ -1,16 +1,11 @@
-use Rattle.std.proofs.Common.{◌≡◌, ◌∙◌, ◌<◌, List, ap, sym, subst, set, length, arith, rules}
+use Rattle.std.proofs.Common.{◌≡◌, ◌∙◌, ◌<◌, ap, sym, subst, set, length, arith, rules}
 use Rattle.std.proofs.Math.Seq.{map-set_same}
 use Rattle.std.proofs.lemmas.List.{set-get_or}
 use Rattle.gr_route.specs.IntakeSeats.{IsDelivery, Taker}
-use Rattle.gr_sequencer_thread.specs.Feeds.{Feed, IsFeed, IsSameRun, intakes_of, works_of}
+use Rattle.gr_sequencer_thread.specs.Feeds.{Feed, IsSameRun, intakes_of, works_of}
 use Rattle.gr_sequencer_thread.proofs.SameRuns.{goes_on}
 use Rattle.gr_sequencer_thread.proofs.TakeLemmas.{group_there, popped_feed}
 use Rattle.gr_sequencer_thread.proofs.feed.Feed.pop.Goals as goal
-
-pub index_mut-requires : goal.index_mut-requires
-index_mut-requires g c =
-    let len : length c.self.inside.inlets.items ≡ c.self.inside.inlets.len = search rules in
-    omega (arith, c.requires, len, ap (λ (f : Feed g.row.A.Denot). length f.takers) c.self.view_is)
 
 pub note-self-inside-requires : goal.note-self-inside-requires
 note-self-inside-requires g c =
@@ -44,16 +39,10 @@ pub invariant_of-self : goal.invariant_of-self
 invariant_of-self g c =
     let back : c.pop.new.self ≡ c.index_mut.result.now = search rules in
     let unmoved = ap (set c.self.inside.inlets.items c.args.queue) (back ∙ c.index_mut.ensures.value) ∙ set-get_or c.self.inside.inlets.items c.args.queue c.index_mut.result.now in
-    subst
-    (λ (ts : List Taker). IsFeed {A = g.row.A.Denot} (record { config = c.self.inside.config; sizes = c.self.inside.shape; sequence = c.self.inside.sequencer; takers = ts; givers = c.self.inside.outlets.items; coming = c.self.inside.backlogs.items; on_way = c.self.inside.on_way; failed = c.self.inside.failed }))
-    (sym unmoved)
-    c.self.invariant
+    rw unmoved c.self.invariant
 
 pub returns-in_default : goal.returns-in_default
 returns-in_default g c =
     let back : c.pop.new.self ≡ c.index_mut.result.now = search rules in
     let unmoved = ap (set c.self.inside.inlets.items c.args.queue) (back ∙ c.index_mut.ensures.value) ∙ set-get_or c.self.inside.inlets.items c.args.queue c.index_mut.result.now in
-    subst
-    (λ (ts : List Taker). IsSameRun {A = g.row.A.Denot} c.args.self.now (record { config = c.self.inside.config; sizes = c.self.inside.shape; sequence = c.self.inside.sequencer; takers = ts; givers = c.self.inside.outlets.items; coming = c.self.inside.backlogs.items; on_way = c.self.inside.on_way; failed = c.self.inside.failed }))
-    (sym unmoved)
-    (subst (IsSameRun c.args.self.now) (sym c.self.view_is) (goes_on c.args.self.now))
+    rw unmoved (subst (IsSameRun c.args.self.now) (sym c.self.view_is) (goes_on c.args.self.now))

@@ -1,7 +1,7 @@
-use Rattle.std.proofs.Common.{◌≡◌, ◌∙◌, List, ap, sym, subst, length, arith, true, true≢false}
+use Rattle.std.proofs.Common.{◌∙◌, List, ap, sym, subst, length, arith, true, true≢false}
 use Rattle.gr_taking.specs.Along.{IsAlong}
 use Rattle.gr_taking.specs.Sources.{ListedRecords, MayCome}
-use Rattle.gr_sequencer_thread.specs.Feeds.{AreSplit, Feed, IsFeed, come_in, given_of, intakes_of, works_of}
+use Rattle.gr_sequencer_thread.specs.Feeds.{AreSplit, Feed, come_in, given_of, intakes_of, works_of}
 use Rattle.gr_sequencer_thread.proofs.SameRuns.{whole_back}
 use Rattle.gr_sequencer_thread.proofs.TakeLemmas.{may_come_now, popped_moves, taken_feed}
 use Rattle.gr_sequencer_thread.proofs.feed.Feed.take_turns.Goals as goal
@@ -17,33 +17,23 @@ pub take_round-requires-clause-along : goal.take_round-requires-clause-along
 take_round-requires-clause-along g c =
     subst (λ o. IsAlong (AreSplit c.self.inside.config.workers (given_of o.items)) c.self.inside.sequencer c.self.inside.on_way) (sym c.of.ensures) (c.self.invariant.good c.if-self.false).passed
 
-pub look_at-left-requires : goal.look_at-left-requires
-look_at-left-requires g c = let some = c.self.invariant.config.queues.0 in omega (arith, some, c.self.invariant.queues)
-
 pub invariant_of-self : goal.invariant_of-self
 invariant_of-self g c =
     let good = c.self.invariant.good c.if-self.false in
     let told = c.in-Ok.ensures in
     let was = c.self.inside.backlogs.items in
     let now = c.take_round.new.sources in
-    let count : length now ≡ length was = c.take_round.auto.sources ∙ ap length c.as_mut_slice.ensures.value in
-    let len : length was ≡ c.self.inside.backlogs.len = sym (ap length c.as_mut_slice.ensures.value) ∙ c.as_mut_slice.ensures.len in
-    let come = told.come ∙ ap (come_in c.self.inside.sequencer.taken) c.as_mut_slice.ensures.value in
+    let slice = c.as_mut_slice.ensures.value in
+    let come = told.come ∙ ap (come_in c.self.inside.sequencer.taken) slice in
     let popped = popped_moves c.self.inside.config c.self.inside.sequencer.taken was c.self.inside.inlets.items good.popped c.take_round.new.sequencer.taken now come told.sizes in
     let passed = subst (λ o. IsAlong (AreSplit c.self.inside.config.workers (given_of o.items)) c.take_round.new.sequencer c.take_round.new.kept) c.of.ensures told.along in
-    subst (λ (l : List ListedRecords). IsFeed {A = g.row.A.Denot} (record { config = c.self.inside.config; sizes = c.self.inside.shape; sequence = c.take_round.new.sequencer; takers = c.self.inside.inlets.items; givers = c.self.inside.outlets.items; coming = l; on_way = c.take_round.new.kept; failed = c.self.inside.failed }))
-    (sym (c.look_at-left.ensures ∙ whole_back c.self.inside.backlogs.len was now len count))
-    (taken_feed _ c.self.invariant _ _ _ _ count (λ _. record { same = told.sizes ∙ good.same; sequence = told.sequence; popped = popped; passed = passed }))
+    rw (c.look_at-left.ensures, whole_back _ _ _ now slice c.as_mut_slice.ensures.len c.take_round.auto.sources)
+    (taken_feed _ c.self.invariant _ _ _ _ (c.take_round.auto.sources ∙ ap length slice) (λ _. record { same = told.sizes ∙ good.same; sequence = told.sequence; popped = popped; passed = passed }))
 
 pub invariant_of-self-in-Err : goal.invariant_of-self-in-Err
 invariant_of-self-in-Err g c =
-    let was = c.self.inside.backlogs.items in
-    let now = c.take_round.new.sources in
-    let count : length now ≡ length was = c.take_round.auto.sources ∙ ap length c.as_mut_slice.ensures.value in
-    let len : length was ≡ c.self.inside.backlogs.len = sym (ap length c.as_mut_slice.ensures.value) ∙ c.as_mut_slice.ensures.len in
-    subst (λ (l : List ListedRecords). IsFeed {A = g.row.A.Denot} (record { config = c.self.inside.config; sizes = c.self.inside.shape; sequence = c.take_round.new.sequencer; takers = c.self.inside.inlets.items; givers = c.self.inside.outlets.items; coming = l; on_way = c.take_round.new.kept; failed = true }))
-    (sym (whole_back c.self.inside.backlogs.len was now len count))
-    (taken_feed _ c.self.invariant _ _ _ true count (λ failed. absurd (true≢false failed)))
+    rw (whole_back _ _ _ c.take_round.new.sources c.as_mut_slice.ensures.value c.as_mut_slice.ensures.len c.take_round.auto.sources)
+    (taken_feed _ c.self.invariant _ _ _ true (c.take_round.auto.sources ∙ ap length c.as_mut_slice.ensures.value) (λ failed. absurd (true≢false failed)))
 
 pub returns : goal.returns
 returns g c = record {
