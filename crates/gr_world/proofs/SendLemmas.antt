@@ -1,5 +1,5 @@
 -- A world in which a record was sent is a world.
-use Rattle.std.proofs.Common.{◌≡◌, ◌↔◌, ℕ, zero, suc, ◌+◌, ◌<◌, [], ◌∷◌, ◌++◌, length, get_or, set, refl, sym, ap, ◌∙◌, subst, ⊎_elim, arith, append_assoc, append-nil, IsTrue, IsFalse}
+use Rattle.std.proofs.Common.{◌≡◌, ℕ, zero, suc, ◌+◌, ◌<◌, [], ◌∷◌, ◌++◌, length, get_or, set, refl, sym, ap, ◌∙◌, subst, ⊎_elim, arith, append_assoc, append-nil, IsTrue, IsFalse}
 use Rattle.std.proofs.Math.Nat.{mod-lt}
 use Rattle.std.proofs.lemmas.List.{get_or_default, length-append, length-set}
 use Rattle.std.proofs.lemmas.List.Elements.{Contains-append_cases}
@@ -12,6 +12,8 @@ use Rattle.gr_model.specs.Events.{is_end}
 use Rattle.gr_model.specs.Streams.{ArePrefixes, Streams, events_of, is_complete, list_of}
 use Rattle.gr_model.proofs.Sending.{events_append, events_else, events_here, is_complete-push}
 use Rattle.gr_lanes.specs.Takes.{with_record}
+use Rattle.gr_world.specs.declared.step.StepError.TheVariants.{Full}
+use Rattle.gr_world.specs.Putting.{IsPutFault, MayPut, Queues}
 use Rattle.gr_world.specs.Queues.{Bounded, HasRoom, pushed}
 use Rattle.gr_world.specs.Worlds.{AreDelivered, ArePassedOn, IsWorld, World, intake_at, no_queue, queue_of, sending}
 use Rattle.gr_world.proofs.Changes.{where_set}
@@ -24,9 +26,6 @@ queue_there w world g =
 
 pub at_queue : (w : World) → IsWorld w → (g q : ℕ) (b : Bounded Sent) → q ≡ queue_of w g → b ≡ get_or w.intakes q b → b ≡ intake_at w (queue_of w g)
 at_queue w world g q b same at = at ∙ ap (λ n. get_or w.intakes n b) same ∙ get_or_default w.intakes (queue_of w g) b no_queue (queue_there w world g)
-
-pub has_room : (w : World) → IsWorld w → (g q : ℕ) (b : Bounded Sent) → q ≡ queue_of w g → b ≡ get_or w.intakes q b → HasRoom b ↔ HasRoom (intake_at w (queue_of w g))
-has_room w world g q b same at = let now = at_queue w world g q b same at in (subst HasRoom now, subst HasRoom (sym now))
 
 only_one : {T : Type 0} (x y : T) → Contains (x ∷ []) y → x ≡ y
 only_one x y (zero, lt, is) = is
@@ -83,11 +82,21 @@ module _ (w : World) (world : IsWorld w) (g : ℕ) (x : Event) (there : g < leng
       assumption (prefixes, room_left, queues, places, delivered, passed, world)
 
 -- the same, where the stream and the queue are told by equations
-module _ (w : World) (world : IsWorld w) (g : ℕ) (x : Event) (q : ℕ) (b : Bounded Sent) (same : q ≡ queue_of w g) (at : b ≡ get_or w.intakes q b) (s : Streams) (queue : Bounded Sent) (is : s ≡ with_record w.sent g x) (now : queue ≡ pushed b (record { group = g; event = x })) where
-  pub sent_is : record w { sent = s; intakes = set w.intakes q queue } ≡ sending w g x
-  sent_is =
-      let all : queue ≡ pushed (intake_at w (queue_of w g)) (record { group = g; event = x }) = now ∙ ap (λ (c : Bounded Sent). pushed c (record { group = g; event = x })) (at_queue w world g q b same at) in
-      λ k. record w { sent = is k; intakes = set w.intakes (same k) (all k) }
+module _ (w v : World) (world : IsWorld w) (view : w ≡ v) (g q : ℕ) (same : q ≡ queue_of w g) (b : Bounded Sent) (at : b ≡ get_or w.intakes q b) where
+  pub may_put : ¬ IsTrue (is_complete (list_of w.sent g)) → HasRoom b → MayPut v g
+  may_put unclosed room = rw (← view) (record { unclosed = unclosed; room = subst HasRoom (at_queue w world g q b same at) room })
 
-  pub sent_is_world : ArePrefixes s → g < length w.sent.sizes → (IsFalse (is_end x) → length (list_of w.sent g) + 1 < MOST_RECORDS) → IsWorld (record w { sent = s; intakes = set w.intakes q queue })
-  sent_is_world prefixes there room = subst IsWorld (sym sent_is) (sending_is_world w world g x there room (subst ArePrefixes is prefixes))
+  pub put_full : ¬ IsTrue (is_complete (list_of w.sent g)) → ¬ HasRoom b → IsPutFault v g Full
+  put_full unclosed full = rw (← view) (unclosed, λ room. full (subst HasRoom (sym (at_queue w world g q b same at)) room))
+
+  module _ (x : Event) (s : Streams) (queue : Bounded Sent) (is : s ≡ with_record w.sent g x) (now : queue ≡ pushed b (record { group = g; event = x })) where
+    sent_is : record w { sent = s; intakes = set w.intakes q queue } ≡ sending w g x
+    sent_is =
+        let all : queue ≡ pushed (intake_at w (queue_of w g)) (record { group = g; event = x }) = now ∙ ap (λ (c : Bounded Sent). pushed c (record { group = g; event = x })) (at_queue w world g q b same at) in
+        λ k. record w { sent = is k; intakes = set w.intakes (same k) (all k) }
+
+    pub sent_is_put : MayPut v g → Queues v g x (record w { sent = s; intakes = set w.intakes q queue })
+    sent_is_put may = record { may = may; sends = rw (← view) sent_is }
+
+    pub sent_is_world : ArePrefixes s → g < length v.sent.sizes → (IsFalse (is_end x) → length (list_of v.sent g) + 1 < MOST_RECORDS) → IsWorld (record w { sent = s; intakes = set w.intakes q queue })
+    sent_is_world prefixes there room = subst IsWorld (sym sent_is) (sending_is_world w world g x (rw view there) (rw view room) (subst ArePrefixes is prefixes))

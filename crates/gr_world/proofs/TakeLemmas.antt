@@ -23,7 +23,12 @@ use Rattle.gr_world.specs.Steps.{IsAllowed, IsStepRefusal, IsWorldStep}
 use Rattle.gr_world.specs.Worlds.{AreDelivered, ArePassedOn, IsWorld, World, intake_at, no_queue, queue_of, taking_front}
 use Rattle.gr_world.proofs.Changes.{where_set}
 
-module _ (w : World) (world : IsWorld w) (q : ℕ) (s : Sent) (rest : List Sent) (b : Bounded Sent) (at : b ≡ get_or w.intakes q b) (there : q < length w.intakes) (first : b.items ≡ s ∷ rest) where
+-- what is left of a queue whose front was taken off
+popped_is : {T : Type 0} (old new : Bounded T) (result : Option T) (x : T) (rest : List T) → old.items ≡ x ∷ rest → MatchOption result ((old.items ≡ []) × (new ≡ old)) (λ y. (old.items ≡ y ∷ new.items) × (new ≡ leaving old new.items)) → new ≡ leaving old rest
+popped_is old new None x rest front h = absurd (let e : x ∷ rest ≡ [] = sym front ∙ h.0 in cc)
+popped_is old new (Some y) x rest front h = let e : y ∷ new.items ≡ x ∷ rest = sym h.0 ∙ front in h.1 ∙ ap (leaving old) (cc)
+
+module _ (w v : World) (world : IsWorld w) (view : w ≡ v) (q n : ℕ) (from : q ≡ n) (s : Sent) (rest : List Sent) (b : Bounded Sent) (at : b ≡ get_or w.intakes q b) (there : q < length w.intakes) (first : b.items ≡ s ∷ rest) where
   now : b ≡ intake_at w q
   now = at ∙ get_or_default w.intakes q b no_queue there
 
@@ -42,10 +47,7 @@ module _ (w : World) (world : IsWorld w) (q : ℕ) (s : Sent) (rest : List Sent)
 
   -- what was sent of the group: what was taken, the front, and what is queued behind it
   sent_is : list_of w.sent s.group ≡ list_of w.sequence.taken s.group ++ s.event ∷ events_of s.group rest
-  sent_is =
-      world.delivered.whole s.group
-      ∙ ap (λ (l : List Event). list_of w.sequence.taken s.group ++ l)
-      (ap (λ n. events_of s.group (intake_at w n).items) queue_is ∙ front_is s.group ∙ ap (λ (l : List Event). l ++ events_of s.group rest) (events_here s))
+  sent_is = rw (world.delivered.whole s.group, queue_is, front_is s.group, events_here s)
 
   pub group_there : s.group < length w.sent.sizes
   group_there = ⊎_elim (λ lt. lt)
@@ -109,34 +111,29 @@ module _ (w : World) (world : IsWorld w) (q : ℕ) (s : Sent) (rest : List Sent)
       } in
       assumption (sequence, queues, places, delivered, passed, world)
 
-  pub take_allowed : IsAllowed w (Take q)
+  pub take_allowed : IsAllowed v (Take n)
   take_allowed =
       let good : ¬ (w.config.queues ≤ q) = λ bad. omega (arith, bad, there, world.queues) in
       let some : (intake_at w q).items ≢ [] = λ empty. let e : s ∷ rest ≡ [] = sym front ∙ empty in absurd (cc) in
-      search
+      rw (← view, ← from) (search)
 
   -- the same, where the sequence and the queue are told by equations
-  module _ (sequence : Sequence) (left : Bounded Sent) (is : sequence ≡ taking w.sequence s.group s.event) (leaves : left ≡ leaving b rest) where
+  module _ (sequence : Sequence) (left : Bounded Sent) (is : sequence ≡ taking w.sequence s.group s.event) (result : Option Sent) (popped : MatchOption result ((b.items ≡ []) × (left ≡ b)) (λ y. (b.items ≡ y ∷ left.items) × (left ≡ leaving b left.items))) where
     taken_is : record w { intakes = set w.intakes q left; sequence = sequence } ≡ new
     taken_is =
-        let all : left ≡ queue = leaves ∙ ap (λ (c : Bounded Sent). leaving c rest) now in
+        let all : left ≡ queue = popped_is b left result s rest first popped ∙ ap (λ (c : Bounded Sent). leaving c rest) now in
         λ k. record w { intakes = set w.intakes q (all k); sequence = is k }
 
     pub taken_is_world : IsSequence sequence → IsWorld (record w { intakes = set w.intakes q left; sequence = sequence })
     taken_is_world lawful = subst IsWorld (sym taken_is) (taking_is_world (subst IsSequence is lawful))
 
-    pub taken_is_step : IsWorldStep w (Take q) (record w { intakes = set w.intakes q left; sequence = sequence })
-    taken_is_step = record { allowed = take_allowed; leads = (s, rest, front, taken_is) }
+    pub taken_is_step : IsWorldStep v (Take n) (record w { intakes = set w.intakes q left; sequence = sequence })
+    taken_is_step = record { allowed = take_allowed; leads = rw (← view, ← from) (s, rest, front, taken_is) }
 
 -- where a queue is empty nothing changes
 
-pub intake_back : (w : World) (q : ℕ) (b : Bounded Sent) → b ≡ get_or w.intakes q b → record w { intakes = set w.intakes q b } ≡ w
-intake_back w q b at = λ k. record w { intakes = (ap (set w.intakes q) at ∙ set-get_or w.intakes q b) k }
+pub intake_back : (w : World) → IsWorld w → (q : ℕ) (b : Bounded Sent) → b ≡ get_or w.intakes q b → IsWorld (record w { intakes = set w.intakes q b })
+intake_back w world q b at = subst IsWorld (λ k. record w { intakes = sym (ap (set w.intakes q) at ∙ set-get_or w.intakes q b) k }) world
 
-pub take_refused : (w : World) → IsWorld w → (q : ℕ) (b : Bounded Sent) → b ≡ get_or w.intakes q b → q < length w.intakes → b.items ≡ [] → IsStepRefusal w (Take q) Empty
-take_refused w world q b at there empty = ((λ bad. omega (arith, bad, there, world.queues)), ap (λ (c : Bounded Sent). c.items) (sym (at ∙ get_or_default w.intakes q b no_queue there)) ∙ empty)
-
--- what is left of a queue whose front was taken off
-pub popped_is : {T : Type 0} (old new : Bounded T) (result : Option T) (x : T) (rest : List T) → old.items ≡ x ∷ rest → MatchOption result ((old.items ≡ []) × (new ≡ old)) (λ y. (old.items ≡ y ∷ new.items) × (new ≡ leaving old new.items)) → new ≡ leaving old rest
-popped_is old new None x rest front h = absurd (let e : x ∷ rest ≡ [] = sym front ∙ h.0 in cc)
-popped_is old new (Some y) x rest front h = let e : y ∷ new.items ≡ x ∷ rest = sym h.0 ∙ front in h.1 ∙ ap (leaving old) (cc)
+pub take_refused : (w v : World) → IsWorld w → w ≡ v → (q n : ℕ) → q ≡ n → (b : Bounded Sent) → b ≡ get_or w.intakes q b → q < length w.intakes → b.items ≡ [] → IsStepRefusal v (Take n) Empty
+take_refused w v world view q n from b at there empty = rw (← view, ← from) ((λ bad. omega (arith, bad, there, world.queues)), ap (λ (c : Bounded Sent). c.items) (sym (at ∙ get_or_default w.intakes q b no_queue there)) ∙ empty)

@@ -1,10 +1,8 @@
-use Rattle.std.proofs.Common.{rules, ◌≡◌, ◌∙◌, Option, None, Some, true, ap, IsTrue, subst, sym, true≢false}
+use Rattle.std.proofs.Common.{rules, ◌≡◌, None, IsTrue, subst, sym, true≢false}
 use Rattle.gr_model.specs.Streams.{Streams}
 use Rattle.gr_steps.specs.Steps.{AreGrounded}
 use Rattle.gr_world.specs.Resting.{AreEmpty, AreIdle}
 use Rattle.gr_world.specs.Views.{world_of}
-use Rattle.std.specs.Option.{is_some, option_map}
-use Rattle.gr_shadow.specs.Clashes.{ClockedAccess, clocked}
 use Rattle.gr_world.specs.Worlds.{IsWorldAtRest, World}
 use Rattle.gr_world.proofs.RestLemmas.{all_empty, all_idle, drained_is_sent, empty_at, rests, taken_closed}
 use Rattle.gr_world.proofs.InFlightLemmas.{no_in_flight}
@@ -35,14 +33,3 @@ returns-clause-done g c =
     let empty : AreEmpty w.intakes = subst (λ (v : World). AreEmpty v.intakes) (sym c.self.view_is) (c.is_drained.ensures.0 drained) in
     λ yes. subst (λ (v : World). AreGrounded v.sent v.sequence.handled) c.self.view_is
     (subst (λ (s : Streams). AreGrounded s w.sequence.handled) (drained_is_sent w c.self.invariant (empty_at w empty)) (c.at_end.ensures.done yes).grounded)
-
-module _ {X Y : Type 0} (f : X → Y) where
-  some_of : (o : Option X) → is_some o ≡ true → IsTrue (is_some (option_map f o))
-  some_of None is = is
-  some_of (Some x) is = is
-
-pub returns-then-on_its_way-clause-rest : goal.returns-then-on_its_way-clause-rest
-returns-then-on_its_way-clause-rest g c = (
-  λ yes. absurd (true≢false (sym yes)),
-  λ rest. subst (λ (p : Option ClockedAccess). IsTrue (is_some p)) (ap (λ (v : World). v.in_flight) c.self.view_is ∙ rest.in_flight) (some_of clocked c.self.inside.in_flight (sym c.is_some-on_its_way.ensures ∙ c.if-on_its_way.true)),
-)

@@ -1,4 +1,4 @@
-use Rattle.std.proofs.Common.{◌∙◌, ◌⊎◌, List, ap, arith, subst, sym}
+use Rattle.std.proofs.Common.{◌∙◌, ◌⊎◌, List, ap, arith, subst}
 use Rattle.std.specs.Prelude.{Contains}
 use Rattle.std.proofs.lemmas.List.{get_or_default}
 use Rattle.gr_model.specs.declared.event.Word.{Word}
@@ -6,11 +6,8 @@ use Rattle.gr_model.specs.Reports.{Lists, WordBelow}
 use Rattle.gr_world.specs.Queues.{Work, no_work}
 use Rattle.gr_world.specs.Resting.{IsHitAtWork}
 use Rattle.gr_world.specs.Worlds.{World}
-use Rattle.gr_world.proofs.RestLemmas.{IsHitBelow, all_below, none_below, one_below}
+use Rattle.gr_world.proofs.RestLemmas.{all_below, one_below}
 use Rattle.gr_world.proofs.world.World.races.Goals as goal
-
-pub loop-worker-init : goal.loop-worker-init
-loop-worker-init g c = subst (Lists WordBelow (IsHitBelow c.deref-worker-items.result.now 0)) (sym c.new-races.ensures.items) (none_below c.deref-worker-items.result.now)
 
 pub loop-worker-preserved : goal.loop-worker-preserved
 loop-worker-preserved g c =

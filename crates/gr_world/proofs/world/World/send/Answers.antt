@@ -1,8 +1,6 @@
-use Rattle.std.proofs.Common.{◌+◌, ◌<◌, ◌≤◌, ℕ, rules, ◌⊎◌, inl, inr, ap, arith, length, subst, sym, true≢false, ⊎_elim}
+use Rattle.std.proofs.Common.{◌<◌, ◌≤◌, ℕ, rules, ◌⊎◌, inl, inr, ap, arith, length, subst, sym, true≢false, ⊎_elim}
 use Rattle.std.proofs.lemmas.Result.{IfErr-weaker, on_ok_weaker}
 use Rattle.gr_model.specs.declared.event.Event.{Event}
-use Rattle.gr_model.specs.declared.limits.TheConstants.{MOST_RECORDS}
-use Rattle.gr_model.specs.Streams.{list_of}
 use Rattle.gr_world.specs.declared.step.Step.TheVariants.{Send}
 use Rattle.gr_world.specs.declared.step.StepError.{StepError}
 use Rattle.gr_world.specs.declared.step.StepError.TheVariants.{BadStep, NotOpen, Full, Empty, Busy, NotReady, Memory}
@@ -27,15 +25,6 @@ module _ (w : World) (g : ℕ) (x : Event) (good : ¬ IsBad w (Send g x)) where
   refused Busy fault = absurd fault
   refused NotReady fault = absurd fault
   refused Memory may = may_send may
-
-pub put-requires-clause-group : goal.put-requires-clause-group
-put-requires-clause-group g c = subst (λ (v : World). c.args.group < length v.sent.sizes) c.self.view_is
-    (omega (arith, c.if-group-groups.false, c.groups.ensures.count, ap length c.shape.ensures.sizes))
-
-pub put-requires-clause-room : goal.put-requires-clause-room
-put-requires-clause-room g c = λ _.
-    let few : ¬ (MOST_RECORDS ≤ length (list_of c.args.self.now.sent c.args.group) + 1) = λ many. true≢false (sym (c.if-is_bad.ensures.1 (inr (inr many)))) in
-    omega (arith, few)
 
 pub returns-clause-step : goal.returns-clause-step
 returns-clause-step g c =
