@@ -77,12 +77,9 @@ module _ (seen : SeenList) (y : ClockedAccess) (items : List ItemId) (i : ItemId
 
 -- ---- where the least pair so far is below all that are left
 
-item_below_from_less : (i j : ItemId) → (item_order.cmp-value).it i j ≡ Less → IsItemBelow i j
-item_below_from_less i j less = grind (arith, nat_tests)
-
 above_all : (i : ItemId) (items : List ItemId) (j : ItemId) → AllByRecursion (λ k. (item_order.cmp-value).it i k ≡ Less) items → HasItem items j → IsItemBelow i j
 above_all i [] j all has = absurd (true≢false (sym has))
-above_all i (k ∷ items) j all has = grind (arith, item_ties, same_items, item_below_from_less, above_all i items j all.1)
+above_all i (k ∷ items) j all has = grind (arith, nat_tests, item_ties, same_items, above_all i items j all.1)
 
 -- of items in their order, one is before an item, or it, or above it
 later_item : (before : List ItemId) (i : ItemId) (items : List ItemId) (j : ItemId) → IsStrictlySortedBy (item_order.cmp-value).it (before ++ i ∷ items) → HasItem (before ++ i ∷ items) j → HasItem before j ⊎ ((j ≡ i) ⊎ IsItemBelow i j)

@@ -22,9 +22,6 @@ use Rattle.gr_explain.proofs.Lists.{any_there, pairs_set, set_has, set_still, se
 
 -- ---- tags
 
-not_any : {X : Type 0} (f : X → Bool) (xs : List X) → list_any f xs ≡ false → (k : ℕ) (d : X) → k < length xs → f (get_or xs k d) ≡ false
-not_any f xs none k d lt = grind (arith, common_steps)
-
 -- the place of a value that passes, or none
 pub none_at : {X : Type 0} (f : X → Bool) (xs : List X) → position f xs ≡ None → list_any f xs ≡ false
 none_at f [] none = refl
@@ -44,7 +41,9 @@ module _ (y : ClockedAccess) (tag : ℕ) where
     now two so = contains_any (is_so two l.tag tag) (old ++ t ∷ []) t (Contains-push old t) (grind (arith, nat_tests, found.first_tag, found.second_tag, found.turned, so))
 
     apart : (k : ℕ) (d : TaggedRace) → k < length old → is_of_tags (get_or old k d).tag (get_or old k d).other t ≡ false
-    apart k d lt = grind (arith, nat_tests, not_any (is_of_tags l.tag tag) old had k d lt, found.first_tag, found.second_tag)
+    apart k d lt =
+        let none : is_of_tags l.tag tag (get_or old k d) ≡ false = grind (arith, common_steps, had) in
+        grind (arith, nat_tests, none, found.first_tag, found.second_tag)
 
     pub finds_one : Finds y tag (l ∷ []) old (old ++ t ∷ [])
     finds_one = record {
@@ -59,17 +58,12 @@ module _ (y : ClockedAccess) (tag : ℕ) where
 
   -- where there is a race of the two tags, which stays or gives way
   module _ (l : AlikeEvents) (old : List TaggedRace) (place : ℕ) (t d : TaggedRace) (lt : place < length old) (tags : is_of_tags l.tag tag (get_or old place d) ≡ true) (is : IsPreferred l y tag (get_or old place d) t) where
-    still_so : (two : Bool) (a b : ℕ) (x : TaggedRace) → is_so two a b x ≡ true → get_or old place d ≡ x → is_so two a b t ≡ true
-    still_so two a b x so here =
-        let was : is_so two a b (get_or old place d) ≡ true = ap (is_so two a b) here ∙ so in
-        grind (arith, nat_tests, tags, is.tags, is.kept two, was)
-
     pub finds_set : Finds y tag (l ∷ []) old (slice_set old place t)
     finds_set = record {
       kept = λ two a b h.
           let x = any_there (is_so two a b) old h in
           ⊎_elim
-          (λ here. contains_any (is_so two a b) (slice_set old place t) t (set_has old place t lt) (still_so two a b x.0 x.2 here))
+          (λ here. contains_any (is_so two a b) (slice_set old place t) t (set_has old place t lt) (let so = x.2 in grind (arith, nat_tests, tags, is.tags, is.kept two, so, here)))
           (λ still. contains_any (is_so two a b) (slice_set old place t) x.0 still x.2)
           (set_still old place t d x.0 x.1);
       each = λ u there. ⊎_elim

@@ -8,13 +8,12 @@ use Rattle.gr_model.specs.declared.event.EventId.{EventId}
 use Rattle.gr_model.specs.declared.event.Word.{Word}
 use Rattle.gr_model.specs.declared.race.Race.{Race}
 use Rattle.gr_model.specs.LawfulOrders.{IsWholeOrder}
-use Rattle.gr_model.specs.RacePairs.{IsRacePair, IsTurned, Pair, TagsRace}
+use Rattle.gr_model.specs.RacePairs.{IsRacePair, TagsRace}
 use Rattle.gr_model.specs.Reports.{WordBelow}
 use Rattle.gr_model.specs.Streams.{Streams}
 use Rattle.gr_closure.specs.AccessesAlong.{AreAccesses}
 use Rattle.gr_shadow.specs.Clashes.{ClockedAccess}
 use Rattle.gr_shadow.proofs.KeepsLemmas.{Contains-first, Contains-rest}
-use Rattle.gr_explain.specs.Alike.{are_of_groups}
 use Rattle.gr_explain.specs.TagPairs.{HaveOtherTags, IsTaggedClash, StandsForTags, is_of_tags, is_so}
 use Rattle.gr_explain.specs.TagRaces.{AreOfTwoGroups, AreTagRaces, HasRaceOfTags, IsApart}
 use Rattle.gr_explain.specs.WordPairs.{StandForWords, races_at}
@@ -27,13 +26,6 @@ use Rattle.gr_explain.proofs.RacePairs.{clash_is_race, race_is_clash}
 
 abbrev pub AreSameTwo : ℕ → ℕ → ℕ → ℕ → Type 0
 AreSameTwo a b c d = (a ≡ c × b ≡ d) ⊎ (a ≡ d × b ≡ c)
-
-turned_two : (tag_of : EventId → ℕ) (e f : EventId) (pair : Pair) → IsTurned e f pair → AreSameTwo (tag_of e) (tag_of f) (tag_of pair.0) (tag_of pair.1)
-turned_two tag_of e f pair turned = grind arith
-
--- the two groups of a pair, where they are asked for
-groups_of : (two : Bool) (e f : EventId) (pair : Pair) → IsTurned e f pair → (two ≡ true → AreOfTwoGroups pair) → are_of_groups two e f ≡ true
-groups_of two e f pair turned groups = grind (arith, nat_tests, groups)
 
 so_told : (two : Bool) (a b : ℕ) (t : TaggedRace) → is_so two a b t ≡ true → AreSameTwo t.tag t.other a b × (two ≡ true → AreOfTwoGroups (t.race.first, t.race.second))
 so_told two a b t so = (grind (arith, nat_tests, so), λ is. grind (arith, nat_tests, so, is))
@@ -88,12 +80,12 @@ module _ (s : Streams) (order : List EventId) (accesses : List ClockedAccess) (l
         let clash = race_is_clash s w order accesses lawful are h.pair h.race in
         let e = tag_of clash.earlier in
         let f = tag_of clash.later in
-        let t = any_there (is_so two e f) found (stands.whole two clash.earlier clash.later clash.clash (groups_of two clash.earlier clash.later h.pair clash.turned groups)) in
+        let t = any_there (is_so two e f) found (stands.whole two clash.earlier clash.later clash.clash (let turned = clash.turned in grind (arith, nat_tests, groups, turned))) in
         let of = stands.sound t.0 t.1 in
         let told = so_told two e f t.0 t.2 in
         let a = of.tags in
         let b = told.0 in
-        let k = turned_two tag_of clash.earlier clash.later h.pair clash.turned in
+        let k = clash.turned in
         let l = h.tags in
         record { race = t.0.race; there = mapped_there race_of found t.0 t.1; word = of.word; tags = grind (arith, a, b, k, l); groups = told.1 };
     apart = apart_races w found stands.sound stands.others;
