@@ -1,5 +1,5 @@
 -- A world at rest: everything that was sent was taken, and everything that was passed on was received; and the hits of all workers.
-use Rattle.std.proofs.Common.{◌≡◌, ◌⊎◌, ◌↔◌, ℕ, ◌+◌, ◌<◌, ◌≤◌, ◌==◌, List, [], ◌++◌, length, get_or, None, Option, refl, sym, ap, ◌∙◌, subst, inl, inr, ⊎_elim, arith, append-nil, eq-eqb, eq-or-lt_of_le}
+use Rattle.std.proofs.Common.{◌≡◌, ◌⊎◌, ◌↔◌, ℕ, ◌+◌, ◌<◌, ◌≤◌, ◌==◌, List, [], length, get_or, None, refl, sym, ap, ◌∙◌, subst, inl, inr, ⊎_elim, arith, append-nil, eq-eqb, eq-or-lt_of_le}
 use Rattle.std.proofs.Math.ListN.{get_or-eq_default}
 use Rattle.std.proofs.lemmas.Bool.{cases_lt, eqb-true}
 use Rattle.std.proofs.lemmas.List.{ext_get_or, get_or_default}
@@ -9,9 +9,8 @@ use Rattle.gr_model.specs.declared.event.Word.{Word}
 use Rattle.gr_model.specs.Configs.{worker_number}
 use Rattle.gr_model.proofs.HitLaws.{IsHit-filter}
 use Rattle.gr_model.specs.Reports.{AreRaces, Lists, WordBelow}
-use Rattle.gr_model.specs.Streams.{AreComplete, Streams, events_of, list_of}
-use Rattle.gr_steps.specs.Steps.{IsAtRest}
-use Rattle.gr_closure.specs.AccessesAlong.{in_flight_list}
+use Rattle.gr_model.specs.Streams.{AreComplete, Streams}
+use Rattle.gr_steps.specs.Steps.{AreGrounded, IsAtRest}
 use Rattle.gr_closure.proofs.Clashing.{lists_as, whole_hits_are_races}
 use Rattle.gr_order.specs.Sequences.{IsDone}
 use Rattle.gr_world.proofs.ReceivedHits.{hit_goes}
@@ -19,7 +18,7 @@ use Rattle.gr_world.proofs.InFlightLemmas.{word_below}
 use Rattle.gr_shadow.specs.Clashes.{ClockedAccess, IsHitIn, clashes}
 use Rattle.gr_world.specs.Queues.{Bounded, Work, no_work}
 use Rattle.gr_world.specs.Resting.{AreEmpty, AreIdle, IsHitAtWork}
-use Rattle.gr_world.specs.Worlds.{IsWorld, IsWorldAtRest, World, accesses_for, intake_at, no_queue, work_at}
+use Rattle.gr_world.specs.Worlds.{IsWorld, IsWorldAtRest, World, accesses_for, intake_at, no_queue, queue_of, work_at}
 
 -- ---- queues that hold nothing
 
@@ -44,22 +43,22 @@ pub drained_is_sent : (w : World) → IsWorld w → ((q : ℕ) → (intake_at w 
 drained_is_sent w world empty =
     let lists : w.sequence.taken.lists ≡ w.sent.lists = ext_get_or [] w.sequence.taken.lists w.sent.lists
     (world.sequence.prefixes.count ∙ (ap length world.sizes ∙ sym world.sent.count))
-    (λ g lt. sym (world.delivered.whole g
-    ∙ (ap (λ l. list_of w.sequence.taken g ++ events_of g l) (empty _)
-    ∙ append-nil (list_of w.sequence.taken g)))) in
+    (λ g lt. rw (world.delivered.whole g, empty (queue_of w g), append-nil)) in
     λ k. record { sizes = world.sizes k; lists = lists k }
 
-pub rests : (w : World) → IsWorld w → AreEmpty w.intakes → AreIdle w.workers → w.in_flight ≡ None → AreComplete w.sequence.taken → IsAtRest w.sequence.taken w.sequence.handled → IsWorldAtRest w
-rests w world empty idle in_flight complete rest = record {
-  closed = subst AreComplete (drained_is_sent w world (empty_at w empty)) complete;
-  intakes = empty_at w empty;
-  in_flight = in_flight;
-  work = idle_at w idle;
-  rest = rest;
-}
+-- what is seen of a world with empty queues
+module _ (w v : World) (world : IsWorld w) (view : w ≡ v) (empty : AreEmpty v.intakes) where
+  taken_is_sent : w.sequence.taken ≡ w.sent
+  taken_is_sent = drained_is_sent w world (empty_at w (rw view empty))
 
-pub taken_closed : (w : World) → IsWorld w → IsWorldAtRest w → AreComplete w.sequence.taken
-taken_closed w world rest = subst AreComplete (sym (drained_is_sent w world rest.intakes)) rest.closed
+  pub grounded : AreGrounded w.sequence.taken w.sequence.handled → AreGrounded v.sent v.sequence.handled
+  grounded are = rw (← view, ← taken_is_sent) are
+
+  pub rests : AreIdle v.workers → w.in_flight ≡ None → (AreComplete w.sequence.taken × IsAtRest w.sequence.taken w.sequence.handled) ↔ IsWorldAtRest v
+  rests idle in_flight = rw (← view) (
+    λ both. record { closed = rw (← taken_is_sent) (both.0); intakes = empty_at w (rw view empty); in_flight = in_flight; work = idle_at w (rw view idle); rest = both.1 },
+    λ rest. (rw taken_is_sent rest.closed, rest.rest),
+  )
 
 -- ---- hits of all workers
 
@@ -89,10 +88,7 @@ all_below workers n words all lists = lists_as words lists (λ v. (
 module _ (w : World) (world : IsWorld w) (rest : IsWorldAtRest w) where
   -- what a worker received are the accesses to its words
   pub received_is : (k : ℕ) → k < w.config.workers → (work_at w k).received ≡ accesses_for w k world.passed.accesses
-  received_is k lt = sym (world.passed.each k lt
-      ∙ (ap (λ (l : List ClockedAccess). (work_at w k).received ++ l ++ accesses_for w k (in_flight_list w.in_flight)) (rest.work k)
-      ∙ (ap (λ (o : Option ClockedAccess). (work_at w k).received ++ [] ++ accesses_for w k (in_flight_list o)) rest.in_flight
-      ∙ (append-nil ((work_at w k).received ++ []) ∙ append-nil (work_at w k).received))))
+  received_is k lt = sym (world.passed.each k lt ∙ simp (rest.work k, rest.in_flight, append-nil))
 
   hit_here : (v : Word) (k : ℕ) → k < w.config.workers → worker_number v w.config.workers ≡ k → IsHitIn world.passed.accesses v ↔ IsHitIn (work_at w k).received v
   hit_here v k lt mine = subst (λ (l : List ClockedAccess). IsHitIn world.passed.accesses v ↔ IsHitIn l v) (sym (received_is k lt))

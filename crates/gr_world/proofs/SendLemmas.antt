@@ -54,12 +54,8 @@ module _ (w : World) (world : IsWorld w) (g : ℕ) (x : Event) (there : g < leng
 
   whole : (h : ℕ) → list_of new.sent h ≡ list_of w.sequence.taken h ++ events_of h (intake_at new (queue_of w h)).items
   whole = where_set (λ h l. l ≡ list_of w.sequence.taken h ++ events_of h (intake_at new (queue_of w h)).items) w.sent.lists g (list_of w.sent g ++ x ∷ []) [] list_there
-      (ap (λ l. l ++ x ∷ []) (world.delivered.whole g)
-      ∙ append_assoc (list_of w.sequence.taken g) (events_of g (intake_at w (queue_of w g)).items) (x ∷ [])
-      ∙ ap (λ l. list_of w.sequence.taken g ++ l) (sym (queued g ∙ ap (λ l. events_of g (intake_at w (queue_of w g)).items ++ l) (events_here sent))))
-      (λ h apart. world.delivered.whole h
-      ∙ ap (λ l. list_of w.sequence.taken h ++ l)
-      (sym (queued h ∙ ap (λ l. events_of h (intake_at w (queue_of w h)).items ++ l) (events_else h sent (λ same. apart (sym same))) ∙ append-nil (events_of h (intake_at w (queue_of w h)).items))))
+      (rw (world.delivered.whole g, queued g, events_here sent, append_assoc))
+      (λ h apart. rw (world.delivered.whole h, queued h, events_else h sent (λ same. apart (sym same)), append-nil))
 
   own : (q : ℕ) (s : Sent) → Contains (intake_at new q).items s → queue_of w s.group ≡ q
   own = where_set (λ q b. (s : Sent) → Contains b.items s → queue_of w s.group ≡ q) w.intakes (queue_of w g) queue no_queue (queue_there w world g)

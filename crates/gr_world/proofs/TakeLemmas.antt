@@ -86,11 +86,8 @@ module _ (w v : World) (world : IsWorld w) (view : w ≡ v) (q n : ℕ) (from : 
   whole : (h : ℕ) → list_of w.sent h ≡ list_of new.sequence.taken h ++ events_of h (intake_at new (queue_of w h)).items
   whole = where_set (λ h l. list_of w.sent h ≡ l ++ events_of h (intake_at new (queue_of w h)).items) w.sequence.taken.lists s.group (list_of w.sequence.taken s.group ++ s.event ∷ []) []
       (let group = may_take.group in omega (arith, world.sequence.prefixes.count, group))
-      (world.delivered.whole s.group
-      ∙ ap (λ (l : List Event). list_of w.sequence.taken s.group ++ l) (queued s.group ∙ ap (λ (l : List Event). l ++ events_of s.group (intake_at new (queue_of w s.group)).items) (events_here s))
-      ∙ sym (append_assoc (list_of w.sequence.taken s.group) (s.event ∷ []) (events_of s.group (intake_at new (queue_of w s.group)).items)))
-      (λ h apart. world.delivered.whole h
-      ∙ ap (λ (l : List Event). list_of w.sequence.taken h ++ l) (queued h ∙ ap (λ (l : List Event). l ++ events_of h (intake_at new (queue_of w h)).items) (events_else h s (λ same. apart (sym same)))))
+      (rw (world.delivered.whole s.group, queued s.group, events_here s, append_assoc))
+      (λ h apart. rw (world.delivered.whole h, queued h, events_else h s (λ same. apart (sym same))))
 
   own : (p : ℕ) (t : Sent) → Contains (intake_at new p).items t → queue_of w t.group ≡ p
   own = where_set (λ p b. (t : Sent) → Contains b.items t → queue_of w t.group ≡ p) w.intakes q queue no_queue there

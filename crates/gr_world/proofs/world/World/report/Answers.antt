@@ -1,8 +1,6 @@
-use Rattle.std.proofs.Common.{◌≡◌, ◌∙◌, ◌<◌, ℕ, ap, length, subst, sum, sym}
-use Rattle.gr_model.specs.Reports.{AreRaces, DivergenceBelow, IsCut, IsDivergence, IsHeld, IsUnmatchedEntry, Lists, UnmatchedBelow, WordBelow}
+use Rattle.std.proofs.Common.{◌≡◌, ◌∙◌, ap, length, subst, sum, sym}
 use Rattle.gr_model.specs.Streams.{Streams}
 use Rattle.gr_steps.proofs.Resting.{rest_grounded}
-use Rattle.gr_world.specs.Resting.{IsHitAtWork}
 use Rattle.gr_world.specs.Views.{world_of}
 use Rattle.gr_world.specs.Worlds.{IsWorldAtRest, World}
 use Rattle.gr_world.proofs.RestLemmas.{drained_is_sent, races_are_told}
@@ -17,15 +15,15 @@ returns g c =
     let s : w.sequence.taken ≡ c.args.self.now.sent = taken ∙ sent in
     record {
       rest = record {
-        divergences = rw c.of-2.ensures (subst (λ (t : Streams). Lists DivergenceBelow (IsDivergence t) c.in_ok-divergences.divergences.items) s c.in_ok-divergences.ensures);
-        unmatched = rw c.of-3.ensures (subst (λ (t : Streams). Lists UnmatchedBelow (IsUnmatchedEntry t) c.in_ok-unmatched.unmatched.items) s c.in_ok-unmatched.ensures);
-        cut = rw c.of-4.ensures (subst (λ (t : Streams). Lists (λ (g h : ℕ). g < h) (IsCut t) c.in_ok-cut.cut.items) s c.in_ok-cut.ensures);
-        held = subst (λ (t : Streams). IsHeld t c.held.result) s (c.held.ensures.held rest.rest);
+        divergences = rw c.of-2.ensures (rw (← s) c.in_ok-divergences.ensures);
+        unmatched = rw c.of-3.ensures (rw (← s) c.in_ok-unmatched.ensures);
+        cut = rw c.of-4.ensures (rw (← s) c.in_ok-cut.ensures);
+        held = rw (← s) (c.held.ensures.held rest.rest);
         groups = c.groups.ensures.count ∙ (ap length c.shape.ensures.sizes ∙ ap (λ (t : Streams). length t.sizes) sent);
         items = c.total.ensures.total ∙ (ap sum c.shape-2.ensures.sizes ∙ ap (λ (t : Streams). sum t.sizes) sent);
         records = c.records.ensures;
       };
-      races = rw c.of.ensures (subst (λ (t : Streams). AreRaces t c.in_ok-races.races.items) sent
+      races = rw (c.of.ensures, ← sent)
           (races_are_told w c.self.invariant rest c.in_ok-races.races.items (record { rest = rest.rest; grounded = rest_grounded w.sequence.taken w.sequence.handled c.self.invariant.sequence.lawful rest.rest })
-          (subst (λ (v : World). Lists WordBelow (IsHitAtWork v.workers) c.in_ok-races.races.items) (sym c.self.view_is) c.in_ok-races.ensures)));
+          (rw (← c.self.view_is) at c.in_ok-races.ensures));
     }
