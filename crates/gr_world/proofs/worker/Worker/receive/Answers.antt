@@ -1,8 +1,8 @@
-use Rattle.std.proofs.Common.{◌≡◌, ◌∙◌, List, ◌∷◌, [], ◌++◌, ap, subst, sym}
+use Rattle.std.proofs.Common.{◌≡◌, ◌∙◌, ◌∷◌, [], ◌++◌, ap, refl, sym}
 use Rattle.std.proofs.lemmas.List.{map-append}
-use Rattle.gr_shadow.specs.Clashes.{ClockedAccess, clocked}
+use Rattle.gr_shadow.specs.Clashes.{clocked}
 use Rattle.gr_shadow.specs.StandsFor.{StandsFor}
-use Rattle.gr_world.specs.Queues.{Work, receiving}
+use Rattle.gr_world.specs.Queues.{Work}
 use Rattle.gr_world.specs.Workers.{all_clocked, work_of}
 use Rattle.gr_world.proofs.worker.Worker.receive.Goals as goal
 
@@ -13,16 +13,11 @@ invariant_of-self-in-Some-pop g c =
     let front = c.in-Some.ensures in
     let same : c.in-Some.access.now ≡ popped = let both : c.in-Some.access.now ∷ front.0 ≡ popped ∷ c.pop.new.self.items = sym front.1 ∙ c.in-Some-pop.ensures.0 in cc in
     let stands : StandsFor (all_clocked received ++ clocked c.in-Some.access.now ∷ []) c.apply.new.self = c.in_ok-apply-in-Some.ensures.stands (all_clocked received) c.self.invariant in
-    let is : all_clocked c.push.new.self ≡ all_clocked received ++ clocked popped ∷ [] = ap all_clocked c.push.ensures ∙ map-append clocked received (popped ∷ []) in
-    subst (λ l. StandsFor l c.apply.new.self) (sym is) (subst (λ x. StandsFor (all_clocked received ++ clocked x ∷ []) c.apply.new.self) same stands)
+    rw (c.push.ensures, map-append, ← same) stands
 
 pub returns-clause-ok : goal.returns-clause-ok
 returns-clause-ok g c =
     let old : Work = work_of c.self.inside.queue c.self.inside.received in
     let new : Work = work_of c.pop.new.self c.push.new.self in
-    let x : ClockedAccess = clocked c.in-Some-pop.access in
-    let rest : List ClockedAccess = all_clocked c.pop.new.self.items in
-    let received : new.received ≡ old.received ++ x ∷ [] = ap all_clocked c.push.ensures ∙ map-append clocked c.self.inside.received (c.in-Some-pop.access ∷ []) in
-    let is : new ≡ receiving old x rest = λ k. record { queue = record { places = (c.in-Some-pop.ensures.1 k).places; items = rest }; received = received k } in
-    subst (λ (v : Work). (y : ClockedAccess) × (more : List ClockedAccess) × (v.queue.items ≡ y ∷ more) × (new ≡ receiving v y more)) c.self.view_is
-    (x, rest, ap all_clocked c.in-Some-pop.ensures.0, is)
+    let received : new.received ≡ old.received ++ clocked c.in-Some-pop.access ∷ [] = rw (c.push.ensures, map-append) refl in
+    rw (← c.self.view_is) (_, _, ap all_clocked c.in-Some-pop.ensures.0, λ k. record { queue = record { places = (c.in-Some-pop.ensures.1 k).places; items = all_clocked c.pop.new.self.items }; received = received k })

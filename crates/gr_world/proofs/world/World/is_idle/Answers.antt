@@ -1,5 +1,5 @@
-use Rattle.std.proofs.Common.{◌≡◌, ◌∙◌, ◌<◌, ◌≤◌, ap, arith, get_or, length, refl, sym, ⊎_elim, eq-or-lt_of_le, rules, true≢false}
-use Rattle.std.proofs.lemmas.List.{get_or_default}
+use Rattle.std.proofs.lemmas.Grind.{common_steps, elements}
+use Rattle.std.proofs.Common.{◌∙◌, ap, arith, get_or, length, refl, sym, rules, true≢false}
 use Rattle.gr_world.specs.Queues.{Work}
 use Rattle.gr_world.specs.Worlds.{World}
 use Rattle.gr_world.proofs.world.World.is_idle.Goals as goal
@@ -14,12 +14,9 @@ returns-then-not-is_idle g c =
     )
 
 pub loop-worker-preserved : goal.loop-worker-preserved
-loop-worker-preserved g c = λ k d lt. ⊎_elim
-    (λ (same : k ≡ c.loop-worker.worker-index).
-    ap (λ (x : Work). x.queue.items) (ap (λ n. get_or c.deref-worker-items.result.now n d) same ∙ (get_or_default c.deref-worker-items.result.now c.loop-worker.worker-index d c.worker-item.result c.loop-worker-test.true ∙ sym c.worker-item.is))
-    ∙ c.is_idle.ensures.0 (search rules))
-    (λ (less : k < c.loop-worker.worker-index). c.loop-worker.invariant k d less)
-    (eq-or-lt_of_le (let le : k ≤ c.loop-worker.worker-index = omega (arith, lt) in le))
+loop-worker-preserved g c =
+    let here = c.is_idle.ensures.0 (search rules) in
+    λ k d lt. grind (arith, elements, common_steps, here, c.worker-item.is, c.loop-worker.invariant k d)
 
 pub returns : goal.returns
 returns g c =

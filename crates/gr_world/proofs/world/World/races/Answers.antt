@@ -1,7 +1,5 @@
-use Rattle.std.proofs.Common.{◌∙◌, ◌⊎◌, List, ap, arith, subst}
-use Rattle.std.specs.Prelude.{Contains}
+use Rattle.std.proofs.Common.{◌∙◌, List, ap, arith, subst}
 use Rattle.std.proofs.lemmas.List.{get_or_default}
-use Rattle.gr_model.specs.declared.event.Word.{Word}
 use Rattle.gr_model.specs.Reports.{Lists, WordBelow}
 use Rattle.gr_world.specs.Queues.{Work, no_work}
 use Rattle.gr_world.specs.Resting.{IsHitAtWork}
@@ -14,8 +12,7 @@ loop-worker-preserved g c =
     one_below c.deref-worker-items.result.now c.loop-worker.worker-index c.worker-item.result c.loop-worker.races.items c.in_ok-more.more.items c.in_ok-races.races.items
     (c.worker-item.is ∙ get_or_default c.deref-worker-items.result.now c.loop-worker.worker-index c.worker-item.result (no_work 0) c.loop-worker-test.true)
     c.loop-worker.invariant c.in_ok-more.ensures
-    (subst (λ (l : List Word). Lists WordBelow (λ v. Contains l v ⊎ Contains c.in_ok-more.more.items v) c.in_ok-races.races.items) c.deref.ensures.value
-    (subst (λ (l : List Word). Lists WordBelow (λ v. Contains c.deref.result.now v ⊎ Contains l v) c.in_ok-races.races.items) c.deref-in-loop-worker.ensures.value c.in_ok-races.ensures))
+    (simp (c.deref.ensures.value, c.deref-in-loop-worker.ensures.value) at c.in_ok-races.ensures)
 
 pub returns : goal.returns
 returns g c =

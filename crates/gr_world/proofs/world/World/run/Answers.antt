@@ -11,9 +11,7 @@ loop-step-init g c = record { runs = nothing_tried; few = omega arith }
 
 -- one step more was tried
 more_made : (old new : World) (steps : List Step) (i refused now : ℕ) (step : Step) → i < length steps → step ≡ slice_index_or steps i step → Runs old (take i steps ++ step ∷ []) new refused → now ≡ refused → Runs old (take (i + 1) steps) new now
-more_made old new steps i refused now step lt at runs is =
-    subst (λ n. Runs old (take (i + 1) steps) new n) (sym is)
-    (subst (λ (l : List Step). Runs old l new refused) (sym (take_more steps i step lt)) (subst (λ (x : Step). Runs old (take i steps ++ x ∷ []) new refused) at runs))
+more_made old new steps i refused now step lt at runs is = rw (is, take_more steps i step lt, ← at) runs
 
 pub loop-step-preserved : goal.loop-step-preserved
 loop-step-preserved g c = elim c.match-step.branch [
