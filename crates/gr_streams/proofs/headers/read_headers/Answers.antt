@@ -1,7 +1,7 @@
-use Rattle.std.proofs.Common.{◌≡◌, ◌≢◌, ◌∙◌, ◌++◌, ◌∷◌, [], ℕ, List, Ok, ap, arith, append-nil, append_assoc, length, map, refl, rules, subst, sym}
+use Rattle.std.proofs.Common.{◌≡◌, ◌≢◌, ◌∙◌, ◌++◌, ◌∷◌, [], ℕ, List, Ok, ap, arith, append_assoc, map, refl, rules, subst, sym}
 use Rattle.std.specs.Prelude.{IfSome}
 use Rattle.std.specs.Vec.Iter.{into_iter_items}
-use Rattle.std.proofs.lemmas.List.{nil_from_length, map-append, map_push}
+use Rattle.std.proofs.lemmas.List.{map-append, map_push}
 use Rattle.std.proofs.lemmas.List.Elements.{All-push}
 use Rattle.std.proofs.lemmas.List.Quantifiers.{all_pairs_push}
 use Rattle.std.proofs.lemmas.Option.{same_Some}
@@ -13,11 +13,8 @@ use Rattle.gr_streams.specs.Headers.{header_behind, headers_of}
 use Rattle.gr_streams.specs.Sources.{AreKnown, IsHeaded, known_of}
 use Rattle.gr_streams.specs.declared.source.Source.{Source}
 use Rattle.gr_streams.proofs.HeadingLemmas.{header_refused, known_so_far, no_headers, one_more_header, one_more_known}
+use Rattle.gr_streams.proofs.JoinLemmas.{all_yielded}
 use Rattle.gr_streams.proofs.headers.read_headers.Goals as goal
-
--- what was yielded is all, where nothing is left
-all_yielded : {X : Type 0} (ys left all : List X) → ys ++ left ≡ all → length left ≡ 0 → ys ≡ all
-all_yielded ys left all is none = sym (append-nil ys) ∙ (ap (λ (l : List _). ys ++ l) (sym (nil_from_length left none)) ∙ is)
 
 pub loop-reader-init : goal.loop-reader-init
 loop-reader-init g c =
@@ -71,12 +68,6 @@ loop-reader-preserved g c =
           subst behind (same_Some [] ys none) (one_more_header xs hs read b s.header is)));
     })
 
-pub loop-reader-smaller : goal.loop-reader-smaller
-loop-reader-smaller g c = omega (arith, c.in-Some.ensures.steps.1)
-
-pub keep-requires : goal.keep-requires
-keep-requires g c κs lives = lives
-
 pub returns-clause-headers : goal.returns-clause-headers
 returns-clause-headers g c =
     let left = c.loop-reader.reader-iterator in
@@ -84,12 +75,6 @@ returns-clause-headers g c =
     let read = λ (inputs : List (List ℕ)). headers_of inputs ≡ Ok c.loop-reader.seen in
     let whole = λ (l : List g.row.T.Denot). IfSome (all_known (map g.T.Read.remaining l)) read in
     rw c.into_headers-headers.ensures (subst whole all c.loop-reader.invariant.headers)
-
-pub returns-clause-apart : goal.returns-clause-apart
-returns-clause-apart g c = rw c.into_headers-headers.ensures c.loop-reader.invariant.apart
-
-pub returns-clause-sources : goal.returns-clause-sources
-returns-clause-sources g c = rw c.into_headers-headers.ensures c.loop-reader.invariant.sources
 
 pub returns-clause-known : goal.returns-clause-known
 returns-clause-known g c =

@@ -99,9 +99,6 @@ loop-share-preserved g c =
       room = omega (arith, inv.room, c.in-Some.ensures.steps.1, c.push_reserved.ensures.len, c.push_reserved.ensures.capacity, c.make_way.ensures.len, c.make_way.ensures.capacity);
     }
 
-pub push_reserved-requires : goal.push_reserved-requires
-push_reserved-requires g c = omega (arith, c.loop-share.invariant.room, c.in-Some.ensures.steps.1, c.make_way.ensures.len, c.make_way.ensures.capacity)
-
 pub returns-clause-begun : goal.returns-clause-begun
 returns-clause-begun g c =
     let left = c.loop-share.share-iterator in

@@ -25,6 +25,3 @@ returns-clause-tells g c =
     let fed = rw c.as_slice.ensures.value at (c.take.ensures.fed has [] c.new-forward.ensures.fed) in
     if_mapped (λ rest. prefix ++ rest) (λ bytes. Tells (events_at c.args.stream.place bytes) end.receipt.pushed end.fault) _
     (c.read_rest.ensures.tells prefix c.args.stream.source.header (whole_prefix c.args.stream.source.header prefix c.requires.headed) (c.take.ensures.same.items ∙ (ap (λ (s : Sending). s.items) c.new-forward.ensures.sender ∙ c.requires.ready.items)) fed)
-
-pub new-forward-requires : goal.new-forward-requires
-new-forward-requires g c = record { records = c.requires.ready.records; sent = c.requires.ready.sent }

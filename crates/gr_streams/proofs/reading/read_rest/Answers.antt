@@ -15,37 +15,28 @@ use Rattle.gr_streams.proofs.reading.read_rest.Goals as goal
 no_write : (o : Option Fault) (f : Fault) → o ≡ Some f → f ≢ faults.Write → IfSome o (λ f. f ≢ faults.Write)
 no_write o f is apart = subst (λ (o : Option Fault). IfSome o (λ f. f ≢ faults.Write)) (sym is) apart
 
-threads_apart : faults.Threads ≢ faults.Write
-threads_apart = λ k. absurd cc
-
-read_apart : faults.Read ≢ faults.Write
-read_apart = λ k. absurd cc
-
 -- that a thread is missing, or a read failed, tells nothing of the input
 none_told : (known : Option (List ℕ)) (meaning : List ℕ → Result (List Event) Fault) (pushed : List Event) (o : Option Fault) (f : Fault) → o ≡ Some f → ((m : Result (List Event) Fault) → Tells m pushed (Some f)) → IfSome known (λ rest. Tells (meaning rest) pushed o)
 none_told None meaning pushed o f is tells = tt
 none_told (Some rest) meaning pushed o f is tells = subst (Tells (meaning rest) pushed) (sym is) (tells (meaning rest))
 
-pub returns-then-load-clause-write : goal.returns-then-load-clause-write
-returns-then-load-clause-write g c = no_write _ _ c.fail.ensures.fault threads_apart
-
 pub returns-then-load-clause-tells : goal.returns-then-load-clause-tells
-returns-then-load-clause-tells g c = λ fed h headed items f. none_told (g.T.Read.remaining c.args.reader.now) (λ rest. events_at c.args.place (fed ++ rest)) c.fail.result.receipt.pushed c.fail.result.fault _ c.fail.ensures.fault (λ m. (threads_apart, tt))
+returns-then-load-clause-tells g c = λ fed h headed items f. none_told (g.T.Read.remaining c.args.reader.now) (λ rest. events_at c.args.place (fed ++ rest)) c.fail.result.receipt.pushed c.fail.result.fault _ c.fail.ensures.fault (λ m. ((λ k. absurd cc), tt))
 
 pub returns-in-Err-clause-write : goal.returns-in-Err-clause-write
-returns-in-Err-clause-write g c = no_write _ _ c.fail-in-Err.ensures.fault read_apart
+returns-in-Err-clause-write g c = no_write _ _ c.fail-in-Err.ensures.fault (λ k. absurd cc)
 
 pub returns-in-Err-clause-tells : goal.returns-in-Err-clause-tells
-returns-in-Err-clause-tells g c = λ fed h headed items f. none_told (g.T.Read.remaining c.args.reader.now) (λ rest. events_at c.args.place (fed ++ rest)) c.fail-in-Err.result.receipt.pushed c.fail-in-Err.result.fault _ c.fail-in-Err.ensures.fault (λ m. (read_apart, tt))
+returns-in-Err-clause-tells g c = λ fed h headed items f. none_told (g.T.Read.remaining c.args.reader.now) (λ rest. events_at c.args.place (fed ++ rest)) c.fail-in-Err.result.receipt.pushed c.fail-in-Err.result.fault _ c.fail-in-Err.ensures.fault (λ m. ((λ k. absurd cc), tt))
 
 pub returns-in-Err-take-clause-write : goal.returns-in-Err-take-clause-write
 returns-in-Err-take-clause-write g c = no_write _ _ c.fail-in-Err-take.ensures.fault c.of_stream.ensures.values.1
 
 pub returns-clause-write : goal.returns-clause-write
-returns-clause-write g c = no_write _ _ c.fail-2.ensures.fault read_apart
+returns-clause-write g c = no_write _ _ c.fail-2.ensures.fault (λ k. absurd cc)
 
 pub returns-clause-tells : goal.returns-clause-tells
-returns-clause-tells g c = λ fed h headed items f. none_told (g.T.Read.remaining c.args.reader.now) (λ rest. events_at c.args.place (fed ++ rest)) c.fail-2.result.receipt.pushed c.fail-2.result.fault _ c.fail-2.ensures.fault (λ m. (read_apart, tt))
+returns-clause-tells g c = λ fed h headed items f. none_told (g.T.Read.remaining c.args.reader.now) (λ rest. events_at c.args.place (fed ++ rest)) c.fail-2.result.receipt.pushed c.fail-2.result.fault _ c.fail-2.ensures.fault (λ m. ((λ k. absurd cc), tt))
 
 pub returns-in-Ok-eq0-clause-tells : goal.returns-in-Ok-eq0-clause-tells
 returns-in-Ok-eq0-clause-tells g c = λ fed h headed items f.

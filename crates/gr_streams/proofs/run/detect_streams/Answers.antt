@@ -1,6 +1,6 @@
-use Rattle.std.proofs.Common.{◌≡◌, ◌≢◌, ℕ, List, [], Result, Ok, Err, Option, None, Some, map, inl, inr, subst, sym, ⊎_elim}
-use Rattle.std.specs.Prelude.{IfErr, IfOk, IfSome, IsErrAnd}
-use Rattle.std.proofs.lemmas.Result.{IfErr-weaker, IfOk-weaker}
+use Rattle.std.proofs.Common.{◌≡◌, ◌≢◌, ℕ, List, [], Ok, Option, None, Some, map, inl, inr, subst, sym, ⊎_elim}
+use Rattle.std.specs.Prelude.{IfSome}
+use Rattle.std.proofs.lemmas.Result.{IfErr-weaker, IfOk-weaker, err_from_is_err_and}
 use Rattle.gr_record.specs.InputFaults.{Fails}
 use Rattle.gr_record.specs.declared.fault.Fault.{Fault}
 use Rattle.gr_record.specs.declared.fault.Fault.TheVariants as faults
@@ -11,7 +11,7 @@ use Rattle.gr_intake.proofs.Accepted.{none_are}
 use Rattle.gr_replay.proofs.JoinedInputs.{each_are}
 use Rattle.gr_replay.proofs.Launching.{launch_accepts}
 use Rattle.gr_report.specs.Whole.{whole_of}
-use Rattle.gr_streams.specs.Headers.{AreApart, AreHeadersOf, bares, headers_of, streams_with}
+use Rattle.gr_streams.specs.Headers.{AreApart, bares, headers_of, streams_with}
 use Rattle.gr_streams.specs.Sources.{known_of}
 use Rattle.gr_streams.specs.Streams.{IsReportOn, IsRunFault}
 use Rattle.gr_streams.proofs.EachLemmas.{each_read}
@@ -21,15 +21,6 @@ use Rattle.gr_streams.proofs.run.detect_streams.Goals as goal
 
 at_some : {X : Type 0} (o : Option X) (P : X → Type 0) (x : X) → o ≡ Some x → IfSome o P → P x
 at_some o P x is h = subst (λ (p : Option _). IfSome p P) is h
-
--- the fault of a `?`
-err_as : {Y : Type 0} (r : Result Y Fault) (e : Fault) (P : Fault → Type 0) → IsErrAnd r (λ f. f ≡ e) → P e → IfErr r P
-err_as (Ok x) e P is p = tt
-err_as (Err f) e P is p = subst P (sym is) p
-
-not_ok : {Y : Type 0} (r : Result Y Fault) (e : Fault) (P : Y → Type 0) → IsErrAnd r (λ f. f ≡ e) → IfOk r P
-not_ok (Ok x) e P is = absurd is
-not_ok (Err f) e P is = tt
 
 headers_refused : (known : Option (List (List ℕ))) (f : Fault) → IfSome known (λ inputs. Fails f (headers_of inputs)) → IfSome known (λ inputs. IsRunFault inputs f)
 headers_refused None f fails = tt
@@ -42,38 +33,23 @@ shape_refused (Some inputs) hs f read fault = inl (inr (hs, read, inl fault))
 unwritten : (hs : List Header) (f : Fault) → IsLaunchFault (bares hs) f → f ≢ faults.Write
 unwritten hs f fault = λ is. let none : IsLaunchFault (bares hs) faults.Write = subst (IsLaunchFault (bares hs)) is fault in absurd none
 
-pub returns-in_err-headers-clause-report : goal.returns-in_err-headers-clause-report
-returns-in_err-headers-clause-report g c = not_ok c.from_residual.result c.in_err-headers.field-0.0 _ c.from_residual.ensures.1
-
 pub returns-in_err-headers-clause-fault : goal.returns-in_err-headers-clause-fault
 returns-in_err-headers-clause-fault g c =
-    let known = all_known (map g.T.Read.remaining c.args.readers.items) in
-    let f = c.in_err-headers.field-0.0 in
-    err_as c.from_residual.result f (λ f. IfSome known (λ inputs. IsRunFault inputs f)) c.from_residual.ensures.1 (headers_refused known f c.in_err-headers.ensures.exact)
-
-pub returns-in_err-headers-clause-write : goal.returns-in_err-headers-clause-write
-returns-in_err-headers-clause-write g c = err_as c.from_residual.result c.in_err-headers.field-0.0 (λ f. f ≢ faults.Write) c.from_residual.ensures.1 c.in_err-headers.ensures.fault.0
-
-pub returns-in_err-shape-clause-report : goal.returns-in_err-shape-clause-report
-returns-in_err-shape-clause-report g c = not_ok c.from_residual-in_err-shape.result c.in_err-shape.field-0.0 _ c.from_residual-in_err-shape.ensures.1
+    let p = err_from_is_err_and c.from_residual.result c.from_residual.ensures.1 in
+    rw (p.1, p.2) (headers_refused (all_known (map g.T.Read.remaining c.args.readers.items)) c.in_err-headers.field-0.0 c.in_err-headers.ensures.exact)
 
 pub returns-in_err-shape-clause-fault : goal.returns-in_err-shape-clause-fault
 returns-in_err-shape-clause-fault g c =
-    let known = all_known (map g.T.Read.remaining c.args.readers.items) in
-    let f = c.in_err-shape.field-0.0 in
-    err_as c.from_residual-in_err-shape.result f (λ f. IfSome known (λ inputs. IsRunFault inputs f)) c.from_residual-in_err-shape.ensures.1
-    (shape_refused known c.in_ok-headers.field-0.headers.items f c.in_ok-headers.ensures.headers c.in_err-shape.ensures.fault)
+    let p = err_from_is_err_and c.from_residual-in_err-shape.result c.from_residual-in_err-shape.ensures.1 in
+    rw (p.1, p.2) (shape_refused (all_known (map g.T.Read.remaining c.args.readers.items)) c.in_ok-headers.field-0.headers.items c.in_err-shape.field-0.0 c.in_ok-headers.ensures.headers c.in_err-shape.ensures.fault)
 
 pub returns-in_err-shape-clause-write : goal.returns-in_err-shape-clause-write
 returns-in_err-shape-clause-write g c =
-    let f = c.in_err-shape.field-0.0 in
-    err_as c.from_residual-in_err-shape.result f (λ f. f ≢ faults.Write) c.from_residual-in_err-shape.ensures.1 (unwritten c.in_ok-headers.field-0.headers.items f c.in_err-shape.ensures.fault)
+    let p = err_from_is_err_and c.from_residual-in_err-shape.result c.from_residual-in_err-shape.ensures.1 in
+    rw (p.1, p.2) (unwritten c.in_ok-headers.field-0.headers.items c.in_err-shape.field-0.0 c.in_err-shape.ensures.fault)
 
 pub run_sources-requires-clause-apart : goal.run_sources-requires-clause-apart
 run_sources-requires-clause-apart g c κs within = subst AreApart (sym c.in_ok-headers.ensures.sources) c.in_ok-headers.ensures.apart
-
-pub run_sources-requires-clause-shape : goal.run_sources-requires-clause-shape
-run_sources-requires-clause-shape g c κs within = subst (λ (hs : List Header). AreHeadersOf hs c.in_ok-shape.shape) (sym c.in_ok-headers.ensures.sources) c.in_ok-shape.ensures.launch
 
 pub returns-clause-report : goal.returns-clause-report
 returns-clause-report g c =

@@ -1,4 +1,4 @@
-use Rattle.std.proofs.Common.{◌≡◌, ◌∙◌, ◌⊎◌, ℕ, List, Option, Some, Result, ap, arith, inl, inr, length, map, refl, subst, sym, ⊎_elim}
+use Rattle.std.proofs.Common.{◌≡◌, ◌∙◌, ◌⊎◌, Some, Result, ap, arith, inl, inr, length, map, refl, subst, sym, ⊎_elim}
 use Rattle.std.proofs.lemmas.List.{length-map}
 use Rattle.std.proofs.lemmas.Result.{IfErr-weaker, IfOk-at_ok, IfOk-weaker}
 use Rattle.gr_detector.specs.Refusals.{IsHandedBack}
@@ -14,18 +14,13 @@ use Rattle.gr_route.specs.IntakeSeats.{Seat}
 use Rattle.gr_streams.specs.Headers.{AreHeadersOf}
 use Rattle.gr_streams.specs.Records.{lists_of}
 use Rattle.gr_streams.specs.Sending.{FailsHere, Tells}
-use Rattle.gr_streams.specs.Sources.{AreBegun, AreSenders, Begun, known_of}
+use Rattle.gr_streams.specs.Sources.{AreSenders}
 use Rattle.gr_streams.specs.Streams.{IsWantOfMemory}
 use Rattle.gr_streams.specs.declared.source.Source.{Source}
 use Rattle.gr_streams.proofs.JoinLemmas.{begun_count}
 use Rattle.gr_streams.proofs.LaunchLemmas.{launch_sent, of_run, receipts_of_run, served}
 use Rattle.gr_streams.proofs.OnceLemmas.{each_once, only_memory}
 use Rattle.gr_streams.proofs.run.run_sources.Goals as goal
-
--- the streams of the shares are those of the sources
-begun_sources : {T : Type 0} (remaining : T → Option (List ℕ)) (shares : List (List (Source T))) (sources : List (Source T)) (bs : List Begun) → all_of shares ≡ sources
-    → AreBegun 0 (map (λ s. s.header) (all_of shares)) (map (known_of remaining) (all_of shares)) bs → AreBegun 0 (map (λ s. s.header) sources) (map (known_of remaining) sources) bs
-begun_sources {T} remaining shares sources bs is = subst (λ (l : List (Source T)). AreBegun 0 (map (λ s. s.header) l) (map (known_of remaining) l) bs) is
 
 pub start_all-threads-requires-clause-headed : goal.start_all-threads-requires-clause-headed
 start_all-threads-requires-clause-headed g c κs within = rw c.in_ok-shares.ensures.shares c.requires.headed
@@ -41,7 +36,7 @@ pub join_all-receipts-requires : goal.join_all-receipts-requires
 join_all-receipts-requires g c =
     let room = c.in_ok-shares.ensures.receipts in
     let sources = c.args.sources.items in
-    let begun = begun_sources g.T.Read.remaining c.in_ok-shares.field-0.shares.items sources (all_of c.start_all-threads.result.items) c.in_ok-shares.ensures.shares c.start_all-threads.ensures.begun in
+    let begun = rw c.in_ok-shares.ensures.shares at c.start_all-threads.ensures.begun in
     record {
       none = room.none;
       empty = room.empty;
@@ -62,7 +57,7 @@ judge-requires g c =
     let run = c.in-Ok-start.started.1 in
     let receipts = c.join_all-receipts.result.receipts.items in
     let launch = subst (AreHeadersOf hs) (sym c.in-Ok-start.ensures.run.1) c.requires.shape in
-    let begun = begun_sources g.T.Read.remaining c.in_ok-shares.field-0.shares.items c.args.sources.items (all_of c.start_all-threads.result.items) c.in_ok-shares.ensures.shares c.start_all-threads.ensures.begun in
+    let begun = rw c.in_ok-shares.ensures.shares at c.start_all-threads.ensures.begun in
     let once : IsEachOnce (length run.sizes) receipts = each_once hs run.sizes receipts c.requires.apart launch (c.join_all-receipts.ensures.receipts.groups ∙ begun.groups) in
     IfErr-weaker c.finish.result (IsHandedBack run receipts) IsWantOfMemory (only_memory run receipts once) c.finish.ensures.refused
 
@@ -72,7 +67,7 @@ returns-clause-report g c =
     let run = c.in-Ok-start.started.1 in
     let receipts = c.join_all-receipts.result.receipts.items in
     let pushed = map (λ (r : Seat). r.pushed) receipts in
-    let begun = begun_sources g.T.Read.remaining c.in_ok-shares.field-0.shares.items c.args.sources.items (all_of c.start_all-threads.result.items) c.in_ok-shares.ensures.shares c.start_all-threads.ensures.begun in
+    let begun = rw c.in_ok-shares.ensures.shares at c.start_all-threads.ensures.begun in
     IfOk-weaker c.judge.result _ _
     (λ r h inputs known.
     let tells = c.join_all-receipts.ensures.tells inputs (begun.placed, begun.bytes ∙ known) in
@@ -85,9 +80,6 @@ returns-clause-report g c =
       exact = IfOk-at_ok (λ report. IsReportOf (sent_by run.sizes receipts) (whole_of report)) h.1 c.finish.ensures.report;
     })
     c.judge.ensures.report
-
-pub room_for-requires : goal.room_for-requires
-room_for-requires g c κs lives = lives
 
 pub at_places-senders-requires : goal.at_places-senders-requires
 at_places-senders-requires g c =
@@ -109,7 +101,7 @@ why meaning f here = inr here
 
 pub returns-clause-fault : goal.returns-clause-fault
 returns-clause-fault g c =
-    let begun = begun_sources g.T.Read.remaining c.in_ok-shares.field-0.shares.items c.args.sources.items (all_of c.start_all-threads.result.items) c.in_ok-shares.ensures.shares c.start_all-threads.ensures.begun in
+    let begun = rw c.in_ok-shares.ensures.shares at c.start_all-threads.ensures.begun in
     let pushed = map (λ (r : Seat). r.pushed) c.join_all-receipts.result.receipts.items in
     IfErr-weaker c.judge.result _ _
     (λ f h inputs known.

@@ -96,9 +96,6 @@ loop-source-preserved g c =
       room = omega (arith, inv.room, c.in-Some.ensures.steps.1, c.push_reserved.ensures.len, c.push_reserved.ensures.capacity);
     }
 
-pub push_reserved-requires : goal.push_reserved-requires
-push_reserved-requires g c = omega (arith, c.loop-source.invariant.room, c.in-Some.ensures.steps.1)
-
 pub returns-clause-left : goal.returns-clause-left
 returns-clause-left g c = λ more served.
     let left = c.loop-source.source-iterator in
