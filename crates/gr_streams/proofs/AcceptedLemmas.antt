@@ -4,7 +4,7 @@ use Rattle.std.specs.Prelude.{IsFalse, IsTrue}
 use Rattle.std.proofs.lemmas.List.{length-append, length-map}
 use Rattle.gr_model.specs.declared.event.Event.{Event}
 use Rattle.gr_model.specs.declared.event.Kind.{Kind}
-use Rattle.gr_model.specs.declared.event.Kind.TheVariants.{Read, Write, Load, Store, Rmw, Barrier, End}
+use Rattle.gr_model.specs.declared.event.Kind.TheVariants.{End}
 use Rattle.gr_model.specs.declared.event.Name.{Name}
 use Rattle.gr_model.specs.declared.event.Space.{Space}
 use Rattle.gr_model.specs.declared.limits.TheConstants.{MOST_RECORDS}
@@ -24,13 +24,8 @@ same_end cut item space word [] naming (i, s, w) = λ k. event (sym i k) (End cu
 same_end cut item space word (n ∷ names) naming kind = absurd (true≢false (sym naming.0))
 
 same_kind : (k : Kind) (item : ℕ) (space : Space) (word : ℕ) (names : List Name) → IsNamingOk k names → IsKindOk k item space word → sent_by_kind k (event item k space word names) ≡ event item k space word names
-same_kind Read item space word names naming kind = refl
-same_kind Write item space word names naming kind = refl
-same_kind (Load scope order) item space word names naming kind = refl
-same_kind (Store scope order) item space word names naming kind = refl
-same_kind (Rmw scope order) item space word names naming kind = refl
-same_kind (Barrier global local) item space word names naming kind = refl
 same_kind (End cut) item space word names naming kind = same_end cut item space word names naming kind
+same_kind _ item space word names naming kind = refl
 
 same_event : (e : Event) (items : ℕ) → IsEventOk e items → sent_as e ≡ e
 same_event e items ok = same_kind e.kind e.item e.space e.word e.names ok.1 ok.2

@@ -20,17 +20,10 @@ any_with test [] ls count = refl
 any_with test (h ∷ hs) [] count = absurd (omega (arith, count))
 any_with test (h ∷ hs) (l ∷ ls) count = ap (λ b. test h || b) (any_with test hs ls (omega (arith, count)))
 
-length_with : (hs : List Header) (ls : List (List Event)) → length hs ≡ length ls → length (streams_with hs ls) ≡ length ls
-length_with [] [] count = refl
-length_with [] (l ∷ ls) count = absurd (omega (arith, count))
-length_with (h ∷ hs) [] count = absurd (omega (arith, count))
-length_with (h ∷ hs) (l ∷ ls) count = let rest = length_with hs ls (omega (arith, count)) in omega (arith, rest)
-
 one_more_with : (hs : List Header) (ls : List (List Event)) (h : Header) (l : List Event) → length hs ≡ length ls → streams_with (hs ++ h ∷ []) (ls ++ l ∷ []) ≡ streams_with hs ls ++ record { header = h; events = l } ∷ []
 one_more_with [] [] h l count = refl
-one_more_with [] (x ∷ ls) h l count = absurd (omega (arith, count))
-one_more_with (x ∷ hs) [] h l count = absurd (omega (arith, count))
 one_more_with (x ∷ hs) (y ∷ ls) h l count = ap (λ (fs : List Flat). record { header = x; events = y } ∷ fs) (one_more_with hs ls h l (omega (arith, count)))
+one_more_with _ _ h l count = absurd (omega (arith, count))
 
 -- ---- what was read of one input
 

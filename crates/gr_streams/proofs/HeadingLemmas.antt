@@ -37,8 +37,7 @@ known_so_far (Some first ∷ ks) ms o P B Q p b go =
 pub one_more_known : (ks ps : List (Option (List ℕ))) (o p : Option (List ℕ)) → AreKnown ks ps → IfSome o (λ bytes. p ≡ Some bytes) → AreKnown (ks ++ o ∷ []) (ps ++ p ∷ [])
 one_more_known [] [] o p h one = (one, tt)
 one_more_known (k ∷ ks) (q ∷ ps) o p h one = (h.0, one_more_known ks ps o p h.1 one)
-one_more_known [] (q ∷ ps) o p h one = absurd h
-one_more_known (k ∷ ks) [] o p h one = absurd h
+one_more_known _ _ o p h one = absurd h
 
 -- ---- headers
 

@@ -143,15 +143,13 @@ some x = Some x
 
 -- the inputs of some streams and of one more
 pub one_input : (ks : List (Option (List ℕ))) (k : Option (List ℕ)) (inputs : List (List ℕ)) → ks ++ k ∷ [] ≡ map some inputs → (xs : List (List ℕ)) × (x : List ℕ) × (inputs ≡ xs ++ x ∷ []) × (ks ≡ map some xs) × (k ≡ Some x)
-one_input [] k [] e = absurd cc
 one_input [] k (x ∷ []) e = ([], x, refl, refl, cc)
-one_input [] k (x ∷ y ∷ inputs) e = absurd cc
-one_input (o ∷ ks) k [] e = absurd cc
 one_input (o ∷ ks) k (y ∷ inputs) e =
     let first : o ≡ some y = cc in
     let rest : ks ++ k ∷ [] ≡ map some inputs = cc in
     let r = one_input ks k inputs rest in
     (y ∷ r.0, r.1, ap (λ (l : List (List ℕ)). y ∷ l) r.2, (λ i. first i ∷ r.3 i), r.4)
+one_input _ k _ e = absurd cc
 
 -- ---- lists
 

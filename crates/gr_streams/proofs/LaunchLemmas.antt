@@ -67,22 +67,19 @@ module _ (run : Run) (senders : List Sending) (are : AreSendersOf run senders) w
 
 -- ---- receipts
 
-pub first_is : {X : Type 0} (x y : X) (xs ys : List X) → x ∷ xs ≡ y ∷ ys → x ≡ y
-first_is x y xs ys e = cc
-
-pub rest_is : {X : Type 0} (x y : X) (xs ys : List X) → x ∷ xs ≡ y ∷ ys → xs ≡ ys
-rest_is x y xs ys e = cc
+pub cons_is : {X : Type 0} (x y : X) (xs ys : List X) → x ∷ xs ≡ y ∷ ys → (x ≡ y) × (xs ≡ ys)
+cons_is x y xs ys e = (cc, cc)
 
 pub receipts_of_run : (run : Run) (bs : List Begun) (rs : List Seat) → AreOfRun run bs → AreReceiptsFor bs rs → AreReceiptsOf run rs
 receipts_of_run run bs [] all are = λ k d lt. absurd (omega (arith, lt))
 receipts_of_run run [] (r ∷ rs) all are = absurd (omega (arith, ap length are.groups))
 receipts_of_run run (b ∷ bs) (r ∷ rs) all are =
-    let group : r.group ≡ b.sender.group = first_is _ _ _ _ are.groups in
-    let queue : r.queue ≡ b.sender.queue.queue = first_is _ _ _ _ are.queues in
+    let group : r.group ≡ b.sender.group = (cons_is _ _ _ _ are.groups).0 in
+    let queue : r.queue ≡ b.sender.queue.queue = (cons_is _ _ _ _ are.queues).0 in
     let first : IsOfRun run b.sender.group b.sender.queue.queue = all 0 b (omega arith) in
     All-cons (λ (x : Seat). IsOfRun run x.group x.queue) r rs
     (subst (λ n. IsOfRun run n r.queue) (sym group) (subst (λ (q : TableId). IsOfRun run b.sender.group q) (sym queue) first))
-    (receipts_of_run run bs rs (All-tail (λ (x : Begun). IsOfRun run x.sender.group x.sender.queue.queue) b bs all) (record { groups = rest_is _ _ _ _ are.groups; queues = rest_is _ _ _ _ are.queues }))
+    (receipts_of_run run bs rs (All-tail (λ (x : Begun). IsOfRun run x.sender.group x.sender.queue.queue) b bs all) (record { groups = (cons_is _ _ _ _ are.groups).1; queues = (cons_is _ _ _ _ are.queues).1 }))
 
 -- ---- streams
 
@@ -104,13 +101,13 @@ stream_sent [] rs apart same f (k, lt, is) = absurd (omega (arith, lt))
 stream_sent (h ∷ hs) [] apart same f (k, lt, is) = absurd (omega (arith, lt))
 stream_sent (h ∷ hs) (r ∷ rs) apart same f (zero, lt, is) =
     let head : h ≡ f.header = ap (λ (x : Flat). x.header) is in
-    let group : r.group ≡ f.header.group = first_is _ _ _ _ same ∙ ap (λ (x : Header). x.group) head in (
+    let group : r.group ≡ f.header.group = (cons_is _ _ _ _ same).0 ∙ ap (λ (x : Header). x.group) head in (
       (0, omega arith, head),
       ap (λ b. cond b r.pushed (sent_of f.header.group rs)) (eq-eqb r.group f.header.group group) ∙ ap (λ (x : Flat). x.events) is,
     )
 stream_sent (h ∷ hs) (r ∷ rs) apart same f (suc k, lt, is) =
-    let rest = stream_sent hs rs (apart_tail h hs apart) (rest_is _ _ _ _ same) f (k, omega (arith, lt), is) in
-    let other : r.group ≢ f.header.group = λ e. apart_head h hs apart f.header rest.0 (sym e ∙ first_is _ _ _ _ same) in (
+    let rest = stream_sent hs rs (apart_tail h hs apart) (cons_is _ _ _ _ same).1 f (k, omega (arith, lt), is) in
+    let other : r.group ≢ f.header.group = λ e. apart_head h hs apart f.header rest.0 (sym e ∙ (cons_is _ _ _ _ same).0) in (
       contains_tail h f.header hs rest.0,
       ap (λ b. cond b r.pushed (sent_of f.header.group rs)) (ne_eqb r.group f.header.group other) ∙ rest.1,
     )
@@ -120,7 +117,7 @@ header_there [] rs same h (k, lt, is) = absurd (omega (arith, lt))
 header_there (x ∷ hs) [] same h in_hs = absurd (omega (arith, ap length same))
 header_there (x ∷ hs) (r ∷ rs) same h (zero, lt, is) = (record { header = x; events = r.pushed }, (0, omega arith, refl), is)
 header_there (x ∷ hs) (r ∷ rs) same h (suc k, lt, is) =
-    let rest = header_there hs rs (rest_is _ _ _ _ same) h (k, omega (arith, lt), is) in
+    let rest = header_there hs rs (cons_is _ _ _ _ same).1 h (k, omega (arith, lt), is) in
     (rest.0, contains_tail (record { header = x; events = r.pushed }) rest.0 (streams_with hs (pushed_of rs)) rest.1, rest.2)
 
 -- the header of a bare stream

@@ -10,7 +10,7 @@ use Rattle.gr_route.specs.IntakeSeats.{Seat}
 use Rattle.gr_streams.specs.Headers.{AreApart, AreHeadersOf}
 use Rattle.gr_streams.specs.Streams.{IsWantOfMemory}
 use Rattle.gr_streams.proofs.JoinLemmas.{apart_head, apart_tail}
-use Rattle.gr_streams.proofs.LaunchLemmas.{first_is, groups_of, header_groups, header_in, rest_is}
+use Rattle.gr_streams.proofs.LaunchLemmas.{cons_is, groups_of, header_groups, header_in}
 
 -- the receipts of a group
 abbrev of_group : ℕ → List Seat → List Seat
@@ -26,11 +26,10 @@ passed_over g r rs other = ap (λ b. length (cond b (r ∷ of_group g rs) (of_gr
 -- there is none of a group that no header is of
 none_of : (hs : List Header) (rs : List Seat) → groups_of rs ≡ header_groups hs → (g : ℕ) → ((h : Header) → Contains hs h → h.group ≢ g) → length (of_group g rs) ≡ 0
 none_of [] [] same g other = refl
-none_of [] (r ∷ rs) same g other = absurd cc
-none_of (h ∷ hs) [] same g other = absurd cc
 none_of (h ∷ hs) (r ∷ rs) same g other =
-    passed_over g r rs (λ is. other h (0, omega arith, refl) (sym (first_is _ _ _ _ same) ∙ is))
-    ∙ none_of hs rs (rest_is _ _ _ _ same) g (λ x in_hs. other x (suc in_hs.0, omega (arith, in_hs.1), in_hs.2))
+    passed_over g r rs (λ is. other h (0, omega arith, refl) (sym ((cons_is _ _ _ _ same).0) ∙ is))
+    ∙ none_of hs rs (cons_is _ _ _ _ same).1 g (λ x in_hs. other x (suc in_hs.0, omega (arith, in_hs.1), in_hs.2))
+none_of _ _ same g other = absurd cc
 
 -- there is one of a group that a header is of
 one_of : (hs : List Header) (rs : List Seat) → AreApart hs → groups_of rs ≡ header_groups hs → (h : Header) → Contains hs h → length (of_group h.group rs) ≡ 1
@@ -38,12 +37,12 @@ one_of [] rs apart same h (k, lt, is) = absurd (omega (arith, lt))
 one_of (x ∷ hs) [] apart same h in_hs = absurd cc
 one_of (x ∷ hs) (r ∷ rs) apart same h (zero, lt, is) =
     let here : x.group ≡ h.group = ap (λ (y : Header). y.group) is in
-    first_of h.group r rs (first_is _ _ _ _ same ∙ here)
-    ∙ ap suc (none_of hs rs (rest_is _ _ _ _ same) h.group (λ y in_hs e. apart_head x hs apart y in_hs (e ∙ sym here)))
+    first_of h.group r rs ((cons_is _ _ _ _ same).0 ∙ here)
+    ∙ ap suc (none_of hs rs (cons_is _ _ _ _ same).1 h.group (λ y in_hs e. apart_head x hs apart y in_hs (e ∙ sym here)))
 one_of (x ∷ hs) (r ∷ rs) apart same h (suc k, lt, is) =
     let in_hs : Contains hs h = (k, omega (arith, lt), is) in
-    passed_over h.group r rs (λ e. apart_head x hs apart h in_hs (sym e ∙ first_is _ _ _ _ same))
-    ∙ one_of hs rs (apart_tail x hs apart) (rest_is _ _ _ _ same) h in_hs
+    passed_over h.group r rs (λ e. apart_head x hs apart h in_hs (sym e ∙ (cons_is _ _ _ _ same).0))
+    ∙ one_of hs rs (apart_tail x hs apart) (cons_is _ _ _ _ same).1 h in_hs
 
 -- so each group of the launch is there once
 pub each_once : (hs : List Header) (sizes : List ℕ) (rs : List Seat) → AreApart hs → AreHeadersOf hs sizes → groups_of rs ≡ header_groups hs → IsEachOnce (length sizes) rs

@@ -72,10 +72,8 @@ module _ (place : ℕ) where
 -- ---- whole streams
 
 closed_end : (stop : Stop) (events : List Event) (rest : List ℕ) → close stop rest ≡ AtEnd → up_to stop events rest ≡ Ok (events, [])
-closed_end Inside events rest h = absurd cc
 closed_end AtEnd events [] h = refl
-closed_end AtEnd events (b ∷ rest) h = absurd cc
-closed_end (AtFault e) events rest h = absurd cc
+closed_end _ events _ h = absurd cc
 
 -- a stream of this header that was read to its end is one that its group may have
 pub read_to_end : (bytes : List ℕ) (h : Header) → HEADER_LENGTH ≤ length bytes → header_at (take HEADER_LENGTH bytes) ≡ Ok h → (reading MOST_RECORDS bytes).stop ≡ AtEnd → AreRead h.items MOST_RECORDS (reading MOST_RECORDS bytes).events

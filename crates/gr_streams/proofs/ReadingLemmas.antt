@@ -40,9 +40,8 @@ stops : (fed : List ℕ) (d : Standing) (s : Sending) (refused : Bool) → IsFed
 stops fed d s refused f = ap (λ (x : Standing). x.stop) f.stands ∙ ap (λ n. (reading n fed).stop) f.limit
 
 at_fault : (stop : Stop) (e : RecordError) → Err e ≡ answer stop → stop ≡ AtFault e
-at_fault Inside e h = absurd cc
-at_fault AtEnd e h = absurd cc
 at_fault (AtFault d) e h = cc
+at_fault _ e h = absurd cc
 
 -- a piece at fault, whatever follows it
 pub refused_tells : (place : ℕ) (fed rest : List ℕ) (pushed : List Event) (d : Standing) (s : Sending) (refused : Bool) (result : Result (Unit {0}) RecordError) (e : RecordError) → result ≡ Err e → (HasMemory result → result ≡ answer d.stop) → (HasMemory result → IsFed fed d s refused)

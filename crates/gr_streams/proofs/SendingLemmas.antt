@@ -12,7 +12,7 @@ use Rattle.gr_record.specs.declared.header.Header.{Header}
 use Rattle.gr_record.specs.Laws.{AreBytes}
 use Rattle.gr_record.specs.Decoding.{GrowsAs, Reading, header_part, parts_of, read_from, reading}
 use Rattle.gr_threads.specs.declared.sender.SendError.{SendError}
-use Rattle.gr_threads.specs.declared.sender.SendError.TheVariants.{Closed, UnknownItem, BadEvent, StreamFull, Full}
+use Rattle.gr_threads.specs.declared.sender.SendError.TheVariants.{Closed, Full}
 use Rattle.gr_threads.specs.Refusals.{IsRefusalOfEnd, is_full}
 use Rattle.gr_threads.specs.Senders.{Sending}
 use Rattle.gr_streams.specs.Sending.{IsStuck, events_in}
@@ -27,10 +27,8 @@ ended (x ∷ y ∷ xs) e end = ended (y ∷ xs) e end
 pub is_closed : (old new : Sending) (r : Result (Unit {0}) SendError) → OnOk r (new ≡ record old { sent = old.sent ++ end_of true ∷ [] }) → OnErr r (new ≡ old) → IfErr r (λ e. IsRefusalOfEnd old true e) → IfErr r (λ e. IsFalse (is_full e)) → IsTrue (is_complete new.sent)
 is_closed old new (Ok u) ok err refused full = subst (λ (s : Sending). IsTrue (is_complete s.sent)) (sym ok) (ended old.sent (end_of true) refl)
 is_closed old new (Err Closed) ok err refused full = subst (λ (s : Sending). IsTrue (is_complete s.sent)) (sym err) refused
-is_closed old new (Err UnknownItem) ok err refused full = absurd refused
-is_closed old new (Err BadEvent) ok err refused full = absurd refused
-is_closed old new (Err StreamFull) ok err refused full = absurd refused
 is_closed old new (Err (Full x)) ok err refused full = absurd cc
+is_closed old new (Err _) ok err refused full = absurd refused
 
 -- events that follow do not help
 pub stuck_more : (items : ℕ) (events more : List Event) → IsStuck items events → IsStuck items (events ++ more)

@@ -1,19 +1,14 @@
-use Rattle.std.proofs.Common.{◌≡◌, ◌≢◌, ◌∙◌, ◌++◌, ℕ, List, Option, None, Some, Result, append_assoc, arith, subst, sym, take}
+use Rattle.std.proofs.Common.{◌≡◌, ◌∙◌, ◌++◌, ℕ, List, Option, None, Some, Result, append_assoc, arith, subst, sym, take}
 use Rattle.std.specs.Prelude.{IfSome}
 use Rattle.gr_record.proofs.Consuming.{Consumes-end, Consumes-then}
 use Rattle.gr_record.proofs.Outside.{at_known}
 use Rattle.gr_model.specs.declared.event.Event.{Event}
 use Rattle.gr_record.specs.declared.fault.Fault.{Fault}
-use Rattle.gr_record.specs.declared.fault.Fault.TheVariants as faults
 use Rattle.gr_record.specs.Decoding.{HasMemory}
 use Rattle.gr_streams.specs.Records.{events_at}
 use Rattle.gr_streams.specs.Sending.{Tells}
 use Rattle.gr_streams.proofs.ReadingLemmas.{end_tells, of_known, refused_tells, regroup, still_headed}
 use Rattle.gr_streams.proofs.reading.read_rest.Goals as goal
-
--- a fault that is not of writing
-no_write : (o : Option Fault) (f : Fault) → o ≡ Some f → f ≢ faults.Write → IfSome o (λ f. f ≢ faults.Write)
-no_write o f is apart = subst (λ (o : Option Fault). IfSome o (λ f. f ≢ faults.Write)) (sym is) apart
 
 -- that a thread is missing, or a read failed, tells nothing of the input
 none_told : (known : Option (List ℕ)) (meaning : List ℕ → Result (List Event) Fault) (pushed : List Event) (o : Option Fault) (f : Fault) → o ≡ Some f → ((m : Result (List Event) Fault) → Tells m pushed (Some f)) → IfSome known (λ rest. Tells (meaning rest) pushed o)
@@ -24,16 +19,16 @@ pub returns-then-load-clause-tells : goal.returns-then-load-clause-tells
 returns-then-load-clause-tells g c = λ fed h headed items f. none_told (g.T.Read.remaining c.args.reader.now) (λ rest. events_at c.args.place (fed ++ rest)) c.fail.result.receipt.pushed c.fail.result.fault _ c.fail.ensures.fault (λ m. ((λ k. absurd cc), tt))
 
 pub returns-in-Err-clause-write : goal.returns-in-Err-clause-write
-returns-in-Err-clause-write g c = no_write _ _ c.fail-in-Err.ensures.fault (λ k. absurd cc)
+returns-in-Err-clause-write g c = rw c.fail-in-Err.ensures.fault (λ k. absurd cc)
 
 pub returns-in-Err-clause-tells : goal.returns-in-Err-clause-tells
 returns-in-Err-clause-tells g c = λ fed h headed items f. none_told (g.T.Read.remaining c.args.reader.now) (λ rest. events_at c.args.place (fed ++ rest)) c.fail-in-Err.result.receipt.pushed c.fail-in-Err.result.fault _ c.fail-in-Err.ensures.fault (λ m. ((λ k. absurd cc), tt))
 
 pub returns-in-Err-take-clause-write : goal.returns-in-Err-take-clause-write
-returns-in-Err-take-clause-write g c = no_write _ _ c.fail-in-Err-take.ensures.fault c.of_stream.ensures.values.1
+returns-in-Err-take-clause-write g c = rw c.fail-in-Err-take.ensures.fault c.of_stream.ensures.values.1
 
 pub returns-clause-write : goal.returns-clause-write
-returns-clause-write g c = no_write _ _ c.fail-2.ensures.fault (λ k. absurd cc)
+returns-clause-write g c = rw c.fail-2.ensures.fault (λ k. absurd cc)
 
 pub returns-clause-tells : goal.returns-clause-tells
 returns-clause-tells g c = λ fed h headed items f. none_told (g.T.Read.remaining c.args.reader.now) (λ rest. events_at c.args.place (fed ++ rest)) c.fail-2.result.receipt.pushed c.fail-2.result.fault _ c.fail-2.ensures.fault (λ m. ((λ k. absurd cc), tt))

@@ -1,8 +1,6 @@
-use Rattle.std.proofs.Common.{◌≡◌, ◌≢◌, ℕ, List, [], Ok, Option, None, Some, map, inl, inr, subst, sym, ⊎_elim}
-use Rattle.std.specs.Prelude.{IfSome}
+use Rattle.std.proofs.Common.{List, [], map, inl, inr, subst, sym, ⊎_elim}
+use Rattle.std.proofs.lemmas.Option.{IfSome_then}
 use Rattle.std.proofs.lemmas.Result.{IfErr-weaker, IfOk-weaker, err_from_is_err_and}
-use Rattle.gr_record.specs.InputFaults.{Fails}
-use Rattle.gr_record.specs.declared.fault.Fault.{Fault}
 use Rattle.gr_record.specs.declared.fault.Fault.TheVariants as faults
 use Rattle.gr_record.specs.declared.header.Header.{Header}
 use Rattle.gr_replay.specs.Each.{all_known}
@@ -11,42 +9,28 @@ use Rattle.gr_intake.proofs.Accepted.{none_are}
 use Rattle.gr_replay.proofs.JoinedInputs.{each_are}
 use Rattle.gr_replay.proofs.Launching.{launch_accepts}
 use Rattle.gr_report.specs.Whole.{whole_of}
-use Rattle.gr_streams.specs.Headers.{AreApart, bares, headers_of, streams_with}
+use Rattle.gr_streams.specs.Headers.{AreApart, bares, streams_with}
 use Rattle.gr_streams.specs.Sources.{known_of}
-use Rattle.gr_streams.specs.Streams.{IsReportOn, IsRunFault}
+use Rattle.gr_streams.specs.Streams.{IsReportOn}
 use Rattle.gr_streams.proofs.EachLemmas.{each_read}
 use Rattle.gr_streams.proofs.HeadingLemmas.{if_any}
 use Rattle.gr_streams.proofs.LaunchLemmas.{known_all}
 use Rattle.gr_streams.proofs.run.detect_streams.Goals as goal
 
-at_some : {X : Type 0} (o : Option X) (P : X → Type 0) (x : X) → o ≡ Some x → IfSome o P → P x
-at_some o P x is h = subst (λ (p : Option _). IfSome p P) is h
-
-headers_refused : (known : Option (List (List ℕ))) (f : Fault) → IfSome known (λ inputs. Fails f (headers_of inputs)) → IfSome known (λ inputs. IsRunFault inputs f)
-headers_refused None f fails = tt
-headers_refused (Some inputs) f fails = inl (inl fails)
-
-shape_refused : (known : Option (List (List ℕ))) (hs : List Header) (f : Fault) → IfSome known (λ inputs. headers_of inputs ≡ Ok hs) → IsLaunchFault (bares hs) f → IfSome known (λ inputs. IsRunFault inputs f)
-shape_refused None hs f read fault = tt
-shape_refused (Some inputs) hs f read fault = inl (inr (hs, read, inl fault))
-
-unwritten : (hs : List Header) (f : Fault) → IsLaunchFault (bares hs) f → f ≢ faults.Write
-unwritten hs f fault = λ is. let none : IsLaunchFault (bares hs) faults.Write = subst (IsLaunchFault (bares hs)) is fault in absurd none
-
 pub returns-in_err-headers-clause-fault : goal.returns-in_err-headers-clause-fault
 returns-in_err-headers-clause-fault g c =
     let p = err_from_is_err_and c.from_residual.result c.from_residual.ensures.1 in
-    rw (p.1, p.2) (headers_refused (all_known (map g.T.Read.remaining c.args.readers.items)) c.in_err-headers.field-0.0 c.in_err-headers.ensures.exact)
+    rw (p.1, p.2) (IfSome_then (all_known (map g.T.Read.remaining c.args.readers.items)) c.in_err-headers.ensures.exact (λ inputs fails. inl (inl fails)))
 
 pub returns-in_err-shape-clause-fault : goal.returns-in_err-shape-clause-fault
 returns-in_err-shape-clause-fault g c =
     let p = err_from_is_err_and c.from_residual-in_err-shape.result c.from_residual-in_err-shape.ensures.1 in
-    rw (p.1, p.2) (shape_refused (all_known (map g.T.Read.remaining c.args.readers.items)) c.in_ok-headers.field-0.headers.items c.in_err-shape.field-0.0 c.in_ok-headers.ensures.headers c.in_err-shape.ensures.fault)
+    rw (p.1, p.2) (IfSome_then (all_known (map g.T.Read.remaining c.args.readers.items)) c.in_ok-headers.ensures.headers (λ inputs read. inl (inr (c.in_ok-headers.field-0.headers.items, read, inl c.in_err-shape.ensures.fault))))
 
 pub returns-in_err-shape-clause-write : goal.returns-in_err-shape-clause-write
 returns-in_err-shape-clause-write g c =
     let p = err_from_is_err_and c.from_residual-in_err-shape.result c.from_residual-in_err-shape.ensures.1 in
-    rw (p.1, p.2) (unwritten c.in_ok-headers.field-0.headers.items c.in_err-shape.field-0.0 c.in_err-shape.ensures.fault)
+    rw (p.1, p.2) (λ is. let none : IsLaunchFault (bares c.in_ok-headers.field-0.headers.items) faults.Write = subst (IsLaunchFault (bares c.in_ok-headers.field-0.headers.items)) is c.in_err-shape.ensures.fault in absurd none)
 
 pub run_sources-requires-clause-apart : goal.run_sources-requires-clause-apart
 run_sources-requires-clause-apart g c κs within = subst AreApart (sym c.in_ok-headers.ensures.sources) c.in_ok-headers.ensures.apart
@@ -61,7 +45,7 @@ returns-clause-report g c =
     (λ r h. if_any (all_known ks) _
     (λ inputs is.
     let known = known_all ks (map (known_of g.T.Read.remaining) headed.sources.items) inputs read.known is in
-    let headers = at_some (all_known ks) (λ xs. headers_of xs ≡ Ok hs) inputs is read.headers in
+    let headers = rw is at read.headers in
     let on = subst (λ (l : List Header). IsReportOn l inputs (whole_of r)) read.sources (h inputs known) in
     let seen = streams_with hs on.lists in
     let each = each_read inputs hs on.lists headers on.read in
@@ -83,7 +67,7 @@ returns-clause-fault g c =
     (λ f h. if_any (all_known ks) _
     (λ inputs is.
     let known = known_all ks (map (known_of g.T.Read.remaining) headed.sources.items) inputs read.known is in
-    let headers = at_some (all_known ks) (λ xs. headers_of xs ≡ Ok hs) inputs is read.headers in
+    let headers = rw is at read.headers in
     ⊎_elim
     (λ threads. inr (inl threads))
     (λ fails. inl (inr (hs, headers, inr ((c.in_ok-shape.shape, c.in_ok-shape.ensures.launch, c.in_ok-shape.ensures.shape), fails))))
