@@ -1,4 +1,4 @@
-use Rattle.std.proofs.Common.{◌≡◌, ◌∙◌, ◌++◌, ◌∷◌, [], append_assoc, ap, arith, map, rules, subst, sym}
+use Rattle.std.proofs.Common.{◌∙◌, ◌++◌, ◌∷◌, [], append_assoc, ap, arith, map, subst, sym}
 use Rattle.std.specs.Prelude.{All}
 use Rattle.std.specs.Vec.Iter.{into_iter_items}
 use Rattle.std.proofs.lemmas.List.{map_push}
@@ -6,16 +6,6 @@ use Rattle.std.proofs.lemmas.List.Elements.{All-head, All-tail}
 use Rattle.std.proofs.lemmas.Slice.Zip.{all_zipped_more}
 use Rattle.gr_streams.specs.Sources.{IsEndOf, IsUnread, begun_of}
 use Rattle.gr_streams.proofs.reading.read_each.Goals as goal
-
-pub loop-stream-init : goal.loop-stream-init
-loop-stream-init g c =
-    let items : into_iter_items c.into_iter-stream-iterator.result ≡ c.args.streams.items = search rules in
-    rw c.requires.room.none (record {
-      left = items;
-      unread = rw items c.requires.unread;
-      ends = tt;
-      room = search rules;
-    })
 
 pub read_on-requires : goal.read_on-requires
 read_on-requires g c = All-head IsUnread c.in-Some.stream (into_iter_items c.next.new.self) (subst (All IsUnread) c.in-Some.ensures.steps.0 c.loop-stream.invariant.unread)
