@@ -170,6 +170,30 @@ kernel void copies_wrong(global const int *in, global int *out) {
     out[get_global_id(0)] = tile[63 - get_local_id(0)];
     wait_group_events(1, &copy);
 }
+kernel void copies_unwaited(global const int *in, global int *out) { // a barrier does not end a copy
+    local int tile[64];
+    event_t copy = async_work_group_copy(tile, in + get_group_id(0) * 64, 64, 0);
+    barrier(CLK_LOCAL_MEM_FENCE);
+    out[get_global_id(0)] = tile[63 - get_local_id(0)];
+    barrier(CLK_LOCAL_MEM_FENCE);
+    wait_group_events(1, &copy);
+}
+kernel void copies_ahead(global const int *in, global int *out, int first) { // waits for one copy while the other goes on
+    local int tiles[2][64];
+    event_t copies[2];
+    for (int k = 0; k < 2; k++) copies[k] = async_work_group_copy(tiles[k], in + get_group_id(0) * 64, 64, 0);
+    wait_group_events(1, &copies[first]);
+    int sum = tiles[0][63 - get_local_id(0)];
+    wait_group_events(1, &copies[1 - first]);
+    out[get_global_id(0)] = sum + tiles[1][get_local_id(0)];
+}
+kernel void copies_together(global const int *in, global int *out) { // of one event
+    local int tile[64];
+    event_t copy = async_work_group_copy(tile, in + get_group_id(0) * 64, 32, 0);
+    copy = async_work_group_copy(tile + 32, in + get_group_id(0) * 64 + 32, 32, copy);
+    wait_group_events(1, &copy);
+    out[get_global_id(0)] = tile[63 - get_local_id(0)];
+}
 kernel void divergent(global int *out) {
     local int tile[64];
     const int l = get_local_id(0);
@@ -350,7 +374,13 @@ def cases():
     yield Case("vectors_right", [zeros * 4, zeros * 4], 0, {1: [1] * 4 * ALL})
     yield Case("vectors_wrong", [zeros * 4, zeros * 4], ALL - 1)
     yield Case("copies_right", [list(range(2 * ALL)), zeros], 0, {1: [2 * (g * 64 + 63 - l) for g in range(GROUPS) for l in range(ITEMS)]})
-    yield Case("copies_wrong", [list(range(ALL)), zeros], ALL)  # each word of each tile
+    behind = "nothing orders the two; wait_group_events behind the copy would, or, if the copy comes last, a barrier before it"
+    yield Case("copies_wrong", [list(range(ALL)), zeros], ALL, say=(behind,))  # each word of each tile
+    yield Case("copies_unwaited", [list(range(ALL)), zeros], ALL, say=(behind,))
+    mirrored = [g * 64 + 63 - l for g in range(GROUPS) for l in range(ITEMS)]
+    yield Case("copies_ahead", [list(range(ALL)), zeros, 0], 0, {1: [sum(both) for both in zip(mirrored, range(ALL))]})
+    yield Case("copies_ahead", [list(range(ALL)), zeros, 1], ALL, say=(behind,))  # the first tile
+    yield Case("copies_together", [list(range(ALL)), zeros], 0, {1: mirrored})
     for order, scope, races in ((1, 1, 0), (0, 1, 1), (1, 0, 2)):
         yield Case("orders", [[0], [0] * GROUPS, order, scope], races, {1: [42] * GROUPS})
     yield Case("divergent", [zeros], ALL, diverge=GROUPS)  # a divergent barrier orders nothing

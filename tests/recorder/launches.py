@@ -69,7 +69,7 @@ race on tile[0] of group 0
         tile[l] = input[l];
     kernel.cl:5:20: write by group 0, asynchronous copy
         tile[l] += tile[l + 8];
-    {LOCAL}
+    nothing orders the two; wait_group_events behind the copy would, or, if the copy comes last, a barrier before it
 """)
 
     def test_equal_values(self):

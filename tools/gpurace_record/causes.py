@@ -5,6 +5,7 @@ from typing import List, NamedTuple, Optional
 
 DEVICE, GROUP = "`memory_scope_device`", "`memory_scope_work_group`"
 ATOMICS = ("load", "store", "rmw")
+COPY = "nothing orders the two; wait_group_events behind the copy would, or, if the copy comes last, a barrier before it"
 FLAGS = {"global": (1, "CLK_GLOBAL_MEM_FENCE"), "local": (2, "CLK_LOCAL_MEM_FENCE")}
 
 
@@ -13,6 +14,7 @@ class At(NamedTuple):
     what: str
     place: str
     scope: str = ""
+    is_copy: bool = False  # of the item that does asynchronous copies
 
 
 class Barrier(NamedTuple):
@@ -62,7 +64,10 @@ def of_divergence(said: str, pair: Pair) -> str:
 
 
 def of_nothing(said: str, pair: Pair) -> str:
-    """Nothing orders the two: one may be plain beside atomics, a hand-over may not meet, or both items may update the word."""
+    """Nothing orders the two: one may be of a copy that goes on, or plain beside atomics, a hand-over may not meet, or both items may update
+    the word."""
+    if pair.is_one_group and (pair.first.is_copy or pair.second.is_copy):
+        return COPY
     for one, other in ((pair.first, pair.second), (pair.second, pair.first)):
         if one.what not in ATOMICS and other.what in ATOMICS:
             return f"a plain {one.what} beside atomics: make it an atomic {'load' if one.what == 'read' else 'store'}"

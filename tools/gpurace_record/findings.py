@@ -287,7 +287,8 @@ class Reader:
         first, second = race["first"], race["second"]
         if first["group"] not in self.groups or second["group"] not in self.groups:
             return None
-        one, other = (causes.At(access.what, access.place, access.scope) for access in accesses)
+        one, other = (causes.At(access.what, access.place, access.scope, self.shape.is_copying(event["group"], event["item"]))
+                      for access, event in zip(accesses, (first, second)))
         hands = [self.hand_over(first, second), self.hand_over(second, first)]  # the order of the two says nothing of time
         release, acquire = next((both for both in hands if all(both)), hands[0])
         return causes.Pair(said["space"], said["one_group"], one, other, self.barriers_between(first, second) if said["one_group"] else [],

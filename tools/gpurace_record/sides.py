@@ -185,7 +185,10 @@ class Shape:
 
     def item(self, group: int, item: int) -> str:
         """Who an item of a group of the trace is."""
-        return "asynchronous copy" if (group, item) in self.copying else self.told("item", item, self.local)
+        return "asynchronous copy" if self.is_copying(group, item) else self.told("item", item, self.local)
+
+    def is_copying(self, group: int, item: int) -> bool:
+        return (group, item) in self.copying
 
     def group_told(self, group: int) -> str:
         """The launch's group that a group of the trace is."""

@@ -288,14 +288,17 @@ private:
         at->eraseFromParent();
     }
 
-    // CLK_LOCAL_MEM_FENCE is 1 and CLK_GLOBAL_MEM_FENCE 2; items may give different flags. A wait for copies has both.
+    // CLK_LOCAL_MEM_FENCE is 1 and CLK_GLOBAL_MEM_FENCE 2; items may give different flags. A wait for copies has both, and its events.
     void put_barrier(CallInst &call) {
         Builder builder(&call);
-        const bool is_wait = name_of(call) == "wait_group_events" || call.arg_size() == 0;
-        Value *given = is_wait ? builder.getInt32(3) : call.getArgOperand(0);
-        Value *flags = builder.CreateZExtOrTrunc(given, builder.getInt32Ty());
         Value *number = builder.getInt32(site(call, BARRIER, nullptr, 0));
-        call_runtime(builder, "gr_barrier", builder.getVoidTy(), {number, flags});
+        if (name_of(call) == "wait_group_events") {
+            Value *count = builder.CreateZExtOrTrunc(call.getArgOperand(0), builder.getInt32Ty());
+            call_runtime(builder, "gr_wait", builder.getVoidTy(), {number, count, plain(builder, call.getArgOperand(1))});
+        } else {
+            Value *flags = call.arg_size() == 0 ? builder.getInt32(3) : call.getArgOperand(0);
+            call_runtime(builder, "gr_barrier", builder.getVoidTy(), {number, builder.CreateZExtOrTrunc(flags, builder.getInt32Ty())});
+        }
         call.eraseFromParent();
     }
 
@@ -307,10 +310,11 @@ private:
         const bool to_local = to->getType()->getPointerAddressSpace() == LOCAL_SPACE;
         Value *one = builder.getInt64(1), *stride = is_strided ? wide(builder, at->getArgOperand(3)) : one;
         const unsigned reads = site(*at, READ, from, bytes), writes = site(*at, WRITE, to, bytes);
-        call_runtime(builder, "gr_copy", builder.getVoidTy(),
-                     {builder.getInt32(reads), builder.getInt32(writes), plain(builder, to), plain(builder, from),
-                      wide(builder, at->getArgOperand(2)), to_local ? one : stride, to_local ? stride : one});
-        at->replaceAllUsesWith(at->getArgOperand(at->arg_size() - 1));
+        Value *given = builder.CreatePtrToInt(at->getArgOperand(at->arg_size() - 1), builder.getInt64Ty());
+        Value *event = call_runtime(builder, "gr_copy", builder.getInt64Ty(),
+                                    {builder.getInt32(reads), builder.getInt32(writes), plain(builder, to), plain(builder, from),
+                                     wide(builder, at->getArgOperand(2)), to_local ? one : stride, to_local ? stride : one, given});
+        at->replaceAllUsesWith(builder.CreateIntToPtr(event, at->getType()));
         at->eraseFromParent();
     }
 

@@ -57,6 +57,14 @@ struct Item {
 };
 static_assert(offsetof(Item, numbers) == 0 && offsetof(Item, locals) == LOCALS_OFFSET, "instrumented code knows them");
 
+// An asynchronous copy for which nobody has waited.
+struct Copy {
+    uint64_t event;
+    uint32_t reads, writes; // its sites
+    uint8_t *to, *from;
+    uint64_t count, to_stride, from_stride; // elements, and bytes from one to the next
+};
+
 struct Group {
     Launch *launch;
     uint64_t number;
@@ -76,6 +84,8 @@ struct Group {
     std::optional<Stream> stream;             // of a group that is recorded
     std::optional<StoredValues> stored;       // in local memory
     uint32_t copier_records = 0;
+    uint64_t events = 0;                      // of copies
+    std::vector<Copy> copies;                 // under way
 
     // Null where there is no room.
     static std::unique_ptr<Group> begin(Launch &launch, uint64_t number, Pool &pool, Random &random);

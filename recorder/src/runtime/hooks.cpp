@@ -1,6 +1,7 @@
 // What the instrumented code calls. Each call has the state of the work-item that makes it.
 #include "group.h"
 
+#include <algorithm>
 #include <cstdio>
 #include <cstring>
 
@@ -92,7 +93,7 @@ struct Accessor {
     uint32_t item;
     uint32_t &records;
 
-    void put(const Site &site, int space, const Part &part) {
+    void put(const Site &site, int space, const Part &part) const {
         if (!group.records_now()) return;
         const uint64_t head = head_of(item, uint8_t(site.kind), uint8_t(space));
         for (uint64_t word = part.first_word(), last = part.last_word(); word <= last; word++)
@@ -182,6 +183,37 @@ void rest_if_idle(Item &item, uint32_t most) {
     return is_deferred ? defer_store(item, address, site.bytes) : pointer;
 }
 
+// A copy for which nobody has waited may access its memory behind a barrier as well: its records are put there once more.
+void put_again(Group &group, const Accessor &copier, const Copy &copy) {
+    const auto put = [&](uint32_t number, const uint8_t *pointer) {
+        const Site &site = group.launch->sites[number];
+        int space;
+        const uint64_t address = reinterpret_cast<uint64_t>(pointer);
+        if (const Span *span = span_of(group, site, address, site.bytes, space)) copier.put(site, space, {span, address, site.bytes});
+    };
+    for (uint64_t at = 0; at < copy.count; at++) {
+        put(copy.reads, copy.from + at * copy.from_stride);
+        put(copy.writes, copy.to + at * copy.to_stride);
+    }
+}
+
+void come_to_barrier(Item &item, uint32_t number, uint8_t flags) {
+    Group &group = *item.group;
+    settle(item);
+    if (group.records_now()) {
+        const Site &site = group.launch->sites[number];
+        group.put(item.records, site, head_of(item.number, BARRIER, flags), number);
+        if (item.number == 0 && group.launch->request.kernel->has_copies) {
+            const Accessor copier{group, uint32_t(group.items.size()), group.copier_records};
+            group.put(copier.records, site, head_of(copier.item, BARRIER, flags), number);
+            for (const Copy &copy : group.copies) put_again(group, copier, copy);
+        }
+    }
+    item.last_site = UINT32_MAX;
+    item.state = STANDS;
+    item.rest();
+}
+
 } // namespace
 
 extern "C" {
@@ -196,35 +228,34 @@ HOOK void *gr_access(void *state, uint32_t number, void *pointer, const uint8_t 
 }
 
 HOOK void gr_barrier(void *state, uint32_t number, uint32_t flags) {
-    Item &item = item_of(state);
-    Group &group = *item.group;
-    settle(item);
-    const uint8_t traced = uint8_t((flags & 1) << 1 | (flags >> 1 & 1)); // a trace has global memory first
-    if (group.records_now()) {
-        const Site &site = group.launch->sites[number];
-        group.put(item.records, site, head_of(item.number, BARRIER, traced), number);
-        const uint32_t copier = uint32_t(group.items.size());
-        if (item.number == 0 && group.launch->request.kernel->has_copies)
-            group.put(group.copier_records, site, head_of(copier, BARRIER, traced), number);
-    }
-    item.last_site = UINT32_MAX;
-    item.state = STANDS;
-    item.rest();
+    come_to_barrier(item_of(state), number, uint8_t((flags & 1) << 1 | (flags >> 1 & 1))); // a trace has global memory first
 }
 
-// One more item of the group does the copies.
-HOOK void gr_copy(void *state, uint32_t reads, uint32_t writes, uint8_t *to, uint8_t *from, uint64_t count, uint64_t to_stride,
-                  uint64_t from_stride) {
+// A barrier behind which the copies of these events are done.
+HOOK void gr_wait(void *state, uint32_t number, uint32_t count, const uint64_t *events) {
+    Item &item = item_of(state);
+    std::vector<Copy> &copies = item.group->copies;
+    const auto is_done = [&](const Copy &copy) { return std::find(events, events + count, copy.event) != events + count; };
+    if (item.number == 0) copies.erase(std::remove_if(copies.begin(), copies.end(), is_done), copies.end());
+    come_to_barrier(item, number, 3);
+}
+
+// One more item of the group does the copies. Answers the copy's event, which may be that of an earlier copy.
+HOOK uint64_t gr_copy(void *state, uint32_t reads, uint32_t writes, uint8_t *to, uint8_t *from, uint64_t count, uint64_t to_stride,
+                      uint64_t from_stride, uint64_t event) {
     Item &item = item_of(state);
     settle(item);
-    if (item.number != 0) return;
-    const Accessor copier{*item.group, uint32_t(item.group->items.size()), item.group->copier_records};
-    const uint64_t bytes = item.group->launch->sites[reads].bytes;
+    Group &group = *item.group;
+    if (item.number != 0) return event;
+    const Accessor copier{group, uint32_t(group.items.size()), group.copier_records};
+    const uint64_t bytes = group.launch->sites[reads].bytes;
     for (uint64_t at = 0; at < count; at++) {
         const void *source = access(item, copier, reads, from + at * from_stride * bytes, nullptr);
         std::memcpy(access(item, copier, writes, to + at * to_stride * bytes, nullptr), source, bytes);
         settle(item);
     }
+    group.copies.push_back({event ? event : ++group.events, reads, writes, to, from, count, to_stride * bytes, from_stride * bytes});
+    return group.copies.back().event;
 }
 
 // A fence, or an access of an image.
