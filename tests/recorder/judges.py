@@ -96,6 +96,18 @@ class Judges(unittest.TestCase):
         self.assertEqual([it.title for it in launch.findings], ["race on global word 5"])
         self.assertEqual([it.text for it in self.report.run_reasons], ["the judging failed, and was tried again: [Errno 24] Too many open files"])
 
+    def test_a_folder_that_cant_be_written(self):
+        """The launch is no answer, though others may be."""
+        self.put()
+        self.pipe.unlink()
+        (self.folder / "piped.txt").unlink()
+        (self.folder / "group00.gpurace").unlink()
+        (self.folder / "group00.gpurace").mkdir()
+        self.judge.start()
+        self.judge.finish()
+        self.assertEqual(([(it.text, it.kernels) for it in self.report.unrecorded], self.report.status()),
+                         ([(f"not recorded: {self.folder} could not be written: Is a directory", ["sums"])], 2))
+
     def test_no_process_can_be_started(self):
         """The pipe goes, so that the recorder does not wait for it; what stands in the file is judged, as cut, and the run is no answer."""
         def fail(*_, **__):

@@ -221,10 +221,11 @@ class Recorder:
         if self.options.seed or self.options.schedules:
             seeds = [int(self.options.seed or 1) + at for at in range(number)]
         with recording.folder_of_run() as (room, lock):
-            for seed in seeds:
-                folder = os.path.abspath(self.options.keep) if self.options.keep else os.path.join(room, "launches")
-                folder = os.path.join(folder, f"seed-{seed}") if number > 1 else folder
-                os.makedirs(folder, exist_ok=True)
+            top = os.path.abspath(self.options.keep) if self.options.keep else os.path.join(room, "launches")
+            folders = {seed: os.path.join(top, f"seed-{seed}") if number > 1 else top for seed in seeds}
+            for folder in folders.values():
+                recording.begin(folder)
+            for seed, folder in folders.items():
                 self.run_once(room, folder, seed, lock)
                 if any(reason.name == "stopped" for reason in self.report.run_reasons):
                     break
@@ -249,7 +250,7 @@ class Recorder:
                 judge.finish()
         except (KeyboardInterrupt, Stopped):
             self.report.run_reasons.append(Reason("stopped", "the judging was stopped"))
-        self.report.unrecorded += unrecorded(folder)
+        self.report.unrecorded += unrecorded(folder) + recording.end(folder)
         if options.simulator and run.status != 0 and not self.report.launches and not options.opencl20:
             self.report.run_reasons.append(Reason("no-launch", simulator.NOT_BUILT))
 
@@ -257,9 +258,10 @@ class Recorder:
         kept = self.options.keep
         launches = [name for path, folders, _ in sorted(os.walk(kept)) for name in sorted(folders) if name[:1].isdigit()]
         print(f"gpurace-record: recorded in {kept}: {', '.join(launches) or 'no launch'}")
-        for reason in self.report.run_reasons:
+        reasons = self.report.run_reasons + self.report.unrecorded
+        for reason in reasons:
             print(f"gpurace-record:     {reason.text}")
-        return 0 if launches and not self.report.run_reasons else INCOMPLETE
+        return 0 if launches and not reasons else INCOMPLETE
 
 
 def record(options: argparse.Namespace) -> int:

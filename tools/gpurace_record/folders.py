@@ -7,7 +7,6 @@ import mmap
 import os
 import shutil
 import struct
-import sys
 from typing import Dict, Iterator, List, NamedTuple, Optional, Tuple, cast
 
 JOINED = "groups.gpurace"  # of a launch of many groups, whose streams stand there as they ended
@@ -87,11 +86,11 @@ def records_of(data: bytes, start: int, size: int) -> int:
     return records
 
 
-def end_streams(folder: str) -> None:
-    """Makes a launch whole whose program died: its streams end as cut behind their last whole record."""
+def end_streams(folder: str) -> str:
+    """Makes a launch whole whose program died: its streams end as cut behind their last whole record. Answers what kept it from that."""
     begun = info_of(folder, "begun.txt")
     if not begun["kernel"]:
-        return
+        return ""
     try:
         kept, items, records = end_files(folder, begun)
         with open(os.path.join(folder, "begun.txt")) as text:
@@ -101,7 +100,8 @@ def end_streams(folder: str) -> None:
             out.write(lines + f"items {kept * items}\nrecords {records}\n" + cut)
         os.remove(os.path.join(folder, "begun.txt"))
     except OSError as error:
-        print(f"gpurace-record: {folder}: {error.strerror}", file=sys.stderr)
+        return f"{folder} could not be written: {error.strerror}"
+    return ""
 
 
 def end_files(folder: str, info: Info) -> Tuple[int, int, int]:

@@ -11,7 +11,7 @@ from .folders import end_streams
 from .judging import Launch, judged
 from .progress import Progress
 from .recording import Missing
-from .report import unrecorded
+from .report import say, unrecorded
 from .simulator import TOOLS
 
 
@@ -26,7 +26,9 @@ def launches_below(folder: str) -> Iterator[str]:
 
 def judge_folder(program: str, folder: str) -> Launch:
     if os.path.exists(os.path.join(folder, "begun.txt")):
-        end_streams(folder)
+        fault = end_streams(folder)
+        if fault:
+            say(fault)
     return judged(program, folder)
 
 

@@ -62,9 +62,9 @@ class Judge(threading.Thread):
             for name in asked:  # what was recorded before it asked is judged
                 os.remove(os.path.join(self.tests, name))
         self.judge_all()
-        for name in self.having("begun.txt"):
-            end_streams(os.path.join(self.folder, name))
+        faults = [(name, end_streams(os.path.join(self.folder, name))) for name in self.having("begun.txt")]
         self.judge_all()
+        self.report.unrecorded += [Reason("not-recorded", f"not recorded: {fault}", [name.partition("-")[2]]) for name, fault in faults if fault]
 
     def pipe(self, name: str) -> Optional[Piped]:
         """Has a launch judged while it is recorded; where no process can be started for it, it is cut, and judged by what stands in files."""

@@ -16,6 +16,7 @@ from .judging import Reason
 
 CLOSES = 10.0   # seconds that a program has to end after Ctrl-C or SIGTERM
 SHARED_MEMORY, LEAST_ROOM = "/dev/shm", 1 << 30
+ALL_NOTED = "all-noted"  # a file that the recorder removes, which takes no room, where it can't note a launch that it has not recorded
 TIMED_OUT = 124  # the status of a program that the recorder has ended
 
 
@@ -103,6 +104,22 @@ def folder_of_run() -> Iterator[Tuple[str, int]]:
             fcntl.flock(lock_file, fcntl.LOCK_EX)
             os.rename(lock_file.name, os.path.join(folder, "lock"))
         yield folder, lock_file.fileno()
+
+
+def begin(folder: str) -> None:
+    """Makes the folder to which launches go."""
+    os.makedirs(folder, exist_ok=True)
+    with open(os.path.join(folder, ALL_NOTED), "w"):
+        pass
+
+
+def end(folder: str) -> List[Reason]:
+    """What is not known of the launches that the recorder has left to the driver."""
+    try:
+        os.remove(os.path.join(folder, ALL_NOTED))
+    except FileNotFoundError:
+        return [Reason("not-recorded", "not recorded: launches that could not be noted either, as where the disk is full")]
+    return []
 
 
 class Missing(Exception):

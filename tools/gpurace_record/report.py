@@ -188,6 +188,7 @@ def unrecorded(folder: str) -> List[Reason]:
     path = os.path.join(folder, "not-recorded.txt")
     with open(path if os.path.exists(path) else os.devnull, errors="replace") as lines:
         for line in lines:
-            _, kernel, reason = line.rstrip("\n").split("\t", 2)
-            kernels.setdefault(reason, []).append(kernel)
+            words = line.rstrip("\n").split("\t", 2)
+            if len(words) == 3:  # or the disk had no room for it
+                kernels.setdefault(words[2], []).append(words[1])
     return [Reason("not-recorded", f"not recorded: {reason}", names) for reason, names in kernels.items()]
