@@ -15,6 +15,7 @@ from testing.program import TOP, python_with
 from gpurace_record.findings import Finding
 from gpurace_record.judging import Launch
 from gpurace_record.known import Baseline, entry_of
+from gpurace_record.outputs import write
 from gpurace_record.report import Report
 
 VALIDATES = python_with("jsonschema")
@@ -203,6 +204,14 @@ class Forms(Outputs):
     def test_a_file_that_cant_be_written(self):
         put_right(self.kept)
         self.judge("--json", "nowhere/made.json", status=3)
+
+    def test_a_file_that_cant_be_put_in_its_place(self):
+        """It was a file when the words were looked at; no part of it stays."""
+        made = self.room / "made.json"
+        made.mkdir()
+        with self.assertRaises(OSError) as fault:
+            write(str(made), "text")
+        self.assertEqual((fault.exception.filename, [it.name for it in self.room.iterdir()]), (str(made), ["made.json"]))
 
 
 class Sources(Outputs):

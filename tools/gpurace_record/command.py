@@ -8,6 +8,7 @@ import shutil
 import signal
 import subprocess
 import sys
+import traceback
 from typing import Callable, List, NoReturn, Optional
 
 from . import native, outputs, page, recording, simulator
@@ -181,8 +182,8 @@ def options_of(words: List[str]) -> argparse.Namespace:
         stop(WRONG_WORDS, f"--{'optimized' if options.optimized else 'opencl20'} is of --simulator")
     if options.only_record and not options.keep:
         stop(WRONG_WORDS, "--only-record needs --keep DIR")
-    if options.keep and os.path.exists(options.keep) and os.listdir(options.keep):
-        stop(WRONG_WORDS, f"{options.keep} is not empty")
+    if options.keep and os.path.exists(options.keep) and (not os.path.isdir(options.keep) or os.listdir(options.keep)):
+        stop(WRONG_WORDS, f"{options.keep} is {'not empty' if os.path.isdir(options.keep) else 'no folder'}")
     return options
 
 
@@ -224,7 +225,10 @@ class Recorder:
             top = os.path.abspath(self.options.keep) if self.options.keep else os.path.join(room, "launches")
             folders = {seed: os.path.join(top, f"seed-{seed}") if number > 1 else top for seed in seeds}
             for folder in folders.values():
-                recording.begin(folder)
+                try:
+                    recording.begin(folder)
+                except OSError as error:
+                    stop(WRONG_WORDS, f"{folder} can't be written: {error.strerror}")
             for seed, folder in folders.items():
                 self.run_once(room, folder, seed, lock)
                 if any(reason.name == "stopped" for reason in self.report.run_reasons):
@@ -292,7 +296,7 @@ def conclude(report: Report, options: argparse.Namespace) -> int:
 
 
 def guarded(run: Callable[[], int]) -> int:
-    """Who reads the summary may have had enough of it; what comes behind the program may be stopped."""
+    """Who reads the summary may have had enough of it; what comes behind the program may be stopped. A fault is no finding."""
     signal.signal(signal.SIGTERM, recording.stop)
     try:
         return run()
@@ -302,6 +306,12 @@ def guarded(run: Callable[[], int]) -> int:
         return INCOMPLETE
     except BrokenPipeError:
         os.dup2(os.open(os.devnull, os.O_WRONLY), sys.stdout.fileno())
+        return INCOMPLETE
+    except OSError as fault:
+        say(str(fault))
+        return INCOMPLETE
+    except Exception:
+        traceback.print_exc()
         return INCOMPLETE
 
 

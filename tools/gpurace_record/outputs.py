@@ -28,9 +28,14 @@ NOT_OF_XML = re.compile("[^\t\n\r\u0020-\ud7ff\ue000-\ufffd\U00010000-\U0010ffff
 def write(path: str, text: str) -> None:
     """Writes a file whole or not at all."""
     part = f"{path}.part"
-    with open(part, "w", encoding="utf-8") as out:
-        out.write(text)
-    os.replace(part, path)
+    try:
+        with open(part, "w", encoding="utf-8") as out:
+            out.write(text)
+        os.replace(part, path)
+    except OSError as error:
+        if os.path.exists(part):
+            os.remove(part)
+        raise OSError(error.errno, error.strerror, path) from None
 
 
 def launch_object(launch: Launch, kept: bool) -> Dict[str, Any]:
