@@ -242,6 +242,31 @@ race on global word 16
     {HAND_OVER}; the release at f.cl:4:9 and the acquire at f.cl:5:13 do not meet
 """)
 
+    def test_a_hand_over_that_is_relaxed(self):
+        """Neither, one or the other of the two atomics orders; a third one, behind the read, has no part in it. Which item is told first is the same."""
+        places = "0 0 0 f.cl:3:9\n0 0 1 f.cl:4:9\n1 0 0 f.cl:5:13\n1 0 1 f.cl:6:9\n"
+        store, load = "the store at f.cl:4:9 is no release", "the load at f.cl:5:13 is no acquire"
+        for store_order, load_order, more in (("rlx", "rlx", f"{store} and {load}"), ("rlx", "acq", store), ("rel", "rlx", load)):
+            writes, reads = f"0 w g 16\n0 st g 20 dev {store_order}\n", f"0 ld g 20 dev {load_order}\n0 r g 16\n0 ld g 24 dev rlx\n"
+            launch = self.judged([f"group 0 items 1 launch 7\n{writes}end\n", f"group 1 items 1 launch 7\n{reads}end\n"], {"places": places})
+            self.assertEqual([it.message for it in launch.findings], [f"{HAND_OVER}: {more}"])
+            turned = "1 0 0 f.cl:3:9\n1 0 1 f.cl:4:9\n0 0 0 f.cl:5:13\n0 0 1 f.cl:6:9\n"
+            launch = self.judged([f"group 0 items 1 launch 7\n{reads}end\n", f"group 1 items 1 launch 7\n{writes}end\n"], {"places": turned})
+            self.assertEqual([it.message for it in launch.findings], [f"{HAND_OVER}: {more}"])
+
+    def test_atomics_of_two_words_hand_nothing_over(self):
+        streams = ["group 0 items 1 launch 7\n0 w g 16\n0 st g 20 dev rlx\nend\n", "group 1 items 1 launch 7\n0 ld g 24 dev rlx\n0 r g 16\nend\n"]
+        launch = self.judged(streams, {"places": "0 0 0 f.cl:3:9\n0 0 1 f.cl:4:9\n1 0 0 f.cl:5:13\n1 0 1 f.cl:6:9\n"})
+        self.assertEqual([it.message for it in launch.findings], [HAND_OVER])
+
+    def test_a_lock_that_is_let_go_relaxed(self):
+        """Both items also read the word and write it next."""
+        inside = "0 rmw g 20 dev acq\n0 r g 16\n0 w g 16\n0 rmw g 20 dev rlx\nend\n"
+        places = "".join(f"{group} 0 {at} f.cl:{at + 3}:9\n" for group in (0, 1) for at in range(4))
+        launch = self.judged([f"group {group} items 1 launch 7\n{inside}" for group in (0, 1)], {"places": places})
+        self.assertEqual({it.message for it in launch.findings}, {
+            f"{HAND_OVER}: the read-modify-write at f.cl:6:9 is no release; or make each item's read and write of the word one atomic operation"})
+
     def test_a_hand_over_to_the_item_that_is_told_first(self):
         """As before, with the groups the other way round."""
         streams = ["group 0 items 1 launch 7\n0 ld g 20 dev acq\n0 r g 16\nend\n", "group 1 items 1 launch 7\n0 w g 16\n0 st g 20 dev rel\nend\n"]

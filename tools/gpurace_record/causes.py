@@ -4,7 +4,7 @@ from __future__ import annotations
 from typing import List, NamedTuple, Optional
 
 DEVICE, GROUP = "`memory_scope_device`", "`memory_scope_work_group`"
-ATOMICS = ("load", "store", "rmw")
+NAMES = {"load": "load", "store": "store", "rmw": "read-modify-write"}  # of atomics
 COPY = "nothing orders the two; wait_group_events behind the copy would, or, if the copy comes last, a barrier before it"
 FLAGS = {"global": (1, "CLK_GLOBAL_MEM_FENCE"), "local": (2, "CLK_LOCAL_MEM_FENCE")}
 
@@ -15,6 +15,7 @@ class At(NamedTuple):
     place: str
     scope: str = ""
     is_copy: bool = False  # of the item that does asynchronous copies
+    order: str = ""
 
 
 class Barrier(NamedTuple):
@@ -34,6 +35,8 @@ class Pair(NamedTuple):
     release: Optional[At]  # behind the first access
     acquire: Optional[At]  # before the second one
     are_updates: bool = False  # both items read the word and write it next, as `++` does
+    store: Optional[At] = None  # an atomic of a word behind the one access, and one of the same word before the other
+    load: Optional[At] = None
 
 
 def sentence(name: str, said: str, pair: Pair) -> str:
@@ -69,10 +72,20 @@ def of_nothing(said: str, pair: Pair) -> str:
     if pair.is_one_group and (pair.first.is_copy or pair.second.is_copy):
         return COPY
     for one, other in ((pair.first, pair.second), (pair.second, pair.first)):
-        if one.what not in ATOMICS and other.what in ATOMICS:
+        if one.what not in NAMES and other.what in NAMES:
             return f"a plain {one.what} beside atomics: make it an atomic {'load' if one.what == 'read' else 'store'}"
     if not pair.is_one_group and pair.release and pair.acquire and pair.release.place and pair.acquire.place:
         return f"{said}; the release at {pair.release.place} and the acquire at {pair.acquire.place} do not meet"
+    weak = of_orders(pair.store, pair.load) if not pair.is_one_group and pair.store and pair.load else ""
+    if weak:
+        said += f": {weak}"
     if pair.are_updates:
         return f"{said}; or make each item's read and write of the word one atomic operation"
-    return ""
+    return said if weak else ""
+
+
+def of_orders(store: At, load: At) -> str:
+    """Which of two atomics of one word hands nothing over."""
+    weak = [f"the {NAMES[at.what]} at {at.place} is no {lacks}" for at, orders, lacks in ((store, ("rel", "both"), "release"), (load, ("acq", "both"), "acquire"))
+            if at.order not in orders]
+    return " and ".join(weak) if store.place and load.place else ""

@@ -186,7 +186,7 @@ class Reader:
         wanted = self.wanted()
         self.groups = groups_of(folder, wanted)
         keys = {f"{group} {item} {index}" for group, item, index, _ in self.unmatched}
-        keys |= {f"{group} {item} {step.at}" for group, it in self.groups.items() for item, steps in it.steps.items() for step in steps}
+        keys |= {f"{group} {item} {step.at}" for group, it in self.groups.items() for item in it.steps for step in it.told_of(item)}
         self.places = Places(folder, self.groups, keys)
 
     def wanted(self) -> Dict[int, Wanted]:
@@ -291,8 +291,9 @@ class Reader:
                       for access, event in zip(accesses, (first, second)))
         hands = [self.hand_over(first, second), self.hand_over(second, first)]  # the order of the two says nothing of time
         release, acquire = next((both for both in hands if all(both)), hands[0])
+        store, load = self.meeting(first, second) or self.meeting(second, first) or (None, None)
         return causes.Pair(said["space"], said["one_group"], one, other, self.barriers_between(first, second) if said["one_group"] else [],
-                           release, acquire, self.is_update(first) and self.is_update(second))
+                           release, acquire, self.is_update(first) and self.is_update(second), store, load)
 
     def is_update(self, event: Dict[str, Any]) -> bool:
         """Whether the event is one of a plain read of a word and the write to it that the item does next."""
@@ -308,8 +309,19 @@ class Reader:
         before = [step for step in self.groups[other["group"]].steps[other["item"]] if step.at < other["index"] and step.is_acquire()]
         return self.at(one, behind[0]) if behind else None, self.at(other, before[-1]) if before else None
 
+    def meeting(self, one: Dict[str, Any], other: Dict[str, Any]) -> Optional[Tuple[causes.At, causes.At]]:
+        """An atomic that stores, of an event's item behind it, and one that loads the same word, of another event's item before that one."""
+        stores, loads = (self.groups[event["group"]].atomics[event["item"]] for event in (one, other))
+        words = [word for word, step in stores.stores.items()
+                 if step.at > one["index"] and word in loads.loads and loads.loads[word].at < other["index"]]
+        if not words:
+            return None
+        word = min(words, key=lambda word: stores.stores[word].at)
+        return self.at(one, stores.stores[word]), self.at(other, loads.loads[word])
+
     def at(self, event: Dict[str, Any], step: Step) -> causes.At:
-        return causes.At(step.kind, self.places.event(event["group"], event["item"], step.at), step.scope)
+        place = self.places.event(event["group"], event["item"], step.at)
+        return causes.At(step.kind, place.split(CALLED)[0], step.scope, order=step.order)
 
     def barriers_between(self, first: Dict[str, Any], second: Dict[str, Any]) -> List[causes.Barrier]:
         number, group = first["group"], self.groups[first["group"]]

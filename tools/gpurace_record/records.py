@@ -2,7 +2,7 @@
 from __future__ import annotations
 
 import struct
-from typing import Dict, List, NamedTuple, Set, Tuple
+from typing import Dict, Iterator, List, NamedTuple, Set, Tuple
 
 from .folders import HEADER, RECORD_FORMS, mapped, streams_in, streams_of
 
@@ -13,6 +13,7 @@ NAME = struct.Struct("<HHI")
 NAMES_AT = 12         # in a record
 NO_NAME = (0xffff, 0xffff, 0xffffffff)
 MOST_BYTES = 1 << 27  # of a stream that is read
+MOST_WORDS = 100      # of an item's atomics that are kept
 
 
 class Step(NamedTuple):
@@ -37,13 +38,28 @@ class Step(NamedTuple):
 Wanted = Dict[int, Set[Tuple[int, int]]]  # of items the words, each with its space
 
 
+class Atomics(NamedTuple):
+    """Of the words on which an item may meet others, its last atomic that stores, and its first one that loads."""
+    stores: Dict[Tuple[int, int], Step]
+    loads: Dict[Tuple[int, int], Step]
+
+    def note(self, step: Step) -> None:
+        word = (step.space, step.word)
+        if step.kind != "load" and (word in self.stores or len(self.stores) < MOST_WORDS):
+            self.stores[word] = step
+        if step.kind != "store" and len(self.loads) < MOST_WORDS:
+            self.loads.setdefault(word, step)
+
+
 class Group:
-    """The barriers of each item of a group; and of the wanted items all barriers, releases, acquires and accesses to their words."""
+    """The barriers of each item of a group; and of the wanted items all barriers, releases, acquires and accesses to their words, and some
+    atomics of others."""
 
     def __init__(self, stream: memoryview, wanted: Wanted):
         form, _, self.items, _ = HEADER.unpack_from(stream)
         self.barriers: List[List[Step]] = [[] for _ in range(self.items)]
         self.steps: Dict[int, List[Step]] = {item: [] for item in wanted}
+        self.atomics: Dict[int, Atomics] = {item: Atomics({}, {}) for item in wanted}
         count, releases, record = [0] * self.items, [0] * self.items, RECORD_FORMS[form]
         for at, (kind, space, scope, order, item, site, word) in enumerate(record.iter_unpack(stream[HEADER.size:])):
             if kind == BARRIER:
@@ -56,8 +72,15 @@ class Group:
                 names = names_in(stream[start + NAMES_AT:start + record.size]) if order in (2, 4) else ()
                 self.steps[item].append(Step(count[item], KINDS[kind], space, SCOPES[scope], ORDERS[order], word,
                                              releases[item] if order > 2 else -1, names, site))
+            if order and item in wanted:
+                self.atomics[item].note(Step(count[item], KINDS[kind], space, SCOPES[scope], ORDERS[order], word, site=site))
             count[item] += 1
             releases[item] += order > 2
+
+    def told_of(self, item: int) -> Iterator[Step]:
+        yield from self.steps[item]
+        yield from self.atomics[item].stores.values()
+        yield from self.atomics[item].loads.values()
 
     def phase(self, item: int, index: int) -> int:
         """How many barriers of the item stand before its record of this index."""

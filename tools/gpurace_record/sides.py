@@ -121,8 +121,8 @@ class Places:
 
     def find(self, groups: Dict[int, Group], sites: List[str]) -> None:
         for number, group in groups.items():
-            for item, steps in group.steps.items():
-                self.found.update((f"{number} {item} {step.at}", sites[step.site - 1]) for step in steps if 0 < step.site <= len(sites))
+            for item in group.steps:
+                self.found.update((f"{number} {item} {step.at}", sites[step.site - 1]) for step in group.told_of(item) if 0 < step.site <= len(sites))
             for step in (step for steps in group.barriers for step in steps if 0 < step.site <= len(sites)):
                 self.found.setdefault(str(step.word), sites[step.site - 1])
 
