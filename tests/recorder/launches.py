@@ -15,6 +15,8 @@ from gpurace_record.sides import Run
 INFO = info("sums", 7, 2)
 LOCAL = "nothing orders the two; a barrier with CLK_LOCAL_MEM_FENCE between them would"
 GLOBAL = "nothing orders the two; a barrier with CLK_GLOBAL_MEM_FENCE between them would"
+GROUPS = ("nothing orders the two, and a barrier never orders two groups; a second kernel, a word for each group, or a release that an acquire takes, "
+          "at memory_scope_device, would mend it")
 HAND_OVER = "nothing orders the two; a release that an acquire takes, at memory_scope_device, would"
 
 
@@ -97,13 +99,13 @@ race on input[5], global word 200 (2 words); on input[5]
     unknown place: write by group 1, item 0
     kernel.cl:3:13: write by group 0, item 0
         tile[l] = input[l];
-    {HAND_OVER}
+    {GROUPS}
 race on output[0]
     kernel.cl:5:20: write by group 0, item 0
         tile[l] += tile[l + 8];
     kernel.cl:5:20: write by group 1, item 0
         tile[l] += tile[l + 8];
-    {HAND_OVER}
+    {GROUPS}
 """)
 
     def test_both_sides_of_one_mistake_are_one_finding(self):
@@ -257,7 +259,7 @@ race on global word 16
     def test_atomics_of_two_words_hand_nothing_over(self):
         streams = ["group 0 items 1 launch 7\n0 w g 16\n0 st g 20 dev rlx\nend\n", "group 1 items 1 launch 7\n0 ld g 24 dev rlx\n0 r g 16\nend\n"]
         launch = self.judged(streams, {"places": "0 0 0 f.cl:3:9\n0 0 1 f.cl:4:9\n1 0 0 f.cl:5:13\n1 0 1 f.cl:6:9\n"})
-        self.assertEqual([it.message for it in launch.findings], [HAND_OVER])
+        self.assertEqual([it.message for it in launch.findings], [GROUPS])
 
     def test_a_lock_that_is_let_go_relaxed(self):
         """Both items also read the word and write it next."""
@@ -412,7 +414,7 @@ reason operations: not recorded: calls of printf
 race on global word 1
     unknown place: write by group 2 (0,1), item 5 (2,1)
     unknown place: write by group 3 (1,1), item 4 (1,1)
-    {HAND_OVER}
+    {GROUPS}
 reason window: only groups 2 to 3 of 4 were recorded
 """)
 

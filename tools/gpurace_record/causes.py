@@ -6,6 +6,8 @@ from typing import List, NamedTuple, Optional
 DEVICE, GROUP = "`memory_scope_device`", "`memory_scope_work_group`"
 NAMES = {"load": "load", "store": "store", "rmw": "read-modify-write"}  # of atomics
 COPY = "nothing orders the two; wait_group_events behind the copy would, or, if the copy comes last, a barrier before it"
+GROUPS = ("nothing orders the two, and a barrier never orders two groups; a second kernel, a word for each group, or a release that an acquire takes, "
+          "at memory_scope_device, would mend it")
 FLAGS = {"global": (1, "CLK_GLOBAL_MEM_FENCE"), "local": (2, "CLK_LOCAL_MEM_FENCE")}
 
 
@@ -41,7 +43,7 @@ class Pair(NamedTuple):
 
 def sentence(name: str, said: str, pair: Pair) -> str:
     """The cause of this name as a sentence; what gpurace has said where the records say nothing more."""
-    special = {"flags": of_flags, "scope": of_scope, "divergent": of_divergence}.get(name, of_nothing)
+    special = {"flags": of_flags, "scope": of_scope, "divergent": of_divergence, "no-hand-over": of_groups}.get(name, of_nothing)
     return special(said, pair) or said
 
 
@@ -82,6 +84,10 @@ def of_nothing(said: str, pair: Pair) -> str:
     if pair.are_updates:
         return f"{said}; or make each item's read and write of the word one atomic operation"
     return said if weak else ""
+
+
+def of_groups(said: str, pair: Pair) -> str:
+    return of_nothing(said, pair) or GROUPS
 
 
 def of_orders(store: At, load: At) -> str:
