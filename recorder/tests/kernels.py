@@ -262,6 +262,10 @@ kernel void deep(global int *out, int at) { // needs more than a small stack
     for (int k = 0; k < 6000; k++) many[k] = k * (at + 1);
     out[get_global_id(0)] = many[at] + many[5999 - at];
 }
+kernel void unsized(global int *out) { // the recorder chooses the size of the groups
+    if (get_global_id(0) + get_global_id(1) + get_global_id(2) == 0)
+        for (int k = 0; k < 3; k++) out[k] = get_local_size(k);
+}
 kernel void result_pointer(global const float *in, global float *whole) {
     float part = fract(in[get_global_id(0)], &whole[get_global_id(0) / 2]);
     if (part > 2) whole[0] = part;
@@ -404,6 +408,9 @@ def cases():
     yield Case("calls", [zeros], ALL, say=("called at kernel.cl:", ": kernel void calls("))  # each reads what another one adds to
     yield Case("caller", [zeros], 0, {0: [9] * ALL})
     yield Case("deep", [zeros, 3], 0, {0: [(3 + 5996) * 4] * ALL})
+    for size, local in (((4096,), [64, 1, 1]), ((7,), [7, 1, 1]), ((67,), [67, 1, 1]), ((134,), [67, 1, 1]), ((1021,), [1021, 1, 1]), ((2053,), [1, 1, 1]),
+                        ((1, 100), [1, 50, 1]), ((6, 4, 2), [6, 4, 1]), ((32, 32), [32, 1, 1])):
+        yield Case("unsized", [[0] * 3], 0, {0: local}, size, None)
     yield Case("result_pointer", [(1.5,) * ALL, (0.0,) * ALL], ALL // 2)
     yield Case("plain_ends", [[0], [0]], 0, {1: [2]})
 
