@@ -96,7 +96,9 @@ class Statuses(Outputs):
         (folder / "info.txt").unlink()
         stream = folder / "group00.gpurace"
         stream.write_bytes(stream.read_bytes()[:12 + 20 + 7])
-        self.assertIn("records of 1 of 1 groups were lost", "".join(self.judge(status=2)))
+        said = "records of 1 of 1 groups were lost (the first is group 0): the program ended while its kernel ran"
+        self.assertIn(said, "".join(self.judge(status=2)))
+        self.assertIn(said, "".join(self.judge(status=2)), "also when it is judged again")
 
     def test_groups_that_never_began(self):
         """Of three groups the first was cut, and the others have no stream."""

@@ -97,7 +97,7 @@ def end_streams(folder: str) -> str:
             lines = text.read()
         cut = "".join(f"cut {group}\n" for group in range(kept))
         with open(os.path.join(folder, "info.txt"), "w") as out:
-            out.write(lines + f"items {kept * items}\nrecords {records}\n" + cut)
+            out.write(lines + f"items {kept * items}\nrecords {records}\ndied 1\n" + cut)
         os.remove(os.path.join(folder, "begun.txt"))
     except OSError as error:
         return f"{folder} could not be written: {error.strerror}"

@@ -168,9 +168,9 @@ def reasons_of(info: Info, report: List[str]) -> Iterator[Reason]:
     """What keeps a launch in which nothing is found from having been judged whole."""
     cut = [line.split()[1] for line in report if line.startswith("cut ")] or info["cut"]
     if cut:
-        groups = report[1].split()[1]
+        groups, why = report[1].split()[1], "a group did more than a trace has room for, or was stopped"
         yield Reason("cut", f"records of {len(cut)} of {groups} groups were lost (the first is group {cut[0] or 0}): "
-                            "a group did more than a trace has room for, or was stopped")
+                     + ("the program ended while its kernel ran" if info["died"] else why))
     if info["window"]:
         groups = ", ".join(f"{first} to {first + number - 1}" for first, number in windows_of(info))
         yield Reason("window", f"only groups {groups} of {info['groups'][0]} were recorded")
