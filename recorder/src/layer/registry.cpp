@@ -1,6 +1,7 @@
 #include "layer.h"
 
 #include <mutex>
+#include <regex>
 
 namespace gpurace {
 namespace {
@@ -51,10 +52,13 @@ Known joined(const std::vector<cl_program> &parts) {
     return whole;
 }
 
-// The program's options, and the user's behind them.
+// The program's options, and the user's behind them. The user's standard is in the place of the program's: a driver may take the first one.
 std::string all_options(const char *options) {
+    static const std::regex standard("(^|\\s)-cl-std=\\S*");
     const std::string more = settings().build_options;
-    return std::string(options ? options : "") + (more.empty() ? "" : " " + more);
+    std::string own = options ? options : "";
+    if (std::regex_search(more, standard)) own = std::regex_replace(own, standard, "");
+    return own + (more.empty() ? "" : " " + more);
 }
 
 cl_program CL_API_CALL create_with_source(cl_context context, cl_uint count, const char **texts, const size_t *lengths, cl_int *error) {
