@@ -1,10 +1,11 @@
 -- Where a rule is relaxed, lists that are accepted still are.
-use Rattle.std.proofs.Common.{◌≡◌, ℕ, ◌<◌, ◌≤◌, ◌==◌, ◌&&◌, Bool, true, List, [], ◌∷◌, All, filter, length, map, Option, Some, None, option_and_then, option_map, slice_get, get_or, zero, suc, refl, sym, ap, ◌∙◌, subst, arith}
+use Rattle.std.proofs.Common.{◌≡◌, ℕ, ◌<◌, ◌≤◌, ◌==◌, ◌&&◌, Bool, true, List, [], ◌∷◌, All, filter, length, map, Option, Some, None, option_and_then, option_map, slice_get, suc, refl, sym, ap, ◌∙◌, subst, arith}
 use Rattle.std.specs.Prelude.{not}
 use Rattle.std.specs.List.{list_all}
 use Rattle.std.proofs.lemmas.Bool.{and_parts}
 use Rattle.std.proofs.lemmas.Option.{slice_get-map}
-use Rattle.std.proofs.lemmas.List.{ext_get_or, get_or-map, length-map}
+use Rattle.std.proofs.lemmas.List.{ext_get_or, length-map}
+use Rattle.std.proofs.Math.ListN.{get_or-map}
 use Rattle.gr_model.specs.declared.event.Event.{Event}
 use Rattle.gr_model.specs.declared.event.EventId.{EventId}
 use Rattle.gr_model.specs.declared.event.Kind.{Kind}
@@ -26,11 +27,8 @@ use Rattle.gr_races.specs.Relaxing.{is_relaxed, relaxed, relaxed_event, relaxed_
 
 -- ---- one record
 
-same_end : (r : Relaxation) (k : Kind) → is_end_kind (relaxed_kind r k) ≡ is_end_kind k
-same_end r k = grind arith
-
-same_acquire : (r : Relaxation) (k : Kind) → is_acquire_kind (relaxed_kind r k) ≡ is_acquire_kind k
-same_acquire r k = grind arith
+same_kind : (r : Relaxation) (k : Kind) → (is_end_kind (relaxed_kind r k) ≡ is_end_kind k) × (is_acquire_kind (relaxed_kind r k) ≡ is_acquire_kind k) × ((w : Word) → word_if_access (relaxed_kind r k) w ≡ word_if_access k w) × (is_relaxed r k ≡ true → relaxed_kind r k ≡ k)
+same_kind r k = (grind arith, grind arith, λ w. grind arith, λ is. grind arith)
 
 still_kind : (r : Relaxation) (k : Kind) (item : ℕ) (space : Space) (word : ℕ) → IsKindOk k item space word → IsKindOk (relaxed_kind r k) item space word
 still_kind BothFlags Read item space word ok = ok
@@ -39,7 +37,7 @@ still_kind r k item space word ok = ok
 
 still_naming : (r : Relaxation) (k : Kind) (names : List Name) → IsNamingOk k names → IsNamingOk (relaxed_kind r k) names
 still_naming r k [] ok = ok
-still_naming r k (n ∷ names) ok = (same_acquire r k ∙ ok.0, ok.1)
+still_naming r k (n ∷ names) ok = ((same_kind r k).1 ∙ ok.0, ok.1)
 
 still_event : (r : Relaxation) (x : Event) (items : ℕ) → IsEventOk x items → IsEventOk (relaxed_event r x) items
 still_event r x items ok = (ok.0, still_naming r x.kind x.names ok.1, still_kind r x.kind x.item x.space x.word ok.2)
@@ -48,7 +46,7 @@ still_event r x items ok = (ok.0, still_naming r x.kind x.names ok.1, still_kind
 
 still_complete : (r : Relaxation) (xs : List Event) → is_complete (map (relaxed_event r) xs) ≡ is_complete xs
 still_complete r [] = refl
-still_complete r (x ∷ []) = same_end r x.kind
+still_complete r (x ∷ []) = (same_kind r x.kind).0
 still_complete r (x ∷ y ∷ xs) = still_complete r (y ∷ xs)
 
 still_good : (r : Relaxation) (items : ℕ) (list : List Event) → AreGood items list → AreGood items (map (relaxed_event r) list)
@@ -60,7 +58,7 @@ still_good r items list good p x at =
     option_map_some (Some y) here there =
         let same : relaxed_event r y ≡ x = cc in
         let ok = good p y here in
-        subst (IsGoodAt items (map (relaxed_event r) list) p) same (still_event r y items ok.0, λ end. ok.1 (sym (same_end r y.kind) ∙ end) ∙ sym (length-map list (relaxed_event r)))
+        subst (IsGoodAt items (map (relaxed_event r) list) p) same (still_event r y items ok.0, λ end. ok.1 (sym (same_kind r y.kind).0 ∙ end) ∙ sym (length-map list (relaxed_event r)))
 
 still_accepted : (r : Relaxation) (items : ℕ) (list : List Event) → IsAccepted items list → IsAccepted items (map (relaxed_event r) list)
 still_accepted r items list accepted = record {
@@ -71,16 +69,8 @@ still_accepted r items list accepted = record {
 
 -- ---- all lists
 
-abbrev no_events : List Event
-no_events = []
-
-list_at : (f : List Event → List Event) → f [] ≡ [] → (lists : List (List Event)) (g : ℕ) → get_or (map f lists) g no_events ≡ f (get_or lists g no_events)
-list_at f none [] g = sym none
-list_at f none (xs ∷ lists) zero = refl
-list_at f none (xs ∷ lists) (suc g) = list_at f none lists g
-
-pub relaxed_list_of : (r : Relaxation) (s : Streams) (g : ℕ) → list_of (relaxed r s) g ≡ map (relaxed_event r) (list_of s g)
-relaxed_list_of r s g = list_at (map (relaxed_event r)) refl s.lists g
+relaxed_list_of : (r : Relaxation) (s : Streams) (g : ℕ) → list_of (relaxed r s) g ≡ map (relaxed_event r) (list_of s g)
+relaxed_list_of r s g = get_or-map (map (relaxed_event r)) s.lists g []
 
 pub still_all_accepted : (r : Relaxation) (s : Streams) → AreAccepted s → AreAccepted (relaxed r s)
 still_all_accepted r s accepted = record {
@@ -91,9 +81,6 @@ still_all_accepted r s accepted = record {
 
 -- ---- what an event accesses
 
-same_word : (r : Relaxation) (k : Kind) (w : Word) → word_if_access (relaxed_kind r k) w ≡ word_if_access k w
-same_word r k w = grind arith
-
 module _ {X : Type 0} (f : X → X) where
   filtered : (test : X → Bool) → ((x : X) → test (f x) ≡ test x) → (xs : List X) → filter test (map f xs) ≡ map f (filter test xs)
   filtered test same [] = refl
@@ -101,11 +88,8 @@ module _ {X : Type 0} (f : X → X) where
 
 still_event_at : (r : Relaxation) (s : Streams) (e : EventId) → event_at (relaxed r s) e ≡ option_map (relaxed_event r) (event_at s e)
 still_event_at r s e =
-    let test = is_of e.at.item in
-    let list = list_of s e.at.group in
-    ap (λ xs. slice_get (filter test xs) e.index) (relaxed_list_of r s e.at.group)
-    ∙ ap (λ xs. slice_get xs e.index) (filtered (relaxed_event r) test (λ x. ap (λ ended. (x.item == e.at.item) && not ended) (same_end r x.kind)) list)
-    ∙ slice_get-map (relaxed_event r) (filter test list) e.index
+    let same = filtered (relaxed_event r) (is_of e.at.item) (λ x. ap (λ ended. (x.item == e.at.item) && not ended) (same_kind r x.kind).0) (list_of s e.at.group) in
+    rw (relaxed_list_of r s e.at.group) (rw same (slice_get-map (relaxed_event r) (filter (is_of e.at.item) (list_of s e.at.group)) e.index))
 
 -- an event accesses the word that it accessed
 pub still_word : (r : Relaxation) (s : Streams) (e : EventId) → word_at (relaxed r s) e ≡ word_at s e
@@ -113,7 +97,7 @@ still_word r s e = ap (option_and_then (event_word e.at.group)) (still_event_at 
   where
     of_event : (o : Option Event) → option_and_then (event_word e.at.group) (option_map (relaxed_event r) o) ≡ option_and_then (event_word e.at.group) o
     of_event None = refl
-    of_event (Some x) = same_word r x.kind (word_in x.space e.at.group x.word)
+    of_event (Some x) = (same_kind r x.kind).2 (word_in x.space e.at.group x.word)
 
 -- so the two of a racing pair are accesses still
 pub still_accesses : (r : Relaxation) (s : Streams) (pair : Race) → IsPairOf s pair → AreAccesses (relaxed r s) pair
@@ -123,24 +107,20 @@ still_accesses r s pair race =
 
 -- ---- where a rule changes nothing
 
-same_kind : (r : Relaxation) (k : Kind) → is_relaxed r k ≡ true → relaxed_kind r k ≡ k
-same_kind r k is = grind arith
-
 -- a list of such records is the same
 pub same_list : (r : Relaxation) (xs : List Event) → list_all (λ x. is_relaxed r x.kind) xs ≡ true → map (relaxed_event r) xs ≡ xs
 same_list r [] all = refl
 same_list r (x ∷ xs) all =
     let parts = and_parts (is_relaxed r x.kind) (list_all (λ y. is_relaxed r y.kind) xs) all in
-    let first : relaxed_event r x ≡ x = ap (λ (k : Kind). record { item = x.item; kind = k; space = x.space; word = x.word; names = x.names }) (same_kind r x.kind parts.0) in
+    let first : relaxed_event r x ≡ x = ap (λ (k : Kind). record { item = x.item; kind = k; space = x.space; word = x.word; names = x.names }) ((same_kind r x.kind).3 parts.0) in
     ap (λ (y : Event). y ∷ map (relaxed_event r) xs) first ∙ ap (λ (ys : List Event). x ∷ ys) (same_list r xs parts.1)
 
 -- and a launch of such lists
 pub same_launch : (r : Relaxation) (s : Streams) → ((k : ℕ) → k < length s.lists → map (relaxed_event r) (list_of s k) ≡ list_of s k) → relaxed r s ≡ s
 same_launch r s each =
     let relax : List Event → List Event = map (relaxed_event r) in
-    let lists : map relax s.lists ≡ s.lists = ext_get_or [] (map relax s.lists) s.lists (length-map s.lists relax)
-    (λ k lt. let within : k < length s.lists = omega (arith, lt, length-map s.lists relax) in get_or-map relax s.lists k [] [] within ∙ each k within) in
-    ap (λ (ls : List (List Event)). record { sizes = s.sizes; lists = ls }) lists
+    let same : map relax s.lists ≡ s.lists = ext_get_or [] (map relax s.lists) s.lists (length-map s.lists relax) (λ k lt. relaxed_list_of r s k ∙ each k (omega (arith, lt, length-map s.lists relax))) in
+    λ i. record { sizes = s.sizes; lists = same i }
 
 -- each race still is one
 pub all_still_race : (s : Streams) (r : Relaxation) → relaxed r s ≡ s → (races : List Race) → All (IsPairOf s) races → AreJudgements (relaxed r s) races (map (λ race. AsRace) races)

@@ -1,5 +1,6 @@
-use Rattle.std.proofs.Common.{◌/◌, ◌+◌, ◌-◌, ◌∙◌, arith, sym, true≢false}
-use Rattle.gr_races.proofs.PartingLemmas.{above_is, behind_before, number_below}
+use Rattle.std.proofs.Common.{inl, inr, ◌/◌, ◌+◌, ◌-◌, ◌∙◌, arith, sym, true≢false}
+use Rattle.std.proofs.lemmas.Bool.{cases_lt}
+use Rattle.gr_races.proofs.PartingLemmas.{behind_before, number_below}
 use Rattle.gr_races.proofs.parting.barriers_above.Goals as goal
 
 pub loop-least-init : goal.loop-least-init
@@ -26,6 +27,10 @@ loop-least-preserved g c =
     }
 
 pub returns : goal.returns
-returns g c =
-    above_is c.args.lanes.now.streams c.args.event c.loop-least.least c.loop-least.invariant.behind
-    (λ k from. c.loop-least.invariant.beyond k (omega (arith, from, c.loop-least-test.false, c.loop-least.invariant.order)))
+returns g c = λ k. (
+  c.loop-least.invariant.behind k,
+  λ is. elim (cases_lt k c.loop-least.least) [
+    | inl lt ↦ lt
+    | inr ge ↦ absurd (c.loop-least.invariant.beyond k (omega (arith, ge, c.loop-least-test.false, c.loop-least.invariant.order)) is)
+  ],
+)

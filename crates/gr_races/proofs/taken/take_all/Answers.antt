@@ -1,8 +1,7 @@
-use Rattle.std.proofs.Common.{◌<◌, ◌≤◌, ◌∙◌, List, length, ap, sym, subst, arith}
-use Rattle.gr_model.specs.declared.event.Event.{Event}
-use Rattle.gr_model.specs.Streams.{ArePrefixes, IsAccepted, size_of}
+use Rattle.std.proofs.Common.{◌<◌, ◌≤◌, ◌∙◌, length, ap, sym, subst, arith}
+use Rattle.gr_model.specs.Streams.{ArePrefixes}
 use Rattle.gr_lanes.specs.Remembered.{Remembered, forgotten_of}
-use Rattle.gr_races.proofs.TakenLists.{accepted_at, accepted_prefixes, all_are_taken, lanes_are_new, list_taken}
+use Rattle.gr_races.proofs.TakenLists.{accepted_prefixes, all_are_taken, lanes_are_new, list_taken}
 use Rattle.gr_races.proofs.taken.take_all.Goals as goal
 
 pub loop-group-init : goal.loop-group-init
@@ -15,8 +14,7 @@ pub take_list-requires-clause-accepted : goal.take_list-requires-clause-accepted
 take_list-requires-clause-accepted g c =
     let s = c.args.traces.now in
     let there : c.loop-group.group < length s.sizes = omega (arith, ap length c.shape-2.ensures.sizes) in
-    subst (λ (list : List Event). IsAccepted (size_of c.loop-group.lanes.streams c.loop-group.group) list) (sym c.list.ensures.list)
-    (accepted_at s c.loop-group.group c.loop-group.lanes.streams c.shape.ensures.accepted there c.loop-group.invariant.taken)
+    rw c.list.ensures.list (rw c.loop-group.invariant.taken.sizes (c.shape.ensures.accepted.each c.loop-group.group there))
 
 pub loop-group-preserved : goal.loop-group-preserved
 loop-group-preserved g c =

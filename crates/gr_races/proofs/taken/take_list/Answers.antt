@@ -1,13 +1,14 @@
-use Rattle.std.proofs.Common.{ap, sym, subst, ◌∙◌}
-use Rattle.gr_model.specs.Streams.{size_of}
+use Rattle.std.proofs.Common.{Some, ap, sym, ◌∙◌}
+use Rattle.std.proofs.lemmas.Option.{slice_get-get_or}
 use Rattle.gr_lanes.specs.Remembered.{remembering}
-use Rattle.gr_lanes.specs.Takes.{IsEventButItem, with_record}
-use Rattle.gr_races.proofs.TakenLists.{good_at, record_taken}
+use Rattle.gr_lanes.specs.Takes.{with_record}
+use Rattle.gr_races.proofs.TakenLists.{record_taken}
 use Rattle.gr_races.proofs.taken.take_list.Goals as goal
 
 pub take-requires-clause-good : goal.take-requires-clause-good
 take-requires-clause-good g c =
-    subst IsEventButItem (sym c.event-item.is) (good_at (size_of c.args.lanes.now.streams c.args.group) c.loop-event.event-index c.args.list.now c.event-item.result c.requires.accepted c.loop-event-test.true)
+    let good = c.requires.accepted.good c.loop-event.event-index c.event-item.result (slice_get-get_or c.args.list.now c.loop-event.event-index c.event-item.result c.loop-event-test.true ∙ ap Some (sym c.event-item.is)) in
+    (good.0.1, good.0.2)
 
 pub loop-event-preserved : goal.loop-event-preserved
 loop-event-preserved g c =
