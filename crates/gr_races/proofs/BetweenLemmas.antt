@@ -1,5 +1,5 @@
 -- Acquires of an item's trace.
-use Rattle.std.proofs.Common.{◌≡◌, ◌<◌, ◌+◌, ◌∙◌, ◌∷◌, ◌&&◌, ℕ, List, Option, Some, ap, arith, drop, filter, get_or, if◌then◌else◌, length, nat_lt, sym, true}
+use Rattle.std.proofs.Common.{◌≡◌, ◌<◌, ◌+◌, ◌∙◌, ◌&&◌, ℕ, List, Option, Some, arith, drop, filter, get_or, if◌then◌else◌, length, nat_lt, true}
 use Rattle.std.specs.List.{last_or}
 use Rattle.std.proofs.lemmas.List.{at_drop_more}
 use Rattle.gr_model.specs.declared.event.Event.{Event}
@@ -10,14 +10,6 @@ use Rattle.gr_races.specs.Between.{is_acquire}
 abbrev pub last_below : ℕ → ℕ → ℕ → Option ℕ → List Event → Option ℕ
 last_below item index at found xs = last_or found (filter (λ k. nat_lt k index) (places_from is_acquire at (filter (is_of item) xs)))
 
-acquire_seen : (item index at : ℕ) (found : Option ℕ) (x : Event) (rest : List Event) → is_of item x ≡ true → last_below item index at found (x ∷ rest) ≡ last_below item index (at + 1) (if nat_lt at index && is_acquire x then Some at else found) rest
-acquire_seen item index at found x rest mine = grind arith
-
 -- one more record of the item
 pub record_seen : (item index at next : ℕ) (found nearest : Option ℕ) (xs : List Event) (i : ℕ) (x : Event) → i < length xs → x ≡ get_or xs i x → is_of item x ≡ true → next ≡ at + 1 → nearest ≡ (if nat_lt at index && is_acquire x then Some at else found) → last_below item index at found (drop i xs) ≡ last_below item index next nearest (drop (i + 1) xs)
-record_seen item index at next found nearest xs i x lt is mine counted taken =
-    at_drop_more (last_below item index at found) xs i x lt
-    ∙ ap (λ (y : Event). last_below item index at found (y ∷ drop (i + 1) xs)) (sym is)
-    ∙ acquire_seen item index at found x (drop (i + 1) xs) mine
-    ∙ ap (λ (o : Option ℕ). last_below item index (at + 1) o (drop (i + 1) xs)) (sym taken)
-    ∙ ap (λ (n : ℕ). last_below item index n nearest (drop (i + 1) xs)) (sym counted)
+record_seen item index at next found nearest xs i x lt is mine counted taken = at_drop_more (last_below item index at found) xs i x lt ∙ rw (← is, counted, taken) (grind (arith, mine))

@@ -98,11 +98,10 @@ each_race_is_in_order rows row = (λ there. ⊎_elim (filtered_from _ rows row) 
 -- ---- each kind is listed once
 
 distinct_with : (kinds : List RaceKind) (k : RaceKind) → AllPairs (λ k l. same_kind k l ≡ false) kinds → AllPairs (λ k l. same_kind k l ≡ false) (with_kind kinds k)
-distinct_with kinds k distinct = here (list_any (λ l. same_kind l k) kinds) refl
-  where
-    here : (b : Bool) → list_any (λ l. same_kind l k) kinds ≡ b → AllPairs (λ k l. same_kind k l ≡ false) (if b then kinds else kinds ++ k ∷ [])
-    here true is = distinct
-    here false none = all_pairs_push (λ k l. same_kind k l ≡ false) kinds k distinct (λ i d lt. false_from_ne_true _ (λ t. true≢false (sym (list_any_at (λ l. same_kind l k) kinds i d lt t) ∙ none)))
+distinct_with kinds k distinct = elim (list_any (λ l. same_kind l k) kinds) as (λ b. list_any (λ l. same_kind l k) kinds ≡ b → AllPairs (λ k l. same_kind k l ≡ false) (if b then kinds else kinds ++ k ∷ [])) [
+  | true ↦ λ is. distinct
+  | false ↦ λ none. all_pairs_push (λ k l. same_kind k l ≡ false) kinds k distinct (λ i d lt. false_from_ne_true _ (λ t. true≢false (sym (list_any_at (λ l. same_kind l k) kinds i d lt t) ∙ none)))
+] refl
 
 distinct_after : (kinds : List RaceKind) (rows : List KindedRace) → AllPairs (λ k l. same_kind k l ≡ false) kinds → AllPairs (λ k l. same_kind k l ≡ false) (kinds_after kinds rows)
 distinct_after kinds [] distinct = distinct

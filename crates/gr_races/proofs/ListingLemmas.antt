@@ -1,5 +1,5 @@
 -- Races with their kinds, one after another.
-use Rattle.std.proofs.Common.{◌≡◌, ◌≤◌, ◌<◌, ◌+◌, ℕ, List, [], ◌∷◌, ◌++◌, Option, None, Some, ap, append_assoc, arith, drop, get_or, length, refl, slice_get, sym, ◌∙◌}
+use Rattle.std.proofs.Common.{zero, suc, ◌≡◌, ◌≤◌, ◌<◌, ◌+◌, ℕ, List, [], ◌∷◌, ◌++◌, Option, None, Some, ap, append_assoc, arith, drop, get_or, length, refl, slice_get, sym, ◌∙◌}
 use Rattle.std.specs.List.{cons_option}
 use Rattle.std.proofs.lemmas.List.{append-nil, at_drop_all, at_drop_more}
 use Rattle.gr_model.specs.declared.race.Race.{Race}
@@ -12,23 +12,27 @@ use Rattle.gr_races.specs.declared.kinds.KindedRace.{KindedRace}
 use Rattle.gr_races.specs.Kinds.{all_kinded, kinded}
 use Rattle.gr_races.specs.Listing.{with_row}
 use Rattle.gr_races.specs.Telling.{with_causes}
-use Rattle.gr_races.proofs.TellingLemmas.{count_told, told_at}
+
+count_told : (races : List Race) (causes : List Cause) → length (with_causes races causes) ≡ length races
+count_told [] causes = refl
+count_told (r ∷ races) [] = ap suc (count_told races [])
+count_told (r ∷ races) (c ∷ causes) = ap suc (count_told races causes)
+
+told_at : (races : List Race) (causes : List Cause) (i : ℕ) (r : Race) (d : Race × Option Cause) → i < length races → get_or (with_causes races causes) i d ≡ (get_or races i r, slice_get causes i)
+told_at [] causes i r d lt = absurd (omega (arith, lt))
+told_at (x ∷ races) [] zero r d lt = refl
+told_at (x ∷ races) [] (suc i) r d lt = told_at races [] i r d (omega (arith, lt))
+told_at (x ∷ races) (c ∷ causes) zero r d lt = refl
+told_at (x ∷ races) (c ∷ causes) (suc i) r d lt = told_at races causes i r d (omega (arith, lt))
 
 behind_rows : (rows : List KindedRace) (o : Option KindedRace) (rest : List KindedRace) → rows ++ cons_option o rest ≡ with_row rows o ++ rest
 behind_rows rows None rest = refl
 behind_rows rows (Some row) rest = sym (append_assoc rows (row ∷ []) rest)
 
-row_kept : (s : Streams) (numbers : Placed → Option ℕ) (races : List Race) (causes : List Cause) (k : ℕ) (r : Race) (rows : List KindedRace) → k < length races → rows ++ all_kinded s numbers (drop k (with_causes races causes)) ≡ with_row rows (kinded s numbers (get_or races k r, slice_get causes k)) ++ all_kinded s numbers (drop (k + 1) (with_causes races causes))
-row_kept s numbers races causes k r rows lt =
-    let told = with_causes races causes in
-    let d : Race × Option Cause = (r, None) in
-    at_drop_more (λ (rest : List (Race × Option Cause)). rows ++ all_kinded s numbers rest) told k d (omega (arith, lt, count_told races causes))
-    ∙ ap (λ (x : Race × Option Cause). rows ++ all_kinded s numbers (x ∷ drop (k + 1) told)) (told_at races causes k r d lt)
-    ∙ behind_rows rows (kinded s numbers (get_or races k r, slice_get causes k)) (all_kinded s numbers (drop (k + 1) told))
-
 pub row_kept_as : (s : Streams) (numbers : Placed → Option ℕ) (races : List Race) (causes : List Cause) (k : ℕ) (r : Race) (rows : List KindedRace) (row : Option KindedRace) → k < length races → row ≡ kinded s numbers (get_or races k r, slice_get causes k) → rows ++ all_kinded s numbers (drop k (with_causes races causes)) ≡ with_row rows row ++ all_kinded s numbers (drop (k + 1) (with_causes races causes))
 row_kept_as s numbers races causes k r rows row lt is =
-    row_kept s numbers races causes k r rows lt ∙ ap (λ (o : Option KindedRace). with_row rows o ++ all_kinded s numbers (drop (k + 1) (with_causes races causes))) (sym is)
+    at_drop_more (λ (rest : List (Race × Option Cause)). rows ++ all_kinded s numbers rest) (with_causes races causes) k (r, None) (omega (arith, lt, count_told races causes))
+    ∙ rw (told_at races causes k r (r, None) lt) (rw is (behind_rows rows (kinded s numbers (get_or races k r, slice_get causes k)) (all_kinded s numbers (drop (k + 1) (with_causes races causes)))))
 
 pub rows_are_all : (s : Streams) (numbers : Placed → Option ℕ) (races : List Race) (causes : List Cause) (k : ℕ) (rows : List KindedRace) → length races ≤ k → rows ++ all_kinded s numbers (drop k (with_causes races causes)) ≡ rows
 rows_are_all s numbers races causes k rows le =

@@ -16,12 +16,12 @@ use Rattle.gr_model.specs.declared.event.Word.{Word}
 use Rattle.gr_model.specs.declared.race.Race.{Race}
 use Rattle.gr_model.specs.declared.limits.TheConstants.{MOST_RECORDS}
 use Rattle.gr_model.specs.Access.{event_word, is_acquire_kind, word_if_access, word_in}
-use Rattle.gr_model.specs.Events.{IsEventOk, IsKindOk, IsNamingOk, is_end_kind}
+use Rattle.gr_model.specs.Events.{IsKindOk, IsNamingOk, is_end_kind}
 use Rattle.gr_model.specs.Streams.{AreAccepted, AreGood, IsAccepted, IsGoodAt, Streams, event_at, is_complete, is_of, list_of, size_of, word_at}
 use Rattle.gr_races.specs.declared.relaxing.Relaxation.{Relaxation}
 use Rattle.gr_races.specs.declared.relaxing.Relaxation.TheVariants.{BothFlags}
 use Rattle.gr_explain.specs.declared.judging.Judgement.TheVariants.{Race as AsRace}
-use Rattle.gr_explain.specs.Judged.{AreAccesses, AreJudgements, IsJudged}
+use Rattle.gr_explain.specs.Judged.{AreAccesses, AreJudgements}
 use Rattle.gr_races.specs.Causes.{IsPairOf}
 use Rattle.gr_races.specs.Relaxing.{is_relaxed, relaxed, relaxed_event, relaxed_kind}
 
@@ -39,9 +39,6 @@ still_naming : (r : Relaxation) (k : Kind) (names : List Name) → IsNamingOk k 
 still_naming r k [] ok = ok
 still_naming r k (n ∷ names) ok = ((same_kind r k).1 ∙ ok.0, ok.1)
 
-still_event : (r : Relaxation) (x : Event) (items : ℕ) → IsEventOk x items → IsEventOk (relaxed_event r x) items
-still_event r x items ok = (ok.0, still_naming r x.kind x.names ok.1, still_kind r x.kind x.item x.space x.word ok.2)
-
 -- ---- one list
 
 still_complete : (r : Relaxation) (xs : List Event) → is_complete (map (relaxed_event r) xs) ≡ is_complete xs
@@ -58,7 +55,7 @@ still_good r items list good p x at =
     option_map_some (Some y) here there =
         let same : relaxed_event r y ≡ x = cc in
         let ok = good p y here in
-        subst (IsGoodAt items (map (relaxed_event r) list) p) same (still_event r y items ok.0, λ end. ok.1 (sym (same_kind r y.kind).0 ∙ end) ∙ sym (length-map list (relaxed_event r)))
+        subst (IsGoodAt items (map (relaxed_event r) list) p) same ((ok.0.0, still_naming r y.kind y.names ok.0.1, still_kind r y.kind y.item y.space y.word ok.0.2), λ end. ok.1 (sym (same_kind r y.kind).0 ∙ end) ∙ sym (length-map list (relaxed_event r)))
 
 still_accepted : (r : Relaxation) (items : ℕ) (list : List Event) → IsAccepted items list → IsAccepted items (map (relaxed_event r) list)
 still_accepted r items list accepted = record {
@@ -81,10 +78,9 @@ still_all_accepted r s accepted = record {
 
 -- ---- what an event accesses
 
-module _ {X : Type 0} (f : X → X) where
-  filtered : (test : X → Bool) → ((x : X) → test (f x) ≡ test x) → (xs : List X) → filter test (map f xs) ≡ map f (filter test xs)
-  filtered test same [] = refl
-  filtered test same (x ∷ xs) = grind (arith, same x, filtered test same xs)
+filtered : {X : Type 0} (f : X → X) (test : X → Bool) → ((x : X) → test (f x) ≡ test x) → (xs : List X) → filter test (map f xs) ≡ map f (filter test xs)
+filtered f test same [] = refl
+filtered f test same (x ∷ xs) = grind (arith, same x, filtered f test same xs)
 
 still_event_at : (r : Relaxation) (s : Streams) (e : EventId) → event_at (relaxed r s) e ≡ option_map (relaxed_event r) (event_at s e)
 still_event_at r s e =
@@ -112,8 +108,7 @@ pub same_list : (r : Relaxation) (xs : List Event) → list_all (λ x. is_relaxe
 same_list r [] all = refl
 same_list r (x ∷ xs) all =
     let parts = and_parts (is_relaxed r x.kind) (list_all (λ y. is_relaxed r y.kind) xs) all in
-    let first : relaxed_event r x ≡ x = ap (λ (k : Kind). record { item = x.item; kind = k; space = x.space; word = x.word; names = x.names }) ((same_kind r x.kind).3 parts.0) in
-    ap (λ (y : Event). y ∷ map (relaxed_event r) xs) first ∙ ap (λ (ys : List Event). x ∷ ys) (same_list r xs parts.1)
+    rw ((same_kind r x.kind).3 parts.0, same_list r xs parts.1) refl
 
 -- and a launch of such lists
 pub same_launch : (r : Relaxation) (s : Streams) → ((k : ℕ) → k < length s.lists → map (relaxed_event r) (list_of s k) ≡ list_of s k) → relaxed r s ≡ s
@@ -127,5 +122,4 @@ pub all_still_race : (s : Streams) (r : Relaxation) → relaxed r s ≡ s → (r
 all_still_race s r same [] all = tt
 all_still_race s r same (x ∷ xs) all =
     let pair : IsPairOf s x = all 0 x (omega arith) in
-    let here : IsJudged s x AsRace = ((pair.first, pair.second), pair.race) in
-    (subst (λ (t : Streams). IsJudged t x AsRace) (sym same) here, all_still_race s r same xs (λ k d lt. all (suc k) d (omega (arith, lt))))
+    (rw same ((pair.first, pair.second), pair.race), all_still_race s r same xs (λ k d lt. all (suc k) d (omega (arith, lt))))

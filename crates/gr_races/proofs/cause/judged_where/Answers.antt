@@ -1,9 +1,6 @@
-use Rattle.std.proofs.Common.{All, List, subst, sym}
 use Rattle.std.proofs.lemmas.List.Elements.{All-weaker}
 use Rattle.std.proofs.lemmas.Result.{IfOk-weaker}
-use Rattle.gr_model.specs.Streams.{Streams}
-use Rattle.gr_explain.specs.declared.judging.Judgement.{Judgement}
-use Rattle.gr_explain.specs.Judged.{AreAccesses, AreJudgements}
+use Rattle.gr_explain.specs.Judged.{AreAccesses}
 use Rattle.gr_races.specs.Causes.{IsPairOf}
 use Rattle.gr_races.specs.Relaxing.{relaxed}
 use Rattle.gr_races.proofs.RelaxingLemmas.{all_still_race, still_accesses}
@@ -13,14 +10,9 @@ pub judge_races-requires : goal.judge_races-requires
 judge_races-requires g c =
     let s = c.args.traces.now in
     let r = c.args.relaxation in
-    record {
-      accesses = subst (λ (t : Streams). All (AreAccesses t) c.args.races.now) (sym c.in_ok-relaxed.ensures)
-          (All-weaker (IsPairOf s) (AreAccesses (relaxed r s)) (still_accesses r s) c.args.races.now c.requires.pairs);
-    }
+    record { accesses = rw c.in_ok-relaxed.ensures (All-weaker (IsPairOf s) (AreAccesses (relaxed r s)) (still_accesses r s) c.args.races.now c.requires.pairs) }
 
 pub returns-then-changes_nothing : goal.returns-then-changes_nothing
 returns-then-changes_nothing g c =
-    let s = c.args.traces.now in
-    let r = c.args.relaxation in
     let same = c.changes_nothing.ensures c.if-changes_nothing.true in
-    IfOk-weaker c.all_race.result _ _ (λ js is. subst (λ (items : List Judgement). AreJudgements (relaxed r s) c.args.races.now items) (sym is) (all_still_race s r same c.args.races.now c.requires.pairs)) c.all_race.ensures
+    IfOk-weaker c.all_race.result _ _ (λ js is. rw is (all_still_race c.args.traces.now c.args.relaxation same c.args.races.now c.requires.pairs)) c.all_race.ensures

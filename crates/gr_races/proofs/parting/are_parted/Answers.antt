@@ -18,13 +18,11 @@ returns-else-has_divergent g c =
     let s = c.args.lanes.now.streams in
     let e = c.args.first in
     let f = c.args.second in
-    let m = c.barriers_above-above_first.result in
-    let n = c.barriers_above-above_second.result in
     let of_e = c.barriers_above-above_first.ensures in
     let of_f = c.barriers_above-above_second.ensures in (
-      λ is. let p = is_parting s f e n m of_f of_e (c.has_divergent-else-has_divergent.ensures.0 is) in (p.0, inr p.1),
+      λ is. let p = is_parting s f e _ _ of_f of_e (c.has_divergent-else-has_divergent.ensures.0 is) in (p.0, inr p.1),
       λ h. ⊎_elim
-          (λ first. absurd (true≢false (sym (c.has_divergent.ensures.1 (parting_is s e f m n of_e of_f h.0 first)) ∙ c.if-has_divergent.false)))
-          (λ second. c.has_divergent-else-has_divergent.ensures.1 (parting_is s f e n m of_f of_e h.0 second))
+          (λ first. absurd (true≢false (sym (c.has_divergent.ensures.1 (parting_is s e f _ _ of_e of_f h.0 first)) ∙ c.if-has_divergent.false)))
+          (λ second. c.has_divergent-else-has_divergent.ensures.1 (parting_is s f e _ _ of_f of_e h.0 second))
           h.1,
     )

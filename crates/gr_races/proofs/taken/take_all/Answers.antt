@@ -1,5 +1,4 @@
-use Rattle.std.proofs.Common.{◌<◌, ◌≤◌, ◌∙◌, length, ap, sym, subst, arith}
-use Rattle.gr_model.specs.Streams.{ArePrefixes}
+use Rattle.std.proofs.Common.{◌<◌, ◌≤◌, ◌∙◌, length, ap, arith}
 use Rattle.gr_lanes.specs.Remembered.{Remembered, forgotten_of}
 use Rattle.gr_races.proofs.TakenLists.{accepted_prefixes, all_are_taken, lanes_are_new, list_taken}
 use Rattle.gr_races.proofs.taken.take_all.Goals as goal
@@ -32,7 +31,4 @@ returns-clause-streams g c =
     all_are_taken s c.loop-group.group c.loop-group.lanes.streams all c.loop-group.invariant.taken
 
 pub returns-clause-prefixes : goal.returns-clause-prefixes
-returns-clause-prefixes g c =
-    let s = c.args.traces.now in
-    let all : length s.lists ≤ c.loop-group.group = omega (arith, ap length c.shape-2.ensures.sizes, c.shape.ensures.accepted.count) in
-    subst ArePrefixes (sym (all_are_taken s c.loop-group.group c.loop-group.lanes.streams all c.loop-group.invariant.taken)) (accepted_prefixes s c.shape.ensures.accepted)
+returns-clause-prefixes g c = rw (returns-clause-streams g c) (accepted_prefixes c.args.traces.now c.shape.ensures.accepted)
