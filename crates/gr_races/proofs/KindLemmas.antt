@@ -1,5 +1,5 @@
 -- Each race of a launch has a kind, and it is said whether there is one.
-use Rattle.std.proofs.Common.{suc, inl, inr, ◌≡◌, ◌↔◌, ⊎_elim, subst, cond, ◌<◌, ℕ, Bool, true, false, List, [], ◌∷◌, ◌++◌, Option, Some, Contains, IsTrue, All, None, option_and_then, ap, arith, length, map, refl, sym, ◌∙◌, true≢false}
+use Rattle.std.proofs.Common.{suc, inl, inr, ◌≡◌, ◌↔◌, ⊎_elim, subst, cond, ℕ, Bool, true, false, List, [], ◌∷◌, ◌++◌, Option, Some, Contains, IsTrue, All, None, option_and_then, ap, arith, length, map, refl, sym, ◌∙◌, true≢false}
 use Rattle.std.specs.Prelude.{AllPairs, if◌then◌else◌, filter, nat_lt, not, option_map}
 use Rattle.std.specs.List.{list_any}
 use Rattle.std.proofs.Math.Bool.{beq}
@@ -38,14 +38,8 @@ use Rattle.gr_races.specs.Telling.{with_causes}
 -- ---- a launch has a racy word exactly where it has a race
 
 pub race_said : (s : Streams) (racy : List Word) (n : ℕ) → AreRaces s racy → n ≡ length racy → IsTrue (nat_lt 0 n) ↔ ((w : Word) × IsRacy s (IsGrounded s) w)
-race_said s [] n are same = (
-  λ t. let lt : 0 < n = ltb-true 0 n t in absurd (omega (arith, same)),
-  λ racy. let there = (are.exact racy.0).1 racy.1 in absurd (omega (arith, there.1)),
-)
-race_said s (w ∷ racy) n are same = (
-  λ _. (w, (are.exact w).0 (0, omega arith, refl)),
-  λ _. lt-ltb 0 n (omega (arith, same)),
-)
+race_said s [] n are same = (λ t. absurd (omega (arith, same, ltb-true 0 n t)), λ racy. absurd (omega (arith, ((are.exact racy.0).1 racy.1).1)))
+race_said s (w ∷ racy) n are same = (λ _. (w, (are.exact w).0 (0, omega arith, refl)), λ _. lt-ltb 0 n (omega (arith, same)))
 
 -- ---- each race has a kind
 

@@ -1,5 +1,5 @@
 -- Where an event stands behind its item's barrier of an instance.
-use Rattle.std.proofs.Common.{inl, inr, ◌≡◌, ℕ, zero, suc, ◌+◌, ◌<◌, ◌≤◌, Bool, get_or, List, [], ◌∷◌, Some, None, slice_get, arith, subst, ⊎_elim, ◌↔◌}
+use Rattle.std.proofs.Common.{inl, inr, ◌≡◌, ℕ, zero, suc, ◌+◌, ◌<◌, ◌≤◌, Bool, get_or, List, [], ◌∷◌, Some, slice_get, arith, subst, ⊎_elim, ◌↔◌}
 use Rattle.std.proofs.lemmas.Bool.{cases_lt}
 use Rattle.std.proofs.lemmas.Option.{slice_get-get_or, slice_get_within}
 use Rattle.gr_model.specs.declared.event.EventId.{EventId}
@@ -10,7 +10,7 @@ use Rattle.gr_races.specs.Parting.{HasDivergent, IsBehind, IsParting}
 
 -- the k-th place of a list is not below k
 place_at_least : {X : Type 0} (test : X → Bool) (i : ℕ) (xs : List X) (k p : ℕ) → slice_get (places_from test i xs) k ≡ Some p → i + k ≤ p
-place_at_least test i [] k p at = let no : None ≡ Some p = at in cc
+place_at_least test i [] k p at = grind arith
 place_at_least test i (x ∷ xs) zero p at = grind (arith, place_at_least test (suc i) xs zero p)
 place_at_least test i (x ∷ xs) (suc k) p at = grind (arith, place_at_least test (suc i) xs k p, place_at_least test (suc i) xs (suc k) p)
 

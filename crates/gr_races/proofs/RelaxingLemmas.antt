@@ -82,14 +82,11 @@ filtered : {X : Type 0} (f : X → X) (test : X → Bool) → ((x : X) → test 
 filtered f test same [] = refl
 filtered f test same (x ∷ xs) = grind (arith, same x, filtered f test same xs)
 
-still_event_at : (r : Relaxation) (s : Streams) (e : EventId) → event_at (relaxed r s) e ≡ option_map (relaxed_event r) (event_at s e)
-still_event_at r s e =
-    let same = filtered (relaxed_event r) (is_of e.at.item) (λ x. ap (λ ended. (x.item == e.at.item) && not ended) (same_kind r x.kind).0) (list_of s e.at.group) in
-    rw (relaxed_list_of r s e.at.group) (rw same (slice_get-map (relaxed_event r) (filter (is_of e.at.item) (list_of s e.at.group)) e.index))
-
 -- an event accesses the word that it accessed
 pub still_word : (r : Relaxation) (s : Streams) (e : EventId) → word_at (relaxed r s) e ≡ word_at s e
-still_word r s e = ap (option_and_then (event_word e.at.group)) (still_event_at r s e) ∙ of_event (event_at s e)
+still_word r s e =
+    let same = filtered (relaxed_event r) (is_of e.at.item) (λ x. ap (λ ended. (x.item == e.at.item) && not ended) (same_kind r x.kind).0) (list_of s e.at.group) in
+    rw (relaxed_list_of r s e.at.group) (rw same (rw (slice_get-map (relaxed_event r) (filter (is_of e.at.item) (list_of s e.at.group)) e.index) (of_event (event_at s e))))
   where
     of_event : (o : Option Event) → option_and_then (event_word e.at.group) (option_map (relaxed_event r) o) ≡ option_and_then (event_word e.at.group) o
     of_event None = refl

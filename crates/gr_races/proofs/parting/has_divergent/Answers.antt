@@ -2,9 +2,6 @@ use Rattle.std.proofs.Common.{inl, inr, ◌∙◌, arith, sym, true≢false}
 use Rattle.std.proofs.lemmas.Bool.{cases_eq}
 use Rattle.gr_races.proofs.parting.has_divergent.Goals as goal
 
-pub is_divergent-requires-clause-remembered : goal.is_divergent-requires-clause-remembered
-is_divergent-requires-clause-remembered g c = c.requires.remembered c.loop-number.number (omega (arith, c.loop-number-test.true))
-
 pub loop-number-preserved : goal.loop-number-preserved
 loop-number-preserved g c = λ k from below divergent. elim (cases_eq k c.loop-number.number) [
   | inl same ↦ true≢false (sym (c.is_divergent.ensures.1 (rw same at divergent)) ∙ c.if-is_divergent.false)
