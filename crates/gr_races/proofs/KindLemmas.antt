@@ -129,9 +129,6 @@ the_same_kinds_are_one k l = (same, λ is. sym (ap (same_kind k) is) ∙ equal.l
         let q = and_parts ((placed.eq-value).it k.first l.first) _ p.1 in
         let r = and_parts ((placed.eq-value).it k.second l.second) _ q.1 in
         let t = and_parts (beq k.one_group l.one_group) _ r.1 in
-        let space : k.space ≡ l.space = grind (arith, p.0) in
         let first : k.first ≡ l.first = grind (arith, nat_tests, q.0) in
         let second : k.second ≡ l.second = grind (arith, nat_tests, r.0) in
-        let group : k.one_group ≡ l.one_group = grind (arith, nat_tests, t.0) in
-        let cause : k.cause ≡ l.cause = grind (arith, t.1) in
-        λ i. record { space = space i; first = first i; second = second i; one_group = group i; cause = cause i }
+        grind (arith, nat_tests, p.0, first, second, t.0, t.1)
