@@ -5,7 +5,7 @@ use Rattle.gr_model.specs.declared.event.Event.{Event}
 use Rattle.gr_model.specs.declared.event.EventId.{EventId}
 use Rattle.gr_model.specs.Streams.{IsEvent, Streams, is_of, list_of, places_from}
 use Rattle.gr_timeline.specs.declared.details.Details.{Details}
-use Rattle.gr_timeline.proofs.ListLemmas.{length-places}
+use Rattle.gr_timeline.proofs.GroupLemmas.{length-places}
 use Rattle.gr_timeline.specs.Details.{details_of, record_number, with_number}
 
 -- what a filter keeps has a place

@@ -1,18 +1,169 @@
--- What is known of the events of a group, and of those of all groups below a bound.
-use Rattle.std.proofs.Common.{◌≡◌, ℕ, ◌+◌, ◌<◌, ◌≤◌, List, [], ◌∷◌, ◌++◌, get_or, length, Some, None, option_map, slice_get, take, refl, sym, ap, ◌∙◌, subst, arith}
-use Rattle.std.proofs.lemmas.List.{length-take-le, take_more}
-use Rattle.std.proofs.lemmas.Option.{slice_get_read}
+-- What is known of the events of a group, with one record more, and of those of all groups below a bound.
+use Rattle.std.proofs.Common.{◌≡◌, ℕ, suc, ◌+◌, ◌<◌, Bool, true, false, cond, List, [], ◌∷◌, ◌++◌, length, filter, slice_get, refl, ap, ◌∙◌, arith, append-nil, if◌then◌else◌, Some, option_map, sym, ◌≢◌, ◌≤◌, ◌==◌, not, length-append, Option, None, take, subst, inl, inr, ⊎_elim, eqb-true, true≢false, get_or}
+use Rattle.std.proofs.lemmas.List.Elements.{filter-append}
+use Rattle.std.proofs.lemmas.Grind.{common_steps}
+use Rattle.std.proofs.lemmas.Option.{gets, slice_get_past, slice_get_read}
 use Rattle.gr_model.specs.declared.event.Event.{Event}
-use Rattle.gr_model.specs.declared.event.EventId.{EventId}
-use Rattle.gr_model.specs.declared.event.Word.{Word}
-use Rattle.gr_model.specs.Streams.{IsAccepted, Streams}
+use Rattle.gr_model.specs.Streams.{is_of, places_from, IsAccepted, Streams}
+use Rattle.gr_model.proofs.Places.{places_from-append}
+use Rattle.std.proofs.lemmas.List.{length_push, take-append-le, length-take-le, take_more}
+use Rattle.gr_model.proofs.ListsOfRecords.{length-filter_le}
+use Rattle.gr_model.specs.declared.limits.TheConstants.{MOST_RECORDS}
+use Rattle.gr_model.specs.Barriers.{is_barrier}
 use Rattle.gr_timeline.specs.declared.counting.Count.{Count}
-use Rattle.gr_timeline.specs.declared.details.Details.{Details}
-use Rattle.gr_timeline.specs.Accesses.{IsKnown, details_at}
 use Rattle.gr_timeline.specs.Counting.{AreCounts, IsSmall, after_record, counted}
-use Rattle.gr_timeline.specs.Gathering.{AreKnownIn, AreOthersKept, KeepsRecord}
-use Rattle.gr_timeline.proofs.CountLemmas.{counted_small, counts_more}
-use Rattle.gr_timeline.proofs.RecordLemmas.{others_kept, record_known}
+use Rattle.std.proofs.Math.Seq.{take-append_seam}
+use Rattle.std.proofs.lemmas.Bool.{and_parts, cases_order, eq-eqb, false_from_ne_true}
+use Rattle.gr_model.specs.declared.event.EventId.{EventId}
+use Rattle.gr_model.specs.declared.event.Kind.{Kind}
+use Rattle.gr_model.specs.declared.event.Word.{Word}
+use Rattle.gr_model.specs.Access.{event_word, word_if_access}
+use Rattle.gr_model.specs.Events.{is_end, is_end_kind}
+use Rattle.gr_timeline.specs.declared.details.Details.{Details}
+use Rattle.gr_timeline.specs.Accesses.{details_at, IsKnown}
+use Rattle.gr_explain.specs.Events.{same_event}
+use Rattle.gr_explain.proofs.Lists.{at_last}
+use Rattle.gr_explain.proofs.Sets.{event_from_equal, event_itself}
+use Rattle.gr_timeline.specs.Gathering.{AreKnownIn, IsKnownIn, KeepsRecord, event_in, event_of, number_in, phase_in, told_from, told_in, word_history_of, word_in, AreOthersKept}
+
+-- an element of the first of two lists
+pub slice_front : {X : Type 0} (xs ys : List X) (k : ℕ) → k < length xs → slice_get (xs ++ ys) k ≡ slice_get xs k
+slice_front xs ys k lt = grind (arith, common_steps, gets)
+
+module _ (list : List Event) (x : Event) (i : ℕ) where
+  pub trace_here : is_of i x ≡ true → filter (is_of i) (list ++ x ∷ []) ≡ filter (is_of i) list ++ x ∷ []
+  trace_here mine = filter-append (is_of i) list (x ∷ []) ∙ ap (λ b. filter (is_of i) list ++ cond b (x ∷ []) []) mine
+
+  pub trace_other : is_of i x ≡ false → filter (is_of i) (list ++ x ∷ []) ≡ filter (is_of i) list
+  trace_other other = filter-append (is_of i) list (x ∷ []) ∙ (ap (λ b. filter (is_of i) list ++ cond b (x ∷ []) []) other ∙ append-nil (filter (is_of i) list))
+
+  pub places_here : is_of i x ≡ true → places_from (is_of i) 0 (list ++ x ∷ []) ≡ places_from (is_of i) 0 list ++ length list ∷ []
+  places_here mine =
+      places_from-append (is_of i) 0 list (x ∷ [])
+      ∙ (ap (λ b. places_from (is_of i) 0 list ++ cond b ((0 + length list) ∷ []) []) mine ∙ ap (λ n. places_from (is_of i) 0 list ++ n ∷ []) (omega arith))
+
+  pub places_other : is_of i x ≡ false → places_from (is_of i) 0 (list ++ x ∷ []) ≡ places_from (is_of i) 0 list
+  places_other other =
+      places_from-append (is_of i) 0 list (x ∷ [])
+      ∙ (ap (λ b. places_from (is_of i) 0 list ++ cond b ((0 + length list) ∷ []) []) other ∙ append-nil (places_from (is_of i) 0 list))
+
+-- as many places as elements
+pub length-places : {X : Type 0} (test : X → Bool) (n : ℕ) (xs : List X) → length (places_from test n xs) ≡ length (filter test xs)
+length-places test n [] = refl
+length-places test n (x ∷ xs) = grind (arith, length-places test (suc n) xs)
+
+barriers_pushed : (trace : List Event) (x : Event) → length (filter is_barrier (trace ++ x ∷ [])) ≡ length (filter is_barrier trace) + (if is_barrier x then 1 else 0)
+barriers_pushed trace x = grind (arith, common_steps, filter-append)
+
+counted_more : (list : List Event) (x : Event) (i : ℕ) (b : Bool) → is_of i x ≡ b → after_record i x (counted list i) ≡ counted (list ++ x ∷ []) i
+counted_more list x i true t = rw (t, trace_here list x i t, length_push, barriers_pushed)
+counted_more list x i false f = rw (f, trace_other list x i f)
+
+pub counts_more : (items : ℕ) (list : List Event) (x : Event) (old new : List Count) → length new ≡ length old → ((i : ℕ) → slice_get new i ≡ option_map (after_record i x) (slice_get old i)) → AreCounts items list old → AreCounts items (list ++ x ∷ []) new
+counts_more items list x old new same each counts = record {
+  length_is = same ∙ counts.length_is;
+  each = λ i lt. rw (each i, counts.each i lt) (ap Some (counted_more list x i (is_of i x) refl));
+}
+
+-- counts of a list that is no longer than another are small
+pub counted_small : (list : List Event) (i : ℕ) → length list < MOST_RECORDS → IsSmall (counted list i)
+counted_small list i few =
+    let records = length-filter_le (is_of i) list in
+    let barriers = length-filter_le is_barrier (filter (is_of i) list) in
+    (omega (arith, records, few), omega (arith, records, barriers, few))
+
+-- a record that accesses a word is one of its item
+access_is_of : (k : Kind) (w v : Word) → word_if_access k w ≡ Some v → is_end_kind k ≡ false
+access_is_of k w v is = grind arith
+
+-- what a longer list tells of an event is what a shorter one does
+still_known : (list longer : List Event) (w : Word) (e : EventId) (o : Option Details) → event_in longer e ≡ event_in list e → told_in longer e ≡ told_in list e → IsKnownIn list w e o → IsKnownIn longer w e o
+still_known list longer w e None event told known = rw event known
+still_known list longer w e (Some d) event told known = (rw event known.0, told ∙ known.1)
+
+-- nothing is known of what is no access to the word
+unknown : (list longer : List Event) (w : Word) (e : EventId) (o : Option Details) → word_in list e ≡ None → word_in longer e ≢ Some w → IsKnownIn list w e o → IsKnownIn longer w e o
+unknown list longer w e None none off known = off
+unknown list longer w e (Some d) none off known = let no : None ≡ Some w = sym none ∙ known.0 in cc
+
+module _ (list : List Event) (x : Event) (w : Word) (g : ℕ) (old new : List (EventId × Details)) (keeps : KeepsRecord w g (length list) x (counted list x.item) old new) where
+  abbrev next : EventId
+  next = event_of g x (counted list x.item)
+
+  abbrev longer : List Event
+  longer = list ++ x ∷ []
+
+  -- of any event but that of the record the same is known
+  kept_other : (e : EventId) → (event_word g x ≡ Some w → next ≢ e) → KeepsRecord w g (length list) x (counted list x.item) old new → details_at new e ≡ details_at old e
+  kept_other e other (inl on) = rw (on.1 e, false_from_ne_true (same_event next e) (λ t. other on.0 (event_from_equal next e t)))
+  kept_other e other (inr off) = rw off.1
+
+  pub others_kept : (e : EventId) → e.at.group ≢ g → details_at new e ≡ details_at old e
+  others_kept e other = kept_other e (λ on same. other (sym (ap (λ (d : EventId). d.at.group) same))) keeps
+
+  module _ (e : EventId) (group : e.at.group ≡ g) (known : IsKnownIn list w e (details_at old e)) where
+    abbrev trace : List Event
+    trace = filter (is_of e.at.item) list
+
+    abbrev places : List ℕ
+    places = places_from (is_of e.at.item) 0 list
+
+    -- the record is none of the item's
+    known_other : is_of e.at.item x ≡ false → IsKnownIn longer w e (details_at new e)
+    known_other other =
+        let kept = kept_other e (λ on same. true≢false (sym (grind (arith, eq-eqb x.item e.at.item (ap (λ (d : EventId). d.at.item) same), access_is_of x.kind _ w on)) ∙ other)) keeps in
+        rw kept (still_known list longer w e (details_at old e) (rw (trace_other list x e.at.item other)) (rw (trace_other list x e.at.item other, places_other list x e.at.item other)) known)
+
+    module _ (mine : is_of e.at.item x ≡ true) where
+      item : x.item ≡ e.at.item
+      item = eqb-true x.item e.at.item (and_parts (x.item == e.at.item) (not (is_end x)) mine).0
+
+      kept_apart : e.index ≢ length trace → details_at new e ≡ details_at old e
+      kept_apart apart = kept_other e (λ on same. apart (sym (ap (λ (d : EventId). d.index) same) ∙ ap (λ i. length (filter (is_of i) list)) item)) keeps
+
+      -- it stands before the record
+      known_before : e.index < length trace → IsKnownIn longer w e (details_at new e)
+      known_before lt =
+          let numbered : e.index < length places = omega (arith, lt, length-places (is_of e.at.item) 0 list) in
+          let within : e.index ≤ length trace = omega (arith, lt) in
+          rw (kept_apart (omega (arith, lt)))
+          (still_known list longer w e (details_at old e)
+          (rw (trace_here list x e.at.item mine, slice_front trace (x ∷ []) e.index lt))
+          (rw (trace_here list x e.at.item mine, places_here list x e.at.item mine, slice_front trace (x ∷ []) e.index lt, slice_front places (length list ∷ []) e.index numbered, take-append-le e.index trace (x ∷ []) within))
+          known)
+
+      -- it would stand behind the record
+      known_behind : length trace < e.index → IsKnownIn longer w e (details_at new e)
+      known_behind gt =
+          let past : length trace ≤ e.index = omega (arith, gt) in
+          let past_more : length (trace ++ x ∷ []) ≤ e.index = omega (arith, gt, length-append trace (x ∷ [])) in
+          let none : event_in longer e ≡ event_in list e = rw (trace_here list x e.at.item mine, slice_get_past (trace ++ x ∷ []) e.index past_more, slice_get_past trace e.index past) in
+          rw (kept_apart (omega (arith, gt))) (still_known list longer w e (details_at old e) none (rw (none, slice_get_past trace e.index past)) known)
+
+      -- it is that of the record
+      known_here : e.index ≡ length trace → KeepsRecord w g (length list) x (counted list x.item) old new → IsKnownIn longer w e (details_at new e)
+      known_here here keep =
+          let same : next ≡ e = λ k. record { at = record { group = sym group k; item = item k }; index = (ap (λ i. length (filter (is_of i) list)) item ∙ sym here) k } in
+          let event : event_in longer e ≡ Some x = rw (trace_here list x e.at.item mine, here) (at_last trace x) in
+          let number : number_in longer e ≡ Some (length list) = rw (places_here list x e.at.item mine, here ∙ sym (length-places (is_of e.at.item) 0 list)) (at_last places (length list)) in
+          let phase : phase_in longer e ≡ length (filter is_barrier (filter (is_of x.item) list)) = rw (trace_here list x e.at.item mine, here, take-append_seam trace (x ∷ []), item) in
+          let word : word_in longer e ≡ event_word g x = rw (event, group) in
+          by_cases same (λ k. told_from (event k) (number k) (phase k)) word keep
+        where
+          by_cases : next ≡ e → told_in longer e ≡ Some (word_history_of (length list) x (counted list x.item)) → word_in longer e ≡ event_word g x → KeepsRecord w g (length list) x (counted list x.item) old new → IsKnownIn longer w e (details_at new e)
+          by_cases same told word (inl on) = rw (on.1 e, (subst (λ (d : EventId). same_event next d ≡ true) same (event_itself next))) (word ∙ on.0, told)
+          by_cases same told word (inr off) = rw off.1 (unknown list longer w e (details_at old e) (rw (slice_get_past trace e.index (let past : length trace ≤ e.index = omega (arith, here) in past))) (λ is. off.0 (sym word ∙ is)) known)
+
+  -- what is known of the events of the group, with one record more
+  pub record_known : AreKnownIn list w g old → AreKnownIn longer w g new
+  record_known known e group = by_test (is_of e.at.item x) refl
+    where
+      by_test : (b : Bool) → is_of e.at.item x ≡ b → IsKnownIn longer w e (details_at new e)
+      by_test true mine = ⊎_elim
+          (λ (here : e.index ≡ length (filter (is_of e.at.item) list)). known_here e group (known e group) mine here keeps)
+          (⊎_elim (known_before e group (known e group) mine) (known_behind e group (known e group) mine))
+          (cases_order e.index (length (filter (is_of e.at.item) list)))
+      by_test false other = known_other e group (known e group) other
 
 -- ---- the next record of a list
 

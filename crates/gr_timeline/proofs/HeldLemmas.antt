@@ -12,7 +12,6 @@ use Rattle.std.proofs.lemmas.Map.Views.{Contains-from_any, list_any-from_Contain
 use Rattle.std.proofs.lemmas.Option.{get_or_from_slice_get, slice_get-get_or, slice_get_within}
 use Rattle.gr_model.specs.declared.event.EventId.{EventId}
 use Rattle.gr_model.specs.declared.event.Word.{Word}
-use Rattle.gr_model.specs.contracts.event.EventIdEq.TheImpl.Laws as equal
 use Rattle.gr_model.specs.LawfulOrders.{IsAt, IsIn}
 use Rattle.gr_model.specs.Streams.{Streams}
 use Rattle.gr_model.specs.Waits.{IsGrounded}
@@ -22,6 +21,10 @@ use Rattle.gr_explain.specs.Events.{same_event}
 use Rattle.gr_explain.proofs.Sets.{event_from_equal}
 use Rattle.gr_timeline.specs.Accesses.{AreAccesses, IsKnown, IsOn, details_at}
 use Rattle.gr_timeline.specs.Held.{AreHeld}
+use Rattle.gr_model.proofs.Descent.{lawful_is_grounded}
+use Rattle.gr_timeline.specs.Histories.{IsHistory, Line, events_of}
+use Rattle.gr_timeline.proofs.SelectionLemmas.{those_have, those_hold, those_once, those_within}
+use Rattle.gr_model.specs.contracts.event.EventIdEq.TheImpl.Laws as equal
 
 decides : (d e : EventId) → Decides (same_event d e) (d ≡ e)
 decides d e = (event_from_equal d e, λ same. subst (λ (x : EventId). same_event d x ≡ true) same (equal.laws-law.refl d))
@@ -53,19 +56,12 @@ in_member events e is = list_any-from_Contains equal.laws-law e events (is.0, sl
 -- ---- what is left
 
 module _ (s : Streams) (w : Word) (known : List (EventId × Details)) (distinct : IsDistinct same_event (keys_of known)) (are : AreAccesses s w known) where
-  key_on : (e : EventId) → is_member same_event (keys_of known) e ≡ true → IsOn s w e
-  key_on e is = by_cases (details_at known e) refl (are e)
-    where
-      by_cases : (o : Option Details) → details_at known e ≡ o → IsKnown s w e o → IsOn s w e
-      by_cases None none off = absurd (true≢false (sym (is_some-lookup (same_event e) known ∙ is) ∙ ap is_some none))
-      by_cases (Some d) some known = known.0
+  key_is_on : (e : EventId) (o : Option Details) → details_at known e ≡ o → IsKnown s w e o → (is_member same_event (keys_of known) e ≡ true) ↔ IsOn s w e
+  key_is_on e None none off = (λ is. absurd (true≢false (sym (is_some-lookup (same_event e) known ∙ is) ∙ ap is_some none)), λ on. absurd (off on))
+  key_is_on e (Some d) some is = (λ _. is.0, λ _. sym (is_some-lookup (same_event e) known) ∙ ap is_some some)
 
-  on_key : (e : EventId) → IsOn s w e → is_member same_event (keys_of known) e ≡ true
-  on_key e on = by_cases (details_at known e) refl (are e)
-    where
-      by_cases : (o : Option Details) → details_at known e ≡ o → IsKnown s w e o → is_member same_event (keys_of known) e ≡ true
-      by_cases None none off = absurd (off on)
-      by_cases (Some d) some known_e = sym (is_some-lookup (same_event e) known) ∙ ap is_some some
+  on_key : (e : EventId) → (is_member same_event (keys_of known) e ≡ true) ↔ IsOn s w e
+  on_key e = key_is_on e (details_at known e) refl (are e)
 
   module _ (those : List EventId) (once : (p q : ℕ) (e : EventId) → IsAt those p e → IsAt those q e → p ≡ q) (grounded : (e : EventId) → IsIn those e ↔ (IsOn s w e × IsGrounded s e)) where
     abbrev keys : List EventId
@@ -81,7 +77,7 @@ module _ (s : Streams) (w : Word) (known : List (EventId × Details)) (distinct 
     shared q = by_test (is_member same_event those q) refl
       where
         by_test : (b : Bool) → is_member same_event those q ≡ b → is_member same_event those q ≡ (is_member same_event keys q && is_member same_event those q)
-        by_test true is = sym (ap (λ a. a && is_member same_event those q) (on_key q ((grounded q).0 (member_in those q is)).0))
+        by_test true is = sym (ap (λ a. a && is_member same_event those q) ((on_key q).1 ((grounded q).0 (member_in those q is)).0))
         by_test false not_there = not_there ∙ sym (ap (λ m. is_member same_event keys q && m) not_there ∙ and_right (is_member same_event keys q) false refl)
 
     rest : IsDifference same_event keys those left
@@ -93,7 +89,7 @@ module _ (s : Streams) (w : Word) (known : List (EventId × Details)) (distinct 
     left_held : (e : EventId) → IsIn left e → IsOn s w e × ¬ IsGrounded s e
     left_held e is =
         let parts = and_parts (is_member same_event keys e) (is_left e) (sym (rest e) ∙ in_member left e is) in
-        let on = key_on e parts.0 in
+        let on = (on_key e).0 parts.0 in
         (on, λ stands. true≢false (sym (in_member those e ((grounded e).1 (on, stands))) ∙ not-true (is_member same_event those e) parts.1))
 
     held_left : (e : EventId) → IsOn s w e × ¬ IsGrounded s e → IsIn left e
@@ -101,7 +97,7 @@ module _ (s : Streams) (w : Word) (known : List (EventId × Details)) (distinct 
       where
         by_test : (b : Bool) → is_member same_event those e ≡ b → IsIn left e
         by_test true is = absurd (held.1 ((grounded e).0 (member_in those e is)).1)
-        by_test false is_not = member_in left e (rest e ∙ (ap (λ a. a && is_left e) (on_key e held.0) ∙ ap not is_not))
+        by_test false is_not = member_in left e (rest e ∙ (ap (λ a. a && is_left e) ((on_key e).1 held.0) ∙ ap not is_not))
 
     -- those that are left are held, and they and the grounded ones are all
     pub held_are_left : (held : List EventId) × AreHeld s w held × (length those + length held ≡ length known)
@@ -110,3 +106,22 @@ module _ (s : Streams) (w : Word) (known : List (EventId × Details)) (distinct 
       record { each = λ e. (left_held e, held_left e); once = each_once left left_pairs },
       length-intersection_difference equal.laws-law keys those those left distinct (IsDistinct-from_AllPairs decides those (apart those once)) (IsDistinct-from_AllPairs decides left left_pairs) shared rest ∙ length-map known (λ x. x.0),
     )
+
+-- ---- the accesses that are held
+
+module _ (s : Streams) (w : Word) (lines : List Line) (history : IsHistory s w lines) where
+  grounded_there : (e : EventId) → IsIn (events_of lines) e ↔ (IsOn s w e × IsGrounded s e)
+  grounded_there e = (
+    λ there. (
+      those_hold (IsOn s w) history.order (events_of lines) there.0 e history.along.events there.1,
+      let ordered = those_within (IsOn s w) history.order (events_of lines) there.0 e history.along.events there.1 in lawful_is_grounded s history.order e history.whole.lawful ordered,
+    ),
+    λ is. let ordered = history.whole.whole e is.1 in those_have (IsOn s w) history.order (events_of lines) ordered.0 e history.along.events ordered.1 is.0,
+  )
+
+  -- those that have no line are held
+  pub others_are_held : (known : List (EventId × Details)) → IsDistinct same_event (keys_of known) → AreAccesses s w known → (held : List EventId) × AreHeld s w held × (length lines + length held ≡ length known)
+  others_are_held known distinct are =
+      let once = those_once (IsOn s w) history.order (events_of lines) history.along.events history.whole.lawful.once in
+      let left = held_are_left s w known distinct are (events_of lines) once grounded_there in
+      (left.0, left.1, ap (λ n. n + length left.0) (sym (length-map lines (λ l. l.event))) ∙ left.2)

@@ -14,7 +14,6 @@ use Rattle.gr_model.specs.Streams.{Streams}
 use Rattle.gr_model.proofs.Cuts.{same_event}
 use Rattle.gr_model.proofs.WordLemmas.{same_from_equal}
 use Rattle.gr_clocks.specs.ClockedAccess.{ClockedAccess, bare}
-use Rattle.gr_clocks.specs.Counts.{Counts}
 use Rattle.gr_closure.specs.Accesses.{IsAccess}
 use Rattle.gr_closure.specs.AccessesAlong.{AreAccesses, of_none, of_access, of_other}
 use Rattle.gr_closure.proofs.Clashing.{whole_hits_are_races}
@@ -29,27 +28,17 @@ use Rattle.gr_timeline.specs.Racy.{IsRacyIn}
 use Rattle.gr_timeline.specs.Histories.{AreEntriesOf, IsCounted, IsHistory, IsKeptOf, Line, access_pair, entry_pair, events_of, is_counted, line_below, lines_below, lines_of}
 use Rattle.gr_timeline.specs.Selections as those
 use Rattle.gr_timeline.specs.Selections.{AreThose}
-use Rattle.gr_timeline.proofs.EntryLemmas.{events_below, those_counted}
-use Rattle.gr_timeline.proofs.SelectionLemmas.{those_once, those_where}
+use Rattle.gr_timeline.proofs.SelectionLemmas.{events_below, those_counted, those_once, those_where}
 
 abbrev is_on : Word → ClockedAccess → Bool
 is_on w x = same_word x.word w
 
 -- ---- one access more
 
-module _ {Z : Type 0} (w : Word) (accesses : List ClockedAccess) (y : ClockedAccess) (old new : List (Entry Z)) where
-  pub entry_added : (x : Entry Z) (shadows shadowed : Kept) → new ≡ old ++ x ∷ [] → entry_pair x ≡ access_pair y → is_on w y ≡ true → StandsFor (accesses_to w accesses ++ y ∷ []) shadowed → IsKeptOf w accesses old shadows → IsKeptOf w (accesses ++ y ∷ []) new shadowed
-  entry_added x shadows shadowed pushed same on stands (are, _) =
-      let last : filter (is_on w) (y ∷ []) ≡ y ∷ [] = ap (λ b. cond b (y ∷ []) []) on in
-      let more : filter (is_on w) (accesses ++ y ∷ []) ≡ filter (is_on w) accesses ++ y ∷ [] = filter-append (is_on w) accesses (y ∷ []) ∙ ap (λ l. filter (is_on w) accesses ++ l) last in (
-        ap (map entry_pair) pushed
-            ∙ (map-append entry_pair old (x ∷ [])
-            ∙ (ap (λ l. l ++ entry_pair x ∷ []) are
-            ∙ (ap (λ p. map access_pair (filter (is_on w) accesses) ++ p ∷ []) same
-            ∙ (sym (map-append access_pair (filter (is_on w) accesses) (y ∷ []))
-            ∙ ap (map access_pair) (sym more))))),
-        subst (λ (xs : List ClockedAccess). StandsFor xs shadowed) (sym more) stands,
-      )
+pub entry_added : {Z : Type 0} (w : Word) (accesses : List ClockedAccess) (y : ClockedAccess) (old new : List (Entry Z)) (x : Entry Z) (shadows shadowed : Kept) → new ≡ old ++ x ∷ [] → entry_pair x ≡ access_pair y → is_on w y ≡ true → StandsFor (accesses_to w accesses ++ y ∷ []) shadowed → IsKeptOf w accesses old shadows → IsKeptOf w (accesses ++ y ∷ []) new shadowed
+entry_added w accesses y old new x shadows shadowed pushed same on stands (are, _) =
+    let more : filter (is_on w) (accesses ++ y ∷ []) ≡ filter (is_on w) accesses ++ y ∷ [] = rw (filter-append, on) in
+    (rw (pushed, more, map-append, map-append, are, same), rw more stands)
 
 -- ---- lists of pairs
 
@@ -63,9 +52,6 @@ mapped_at f [] p y at = let no : None ≡ Some y = at in cc
 mapped_at f (x ∷ xs) zero y at = let h : Some (f x) ≡ Some y = at in let same : f x ≡ y = cc in (x, refl, same)
 mapped_at f (x ∷ xs) (suc p) y at = mapped_at f xs p y at
 
-map_at : {X Y : Type 0} (f : X → Y) (xs : List X) (p : ℕ) (x : X) → slice_get xs p ≡ Some x → slice_get (map f xs) p ≡ Some (f x)
-map_at f xs p x at = grind (arith, common_steps, gets)
-
 -- what passes a test is in the list
 passed_at : {X : Type 0} (test : X → Bool) (xs : List X) (p : ℕ) (x : X) → slice_get (filter test xs) p ≡ Some x → Contains xs x × (test x ≡ true)
 passed_at test xs p x at =
@@ -78,12 +64,10 @@ passed_at test xs p x at =
 line_at : {Z : Type 0} (above : List EventId) (entries : List (Entry Z)) (p : ℕ) (l : Line) → slice_get (lines_below above entries) p ≡ Some l → (x : Entry Z) × (slice_get entries p ≡ Some x) × (l ≡ line_below (above ++ take p (map (λ y. y.event) entries)) x)
 line_at above [] p l at = let no : None ≡ Some l = at in cc
 line_at above (x ∷ entries) zero l at =
-    let h : Some (line_below above x) ≡ Some l = at in
-    let same : l ≡ line_below above x = cc in
-    (x, refl, same ∙ ap (λ a. line_below a x) (sym (append-nil above)))
+    (x, refl, rw append-nil (let h : Some (line_below above x) ≡ Some l = at in cc))
 line_at above (x ∷ entries) (suc p) l at =
     let h = line_at (above ++ x.event ∷ []) entries p l at in
-    (h.0, h.1, h.2 ∙ ap (λ a. line_below a h.0) (append_assoc above (x.event ∷ []) (take p (map (λ y. y.event) entries))))
+    (h.0, h.1, rw append_assoc at h.2)
 
 -- ---- the accesses to the word
 
@@ -106,26 +90,17 @@ module _ (s : Streams) (w : Word) where
 
 -- a clock of an access counts of other events those that happen before it
 counted_is_before : (s : Streams) (w : Word) (e : EventId) (x : ClockedAccess) → IsAccess s e (bare x) → x.word ≡ w → (d : EventId) → d ≢ e → IsCounted x.clock d ↔ HappensBefore s (memory_of w) d e
-counted_is_before s w e x of_e word d other = (
-  λ counted. ⊎_elim
-      (λ (same : d ≡ e). absurd (other same))
-      (λ (is : HappensBefore s (memory_of x.word) d e). subst (λ (v : Word). HappensBefore s (memory_of v) d e) word is)
-      ((of_e.counts d).0 counted),
-  λ is. (of_e.counts d).1 (inr (subst (λ (v : Word). HappensBefore s (memory_of v) d e) (sym word) is)),
+counted_is_before s w e x of_e word d other = rw (← word) (
+  λ counted. ⊎_elim (λ (same : d ≡ e). absurd (other same)) (λ is. is) ((of_e.counts d).0 counted),
+  λ is. (of_e.counts d).1 (inr is),
 )
-
--- what the first elements of a list have at a place
-taken_at : {X : Type 0} (xs : List X) (n i : ℕ) (x : X) → slice_get (take n xs) i ≡ Some x → (i < n) × (slice_get xs i ≡ Some x)
-taken_at xs n i x at = grind (arith, common_steps, gets)
 
 module _ {Z : Type 0} (s : Streams) (w : Word) (entries : List (Entry Z)) (order : List EventId) (whole : IsWholeOrder s order) (accesses : List ClockedAccess) (are : AreAccesses s order accesses) (stands : AreEntriesOf w accesses entries) where
   abbrev events : List EventId
   events = map (λ x. x.event) entries
 
   events_are : AreThose (IsOn s w) order events
-  events_are =
-      subst (AreThose (IsOn s w) order) (sym (firsts access_pair (filter (is_on w) accesses)) ∙ (ap (map (λ p. p.0)) (sym stands) ∙ firsts entry_pair entries))
-      (events_on s w order accesses are)
+  events_are = subst (AreThose (IsOn s w) order) (rw (← firsts access_pair (filter (is_on w) accesses), ← stands) (firsts entry_pair entries)) (events_on s w order accesses are)
 
   -- the access of an entry
   record IsOfEntry (x : Entry Z) : Type 0 where
@@ -136,7 +111,7 @@ module _ {Z : Type 0} (s : Streams) (w : Word) (entries : List (Entry Z)) (order
 
   entry_access : (p : ℕ) (x : Entry Z) → slice_get entries p ≡ Some x → IsOfEntry x
   entry_access p x at =
-      let paired = mapped_at access_pair (filter (is_on w) accesses) p (entry_pair x) (subst (λ (l : List (EventId × Counts)). slice_get l p ≡ Some (entry_pair x)) stands (map_at entry_pair entries p x at)) in
+      let paired = mapped_at access_pair (filter (is_on w) accesses) p (entry_pair x) (rw (← stands) (grind (arith, common_steps, gets, at))) in
       let passed = passed_at (is_on w) accesses p paired.0 paired.1 in
       let there = event_there s order accesses paired.0 are passed.0 in
       record {
@@ -151,25 +126,25 @@ module _ {Z : Type 0} (s : Streams) (w : Word) (entries : List (Entry Z)) (order
       let h = line_at [] entries p l at in
       let x = h.0 in
       let lt : p < length events = omega (arith, slice_get_within entries p x h.1, length-map entries (λ y. y.event)) in
-      let counts = above_counted x (entry_access p x h.1) (map_at (λ y. y.event) entries p x h.1) in
+      let counts = above_counted x (entry_access p x h.1) (grind (arith, common_steps, gets, h.1)) in
       let before = those_where (IsCounted x.clock) (λ d. HappensBefore s (memory_of w) d x.event) (take p events) (filter (is_counted x.clock) (take p events)) counts (those_counted x.clock (take p events)) in
       subst (λ (m : Line). (m.above ≡ p) × AreThose (λ d. HappensBefore s (memory_of w) d m.event) (take p (events_of (lines_of entries))) m.behind) (sym h.2) (
         length-take-le p events (omega (arith, lt)),
-        subst (λ (all : List EventId). AreThose (λ d. HappensBefore s (memory_of w) d x.event) (take p all) (filter (is_counted x.clock) (take p events))) (sym (events_below [] entries)) before,
+        rw (events_below [] entries) before,
       )
     where
       above_counted : (x : Entry Z) → IsOfEntry x → slice_get events p ≡ Some x.event → (i : ℕ) (d : EventId) → slice_get (take p events) i ≡ Some d → IsCounted x.clock d ↔ HappensBefore s (memory_of w) d x.event
       above_counted x of_x here i d there =
-          let earlier = taken_at events p i d there in
+          let earlier : (i < p) × (slice_get events i ≡ Some d) = grind (arith, common_steps, gets, there) in
           let other : d ≢ x.event = λ same. omega (arith, earlier.0, those_once (IsOn s w) order events events_are whole.lawful.once i p d earlier.1 (here ∙ ap Some (sym same))) in
-          subst (λ (c : Counts). IsCounted c d ↔ HappensBefore s (memory_of w) d x.event) of_x.clock (counted_is_before s w x.event of_x.access of_x.is of_x.word d other)
+          rw (← of_x.clock) (counted_is_before s w x.event of_x.access of_x.is of_x.word d other)
 
   pub history_of_whole : IsHistory s w (lines_of entries)
   history_of_whole = record {
     order = order;
     whole = whole;
     along = record {
-      events = subst (AreThose (IsOn s w) order) (sym (events_below [] entries)) events_are;
+      events = rw (events_below [] entries) events_are;
       above = λ p l at. (line_behind p l at).0;
       behind = λ p l at. (line_behind p l at).1;
     };

@@ -1,15 +1,9 @@
 pub mod SelectionLemmas
-pub mod EntryLemmas
 pub mod HistoryLemmas
-pub mod ShownLemmas
-pub mod ListLemmas
-pub mod CountLemmas
-pub mod RecordLemmas
 pub mod GroupLemmas
 pub mod HeldLemmas
 pub mod DetailLemmas
 pub mod WaitLemmas
-pub mod ChainLemmas
 pub mod WalkLemmas
 pub mod JudgedLemmas
 pub mod WhyLemmas

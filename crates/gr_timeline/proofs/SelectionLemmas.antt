@@ -1,6 +1,11 @@
--- The elements of a list of which something is so, where the list grows.
-use Rattle.std.proofs.Common.{◌≡◌, ◌↔◌, ℕ, zero, suc, List, Some, None, ap, arith, refl, slice_get, subst, sym}
+-- The elements of a list of which something is so, and the lines of entries, where the list grows.
+use Rattle.std.proofs.Common.{◌≡◌, ◌↔◌, ℕ, zero, suc, List, Some, None, ap, arith, refl, slice_get, subst, sym, Bool, true, false, cond, [], ◌∷◌, ◌++◌, filter, length, map, true≢false, ◌∙◌}
 use Rattle.gr_timeline.specs.Selections.{AreThose, of_none, of_one, of_other}
+use Rattle.std.proofs.lemmas.Bool.{lt-ltb, ltb-true}
+use Rattle.gr_model.specs.declared.event.EventId.{EventId}
+use Rattle.gr_clocks.specs.Counts.{Counts, count_of}
+use Rattle.gr_timeline.specs.declared.entry.Entry.{Entry}
+use Rattle.gr_timeline.specs.Histories.{IsCounted, events_of, is_counted, lines_below}
 
 module _ {X : Type 0} (P : X → Type 0) where
   -- each of those is an element of the list
@@ -40,3 +45,22 @@ module _ {X : Type 0} (P : X → Type 0) where
   those_once _ _ (of_one {xs = xs} {those = those} is rest) once (suc p) (suc q) x first second =
       ap suc (those_once xs those rest (λ i j y a b. omega (arith, once (suc i) (suc j) y a b)) p q x first second)
   those_once _ _ (of_other {xs = xs} {those = those} is_not rest) once p q x first second = those_once xs those rest (λ i j y a b. omega (arith, once (suc i) (suc j) y a b)) p q x first second
+
+-- what a clock counts of a list
+pub those_counted : (c : Counts) (events : List EventId) → AreThose (IsCounted c) events (filter (is_counted c) events)
+those_counted c [] = of_none
+those_counted c (e ∷ events) = by_test (is_counted c e) refl (those_counted c events)
+  where
+    by_test : (b : Bool) → is_counted c e ≡ b → AreThose (IsCounted c) events (filter (is_counted c) events) → AreThose (IsCounted c) (e ∷ events) (cond b (e ∷ filter (is_counted c) events) (filter (is_counted c) events))
+    by_test true t rest = of_one (ltb-true e.index (count_of c e.at) t) rest
+    by_test false f rest = of_other (λ is. true≢false (sym (lt-ltb e.index (count_of c e.at) is) ∙ f)) rest
+
+module _ {Z : Type 0} where
+  -- the events of the lines are those of the entries
+  pub events_below : (above : List EventId) (entries : List (Entry Z)) → events_of (lines_below above entries) ≡ map (λ x. x.event) entries
+  events_below above [] = refl
+  events_below above (x ∷ entries) = ap (λ l. x.event ∷ l) (events_below (above ++ x.event ∷ []) entries)
+
+  pub length_below : (above : List EventId) (entries : List (Entry Z)) → length (lines_below above entries) ≡ length entries
+  length_below above [] = refl
+  length_below above (x ∷ entries) = ap suc (length_below (above ++ x.event ∷ []) entries)

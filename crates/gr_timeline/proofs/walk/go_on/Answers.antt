@@ -1,7 +1,7 @@
 use Rattle.std.proofs.Common.{List, subst, sym}
 use Rattle.gr_timeline.specs.declared.reason.Link.{Link}
 use Rattle.gr_timeline.specs.Chains.{IsChainTo, leads_to}
-use Rattle.gr_timeline.proofs.ChainLemmas.{chain_more}
+use Rattle.gr_timeline.proofs.WalkLemmas.{chain_more}
 use Rattle.gr_timeline.proofs.walk.go_on.Goals as goal
 
 pub returns-clause-chain : goal.returns-clause-chain

@@ -3,9 +3,8 @@ use Rattle.gr_timeline.specs.declared.reason.Link.{Link}
 use Rattle.gr_timeline.specs.declared.reason.Reason.TheVariants.{Behind}
 use Rattle.gr_timeline.specs.Chains.{IsChainTo}
 use Rattle.gr_timeline.specs.Walks.{AreVisited}
-use Rattle.gr_timeline.proofs.ChainLemmas.{chain_more}
+use Rattle.gr_timeline.proofs.WalkLemmas.{chain_more, visited_stays}
 use Rattle.gr_timeline.proofs.WaitLemmas.{earlier_there}
-use Rattle.gr_timeline.proofs.WalkLemmas.{visited_stays}
 use Rattle.gr_timeline.proofs.walk.go_to_first.Goals as goal
 
 pub returns-in_ok-add_link-in-Some-clause-held : goal.returns-in_ok-add_link-in-Some-clause-held

@@ -2,8 +2,7 @@ use Rattle.std.proofs.Common.{List, ℕ, subst, sym}
 use Rattle.gr_model.specs.Shapes.{HasItem}
 use Rattle.gr_steps.proofs.EventRecords.{group_of_event, item_of_event}
 use Rattle.gr_timeline.specs.Chains.{leads_to}
-use Rattle.gr_timeline.proofs.ChainLemmas.{event_within}
-use Rattle.gr_timeline.proofs.WalkLemmas.{fewer, if_some_all, linked, one_visited, visited_stays, zero_if}
+use Rattle.gr_timeline.proofs.WalkLemmas.{event_within, fewer, if_some_all, linked, one_visited, visited_stays, zero_if}
 use Rattle.gr_timeline.proofs.walk.visit.Goals as goal
 
 pub place_in-requires : goal.place_in-requires

@@ -1,7 +1,7 @@
 use Rattle.std.proofs.Common.{◌≡◌, [], arith, length}
 use Rattle.gr_timeline.specs.Histories.{lines_of}
-use Rattle.gr_timeline.proofs.EntryLemmas.{length_below}
-use Rattle.gr_timeline.proofs.ShownLemmas.{others_are_held}
+use Rattle.gr_timeline.proofs.SelectionLemmas.{length_below}
+use Rattle.gr_timeline.proofs.HeldLemmas.{others_are_held}
 use Rattle.gr_timeline.proofs.word_history.word_history_of.Goals as goal
 
 pub overflow_sub-held : goal.overflow_sub-held
