@@ -1,10 +1,10 @@
 -- The accesses to a word that are held are those that are left of all where the grounded ones are taken away.
-use Rattle.std.proofs.Common.{◌≡◌, ◌≢◌, ◌↔◌, ℕ, ◌+◌, ◌<◌, ◌&&◌, not, Bool, true, false, List, filter, get_or, length, Option, Some, None, is_some, slice_get, refl, sym, ap, ◌∙◌, subst, ⊎_elim, arith, true≢false}
+use Rattle.std.proofs.Common.{◌≡◌, ◌≢◌, ◌↔◌, ℕ, ◌+◌, ◌<◌, ◌&&◌, not, Bool, true, false, List, filter, get_or, length, Option, Some, None, is_some, slice_get, refl, sym, ap, ◌∙◌, subst, arith, true≢false, []}
 use Rattle.std.specs.Bool.{Decides}
 use Rattle.std.specs.List.{AllPairs, IsDistinct}
 use Rattle.std.specs.Map.{keys_of}
 use Rattle.std.specs.Set.{IsDifference, IsIntersection, is_member}
-use Rattle.std.proofs.lemmas.Bool.{and_parts, and_right, cases_order, not-true}
+use Rattle.std.proofs.lemmas.Bool.{and_parts, and_right, not-true}
 use Rattle.std.proofs.lemmas.List.{length-map}
 use Rattle.std.proofs.lemmas.List.Kept.{AllPairs-filter}
 use Rattle.std.proofs.lemmas.Map.Made.{AllPairs-from_IsDistinct, IsDistinct-from_AllPairs, is_member-filter, is_some-lookup, length-intersection_difference}
@@ -21,9 +21,10 @@ use Rattle.gr_explain.specs.Events.{same_event}
 use Rattle.gr_explain.proofs.Sets.{event_from_equal}
 use Rattle.gr_timeline.specs.Accesses.{AreAccesses, IsKnown, IsOn, details_at}
 use Rattle.gr_timeline.specs.Held.{AreHeld}
+use Rattle.gr_timeline.specs.declared.entry.Entry.{Entry}
 use Rattle.gr_model.proofs.Descent.{lawful_is_grounded}
-use Rattle.gr_timeline.specs.Histories.{IsHistory, Line, events_of}
-use Rattle.gr_timeline.proofs.SelectionLemmas.{those_have, those_hold, those_once, those_within}
+use Rattle.gr_timeline.specs.Histories.{IsHistory, Line, events_of, lines_of}
+use Rattle.gr_timeline.proofs.SelectionLemmas.{those_have, those_hold, those_once, those_within, length_below}
 use Rattle.gr_model.specs.contracts.event.EventIdEq.TheImpl.Laws as equal
 
 decides : (d e : EventId) → Decides (same_event d e) (d ≡ e)
@@ -42,10 +43,7 @@ not_before events pairs p q e first second before =
     pairs p q e before (slice_get_within events q e second) (get_or_from_slice_get events p e e first ∙ sym (get_or_from_slice_get events q e e second))
 
 each_once : (events : List EventId) → AllPairs (λ x y. x ≢ y) events → (p q : ℕ) (e : EventId) → IsAt events p e → IsAt events q e → p ≡ q
-each_once events pairs p q e first second = ⊎_elim
-    (λ (same : p ≡ q). same)
-    (⊎_elim (λ before. absurd (not_before events pairs p q e first second before)) (λ after. absurd (not_before events pairs q p e second first after)))
-    (cases_order p q)
+each_once events pairs p q e first second = omega (arith, not_before events pairs p q e first second, not_before events pairs q p e second first)
 
 member_in : (events : List EventId) (e : EventId) → is_member same_event events e ≡ true → IsIn events e
 member_in events e is = let there = Contains-from_any event_from_equal e events is in (there.0, Contains-at events e there)
@@ -109,7 +107,10 @@ module _ (s : Streams) (w : Word) (known : List (EventId × Details)) (distinct 
 
 -- ---- the accesses that are held
 
-module _ (s : Streams) (w : Word) (lines : List Line) (history : IsHistory s w lines) where
+module _ {Z : Type 0} (s : Streams) (w : Word) (entries : List (Entry Z)) (history : IsHistory s w (lines_of entries)) where
+  abbrev lines : List Line
+  lines = lines_of entries
+
   grounded_there : (e : EventId) → IsIn (events_of lines) e ↔ (IsOn s w e × IsGrounded s e)
   grounded_there e = (
     λ there. (
@@ -120,8 +121,8 @@ module _ (s : Streams) (w : Word) (lines : List Line) (history : IsHistory s w l
   )
 
   -- those that have no line are held
-  pub others_are_held : (known : List (EventId × Details)) → IsDistinct same_event (keys_of known) → AreAccesses s w known → (held : List EventId) × AreHeld s w held × (length lines + length held ≡ length known)
+  pub others_are_held : (known : List (EventId × Details)) → IsDistinct same_event (keys_of known) → AreAccesses s w known → (held : List EventId) × AreHeld s w held × (length entries + length held ≡ length known)
   others_are_held known distinct are =
       let once = those_once (IsOn s w) history.order (events_of lines) history.along.events history.whole.lawful.once in
       let left = held_are_left s w known distinct are (events_of lines) once grounded_there in
-      (left.0, left.1, ap (λ n. n + length left.0) (sym (length-map lines (λ l. l.event))) ∙ left.2)
+      (left.0, left.1, ap (λ n. n + length left.0) (sym (length-map lines (λ l. l.event) ∙ length_below [] entries)) ∙ left.2)

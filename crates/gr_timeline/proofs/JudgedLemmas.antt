@@ -1,13 +1,12 @@
 -- Where all that can be handled was handled, the events that are grounded are the first ones of their items.
-use Rattle.std.proofs.Common.{◌≡◌, ◌↔◌, ℕ, ◌+◌, ◌-◌, ◌<◌, ◌≤◌, List, drop, slice_get, refl, sym, ap, ◌∙◌, subst, ⊎_elim, arith}
+use Rattle.std.proofs.Common.{◌≡◌, ◌↔◌, ℕ, ◌+◌, ◌-◌, ◌<◌, ◌≤◌, List, drop, slice_get, refl, sym, ap, ◌∙◌, ⊎_elim, arith}
 use Rattle.std.proofs.lemmas.Bool.{cases_lt}
 use Rattle.std.proofs.lemmas.Grind.{common_steps}
 use Rattle.std.proofs.lemmas.Option.{gets}
-use Rattle.gr_model.specs.declared.event.Event.{Event}
 use Rattle.gr_model.specs.declared.event.EventId.{EventId}
 use Rattle.gr_model.specs.declared.event.ItemId.{ItemId}
 use Rattle.gr_model.specs.LawfulOrders.{IsIn, IsWholeOrder}
-use Rattle.gr_model.specs.Streams.{Streams, event_at, trace_of}
+use Rattle.gr_model.specs.Streams.{Streams, event_at}
 use Rattle.gr_model.specs.Waits.{IsGrounded}
 use Rattle.gr_clocks.specs.Counts.{Counts, count_of}
 use Rattle.gr_windows.specs.Windows.{AreWaiting, Table, window_of}
@@ -20,18 +19,22 @@ use Rattle.gr_timeline.specs.Waiting.{ForgetsGrounded}
 slice_get-drop : {X : Type 0} (n : ℕ) (xs : List X) (k : ℕ) → slice_get (drop n xs) k ≡ slice_get xs (n + k)
 slice_get-drop n xs k = grind (arith, common_steps, gets)
 
-module _ (s : Streams) (q : Sequence) (is : q.taken ≡ s) (done : IsDone q) where
+module _ (s : Streams) (q v : Sequence) (same : q ≡ v) (view : v.taken ≡ s) (done : IsDone v) where
   handled_grounded : (e : EventId) → IsIn q.handled e ↔ IsGrounded s e
-  handled_grounded e = subst (λ (t : Streams). IsIn q.handled e ↔ IsGrounded t e) is (done.grounded e)
+  handled_grounded e = rw (same, ← view) (done.grounded e)
 
   pub whole_order : IsSequence q → IsWholeOrder s q.handled
-  whole_order sequence = subst (λ (t : Streams). IsWholeOrder t q.handled) is (record { lawful = sequence.lawful; whole = λ e grounded. (done.grounded e).1 grounded })
+  whole_order sequence = record { lawful = rw (← view, ← same) sequence.lawful; whole = λ e grounded. (handled_grounded e).1 grounded }
+
+  -- what was handled of the records is grounded, where no step is left
+  pub forgets_grounded : (r : Remembered) → r.streams ≡ s → ForgetsHandled r q.handled → ForgetsGrounded r
+  forgets_grounded r taken forgets e k at below = rw taken ((handled_grounded e).0 (forgets.handled e k at below))
 
   module _ (frontier : Counts) (first : AreBelowFrontier q.handled frontier) where
     pub first_grounded : (item : ItemId) (index : ℕ) → index ≡ count_of frontier item → (e : EventId) → e.at ≡ item → IsGrounded s e ↔ (e.index < index)
     first_grounded item index count e at =
         let here : count_of frontier e.at ≡ index = ap (count_of frontier) at ∙ sym count in (
-          λ grounded. let lt = (first e).0 ((handled_grounded e).1 grounded) in omega (arith, lt, here),
+          λ grounded. omega (arith, (first e).0 ((handled_grounded e).1 grounded), here),
           λ lt. (handled_grounded e).0 ((first e).1 (let below : e.index < count_of frontier e.at = omega (arith, lt, here) in below)),
         )
 
@@ -40,15 +43,5 @@ module _ (s : Streams) (q : Sequence) (is : q.taken ≡ s) (done : IsDone q) whe
 
     pub record_waits : (w : Table) → AreWaiting q.taken frontier w → (e : EventId) → ¬ IsGrounded s e → slice_get (window_of w e.at) (e.index - count_of frontier e.at) ≡ event_at s e
     record_waits w waits e held =
-        let le = not_below e held in
-        ap (λ (xs : List Event). slice_get xs (e.index - count_of frontier e.at)) (waits.each e.at)
-        ∙ (slice_get-drop (count_of frontier e.at) (trace_of q.taken e.at) (e.index - count_of frontier e.at)
-        ∙ (ap (slice_get (trace_of q.taken e.at)) (let n : count_of frontier e.at + (e.index - count_of frontier e.at) ≡ e.index = omega (arith, le) in n)
-        ∙ ap (λ (t : Streams). event_at t e) is))
-
--- ---- what is forgotten is grounded
-
--- what was handled of the records is grounded, where no step is left
-pub forgets_grounded : (s : Streams) (q : Sequence) → q.taken ≡ s → IsDone q → (r : Remembered) → r.streams ≡ s → ForgetsHandled r q.handled → ForgetsGrounded r
-forgets_grounded s q is done r same forgets e k at below =
-    subst (λ (t : Streams). IsGrounded t e) (is ∙ sym same) ((done.grounded e).0 (forgets.handled e k at below))
+        let n : count_of frontier e.at + (e.index - count_of frontier e.at) ≡ e.index = omega (arith, not_below e held) in
+        rw (waits.each e.at, slice_get-drop, n, same, view)

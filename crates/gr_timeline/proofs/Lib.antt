@@ -2,7 +2,6 @@ pub mod SelectionLemmas
 pub mod HistoryLemmas
 pub mod GroupLemmas
 pub mod HeldLemmas
-pub mod DetailLemmas
 pub mod WaitLemmas
 pub mod WalkLemmas
 pub mod JudgedLemmas

@@ -1,10 +1,9 @@
 -- Chains that grow by a link, and the items that a walk has visited.
-use Rattle.std.proofs.Common.{◌≡◌, ℕ, zero, suc, ◌+◌, ◌<◌, List, [], ◌∷◌, ◌++◌, length, Option, Some, slice_get, refl, subst, ⊎_elim, arith, ◌↔◌, Bool, false, IsTrue, true≢false, ◌-◌, None, sym, ap, ◌∙◌}
+use Rattle.std.proofs.Common.{◌≡◌, ℕ, zero, suc, ◌<◌, List, [], ◌∷◌, ◌++◌, length, Option, Some, slice_get, refl, subst, ⊎_elim, arith, ◌↔◌, Bool, false, IsTrue, true≢false, ◌-◌, None, sym, ap, ◌∙◌}
 use Rattle.std.proofs.lemmas.Option.{gets}
 use Rattle.gr_model.specs.declared.event.EventId.{EventId}
 use Rattle.gr_model.specs.Streams.{Streams, ArePrefixes}
 use Rattle.gr_model.proofs.Places.{slice_get-append}
-use Rattle.gr_steps.proofs.Orders.{split_last}
 use Rattle.gr_timeline.specs.declared.reason.Link.{Link}
 use Rattle.gr_timeline.specs.declared.reason.Reason.{Reason}
 use Rattle.gr_timeline.specs.declared.reason.Reason.TheVariants.{Circle}
@@ -34,6 +33,13 @@ event_stays links more k e at = grind (arith, gets, slice_get-append)
 pub event_within : (links : List Link) (k : ℕ) (e : EventId) → event_of links k ≡ Some e → k < length links
 event_within links k e at = grind (arith, gets)
 
+-- what is so of each link of a list and of one behind it
+pushed_each : {X : Type 0} (P : ℕ → X → Type 0) (xs : List X) (x : X) → ((p : ℕ) (l : X) → slice_get xs p ≡ Some l → P p l) → P (length xs) x → (p : ℕ) (l : X) → slice_get (xs ++ x ∷ []) p ≡ Some l → P p l
+pushed_each P [] x each last zero l at = let h : Some x ≡ Some l = at in let same : x ≡ l = cc in subst (P 0) same last
+pushed_each P [] x each last (suc p) l at = cc
+pushed_each P (y ∷ xs) x each last zero l at = each 0 l at
+pushed_each P (y ∷ xs) x each last (suc p) l at = pushed_each (λ q m. P (suc q) m) xs x (λ q m a. each (suc q) m a) last p l at
+
 module _ (s : Streams) where
   -- and so do their reasons
   pub reason_stays : (links more : List Link) (p : ℕ) (e : EventId) (r : Reason) → IsReason s links p e r → IsReason s (links ++ more) p e r
@@ -48,22 +54,11 @@ module _ (s : Streams) where
   pub chain_more : (e d : EventId) (links : List Link) (r : Reason) → IsHeldEvent s d → IsReason s links (length links) d r → IsChainTo s e links (Some d) → IsChainTo s e (links ++ link_of d r ∷ []) (leads_to r)
   chain_more e d links r held reason chain = record {
     leads = lead_more (Some e) links d r chain.leads;
-    held = λ p l at. ⊎_elim
-        (λ (before : slice_get links p ≡ Some l). chain.held p l before)
-        (λ (last : (i : ℕ) × (p ≡ length links + i) × (slice_get (link_of d r ∷ []) i ≡ Some l)). let is = last_is l last.0 last.2 in subst (λ (m : Link). IsHeldEvent s m.event) is.1 held)
-        (split_last links (link_of d r ∷ []) p l at);
-    reason = λ p l at. ⊎_elim
-        (λ (before : slice_get links p ≡ Some l). reason_stays links (link_of d r ∷ []) p l.event l.reason (chain.reason p l before))
-        (λ (last : (i : ℕ) × (p ≡ length links + i) × (slice_get (link_of d r ∷ []) i ≡ Some l)).
-        let is = last_is l last.0 last.2 in
-        let place : length links ≡ p = omega (arith, last.1, is.0) in
-        reason_stays links (link_of d r ∷ []) p l.event l.reason (subst (λ n. IsReason s links n l.event l.reason) place (subst (λ (m : Link). IsReason s links (length links) m.event m.reason) is.1 reason)))
-        (split_last links (link_of d r ∷ []) p l at);
+    held = pushed_each (λ p l. IsHeldEvent s l.event) links (link_of d r) chain.held held;
+    reason = pushed_each (λ p l. IsReason s (links ++ link_of d r ∷ []) p l.event l.reason) links (link_of d r)
+        (λ p l at. reason_stays links (link_of d r ∷ []) p l.event l.reason (chain.reason p l at))
+        (reason_stays links (link_of d r ∷ []) (length links) d r reason);
   }
-    where
-      last_is : (l : Link) (i : ℕ) → slice_get (link_of d r ∷ []) i ≡ Some l → (i ≡ 0) × (link_of d r ≡ l)
-      last_is l zero at = (refl, let same : Some (link_of d r) ≡ Some l = at in cc)
-      last_is l (suc i) at = cc
 
 module _ (s : Streams) where
   -- an item has one first held event
@@ -80,15 +75,12 @@ module _ (s : Streams) where
   pub visited_stays : (links more : List Link) (visited : Counts) → AreVisited s links visited → AreVisited s (links ++ more) visited
   visited_stays links more visited are = record { shape = are.shape; each = λ i some. linked_stays links more i (are.each i some) }
 
-  last_event : (links : List Link) (e : EventId) (r : Reason) → event_of (links ++ (record { event = e; reason = r }) ∷ []) (length links) ≡ Some e
-  last_event links e r = grind (arith, common_steps, gets)
-
   module _ (e : EventId) (held : IsHeldEvent s e) (first : IsFirstHeld s e) (links : List Link) (before after : Counts) (are : AreVisited s links before) (tick : IsTick before e.at after) where
     pub one_visited : (r : Reason) → AreVisited s (links ++ (record { event = e; reason = r }) ∷ []) after
     one_visited r = record {
       shape = tick.shape ∙ are.shape;
       each = λ i some. ⊎_elim
-          (λ (here : e.at ≡ i). record { place = length links; event = e; item = here; first = first; linked = last_event links e r })
+          (λ (here : e.at ≡ i). record { place = length links; event = e; item = here; first = first; linked = grind (arith, common_steps, gets) })
           (λ (apart : e.at ≡ i → ⊥). linked_stays links ((record { event = e; reason = r }) ∷ []) i (are.each i (let none = tick_there e.at i apart in let counts = tick.counts i in omega (arith, some, none, counts))))
           (item_cases e.at i);
     }

@@ -5,8 +5,7 @@ use Rattle.gr_timeline.proofs.accesses.add_group.Goals as goal
 
 pub index-count-requires : goal.index-count-requires
 index-count-requires g c =
-    let within = item_within c.args.items c.loop-number.number c.args.list.now c.index-list-number.result c.requires.accepted c.loop-number-test.true c.index-list-number.is c.loop-number.counts.items c.loop-number.invariant.counts in
-    omega (arith, within, c.loop-number.counts.ok)
+    omega (arith, item_within c.args.items c.loop-number.number c.args.list.now c.index-list-number.result c.requires.accepted c.loop-number-test.true c.index-list-number.is c.loop-number.counts.items c.loop-number.invariant.counts, c.loop-number.counts.ok)
 
 pub count_record-requires-clause-item : goal.count_record-requires-clause-item
 count_record-requires-clause-item g c =

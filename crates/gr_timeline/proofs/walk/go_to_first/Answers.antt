@@ -1,8 +1,4 @@
-use Rattle.std.proofs.Common.{List, Some, subst, sym}
-use Rattle.gr_timeline.specs.declared.reason.Link.{Link}
 use Rattle.gr_timeline.specs.declared.reason.Reason.TheVariants.{Behind}
-use Rattle.gr_timeline.specs.Chains.{IsChainTo}
-use Rattle.gr_timeline.specs.Walks.{AreVisited}
 use Rattle.gr_timeline.proofs.WalkLemmas.{chain_more, visited_stays}
 use Rattle.gr_timeline.proofs.WaitLemmas.{earlier_there}
 use Rattle.gr_timeline.proofs.walk.go_to_first.Goals as goal
@@ -14,11 +10,8 @@ returns-in_ok-add_link-in-Some-clause-held g c =
 
 pub returns-in_ok-add_link-in-Some-clause-chain : goal.returns-in_ok-add_link-in-Some-clause-chain
 returns-in_ok-add_link-in-Some-clause-chain g c e chain =
-    let s = c.args.judged.now in
-    subst (λ (links : List Link). IsChainTo s e links (Some c.in-Some.first)) (sym c.in_ok-add_link-in-Some.ensures)
-    (chain_more s e c.args.event c.args.links.now.items (Behind c.in-Some.first) c.requires.held c.in-Some.ensures chain)
+    rw c.in_ok-add_link-in-Some.ensures (chain_more c.args.judged.now e c.args.event c.args.links.now.items (Behind c.in-Some.first) c.requires.held c.in-Some.ensures chain)
 
 pub returns-in_ok-add_link-in-Some-clause-visited : goal.returns-in_ok-add_link-in-Some-clause-visited
 returns-in_ok-add_link-in-Some-clause-visited g c visited are =
-    let s = c.args.judged.now in
-    subst (λ (links : List Link). AreVisited s links visited) (sym c.in_ok-add_link-in-Some.ensures) (visited_stays s c.args.links.now.items _ visited are)
+    rw c.in_ok-add_link-in-Some.ensures (visited_stays c.args.judged.now c.args.links.now.items _ visited are)

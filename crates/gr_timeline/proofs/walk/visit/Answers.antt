@@ -1,5 +1,3 @@
-use Rattle.std.proofs.Common.{List, ℕ, subst, sym}
-use Rattle.gr_model.specs.Shapes.{HasItem}
 use Rattle.gr_steps.proofs.EventRecords.{group_of_event, item_of_event}
 use Rattle.gr_timeline.specs.Chains.{leads_to}
 use Rattle.gr_timeline.proofs.WalkLemmas.{event_within, fewer, if_some_all, linked, one_visited, visited_stays, zero_if}
@@ -17,11 +15,8 @@ returns-then-covers-clause-visited g c = visited_stays c.args.judged.now c.args.
 
 pub raise-requires-clause-item : goal.raise-requires-clause-item
 raise-requires-clause-item g c =
-    let s = c.args.judged.now in
-    let prefixes = c.lanes-lanes.ensures.prefixes in
-    let e = c.args.event in
     let there = c.requires.held.event in
-    subst (λ (sizes : List ℕ). HasItem sizes e.at) (sym c.requires.visited.shape) (group_of_event s prefixes e there.0 there.1, item_of_event s prefixes e there.0 there.1)
+    rw c.requires.visited.shape (group_of_event _ c.lanes-lanes.ensures.prefixes c.args.event there.0 there.1, item_of_event _ c.lanes-lanes.ensures.prefixes c.args.event there.0 there.1)
 
 pub returns-clause-visited : goal.returns-clause-visited
 returns-clause-visited g c =
@@ -29,6 +24,4 @@ returns-clause-visited g c =
 
 pub returns-clause-fewer : goal.returns-clause-fewer
 returns-clause-fewer g c =
-    let s = c.args.judged.now in
-    let fresh = zero_if c.covers.result _ c.covers.ensures c.if-covers.false in
-    if_some_all _ (leads_to c.reason_of.result) (fewer s c.args.event c.requires.held c.requires.first c.args.links.now c.args.visited.now c.raise.new.self c.requires.visited c.raise.ensures c.lanes-lanes.ensures.prefixes fresh)
+    if_some_all _ (leads_to c.reason_of.result) (fewer c.args.judged.now c.args.event c.requires.held c.requires.first c.args.links.now c.args.visited.now c.raise.new.self c.requires.visited c.raise.ensures c.lanes-lanes.ensures.prefixes (zero_if c.covers.result _ c.covers.ensures c.if-covers.false))

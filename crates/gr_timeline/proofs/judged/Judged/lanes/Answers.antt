@@ -1,12 +1,11 @@
-use Rattle.std.proofs.Common.{refl, subst, sym}
-use Rattle.gr_order.specs.Sequences.{IsDone}
+use Rattle.std.proofs.Common.{ap, refl, sym}
+use Rattle.gr_order.specs.Sequences.{Sequence}
 use Rattle.gr_timeline.proofs.JudgedLemmas.{forgets_grounded, whole_order}
 use Rattle.gr_timeline.proofs.judged.Judged.lanes.Goals as goal
 
 pub returns-clause-whole : goal.returns-clause-whole
 returns-clause-whole g c =
-    let q = c.self.inside.sequencer in
-    (q.handled, whole_order c.args.self.now q c.self.view_is c.self.invariant.0 c.order.ensures.sequence)
+    (c.self.inside.sequencer.handled, whole_order c.args.self.now c.self.inside.sequencer _ refl c.self.view_is c.self.invariant.0 c.order.ensures.sequence)
 
 pub returns-clause-grounded : goal.returns-clause-grounded
-returns-clause-grounded g c = forgets_grounded _ c.order.result.now refl (subst IsDone (sym c.order.ensures.order) c.self.invariant.0) c.lanes.result.now c.lanes.ensures.taken c.lanes.ensures.forgets
+returns-clause-grounded g c = forgets_grounded _ c.order.result.now _ c.order.ensures.order (ap (λ (v : Sequence). v.taken) (sym c.order.ensures.order)) c.self.invariant.0 c.lanes.result.now c.lanes.ensures.taken c.lanes.ensures.forgets
