@@ -38,14 +38,10 @@ module _ (list : List Event) (x : Event) (i : ℕ) where
   trace_other other = filter-append (is_of i) list (x ∷ []) ∙ (ap (λ b. filter (is_of i) list ++ cond b (x ∷ []) []) other ∙ append-nil (filter (is_of i) list))
 
   pub places_here : is_of i x ≡ true → places_from (is_of i) 0 (list ++ x ∷ []) ≡ places_from (is_of i) 0 list ++ length list ∷ []
-  places_here mine =
-      places_from-append (is_of i) 0 list (x ∷ [])
-      ∙ (ap (λ b. places_from (is_of i) 0 list ++ cond b ((0 + length list) ∷ []) []) mine ∙ ap (λ n. places_from (is_of i) 0 list ++ n ∷ []) (omega arith))
+  places_here mine = rw (places_from-append, mine) (ap (λ n. places_from (is_of i) 0 list ++ n ∷ []) (omega arith))
 
   pub places_other : is_of i x ≡ false → places_from (is_of i) 0 (list ++ x ∷ []) ≡ places_from (is_of i) 0 list
-  places_other other =
-      places_from-append (is_of i) 0 list (x ∷ [])
-      ∙ (ap (λ b. places_from (is_of i) 0 list ++ cond b ((0 + length list) ∷ []) []) other ∙ append-nil (places_from (is_of i) 0 list))
+  places_other other = rw (places_from-append, other, append-nil)
 
 -- as many places as elements
 pub length-places : {X : Type 0} (test : X → Bool) (n : ℕ) (xs : List X) → length (places_from test n xs) ≡ length (filter test xs)
