@@ -1,5 +1,4 @@
-use Rattle.std.proofs.Common.{◌≡◌, ◌∙◌, List, ℕ, ap, arith, slice_index, sym}
-use Rattle.gr_model.specs.Streams.{Streams, size_of}
+use Rattle.std.proofs.Common.{◌∙◌, arith, sym}
 use Rattle.gr_timeline.proofs.WaitLemmas.{if_none, one_item_more}
 use Rattle.gr_timeline.proofs.arrivals.late_in.Goals as goal
 
@@ -10,5 +9,5 @@ loop-item-preserved g c =
 
 pub returns : goal.returns
 returns g c b d stands p =
-    let size : c.items-item-end.result ≡ size_of c.args.judged.now c.args.group = c.items-item-end.ensures.size ∙ (ap (λ (sizes : List ℕ). slice_index sizes c.args.group) c.shape.ensures.sizes ∙ ap (λ (s : Streams). size_of s c.args.group) c.lanes.ensures.taken) in
+    let size = rw (c.shape.ensures.sizes, c.lanes.ensures.taken) at c.items-item-end.ensures.size in
     c.loop-item.invariant b d (omega (arith, size, stands.item, c.loop-item-test.false)) stands p
