@@ -1,5 +1,5 @@
 -- The pairs of a later access with the accesses of some items.
-use Rattle.std.proofs.Common.{◌↔◌, ◌≡◌, ◌≢◌, ◌⊎◌, ◌≤◌, IsTrue, List, [], ◌∷◌, ◌++◌, Option, Some, None, sym, ap, ◌∙◌, inl, inr, ⊎_elim, arith, true≢false}
+use Rattle.std.proofs.Common.{◌↔◌, ◌≡◌, ◌≢◌, ◌⊎◌, ◌≤◌, IsTrue, List, [], ◌∷◌, ◌++◌, Option, Some, None, sym, ap, ◌∙◌, inl, inr, ⊎_elim, arith, refl, true≢false}
 use Rattle.std.specs.BTreeMap.{is_at}
 use Rattle.std.proofs.lemmas.Bool.Decides.{nat_tests}
 use Rattle.std.proofs.lemmas.List.Folds.{list_any-append}
@@ -107,3 +107,8 @@ module _ (seen : SeenList) (y : ClockedAccess) (before : List ItemId) (i : ItemI
         pair_not_below with.earlier (event_of y) p l with.turned (below_later l.0 with.earlier i (rw same at passed.item_below) later) (rw same at passed.event_below))
         (later_item before i items with.earlier.at sorted (have with.earlier with.clashing.among))) d,
   )
+
+-- where a later access clashes with none, the least pair stays
+pub least_if_none : (seen : SeenList) (y : ClockedAccess) (least : Option Pair) → ((e : EventId) → ¬ IsClashing seen y e) → IsLeastOf (λ p. (least ≡ Some p) ⊎ IsPairWith seen y p) least
+least_if_none seen y None none = λ p h. ⊎_elim (λ same. absurd cc) (λ w. none w.earlier w.clashing) h
+least_if_none seen y (Some l) none = (inl refl, λ p h. ⊎_elim (λ same. grind (arith, same)) (λ w. absurd (none w.earlier w.clashing)) h)

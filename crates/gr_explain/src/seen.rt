@@ -97,6 +97,25 @@ impl<A: Allocator + Copy> Seen<A> {
 }
 
 impl<A: Allocator> Seen<A> {
+    /// Whether there are events, all of one work-group.
+    fn is_within(&self, group: u16) -> bool
+        ensures { IsTrue result → (e : EventId) → IsAmong self.now.events e → e.at.group ≡ group }
+    {
+        match (self.events.first(), self.events.last()) {
+            (Some(first), Some(last)) => first.at.group == group && last.at.group == group,
+            _ => false,
+        }
+    }
+
+    /// Whether a later access clashes with none for its class, be it that all are of its work-group. A look at each item finds the same.
+    fn is_exempt(&self, access: &Access<A>) -> bool
+        ensures { IsTrue result → (e : EventId) → ¬ IsClashing self.now (clocked access.now) e }
+    {
+        let group = access.item.group;
+        exempt(self.class, 0, access.class, 1)
+            || (exempt(self.class, group, access.class, group) && self.is_within(group))
+    }
+
     /// The first event of an item with which a later access clashes.
     fn first_of(&self, item: ItemId, access: &Access<A>) -> Option<EventId>
         ensures { IsFirstOf self.now (clocked access.now) item result }
@@ -122,6 +141,9 @@ impl<A: Allocator> Seen<A> {
     ) -> Option<(EventId, EventId)>
         ensures { IsLeastOf (λ p. (least ≡ Some p) ⊎ IsPairWith self.now (clocked access.now) p) result }
     {
+        if self.is_exempt(access) {
+            return least;
+        }
         let mut least = least;
         let event = event_of(access);
         for item in self.items.iter() {

@@ -8,7 +8,7 @@ use Rattle.gr_clocks.specs.ClockedAccess.{clocked}
 use Rattle.gr_shadow.specs.Clashes.{event_of}
 use Rattle.gr_explain.specs.Seen.{HaveItems, IsFirstOf, IsPairWith, SeenList}
 use Rattle.gr_explain.proofs.PairOrder.{least_group, least_same}
-use Rattle.gr_explain.proofs.SeenLemmas.{IsPairOn, first_apart, first_on, least_passed, none_more, on_or_not_below, still_on}
+use Rattle.gr_explain.proofs.SeenLemmas.{IsPairOn, first_apart, first_on, least_if_none, least_passed, none_more, on_or_not_below, still_on}
 use Rattle.gr_explain.proofs.seen.Seen.with_pairs.Goals as goal
 
 pub loop-item-preserved-in-None-first_of : goal.loop-item-preserved-in-None-first_of
@@ -59,3 +59,6 @@ returns-then-is_passed g c =
     let left : before ++ i ∷ c.next.new.self ≡ c.self.inside.items.keys = sym (so_far ∙ ap (λ l. before ++ l) now) ∙ (c.into_iter-item-iterator.ensures.into_iter_gives ∙ c.iter-item-items.ensures.rest) in
     let have : HaveItems c.self.inside.items.keys seen.events = subst (λ (s : SeenList). HaveItems c.self.inside.items.keys s.events) c.self.view_is c.self.invariant in
     least_passed seen (clocked c.args.access.now) before i c.next.new.self (rw left have) (rw left c.iter-item-items.ensures.ordered) c.args.least c.loop-item.least (rw c.event_of-event.ensures at (c.is_passed.ensures c.if-is_passed.true)) c.loop-item.invariant
+
+pub returns-then-is_exempt : goal.returns-then-is_exempt
+returns-then-is_exempt g c = least_if_none c.args.self.now (clocked c.args.access.now) c.args.least (c.is_exempt.ensures c.if-is_exempt.true)
