@@ -1,7 +1,8 @@
 //! How the accesses of a history stand to those above them: what text and JSON show of their clocks. No clause speaks of it.
 //!
-//! Of each work-group it is kept how many of its accesses the clock of the last access counts. The next clock is looked at group by
-//! group, and item by item only in a group of which neither clock counts nothing, and not the later one all that the earlier does.
+//! Of each work-group it is kept how many of its accesses the clock of the last access counts. The next clock is compared group by group.
+//! It is compared item by item only where the group's counts may differ: not where both clocks count none of its accesses, nor where the
+//! later one comes after the earlier and that counts them all.
 
 use crate::entry::Entry;
 use gr_clocks::clock::Clock;
