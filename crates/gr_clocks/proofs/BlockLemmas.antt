@@ -1,5 +1,5 @@
 -- The counts of all items, as rows of one group each: what is joined and written.
-use Rattle.std.proofs.Common.{◌≡◌, ◌≢◌, ℕ, zero, ◌+◌, ◌<◌, ◌≤◌, max, List, [], ◌∷◌, ◌++◌, length, slice_index, get_or, replicate, ◌∙◌, ap, arith}
+use Rattle.std.proofs.Common.{◌≡◌, ◌≢◌, ℕ, ◌<◌, ◌≤◌, max, List, [], ◌∷◌, ◌++◌, length, slice_index, get_or, replicate, ◌∙◌, arith}
 use Rattle.std.proofs.lemmas.List.{get_or_past, get_or_push, get_or_append_left, length_push, length-map, length-replicate, get_or-replicate, ext_get_or}
 use Rattle.std.proofs.Math.ListN.{get_or-map}
 use Rattle.gr_model.specs.declared.event.ItemId.{ItemId}
@@ -9,7 +9,7 @@ use Rattle.gr_clocks.specs.declared.clock.TheConstants.{LARGEST_COUNT}
 use Rattle.gr_clocks.specs.Blocks.{IsBlock, IsRowJoin, IsRowWith}
 use Rattle.gr_clocks.specs.Counts.{Counts, count_of, sizes_of, CountSame, IsZero}
 use Rattle.gr_clocks.specs.Owned.{with_count}
-use Rattle.gr_clocks.proofs.RowLemmas.{each_push, one_item}
+use Rattle.gr_clocks.proofs.RowLemmas.{one_item}
 
 -- ---- nothing is counted
 
@@ -25,38 +25,21 @@ small_at : (row : List ℕ) (most p : ℕ) → IsBlock row most → slice_index 
 small_at row most p block = grind (arith, All-get_or (λ (n : ℕ). n ≤ most) row p 0, get_or_past, block.below)
 
 -- what is joined is not above the greater limit
-pub joined_block : (mine theirs joined : List ℕ) (m n : ℕ) → IsBlock mine m → IsBlock theirs n → IsRowJoin mine theirs joined → IsBlock joined (max m n)
-joined_block mine theirs joined m n first second join = record {
+pub joined_block : {mine theirs joined : List ℕ} {m n : ℕ} → IsBlock mine m → IsBlock theirs n → IsRowJoin mine theirs joined → IsBlock joined (max m n)
+joined_block {mine} {theirs} {joined} {m} {n} first second join = record {
   below = All-from_get_or (λ (x : ℕ). x ≤ max m n) joined 0 (λ p there. omega (arith, join.counts p, small_at mine m p first, small_at theirs n p second));
   limit = omega (arith, first.limit, second.limit);
 }
 
-pub with_block : (mine changed : List ℕ) (m place count : ℕ) → IsBlock mine m → count ≤ LARGEST_COUNT → IsRowWith mine place count changed → IsBlock changed (max m count)
-with_block mine changed m place count block small with = record {
+pub with_block : {mine changed : List ℕ} {m place count : ℕ} → IsBlock mine m → count ≤ LARGEST_COUNT → IsRowWith mine place count changed → IsBlock changed (max m count)
+with_block {mine} {changed} {m} {place} {count} block small with = record {
   below = All-from_get_or (λ (x : ℕ). x ≤ max m count) changed 0 (λ p there. grind (arith, with.here, with.others p, small_at mine m p block));
   limit = omega (arith, block.limit);
 }
 
--- ---- joins
-
--- a join with a group that the others lack
-pub join_past : (mine joined : List ℕ) (theirs : Counts) (g : ℕ) → length theirs ≤ g → joined ≡ mine → IsRowJoin mine (get_or theirs g []) joined
-join_past mine joined theirs g past is = record { counts = λ p. grind (arith, get_or_past) }
-
--- one row more is joined
-pub rows_joined_more : (mine theirs made more : Counts) (row : List ℕ) (n : ℕ) → length made ≡ n → ((p : ℕ) → p < n → IsRowJoin (get_or mine p []) (get_or theirs p []) (get_or made p [])) → IsRowJoin (get_or mine n []) (get_or theirs n []) row → more ≡ made ++ row ∷ [] → record { count : length more ≡ n + 1; joined : (p : ℕ) → p < n + 1 → IsRowJoin (get_or mine p []) (get_or theirs p []) (get_or more p []) }
-rows_joined_more mine theirs made more row n size rows join is = record {
-  count = ap length is ∙ length_push made row ∙ ap (λ (m : ℕ). m + 1) size;
-  joined = each_push (λ p. IsRowJoin (get_or mine p []) (get_or theirs p [])) [] made more row n size rows join is;
-}
-
--- a default behind the others changes nothing
-pub push_default : {X : Type 0} (none : X) (xs : List X) (p : ℕ) → get_or (xs ++ none ∷ []) p none ≡ get_or xs p none
-push_default none xs p = grind (arith, get_or_push, get_or_append_left, get_or_past, length_push)
-
--- neither does an empty row
+-- an empty row behind the others changes nothing
 pub push_empty : (c : Counts) → CountSame (c ++ [] ∷ []) c
-push_empty c j = ap (λ (r : List ℕ). slice_index r j.item) (push_default [] c j.group)
+push_empty c j = grind (arith, get_or_push, get_or_append_left, get_or_past, length_push)
 
 -- ---- one item's count in place of the one there
 

@@ -14,41 +14,39 @@ cases_item i j = grind (arith, nat_tests, one_item i j)
 pub not_ticked : (i j : ItemId) → i ≢ j → tick_at i j ≡ 0
 not_ticked i j other = grind (arith, nat_tests, one_item i j)
 
--- what a clock counts: its own count of its item, and the shared ones of the others
-pub own_count : (o : OwnCounts) → count_of (counts_of o) o.item ≡ o.count
-own_count o = with_same o.base o.item o.count
-
-pub other_count : (o : OwnCounts) (j : ItemId) → o.item ≢ j → count_of (counts_of o) j ≡ count_of o.base j
-other_count o j other = with_other o.base o.item o.count j other
-
 -- a count that stands in place of one like it changes nothing
 pub with_own : (c : Counts) (i : ItemId) (n : ℕ) → n ≡ count_of c i → CountSame (with_count c i n) c
 with_own c i n is j = grind (arith, with_same, with_other, cases_item i j)
-
--- where the count of a clock's item is put in, all is counted that the clock counts
-pub own_whole : (o : OwnCounts) (base whole : Counts) → IsOwn o → base ≡ o.base → IsRaisedTo base o.item o.count whole → CountSame whole (counts_of o)
-own_whole o base whole own is raised j = grind (arith, with_same, with_other, cases_item o.item j, raised.item, raised.others j, own.above)
-
--- the item's own count grows by one
-pub own_tick : (o : OwnCounts) (n : ℕ) → n ≡ o.count + 1 → CountsOneMore (counts_of o) o.item (with_count o.base o.item n)
-own_tick o n is = record { counts = λ j. grind (arith, nat_tests, with_same, with_other, cases_item o.item j) }
-
--- and is still one that a clock may have
-pub own_room : (o : OwnCounts) (v : Counts) (i : ItemId) → counts_of o ≡ v → o.item ≡ i → count_of v i ≢ LARGEST_COUNT → IsOwn o → IsOwn (record { base = o.base; item = o.item; count = o.count + 1 })
-own_room o v i is same room own = record { above = omega (arith, own.above); limit = grind (arith, own_count o, own.limit) }
 
 -- one more event than counts that are shared
 pub shared_tick : (mine base : Counts) (i : ItemId) (n : ℕ) → CountSame base mine → n ≡ count_of base i + 1 → CountsOneMore mine i (with_count base i n)
 shared_tick mine base i n same count = record { counts = λ j. grind (arith, nat_tests, with_same, with_other, cases_item i j, same j) }
 
--- counts that learn what a clock counts: first those that it shares, and then its own
-pub join_with_own : (p : OwnCounts) (mine joined raised_join : Counts) → IsOwn p → IsJoin mine p.base joined → IsRaisedTo joined p.item p.count raised_join → IsJoin mine (counts_of p) raised_join
-join_with_own p mine joined raised_join own join raised = record {
-  counts = λ j. grind (arith, with_same, with_other, cases_item p.item j, join.counts j, raised.item, raised.others j, own.above);
-}
+module _ {o : OwnCounts} (own : IsOwn o) where
+  -- of other items it counts what it shares
+  pub others_count : (v base : Counts) (j : ItemId) → counts_of o ≡ v → base ≡ o.base → o.item ≢ j → count_of v j ≡ count_of base j
+  others_count v base j is shared other = grind (arith, with_other)
 
--- a clock whose shared counts learned what another clock counts
-pub own_join : (o : OwnCounts) (theirs base : Counts) (count : ℕ) → IsOwn o → IsJoin o.base theirs base → count ≡ max o.count (count_of base o.item) → IsJoin (counts_of o) theirs (with_count base o.item count)
-own_join o theirs base count own join is_count = record {
-  counts = λ j. grind (arith, with_same, with_other, cases_item o.item j, join.counts j, own.above);
-}
+  -- where the count of a clock's item is put in, all is counted that the clock counts
+  pub own_whole : {base whole : Counts} → base ≡ o.base → IsRaisedTo base o.item o.count whole → CountSame whole (counts_of o)
+  own_whole shared raised j = grind (arith, with_same, with_other, cases_item o.item j, raised.item, raised.others j, own.above)
+
+  -- the item's own count grows by one
+  pub own_tick : {i : ItemId} → o.item ≡ i → CountsOneMore (counts_of o) i (with_count o.base o.item (o.count + 1))
+  own_tick same = record { counts = λ j. grind (arith, nat_tests, with_same, with_other, cases_item o.item j) }
+
+  -- and is still one that a clock may have
+  pub own_room : (v : Counts) (i : ItemId) → counts_of o ≡ v → o.item ≡ i → count_of v i ≢ LARGEST_COUNT → IsOwn (record { base = o.base; item = o.item; count = o.count + 1 })
+  own_room v i is same room = record { above = omega (arith, own.above); limit = grind (arith, with_same, own.limit) }
+
+  -- counts that learn what a clock counts: first those that it shares, and then its own
+  pub join_with_own : {mine shared joined raised_join : Counts} → shared ≡ o.base → IsJoin mine shared joined → IsRaisedTo joined o.item o.count raised_join → IsJoin mine (counts_of o) raised_join
+  join_with_own {joined} is join raised = record {
+    counts = λ j. grind (arith, with_same, with_other, cases_item o.item j, join.counts j, raised.item, raised.others j, own.above);
+  }
+
+  -- a clock whose shared counts learned what another clock counts
+  pub own_join : {shared theirs base : Counts} (count : ℕ) → shared ≡ o.base → IsJoin shared theirs base → count ≡ max o.count (count_of base o.item) → IsJoin (counts_of o) theirs (with_count base o.item count)
+  own_join count is join is_count = record {
+    counts = λ j. grind (arith, with_same, with_other, cases_item o.item j, join.counts j, own.above);
+  }

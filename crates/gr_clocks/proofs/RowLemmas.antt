@@ -1,8 +1,8 @@
 -- Tables with an entry for each work-item: what stands at an item, and what is written there.
-use Rattle.std.proofs.Common.{◌≡◌, ◌≢◌, ℕ, ◌+◌, ◌<◌, true, List, [], ◌∷◌, ◌++◌, map, length, slice_index, get_or, set, arith}
+use Rattle.std.proofs.Common.{◌≡◌, ◌≢◌, ℕ, ◌+◌, ◌<◌, true, List, [], ◌∷◌, ◌++◌, map, length, slice_index, get_or, set, ap, ◌∙◌, arith}
 use Rattle.std.proofs.lemmas.Bool.Decides.{nat_tests}
 use Rattle.std.proofs.lemmas.Grind.{get_or-set_at}
-use Rattle.std.proofs.lemmas.List.{length-map, get_or-set_same, get_or-set_other, get_or_push, get_or_append_left}
+use Rattle.std.proofs.lemmas.List.{length-map, get_or-set_same, get_or-set_other, get_or_push, get_or_append_left, length_push, set-get_or}
 use Rattle.std.proofs.Math.ListN.{get_or-map}
 use Rattle.gr_model.specs.declared.event.ItemId.{ItemId}
 use Rattle.gr_model.specs.Shapes.{HasItem}
@@ -40,6 +40,21 @@ entry_other none t i x j group other = grind (arith, get_or-set_at, get_or-set_o
 pub each_push : {X : Type 0} (P : ℕ → X → Type 0) (none : X) (xs more : List X) (x : X) (n : ℕ) → length xs ≡ n → ((k : ℕ) → k < n → P k (get_or xs k none)) → P n x → more ≡ xs ++ x ∷ [] → (k : ℕ) → k < n + 1 → P k (get_or more k none)
 each_push P none xs more x n size each last is k below = grind (arith, get_or_push, get_or_append_left)
 
+-- so many elements, of each of which this holds at its place
+pub record AreEach {X : Type 0} (P : ℕ → X → Type 0) (none : X) (xs : List X) (n : ℕ) : Type 0 where
+  pub size : length xs ≡ n
+  pub each : (k : ℕ) → k < n → P k (get_or xs k none)
+
+pub more_are_each : {X : Type 0} {P : ℕ → X → Type 0} {none : X} {xs more : List X} {x : X} {n : ℕ} → AreEach P none xs n → more ≡ xs ++ x ∷ [] → P n x → AreEach P none more (n + 1)
+more_are_each {P} {none} {xs} {more} {x} {n} are is last = record {
+  size = grind (arith, are.size, length_push);
+  each = each_push P none xs more x n are.size are.each last is;
+}
+
 -- with another element at one place
 pub each_set : {X : Type 0} (P : ℕ → X → Type 0) (none : X) (xs : List X) (p : ℕ) (x : X) → p < length xs → P p x → (k : ℕ) → (k ≢ p → P k (get_or xs k none)) → P k (get_or (set xs p x) k none)
 each_set P none xs p x there here k others = grind (arith, get_or-set_at, get_or-set_other)
+
+-- what is put in the place of an element like it
+pub put_back : {X : Type 0} (xs : List X) (p : ℕ) (x y : X) → y ≡ x → x ≡ get_or xs p x → set xs p y ≡ xs
+put_back xs p x y same reads = ap (set xs p) (same ∙ reads) ∙ set-get_or xs p x

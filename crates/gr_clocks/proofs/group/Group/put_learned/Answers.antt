@@ -1,10 +1,6 @@
-use Rattle.std.proofs.Common.{◌<◌, [], length, get_or, ap, sym, subst, arith}
-use Rattle.gr_clocks.specs.Groups.{GroupClocks, clock_in_group, IsGrown}
 use Rattle.gr_clocks.proofs.GroupLemmas.{group_learned}
 use Rattle.gr_clocks.proofs.group.Group.put_learned.Goals as goal
 
 pub invariant_of-self : goal.invariant_of-self
 invariant_of-self g c =
-    let there : c.args.item < length c.self.inside.clocks.items = omega (arith, c.requires.item, ap (λ (x : GroupClocks). length x.clocks) c.self.view_is) in
-    let grown : IsGrown (get_or c.self.inside.clocks.items c.args.item []) c.args.clock = subst (λ (x : GroupClocks). IsGrown (clock_in_group x c.args.item) c.args.clock) (sym c.self.view_is) c.requires.grown in
-    group_learned c.self.inside.number c.self.inside.met.value c.self.inside.clocks.items c.self.inside.learned.items c.self.invariant c.args.item c.args.clock there grown
+    group_learned c.self.invariant c.args.item c.args.clock (rw (← c.self.view_is) at c.requires.item) (rw (← c.self.view_is) at c.requires.grown)

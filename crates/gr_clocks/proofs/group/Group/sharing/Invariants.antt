@@ -1,6 +1,7 @@
-use Rattle.std.proofs.Common.{◌≡◌, ℕ, ◌<◌, length, get_or, []}
+use Rattle.std.proofs.Common.{[]}
 use Rattle.gr_clocks.specs.Counts.{CountSame}
+use Rattle.gr_clocks.proofs.RowLemmas.{AreEach}
 use Rattle.gr_clocks.proofs.group.Group.sharing.Given as goal
 
 abbrev pub invariant-loop-item : goal.invariant-loop-item
-invariant-loop-item g l = record { count : length l.clocks.items ≡ l.item; shared : (k : ℕ) → k < l.item → CountSame (get_or l.clocks.items k []) l.met.value }
+invariant-loop-item g l = AreEach (λ k c. CountSame c l.met.value) [] l.clocks.items l.item

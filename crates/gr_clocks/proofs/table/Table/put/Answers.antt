@@ -2,4 +2,4 @@ use Rattle.gr_clocks.proofs.TableLemmas.{put_table}
 use Rattle.gr_clocks.proofs.table.Table.put.Goals as goal
 
 pub returns : goal.returns
-returns g c = put_table c.self.inside.groups.items c.args.self.now c.self.invariant c.self.view_is c.args.group c.args.behind c.requires.there c.requires.same
+returns g c = put_table c.self.inside.groups.items c.self.invariant c.self.view_is c.args.group c.args.behind
