@@ -1,23 +1,23 @@
 -- What is read is in range, and is spelled so.
-use Rattle.std.proofs.Common.{◌≡◌, ℕ, zero, suc, ◌+◌, ◌*◌, ◌/◌, ◌%◌, ◌<◌, ◌≤◌, true, false, cond, List, [], ◌∷◌, length, take, Option, Some, None, Ok, Err, refl, ap, subst, ◌∙◌, arith}
+use Rattle.std.proofs.Common.{◌≡◌, ℕ, zero, suc, ◌+◌, ◌*◌, ◌/◌, ◌%◌, ◌<◌, ◌≤◌, true, false, cond, List, [], ◌∷◌, length, take, drop, ◌++◌, sym, Option, Some, None, Ok, Err, refl, subst, ◌∙◌, arith}
 use Rattle.std.specs.Prelude.{nat_lt, nat_le, ◌==◌, ◌||◌, not, slice_index}
-use Rattle.std.proofs.lemmas.Bool.{eqb-true, ltb-true, ltb-false, leb-false, not-false}
+use Rattle.std.proofs.lemmas.Bool.{leb-false, not-false}
 use Rattle.std.proofs.lemmas.Bool.Decides.{nat_tests}
+use Rattle.std.proofs.lemmas.List.{take-append-drop, take-take, drop-take, length-drop}
 use Rattle.gr_model.specs.declared.event.Event.{Event}
 use Rattle.gr_model.specs.Events.{IsKindOk, IsEventOk}
 use Rattle.gr_record.specs.declared.error.RecordError.TheVariants as errors
 use Rattle.gr_record.specs.declared.header.Header.{Header}
 use Rattle.gr_record.specs.declared.header.Version.{Version}
-use Rattle.gr_record.specs.declared.header.Version.TheVariants.{One, Two, Three, Four}
 use Rattle.gr_record.specs.Versions.{places, has_sites, record_length, most_groups, most_items}
 use Rattle.gr_record.specs.Spelling.{kind_bytes, names_bytes, version_byte, header_spelling, IsHeader}
 use Rattle.gr_record.specs.Sites.{IsSite}
-use Rattle.gr_record.specs.Reading.{field, site_at, is_field_ok, kind_of, space_at, names_in, names_at, is_order_ok, is_naming_ok, event_at, version_of, header_behind, header_at}
+use Rattle.gr_record.specs.Reading.{field, site_at, is_field_ok, kind_of, space_at, names_at, is_order_ok, is_naming_ok, event_at, version_of, header_behind, header_at}
 use Rattle.gr_record.specs.Laws.{AreBytes, ReadIsSpelled, ReadHeaderIsSpelled}
 use Rattle.gr_record.proofs.Fields.{fields_ok}
 use Rattle.gr_record.proofs.Judging.{passed}
 use Rattle.gr_record.proofs.Places.{bytes_drop, fields_and_names, names_prefix, names_few, naming_found}
-use Rattle.gr_record.proofs.Numbers.{two_low, two_high, four, space_again, scope_again, order_again, bit_again, flags_again}
+use Rattle.gr_record.proofs.Numbers.{two, four}
 
 -- what the bytes of a record say
 abbrev said : Header → List ℕ → Event
@@ -42,52 +42,31 @@ accepted h bytes e is =
 kind_found : (v : Version) (b0 b1 b2 b3 : ℕ) (rest : List ℕ) → nat_lt 6 b0 ≡ false → is_field_ok v b0 1 b1 ≡ true → is_field_ok v b0 2 b2 ≡ true → is_field_ok v b0 3 b3 ≡ true
     → kind_bytes (kind_of (b0 ∷ b1 ∷ b2 ∷ b3 ∷ rest)) (space_at (b0 ∷ b1 ∷ b2 ∷ b3 ∷ rest)) ≡ b0 ∷ b1 ∷ b2 ∷ b3 ∷ []
 unfolding kind_of space_at
-kind_found v zero b1 b2 b3 rest k p q r = rw (space_again b1 (ltb-true b1 2 p), eqb-true b2 0 q, eqb-true b3 0 r) refl
-kind_found v (suc zero) b1 b2 b3 rest k p q r = rw (space_again b1 (ltb-true b1 2 p), eqb-true b2 0 q, eqb-true b3 0 r) refl
-kind_found v (suc (suc zero)) b1 b2 b3 rest k p q r = rw (space_again b1 (ltb-true b1 2 p), scope_again b2 q, order_again b3 r) refl
-kind_found v (suc (suc (suc zero))) b1 b2 b3 rest k p q r = rw (space_again b1 (ltb-true b1 2 p), scope_again b2 q, order_again b3 r) refl
-kind_found v (suc (suc (suc (suc zero)))) b1 b2 b3 rest k p q r = rw (space_again b1 (ltb-true b1 2 p), scope_again b2 q, order_again b3 r) refl
-kind_found v (suc (suc (suc (suc (suc zero))))) b1 b2 b3 rest k p q r = rw (flags_again b1 (ltb-true b1 4 p), eqb-true b2 0 q, eqb-true b3 0 r) refl
-kind_found v (suc (suc (suc (suc (suc (suc zero)))))) b1 b2 b3 rest k p q r = rw (bit_again b1 (ltb-true b1 2 p), eqb-true b2 0 q, eqb-true b3 0 r) refl
-kind_found v (suc (suc (suc (suc (suc (suc (suc b))))))) b1 b2 b3 rest k p q r = absurd (omega (arith, ltb-false 6 _ k))
+kind_found v (suc (suc (suc (suc (suc (suc zero)))))) b1 b2 b3 rest k p q r = grind (arith, nat_tests)
+kind_found v b0 b1 b2 b3 rest k p q r = grind (arith, nat_tests)
 
-module _ (b0 b1 b2 b3 b4 b5 b6 b7 b8 b9 b10 b11 : ℕ) (rest : List ℕ) where
-  abbrev cells : List ℕ
-  cells = b0 ∷ b1 ∷ b2 ∷ b3 ∷ b4 ∷ b5 ∷ b6 ∷ b7 ∷ b8 ∷ b9 ∷ b10 ∷ b11 ∷ rest
-
-  -- the bytes behind the first twelve
-  names_taken : (v : Version) → AreBytes rest → record_length v ≤ length cells
-      → take (record_length v) cells ≡ b0 ∷ b1 ∷ b2 ∷ b3 ∷ b4 ∷ b5 ∷ b6 ∷ b7 ∷ b8 ∷ b9 ∷ b10 ∷ b11 ∷ names_bytes (places v) (names_in (places v) rest)
-  names_taken One fits long = ap (λ (x : List ℕ). b0 ∷ b1 ∷ b2 ∷ b3 ∷ b4 ∷ b5 ∷ b6 ∷ b7 ∷ b8 ∷ b9 ∷ b10 ∷ b11 ∷ x) (names_prefix 1 rest fits (omega arith))
-  names_taken Two fits long = ap (λ (x : List ℕ). b0 ∷ b1 ∷ b2 ∷ b3 ∷ b4 ∷ b5 ∷ b6 ∷ b7 ∷ b8 ∷ b9 ∷ b10 ∷ b11 ∷ x) (names_prefix 4 rest fits (omega arith))
-  names_taken Three fits long = ap (λ (x : List ℕ). b0 ∷ b1 ∷ b2 ∷ b3 ∷ b4 ∷ b5 ∷ b6 ∷ b7 ∷ b8 ∷ b9 ∷ b10 ∷ b11 ∷ x) (names_prefix 1 rest fits (omega arith))
-  names_taken Four fits long = ap (λ (x : List ℕ). b0 ∷ b1 ∷ b2 ∷ b3 ∷ b4 ∷ b5 ∷ b6 ∷ b7 ∷ b8 ∷ b9 ∷ b10 ∷ b11 ∷ x) (names_prefix 4 rest fits (omega arith))
-
-module _ (v : Version) (b0 b1 b2 b3 b4 b5 b6 b7 b8 b9 b10 b11 : ℕ) (rest : List ℕ) where
-  abbrev long : List ℕ
-  long = b0 ∷ b1 ∷ b2 ∷ b3 ∷ b4 ∷ b5 ∷ b6 ∷ b7 ∷ b8 ∷ b9 ∷ b10 ∷ b11 ∷ rest
-
-  -- the kind may have what it has: an end has no item and no word
-  kind_ok : nat_lt 6 b0 ≡ false → is_field_ok v b0 4 b4 ≡ true → is_field_ok v b0 5 b5 ≡ true → is_field_ok v b0 8 b8 ≡ true → is_field_ok v b0 9 b9 ≡ true → is_field_ok v b0 10 b10 ≡ true → is_field_ok v b0 11 b11 ≡ true
-      → is_order_ok (kind_of long) ≡ true → IsKindOk (kind_of long) (field 4 2 long) (space_at long) (field 8 4 long)
-  unfolding kind_of space_at
-  kind_ok k p4 p5 p8 p9 p10 p11 o = grind (arith, nat_tests)
+-- the bytes behind the first twelve
+names_taken : (v : Version) (bytes : List ℕ) → AreBytes bytes → record_length v ≤ length bytes → take (record_length v) bytes ≡ take 12 bytes ++ names_bytes (places v) (names_at v bytes)
+names_taken v bytes fits long =
+    let n = names_prefix (places v) (drop 12 bytes) (bytes_drop 12 bytes fits) (omega (arith, length-drop 12 bytes, fields_and_names v)) in
+    rw (← fields_and_names v) (sym (take-append-drop 12 (take (12 + 8 * places v) bytes)) ∙ rw (take-take 12 (12 + 8 * places v) bytes (omega arith), drop-take 12 (8 * places v) bytes, n) refl)
 
 -- the site that is read has these bytes
-record SiteFound (v : Version) (bytes : List ℕ) (b6 b7 : ℕ) : Type 0 where
-  low : site_at v bytes % 256 ≡ b6
-  high : site_at v bytes / 256 % 256 ≡ b7
-  ok : IsSite v (site_at v bytes)
-
-site_found : (v : Version) (b0 b1 b2 b3 b4 b5 b6 b7 : ℕ) (rest : List ℕ) → b6 < 256 → b7 < 256 → ((b6 == 0) || has_sites v) ≡ true → ((b7 == 0) || has_sites v) ≡ true → SiteFound v (b0 ∷ b1 ∷ b2 ∷ b3 ∷ b4 ∷ b5 ∷ b6 ∷ b7 ∷ rest) b6 b7
+site_found : (v : Version) (b0 b1 b2 b3 b4 b5 b6 b7 : ℕ) (rest : List ℕ) → b6 < 256 → b7 < 256 → ((b6 == 0) || has_sites v) ≡ true → ((b7 == 0) || has_sites v) ≡ true
+    → let site = site_at v (b0 ∷ b1 ∷ b2 ∷ b3 ∷ b4 ∷ b5 ∷ b6 ∷ b7 ∷ rest) in (site % 256 ≡ b6) × (site / 256 % 256 ≡ b7) × IsSite v site
 unfolding site_at
-site_found v b0 b1 b2 b3 b4 b5 b6 b7 rest f g six seven = grind (arith, nat_tests, two_low b6 b7 f g, two_high b6 b7 f g)
+site_found v b0 b1 b2 b3 b4 b5 b6 b7 rest f g six seven = grind (arith, nat_tests, two b6 b7 f g)
+
+-- the kind may have what it has: an end has no item and no word
+kind_ok : (v : Version) (b0 b1 b2 b3 b4 b5 b6 b7 b8 b9 b10 b11 : ℕ) (rest : List ℕ) → nat_lt 6 b0 ≡ false
+    → is_field_ok v b0 4 b4 ≡ true → is_field_ok v b0 5 b5 ≡ true → is_field_ok v b0 8 b8 ≡ true → is_field_ok v b0 9 b9 ≡ true → is_field_ok v b0 10 b10 ≡ true → is_field_ok v b0 11 b11 ≡ true
+    → let bytes = b0 ∷ b1 ∷ b2 ∷ b3 ∷ b4 ∷ b5 ∷ b6 ∷ b7 ∷ b8 ∷ b9 ∷ b10 ∷ b11 ∷ rest in is_order_ok (kind_of bytes) ≡ true → IsKindOk (kind_of bytes) (field 4 2 bytes) (space_at bytes) (field 8 4 bytes)
+unfolding kind_of space_at
+kind_ok v b0 b1 b2 b3 b4 b5 b6 b7 b8 b9 b10 b11 rest k p4 p5 p8 p9 p10 p11 o = grind (arith, nat_tests)
 
 said_ok : (h : Header) (bytes : List ℕ) (e : Event) → record_length h.version ≤ length bytes → Accepted h bytes e → IsEventOk (said h bytes) h.items
 said_ok h (b0 ∷ b1 ∷ b2 ∷ b3 ∷ b4 ∷ b5 ∷ b6 ∷ b7 ∷ b8 ∷ b9 ∷ b10 ∷ b11 ∷ rest) e len a =
-    let kind = kind_ok h.version b0 b1 b2 b3 b4 b5 b6 b7 b8 b9 b10 b11 rest a.kind (a.fields 4 (omega arith) (omega arith)) (a.fields 5 (omega arith) (omega arith))
-    (a.fields 8 (omega arith) (omega arith)) (a.fields 9 (omega arith) (omega arith)) (a.fields 10 (omega arith) (omega arith)) (a.fields 11 (omega arith) (omega arith)) (not-false _ a.order) in
-    (leb-false _ _ a.item, (naming_found h.version _ _ a.naming).0, kind)
+    (leb-false _ _ a.item, (naming_found h.version _ _ a.naming).0, grind (arith, kind_ok h.version b0 b1 b2 b3 b4 b5 b6 b7 b8 b9 b10 b11 rest, a.kind, a.fields 4, a.fields 5, a.fields 8, a.fields 9, a.fields 10, a.fields 11, not-false _ a.order))
 said_ok h _ e len a = absurd (omega (arith, fields_and_names h.version))
 
 -- what is read is a record that the group may have
@@ -99,12 +78,13 @@ read_is_spelled h e (b0 ∷ b1 ∷ b2 ∷ b3 ∷ b4 ∷ b5 ∷ b6 ∷ b7 ∷ b8 
     let bytes : List ℕ = b0 ∷ b1 ∷ b2 ∷ b3 ∷ b4 ∷ b5 ∷ b6 ∷ b7 ∷ b8 ∷ b9 ∷ b10 ∷ b11 ∷ rest in
     let a = accepted h bytes e is in
     let k = kind_found h.version b0 b1 b2 b3 (b4 ∷ b5 ∷ b6 ∷ b7 ∷ b8 ∷ b9 ∷ b10 ∷ b11 ∷ rest) a.kind (a.fields 1 (omega arith) (omega arith)) (a.fields 2 (omega arith) (omega arith)) (a.fields 3 (omega arith) (omega arith)) in
-    let n = names_taken b0 b1 b2 b3 b4 b5 b6 b7 b8 b9 b10 b11 rest h.version (bytes_drop 12 bytes fits) len in
+    let n = names_taken h.version bytes fits len in
+    let i = two b4 b5 (fits 4) (fits 5) in
     let w = four b8 b9 b10 b11 (fits 8) (fits 9) (fits 10) (fits 11) _ refl in
     let s = site_found h.version b0 b1 b2 b3 b4 b5 b6 b7 (b8 ∷ b9 ∷ b10 ∷ b11 ∷ rest) (fits 6) (fits 7) (a.fields 6 (omega arith) (omega arith)) (a.fields 7 (omega arith) (omega arith)) in
     rw (← a.same) (
-      n ∙ rw (k, s.low, s.high, two_low b4 b5 (fits 4) (fits 5), two_high b4 b5 (fits 4) (fits 5), w.0, w.1, w.2, w.3) refl,
-      record { event = record { ok = said_ok h bytes e len a; word = omega (arith, fits 8, fits 9, fits 10, fits 11) }; names = names_few (places h.version) rest; range = (naming_found h.version _ _ a.naming).1; site = s.ok },
+      n ∙ rw (k, s.0, s.1, i.0, i.1, w.0, w.1, w.2, w.3) refl,
+      record { event = record { ok = said_ok h bytes e len a; word = omega (arith, fits 8, fits 9, fits 10, fits 11) }; names = names_few (places h.version) rest; range = (naming_found h.version _ _ a.naming).1; site = s.2 },
     )
 read_is_spelled h e _ fits len is = absurd (omega (arith, fields_and_names h.version))
 
@@ -131,9 +111,11 @@ read_header_is_spelled h (b0 ∷ b1 ∷ b2 ∷ b3 ∷ b4 ∷ b5 ∷ b6 ∷ b7 �
         let r = header_found v (record { version = v; group = field 4 2 bytes; items = field 6 2 bytes; launch = field 8 4 bytes }) h k in
         let n = version_found (b0 + 256 * (b1 + 256 * (b2 + 256 * (b3 + 0)))) v is in
         let g : (b0 ≡ 71) × (b1 ≡ 82) × (b2 ≡ 84) × (b3 ≡ version_byte v) = omega (arith, n.0, n.1, fits 0, fits 1, fits 2, fits 3) in
+        let i = two b4 b5 (fits 4) (fits 5) in
+        let j = two b6 b7 (fits 6) (fits 7) in
         let w = four b8 b9 b10 b11 (fits 8) (fits 9) (fits 10) (fits 11) _ refl in
         rw (← r.0) (
-          rw (g.0, g.1, g.2, g.3, two_low b4 b5 (fits 4) (fits 5), two_high b4 b5 (fits 4) (fits 5), two_low b6 b7 (fits 6) (fits 7), two_high b6 b7 (fits 6) (fits 7), w.0, w.1, w.2, w.3) refl,
+          rw (g.0, g.1, g.2, g.3, i.0, i.1, j.0, j.1, w.0, w.1, w.2, w.3) refl,
           record { group = r.1; some = r.2; items = r.3; launch = omega (arith, fits 8, fits 9, fits 10, fits 11) },
         )
 read_header_is_spelled h _ fits len e = absurd (omega arith)

@@ -1,30 +1,20 @@
 -- Numbers of two, four and eight bytes, and the numbers that stand for spaces, scopes, orders and flags.
 use Rattle.std.proofs.Common.{◌≡◌, ℕ, ◌+◌, ◌*◌, ◌/◌, ◌%◌, ◌<◌, true, arith}
-use Rattle.std.proofs.lemmas.Bool.Decides.{nat_tests}
 use Rattle.std.specs.Prelude.{nat_lt, nat_le, ◌==◌, ◌||◌, ◌&&◌}
 use Rattle.gr_model.specs.declared.event.Space.{Space}
 use Rattle.gr_model.specs.declared.event.Scope.{Scope}
 use Rattle.gr_model.specs.declared.event.Order.{Order}
-use Rattle.gr_record.specs.Spelling.{space_byte, scope_byte, order_byte, bit}
+use Rattle.gr_record.specs.Spelling.{space_byte, scope_byte, order_byte}
 use Rattle.gr_record.specs.Reading.{space_of, scope_of, order_of}
 
 -- ---- from bytes to a number and back
 
-pub two_low : (a b : ℕ) → a < 256 → b < 256 → (a + 256 * (b + 0)) % 256 ≡ a
-two_low a b f g = omega arith
-
-pub two_high : (a b : ℕ) → a < 256 → b < 256 → (a + 256 * (b + 0)) / 256 % 256 ≡ b
-two_high a b f g = omega arith
+pub two : (a b : ℕ) → a < 256 → b < 256 → ((a + 256 * (b + 0)) % 256 ≡ a) × ((a + 256 * (b + 0)) / 256 % 256 ≡ b)
+two a b f g = omega arith
 
 pub four : (a b c d : ℕ) → a < 256 → b < 256 → c < 256 → d < 256 → (n : ℕ) → n ≡ a + 256 * (b + 256 * (c + 256 * (d + 0)))
     → (n % 256 ≡ a) × (n / 256 % 256 ≡ b) × (n / 65536 % 256 ≡ c) × (n / 16777216 % 256 ≡ d)
 four a b c d p q r s n k = omega arith
-
--- eight bytes of the greatest number
-pub eight : (a b c d e f g h : ℕ) → a < 256 → b < 256 → c < 256 → d < 256 → e < 256 → f < 256 → g < 256 → h < 256
-    → a + 256 * (b + 256 * (c + 256 * (d + 256 * (e + 256 * (f + 256 * (g + 256 * (h + 0))))))) ≡ 18446744073709551615
-    → (a ≡ 255) × (b ≡ 255) × (c ≡ 255) × (d ≡ 255) × (e ≡ 255) × (f ≡ 255) × (g ≡ 255) × (h ≡ 255)
-eight a b c d e f g h p q r s t u v w k = omega arith
 
 -- ---- from a number to bytes and back
 
@@ -35,21 +25,6 @@ pub four_again : (n : ℕ) → n < 4294967296 → n % 256 + 256 * (n / 256 % 256
 four_again n lt = omega arith
 
 -- ---- the single bytes
-
-pub space_again : (b : ℕ) → b < 2 → space_byte (space_of b) ≡ b
-space_again b lt = grind (arith, nat_tests)
-
-pub scope_again : (b : ℕ) → ((b == 1) || (b == 2)) ≡ true → scope_byte (scope_of b) ≡ b
-scope_again b e = grind (arith, nat_tests)
-
-pub order_again : (b : ℕ) → (nat_le 1 b && nat_le b 4) ≡ true → order_byte (order_of b) ≡ b
-order_again b e = grind (arith, nat_tests)
-
-pub bit_again : (b : ℕ) → b < 2 → bit (b == 1) ≡ b
-bit_again b lt = grind (arith, nat_tests)
-
-pub flags_again : (b : ℕ) → b < 4 → bit ((b == 1) || (b == 3)) + 2 * bit ((b == 2) || (b == 3)) ≡ b
-flags_again b lt = grind (arith, nat_tests)
 
 pub space_back : (s : Space) → (space_of (space_byte s) ≡ s) × (nat_lt (space_byte s) 2 ≡ true)
 space_back s = grind arith

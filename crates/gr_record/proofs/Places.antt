@@ -1,13 +1,14 @@
 -- Names in their places: what is read from the bytes of names, and what the bytes of names that were read are.
-use Rattle.std.proofs.Common.{◌≡◌, ℕ, zero, suc, ◌+◌, ◌*◌, ◌/◌, ◌%◌, ◌<◌, ◌≤◌, true, false, List, [], ◌∷◌, ◌++◌, length, take, drop, refl, ap, ◌∙◌, arith, inl, inr, Bool, cond, Option, Some, None}
+use Rattle.std.proofs.Common.{◌≡◌, ℕ, zero, suc, ◌+◌, ◌*◌, ◌<◌, ◌≤◌, true, false, List, [], ◌∷◌, ◌++◌, length, take, drop, refl, ap, arith, inl, inr, Bool, cond, Option, Some, None}
 use Rattle.std.specs.Prelude.{All, ◌==◌, ◌↔◌, Decides, IsSome, IfSome}
-use Rattle.std.proofs.lemmas.Bool.{eqb-true, leb-true, le-leb, ne_eqb, and_parts, and_from, cases_Bool}
+use Rattle.std.proofs.lemmas.Bool.{eqb-true, leb-true, le-leb, and_parts, and_from, cases_Bool}
 use Rattle.std.proofs.lemmas.Bool.Decides.{nat_tests}
-use Rattle.std.proofs.lemmas.List.{take_at, get_or-drop}
+use Rattle.std.proofs.Math.Nat.{suc-add}
+use Rattle.std.proofs.lemmas.List.{get_or-drop}
 use Rattle.gr_model.specs.declared.event.Name.{Name}
 use Rattle.gr_model.specs.declared.event.Kind.{Kind}
 use Rattle.gr_model.specs.Events.{IsNamingOk}
-use Rattle.gr_model.specs.NameLists.{IsNameInRange, IsNameWithin, NameBelow, AreAscending, AreNamesWithin}
+use Rattle.gr_model.specs.NameLists.{IsNameInRange, IsNameWithin, AreAscending, AreNamesWithin}
 use Rattle.gr_model.specs.declared.limits.TheConstants.{MOST_GROUPS, MOST_ITEMS_OF_A_GROUP}
 use Rattle.gr_model.proofs.Bounds.{names_within}
 use Rattle.gr_record.specs.declared.header.Version.{Version}
@@ -15,17 +16,12 @@ use Rattle.gr_record.specs.Versions.{places, record_length, most_groups, most_it
 use Rattle.gr_record.specs.declared.header.Header.{Header}
 use Rattle.gr_record.specs.Spelling.{IsHeader, names_bytes}
 use Rattle.gr_record.specs.Laws.{AreBytes}
-use Rattle.gr_record.specs.Reading.{are_unused, name_in, names_in, is_in_range, is_below, are_in_order, is_naming_ok, naming}
-use Rattle.gr_record.proofs.Numbers.{two_low, two_high, two_again, four, four_again, eight}
+use Rattle.gr_record.specs.Reading.{are_unused, name_in, names_in, field, is_in_range, is_below, are_in_order, is_naming_ok, naming}
+use Rattle.gr_record.proofs.Numbers.{two, two_again, four, four_again}
 use Rattle.gr_model.specs.Access.{is_acquire_kind}
 
 pub bytes_drop : (n : ℕ) (bytes : List ℕ) → AreBytes bytes → AreBytes (drop n bytes)
 bytes_drop n bytes h i = rw get_or-drop (h (n + i))
-
--- the bytes behind so many places
-abbrev pub behind : ℕ → List ℕ → List ℕ
-behind zero bytes = bytes
-behind (suc n) bytes = behind n (drop 8 bytes)
 
 pub names_length : (n : ℕ) (names : List Name) → length (names_bytes n names) ≡ 8 * n
 names_length zero names = refl
@@ -34,36 +30,36 @@ names_length (suc n) (name ∷ names) = let ih = names_length n names in omega a
 
 -- ---- from bytes to names and back
 
-unused_found : (n : ℕ) (bytes : List ℕ) → AreBytes bytes → 8 * n ≤ length bytes → are_unused n bytes ≡ true → bytes ≡ names_bytes n [] ++ behind n bytes
-unfolding are_unused
-unused_found zero bytes fits has h = refl
-unused_found (suc n) (a0 ∷ a1 ∷ a2 ∷ a3 ∷ a4 ∷ a5 ∷ a6 ∷ a7 ∷ rest) fits has h =
-    let p = and_parts _ _ h in
-    let k = eight a0 a1 a2 a3 a4 a5 a6 a7 (fits 0) (fits 1) (fits 2) (fits 3) (fits 4) (fits 5) (fits 6) (fits 7) (eqb-true _ _ p.0) in
-    let ih = unused_found n rest (bytes_drop 8 (a0 ∷ a1 ∷ a2 ∷ a3 ∷ a4 ∷ a5 ∷ a6 ∷ a7 ∷ rest) fits) (omega arith) p.1 in
-    rw (k.0, k.1, k.2, k.3, k.4, k.5, k.6, k.7) (ap (λ (x : List ℕ). 255 ∷ 255 ∷ 255 ∷ 255 ∷ 255 ∷ 255 ∷ 255 ∷ 255 ∷ x) ih)
-unused_found (suc n) _ fits has h = absurd (omega arith)
+-- the bytes of one place more
+eight_more : (n : ℕ) → 8 * suc n ≡ suc (suc (suc (suc (suc (suc (suc (suc (8 * n))))))))
+eight_more n = omega arith
 
-pub names_found : (n : ℕ) (bytes : List ℕ) → AreBytes bytes → 8 * n ≤ length bytes → bytes ≡ names_bytes n (names_in n bytes) ++ behind n bytes
-unfolding names_in name_in
-names_found zero bytes fits has = refl
-names_found (suc n) (a0 ∷ a1 ∷ a2 ∷ a3 ∷ a4 ∷ a5 ∷ a6 ∷ a7 ∷ rest) fits has =
-    let bytes : List ℕ = a0 ∷ a1 ∷ a2 ∷ a3 ∷ a4 ∷ a5 ∷ a6 ∷ a7 ∷ rest in
-    let ih = names_found n rest (bytes_drop 8 bytes fits) (omega arith) in
-    let w = four a4 a5 a6 a7 (fits 4) (fits 5) (fits 6) (fits 7) _ refl in
-    elim (cases_Bool (are_unused (suc n) bytes)) [
-      | inl unused ↦ rw unused (unused_found (suc n) bytes fits has unused)
-      | inr used ↦
-          rw (used, two_low a0 a1 (fits 0) (fits 1), two_high a0 a1 (fits 0) (fits 1), two_low a2 a3 (fits 2) (fits 3), two_high a2 a3 (fits 2) (fits 3), w.0, w.1, w.2, w.3)
-          (ap (λ (x : List ℕ). a0 ∷ a1 ∷ a2 ∷ a3 ∷ a4 ∷ a5 ∷ a6 ∷ a7 ∷ x) ih)
-    ]
-names_found (suc n) _ fits has = absurd (omega arith)
+unused_prefix : (n : ℕ) (bytes : List ℕ) → AreBytes bytes → 8 * n ≤ length bytes → are_unused n bytes ≡ true → take (8 * n) bytes ≡ names_bytes n []
+unfolding are_unused
+unused_prefix zero bytes fits has h = refl
+unused_prefix (suc n) (a0 ∷ a1 ∷ a2 ∷ a3 ∷ a4 ∷ a5 ∷ a6 ∷ a7 ∷ rest) fits has h =
+    let p = and_parts (field 0 8 (a0 ∷ a1 ∷ a2 ∷ a3 ∷ a4 ∷ a5 ∷ a6 ∷ a7 ∷ rest) == 18446744073709551615) _ h in
+    let k : (a0 ≡ 255) × (a1 ≡ 255) × (a2 ≡ 255) × (a3 ≡ 255) × (a4 ≡ 255) × (a5 ≡ 255) × (a6 ≡ 255) × (a7 ≡ 255)
+    = omega (arith, eqb-true _ _ p.0, fits 0, fits 1, fits 2, fits 3, fits 4, fits 5, fits 6, fits 7) in
+    let ih = unused_prefix n rest (bytes_drop 8 (a0 ∷ a1 ∷ a2 ∷ a3 ∷ a4 ∷ a5 ∷ a6 ∷ a7 ∷ rest) fits) (omega arith) p.1 in
+    rw (eight_more n, k.0, k.1, k.2, k.3, k.4, k.5, k.6, k.7, ih) refl
+unused_prefix (suc n) _ fits has h = absurd (omega arith)
 
 -- what so many places have spells the bytes of these places
 pub names_prefix : (n : ℕ) (bytes : List ℕ) → AreBytes bytes → 8 * n ≤ length bytes → take (8 * n) bytes ≡ names_bytes n (names_in n bytes)
-names_prefix n bytes fits long =
-    let names = names_bytes n (names_in n bytes) in
-    ap (take (8 * n)) (names_found n bytes fits long) ∙ take_at names (behind n bytes) (8 * n) (names_length n (names_in n bytes))
+unfolding names_in name_in
+names_prefix zero bytes fits has = refl
+names_prefix (suc n) (a0 ∷ a1 ∷ a2 ∷ a3 ∷ a4 ∷ a5 ∷ a6 ∷ a7 ∷ rest) fits has =
+    let bytes : List ℕ = a0 ∷ a1 ∷ a2 ∷ a3 ∷ a4 ∷ a5 ∷ a6 ∷ a7 ∷ rest in
+    let ih = names_prefix n rest (bytes_drop 8 bytes fits) (omega arith) in
+    let i = two a0 a1 (fits 0) (fits 1) in
+    let j = two a2 a3 (fits 2) (fits 3) in
+    let w = four a4 a5 a6 a7 (fits 4) (fits 5) (fits 6) (fits 7) _ refl in
+    elim (cases_Bool (are_unused (suc n) bytes)) [
+      | inl unused ↦ rw unused (unused_prefix (suc n) bytes fits has unused)
+      | inr used ↦ rw (used, eight_more n, i.0, i.1, j.0, j.1, w.0, w.1, w.2, w.3, ih) refl
+    ]
+names_prefix (suc n) _ fits has = absurd (omega arith)
 
 pub names_few : (n : ℕ) (bytes : List ℕ) → length (names_in n bytes) ≤ n
 unfolding names_in
@@ -87,64 +83,46 @@ fields_and_names v = grind arith
 
 -- of whatever version, a header's group and items are those that some launch may have
 pub header_group : (h : Header) → IsHeader h → h.group < MOST_GROUPS
-header_group h is = let group = is.group in let few = groups_within h.version in omega (arith, group, few)
+header_group h is = omega (arith, is.group, groups_within h.version)
 
 pub header_items : (h : Header) → IsHeader h → h.items ≤ MOST_ITEMS_OF_A_GROUP
-header_items h is = let items = is.items in let few = items_within h.version in omega (arith, items, few)
-
-range_found : (v : Version) (n : Name) → is_in_range v n ≡ true → IsNameOf v n
-range_found v n h = grind (arith, nat_tests)
-
-below_found : (m n : Name) → is_below m n ≡ true → NameBelow m n
-below_found m n h = grind (arith, nat_tests)
+header_items h is = omega (arith, is.items, items_within h.version)
 
 ascending_found : (v : Version) (names : List Name) → are_in_order v names ≡ true → AreAscending names
 ascending_found v [] h k d lt = absurd (omega arith)
 ascending_found v (n ∷ []) h k d lt = absurd (omega arith)
-ascending_found v (n ∷ m ∷ names) h zero d lt = below_found n m (and_parts _ _ (and_parts _ _ h).0).1
-ascending_found v (n ∷ m ∷ names) h (suc k) d lt =
-    let e : suc k + 1 ≡ suc (k + 1) = omega arith in
-    rw e (ascending_found v (m ∷ names) (and_parts _ _ h).1 k d (omega arith))
+ascending_found v (n ∷ m ∷ names) h zero d lt = grind (arith, nat_tests)
+ascending_found v (n ∷ m ∷ names) h (suc k) d lt = rw (suc-add k 1) (ascending_found v (m ∷ names) (and_parts _ _ h).1 k d (omega arith))
 
 each_found : (v : Version) (names : List Name) → are_in_order v names ≡ true → All (IsNameOf v) names
 each_found v [] h k d lt = absurd (omega arith)
-each_found v (n ∷ names) h zero d lt = range_found v n (and_parts _ _ (and_parts _ _ h).0).0
+each_found v (n ∷ names) h zero d lt = grind (arith, nat_tests)
 each_found v (n ∷ names) h (suc k) d lt = each_found v names (and_parts _ _ h).1 k d (omega arith)
 
 -- names of a launch of this version
 pub those_found : (v : Version) (kind : Kind) (n : Name) (names : List Name) → is_naming_ok v kind (n ∷ names) ≡ true → AreNamesWithin (most_groups v) (most_items v) (n ∷ names)
 those_found v kind n names h =
     let a = and_parts _ _ h in
-    let b = and_parts _ _ a.0 in
-    record { few = leb-true _ _ b.1; ascending = ascending_found v (n ∷ names) a.1; each = each_found v (n ∷ names) a.1 }
+    record { few = leb-true _ _ (and_parts _ _ a.0).1; ascending = ascending_found v (n ∷ names) a.1; each = each_found v (n ∷ names) a.1 }
 
 pub naming_found : (v : Version) (kind : Kind) (names : List Name) → is_naming_ok v kind names ≡ true → IsNamingOk kind names × All (IsNameOf v) names
 naming_found v kind [] h = (tt, λ k d lt. absurd (omega arith))
 naming_found v kind (n ∷ names) h =
-    let a = and_parts _ _ h in
-    let b = and_parts _ _ a.0 in
     let those = those_found v kind n names h in
-    ((b.0, names_within (most_groups v) (most_items v) (groups_within v) (items_within v) (n ∷ names) those), those.each)
+    (((and_parts _ _ (and_parts _ _ h).0).0, names_within (most_groups v) (most_items v) (groups_within v) (items_within v) (n ∷ names) those), those.each)
 
 -- ---- and back
 
 range_back : (v : Version) (n : Name) → IsNameOf v n → is_in_range v n ≡ true
 range_back v n ok = grind (arith, nat_tests)
 
-below_back : (m n : Name) → NameBelow m n → is_below m n ≡ true
-below_back m n below = grind (arith, nat_tests)
-
-ascending_later : (n : Name) (names : List Name) → AreAscending (n ∷ names) → AreAscending names
-ascending_later n names ascending k d lt =
-    let e : suc k + 1 ≡ suc (k + 1) = omega arith in
-    rw e at (ascending (suc k) d (omega arith))
-
 pub order_back : (v : Version) (names : List Name) → AreAscending names → All (IsNameOf v) names → are_in_order v names ≡ true
 order_back v [] ascending each = refl
-order_back v (n ∷ []) ascending each = and_from _ _ (and_from _ _ (range_back v n (each 0 n (omega arith))) refl) refl
+order_back v (n ∷ []) ascending each = grind (arith, range_back v n (each 0 n (omega arith)))
 order_back v (n ∷ m ∷ names) ascending each =
-    and_from _ _ (and_from _ _ (range_back v n (each 0 n (omega arith))) (below_back n m (ascending 0 n (omega arith))))
-    (order_back v (m ∷ names) (ascending_later n (m ∷ names) ascending) (λ k d lt. each (suc k) d (omega arith)))
+    let later : AreAscending (m ∷ names) = λ k d lt. rw (suc-add k 1) at (ascending (suc k) d (omega arith)) in
+    let below : is_below n m ≡ true = let b = ascending 0 n (omega arith) in grind (arith, nat_tests, b) in
+    grind (arith, range_back v n (each 0 n (omega arith)), below, order_back v (m ∷ names) later (λ k d lt. each (suc k) d (omega arith)))
 
 pub naming_back : (v : Version) (kind : Kind) (names : List Name) → IsNamingOk kind names → All (IsNameOf v) names → is_naming_ok v kind names ≡ true
 naming_back v kind [] ok range = refl
@@ -153,35 +131,21 @@ naming_back v kind (n ∷ names) ok range =
 
 -- ---- from names to bytes and back
 
--- a name in range does not fill its bytes with 255
-not_all : (g i r : ℕ) → g < 65535
-    → (g % 256 + 256 * (g / 256 % 256 + 256 * (i % 256 + 256 * (i / 256 % 256 + 256 * (r % 256 + 256 * (r / 256 % 256 + 256 * (r / 65536 % 256 + 256 * (r / 16777216 % 256 + 0)))))))) ≡ 18446744073709551615 → ⊥
-not_all g i r lt e = omega arith
-
 unused_back : (n : ℕ) (rest : List ℕ) → are_unused n (names_bytes n [] ++ rest) ≡ true
 unfolding are_unused
 unused_back zero rest = refl
 unused_back (suc n) rest = unused_back n rest
 
-used_back : (n : ℕ) (name : Name) (names : List Name) (rest : List ℕ) → IsNameInRange name → are_unused (suc n) (names_bytes (suc n) (name ∷ names) ++ rest) ≡ false
-unfolding are_unused
-used_back n name names rest ok =
-    let group : name.at.group < 65535 = ok.0 in
-    rw (ne_eqb _ 18446744073709551615 (not_all name.at.group name.at.item name.release group)) refl
-
-name_back : (n : ℕ) (name : Name) (names : List Name) (rest : List ℕ) → IsNameInRange name → name_in (names_bytes (suc n) (name ∷ names) ++ rest) ≡ name
-unfolding name_in
-name_back n name names rest ok = rw (two_again name.at.group (omega (arith, ok.0)), two_again name.at.item (omega (arith, ok.1)), four_again name.release (omega (arith, ok.2))) refl
-
 pub names_again : (n : ℕ) (names : List Name) (rest : List ℕ) → length names ≤ n → All IsNameInRange names → names_in n (names_bytes n names ++ rest) ≡ names
-unfolding names_in
+unfolding names_in name_in are_unused
 names_again zero [] rest few each = refl
 names_again zero (name ∷ names) rest few each = absurd (omega arith)
 names_again (suc n) [] rest few each = rw (unused_back (suc n) rest) refl
 names_again (suc n) (name ∷ names) rest few each =
     let here = each 0 name (omega arith) in
+    let used : are_unused (suc n) (names_bytes (suc n) (name ∷ names) ++ rest) ≡ false = grind (arith, nat_tests, here) in
     let ih = names_again n names rest (omega arith) (λ k d lt. each (suc k) d (omega arith)) in
-    rw (used_back n name names rest here, name_back n name names rest here, ih) refl
+    rw (used, two_again name.at.group (omega (arith, here)), two_again name.at.item (omega (arith, here)), four_again name.release (omega (arith, here)), ih) refl
 
 pub each_in_range : (kind : Kind) (names : List Name) → IsNamingOk kind names → All IsNameInRange names
 each_in_range kind [] ok k d lt = absurd (omega arith)

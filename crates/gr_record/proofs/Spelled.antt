@@ -1,12 +1,12 @@
 -- What is spelled is read again, whatever follows it.
-use Rattle.std.proofs.Common.{◌≡◌, ℕ, ◌+◌, ◌*◌, ◌/◌, ◌%◌, ◌<◌, ◌≤◌, true, false, cond, List, [], ◌∷◌, ◌++◌, length, drop, Some, Ok, refl, sym, ap, ap₂, ◌∙◌, arith}
+use Rattle.std.proofs.Common.{◌≡◌, ℕ, ◌+◌, ◌*◌, ◌/◌, ◌%◌, ◌<◌, ◌≤◌, true, List, [], ◌∷◌, ◌++◌, length, drop, Some, Ok, refl, sym, ap, ap₂, ◌∙◌, arith}
 use Rattle.std.specs.Prelude.{All, ◌==◌, ◌||◌}
 use Rattle.std.proofs.lemmas.Bool.{lt-leb, le-ltb, ne_eqb}
 use Rattle.std.proofs.lemmas.Bool.Decides.{nat_tests}
 use Rattle.std.proofs.lemmas.List.{drop_at, length-append}
 use Rattle.gr_model.specs.declared.event.Event.{Event}
 use Rattle.gr_model.specs.declared.event.Kind.{Kind}
-use Rattle.gr_model.specs.declared.event.Kind.TheVariants.{Read, Write, Load, Store, Rmw, Barrier, End}
+use Rattle.gr_model.specs.declared.event.Kind.TheVariants.{End}
 use Rattle.gr_model.specs.declared.event.Name.{Name}
 use Rattle.gr_model.specs.declared.event.Space.{Space}
 use Rattle.gr_model.specs.Events.{IsNamingOk, IsKindOk}
@@ -24,26 +24,16 @@ pub kind_length : (kind : Kind) (space : Space) → length (kind_bytes kind spac
 kind_length kind space = grind arith
 
 -- a site fits into its bytes
-record SiteFits (v : Version) (site : ℕ) : Type 0 where
-  low : ((site % 256 == 0) || has_sites v) ≡ true
-  high : ((site / 256 % 256 == 0) || has_sites v) ≡ true
-
-site_fits : (v : Version) (site : ℕ) → IsSite v site → SiteFits v site
+site_fits : (v : Version) (site : ℕ) → IsSite v site → (((site % 256 == 0) || has_sites v) ≡ true) × (((site / 256 % 256 == 0) || has_sites v) ≡ true)
 site_fits v site ok = grind (arith, nat_tests)
 
 -- and is read from them
-site_again : (v : Version) (site : ℕ) → IsSite v site → cond (has_sites v) (site % 256 + 256 * (site / 256 % 256 + 0)) 0 ≡ site
-site_again v site ok = grind (arith, two_again site ok.0)
-
 site_read : (v : Version) (site : ℕ) (four word names rest : List ℕ) (b4 b5 : ℕ) → length four ≡ 4 → IsSite v site → site_at v (four ++ (b4 ∷ b5 ∷ []) ++ ((site % 256) ∷ (site / 256 % 256) ∷ []) ++ word ++ names ++ rest) ≡ site
 unfolding site_at
-site_read v site (b0 ∷ b1 ∷ b2 ∷ b3 ∷ []) word names rest b4 b5 len ok = site_again v site ok
+site_read v site (b0 ∷ b1 ∷ b2 ∷ b3 ∷ []) word names rest b4 b5 len ok = grind (arith, two_again site ok.0)
 site_read v site _ word names rest b4 b5 len ok = absurd (omega arith)
 
 module _ (h : Header) (most : h.items ≤ 1024) (rest : List ℕ) (site : ℕ) (ok_site : IsSite h.version site) where
-  site_is : SiteFits h.version site
-  site_is = site_fits h.version site ok_site
-
   -- the names that are read behind the fields
   names_read : (kind : Kind) (names : List Name) → length names ≤ places h.version → IsNamingOk kind names → All (IsNameOf h.version) names → naming h.version kind (names_in (places h.version) (names_bytes (places h.version) names ++ rest)) ≡ Some names
   names_read kind names few ok range = rw (names_again (places h.version) names rest few (each_in_range kind names ok), naming_back h.version kind names ok range) refl
@@ -51,30 +41,10 @@ module _ (h : Header) (most : h.items ≤ 1024) (rest : List ℕ) (site : ℕ) (
   again : (item word : ℕ) (kind : Kind) (space : Space) (names : List Name) → length names ≤ places h.version → item < h.items → word < 4294967296 → IsNamingOk kind names → All (IsNameOf h.version) names → IsKindOk kind item space word
       → event_at h (event_spelling h.version (record { event = record { item = item; kind = kind; space = space; word = word; names = names }; site = site }) ++ rest) ≡ Ok (record { item = item; kind = kind; space = space; word = word; names = names })
   unfolding event_at bad_field_from kind_of space_at
-  again item word Read space names few lt fits naming range ok =
-      rw (site_is.low, site_is.high, (space_back space).1, names_read Read names few naming range, two_again item (omega arith), four_again word fits, lt-leb h.items item lt, (space_back space).0) refl
-  again item word Write space names few lt fits naming range ok =
-      rw (site_is.low, site_is.high, (space_back space).1, names_read Write names few naming range, two_again item (omega arith), four_again word fits, lt-leb h.items item lt, (space_back space).0) refl
-  again item word (Load scope order) space names few lt fits naming range ok =
-      rw (site_is.low, site_is.high, (space_back space).1, (scope_back scope).1, (order_back order).1, (scope_back scope).0, (order_back order).0, ok, names_read (Load scope order) names few naming range, two_again item (omega arith), four_again word fits, lt-leb h.items item lt, (space_back space).0) refl
-  again item word (Store scope order) space names few lt fits naming range ok =
-      rw (site_is.low, site_is.high, (space_back space).1, (scope_back scope).1, (order_back order).1, (scope_back scope).0, (order_back order).0, ok, names_read (Store scope order) names few naming range, two_again item (omega arith), four_again word fits, lt-leb h.items item lt, (space_back space).0) refl
-  again item word (Rmw scope order) space names few lt fits naming range ok =
-      rw (site_is.low, site_is.high, (space_back space).1, (scope_back scope).1, (order_back order).1, (scope_back scope).0, (order_back order).0, names_read (Rmw scope order) names few naming range, two_again item (omega arith), four_again word fits, lt-leb h.items item lt, (space_back space).0) refl
-  again item word (Barrier true true) space names few lt fits naming range ok =
-      rw (site_is.low, site_is.high, ok, names_read (Barrier true true) names few naming range, two_again item (omega arith), four_again word fits, lt-leb h.items item lt) refl
-  again item word (Barrier true false) space names few lt fits naming range ok =
-      rw (site_is.low, site_is.high, ok, names_read (Barrier true false) names few naming range, two_again item (omega arith), four_again word fits, lt-leb h.items item lt) refl
-  again item word (Barrier false true) space names few lt fits naming range ok =
-      rw (site_is.low, site_is.high, ok, names_read (Barrier false true) names few naming range, two_again item (omega arith), four_again word fits, lt-leb h.items item lt) refl
-  again item word (Barrier false false) space names few lt fits naming range ok =
-      rw (site_is.low, site_is.high, ok, names_read (Barrier false false) names few naming range, two_again item (omega arith), four_again word fits, lt-leb h.items item lt) refl
-  again item word (End true) space names few lt fits naming range ok =
-      let some : 0 < h.items = omega arith in
-      rw (site_is.low, site_is.high, ok.0, ok.1, ok.2, names_read (End true) names few naming range, lt-leb h.items 0 some) refl
-  again item word (End false) space names few lt fits naming range ok =
-      let some : 0 < h.items = omega arith in
-      rw (site_is.low, site_is.high, ok.0, ok.1, ok.2, names_read (End false) names few naming range, lt-leb h.items 0 some) refl
+  again item word (End cut) space names few lt fits named range ok = grind (arith, nat_tests, names_read (End cut) names few named range)
+  again item word kind space names few lt fits named range ok =
+      let s = site_fits h.version site ok_site in
+      grind (arith, nat_tests, s.0, s.1, space_back, scope_back, order_back, names_read kind names few named range, two_again item, four_again word, lt-leb h.items item lt)
 
 pub spelled_is_read : SpelledIsRead
 spelled_is_read h r rest most fits =
