@@ -1,7 +1,7 @@
 -- What is read of bytes is a prefix, and is spelled so.
 use Rattle.std.proofs.Common.{◌≡◌, ℕ, zero, suc, ◌<◌, ◌≤◌, Bool, true, false, List, [], ◌∷◌, ◌++◌, length, take, drop, Result, Ok, Err, refl, sym, ap, ◌∙◌, append_assoc, arith, inl, inr}
 use Rattle.std.proofs.lemmas.Bool.{lt-ltb, le-ltb, cases_lt, cases_Bool, both_ways}
-use Rattle.std.proofs.lemmas.List.{take-append-drop, append-nil, length-take, get_or-take, get_or_past, take_all}
+use Rattle.std.proofs.lemmas.List.{take-append-drop, append-nil, length-take, get_or-take, get_or_past, take-take}
 use Rattle.gr_model.specs.declared.event.Event.{Event}
 use Rattle.gr_model.specs.Events.{is_end}
 use Rattle.gr_model.specs.Streams.{is_complete}
@@ -13,7 +13,7 @@ use Rattle.gr_record.specs.declared.layout.TheConstants.{HEADER_LENGTH}
 use Rattle.gr_record.specs.Versions.{record_length}
 use Rattle.gr_record.specs.declared.header.Version.{Version}
 use Rattle.gr_record.specs.Sites.{events_of, sited, all_sited}
-use Rattle.gr_record.specs.Spelling.{event_spelling, events_spelling, header_spelling, IsRecord}
+use Rattle.gr_record.specs.Spelling.{event_spelling, events_spelling, header_spelling}
 use Rattle.gr_record.specs.Reading.{header_at, event_at}
 use Rattle.gr_record.specs.Fronts.{Records, step, records_of}
 use Rattle.gr_record.specs.Laws.{AreBytes}
@@ -24,11 +24,7 @@ use Rattle.gr_record.proofs.Places.{bytes_drop}
 use Rattle.gr_record.proofs.Found.{read_is_spelled, read_header_is_spelled}
 
 pub bytes_take : (n : ℕ) (bytes : List ℕ) → AreBytes bytes → AreBytes (take n bytes)
-bytes_take n bytes h i =
-    elim (cases_lt i n) [
-      | inl lt ↦ rw (get_or-take n bytes i 0 lt) (h i)
-      | inr le ↦ rw (get_or_past (take n bytes) i 0 (omega (arith, length-take n bytes))) (omega arith)
-    ]
+bytes_take n bytes h i = grind (arith, get_or-take n bytes i 0, get_or_past (take n bytes) i 0, length-take n bytes, h i)
 
 -- ---- records
 
@@ -59,17 +55,11 @@ module _ (h : Header) where
   size = record_length h.version
 
   -- a whole record, and what follows it
-  spelled : (e : Event) (bytes : List ℕ) → AreBytes bytes → size ≤ length bytes → event_at h (take size bytes) ≡ Ok e → (take size bytes ≡ event_spelling h.version (sited h.version e (take size bytes))) × IsRecord h (sited h.version e (take size bytes))
-  spelled e bytes fits long is =
-      let len : length (take size bytes) ≡ size = omega (arith, length-take size bytes) in
-      let s = read_is_spelled h e (take size bytes) (bytes_take size bytes fits) (omega arith) is in
-      (sym (take_all size (take size bytes) (omega arith)) ∙ s.0, s.1)
-
   step_found : (most : ℕ) (bytes : List ℕ) → AreBytes bytes → size ≤ length bytes → (further : Records) → Found h most (drop size bytes) further
       → (x : Result Event RecordError) → event_at h (take size bytes) ≡ x → Found h (suc most) bytes (step size x bytes further)
   step_found most bytes fits long further found (Err e) is = record { parts = refl; runs = tt; few = omega arith; complete = refl; short = λ is_inside. absurd cc }
   step_found most bytes fits long further found (Ok e) is =
-      let s = spelled e bytes fits long is in
+      let s = rw (take-take size size bytes (omega arith)) at (read_is_spelled h e (take size bytes) (bytes_take size bytes fits) (omega (arith, length-take size bytes)) is) in
       let one : List ℕ = event_spelling h.version (sited h.version e (take size bytes)) in
       let split : bytes ≡ one ++ drop size bytes = sym (take-append-drop size bytes) ∙ ap (λ (x : List ℕ). x ++ drop size bytes) s.0 in
       elim (cases_Bool (is_end e)) [
@@ -100,26 +90,21 @@ module _ (h : Header) where
 
 -- ---- a header and its records
 
-closed_stop : (stop : Stop) (rest : List ℕ) → close stop rest ≡ AtEnd → (stop ≡ AtEnd) × (rest ≡ [])
-closed_stop stop rest h = grind arith
-
-closed_inside : (stop : Stop) (rest : List ℕ) → close stop rest ≡ Inside → stop ≡ Inside
-closed_inside stop rest h = grind arith
+closed_stop : (stop : Stop) (rest : List ℕ) → (close stop rest ≡ AtEnd → (stop ≡ AtEnd) × (rest ≡ [])) × (close stop rest ≡ Inside → stop ≡ Inside)
+closed_stop stop rest = (λ e. grind arith, λ e. grind arith)
 
 under_found : (limit : ℕ) (bytes : List ℕ) → AreBytes bytes → HEADER_LENGTH ≤ length bytes → (x : Result Header RecordError) → header_at (take HEADER_LENGTH bytes) ≡ x → IsReadingOf limit bytes (under x limit bytes)
 under_found limit bytes fits long (Err e) is = record { events = refl; parts = refl; prefix = refl; ended = λ is_inside. absurd cc; short = λ is_inside. absurd cc }
 under_found limit bytes fits long (Ok h) is =
-    let len : length (take HEADER_LENGTH bytes) ≡ HEADER_LENGTH = omega (arith, length-take HEADER_LENGTH bytes) in
-    let s = read_header_is_spelled h (take HEADER_LENGTH bytes) (bytes_take HEADER_LENGTH bytes fits) (omega arith) is in
+    let s = rw (take-take HEADER_LENGTH HEADER_LENGTH bytes (omega arith)) at (read_header_is_spelled h (take HEADER_LENGTH bytes) (bytes_take HEADER_LENGTH bytes fits) (omega (arith, length-take HEADER_LENGTH bytes)) is) in
     let r = records_of h limit (drop HEADER_LENGTH bytes) in
     let f = records_found h limit (drop HEADER_LENGTH bytes) (bytes_drop HEADER_LENGTH bytes fits) in
-    let header : take HEADER_LENGTH bytes ≡ header_spelling h = sym (take_all HEADER_LENGTH (take HEADER_LENGTH bytes) (omega arith)) ∙ s.0 in
     record {
       events = events_sited h.version r.events (drop HEADER_LENGTH bytes);
-      parts = sym (take-append-drop HEADER_LENGTH bytes) ∙ ap (λ (x : List ℕ). x ++ drop HEADER_LENGTH bytes) header ∙ ap (λ (x : List ℕ). header_spelling h ++ x) f.parts ∙ sym (append_assoc (header_spelling h) (events_spelling h.version (all_sited h.version r.events (drop HEADER_LENGTH bytes))) r.rest);
+      parts = sym (take-append-drop HEADER_LENGTH bytes) ∙ ap (λ (x : List ℕ). x ++ drop HEADER_LENGTH bytes) s.0 ∙ ap (λ (x : List ℕ). header_spelling h ++ x) f.parts ∙ sym (append_assoc (header_spelling h) (events_spelling h.version (all_sited h.version r.events (drop HEADER_LENGTH bytes))) r.rest);
       prefix = record { header = s.1; runs = f.runs; few = f.few };
-      ended = λ e. let c = closed_stop r.stop r.rest e in (f.complete ∙ ap is_at_end c.0, c.1);
-      short = λ e. f.short (closed_inside r.stop r.rest e);
+      ended = λ e. let c = (closed_stop r.stop r.rest).0 e in (f.complete ∙ ap is_at_end c.0, c.1);
+      short = λ e. f.short ((closed_stop r.stop r.rest).1 e);
     }
 
 pub read_prefix_is_spelled : ReadPrefixIsSpelled

@@ -8,7 +8,7 @@ use Rattle.gr_record.specs.declared.error.RecordError.{RecordError}
 use Rattle.gr_record.specs.declared.header.Header.{Header}
 use Rattle.gr_record.specs.declared.part.Part.TheVariants as parts
 use Rattle.gr_record.specs.declared.stop.Stop.{Stop}
-use Rattle.gr_record.specs.declared.stop.Stop.TheVariants.{Inside, AtEnd, AtFault}
+use Rattle.gr_record.specs.declared.stop.Stop.TheVariants.{Inside, AtEnd}
 use Rattle.gr_record.specs.declared.layout.TheConstants.{HEADER_LENGTH}
 use Rattle.gr_record.specs.Versions.{record_length}
 use Rattle.gr_record.specs.Reading.{header_at, event_at}
@@ -29,9 +29,8 @@ module _ (limit : ℕ) (piece : List ℕ) where
     stands = rw (length-append events (records_of h (limit - length events) (rest ++ piece)).events) refl;
     listed = rw (map-append parts.Event events (records_of h (limit - length events) (rest ++ piece)).events) refl;
   }
-  records_go_on h AtEnd events [] = record { stands = rw (add-zero (length events)) refl; listed = sym (append-nil _) }
   records_go_on h AtEnd events (b ∷ bytes) = record { stands = rw (add-zero (length events)) refl; listed = sym (append-nil _) }
-  records_go_on h (AtFault e) events rest = record { stands = rw (add-zero (length events)) refl; listed = sym (append-nil _) }
+  records_go_on h stop events rest = record { stands = rw (add-zero (length events)) refl; listed = sym (append-nil _) }
 
   under_goes_on : (fed : List ℕ) → HEADER_LENGTH ≤ length fed → (x : Result Header RecordError) → GoesOn limit piece (under x limit fed) (under x limit (fed ++ piece))
   under_goes_on fed long (Err e) = record { stands = refl; listed = refl }

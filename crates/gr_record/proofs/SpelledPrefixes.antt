@@ -1,12 +1,10 @@
 -- What is spelled is read: a header and the records of its stream.
-use Rattle.std.proofs.Common.{◌≡◌, ℕ, zero, suc, ◌≤◌, Bool, true, false, cond, List, [], ◌∷◌, ◌++◌, length, drop, Result, Ok, refl, sym, ap, ◌∙◌, append_assoc, arith, inl, inr}
+use Rattle.std.proofs.Common.{◌≡◌, ℕ, zero, suc, ◌≤◌, Bool, cond, List, [], ◌∷◌, ◌++◌, length, Ok, refl, sym, ap, ◌∙◌, append_assoc, arith, inl, inr}
 use Rattle.std.proofs.lemmas.Bool.{le-ltb, cases_Bool}
 use Rattle.std.proofs.lemmas.List.{take_at, drop_at, length-append, append-nil}
-use Rattle.gr_model.specs.declared.event.Event.{Event}
 use Rattle.gr_model.specs.declared.limits.TheConstants.{MOST_ITEMS_OF_A_GROUP}
 use Rattle.gr_model.specs.Events.{is_end}
 use Rattle.gr_model.specs.Streams.{is_complete}
-use Rattle.gr_record.specs.declared.error.RecordError.{RecordError}
 use Rattle.gr_record.specs.declared.header.Header.{Header}
 use Rattle.gr_record.specs.declared.stop.Stop.TheVariants.{Inside, AtEnd}
 use Rattle.gr_record.specs.declared.layout.TheConstants.{HEADER_LENGTH}
@@ -14,7 +12,7 @@ use Rattle.gr_record.specs.Versions.{record_length}
 use Rattle.gr_record.specs.Spelling.{event_spelling, events_spelling, header_spelling}
 use Rattle.gr_record.specs.Sites.{Sited, events_of, all_sited}
 use Rattle.gr_record.specs.Reading.{event_at, site_at}
-use Rattle.gr_record.specs.Fronts.{Records, behind, step, records_of}
+use Rattle.gr_record.specs.Fronts.{Records, records_of}
 use Rattle.gr_record.specs.Decoding.{close, read_from}
 use Rattle.gr_record.specs.PrefixLaws.{Runs, stop_after, SpelledPrefixIsRead}
 use Rattle.gr_record.proofs.Places.{fields_and_names, header_items}
@@ -24,10 +22,6 @@ use Rattle.gr_record.proofs.Spelled.{spelled_is_read, spelled_header_is_read, sp
 
 abbrev Spelled : List Sited → Records
 Spelled rs = record { events = events_of rs; rest = []; stop = stop_after (events_of rs) }
-
--- what follows a record that is no end decides
-gone_on : (e : Event) (es : List Event) → is_end e ≡ false → stop_after (e ∷ es) ≡ stop_after es
-gone_on e es on = ap (λ (b : Bool). cond b AtEnd Inside) (complete_behind e es on)
 
 module _ (h : Header) (few : h.items ≤ MOST_ITEMS_OF_A_GROUP) where
   abbrev size : ℕ
@@ -43,17 +37,10 @@ module _ (h : Header) (few : h.items ≤ MOST_ITEMS_OF_A_GROUP) where
       let rest : List ℕ = events_spelling h.version rs in
       let long : size ≤ length (prefix ++ rest) = omega (arith, length-append prefix rest, len) in
       let is : event_at h prefix ≡ Ok e = rw (append-nil prefix) at (spelled_is_read h r [] few runs.0).0 in
-      let here : records_of h (suc most) (prefix ++ rest) ≡ step size (Ok e) (prefix ++ rest) (records_of h most rest)
-      = next size (event_at h) most (prefix ++ rest) long
-      ∙ ap (λ (x : Result Event RecordError). step size x (prefix ++ rest) (records_of h most (drop size (prefix ++ rest)))) (ap (event_at h) (take_at prefix rest size len) ∙ is)
-      ∙ ap (λ (x : List ℕ). step size (Ok e) (prefix ++ rest) (records_of h most x)) (drop_at prefix rest size len) in
+      let here = rw (take_at prefix rest size len, is, drop_at prefix rest size len) at (next size (event_at h) most (prefix ++ rest) long) in
       elim (cases_Bool (is_end e)) [
-        | inl end ↦
-            let none : rs ≡ [] = runs.1 end in
-            here ∙ rw (end, drop_at prefix rest size len, none, end) refl
-        | inr on ↦
-            let ih = records_spelled rs most runs.2 (omega arith) in
-            here ∙ rw (on, gone_on e (events_of rs) on) (ap (behind e) ih)
+        | inl end ↦ let none : rs ≡ [] = runs.1 end in rw (here, end, none, end) refl
+        | inr on ↦ rw (here, on, records_spelled rs most runs.2 (omega arith), complete_behind e (events_of rs) on) refl
       ]
 
   -- the sites are read too
@@ -68,8 +55,7 @@ module _ (h : Header) (few : h.items ≤ MOST_ITEMS_OF_A_GROUP) where
       rw (append_assoc prefix (events_spelling h.version rs) rest, take_at prefix more size len, drop_at prefix more size len, site, ih) refl
 
 closed_after : (b : Bool) → close (cond b AtEnd Inside) [] ≡ cond b AtEnd Inside
-closed_after true = refl
-closed_after false = refl
+closed_after b = grind arith
 
 pub spelled_prefix_is_read : SpelledPrefixIsRead
 unfolding read_from
