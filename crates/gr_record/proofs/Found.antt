@@ -12,9 +12,9 @@ use Rattle.gr_record.specs.declared.header.Version.{Version}
 use Rattle.gr_record.specs.Versions.{places, has_sites, record_length, most_groups, most_items}
 use Rattle.gr_record.specs.Spelling.{kind_bytes, names_bytes, version_byte, header_spelling, IsHeader}
 use Rattle.gr_record.specs.Sites.{IsSite}
-use Rattle.gr_record.specs.Reading.{field, site_at, is_field_ok, kind_of, space_at, names_at, is_order_ok, is_naming_ok, event_at, version_of, header_behind, header_at}
+use Rattle.gr_record.specs.Reading.{field, site_at, is_field_ok, kind_of, space_at, names_at, bad_field_from, is_order_ok, is_naming_ok, event_at, version_of, header_behind, header_at}
 use Rattle.gr_record.specs.Laws.{AreBytes, ReadIsSpelled, ReadHeaderIsSpelled}
-use Rattle.gr_record.proofs.Fields.{fields_ok}
+use Rattle.gr_record.proofs.Fields.{all_pass}
 use Rattle.gr_record.proofs.Judging.{passed}
 use Rattle.gr_record.proofs.Places.{bytes_drop, fields_and_names, names_prefix, names_few, naming_found}
 use Rattle.gr_record.proofs.Numbers.{two, four}
@@ -33,10 +33,10 @@ record Accepted (h : Header) (bytes : List ℕ) (e : Event) : Type 0 where
   same : said h bytes ≡ e
 
 accepted : (h : Header) (bytes : List ℕ) (e : Event) → event_at h bytes ≡ Ok e → Accepted h bytes e
-unfolding event_at
+unfolding event_at bad_field_from
 accepted h bytes e is =
     let p = passed _ _ _ _ _ _ _ e is in
-    record { kind = p.0; fields = fields_ok h.version bytes 1 11 p.1; order = p.2; naming = p.3; item = p.4; same = p.5 }
+    record { kind = p.0; fields = all_pass (λ p. is_field_ok h.version (slice_index bytes 0) p (slice_index bytes p)) 1 11 p.1; order = p.2; naming = p.3; item = p.4; same = p.5 }
 
 -- the first four bytes
 kind_found : (v : Version) (b0 b1 b2 b3 : ℕ) (rest : List ℕ) → nat_lt 6 b0 ≡ false → is_field_ok v b0 1 b1 ≡ true → is_field_ok v b0 2 b2 ≡ true → is_field_ok v b0 3 b3 ≡ true

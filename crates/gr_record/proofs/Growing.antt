@@ -2,6 +2,7 @@
 use Rattle.std.proofs.Common.{◌≡◌, ℕ, zero, suc, ◌-◌, ◌<◌, ◌≤◌, List, ◌++◌, length, take, drop, Result, Ok, Err, refl, ap, ◌∙◌, arith, inl, inr}
 use Rattle.std.proofs.lemmas.Bool.{cases_lt, cases_Bool}
 use Rattle.std.proofs.lemmas.List.{take-append-le, drop-append-le, length-append}
+use Rattle.std.proofs.Math.Nat.{suc-sub-suc, sub-zero}
 use Rattle.gr_model.specs.declared.event.Event.{Event}
 use Rattle.gr_model.specs.Events.{is_end}
 use Rattle.gr_record.specs.declared.error.RecordError.{RecordError}
@@ -21,11 +22,8 @@ module _ (size : ℕ) (read : List ℕ → Result Event RecordError) (b : List �
   Grows most a r = records_at size read most (a ++ b) ≡ grown r.stop r (λ n. records_at size read (most - n) (r.rest ++ b)) b
 
   behind_grown : (stop : Stop) (e : Event) (r : Records) (most : ℕ) → behind e (grown stop r (λ n. records_at size read (most - n) (r.rest ++ b)) b) ≡ grown stop (behind e r) (λ n. records_at size read (suc most - n) (r.rest ++ b)) b
-  behind_grown Inside e r most =
-      let k : suc most - suc (length r.events) ≡ most - length r.events = omega arith in
-      rw k refl
-  behind_grown AtEnd e r most = refl
-  behind_grown (AtFault d) e r most = refl
+  behind_grown Inside e r most = rw (suc-sub-suc most (length r.events)) refl
+  behind_grown stop e r most = refl
 
   step_grows : (most : ℕ) (a : List ℕ) → size ≤ length a → Grows most (drop size a) (records_at size read most (drop size a)) → (x : Result Event RecordError)
       → step size x (a ++ b) (records_at size read most (drop size (a ++ b))) ≡ grown (step size x a (records_at size read most (drop size a))).stop (step size x a (records_at size read most (drop size a))) (λ n. records_at size read (suc most - n) ((step size x a (records_at size read most (drop size a))).rest ++ b)) b
@@ -37,9 +35,7 @@ module _ (size : ℕ) (read : List ℕ → Result Event RecordError) (b : List �
       ]
 
   inside_grows : (most : ℕ) (a : List ℕ) → length a < size → Grows most a (records_at size read most a)
-  inside_grows most a lt =
-      let k : most - 0 ≡ most = omega arith in
-      rw (short size read most a lt, k) refl
+  inside_grows most a lt = rw (short size read most a lt, sub-zero most) refl
 
   pub records_grow : (most : ℕ) (a : List ℕ) → Grows most a (records_at size read most a)
   records_grow zero a =

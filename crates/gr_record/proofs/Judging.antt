@@ -20,16 +20,10 @@ passed kind field order naming names item made e is = grind arith
 
 -- ---- that memory ran out is no answer of reading
 
-judged_apart : (kind : Bool) (field : Option ℕ) (order : Bool) (names : Option (List Name)) (item : Bool) (made : List Name → Event) → judged_by kind field order names item made ≢ Err errors.Memory
-judged_apart kind field order names item made e = grind arith
-
 pub event_apart : (h : Header) (bytes : List ℕ) → event_at h bytes ≢ Err errors.Memory
 unfolding event_at
-event_apart h bytes e = judged_apart _ _ _ _ _ _ e
-
-behind_apart : (v : Option Version) (bytes : List ℕ) → header_behind v bytes ≢ Err errors.Memory
-behind_apart v bytes e = grind arith
+event_apart h bytes e = grind arith
 
 pub header_apart : (bytes : List ℕ) → header_at bytes ≢ Err errors.Memory
 unfolding header_at
-header_apart bytes = behind_apart _ bytes
+header_apart bytes e = grind arith
