@@ -1,7 +1,6 @@
 -- The fields of a record, place by place.
-use Rattle.std.proofs.Common.{◌≡◌, ℕ, zero, suc, ◌+◌, ◌<◌, ◌≤◌, Bool, true, false, cond, List, drop, Option, Some, None, refl, arith, inl, inr}
+use Rattle.std.proofs.Common.{◌≡◌, ℕ, zero, suc, ◌+◌, ◌<◌, ◌≤◌, Bool, true, false, List, None, arith}
 use Rattle.std.specs.Prelude.{slice_index, not, ◌==◌, ◌||◌}
-use Rattle.std.proofs.lemmas.Bool.{cases_lt, or_cases, or_left, or_right, eqb-true, eq-eqb}
 use Rattle.std.proofs.lemmas.List.{get_or-drop}
 use Rattle.std.proofs.lemmas.Bool.Decides.{nat_tests}
 use Rattle.std.specs.List.{find, range_with_len}
@@ -11,10 +10,7 @@ use Rattle.gr_record.specs.Reading.{field, is_field_ok, bad_field, bad_field_fro
 
 -- both bytes of a number that is 0
 site_zero : (bytes : List ℕ) → field 6 2 bytes ≡ 0 → (slice_index bytes 6 ≡ 0) × (slice_index bytes 7 ≡ 0)
-site_zero bytes none =
-    let low : slice_index (drop 6 bytes) 0 ≡ 0 = omega (arith, none) in
-    let high : slice_index (drop 6 bytes) 1 ≡ 0 = omega (arith, none) in
-    (rw get_or-drop at low, rw get_or-drop at high)
+site_zero bytes none = grind (arith, get_or-drop 6 bytes 0 0, get_or-drop 6 bytes 1 0)
 
 -- of a record that is no end three bytes and the site decide
 pub no_bad_field : (v : Version) (bytes : List ℕ) → (slice_index bytes 0 == 6) ≡ false

@@ -4,9 +4,8 @@ use Rattle.gr_model.specs.declared.event.Event.{Event}
 use Rattle.gr_model.specs.declared.event.Name.{Name}
 use Rattle.gr_record.specs.declared.error.RecordError.{RecordError}
 use Rattle.gr_record.specs.declared.error.RecordError.TheVariants as errors
-use Rattle.gr_record.specs.Reading.{unless_bad, unless_bad_names, event_at, header_behind, header_at}
+use Rattle.gr_record.specs.Reading.{unless_bad, unless_bad_names, event_at, header_at}
 use Rattle.gr_record.specs.declared.header.Header.{Header}
-use Rattle.gr_record.specs.declared.header.Version.{Version}
 
 -- what a record says whose kind, field, order, names and item are judged so
 abbrev pub judged_by : Bool → Option ℕ → Bool → Option (List Name) → Bool → (List Name → Event) → Result Event RecordError

@@ -1,7 +1,6 @@
-use Rattle.std.proofs.Common.{◌≡◌, sym, ap, ◌∙◌, ◌++◌, ◌∷◌, [], ℕ, List, Result, take, Ok, Err, refl}
+use Rattle.std.proofs.Common.{arith, ◌≡◌, ap, [], ℕ, List, Result, take, Ok, Err, refl}
 use Rattle.std.proofs.lemmas.Result.{err_from_is_err_and}
 use Rattle.gr_model.specs.declared.event.Event.{Event}
-use Rattle.gr_model.specs.declared.limits.TheConstants.{MOST_RECORDS}
 use Rattle.gr_record.specs.declared.error.RecordError.{RecordError}
 use Rattle.gr_record.specs.Versions.{record_length}
 use Rattle.gr_record.specs.Reading.{event_at}
@@ -19,34 +18,29 @@ unfolding front_records_at
 loop-init c = ([], refl)
 
 pub returns-then-rest-size-clause-exact : goal.returns-then-rest-size-clause-exact
-returns-then-rest-size-clause-exact c =
-    behind (stops_short (record_length c.args.header.version) (event_at c.args.header) c.loop.invariant.0 MOST_RECORDS c.loop.counter c.loop.rest.now _ c.loop.invariant.1 (rw c.record_length-size.ensures.length at c.if-rest-size.true))
+returns-then-rest-size-clause-exact c = behind (stops_short _ _ _ _ _ _ _ c.loop.invariant.1 (omega arith))
 
 pub returns-in_err-event : goal.returns-in_err-event
 returns-in_err-event c =
     let p = err_from_is_err_and c.from_residual.result c.from_residual.ensures.1 in
-    let h : event_at c.args.header (take (record_length c.args.header.version) c.loop.rest.now) ≡ Err c.in_err-event.field-0.0 = rw (← c.record_length-size.ensures.length, ← c.split_at.ensures.front) (sym c.in_err-event.ensures) in
+    let h : event_at c.args.header (take (record_length c.args.header.version) c.loop.rest.now) ≡ Err c.in_err-event.field-0.0 = cc (c.in_err-event.ensures) in
     rw (p.1, p.2) (record {
-      exact = fails _ _ (behind (refused (record_length c.args.header.version) (event_at c.args.header) c.loop.invariant.0 MOST_RECORDS c.loop.counter c.loop.rest.now _ c.loop.invariant.1 c.loop-test.true (rw c.record_length-size.ensures.length at c.if-rest-size.false) _ h));
+      exact = fails _ _ (behind (refused _ _ _ _ _ _ _ c.loop.invariant.1 c.loop-test.true (omega arith) _ h));
       memory = λ e. event_apart _ _ (rw e at h);
     })
 
 pub returns-then-is_end-clause-exact : goal.returns-then-is_end-clause-exact
 returns-then-is_end-clause-exact c =
-    let h : event_at c.args.header (take (record_length c.args.header.version) c.loop.rest.now) ≡ Ok c.in_ok-event.event = rw (← c.record_length-size.ensures.length, ← c.split_at.ensures.front) (sym c.in_ok-event.ensures) in
     rw (c.split_at.ensures.back, c.record_length-size.ensures.length)
-    (behind (ended (record_length c.args.header.version) (event_at c.args.header) c.loop.invariant.0 MOST_RECORDS c.loop.counter c.loop.rest.now _ c.loop.invariant.1 c.loop-test.true (rw c.record_length-size.ensures.length at c.if-rest-size.false) _ h (sym c.is_end.ensures ∙ c.if-is_end.true)))
+    (behind (ended _ _ _ _ _ _ _ c.loop.invariant.1 c.loop-test.true (omega arith) c.in_ok-event.event (cc (c.in_ok-event.ensures)) (cc)))
 
 pub loop-preserved : goal.loop-preserved
 loop-preserved c =
-    let h : event_at c.args.header (take (record_length c.args.header.version) c.loop.rest.now) ≡ Ok c.in_ok-event.event = rw (← c.record_length-size.ensures.length, ← c.split_at.ensures.front) (sym c.in_ok-event.ensures) in
     rw (c.split_at.ensures.back, c.record_length-size.ensures.length)
-    (c.loop.invariant.0 ++ c.in_ok-event.event ∷ [], goes_on (record_length c.args.header.version) (event_at c.args.header) c.loop.invariant.0 MOST_RECORDS c.loop.counter c.loop.rest.now _ c.loop.invariant.1 c.loop-test.true (rw c.record_length-size.ensures.length at c.if-rest-size.false) _ h (sym c.is_end.ensures ∙ c.if-is_end.false))
+    (_, goes_on _ _ _ _ _ _ _ c.loop.invariant.1 c.loop-test.true (omega arith) c.in_ok-event.event (cc (c.in_ok-event.ensures)) (cc))
 
 pub returns-then-rest-size-2-clause-exact : goal.returns-then-rest-size-2-clause-exact
-returns-then-rest-size-2-clause-exact c =
-    behind (stops_short (record_length c.args.header.version) (event_at c.args.header) c.loop.invariant.0 MOST_RECORDS c.loop.counter c.loop.rest.now _ c.loop.invariant.1 (rw c.record_length-size.ensures.length at c.if-rest-size-2.true))
+returns-then-rest-size-2-clause-exact c = behind (stops_short _ _ _ _ _ _ _ c.loop.invariant.1 (omega arith))
 
 pub returns-clause-exact : goal.returns-clause-exact
-returns-clause-exact c =
-    behind (none_left (record_length c.args.header.version) (event_at c.args.header) c.loop.invariant.0 MOST_RECORDS c.loop.counter c.loop.rest.now _ c.loop.invariant.1 c.loop-test.false (rw c.record_length-size.ensures.length at c.if-rest-size-2.false))
+returns-clause-exact c = behind (none_left _ _ _ _ _ _ _ c.loop.invariant.1 c.loop-test.false (omega arith))
