@@ -77,12 +77,10 @@ spelling_length v r =
 
 pub no_spelling_begins_another : NoSpellingBeginsAnother
 no_spelling_begins_another h a b x y most ok_a ok_b e =
-    let v = h.version in
-    let n = record_length v in
+    let n = record_length h.version in
     let again_a = spelled_is_read h a x most ok_a in
     let again_b = spelled_is_read h b y most ok_b in
-    let same : event_at h (event_spelling v a ++ x) ≡ event_at h (event_spelling v b ++ y) = ap (event_at h) e in
     let event : a.event ≡ b.event = cc (again_a.0, again_b.0) in
-    let site : a.site ≡ b.site = sym again_a.1 ∙ ap (site_at v) e ∙ again_b.1 in
-    let rests : drop n (event_spelling v a ++ x) ≡ drop n (event_spelling v b ++ y) = ap (drop n) e in
-    (ap₂ (λ (z : Event) (s : ℕ). record { event = z; site = s }) event site, sym (drop_at (event_spelling v a) x n (spelling_length v a)) ∙ rests ∙ drop_at (event_spelling v b) y n (spelling_length v b))
+    let site : a.site ≡ b.site = cc (again_a.1, again_b.1) in
+    (ap₂ (λ (z : Event) (s : ℕ). record { event = z; site = s }) event site,
+     rw (drop_at (event_spelling h.version a) x n (spelling_length h.version a), drop_at (event_spelling h.version b) y n (spelling_length h.version b)) at (ap (drop n) e))

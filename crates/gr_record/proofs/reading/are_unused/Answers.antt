@@ -14,10 +14,8 @@ pub loop-preserved : goal.loop-preserved
 unfolding are_unused
 loop-preserved c =
     let k : c.args.count - c.loop.counter ≡ suc (c.args.count - (c.loop.counter + 1)) = omega (arith, c.loop-test.true) in
-    rw (take_rest c.loop.rest.now 8) (
-      omega (arith, c.loop.invariant.0, c.loop-test.true, length-drop 8 c.loop.rest.now),
-      rw (k, eq-eqb _ _ (sym c.read_u64.ensures ∙ c.if-read_u64.false)) at c.loop.invariant.1,
-    )
+    rw (take_rest c.loop.rest.now 8)
+    (omega (arith, length-drop 8 c.loop.rest.now), rw (k, eq-eqb _ _ (sym c.read_u64.ensures ∙ c.if-read_u64.false)) at c.loop.invariant.1)
 
 pub returns : goal.returns
 unfolding are_unused
