@@ -1,7 +1,7 @@
 -- A decoder that goes on from what it kept reads what one reads that begins anew.
 use Rattle.std.proofs.Common.{◌∙◌, ap, ◌≡◌, ℕ, ◌-◌, ◌≤◌, List, [], ◌∷◌, ◌++◌, length, take, drop, Some, None, Result, Ok, Err, refl, sym, arith, inl, inr}
 use Rattle.std.proofs.lemmas.Bool.{lt-ltb, le-ltb, cases_lt}
-use Rattle.std.proofs.Math.Nat.{add-zero, zero-add}
+use Rattle.std.proofs.Math.Nat.{add-zero, sub-zero, zero-add}
 use Rattle.std.proofs.lemmas.List.{take-append-le, drop-append-le, length-append, map-append, append-nil}
 use Rattle.gr_model.specs.declared.event.Event.{Event}
 use Rattle.gr_record.specs.declared.error.RecordError.{RecordError}
@@ -18,30 +18,27 @@ use Rattle.gr_record.specs.PrefixLaws.{FaultStays}
 use Rattle.gr_record.proofs.Growing.{grown, records_grow}
 
 -- a reading of more bytes goes on from a reading of fewer
-pub record GoesOn (limit : ℕ) (piece : List ℕ) (fewer more : Reading) : Type 0 where
-  pub stands : standing limit more ≡ standing_after (standing limit fewer) (still (standing limit fewer) piece)
-  pub listed : parts_of more ≡ parts_of fewer ++ parts_of (still (standing limit fewer) piece)
+abbrev pub GoesOn : ℕ → List ℕ → Reading → Reading → Type 0
+GoesOn limit piece fewer more =
+    (standing limit more ≡ standing_after (standing limit fewer) (still (standing limit fewer) piece)) × (parts_of more ≡ parts_of fewer ++ parts_of (still (standing limit fewer) piece))
 
 module _ (limit : ℕ) (piece : List ℕ) where
   records_go_on : (h : Header) (stop : Stop) (events : List Event) (rest : List ℕ) → GoesOn limit piece (closed (Some h) (record { events = events; rest = rest; stop = stop })) (closed (Some h) (grown stop (record { events = events; rest = rest; stop = stop }) (λ n. records_of h (limit - n) (rest ++ piece)) piece))
   unfolding read_from
-  records_go_on h Inside events rest = record {
-    stands = rw (length-append events (records_of h (limit - length events) (rest ++ piece)).events) refl;
-    listed = rw (map-append parts.Event events (records_of h (limit - length events) (rest ++ piece)).events) refl;
-  }
-  records_go_on h AtEnd events (b ∷ bytes) = record { stands = rw (add-zero (length events)) refl; listed = sym (append-nil _) }
-  records_go_on h stop events rest = record { stands = rw (add-zero (length events)) refl; listed = sym (append-nil _) }
+  records_go_on h Inside events rest =
+      let more = (records_of h (limit - length events) (rest ++ piece)).events in
+      rw (length-append events more, map-append parts.Event events more) (refl, refl)
+  records_go_on h AtEnd events (b ∷ bytes) = rw (add-zero (length events)) (refl, sym (append-nil _))
+  records_go_on h stop events rest = rw (add-zero (length events)) (refl, sym (append-nil _))
 
   under_goes_on : (fed : List ℕ) → HEADER_LENGTH ≤ length fed → (x : Result Header RecordError) → GoesOn limit piece (under x limit fed) (under x limit (fed ++ piece))
-  under_goes_on fed long (Err e) = record { stands = refl; listed = refl }
+  under_goes_on fed long (Err e) = (refl, refl)
   under_goes_on fed long (Ok h) =
       let r = records_of h limit (drop HEADER_LENGTH fed) in
       rw (drop-append-le HEADER_LENGTH fed piece long, records_grow (record_length h.version) (event_at h) piece limit (drop HEADER_LENGTH fed)) (records_go_on h r.stop r.events r.rest)
 
   first_bytes : (fed : List ℕ) → GoesOn limit piece (record { header = None; events = []; rest = fed; stop = Inside }) (reading limit (fed ++ piece))
-  first_bytes fed =
-      let k : limit - 0 ≡ limit = omega arith in
-      record { stands = rw (k, zero-add (length (reading limit (fed ++ piece)).events)) refl; listed = rw k refl }
+  first_bytes fed = rw (sub-zero limit, zero-add (length (reading limit (fed ++ piece)).events)) (refl, refl)
 
   pub reading_goes_on : (fed : List ℕ) → GoesOn limit piece (reading limit fed) (reading limit (fed ++ piece))
   unfolding read_from
@@ -59,6 +56,6 @@ pub fault_stays : FaultStays
 fault_stays limit bytes more e is =
     let g = reading_goes_on limit more bytes in
     let s = standing limit (reading limit bytes) in (
-      ap (λ (d : Standing). d.stop) g.stands ∙ ap (λ (stop : Stop). (still_at stop s more).stop) is,
-      g.listed ∙ ap (λ (stop : Stop). parts_of (reading limit bytes) ++ parts_of (still_at stop s more)) is ∙ append-nil (parts_of (reading limit bytes)),
+      ap (λ (d : Standing). d.stop) g.0 ∙ ap (λ (stop : Stop). (still_at stop s more).stop) is,
+      g.1 ∙ ap (λ (stop : Stop). parts_of (reading limit bytes) ++ parts_of (still_at stop s more)) is ∙ append-nil (parts_of (reading limit bytes)),
     )

@@ -1,5 +1,5 @@
 -- What is spelled is read again, whatever follows it.
-use Rattle.std.proofs.Common.{◌≡◌, ℕ, ◌+◌, ◌*◌, ◌/◌, ◌%◌, ◌<◌, ◌≤◌, true, List, [], ◌∷◌, ◌++◌, length, drop, Some, Ok, refl, sym, ap, ap₂, ◌∙◌, arith}
+use Rattle.std.proofs.Common.{◌≡◌, ℕ, ◌+◌, ◌*◌, ◌/◌, ◌%◌, ◌<◌, ◌≤◌, true, List, [], ◌∷◌, ◌++◌, length, drop, Some, Ok, refl, ap, ap₂, arith}
 use Rattle.std.specs.Prelude.{All, ◌==◌, ◌||◌}
 use Rattle.std.proofs.lemmas.Bool.{lt-leb, le-ltb, ne_eqb}
 use Rattle.std.proofs.lemmas.Bool.Decides.{nat_tests}
@@ -81,6 +81,7 @@ no_spelling_begins_another h a b x y most ok_a ok_b e =
     let again_a = spelled_is_read h a x most ok_a in
     let again_b = spelled_is_read h b y most ok_b in
     let event : a.event ≡ b.event = cc (again_a.0, again_b.0) in
-    let site : a.site ≡ b.site = cc (again_a.1, again_b.1) in
-    (ap₂ (λ (z : Event) (s : ℕ). record { event = z; site = s }) event site,
-     rw (drop_at (event_spelling h.version a) x n (spelling_length h.version a), drop_at (event_spelling h.version b) y n (spelling_length h.version b)) at (ap (drop n) e))
+    let site : a.site ≡ b.site = cc (again_a.1, again_b.1) in (
+      ap₂ (λ (z : Event) (s : ℕ). record { event = z; site = s }) event site,
+      rw (drop_at (event_spelling h.version a) x n (spelling_length h.version a), drop_at (event_spelling h.version b) y n (spelling_length h.version b)) at (ap (drop n) e),
+    )

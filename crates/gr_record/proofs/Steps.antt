@@ -104,22 +104,12 @@ settled limit count h held AtEnd ok = rw (ok, add-zero count) (refl, refl)
 settled limit count h held (AtFault e) ok = rw (ok.0, add-zero count) (refl, refl)
 
 -- what was read of a whole piece
-pub record Fed (old : Standing) (piece : List ℕ) (before : List Part) (new : Standing) (after : List Part) : Type 0 where
-  pub stands : new ≡ standing_after old (still old piece)
-  pub parts : after ≡ before ++ parts_of (still old piece)
-
-pub fed : (old new : Standing) (piece : List ℕ) (before after : List Part) → IsStanding new → Continues old piece before new [] after → Fed old piece before new after
-fed old new piece before after ok c =
+pub fed : (old new : Standing) (piece : List ℕ) (before after : List Part) → IsStanding new → Continues old piece before new [] after → (bytes : List ℕ) → StandsFor old bytes
+    → StandsFor new (bytes ++ piece) × GrowsAs (parts_of (reading old.limit bytes)) (parts_of (reading old.limit (bytes ++ piece))) before after
+fed old new piece before after ok c bytes so =
     let s = settled new.limit new.count new.header new.held new.stop ok.held in
-    record { stands = sym s.0 ∙ sym c.stands; parts = sym (rw (s.1, append-nil after) at c.parts) }
-
-module _ (old new : Standing) (piece : List ℕ) (before after : List Part) (f : Fed old piece before new after) where
-  pub stands_for : (bytes : List ℕ) → StandsFor old bytes → StandsFor new (bytes ++ piece)
-  stands_for bytes so =
-      let g = reading_goes_on old.limit piece bytes in
-      f.stands ∙ ap (λ (d : Standing). standing_after d (still d piece)) so ∙ sym g.stands ∙ ap (λ (n : ℕ). standing n (reading n (bytes ++ piece))) (sym (ap (λ (d : Standing). d.limit) f.stands))
-
-  pub grows_as : (bytes : List ℕ) → StandsFor old bytes → GrowsAs (parts_of (reading old.limit bytes)) (parts_of (reading old.limit (bytes ++ piece))) before after
-  grows_as bytes so =
-      let g = reading_goes_on old.limit piece bytes in
-      (parts_of (still old piece), g.listed ∙ ap (λ (d : Standing). parts_of (reading old.limit bytes) ++ parts_of (still d piece)) (sym so), f.parts)
+    let stands : new ≡ standing_after old (still old piece) = sym s.0 ∙ sym c.stands in
+    let g = reading_goes_on old.limit piece bytes in (
+      stands ∙ ap (λ (d : Standing). standing_after d (still d piece)) so ∙ sym g.0 ∙ ap (λ (n : ℕ). standing n (reading n (bytes ++ piece))) (sym (ap (λ (d : Standing). d.limit) stands)),
+      (parts_of (still old piece), g.1 ∙ ap (λ (d : Standing). parts_of (reading old.limit bytes) ++ parts_of (still d piece)) (sym so), sym (rw (s.1, append-nil after) at c.parts)),
+    )
