@@ -1,5 +1,5 @@
 -- What values of arguments are, and that they ask for one thing at most.
-use Rattle.std.proofs.Common.{◌≡◌, ℕ, List, Option, None, Some, false, true, true≢false, sym, codes, inl, inr, refl, subst, Result, Ok, Err}
+use Rattle.std.proofs.Common.{arith, ◌≡◌, ℕ, List, Option, Some, true≢false, sym, codes, refl, subst, Result, Ok, Err}
 use Rattle.std.specs.Prelude.{◌↔◌, IfOk, IsOk, Bool}
 use Rattle.std.specs.Result.{result_ok}
 use Rattle.clap.specs.Walk.{Row, Text, first_of}
@@ -9,55 +9,48 @@ use Rattle.gr_model.specs.declared.event.Word.{Word}
 use Rattle.gr_model.specs.Configs.{IsConfig, Settings}
 use Rattle.gr_arguments.specs.Asked.{HasEvent, IsForm, IsMost, IsNumberOr, IsSetUp, IsTheOne, NamesWord}
 use Rattle.gr_arguments.specs.Naming.{Names, NamesEvent}
-use Rattle.gr_arguments.proofs.NamingLemmas.{events_one, names_one}
 
 -- ---- words of memory
+
+-- a space and a number name one word at most
+names_one : (space number : List ℕ) (v w : Word) → Names space number v → Names space number w → v ≡ w
+names_one space number v w a b = grind arith
 
 -- where the space and the number name no word, the values do not
 pub unnamed : (rows : List Row) (space number : Text) → first_of (codes "SPACE") rows ≡ Some space → first_of (codes "WORD") rows ≡ Some number → ((w : Word) → Names space number w → ⊥) → (w : Word) → NamesWord rows w → ⊥
 unnamed rows space number at_space at_number none w named =
-    let same_space : named.space ≡ space = cc in
-    let same_number : named.number ≡ number = cc in
-    none w (rw (same_space, same_number) at named.names)
+    let same : (named.space ≡ space) × (named.number ≡ number) = (cc, cc) in
+    none w (rw (same.0, same.1) at named.names)
 
 -- the values name one word at most
 pub same_word : (rows : List Row) (v w : Word) → NamesWord rows v → NamesWord rows w → v ≡ w
 same_word rows v w a b =
-    let same_space : b.space ≡ a.space = cc in
-    let same_number : b.number ≡ a.number = cc in
-    names_one a.space a.number v w a.names (rw (same_space, same_number) at b.names)
+    let same : (b.space ≡ a.space) × (b.number ≡ a.number) = (cc, cc) in
+    names_one a.space a.number v w a.names (rw (same.0, same.1) at b.names)
 
 -- ---- the command `explain`
 
 -- they ask for one form at most
 pub one_form : (rows : List Row) (p q : Bool) → IsForm rows p → IsForm rows q → p ≡ q
-one_form rows false true h k = cc
-one_form rows true false h k = cc
-one_form rows p q h k = cc
+one_form rows p q h k = grind arith
 
 -- ---- the command `races`
 
 pub one_most : (rows : List Row) (m n : Option ℕ) → IsMost rows m → IsMost rows n → m ≡ n
-one_most rows None None a b = cc
-one_most rows (Some m) None a b = cc
-one_most rows m n a b = cc
+one_most rows m n a b = grind arith
 
 -- ---- the command `run`
 
 -- an option has one number at most
 one_number : (rows : List Row) (option : Text) (default m n : ℕ) → IsNumberOr rows option default m → IsNumberOr rows option default n → m ≡ n
-one_number rows option default m n (inl a) (inl b) = cc
-one_number rows option default m n (inr a) (inl b) = cc
-one_number rows option default m n (inl a) (inr b) = cc
-one_number rows option default m n (inr a) (inr b) = cc
+one_number rows option default m n a b = grind arith
 
 -- the values set up one run at most
 pub one_set_up : (rows : List Row) (c d : Settings) → IsSetUp rows c → IsNumberOr rows (codes "workers") 2 d.workers → IsNumberOr rows (codes "queues") 1 d.queues → IsNumberOr rows (codes "capacity") 1024 d.capacity → c ≡ d
 one_set_up rows c d a workers queues capacity =
-    let same_workers : c.workers ≡ d.workers = one_number rows (codes "workers") 2 c.workers d.workers a.workers workers in
-    let same_queues : c.queues ≡ d.queues = one_number rows (codes "queues") 1 c.queues d.queues a.queues queues in
-    let same_capacity : c.capacity ≡ d.capacity = one_number rows (codes "capacity") 1024 c.capacity d.capacity a.capacity capacity in
-    λ i. record { workers = same_workers i; queues = same_queues i; capacity = same_capacity i }
+    let same : (c.workers ≡ d.workers) × (c.queues ≡ d.queues) × (c.capacity ≡ d.capacity)
+    = (one_number rows (codes "workers") 2 _ _ a.workers workers, one_number rows (codes "queues") 1 _ _ a.queues queues, one_number rows (codes "capacity") 1024 _ _ a.capacity capacity) in
+    λ i. record { workers = same.0 i; queues = same.1 i; capacity = same.2 i }
 
 -- the numbers of the options set up a run exactly where a run may have them
 pub set_up : (rows : List Row) (given : Settings) (made : Result Settings ConfigError) → IsNumberOr rows (codes "workers") 2 given.workers → IsNumberOr rows (codes "queues") 1 given.queues → IsNumberOr rows (codes "capacity") 1024 given.capacity → (IsOk made ↔ IsConfig given) → IfOk made (λ c. c ≡ given) → IsTheOne (IsSetUp rows) (result_ok made)
@@ -68,11 +61,12 @@ set_up rows given (Err e) workers queues capacity accepted is =
 
 -- ---- the command `why-held`
 
+-- three numbers name one event at most
+events_one : (group item index : List ℕ) (d e : EventId) → NamesEvent group item index d → NamesEvent group item index e → d ≡ e
+events_one group item index d e a b = grind arith
+
 -- the values name one event at most
 pub same_event : (rows : List Row) (d e : EventId) → HasEvent rows d → HasEvent rows e → d ≡ e
 same_event rows d e h k =
-    let same_group : k.group ≡ h.group = cc in
-    let same_item : k.item ≡ h.item = cc in
-    let same_index : k.index ≡ h.index = cc in
-    let other : NamesEvent h.group h.item h.index e = rw (same_group, same_item, same_index) at k.names in
-    events_one h.group h.item h.index d e h.names other
+    let same : (k.group ≡ h.group) × (k.item ≡ h.item) × (k.index ≡ h.index) = (cc, cc, cc) in
+    events_one h.group h.item h.index d e h.names (rw (same.0, same.1, same.2) at k.names)

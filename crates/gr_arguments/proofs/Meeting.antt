@@ -1,5 +1,5 @@
 -- The command that a parse met.
-use Rattle.std.proofs.Common.{◌≡◌, ◌∙◌, false, true, List, [], Option, refl, ap, subst}
+use Rattle.std.proofs.Common.{◌≡◌, ◌∙◌, true, List, [], Option, refl, ap, subst}
 use Rattle.clap.specs.declared.parser.matches.ArgMatches.{ArgMatches}
 use Rattle.clap.specs.Walk.{Row}
 use Rattle.clap.specs.Words.{App, HasMatchesOf, Text, fault_of, is_simple, is_simple_and_free, subcommand_of, subcommand_rows_of}
@@ -9,24 +9,19 @@ use Rattle.gr_arguments.specs.Asked.{Asked, AsksTo, IsAskedBy}
 use Rattle.gr_arguments.specs.Commands.{command_of, faults, gpurace, name_met, values_met}
 use Rattle.gr_arguments.specs.Plain.{NamesAsk, NoWordAsks}
 
-gpurace_is_simple : is_simple gpurace ≡ true
+gpurace_is_simple : (is_simple gpurace ≡ true) × (is_simple_and_free gpurace ≡ true)
 unfolding clap_on_literals
-gpurace_is_simple = refl
-
-gpurace_is_free : is_simple_and_free gpurace ≡ true
-unfolding clap_on_literals
-gpurace_is_free = refl
+gpurace_is_simple = (refl, refl)
 
 -- ---- the names of tasks
 
 pub names_ask : NamesAsk
 unfolding clap_on_literals faults command_of
-names_ask (Replay false) = record { taken = refl; asks = record { command = refl; values = refl } }
-names_ask (Replay true) = record { taken = refl; asks = record { command = refl; values = refl } }
 names_ask Pack = record { taken = refl; asks = record { command = refl; values = tt } }
-names_ask (Dump false) = record { taken = refl; asks = record { command = refl; values = refl } }
-names_ask (Dump true) = record { taken = refl; asks = record { command = refl; values = refl } }
 names_ask Upgrade = record { taken = refl; asks = record { command = refl; values = tt } }
+names_ask (Dump true) = record { taken = refl; asks = record { command = refl; values = refl } }
+names_ask (Replay true) = record { taken = refl; asks = record { command = refl; values = refl } }
+names_ask t = record { taken = refl; asks = record { command = refl; values = refl } }
 
 pub no_word_asks : NoWordAsks
 unfolding clap_on_literals faults command_of
@@ -37,7 +32,7 @@ no_word_asks = record { taken = refl; asks = record { command = refl; values = r
 module _ (command : App) (is : command ≡ gpurace) (words : List Text) where
   -- the command that was built is simple, and has the program's faults
   pub is_free : is_simple_and_free command ≡ true
-  is_free = ap is_simple_and_free is ∙ gpurace_is_free
+  is_free = ap is_simple_and_free is ∙ gpurace_is_simple.1
 
   pub faults_are : fault_of command words ≡ faults words
   unfolding faults
@@ -47,7 +42,7 @@ module _ (command : App) (is : command ≡ gpurace) (words : List Text) where
   module _ (m : ArgMatches) (matches : HasMatchesOf command words m) where
     meets : subcommand_rows_of m ≡ command_of words
     unfolding command_of
-    meets = (matches (ap is_simple is ∙ gpurace_is_simple)).1 ∙ ap (λ (a : App). subcommand_of a words) is
+    meets = (matches (ap is_simple is ∙ gpurace_is_simple.0)).1 ∙ ap (λ (a : App). subcommand_of a words) is
 
     pub asks_to : (a : Asked) → faults words ≡ [] → IsAskedBy (name_met (subcommand_rows_of m)) (values_met (subcommand_rows_of m)) a → AsksTo a words
     asks_to a taken asks = record { taken = taken; asks = subst (λ (c : Option (Text × List Row)). IsAskedBy (name_met c) (values_met c) a) meets asks }

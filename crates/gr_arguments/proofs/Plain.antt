@@ -1,16 +1,15 @@
 -- Words that begin with no hyphen, in the walk over the words of a command line.
 use Rattle.std.proofs.Common.{◌≡◌, ◌∙◌, ℕ, Bool, true, false, List, [], ◌∷◌, ◌++◌, Option, Some, None, refl, sym, ap, ap₂, append_assoc, append-nil, codes, arith, subst}
-use Rattle.std.specs.Prelude.{◌==◌, fold, is_some}
+use Rattle.std.specs.Prelude.{fold, is_some}
 use Rattle.clap.proofs.OnLiterals.{clap_on_literals}
 use Rattle.clap.specs.Kinds.{Kinds, or_else}
 use Rattle.clap.specs.Simple.{App, Shape, built, entered, names_of, subcommand_of, built_leaf, inherited}
-use Rattle.clap.specs.Walk.{Held, Names, Row, Rule, Step, Text, Walk, finished, idle, positional, settled, first_of, value, walk, walk_from, nothing_held, walked, rows_after, word_met, after_step}
+use Rattle.clap.specs.Walk.{Held, Names, Row, Step, Text, Walk, finished, idle, positional, settled, first_of, value, walk, walk_from, nothing_held, walked, rows_after, word_met, after_step}
 use Rattle.clap.specs.Faults.{check_fault, defaults_fault, entered_fault, fault_of, level_fault, settle_fault, step_fault, turn_fault, walk_fault, word_fault}
 use Rattle.clap.specs.declared.parser.matches.ValueSource.TheVariants.{CommandLine, DefaultValue}
 use Rattle.clap.specs.declared.builder.value_parser.ValueParser.TheVariants.{String}
 use Rattle.clap.specs.Values.{reading_of}
-use Rattle.std.specs.Int.{IsInRange}
-use Rattle.std.proofs.lemmas.Bool.Decides.{Decides-eqb}
+use Rattle.std.proofs.lemmas.Bool.{ne_eqb}
 use Rattle.std.proofs.lemmas.Str.Parse.{digit_from_value}
 use Rattle.gr_model.specs.declared.event.Word.{Word}
 use Rattle.gr_model.specs.declared.event.Word.TheVariants.{Global, Local}
@@ -24,23 +23,14 @@ use Rattle.gr_arguments.proofs.Asking.{unnamed}
 -- ---- one word
 
 -- where no command is due, such a word is a value, and no fault
-module _ (c : List Rule) (position : ℕ) (h : Held) where
-  idle_value : (word : Text) → IsPlain word → word_met c [] false idle position word h ≡ (h, value)
+module _ (s : Shape) (position : ℕ) (h : Held) where
+  idle_value : (word : Text) → IsPlain word → (word_met s.rules [] false idle position word h ≡ (h, value)) × (word_fault s [] false idle word h ≡ [])
   idle_value [] none = absurd none
-  idle_value (x ∷ xs) other = rw other (rw other refl)
+  idle_value (x ∷ xs) other = (rw other (rw other refl), rw other (rw other refl))
 
-  positional_value : (word : Text) → IsPlain word → word_met c [] false positional position word h ≡ (h, value)
+  positional_value : (word : Text) → IsPlain word → (word_met s.rules [] false positional position word h ≡ (h, value)) × (word_fault s [] false positional word h ≡ [])
   positional_value [] none = absurd none
-  positional_value (x ∷ xs) other = rw other (rw other refl)
-
-module _ (s : Shape) (h : Held) where
-  idle_fault : (word : Text) → IsPlain word → word_fault s [] false idle word h ≡ []
-  idle_fault [] none = absurd none
-  idle_fault (x ∷ xs) other = rw other (rw other refl)
-
-  positional_no_fault : (word : Text) → IsPlain word → word_fault s [] false positional word h ≡ []
-  positional_no_fault [] none = absurd none
-  positional_no_fault (x ∷ xs) other = rw other (rw other refl)
+  positional_value (x ∷ xs) other = (rw other (rw other refl), rw other (rw other refl))
 
 -- ---- the words behind the command's name
 
@@ -53,17 +43,19 @@ explain = codes "explain"
 abbrev stopped_at : List Text → Walk
 stopped_at rest = record { held = nothing_held; waiting = idle; position = 1; is_trailing = false; stopped = Some (explain, rest) }
 
-enters : walked app.top.rules (names_of app) (walk_from nothing_held) explain ≡ stopped_at []
+enters : (walked app.top.rules (names_of app) (walk_from nothing_held) explain ≡ stopped_at []) × (turn_fault app.top (names_of app) (walk_from nothing_held) explain ≡ [])
 unfolding clap_on_literals
-enters = refl
+enters = (refl, refl)
 
-stays : (c : List Rule) (names : Names) (before rest : List Text) → fold (walked c names) (stopped_at before) rest ≡ stopped_at (before ++ rest)
-unfolding walked
-stays c names before [] = ap stopped_at (sym (append-nil before))
-stays c names before (word ∷ rest) = stays c names (before ++ word ∷ []) rest ∙ ap stopped_at (append_assoc before (word ∷ []) rest)
+stays : (s : Shape) (names : Names) (before rest : List Text) → (fold (walked s.rules names) (stopped_at before) rest ≡ stopped_at (before ++ rest)) × (walk_fault s names (stopped_at before) rest ≡ [])
+unfolding walk_fault walked
+stays s names before [] = (ap stopped_at (sym (append-nil before)), refl)
+stays s names before (word ∷ rest) =
+    let ih = stays s names (before ++ word ∷ []) rest in
+    (ih.0 ∙ ap stopped_at (append_assoc before (word ∷ []) rest), ih.1)
 
 stops : (rest : List Text) → walk app.top.rules (names_of app) nothing_held (explain ∷ rest) ≡ stopped_at rest
-stops rest = ap (λ (w : Walk). fold (walked app.top.rules (names_of app)) w rest) enters ∙ stays app.top.rules (names_of app) [] rest
+stops rest = ap (λ (w : Walk). fold (walked app.top.rules (names_of app)) w rest) enters.0 ∙ (stays app.top (names_of app) [] rest).0
 
 -- ---- the words of the command
 
@@ -100,35 +92,37 @@ flag_left_out false = left_out (codes "long") ∷ left_out (codes "json") ∷ []
 abbrev begun : Bool → Walk
 begun long = walk_from (record { rows = flag_given long; pending = None; skip = 0 })
 
-takes_flag : walked showing.rules [] (walk_from nothing_held) (codes "--long") ≡ begun true
-unfolding clap_on_literals
-takes_flag = refl
-
-flag_fault : turn_fault showing [] (walk_from nothing_held) (codes "--long") ≡ []
-unfolding clap_on_literals
-flag_fault = refl
-
-begins : (long : Bool) (rest : List Text) → walk showing.rules [] nothing_held (flag_words long ++ rest) ≡ fold (walked showing.rules []) (begun long) rest
-begins true rest = ap (λ (w : Walk). fold (walked showing.rules []) w rest) takes_flag
-begins false rest = refl
-
-begins_without_fault : (long : Bool) (rest : List Text) → walk_fault showing [] (walk_from nothing_held) (flag_words long ++ rest) ≡ walk_fault showing [] (begun long) rest
-unfolding walk_fault
-begins_without_fault true rest = ap₂ (λ (k : Kinds) (w : Walk). or_else k (walk_fault showing [] w rest)) flag_fault takes_flag
-begins_without_fault false rest = refl
-
 -- the walk takes a word, which is no fault
 abbrev Takes : Walk → Text → Walk → Type 0
 Takes w word after = (walked showing.rules [] w word ≡ after) × (turn_fault showing [] w word ≡ [])
+
+-- and so all these words
+abbrev TakesAll : Walk → List Text → Walk → Type 0
+TakesAll w words after = (fold (walked showing.rules []) w words ≡ after) × (walk_fault showing [] w words ≡ [])
+
+takes_more : (w mid after : Walk) (word : Text) (words : List Text) → Takes w word mid → TakesAll mid words after → TakesAll w (word ∷ words) after
+unfolding walk_fault
+takes_more w mid after word words one more = (
+  ap (λ (v : Walk). fold (walked showing.rules []) v words) one.0 ∙ more.0,
+  ap₂ (λ (k : Kinds) (v : Walk). or_else k (walk_fault showing [] v words)) one.1 one.0 ∙ more.1,
+)
+
+takes_flag : Takes (walk_from nothing_held) (codes "--long") (begun true)
+unfolding clap_on_literals
+takes_flag = (refl, refl)
+
+begins : (long : Bool) (rest : List Text) (after : Walk) → TakesAll (begun long) rest after → TakesAll (walk_from nothing_held) (flag_words long ++ rest) after
+begins true rest after more = takes_more _ _ _ _ rest takes_flag more
+begins false rest after more = more
 
 -- where a word is a value and no fault, as a plain one is, this is what the walk takes
 abbrev met_at : Walk → Text → Held × Step
 met_at w word = word_met showing.rules [] w.is_trailing w.waiting w.position word w.held
 
-by_value : (w : Walk) (word : Text) → met_at w word ≡ (w.held, value) → word_fault showing [] w.is_trailing w.waiting word w.held ≡ [] →
+by_value : (w : Walk) (word : Text) → (met_at w word ≡ (w.held, value)) × (word_fault showing [] w.is_trailing w.waiting word w.held ≡ []) →
     (after_step showing.rules word w (met_at w word).0 (met_at w word).1 ≡ after_step showing.rules word w w.held value)
     × (or_else (word_fault showing [] w.is_trailing w.waiting word w.held) (step_fault showing w.position (met_at w word).0 (met_at w word).1) ≡ or_else [] (step_fault showing w.position w.held value))
-by_value w word met none = (ap (λ (m : Held × Step). after_step showing.rules word w m.0 m.1) met, ap₂ (λ (k : Kinds) (m : Held × Step). or_else k (step_fault showing w.position m.0 m.1)) none met)
+by_value w word is = (ap (λ (m : Held × Step). after_step showing.rules word w m.0 m.1) is.0, ap₂ (λ (k : Kinds) (m : Held × Step). or_else k (step_fault showing w.position m.0 m.1)) is.1 is.0)
 
 module _ (space number : Text) (space_plain : IsPlain space) (number_plain : IsPlain number) where
   -- the walk behind SPACE, and behind WORD
@@ -152,49 +146,44 @@ module _ (space number : Text) (space_plain : IsPlain space) (number_plain : IsP
   -- such words are taken, and are no fault
   space_taken : (long : Bool) → Takes (begun long) space (behind_space long)
   unfolding clap_on_literals
-  space_taken true = by_value (begun true) space (idle_value showing.rules _ _ space space_plain) (idle_fault showing _ space space_plain)
-  space_taken false = by_value (begun false) space (idle_value showing.rules _ _ space space_plain) (idle_fault showing _ space space_plain)
+  space_taken true = by_value (begun true) space (idle_value showing _ _ space space_plain)
+  space_taken false = by_value (begun false) space (idle_value showing _ _ space space_plain)
 
   number_taken : (long : Bool) → Takes (behind_space long) number (behind_number long)
   unfolding clap_on_literals
-  number_taken true = by_value (behind_space true) number (idle_value showing.rules _ _ number number_plain) (idle_fault showing _ number number_plain)
-  number_taken false = by_value (behind_space false) number (idle_value showing.rules _ _ number number_plain) (idle_fault showing _ number number_plain)
+  number_taken true = by_value (behind_space true) number (idle_value showing _ _ number number_plain)
+  number_taken false = by_value (behind_space false) number (idle_value showing _ _ number number_plain)
 
   file_taken : (long : Bool) (file : Text) → IsPlain file → Takes (behind_number long) file (with_files long [] file)
   unfolding clap_on_literals
-  file_taken true file plain = by_value (behind_number true) file (idle_value showing.rules _ _ file plain) (idle_fault showing _ file plain)
-  file_taken false file plain = by_value (behind_number false) file (idle_value showing.rules _ _ file plain) (idle_fault showing _ file plain)
+  file_taken true file plain = by_value (behind_number true) file (idle_value showing _ _ file plain)
+  file_taken false file plain = by_value (behind_number false) file (idle_value showing _ _ file plain)
 
   next_taken : (long : Bool) (prefix : List Text) (last word : Text) → IsPlain word → Takes (with_files long prefix last) word (with_files long (prefix ++ last ∷ []) word)
   unfolding clap_on_literals
-  next_taken true [] last word plain = by_value (with_files true [] last) word (positional_value showing.rules _ _ word plain) (positional_no_fault showing _ word plain)
-  next_taken true (f ∷ fs) last word plain = by_value (with_files true (f ∷ fs) last) word (positional_value showing.rules _ _ word plain) (positional_no_fault showing _ word plain)
-  next_taken false [] last word plain = by_value (with_files false [] last) word (positional_value showing.rules _ _ word plain) (positional_no_fault showing _ word plain)
-  next_taken false (f ∷ fs) last word plain = by_value (with_files false (f ∷ fs) last) word (positional_value showing.rules _ _ word plain) (positional_no_fault showing _ word plain)
+  next_taken true [] last word plain = by_value (with_files true [] last) word (positional_value showing _ _ word plain)
+  next_taken true (f ∷ fs) last word plain = by_value (with_files true (f ∷ fs) last) word (positional_value showing _ _ word plain)
+  next_taken false [] last word plain = by_value (with_files false [] last) word (positional_value showing _ _ word plain)
+  next_taken false (f ∷ fs) last word plain = by_value (with_files false (f ∷ fs) last) word (positional_value showing _ _ word plain)
 
   -- the walk over files
   pub record Ends (long : Bool) (prefix : List Text) (last : Text) (files : List Text) : Type 0 where
     pub kept : List Text
     pub waits : Text
     pub all : kept ++ waits ∷ [] ≡ prefix ++ last ∷ files
-    pub walks : fold (walked showing.rules []) (with_files long prefix last) files ≡ with_files long kept waits
+    pub walks : TakesAll (with_files long prefix last) files (with_files long kept waits)
 
   over_files : (long : Bool) (prefix : List Text) (last : Text) (files : List Text) → ArePlain files → Ends long prefix last files
-  over_files long prefix last [] plain = record { kept = prefix; waits = last; all = refl; walks = refl }
+  unfolding walk_fault
+  over_files long prefix last [] plain = record { kept = prefix; waits = last; all = refl; walks = (refl, refl) }
   over_files long prefix last (file ∷ files) plain =
       let rest = over_files long (prefix ++ last ∷ []) file files plain.1 in
       record {
         kept = rest.kept;
         waits = rest.waits;
         all = rest.all ∙ append_assoc prefix (last ∷ []) (file ∷ files);
-        walks = ap (λ (w : Walk). fold (walked showing.rules []) w files) (next_taken long prefix last file plain.0).0 ∙ rest.walks;
+        walks = takes_more _ _ _ _ files (next_taken long prefix last file plain.0) rest.walks;
       }
-
-  files_fault : (long : Bool) (prefix : List Text) (last : Text) (files : List Text) → ArePlain files → walk_fault showing [] (with_files long prefix last) files ≡ []
-  unfolding walk_fault
-  files_fault long prefix last [] plain = refl
-  files_fault long prefix last (file ∷ files) plain =
-      ap₂ (λ (k : Kinds) (w : Walk). or_else k (walk_fault showing [] w files)) (next_taken long prefix last file plain.0).1 (next_taken long prefix last file plain.0).0 ∙ files_fault long (prefix ++ last ∷ []) file files plain.1
 
   -- the whole command, from the end of its walk
 
@@ -202,67 +191,37 @@ module _ (space number : Text) (space_plain : IsPlain space) (number_plain : IsP
   of_walk end faults =
       or_else faults (or_else [] (or_else (settle_fault showing.rules showing.args_override_self end.held) (or_else (defaults_fault (settled showing.rules end.held).rows showing.rules) (check_fault showing (finished showing.rules end.held) false))))
 
-  no_fault_at_end : (long : Bool) (kept : List Text) (waits : Text) → of_walk (with_files long kept waits) [] ≡ []
+  at_end : (long : Bool) (kept : List Text) (waits : Text) → (of_walk (with_files long kept waits) [] ≡ []) × (finished showing.rules (with_files long kept waits).held ≡ all_rows long (kept ++ waits ∷ []))
   unfolding clap_on_literals of_walk
-  no_fault_at_end true [] waits = refl
-  no_fault_at_end true (f ∷ fs) waits = refl
-  no_fault_at_end false [] waits = refl
-  no_fault_at_end false (f ∷ fs) waits = refl
-
-  rows_at_end : (long : Bool) (kept : List Text) (waits : Text) → finished showing.rules (with_files long kept waits).held ≡ all_rows long (kept ++ waits ∷ [])
-  unfolding clap_on_literals
-  rows_at_end true [] waits = refl
-  rows_at_end true (f ∷ fs) waits = refl
-  rows_at_end false [] waits = refl
-  rows_at_end false (f ∷ fs) waits = refl
+  at_end true (f ∷ fs) waits = (refl, refl)
+  at_end false (f ∷ fs) waits = (refl, refl)
+  at_end true [] waits = (refl, refl)
+  at_end false [] waits = (refl, refl)
 
   module _ (long : Bool) (file : Text) (files : List Text) (plain : ArePlain (file ∷ files)) where
     end : Ends long [] file files
     end = over_files long [] file files plain.1
 
-    walks_all : walk showing.rules [] nothing_held (flag_words long ++ space ∷ number ∷ file ∷ files) ≡ with_files long end.kept end.waits
-    walks_all =
-        begins long (space ∷ number ∷ file ∷ files)
-        ∙ ap (λ (w : Walk). fold (walked showing.rules []) w (number ∷ file ∷ files)) (space_taken long).0
-        ∙ ap (λ (w : Walk). fold (walked showing.rules []) w (file ∷ files)) (number_taken long).0
-        ∙ ap (λ (w : Walk). fold (walked showing.rules []) w files) (file_taken long file plain.0).0
-        ∙ end.walks
-
-    no_word_fault : walk_fault showing [] (walk_from nothing_held) (flag_words long ++ space ∷ number ∷ file ∷ files) ≡ []
-    unfolding walk_fault
-    no_word_fault =
-        begins_without_fault long (space ∷ number ∷ file ∷ files)
-        ∙ ap₂ (λ (k : Kinds) (w : Walk). or_else k (walk_fault showing [] w (number ∷ file ∷ files))) (space_taken long).1 (space_taken long).0
-        ∙ ap₂ (λ (k : Kinds) (w : Walk). or_else k (walk_fault showing [] w (file ∷ files))) (number_taken long).1 (number_taken long).0
-        ∙ ap₂ (λ (k : Kinds) (w : Walk). or_else k (walk_fault showing [] w files)) (file_taken long file plain.0).1 (file_taken long file plain.0).0
-        ∙ files_fault long [] file files plain.1
+    walks_all : TakesAll (walk_from nothing_held) (flag_words long ++ space ∷ number ∷ file ∷ files) (with_files long end.kept end.waits)
+    walks_all = begins long _ _ (takes_more _ _ _ _ _ (space_taken long) (takes_more _ _ _ _ _ (number_taken long) (takes_more _ _ _ _ _ (file_taken long file plain.0) end.walks)))
 
     pub no_fault_below : level_fault showing [] nothing_held (flag_words long ++ space ∷ number ∷ file ∷ files) false [] ≡ []
     unfolding of_walk
-    no_fault_below = ap₂ of_walk walks_all no_word_fault ∙ no_fault_at_end long end.kept end.waits
+    no_fault_below = ap₂ of_walk walks_all.0 walks_all.1 ∙ (at_end long end.kept end.waits).0
 
     pub rows_are : rows_after showing.rules [] (flag_words long ++ space ∷ number ∷ file ∷ files) ≡ all_rows long (file ∷ files)
-    rows_are = ap (λ (w : Walk). finished showing.rules w.held) walks_all ∙ rows_at_end long end.kept end.waits ∙ ap (λ (fs : List Text). all_rows long fs) end.all
+    rows_are = ap (λ (w : Walk). finished showing.rules w.held) walks_all.0 ∙ (at_end long end.kept end.waits).1 ∙ ap (λ (fs : List Text). all_rows long fs) end.all
 
 -- ---- the program
-
-stopped_faults : (s : Shape) (names : Names) (before rest : List Text) → walk_fault s names (stopped_at before) rest ≡ []
-unfolding walk_fault walked
-stopped_faults s names before [] = refl
-stopped_faults s names before (word ∷ rest) = stopped_faults s names (before ++ word ∷ []) rest
 
 of_top : Walk → Kinds → Kinds
 of_top end faults =
     or_else faults (or_else (entered_fault app end.stopped) (or_else (settle_fault app.top.rules app.top.args_override_self end.held) (or_else (defaults_fault (settled app.top.rules end.held).rows app.top.rules) (check_fault app.top (finished app.top.rules end.held) (is_some (entered app end.stopped))))))
 
-name_fault : turn_fault app.top (names_of app) (walk_from nothing_held) explain ≡ []
-unfolding clap_on_literals
-name_fault = refl
-
 faults_are_below : (rest : List Text) → fault_of gpurace (explain ∷ rest) ≡ of_top (stopped_at rest) []
 unfolding of_top walk_fault
 faults_are_below rest =
-    ap₂ of_top (stops rest) (ap₂ (λ (k : Kinds) (w : Walk). or_else k (walk_fault app.top (names_of app) w rest)) name_fault enters ∙ stopped_faults app.top (names_of app) [] rest)
+    ap₂ of_top (stops rest) (ap₂ (λ (k : Kinds) (w : Walk). or_else k (walk_fault app.top (names_of app) w rest)) enters.1 enters.0 ∙ (stays app.top (names_of app) [] rest).1)
 
 below_is : (rest : List Text) → of_top (stopped_at rest) [] ≡ or_else (level_fault showing [] nothing_held rest false []) []
 unfolding of_top clap_on_literals
@@ -274,36 +233,22 @@ met_is rest = ap (λ (w : Walk). entered app w.stopped) (stops rest)
 
 -- what names a word is no option
 
-no_hyphen : (x : ℕ) → IsInRange 48 57 x → (x == 45) ≡ false
-no_hyphen x digit = go (x == 45) refl
-  where
-    go : (b : Bool) → (x == 45) ≡ b → b ≡ false
-    go false e = refl
-    go true e = let same : x ≡ 45 = (Decides-eqb x 45).0 e in absurd (omega (arith, same, digit.0))
-
 number_is_plain : (text : Text) (n : ℕ) → IsNumber text n → IsPlain text
 number_is_plain [] n is = absurd (omega (arith, is.digits.0))
-number_is_plain (x ∷ xs) n is = no_hyphen x (digit_from_value x is.digits.1.0)
+number_is_plain (x ∷ xs) n is = ne_eqb x 45 (λ same. absurd (omega (arith, same, (digit_from_value x is.digits.1.0).0)))
 
 words_are_plain : (space number : Text) (w : Word) → NamesWord space number w → IsPlain space × IsPlain number
 words_are_plain space number (Global n) named = (subst IsPlain (sym named.0) refl, number_is_plain number n named.1)
 words_are_plain space number (Local g n) named = (subst IsPlain (sym named.0.spelled) refl, number_is_plain number n named.1)
 
-is_taken : (words : List Text) → fault_of gpurace words ≡ [] → faults words ≡ []
-unfolding faults
-is_taken words none = none
-
-is_met : (words : List Text) (rows : List Row) → subcommand_of gpurace words ≡ Some (explain, rows) → command_of words ≡ Some (explain, rows)
-unfolding command_of
-is_met words rows met = met
-
 -- such words ask for what the command `explain` asks for with their values
 plain_words_ask_by : (long : Bool) (space number file : Text) (files : List Text) (space_plain : IsPlain space) (number_plain : IsPlain number) → ArePlain (file ∷ files) → (a : Asked) → IsAskedBy explain (all_rows space number space_plain number_plain long (file ∷ files)) a → AsksTo a (explain ∷ flag_words long ++ space ∷ number ∷ file ∷ files)
+unfolding faults command_of
 plain_words_ask_by long space number file files space_plain number_plain plain a asks =
     let rest = flag_words long ++ space ∷ number ∷ file ∷ files in
-    let met = is_met (explain ∷ rest) _ (met_is rest ∙ ap (λ (rows : List Row). Some (explain, rows)) (rows_are space number space_plain number_plain long file files plain)) in
+    let met = met_is rest ∙ ap (λ (rows : List Row). Some (explain, rows)) (rows_are space number space_plain number_plain long file files plain) in
     record {
-      taken = is_taken (explain ∷ rest) (faults_are_below rest ∙ below_is rest ∙ ap (λ (k : Kinds). or_else k []) (no_fault_below space number space_plain number_plain long file files plain));
+      taken = faults_are_below rest ∙ below_is rest ∙ ap (λ (k : Kinds). or_else k []) (no_fault_below space number space_plain number_plain long file files plain);
       asks = subst (λ (c : Option (Text × List Row)). IsAskedBy (name_met c) (values_met c) a) (sym met) asks;
     }
 

@@ -1,11 +1,8 @@
-use Rattle.std.proofs.Common.{◌≡◌, ◌∙◌, ◌+◌, ap, drop, refl, sym}
+use Rattle.std.proofs.Common.{◌≡◌, ◌∙◌, ◌+◌, ap, drop, sym}
 use Rattle.std.proofs.lemmas.List.{at_drop_all, at_drop_more}
 use Rattle.clap.specs.Words.{App, app_of, with_subcommand}
 use Rattle.gr_arguments.specs.Pages.{with_commands}
 use Rattle.gr_arguments.proofs.command.with_pages.Goals as goal
-
-pub loop-page-init : goal.loop-page-init
-loop-page-init c = refl
 
 pub loop-page-preserved : goal.loop-page-preserved
 unfolding with_commands

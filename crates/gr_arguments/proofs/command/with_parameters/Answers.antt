@@ -4,9 +4,6 @@ use Rattle.clap.specs.Words.{App, app_of, with_rule}
 use Rattle.gr_arguments.specs.Pages.{with_rules}
 use Rattle.gr_arguments.proofs.command.with_parameters.Goals as goal
 
-pub loop-parameter-init : goal.loop-parameter-init
-loop-parameter-init c = (refl, c.requires.alone)
-
 pub loop-parameter-preserved : goal.loop-parameter-preserved
 loop-parameter-preserved c =
     let before = app_of c.loop-parameter.command in
@@ -20,6 +17,3 @@ loop-parameter-preserved c =
 pub returns-clause-app : goal.returns-clause-app
 returns-clause-app c =
     sym (at_drop_all (with_rules (app_of c.loop-parameter.command)) c.args.parameters.now c.loop-parameter.parameter-index c.loop-parameter-test.false) ∙ c.loop-parameter.invariant.0
-
-pub returns-clause-alone : goal.returns-clause-alone
-returns-clause-alone c = c.loop-parameter.invariant.1

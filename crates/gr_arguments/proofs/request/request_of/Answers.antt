@@ -1,10 +1,16 @@
-use Rattle.std.proofs.Common.{◌≡◌, ◌∙◌, [], map, subst, sym}
-use Rattle.clap.specs.Words.{HasKind, Kinds, app_of}
+use Rattle.std.proofs.Common.{◌≡◌, ◌∙◌, [], map, subst, sym, Result, Ok, Err}
+use Rattle.std.specs.Prelude.{IsErrAnd}
+use Rattle.clap.specs.Words.{FailsBy, HasKind, Kinds, app_of}
+use Rattle.clap.specs.declared.error.Error.{Error}
 use Rattle.gr_arguments.specs.Asked.{asked_of}
 use Rattle.gr_arguments.specs.Commands.{faults}
-use Rattle.gr_arguments.proofs.FailLemmas.{fails_by}
 use Rattle.gr_arguments.proofs.Meeting.{asks_to, faults_are, is_free}
 use Rattle.gr_arguments.proofs.request.request_of.Goals as goal
+
+-- an error of one of the kinds is an answer of these kinds
+fails_by : {T : Type 0} (kinds : Kinds) (e : Error) (r : Result T Error) → IsErrAnd r (λ y. y ≡ e) → HasKind kinds e → FailsBy kinds r
+fails_by kinds e (Ok x) h k = absurd h
+fails_by kinds e (Err y) h k = subst (HasKind kinds) (sym h) k
 
 pub returns-in_err-matches-clause-fails : goal.returns-in_err-matches-clause-fails
 returns-in_err-matches-clause-fails g c =

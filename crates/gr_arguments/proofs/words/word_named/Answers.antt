@@ -1,4 +1,4 @@
-use Rattle.std.proofs.Common.{◌≡◌, ℕ, List, None, codes, true}
+use Rattle.std.proofs.Common.{◌≡◌, ℕ, List, codes, true}
 use Rattle.gr_model.specs.declared.event.Word.{Word}
 use Rattle.gr_model.specs.declared.event.Word.TheVariants.{Global, Local}
 use Rattle.gr_arguments.specs.Naming.{IsGroupOf, Names}
@@ -10,6 +10,5 @@ unnamed space number no_global no_group (Local g n) named = no_group g named.0
 
 pub returns-in_err-group : goal.returns-in_err-group
 returns-in_err-group c =
-    let none : c.from_residual-in_err-group.result ≡ None = c.from_residual-in_err-group.ensures in
     let no_global : c.args.space.now ≡ codes "g" → ⊥ = λ e. let yes : c.eq.result ≡ true = rw e at c.eq.ensures in absurd cc in
-    rw none (unnamed c.args.space.now c.args.number.now no_global c.in_err-group.ensures)
+    rw c.from_residual-in_err-group.ensures (unnamed c.args.space.now c.args.number.now no_global c.in_err-group.ensures)
