@@ -12,21 +12,13 @@ use Rattle.gr_arguments.specs.Naming.{Names, NamesEvent}
 
 -- ---- words of memory
 
--- a space and a number name one word at most
-names_one : (space number : List ℕ) (v w : Word) → Names space number v → Names space number w → v ≡ w
-names_one space number v w a b = grind arith
-
 -- where the space and the number name no word, the values do not
 pub unnamed : (rows : List Row) (space number : Text) → first_of (codes "SPACE") rows ≡ Some space → first_of (codes "WORD") rows ≡ Some number → ((w : Word) → Names space number w → ⊥) → (w : Word) → NamesWord rows w → ⊥
-unnamed rows space number at_space at_number none w named =
-    let same : (named.space ≡ space) × (named.number ≡ number) = (cc, cc) in
-    none w (rw (same.0, same.1) at named.names)
+unnamed rows space number at_space at_number none w named = grind (arith, none w)
 
 -- the values name one word at most
 pub same_word : (rows : List Row) (v w : Word) → NamesWord rows v → NamesWord rows w → v ≡ w
-same_word rows v w a b =
-    let same : (b.space ≡ a.space) × (b.number ≡ a.number) = (cc, cc) in
-    names_one a.space a.number v w a.names (rw (same.0, same.1) at b.names)
+same_word rows v w a b = grind arith
 
 -- ---- the command `explain`
 
@@ -47,10 +39,7 @@ one_number rows option default m n a b = grind arith
 
 -- the values set up one run at most
 pub one_set_up : (rows : List Row) (c d : Settings) → IsSetUp rows c → IsNumberOr rows (codes "workers") 2 d.workers → IsNumberOr rows (codes "queues") 1 d.queues → IsNumberOr rows (codes "capacity") 1024 d.capacity → c ≡ d
-one_set_up rows c d a workers queues capacity =
-    let same : (c.workers ≡ d.workers) × (c.queues ≡ d.queues) × (c.capacity ≡ d.capacity)
-    = (one_number rows (codes "workers") 2 _ _ a.workers workers, one_number rows (codes "queues") 1 _ _ a.queues queues, one_number rows (codes "capacity") 1024 _ _ a.capacity capacity) in
-    λ i. record { workers = same.0 i; queues = same.1 i; capacity = same.2 i }
+one_set_up rows c d a workers queues capacity = grind (arith, one_number rows)
 
 -- the numbers of the options set up a run exactly where a run may have them
 pub set_up : (rows : List Row) (given : Settings) (made : Result Settings ConfigError) → IsNumberOr rows (codes "workers") 2 given.workers → IsNumberOr rows (codes "queues") 1 given.queues → IsNumberOr rows (codes "capacity") 1024 given.capacity → (IsOk made ↔ IsConfig given) → IfOk made (λ c. c ≡ given) → IsTheOne (IsSetUp rows) (result_ok made)
@@ -61,12 +50,6 @@ set_up rows given (Err e) workers queues capacity accepted is =
 
 -- ---- the command `why-held`
 
--- three numbers name one event at most
-events_one : (group item index : List ℕ) (d e : EventId) → NamesEvent group item index d → NamesEvent group item index e → d ≡ e
-events_one group item index d e a b = grind arith
-
 -- the values name one event at most
 pub same_event : (rows : List Row) (d e : EventId) → HasEvent rows d → HasEvent rows e → d ≡ e
-same_event rows d e h k =
-    let same : (k.group ≡ h.group) × (k.item ≡ h.item) × (k.index ≡ h.index) = (cc, cc, cc) in
-    events_one h.group h.item h.index d e h.names (rw (same.0, same.1, same.2) at k.names)
+same_event rows d e h k = grind arith

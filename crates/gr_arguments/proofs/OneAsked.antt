@@ -26,10 +26,7 @@ module _ (rows : List Row) where
   query_or_misuse q m same h k = grind arith
 
   one_inquiry : (a b : Inquiry) → query_name a.query ≡ query_name b.query → IsInquiry rows a → IsInquiry rows b → a ≡ b
-  one_inquiry a b same h k =
-      let query = one_query a.query b.query same h.query k.query in
-      let rest : (a.places ≡ b.places) × (a.buffers ≡ b.buffers) × (a.json ≡ b.json) × (a.files ≡ b.files) = (cc, cc, cc, cc) in
-      λ i. record { query = query i; places = rest.0 i; buffers = rest.1 i; json = rest.2 i; files = rest.3 i }
+  one_inquiry a b same h k = grind (arith, one_query a.query b.query same h.query k.query)
 
   one_asked : (a b : Asked) → name_asked a ≡ name_asked b → IsAskedIn rows a → IsAskedIn rows b → a ≡ b
   one_asked (ask a) (ask b) same h k = ap ask (one_inquiry a b same h k)

@@ -218,14 +218,10 @@ of_top : Walk → Kinds → Kinds
 of_top end faults =
     or_else faults (or_else (entered_fault app end.stopped) (or_else (settle_fault app.top.rules app.top.args_override_self end.held) (or_else (defaults_fault (settled app.top.rules end.held).rows app.top.rules) (check_fault app.top (finished app.top.rules end.held) (is_some (entered app end.stopped))))))
 
-faults_are_below : (rest : List Text) → fault_of gpurace (explain ∷ rest) ≡ of_top (stopped_at rest) []
-unfolding of_top walk_fault
+faults_are_below : (rest : List Text) → fault_of gpurace (explain ∷ rest) ≡ or_else (level_fault showing [] nothing_held rest false []) []
+unfolding of_top walk_fault clap_on_literals
 faults_are_below rest =
     ap₂ of_top (stops rest) (ap₂ (λ (k : Kinds) (w : Walk). or_else k (walk_fault app.top (names_of app) w rest)) enters.1 enters.0 ∙ (stays app.top (names_of app) [] rest).1)
-
-below_is : (rest : List Text) → of_top (stopped_at rest) [] ≡ or_else (level_fault showing [] nothing_held rest false []) []
-unfolding of_top clap_on_literals
-below_is rest = refl
 
 met_is : (rest : List Text) → subcommand_of gpurace (explain ∷ rest) ≡ Some (explain, rows_after showing.rules [] rest)
 unfolding clap_on_literals
@@ -248,7 +244,7 @@ plain_words_ask_by long space number file files space_plain number_plain plain a
     let rest = flag_words long ++ space ∷ number ∷ file ∷ files in
     let met = met_is rest ∙ ap (λ (rows : List Row). Some (explain, rows)) (rows_are space number space_plain number_plain long file files plain) in
     record {
-      taken = faults_are_below rest ∙ below_is rest ∙ ap (λ (k : Kinds). or_else k []) (no_fault_below space number space_plain number_plain long file files plain);
+      taken = faults_are_below rest ∙ ap (λ (k : Kinds). or_else k []) (no_fault_below space number space_plain number_plain long file files plain);
       asks = subst (λ (c : Option (Text × List Row)). IsAskedBy (name_met c) (values_met c) a) (sym met) asks;
     }
 
