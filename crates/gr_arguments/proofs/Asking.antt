@@ -1,14 +1,14 @@
 -- What values of arguments are, and that they ask for one thing at most.
-use Rattle.std.proofs.Common.{arith, ◌≡◌, ℕ, List, Option, Some, true≢false, sym, codes, refl, subst, Result, Ok, Err}
-use Rattle.std.specs.Prelude.{◌↔◌, IfOk, IsOk, Bool}
+use Rattle.std.proofs.Common.{arith, ◌≡◌, ℕ, List, Some, sym, codes, refl, subst, Result, Ok, Err}
+use Rattle.std.specs.Prelude.{◌↔◌, IfOk, IsOk}
 use Rattle.std.specs.Result.{result_ok}
 use Rattle.clap.specs.Walk.{Row, Text, first_of}
 use Rattle.gr_model.specs.declared.config.ConfigError.{ConfigError}
 use Rattle.gr_model.specs.declared.event.EventId.{EventId}
 use Rattle.gr_model.specs.declared.event.Word.{Word}
 use Rattle.gr_model.specs.Configs.{IsConfig, Settings}
-use Rattle.gr_arguments.specs.Asked.{HasEvent, IsForm, IsMost, IsNumberOr, IsSetUp, IsTheOne, NamesWord}
-use Rattle.gr_arguments.specs.Naming.{Names, NamesEvent}
+use Rattle.gr_arguments.specs.Asked.{HasEvent, IsNumberOr, IsSetUp, IsTheOne, NamesWord}
+use Rattle.gr_arguments.specs.Naming.{Names}
 
 -- ---- words of memory
 
@@ -19,17 +19,6 @@ unnamed rows space number at_space at_number none w named = grind (arith, none w
 -- the values name one word at most
 pub same_word : (rows : List Row) (v w : Word) → NamesWord rows v → NamesWord rows w → v ≡ w
 same_word rows v w a b = grind arith
-
--- ---- the command `explain`
-
--- they ask for one form at most
-pub one_form : (rows : List Row) (p q : Bool) → IsForm rows p → IsForm rows q → p ≡ q
-one_form rows p q h k = grind arith
-
--- ---- the command `races`
-
-pub one_most : (rows : List Row) (m n : Option ℕ) → IsMost rows m → IsMost rows n → m ≡ n
-one_most rows m n a b = grind arith
 
 -- ---- the command `run`
 
@@ -45,8 +34,8 @@ one_set_up rows c d a workers queues capacity = grind (arith, one_number rows)
 pub set_up : (rows : List Row) (given : Settings) (made : Result Settings ConfigError) → IsNumberOr rows (codes "workers") 2 given.workers → IsNumberOr rows (codes "queues") 1 given.queues → IsNumberOr rows (codes "capacity") 1024 given.capacity → (IsOk made ↔ IsConfig given) → IfOk made (λ c. c ≡ given) → IsTheOne (IsSetUp rows) (result_ok made)
 set_up rows given (Ok c) workers queues capacity accepted is =
     subst (IsSetUp rows) (sym is) (record { workers = workers; queues = queues; capacity = capacity; may_be = accepted.0 refl })
-set_up rows given (Err e) workers queues capacity accepted is =
-    λ c is_set_up. absurd (true≢false (sym (accepted.1 (subst IsConfig (one_set_up rows c given is_set_up workers queues capacity) is_set_up.may_be))))
+set_up rows given (Err e) workers queues capacity accepted is = λ c is_set_up.
+    let same = one_set_up rows c given is_set_up workers queues capacity in grind (arith, accepted)
 
 -- ---- the command `why-held`
 

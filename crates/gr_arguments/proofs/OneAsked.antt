@@ -1,5 +1,5 @@
 -- Words ask for one thing at most.
-use Rattle.std.proofs.Common.{arith, ◌≡◌, ◌∙◌, List, sym, ap}
+use Rattle.std.proofs.Common.{arith, ◌≡◌, ◌∙◌, List, sym}
 use Rattle.clap.specs.Walk.{Row}
 use Rattle.gr_arguments.specs.declared.request.Misuse.{Misuse}
 use Rattle.gr_arguments.specs.declared.request.Misuse.TheVariants.{NoCount, NoEvent, NoSetUp, NoWordOfHistory, NoWordToExplain, SidesAlone}
@@ -8,12 +8,11 @@ use Rattle.gr_arguments.specs.declared.request.Query.TheVariants.{Explain, Histo
 use Rattle.gr_arguments.specs.Asked.{Asked, Inquiry, IsAskedIn, IsInquiry, IsMisuse, IsQuery, ask, misuse_name, name_asked, query_name, refuse}
 use Rattle.gr_arguments.specs.Commands.{command_of, values_met}
 use Rattle.gr_arguments.specs.Plain.{WordsAskOnce}
-use Rattle.gr_arguments.proofs.Asking.{one_form, one_most, one_set_up, same_event, same_word}
+use Rattle.gr_arguments.proofs.Asking.{one_set_up, same_event, same_word}
 
 module _ (rows : List Row) where
   one_query : (q r : Query) → query_name q ≡ query_name r → IsQuery rows q → IsQuery rows r → q ≡ r
-  one_query (Run c) (Run d) same h k = ap Run (one_set_up rows c d h k.workers k.queues k.capacity)
-  one_query q r same h k = grind (arith, one_form rows, same_word rows, one_most rows, same_event rows)
+  one_query q r same h k = grind (arith, same_word rows, one_set_up rows, same_event rows)
 
   -- values that ask a query do not misuse its command
   query_or_misuse : (q : Query) (m : Misuse) → query_name q ≡ misuse_name m → IsQuery rows q → IsMisuse rows m → ⊥
@@ -29,10 +28,9 @@ module _ (rows : List Row) where
   one_inquiry a b same h k = grind (arith, one_query a.query b.query same h.query k.query)
 
   one_asked : (a b : Asked) → name_asked a ≡ name_asked b → IsAskedIn rows a → IsAskedIn rows b → a ≡ b
-  one_asked (ask a) (ask b) same h k = ap ask (one_inquiry a b same h k)
   one_asked (ask a) (refuse n) same h k = absurd (query_or_misuse a.query n same h.query k)
   one_asked (refuse m) (ask b) same h k = absurd (query_or_misuse b.query m (sym same) k.query h)
-  one_asked a b same h k = grind arith
+  one_asked a b same h k = grind (arith, one_inquiry)
 
 pub words_ask_once : WordsAskOnce
 words_ask_once words a b h k = one_asked (values_met (command_of words)) a b (sym h.asks.command ∙ k.asks.command) h.asks.values k.asks.values
