@@ -4,7 +4,7 @@ use Rattle.std.specs.Prelude.{fold, is_some}
 use Rattle.clap.proofs.OnLiterals.{clap_on_literals}
 use Rattle.clap.specs.Kinds.{Kinds, or_else}
 use Rattle.clap.specs.Simple.{App, Shape, built, entered, names_of, subcommand_of, built_leaf, inherited}
-use Rattle.clap.specs.Walk.{Held, Names, Row, Step, Text, Walk, finished, idle, positional, settled, first_of, value, walk, walk_from, nothing_held, walked, rows_after, word_met, after_step}
+use Rattle.clap.specs.Walk.{Held, Names, Row, Step, Text, Walk, finished, idle, positional, settled, value, walk, walk_from, nothing_held, walked, rows_after, word_met, after_step}
 use Rattle.clap.specs.Faults.{check_fault, defaults_fault, entered_fault, fault_of, level_fault, settle_fault, step_fault, turn_fault, walk_fault, word_fault}
 use Rattle.clap.specs.declared.parser.matches.ValueSource.TheVariants.{CommandLine, DefaultValue}
 use Rattle.clap.specs.declared.builder.value_parser.ValueParser.TheVariants.{String}
@@ -15,7 +15,7 @@ use Rattle.gr_model.specs.declared.event.Word.{Word}
 use Rattle.gr_model.specs.declared.event.Word.TheVariants.{Global, Local}
 use Rattle.gr_arguments.specs.declared.request.Misuse.TheVariants.{NoWordToExplain}
 use Rattle.gr_arguments.specs.Naming.{IsNumber, Names as NamesWord}
-use Rattle.gr_arguments.specs.Asked.{Asked, AsksTo, IsAskedBy, IsInquiry, NamesWord as NamesAWord, ask, refuse}
+use Rattle.gr_arguments.specs.Asked.{Asked, AsksTo, IsAskedBy, IsInquiry, ask, refuse}
 use Rattle.gr_arguments.specs.Commands.{command_of, explaining, faults, gpurace, name_met, values_met}
 use Rattle.gr_arguments.specs.Plain.{about_word, ArePlain, IsPlain, LongWordsAsk, PlainWordsAsk, PlainWordsMisname}
 use Rattle.gr_arguments.proofs.Asking.{unnamed}
@@ -146,8 +146,7 @@ module _ (space number : Text) (space_plain : IsPlain space) (number_plain : IsP
   -- such words are taken, and are no fault
   space_taken : (long : Bool) → Takes (begun long) space (behind_space long)
   unfolding clap_on_literals
-  space_taken true = by_value (begun true) space (idle_value showing _ _ space space_plain)
-  space_taken false = by_value (begun false) space (idle_value showing _ _ space space_plain)
+  space_taken long = by_value (begun long) space (idle_value showing _ _ space space_plain)
 
   number_taken : (long : Bool) → Takes (behind_space long) number (behind_number long)
   unfolding clap_on_literals
@@ -205,12 +204,11 @@ module _ (space number : Text) (space_plain : IsPlain space) (number_plain : IsP
     walks_all : TakesAll (walk_from nothing_held) (flag_words long ++ space ∷ number ∷ file ∷ files) (with_files long end.kept end.waits)
     walks_all = begins long _ _ (takes_more _ _ _ _ _ (space_taken long) (takes_more _ _ _ _ _ (number_taken long) (takes_more _ _ _ _ _ (file_taken long file plain.0) end.walks)))
 
-    pub no_fault_below : level_fault showing [] nothing_held (flag_words long ++ space ∷ number ∷ file ∷ files) false [] ≡ []
+    pub explained : (level_fault showing [] nothing_held (flag_words long ++ space ∷ number ∷ file ∷ files) false [] ≡ []) × (rows_after showing.rules [] (flag_words long ++ space ∷ number ∷ file ∷ files) ≡ all_rows long (file ∷ files))
     unfolding of_walk
-    no_fault_below = ap₂ of_walk walks_all.0 walks_all.1 ∙ (at_end long end.kept end.waits).0
-
-    pub rows_are : rows_after showing.rules [] (flag_words long ++ space ∷ number ∷ file ∷ files) ≡ all_rows long (file ∷ files)
-    rows_are = ap (λ (w : Walk). finished showing.rules w.held) walks_all.0 ∙ (at_end long end.kept end.waits).1 ∙ ap (λ (fs : List Text). all_rows long fs) end.all
+    explained =
+        let ends = at_end long end.kept end.waits in
+        (ap₂ of_walk walks_all.0 walks_all.1 ∙ ends.0, ap (λ (w : Walk). finished showing.rules w.held) walks_all.0 ∙ ends.1 ∙ ap (λ (fs : List Text). all_rows long fs) end.all)
 
 -- ---- the program
 
@@ -242,9 +240,10 @@ plain_words_ask_by : (long : Bool) (space number file : Text) (files : List Text
 unfolding faults command_of
 plain_words_ask_by long space number file files space_plain number_plain plain a asks =
     let rest = flag_words long ++ space ∷ number ∷ file ∷ files in
-    let met = met_is rest ∙ ap (λ (rows : List Row). Some (explain, rows)) (rows_are space number space_plain number_plain long file files plain) in
+    let below = explained space number space_plain number_plain long file files plain in
+    let met = met_is rest ∙ ap (λ (rows : List Row). Some (explain, rows)) below.1 in
     record {
-      taken = faults_are_below rest ∙ ap (λ (k : Kinds). or_else k []) (no_fault_below space number space_plain number_plain long file files plain);
+      taken = faults_are_below rest ∙ ap (λ (k : Kinds). or_else k []) below.0;
       asks = subst (λ (c : Option (Text × List Row)). IsAskedBy (name_met c) (values_met c) a) (sym met) asks;
     }
 
@@ -254,12 +253,9 @@ words_ask long space number file files w named plain =
     let texts = words_are_plain space number w named in
     plain_words_ask_by long space number file files texts.0 texts.1 plain (ask (about_word long w (file ∷ files))) (record { command = refl; values = asks long texts.0 texts.1 })
   where
-    names : (rows : List Row) → first_of (codes "SPACE") rows ≡ Some space → first_of (codes "WORD") rows ≡ Some number → NamesAWord rows w
-    names rows at_space at_number = record { space = space; number = number; at_space = at_space; at_number = at_number; names = named }
-
     asks : (long : Bool) (space_plain : IsPlain space) (number_plain : IsPlain number) → IsInquiry (all_rows space number space_plain number_plain long (file ∷ files)) (about_word long w (file ∷ files))
-    asks true p q = record { query = (refl, names _ refl refl); places = refl; buffers = refl; as_json = refl; at_files = refl }
-    asks false p q = record { query = ((refl, refl, refl), names _ refl refl); places = refl; buffers = refl; as_json = refl; at_files = refl }
+    asks true p q = record { query = (refl, record { space = space; number = number; at_space = refl; at_number = refl; names = named }); places = refl; buffers = refl; as_json = refl; at_files = refl }
+    asks false p q = record { query = ((refl, refl, refl), record { space = space; number = number; at_space = refl; at_number = refl; names = named }); places = refl; buffers = refl; as_json = refl; at_files = refl }
 
 pub plain_words_ask : PlainWordsAsk
 plain_words_ask = words_ask false
