@@ -1,10 +1,9 @@
 -- What is read of more bytes, from what was read of fewer.
-use Rattle.std.proofs.Common.{◌≡◌, ℕ, zero, suc, ◌-◌, ◌<◌, ◌≤◌, List, ◌++◌, length, take, drop, Result, Ok, Err, refl, ap, ◌∙◌, arith, inl, inr}
-use Rattle.std.proofs.lemmas.Bool.{cases_lt, cases_Bool}
+use Rattle.std.proofs.Common.{◌≡◌, ℕ, zero, suc, ◌-◌, ◌<◌, ◌≤◌, List, ◌++◌, length, take, drop, Result, Ok, Err, refl, arith, inl, inr}
+use Rattle.std.proofs.lemmas.Bool.{cases_lt}
 use Rattle.std.proofs.lemmas.List.{take-append-le, drop-append-le, length-append}
 use Rattle.std.proofs.Math.Nat.{suc-sub-suc, sub-zero}
 use Rattle.gr_model.specs.declared.event.Event.{Event}
-use Rattle.gr_model.specs.Events.{is_end}
 use Rattle.gr_record.specs.declared.error.RecordError.{RecordError}
 use Rattle.gr_record.specs.declared.stop.Stop.{Stop}
 use Rattle.gr_record.specs.declared.stop.Stop.TheVariants.{Inside, AtEnd, AtFault}
@@ -22,17 +21,14 @@ module _ (size : ℕ) (read : List ℕ → Result Event RecordError) (b : List �
   Grows most a r = records_at size read most (a ++ b) ≡ grown r.stop r (λ n. records_at size read (most - n) (r.rest ++ b)) b
 
   behind_grown : (stop : Stop) (e : Event) (r : Records) (most : ℕ) → behind e (grown stop r (λ n. records_at size read (most - n) (r.rest ++ b)) b) ≡ grown stop (behind e r) (λ n. records_at size read (suc most - n) (r.rest ++ b)) b
-  behind_grown Inside e r most = rw (suc-sub-suc most (length r.events)) refl
-  behind_grown stop e r most = refl
+  behind_grown stop e r most = grind (arith, suc-sub-suc most (length r.events))
 
   step_grows : (most : ℕ) (a : List ℕ) → size ≤ length a → Grows most (drop size a) (records_at size read most (drop size a)) → (x : Result Event RecordError)
       → step size x (a ++ b) (records_at size read most (drop size (a ++ b))) ≡ grown (step size x a (records_at size read most (drop size a))).stop (step size x a (records_at size read most (drop size a))) (λ n. records_at size read (suc most - n) ((step size x a (records_at size read most (drop size a))).rest ++ b)) b
   step_grows most a long ih (Err e) = refl
-  step_grows most a long ih (Ok e) =
-      elim (cases_Bool (is_end e)) [
-        | inl end ↦ rw (end, drop-append-le size a b long) refl
-        | inr on ↦ rw (on, drop-append-le size a b long) (ap (behind e) ih ∙ behind_grown (records_at size read most (drop size a)).stop e (records_at size read most (drop size a)) most)
-      ]
+  step_grows most a long ih (Ok e) = 
+      let next = records_at size read most (drop size a) in
+      grind (arith, drop-append-le size a b long, behind_grown next.stop e next most)
 
   inside_grows : (most : ℕ) (a : List ℕ) → length a < size → Grows most a (records_at size read most a)
   inside_grows most a lt = rw (short size read most a lt, sub-zero most) refl

@@ -18,8 +18,7 @@ regroup prefix e r = ap (λ (es : List Event). record { events = es; rest = r.re
 
 -- what a call that reads one record answered for the whole
 pub fails : {Y : Type 0} (e : RecordError) (total : Result Y RecordError) → total ≡ Err e → Fails e total
-fails errors.Memory total h = tt
-fails e total h = h
+fails e total h = grind arith
 
 module _ (size : ℕ) (read : List ℕ → Result Event RecordError) where
   -- fewer bytes than a record has

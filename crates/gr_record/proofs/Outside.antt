@@ -1,8 +1,7 @@
 -- What is known of bytes that were read, from what was known of the reader.
-use Rattle.std.proofs.Common.{◌≡◌, ℕ, List, Option, None, Some, Result, Err, subst}
+use Rattle.std.proofs.Common.{arith, ◌≡◌, ℕ, List, Option, None, Some, Result, Err, subst}
 use Rattle.std.specs.Prelude.{IfSome}
 use Rattle.gr_record.specs.declared.fault.Fault.{Fault}
-use Rattle.gr_record.specs.declared.fault.Fault.TheVariants as faults
 use Rattle.gr_record.specs.InputFaults.{Fails}
 
 pub at_known : (known : Option (List ℕ)) (bytes : List ℕ) (P : List ℕ → Type 0) → IfSome known (λ xs. bytes ≡ xs) → P bytes → IfSome known P
@@ -15,12 +14,8 @@ at_any (Some xs) P p = p xs
 
 -- what a part of a call failed with, the whole fails with
 pub fails_through : {X Y : Type 0} (f : Fault) (part : Result X Fault) (total : Result Y Fault) → Fails f part → (part ≡ Err f → total ≡ Err f) → Fails f total
-fails_through faults.Memory part total h go = tt
-fails_through faults.Read part total h go = tt
-fails_through f part total h go = go h
+fails_through f part total h go = grind arith
 
 -- what an input means, faults of memory and of the reader aside, is a fault that was answered
 pub fails : {Y : Type 0} (f : Fault) (meaning : Result Y Fault) → meaning ≡ Err f → Fails f meaning
-fails faults.Memory meaning h = tt
-fails faults.Read meaning h = tt
-fails f meaning h = h
+fails f meaning h = grind arith

@@ -1,5 +1,5 @@
 -- Names in their places: what is read from the bytes of names, and what the bytes of names that were read are.
-use Rattle.std.proofs.Common.{◌≡◌, ℕ, zero, suc, ◌+◌, ◌*◌, ◌<◌, ◌≤◌, true, false, List, [], ◌∷◌, ◌++◌, length, take, drop, refl, ap, arith, inl, inr, Bool, cond, Option, Some, None}
+use Rattle.std.proofs.Common.{◌≡◌, ℕ, zero, suc, ◌+◌, ◌*◌, ◌<◌, ◌≤◌, true, false, List, [], ◌∷◌, ◌++◌, length, take, drop, refl, arith, inl, inr, Bool, cond, Option, Some, None}
 use Rattle.std.specs.Prelude.{All, ◌==◌, ◌↔◌, Decides, IsSome, IfSome}
 use Rattle.std.proofs.lemmas.Bool.{eqb-true, leb-true, le-leb, and_parts, and_from, cases_Bool}
 use Rattle.std.proofs.lemmas.Bool.Decides.{nat_tests}
@@ -166,10 +166,7 @@ few_names kind (n ∷ names) ok = ok.1.few
 
 -- what is made where a test says so
 made : {X : Type 0} (b : Bool) (o : Option X) (x : X) (P : Type 0) → Decides b P → (IsSome o ↔ P) → IfSome o (λ y. y ≡ x) → o ≡ cond b (Some x) None
-made true None x P test some is = let has = some.1 (test.0 refl) in absurd cc
-made true (Some y) x P test some is = ap (λ z. Some z) is
-made false None x P test some is = refl
-made false (Some y) x P test some is = let no = test.1 (some.0 refl) in absurd cc
+made b o x P test some is = grind arith
 
 -- names that stand at an acquire
 pub named_some : (v : Version) (kind : Kind) (names : List Name) (o : Option (List Name)) (groups items : ℕ) → groups ≡ most_groups v → items ≡ most_items v → (length names == 0) ≡ false → is_acquire_kind kind ≡ true → (IsSome o ↔ AreNamesWithin groups items names) → IfSome o (λ x. x ≡ names) → o ≡ naming v kind names
