@@ -1,5 +1,5 @@
 -- What is read of more bytes, from what was read of fewer.
-use Rattle.std.proofs.Common.{◌≡◌, ℕ, zero, suc, ◌-◌, ◌<◌, ◌≤◌, List, ◌++◌, length, take, drop, Result, Ok, Err, refl, arith, inl, inr}
+use Rattle.std.proofs.Common.{◌≡◌, ℕ, zero, suc, ◌-◌, ◌<◌, ◌≤◌, List, ◌++◌, length, take, drop, Result, refl, arith, inl, inr}
 use Rattle.std.proofs.lemmas.Bool.{cases_lt}
 use Rattle.std.proofs.lemmas.List.{take-append-le, drop-append-le, length-append}
 use Rattle.std.proofs.Math.Nat.{suc-sub-suc, sub-zero}
@@ -7,7 +7,7 @@ use Rattle.gr_model.specs.declared.event.Event.{Event}
 use Rattle.gr_record.specs.declared.error.RecordError.{RecordError}
 use Rattle.gr_record.specs.declared.stop.Stop.{Stop}
 use Rattle.gr_record.specs.declared.stop.Stop.TheVariants.{Inside, AtEnd, AtFault}
-use Rattle.gr_record.specs.Fronts.{Records, behind, step, records_at}
+use Rattle.gr_record.specs.Fronts.{Records, step, records_at}
 use Rattle.gr_record.proofs.Loop.{with_prefix, short, too_many, next}
 
 -- the records of bytes that others follow, where next is what is read of those that were left and the others
@@ -20,15 +20,11 @@ module _ (size : ℕ) (read : List ℕ → Result Event RecordError) (b : List �
   abbrev pub Grows : ℕ → List ℕ → Records → Type 0
   Grows most a r = records_at size read most (a ++ b) ≡ grown r.stop r (λ n. records_at size read (most - n) (r.rest ++ b)) b
 
-  behind_grown : (stop : Stop) (e : Event) (r : Records) (most : ℕ) → behind e (grown stop r (λ n. records_at size read (most - n) (r.rest ++ b)) b) ≡ grown stop (behind e r) (λ n. records_at size read (suc most - n) (r.rest ++ b)) b
-  behind_grown stop e r most = grind (arith, suc-sub-suc most (length r.events))
-
   step_grows : (most : ℕ) (a : List ℕ) → size ≤ length a → Grows most (drop size a) (records_at size read most (drop size a)) → (x : Result Event RecordError)
       → step size x (a ++ b) (records_at size read most (drop size (a ++ b))) ≡ grown (step size x a (records_at size read most (drop size a))).stop (step size x a (records_at size read most (drop size a))) (λ n. records_at size read (suc most - n) ((step size x a (records_at size read most (drop size a))).rest ++ b)) b
-  step_grows most a long ih (Err e) = refl
-  step_grows most a long ih (Ok e) = 
+  step_grows most a long ih x =
       let next = records_at size read most (drop size a) in
-      grind (arith, drop-append-le size a b long, behind_grown next.stop e next most)
+      grind (arith, drop-append-le size a b long, suc-sub-suc most (length next.events))
 
   inside_grows : (most : ℕ) (a : List ℕ) → length a < size → Grows most a (records_at size read most a)
   inside_grows most a lt = rw (short size read most a lt, sub-zero most) refl

@@ -5,6 +5,7 @@ use Rattle.std.proofs.lemmas.Bool.{eqb-true, leb-true, le-leb, and_parts, and_fr
 use Rattle.std.proofs.lemmas.Bool.Decides.{nat_tests}
 use Rattle.std.proofs.Math.Nat.{suc-add}
 use Rattle.std.proofs.lemmas.List.{get_or-drop}
+use Rattle.std.proofs.lemmas.List.Elements.{All-cons, All-nil, All-tail}
 use Rattle.gr_model.specs.declared.event.Name.{Name}
 use Rattle.gr_model.specs.declared.event.Kind.{Kind}
 use Rattle.gr_model.specs.Events.{IsNamingOk}
@@ -95,9 +96,8 @@ ascending_found v (n ∷ m ∷ names) h zero d lt = grind (arith, nat_tests)
 ascending_found v (n ∷ m ∷ names) h (suc k) d lt = rw (suc-add k 1) (ascending_found v (m ∷ names) (and_parts _ _ h).1 k d (omega arith))
 
 each_found : (v : Version) (names : List Name) → are_in_order v names ≡ true → All (IsNameOf v) names
-each_found v [] h k d lt = absurd (omega arith)
-each_found v (n ∷ names) h zero d lt = grind (arith, nat_tests)
-each_found v (n ∷ names) h (suc k) d lt = each_found v names (and_parts _ _ h).1 k d (omega arith)
+each_found v [] h = All-nil (IsNameOf v)
+each_found v (n ∷ names) h = All-cons (IsNameOf v) n names (grind (arith, nat_tests)) (each_found v names (and_parts _ _ h).1)
 
 -- names of a launch of this version
 pub those_found : (v : Version) (kind : Kind) (n : Name) (names : List Name) → is_naming_ok v kind (n ∷ names) ≡ true → AreNamesWithin (most_groups v) (most_items v) (n ∷ names)
@@ -122,12 +122,10 @@ order_back v (n ∷ []) ascending each = grind (arith, range_back v n (each 0 n 
 order_back v (n ∷ m ∷ names) ascending each =
     let later : AreAscending (m ∷ names) = λ k d lt. rw (suc-add k 1) at (ascending (suc k) d (omega arith)) in
     let below : is_below n m ≡ true = let b = ascending 0 n (omega arith) in grind (arith, nat_tests, b) in
-    grind (arith, range_back v n (each 0 n (omega arith)), below, order_back v (m ∷ names) later (λ k d lt. each (suc k) d (omega arith)))
+    grind (arith, range_back v n (each 0 n (omega arith)), below, order_back v (m ∷ names) later (All-tail (IsNameOf v) n (m ∷ names) each))
 
 pub naming_back : (v : Version) (kind : Kind) (names : List Name) → IsNamingOk kind names → All (IsNameOf v) names → is_naming_ok v kind names ≡ true
-naming_back v kind [] ok range = refl
-naming_back v kind (n ∷ names) ok range =
-    and_from _ _ (and_from _ _ ok.0 (le-leb _ _ ok.1.few)) (order_back v (n ∷ names) ok.1.ascending range)
+naming_back v kind names ok range = grind (arith, nat_tests, order_back v names)
 
 -- ---- from names to bytes and back
 
@@ -144,7 +142,7 @@ names_again (suc n) [] rest few each = rw (unused_back (suc n) rest) refl
 names_again (suc n) (name ∷ names) rest few each =
     let here = each 0 name (omega arith) in
     let used : are_unused (suc n) (names_bytes (suc n) (name ∷ names) ++ rest) ≡ false = grind (arith, nat_tests, here) in
-    let ih = names_again n names rest (omega arith) (λ k d lt. each (suc k) d (omega arith)) in
+    let ih = names_again n names rest (omega arith) (All-tail IsNameInRange name names each) in
     rw (used, two_again name.at.group (omega (arith, here)), two_again name.at.item (omega (arith, here)), four_again name.release (omega (arith, here)), ih) refl
 
 pub each_in_range : (kind : Kind) (names : List Name) → IsNamingOk kind names → All IsNameInRange names
@@ -155,12 +153,10 @@ each_in_range kind (n ∷ names) ok k d lt = ok.1.each k d lt
 
 pub names_none : (n : ℕ) (bytes : List ℕ) → are_unused n bytes ≡ true → names_in n bytes ≡ []
 unfolding names_in
-names_none zero bytes unused = refl
-names_none (suc n) bytes unused = rw unused refl
+names_none n bytes unused = grind arith
 
 pub few_names : (kind : Kind) (names : List Name) → IsNamingOk kind names → length names ≤ 4
-few_names kind [] ok = omega arith
-few_names kind (n ∷ names) ok = ok.1.few
+few_names kind names ok = grind arith
 
 -- ---- names that a call makes
 

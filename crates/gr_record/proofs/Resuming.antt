@@ -1,14 +1,14 @@
 -- A decoder that goes on from what it kept reads what one reads that begins anew.
-use Rattle.std.proofs.Common.{◌∙◌, ap, ◌≡◌, ℕ, ◌-◌, ◌≤◌, List, [], ◌∷◌, ◌++◌, length, take, drop, Some, None, Result, Ok, Err, refl, sym, arith, inl, inr}
+use Rattle.std.proofs.Common.{◌∙◌, ap, ◌≡◌, ℕ, ◌-◌, ◌≤◌, List, [], ◌∷◌, ◌++◌, map, length, take, drop, Some, None, Result, Ok, Err, refl, arith, inl, inr}
 use Rattle.std.proofs.lemmas.Bool.{lt-ltb, le-ltb, cases_lt}
-use Rattle.std.proofs.Math.Nat.{add-zero, sub-zero, zero-add}
+use Rattle.std.proofs.Math.Nat.{sub-zero, zero-add}
 use Rattle.std.proofs.lemmas.List.{take-append-le, drop-append-le, length-append, map-append, append-nil}
 use Rattle.gr_model.specs.declared.event.Event.{Event}
 use Rattle.gr_record.specs.declared.error.RecordError.{RecordError}
 use Rattle.gr_record.specs.declared.header.Header.{Header}
 use Rattle.gr_record.specs.declared.part.Part.TheVariants as parts
 use Rattle.gr_record.specs.declared.stop.Stop.{Stop}
-use Rattle.gr_record.specs.declared.stop.Stop.TheVariants.{Inside, AtEnd}
+use Rattle.gr_record.specs.declared.stop.Stop.TheVariants.{Inside}
 use Rattle.gr_record.specs.declared.layout.TheConstants.{HEADER_LENGTH}
 use Rattle.gr_record.specs.Versions.{record_length}
 use Rattle.gr_record.specs.Reading.{header_at, event_at}
@@ -25,11 +25,9 @@ GoesOn limit piece fewer more =
 module _ (limit : ℕ) (piece : List ℕ) where
   records_go_on : (h : Header) (stop : Stop) (events : List Event) (rest : List ℕ) → GoesOn limit piece (closed (Some h) (record { events = events; rest = rest; stop = stop })) (closed (Some h) (grown stop (record { events = events; rest = rest; stop = stop }) (λ n. records_of h (limit - n) (rest ++ piece)) piece))
   unfolding read_from
-  records_go_on h Inside events rest =
+  records_go_on h stop events rest =
       let more = (records_of h (limit - length events) (rest ++ piece)).events in
-      rw (length-append events more, map-append parts.Event events more) (refl, refl)
-  records_go_on h AtEnd events (b ∷ bytes) = rw (add-zero (length events)) (refl, sym (append-nil _))
-  records_go_on h stop events rest = rw (add-zero (length events)) (refl, sym (append-nil _))
+      grind (arith, length-append events more, map-append parts.Event events more, append-nil (parts.Header h ∷ map parts.Event events))
 
   under_goes_on : (fed : List ℕ) → HEADER_LENGTH ≤ length fed → (x : Result Header RecordError) → GoesOn limit piece (under x limit fed) (under x limit (fed ++ piece))
   under_goes_on fed long (Err e) = (refl, refl)

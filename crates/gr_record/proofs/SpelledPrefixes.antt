@@ -1,9 +1,8 @@
 -- What is spelled is read: a header and the records of its stream.
-use Rattle.std.proofs.Common.{◌≡◌, ℕ, zero, suc, ◌≤◌, Bool, cond, List, [], ◌∷◌, ◌++◌, length, Ok, refl, sym, ap, ◌∙◌, append_assoc, arith, inl, inr}
-use Rattle.std.proofs.lemmas.Bool.{le-ltb, cases_Bool}
+use Rattle.std.proofs.Common.{◌≡◌, ℕ, zero, suc, ◌≤◌, Bool, cond, List, [], ◌∷◌, ◌++◌, length, Ok, refl, sym, ap, ◌∙◌, append_assoc, arith}
+use Rattle.std.proofs.lemmas.Bool.{le-ltb}
 use Rattle.std.proofs.lemmas.List.{take_at, drop_at, length-append, append-nil}
 use Rattle.gr_model.specs.declared.limits.TheConstants.{MOST_ITEMS_OF_A_GROUP}
-use Rattle.gr_model.specs.Events.{is_end}
 use Rattle.gr_model.specs.Streams.{is_complete}
 use Rattle.gr_record.specs.declared.header.Header.{Header}
 use Rattle.gr_record.specs.declared.stop.Stop.TheVariants.{Inside, AtEnd}
@@ -38,10 +37,7 @@ module _ (h : Header) (few : h.items ≤ MOST_ITEMS_OF_A_GROUP) where
       let long : size ≤ length (prefix ++ rest) = omega (arith, length-append prefix rest, len) in
       let is : event_at h prefix ≡ Ok e = rw (append-nil prefix) at (spelled_is_read h r [] few runs.0).0 in
       let here = rw (take_at prefix rest size len, is, drop_at prefix rest size len) at (next size (event_at h) most (prefix ++ rest) long) in
-      elim (cases_Bool (is_end e)) [
-        | inl end ↦ let none : rs ≡ [] = runs.1 end in rw (here, end, none, end) refl
-        | inr on ↦ rw (here, on, records_spelled rs most runs.2 (omega arith), complete_behind e (events_of rs) on) refl
-      ]
+      grind (arith, here, complete_behind e (events_of rs), records_spelled rs most runs.2 (omega arith), runs.1)
 
   -- the sites are read too
   pub sites_spelled : (rs : List Sited) (rest : List ℕ) → Runs h rs → all_sited h.version (events_of rs) (events_spelling h.version rs ++ rest) ≡ rs
