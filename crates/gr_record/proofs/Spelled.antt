@@ -1,7 +1,7 @@
 -- What is spelled is read again, whatever follows it.
 use Rattle.std.proofs.Common.{◌≡◌, ℕ, ◌+◌, ◌*◌, ◌/◌, ◌%◌, ◌<◌, ◌≤◌, true, List, [], ◌∷◌, ◌++◌, length, drop, Some, Ok, refl, ap, ap₂, arith}
 use Rattle.std.specs.Prelude.{All, ◌==◌, ◌||◌}
-use Rattle.std.proofs.lemmas.Bool.{lt-leb, le-ltb, ne_eqb}
+use Rattle.std.proofs.lemmas.Bool.{lt-leb}
 use Rattle.std.proofs.lemmas.Bool.Decides.{nat_tests}
 use Rattle.std.proofs.lemmas.List.{drop_at, length-append}
 use Rattle.gr_model.specs.declared.event.Event.{Event}
@@ -12,7 +12,7 @@ use Rattle.gr_model.specs.declared.event.Space.{Space}
 use Rattle.gr_model.specs.Events.{IsNamingOk, IsKindOk}
 use Rattle.gr_record.specs.declared.header.Header.{Header}
 use Rattle.gr_record.specs.declared.header.Version.{Version}
-use Rattle.gr_record.specs.Versions.{places, has_sites, record_length, most_groups, most_items}
+use Rattle.gr_record.specs.Versions.{places, has_sites, record_length}
 use Rattle.gr_record.specs.Sites.{Sited, IsSite}
 use Rattle.gr_record.specs.Spelling.{kind_bytes, names_bytes, version_byte, event_spelling}
 use Rattle.gr_record.specs.Reading.{bad_field_from, kind_of, space_at, names_in, naming, version_of, event_at, site_at, header_at}
@@ -59,13 +59,9 @@ version_again v = grind arith
 pub spelled_header_is_read : SpelledHeaderIsRead
 unfolding header_at
 spelled_header_is_read h rest fits =
-    let v = h.version in
-    let groups = groups_within v in
-    let items = items_within v in
-    let few : h.group < most_groups v = fits.group in
-    let some : 1 ≤ h.items = fits.some in
-    let most : h.items ≤ most_items v = fits.items in
-    rw (version_again v, two_again h.group (omega arith), two_again h.items (omega arith), four_again h.launch fits.launch, lt-leb (most_groups v) h.group few, ne_eqb h.items 0 (λ none. absurd (omega arith)), le-ltb (most_items v) h.items most) refl
+    let groups = groups_within h.version in
+    let items = items_within h.version in
+    grind (arith, nat_tests, version_again h.version, two_again h.group, two_again h.items, four_again h.launch)
 
 -- a spelling has as many bytes as a record
 pub spelling_length : (v : Version) (r : Sited) → length (event_spelling v r) ≡ record_length v

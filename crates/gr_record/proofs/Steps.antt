@@ -1,6 +1,7 @@
 -- A decoder's steps: a whole header, a whole record, bytes that are kept, and the end of a piece.
 use Rattle.std.proofs.Common.{◌≡◌, ◌≢◌, ℕ, suc, ◌+◌, ◌-◌, ◌<◌, ◌≤◌, Bool, true, false, List, [], ◌∷◌, ◌++◌, length, Option, Some, None, Ok, Err, refl, sym, ap, ◌∙◌, append_assoc, arith}
-use Rattle.std.proofs.lemmas.Bool.{lt-ltb, le-ltb}
+use Rattle.std.proofs.lemmas.Bool.{le-ltb}
+use Rattle.std.proofs.lemmas.Bool.Decides.{nat_tests}
 use Rattle.std.proofs.Math.Nat.{add-zero, add_assoc}
 use Rattle.std.proofs.Math.Numerals.{one-add}
 use Rattle.std.proofs.lemmas.List.{take_at, drop_at, length-append, append-nil}
@@ -12,7 +13,7 @@ use Rattle.gr_record.specs.declared.header.Header.{Header}
 use Rattle.gr_record.specs.declared.part.Part.{Part}
 use Rattle.gr_record.specs.declared.part.Part.TheVariants as parts
 use Rattle.gr_record.specs.declared.stop.Stop.{Stop}
-use Rattle.gr_record.specs.declared.stop.Stop.TheVariants.{Inside, AtEnd, AtFault}
+use Rattle.gr_record.specs.declared.stop.Stop.TheVariants.{Inside, AtFault}
 use Rattle.gr_record.specs.declared.layout.TheConstants.{HEADER_LENGTH}
 use Rattle.gr_record.specs.Versions.{record_length}
 use Rattle.gr_record.specs.Reading.{header_at, event_at}
@@ -98,10 +99,7 @@ module _ (limit count : ℕ) (unit rest : List ℕ) (listed : List Part) where
 settled : (limit count : ℕ) (h : Option Header) (held : List ℕ) (stop : Stop) → IsHeldOk stop h held
     → let d : Standing = record { limit = limit; header = h; count = count; held = held; stop = stop } in (standing_after d (still d []) ≡ d) × (parts_of (still d []) ≡ [])
 unfolding read_from
-settled limit count None held Inside ok = rw (append-nil held, lt-ltb (length held) HEADER_LENGTH ok, add-zero count) (refl, refl)
-settled limit count (Some h) held Inside ok = rw (append-nil held, short (record_length h.version) (event_at h) (limit - count) held ok, add-zero count) (refl, refl)
-settled limit count h held AtEnd ok = rw (ok, add-zero count) (refl, refl)
-settled limit count h held (AtFault e) ok = rw (ok.0, add-zero count) (refl, refl)
+settled limit count h held stop ok = grind (arith, nat_tests, append-nil held, short)
 
 -- what was read of a whole piece
 pub fed : (old new : Standing) (piece : List ℕ) (before after : List Part) → IsStanding new → Continues old piece before new [] after → (bytes : List ℕ) → StandsFor old bytes
