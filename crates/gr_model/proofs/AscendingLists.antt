@@ -1,15 +1,9 @@
 -- A list without repeats in an order is told by its elements.
-use Rattle.std.proofs.Common.{◌≡◌, ◌⊎◌, ℕ, suc, ◌<◌, List, [], ◌∷◌, length, slice_index_or, Contains, AllPairs, refl, sym, ◌∙◌, subst, ⊎_elim, arith}
+use Rattle.std.proofs.Common.{◌≡◌, ◌⊎◌, ℕ, suc, ◌<◌, List, [], ◌∷◌, length, slice_index_or, Contains, AllPairs, refl, sym, subst, arith}
 use Rattle.gr_model.specs.Reports.{Lists}
 
 Contains-cases : {X : Type 0} (y : X) (ys : List X) (x : X) (k : ℕ) → k < length (y ∷ ys) → slice_index_or (y ∷ ys) k x ≡ x → (y ≡ x) ⊎ Contains ys x
 Contains-cases y ys x k lt at = grind arith
-
-Contains-later : {X : Type 0} (y : X) (ys : List X) (x : X) → Contains ys x → Contains (y ∷ ys) x
-Contains-later y ys x h = (suc h.0, omega (arith, h.1), h.2)
-
-Contains-here : {X : Type 0} (y : X) (ys : List X) → Contains (y ∷ ys) y
-Contains-here y ys = (0, omega arith, refl)
 
 module _ {X : Type 0} (Below : X → X → Type 0) (one_way : (x y : X) → Below x y → Below y x → ⊥) where
   rest_ascends : (x : X) (xs : List X) → AllPairs Below (x ∷ xs) → AllPairs Below xs
@@ -18,25 +12,19 @@ module _ {X : Type 0} (Below : X → X → Type 0) (one_way : (x y : X) → Belo
   first_below : (x : X) (xs : List X) → AllPairs Below (x ∷ xs) → (y : X) → Contains xs y → Below x y
   first_below x xs up y h = subst (λ z. Below x z) h.2 (up 0 (suc h.0) y (omega arith) (omega (arith, h.1)))
 
-  same_first : (x y : X) (xs ys : List X) → AllPairs Below (x ∷ xs) → AllPairs Below (y ∷ ys) → Contains (y ∷ ys) x → Contains (x ∷ xs) y → x ≡ y
-  same_first x y xs ys up_x up_y has_x has_y =
-      ⊎_elim (λ (same : y ≡ x). sym same)
-      (λ later. ⊎_elim (λ (same : x ≡ y). same) (λ after. absurd (one_way x y (first_below x xs up_x y after) (first_below y ys up_y x later))) (Contains-cases x xs y has_y.0 has_y.1 has_y.2))
-      (Contains-cases y ys x has_x.0 has_x.1 has_x.2)
-
   -- what stands behind the first of one list stands behind the first of the other
   in_rest : (x y : X) (xs ys : List X) → x ≡ y → AllPairs Below (x ∷ xs) → ((z : X) → Contains (x ∷ xs) z → Contains (y ∷ ys) z) → (z : X) → Contains xs z → Contains ys z
   in_rest x y xs ys same up to z h =
-      let there = to z (Contains-later x xs z h) in
-      let below = first_below x xs up z h in
-      ⊎_elim (λ (first : y ≡ z). let itself = subst (λ w. Below x w) (sym (same ∙ first)) below in absurd (one_way x x itself itself)) (λ later. later) (Contains-cases y ys z there.0 there.1 there.2)
+      grind (arith, to z (suc h.0, omega (arith, h.1), h.2), Contains-cases y ys z, first_below x xs up z h, one_way x x)
 
   same_lists : (xs ys : List X) → AllPairs Below xs → AllPairs Below ys → ((z : X) → Contains xs z → Contains ys z) → ((z : X) → Contains ys z → Contains xs z) → xs ≡ ys
   same_lists [] [] up_x up_y to from = refl
-  same_lists [] (y ∷ ys) up_x up_y to from = let gone = from y (Contains-here y ys) in absurd (omega (arith, gone.1))
-  same_lists (x ∷ xs) [] up_x up_y to from = let gone = to x (Contains-here x xs) in absurd (omega (arith, gone.1))
+  same_lists [] (y ∷ ys) up_x up_y to from = grind (arith, from y (0, omega arith, refl))
+  same_lists (x ∷ xs) [] up_x up_y to from = grind (arith, to x (0, omega arith, refl))
   same_lists (x ∷ xs) (y ∷ ys) up_x up_y to from =
-      let same = same_first x y xs ys up_x up_y (to x (Contains-here x xs)) (from y (Contains-here y ys)) in
+      let in_other = to x (0, omega arith, refl) in
+      let in_one = from y (0, omega arith, refl) in
+      let same : x ≡ y = grind (arith, Contains-cases x xs y, Contains-cases y ys x, first_below x xs up_x y, first_below y ys up_y x, one_way) in
       let rest = same_lists xs ys (rest_ascends x xs up_x) (rest_ascends y ys up_y) (in_rest x y xs ys same up_x to) (in_rest y x ys xs (sym same) up_y from) in
       λ i. same i ∷ rest i
 

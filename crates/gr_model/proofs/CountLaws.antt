@@ -1,5 +1,5 @@
 -- The counts of an event that is grounded stay where lists that are not complete grow.
-use Rattle.std.proofs.Common.{◌≡◌, ◌↔◌, ℕ, zero, suc, ◌+◌, ◌<◌, ◌≤◌, length, sym, ap, subst, inl, inr, arith, length-append}
+use Rattle.std.proofs.Common.{◌≡◌, ◌↔◌, ℕ, zero, suc, ◌+◌, ◌<◌, ◌≤◌, length, arith, length-append}
 use Rattle.std.proofs.lemmas.Option.{slice_get_within}
 use Rattle.gr_model.specs.declared.event.Space.{Space}
 use Rattle.gr_model.specs.declared.event.ItemId.{ItemId}
@@ -11,14 +11,13 @@ use Rattle.gr_model.proofs.Descent.{below_before, stage_descends}
 use Rattle.gr_model.proofs.GrowthLaws.{stage_event, trace_grows, before_grows, before_shrinks}
 
 -- facts that agree below a bound hold there equally often
-number_same : (P Q : ℕ → Type 0) (bound : ℕ) → ((k : ℕ) → k < bound → P k ↔ Q k) → (n : ℕ) → IsNumberOf P bound n → IsNumberOf Q bound n
-number_same P Q zero same n h = h
-number_same P Q (suc b) same n (inl h) = inl (h.0, h.1, (same b (omega arith)).0 h.2, number_same P Q b (λ k lt. same k (omega arith)) h.0 h.3)
-number_same P Q (suc b) same n (inr h) = inr (λ q. h.0 ((same b (omega arith)).1 q), number_same P Q b (λ k lt. same k (omega arith)) n h.1)
+number_same : (P Q : ℕ → Type 0) (bound : ℕ) → ((k : ℕ) → k < bound → P k ↔ Q k) → (n : ℕ) → IsNumberOf P bound n ↔ IsNumberOf Q bound n
+number_same P Q zero same n = (λ h. h, λ h. h)
+number_same P Q (suc b) same n = grind (arith, same b, number_same P Q b (λ k lt. same k (omega arith)))
 
 -- a fact that holds nowhere from a bound on holds as often below a greater bound
 number_beyond : (P : ℕ → Type 0) (b more c : ℕ) → c ≡ more + b → ((k : ℕ) → b ≤ k → P k → ⊥) → (n : ℕ) → IsNumberOf P b n ↔ IsNumberOf P c n
-number_beyond P b zero c is none n = subst (λ x. IsNumberOf P b n ↔ IsNumberOf P x n) (let same : b ≡ c = omega arith in same) (λ h. h, λ h. h)
+number_beyond P b zero c is none n = grind arith
 number_beyond P b (suc more) zero is none n = absurd (omega arith)
 number_beyond P b (suc more) (suc c) is none n = grind (arith, number_beyond P b more c (omega arith) none n)
 
@@ -28,8 +27,7 @@ module _ (s t : Streams) (grows : Grows s t) (m : Space) (f : EventId) (n : ℕ)
 
   -- what a grounded event sees is an event
   seen_event : (e : EventId) → Sees s m f e → IsEvent s e
-  seen_event e (inl same) = subst (λ x. IsEvent s x) (sym same) (stage_event s t grows n f stage).0
-  seen_event e (inr before) = let lower = below_before s (Stage s) (stage_descends s) m e f before n stage in (stage_event s t grows lower.0 e lower.2).0
+  seen_event e seen = grind (arith, stage_event, below_before s (Stage s) (stage_descends s) m e f, stage)
 
   module _ (j : ItemId) where
     event_of : ℕ → EventId
@@ -38,16 +36,13 @@ module _ (s t : Streams) (grows : Grows s t) (m : Space) (f : EventId) (n : ℕ)
     -- an event that is not in the shorter lists is not seen
     not_seen : (k : ℕ) → length (trace_of s j) ≤ k → Sees t m f (event_of k) → ⊥
     unfolding event_of
-    not_seen k le seen =
-        let there = seen_event (event_of k) ((seen_stays (event_of k)).1 seen) in
-        omega (arith, le, slice_get_within (trace_of s j) k there.0 there.1)
+    not_seen k le seen = grind (arith, seen_event (event_of k), seen_stays (event_of k), slice_get_within (trace_of s j) k)
 
     pub count_stays : (k : ℕ) → IsCount s m f j k ↔ IsCount t m f j k
     unfolding event_of
     count_stays k =
         let more = trace_grows s t grows j in
-        let longer : length (trace_of t j) ≡ length more.0 + length (trace_of s j) = omega (arith, ap length more.1, length-append (trace_of s j) more.0) in
-        let beyond = number_beyond (λ i. Sees t m f (event_of i)) (length (trace_of s j)) (length more.0) (length (trace_of t j)) longer not_seen k in (
-          λ h. beyond.0 (number_same _ _ (length (trace_of s j)) (λ i lt. seen_stays (event_of i)) k h),
-          λ h. number_same _ _ (length (trace_of s j)) (λ i lt. let same = seen_stays (event_of i) in (same.1, same.0)) k (beyond.1 h),
-        )
+        let longer : length (trace_of t j) ≡ length more.0 + length (trace_of s j) = grind (arith, more.1, length-append) in
+        let beyond = number_beyond (λ i. Sees t m f (event_of i)) (length (trace_of s j)) (length more.0) (length (trace_of t j)) longer not_seen k in
+        let same = number_same _ _ (length (trace_of s j)) (λ i lt. seen_stays (event_of i)) k in
+        (λ h. beyond.0 (same.0 h), λ h. same.1 (beyond.1 h))

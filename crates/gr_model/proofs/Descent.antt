@@ -27,8 +27,7 @@ module _ (s : Streams) (At : ℕ → EventId → Type 0) (down : Descends s At) 
   below_by zero p e f at item next = down p f e at (for_previous (record { item = item; next = omega arith }))
   below_by (suc n) p e f at item next =
       let d : EventId = record { at = f.at; index = suc (n + e.index) } in
-      let previous : IsPrevious d f = record { item = refl; next = omega arith } in
-      let there = down p f d at (for_previous previous) in
+      let there = down p f d at (for_previous (record { item = refl; next = omega arith })) in
       let far = below_by n there.0 e d there.2 item refl in
       (far.0, omega arith, far.2)
 

@@ -1,30 +1,29 @@
 -- What may have come stays so where a group gets its items, and its lists have grown.
-use Rattle.std.proofs.Common.{◌≡◌, ℕ, ◌+◌, ◌<◌, ◌≤◌, List, [], ◌∷◌, length, slice_index, slice_get, sum, Some, refl, ap, ◌∙◌, ⊎_elim, append-nil, arith}
+use Rattle.std.proofs.Common.{◌≡◌, ℕ, ◌+◌, ◌<◌, ◌≤◌, List, [], ◌∷◌, length, slice_index, sum, refl, ⊎_elim, append-nil, arith}
 use Rattle.std.specs.Prelude.{◌≢◌}
-use Rattle.std.proofs.lemmas.Bool.{cases_eq, cases_lt}
 use Rattle.std.proofs.lemmas.List.{get_or_past}
 use Rattle.gr_model.specs.declared.event.Event.{Event}
 use Rattle.gr_model.specs.declared.event.ItemId.{ItemId}
 use Rattle.gr_model.specs.declared.limits.TheConstants.{MOST_GROUPS, MOST_ITEMS, MOST_ITEMS_OF_A_GROUP}
 use Rattle.gr_model.specs.Groups.{CanAdd, put, with_group}
 use Rattle.gr_model.specs.Shapes.{HasItem, IsPartOfShape, IsShape}
-use Rattle.gr_model.specs.Streams.{ArePrefixes, Grows, IsPrefix, Streams, list_of, size_of}
+use Rattle.gr_model.specs.Streams.{ArePrefixes, Grows, Streams, list_of, size_of}
 use Rattle.gr_model.proofs.PutLemmas.{all_put, length_put, put_other, put_same, sum_put}
 
 -- a shape is one of which all has come
 pub part_of_shape : (sizes : List ℕ) → IsShape sizes → IsPartOfShape sizes
-part_of_shape sizes shape = record { groups = shape.groups; each = λ k d there. (shape.each k d there).1; total = shape.total }
+part_of_shape sizes shape = grind arith
 
 -- before the first group
 pub part_of_none : IsPartOfShape []
-part_of_none = record { groups = omega arith; each = λ k d there. absurd (omega arith); total = omega arith }
+part_of_none = grind arith
 
 -- a group comes that had not, where there is room for it
 pub part_with_group : (sizes : List ℕ) (g n : ℕ) → IsPartOfShape sizes → g < MOST_GROUPS → slice_index sizes g ≡ 0 → n ≤ MOST_ITEMS_OF_A_GROUP → sum sizes + n ≤ MOST_ITEMS → IsPartOfShape (put 0 sizes g n)
 part_with_group sizes g n part group none size room = record {
-  groups = let count = length_put 0 sizes g n in let few = part.groups in omega (arith, count, few, group);
+  groups = omega (arith, length_put 0 sizes g n, part.groups, group);
   each = all_put (λ m. m ≤ MOST_ITEMS_OF_A_GROUP) sizes g n (omega arith) size part.each;
-  total = let total = sum_put sizes g n none in omega (arith, total, room);
+  total = omega (arith, sum_put sizes g n none, room);
 }
 
 module _ (s : Streams) (g n : ℕ) where
@@ -41,33 +40,24 @@ module _ (s : Streams) (g n : ℕ) where
   module _ (prefixes : ArePrefixes s) (can : CanAdd s g n) where
     -- nothing came of a group that has no items
     pub nothing_came : list_of s g ≡ []
-    nothing_came =
-        ⊎_elim
-        (λ (there : g < length s.sizes). nothing (list_of s g) (λ x at. let good = (prefixes.each g there).good 0 x at in let small = good.0.0 in let none = can.none in omega (arith, small, none)))
-        (λ (past : length s.sizes ≤ g). get_or_past s.lists g [] (let count = prefixes.count in omega (arith, past, count)))
-        (cases_lt g (length s.sizes))
+    nothing_came = nothing (list_of s g) refl
       where
-        nothing : (list : List Event) → ((x : Event) → slice_get list 0 ≡ Some x → ⊥) → list ≡ []
-        nothing [] none = refl
-        nothing (x ∷ xs) none = absurd (none x refl)
+        nothing : (list : List Event) → list_of s g ≡ list → list ≡ []
+        nothing [] is = refl
+        nothing (x ∷ xs) is =
+            grind (arith, get_or_past s.lists g, prefixes.count, (λ (there : g < length s.sizes). (prefixes.each g there).good 0 x), can.none)
 
     pub group_grows : Grows s (with_group s g n)
     group_grows = grind (arith, nothing_came, size_stays, list_stays, append-nil)
-
-    nothing_is_prefix : (items : ℕ) (list : List Event) → list ≡ [] → IsPrefix items list
-    nothing_is_prefix items list none = grind arith
 
     pub prefixes_with_group : ArePrefixes (with_group s g n)
     prefixes_with_group = record {
       shape = part_with_group s.sizes g n prefixes.shape can.group can.none can.size.1 can.total;
       count = omega (arith, length_put [] s.lists g (list_of s g), length_put 0 s.sizes g n, prefixes.count);
       each = λ h there. ⊎_elim
-          (λ (same : h ≡ g). nothing_is_prefix _ _ (list_stays h ∙ ap (list_of s) same ∙ nothing_came))
-          (λ apart. ⊎_elim
-          (λ (was : h < length s.sizes). rw (list_stays h, size_stays h apart) (prefixes.each h was))
-          (λ past. nothing_is_prefix _ _ (list_stays h ∙ get_or_past s.lists h [] (omega (arith, past, prefixes.count))))
-          (cases_lt h (length s.sizes)))
-          (cases_eq h g);
+          (λ (none : list_of s h ≡ []). grind (arith, list_stays h))
+          (λ (old : (h ≢ g) × (h < length s.sizes)). rw (list_stays h, size_stays h old.0) (prefixes.each h old.1))
+          (grind (arith, nothing_came, get_or_past s.lists h, prefixes.count));
     }
 
     -- and its own

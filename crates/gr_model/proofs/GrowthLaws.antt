@@ -1,5 +1,5 @@
 -- What holds of the events that are reached holds on where incomplete lists grow.
-use Rattle.std.proofs.Common.{Contains, ◌≡◌, ◌⊎◌, ℕ, zero, suc, ◌+◌, ◌<◌, Bool, List, ◌++◌, Some, slice_get, filter, filter_map, option_and_then, sym, ap, ◌∙◌, subst, inl, inr, ⊎_elim, arith, IsTrue}
+use Rattle.std.proofs.Common.{Contains, ◌≡◌, ◌⊎◌, ℕ, zero, suc, ◌<◌, Bool, List, ◌++◌, Some, filter, option_and_then, sym, ap, ◌∙◌, subst, inl, inr, ⊎_elim, arith}
 use Rattle.std.proofs.lemmas.List.Elements.{filter-append, filter_map-append}
 use Rattle.std.proofs.lemmas.Option.{slice_get_within}
 use Rattle.gr_model.specs.declared.event.ItemId.{ItemId}
@@ -8,13 +8,13 @@ use Rattle.gr_model.specs.declared.event.EventId.{EventId}
 use Rattle.gr_model.specs.declared.event.Event.{Event}
 use Rattle.gr_model.specs.Access.{event_word, is_release}
 use Rattle.gr_model.specs.Barriers.{IsConvergent, IsDivergent, StandsIn, Together, arrivals, is_barrier, mark_of}
-use Rattle.gr_model.specs.HappensBefore.{BasePair, HappensBefore, IsInclusive, behind_barrier, by_pair, sequenced, synchronized, through}
-use Rattle.gr_model.specs.Instances.{HasArrived, Mark}
+use Rattle.gr_model.specs.HappensBefore.{BasePair, HappensBefore, behind_barrier, by_pair, sequenced, synchronized, through}
+use Rattle.gr_model.specs.Instances.{Mark}
 use Rattle.gr_model.specs.Names.{HasName, Matches, MatchesBy, names_at, names_of}
-use Rattle.gr_model.specs.Streams.{Grows, IsEvent, Streams, event_at, is_complete, is_of, list_of, place_of, places_from, size_of, trace_of, word_at}
+use Rattle.gr_model.specs.Streams.{Grows, IsEvent, Streams, event_at, is_of, list_of, place_of, size_of, trace_of, word_at}
 use Rattle.gr_model.specs.Waits.{IsSettled, Stage, Waits, for_arrival, for_meeting, for_previous, for_release}
 use Rattle.gr_model.specs.declared.event.Space.{Space}
-use Rattle.gr_model.proofs.Descent.{together-swap, below_in_item, below_by_pair, stage_descends}
+use Rattle.gr_model.proofs.Descent.{together-swap, below_in_item, below_by_pair, stage_descends, stage_up}
 use Rattle.gr_model.proofs.Places.{slice_get-append, places_from-append, places_from-there, places_from-within, filter_map-place}
 use Rattle.gr_model.proofs.Cuts.{same_event}
 
@@ -30,18 +30,14 @@ module _ (s t : Streams) (grows : Grows s t) where
 
   -- an event stays
   pub event_grows : (e : EventId) (x : Event) → event_at s e ≡ Some x → event_at t e ≡ Some x
-  event_grows e x at =
-      let more = trace_grows e.at in rw more.1 (slice_get-append (trace_of s e.at) more.0 e.index x at)
+  event_grows e x at = grind (arith, trace_grows e.at, slice_get-append)
 
   -- the k-th that passes a test stays where it is, and is the k-th that was there
   place_grows : (test : Event → Bool) (i : ItemId) (k n : ℕ) → place_of s test i k ≡ Some n → place_of t test i k ≡ Some n
-  place_grows test i k n at =
-      let more = trace_grows i in rw (more.1, places_from-append) (slice_get-append (places_from test 0 (trace_of s i)) _ k n at)
+  place_grows test i k n at = grind (arith, trace_grows i, places_from-append, slice_get-append)
 
   place_shrinks : (test : Event → Bool) (e : EventId) (k : ℕ) → IsEvent s e → place_of t test e.at k ≡ Some e.index → place_of s test e.at k ≡ Some e.index
-  place_shrinks test e k there at =
-      let more = trace_grows e.at in
-      places_from-within test (trace_of s e.at) more.0 k e.index (ap (λ l. slice_get (places_from test 0 l) k) (sym more.1) ∙ at) (slice_get_within (trace_of s e.at) e.index there.0 there.1)
+  place_shrinks test e k there at = grind (arith, trace_grows e.at, places_from-within test (trace_of s e.at), slice_get_within)
 
   place_there : (test : Event → Bool) (e : EventId) (k : ℕ) → place_of s test e.at k ≡ Some e.index → IsEvent s e
   place_there test e k at = grind (arith, places_from-there)
@@ -70,10 +66,7 @@ module _ (s t : Streams) (grows : Grows s t) where
   matches_shrinks : (f e : EventId) → IsEvent s f → IsSettled s f → Matches t f e → Matches s f e
   matches_shrinks f e there go m =
       let had = go.release m.name (name_was f m.name there m.by.named) in
-      let place : had.0.index ≡ e.index =
-      let p : Some had.0.index ≡ Some e.index = sym (place_grows is_release m.name.at m.name.release had.0.index had.1.place) ∙ m.by.place in cc in
-      let same : had.0 ≡ e = same_event had.0 e (had.1.item ∙ sym m.by.item) place in
-      record { name = m.name; by = subst (λ d. MatchesBy s m.name f d) same had.1 }
+      record { name = m.name; by = grind (arith, had, place_grows is_release m.name.at, same_event had.0 e) }
 
   -- ---- barriers
 
@@ -81,35 +74,20 @@ module _ (s t : Streams) (grows : Grows s t) where
   pub size_stays : (e : EventId) → IsEvent s e → size_of s e.at.group ≡ size_of t e.at.group
   size_stays e there = grind arith
 
-  size_with : (g k i : ℕ) (a : Mark) → arrivals s g k i ≡ Some a → size_of s g ≡ size_of t g
-  size_with g k i a at = grind arith
-
-  size_of_whole : (g : ℕ) → IsTrue (is_complete (list_of s g)) → size_of s g ≡ size_of t g
-  size_of_whole g whole = grind arith
-
-  arrival_grows : (g k i : ℕ) (a : Mark) → arrivals s g k i ≡ Some a → arrivals t g k i ≡ Some a
-  arrival_grows g k i a at =
-      let more = trace_grows (record { group = g; item = i }) in
-      rw (more.1, filter_map-append) (slice_get-append (filter_map mark_of (trace_of s (record { group = g; item = i }))) (filter_map mark_of more.0) k a at)
-
-  arrived_grows : (g k i : ℕ) (a : Mark) → HasArrived (size_of s g) (arrivals s g k) i a → HasArrived (size_of t g) (arrivals t g k) i a
-  arrived_grows g k i a h = (subst (λ n. i < n) (size_with g k i a h.1) h.0, arrival_grows g k i a h.1)
+  -- what has come of an item stays, and so does the size of its group
+  arrival_grows : (g k i : ℕ) (a : Mark) → arrivals s g k i ≡ Some a → (arrivals t g k i ≡ Some a) × (size_of s g ≡ size_of t g)
+  arrival_grows g k i a at = grind (arith, trace_grows (record { group = g; item = i }), filter_map-append, slice_get-append)
 
   -- a group whose items have met keeps its size
   pub size_of_met : (g k : ℕ) (a : Mark) → IsConvergent s g k a → size_of s g ≡ size_of t g
-  size_of_met g k a c = size_with g k 0 a (c.1 0 c.0)
+  size_of_met g k a c = (arrival_grows g k 0 a (c.1 0 c.0)).1
 
   pub convergent_grows : (g k : ℕ) (a : Mark) → IsConvergent s g k a → IsConvergent t g k a
   convergent_grows g k a c =
-      let size = size_of_met g k a c in
-      (subst (λ n. 0 < n) size c.0, λ i below. arrival_grows g k i a (c.1 i (subst (λ n. i < n) (sym size) below)))
-
-  -- a whole list's traces stay
-  whole_trace : (g i : ℕ) → IsTrue (is_complete (list_of s g)) → trace_of t (record { group = g; item = i }) ≡ trace_of s (record { group = g; item = i })
-  whole_trace g i whole = ap (filter (is_of i)) (grows.whole g whole)
+      let size = size_of_met g k a c in (omega (arith, size, c.0), λ i below. grind (arith, size, c.1 i, arrival_grows g k i a))
 
   pub divergent_grows : (g k : ℕ) → IsDivergent s g k → IsDivergent t g k
-  divergent_grows g k h = grind (arith, arrived_grows, size_of_whole, whole_trace)
+  divergent_grows g k h = grind (arith, arrival_grows, grows.whole g)
 
   -- a settled instance is convergent in the longer lists with the mark that it has
   convergent_shrinks : (g k : ℕ) (a : Mark) → ((b : Mark) × IsConvergent s g k b) ⊎ IsDivergent s g k → IsConvergent t g k a → IsConvergent s g k a
@@ -131,16 +109,14 @@ module _ (s t : Streams) (grows : Grows s t) where
       let first = stands_shrinks e h.group h.instance there h.first in
       let convergent = convergent_shrinks h.group h.instance a (go.instance h.group h.instance first) h.convergent in
       let within : b.at.item < size_of s h.group = omega (arith, h.second.item, size_of_met h.group h.instance a convergent) in
-      let here : ItemId = record { group = h.group; item = b.at.item } in
-      let found = filter_map-place mark_of 0 (trace_of s here) h.instance a (convergent.1 b.at.item within) in
-      let second : StandsIn s b h.group h.instance = grind (arith, found, place_grows is_barrier here h.instance found.0, h.second, within) in
+      let found = filter_map-place mark_of 0 (trace_of s (record { group = h.group; item = b.at.item })) h.instance a (convergent.1 b.at.item within) in
+      let second : StandsIn s b h.group h.instance = grind (arith, found, place_grows is_barrier b.at h.instance found.0, h.second, within) in
       record { group = h.group; instance = h.instance; convergent = convergent; first = first; second = second }
 
   -- ---- what an event waits for, and the stages
 
   pub stage_event : (n : ℕ) (e : EventId) → Stage s n e → IsEvent s e × IsSettled s e
-  stage_event zero e h = absurd h
-  stage_event (suc n) e h = (h.0, h.1)
+  stage_event n e h = let up = stage_up s n e h in (up.0, up.1)
 
   pub waits_grows : (e d : EventId) → IsEvent s e → Waits s e d → Waits t e d
   waits_grows e d there (for_previous p) = for_previous p
@@ -175,20 +151,14 @@ module _ (s t : Streams) (grows : Grows s t) where
 
   -- ---- what happens before an event that is reached
 
-  inclusive_grows : (m : Space) (e f : EventId) → IsInclusive s m e f → IsInclusive t m e f
-  inclusive_grows m e f h = grind (arith, event_grows, word_grows)
-
-  inclusive_shrinks : (m : Space) (e f : EventId) → IsEvent s e → IsEvent s f → IsInclusive t m e f → IsInclusive s m e f
-  inclusive_shrinks m e f has_e has_f h = grind (arith, event_grows, word_grows)
-
   pair_grows : (m : Space) (e f : EventId) → IsEvent s f → BasePair s m e f → BasePair t m e f
   pair_grows m e f has (sequenced item below there) = sequenced item below (there.0, event_grows f there.0 there.1)
-  pair_grows m e f has (synchronized match inclusive) = synchronized (matches_grows f e has match) (inclusive_grows m e f inclusive)
+  pair_grows m e f has (synchronized match inclusive) = synchronized (matches_grows f e has match) (grind (arith, event_grows, word_grows))
   pair_grows m e f has (behind_barrier a b flagged met item below there) = behind_barrier a b flagged (together_grows a e b met) item below (there.0, event_grows f there.0 there.1)
 
   pair_shrinks : (m : Space) (n : ℕ) (e f : EventId) → Stage s n f → BasePair t m e f → BasePair s m e f
   pair_shrinks m n e f h (sequenced item below there) = sequenced item below (stage_event n f h).0
-  pair_shrinks m n e f h (synchronized match inclusive) = grind (arith, stage_event, matches_shrinks, inclusive_shrinks, release_event)
+  pair_shrinks m n e f h (synchronized match inclusive) = grind (arith, synchronized, stage_event, matches_shrinks, release_event, event_grows, word_grows)
   pair_shrinks m n e f h (behind_barrier a b flagged met item below there) =
       let lower = below_in_item s (Stage s) (stage_descends s) n b f h item below in
       let barrier = stage_event lower.0 b lower.2 in

@@ -1,6 +1,5 @@
 -- Along a lawful order the words hit are the racy ones.
-use Rattle.std.proofs.Common.{◌≡◌, ℕ, ◌<◌, ◌≤◌, List, ⊎_elim, arith}
-use Rattle.std.proofs.Common.{eqb}
+use Rattle.std.proofs.Common.{◌≡◌, ℕ, ◌<◌, List, ⊎_elim, arith, eqb}
 use Rattle.std.proofs.Math.Bool.{or_comm}
 use Rattle.std.proofs.lemmas.Bool.{cases_lt}
 use Rattle.std.proofs.lemmas.Bool.Decides.{nat_tests}
@@ -8,7 +7,6 @@ use Rattle.gr_model.specs.declared.event.EventId.{EventId}
 use Rattle.gr_model.specs.declared.event.Kind.{Kind}
 use Rattle.gr_model.specs.declared.event.Word.{Word}
 use Rattle.gr_model.specs.Access.{inclusive, memory_of}
-use Rattle.gr_model.specs.HappensBefore.{HappensBefore}
 use Rattle.gr_model.specs.Hits.{SomePair}
 use Rattle.gr_model.specs.LawfulOrders.{IsAt, IsLawful}
 use Rattle.gr_model.specs.Races.{RacesInOrder, MayRace, IsRace, IsRacy}
@@ -27,10 +25,7 @@ may_race_swaps c = grind (arith, or_comm, inclusive_swap)
 -- where a later event of a lawful order clashes with an earlier one the two are a race
 pub clash_is_race : (s : Streams) (order : List EventId) (w : Word) (p q : ℕ) (e f : EventId) → IsLawful s order → p < q → IsAt order p e → IsAt order q f → RacesInOrder s w e f → IsRace s w e f
 clash_is_race s order w p q e f lawful lt at_e at_f clash =
-    let not_after : ¬ HappensBefore s (memory_of w) f e = λ b.
-    let lower = below_before s (IsAt order) (lawful_descends s order lawful) (memory_of w) f e b p at_e in
-    omega (arith, lower.1, lt, lawful.once lower.0 q f lower.2 at_f) in
-    record { may_race = clash.may_race; not_before = clash.not_before; not_after = not_after }
+    grind (arith, below_before s (IsAt order) (lawful_descends s order lawful) (memory_of w) f e, lawful.once)
 
 pub hit_is_race : (s : Streams) (order : List EventId) (w : Word) → IsLawful s order → SomePair (RacesInOrder s w) order → IsRacy s (λ e. (p : ℕ) × IsAt order p e) w
 hit_is_race s order w lawful h = (h.2, h.3, (h.0, h.5), (h.1, h.6), clash_is_race s order w h.0 h.1 h.2 h.3 lawful h.4 h.5 h.6 h.7)
@@ -38,8 +33,8 @@ hit_is_race s order w lawful h = (h.2, h.3, (h.0, h.5), (h.1, h.6), clash_is_rac
 pub race_is_hit : (s : Streams) (order : List EventId) (w : Word) → IsRacy s (λ e. (p : ℕ) × IsAt order p e) w → SomePair (RacesInOrder s w) order
 race_is_hit s order w (e, f, (p, at_e), (q, at_f), race) =
     ⊎_elim
-    (λ (lt : p < q). (p, q, e, f, lt, at_e, at_f, record { may_race = race.may_race; not_before = race.not_before }))
-    (λ (ge : q ≤ p).
+    (λ lt. (p, q, e, f, lt, at_e, at_f, record { may_race = race.may_race; not_before = race.not_before }))
+    (λ ge.
     let lt : q < p = grind (arith, ge, at_e, at_f, race.may_race.others) in
     (q, p, f, e, lt, at_f, at_e, record { may_race = may_race_swaps race.may_race; not_before = race.not_after }))
     (cases_lt p q)

@@ -45,8 +45,4 @@ PairIn-filter keep R kept [] = (λ h. h, λ h. h)
 PairIn-filter keep R kept (x ∷ xs) = grind (arith, PairIn-filter keep R kept xs, SomeOf-filter keep (R x) (λ y r. (kept x y r).1) xs, SomeOf-place (R x) xs, kept x)
 
 pub SomePair-filter : {X : Type 0} (keep : X → Bool) (R : X → X → Type 0) → ((x y : X) → R x y → (keep x ≡ true) × (keep y ≡ true)) → (xs : List X) → SomePair R xs ↔ SomePair R (filter keep xs)
-SomePair-filter keep R kept xs =
-    let same = PairIn-filter keep R kept xs in (
-      λ h. SomePair-from_in R (filter keep xs) (same.0 (PairIn-from_some R xs h)),
-      λ h. SomePair-from_in R xs (same.1 (PairIn-from_some R (filter keep xs) h)),
-    )
+SomePair-filter keep R kept xs = grind (arith, PairIn-filter keep R kept xs, SomePair-from_in R, PairIn-from_some R)

@@ -1,5 +1,6 @@
 -- Lists with an element at a place behind their end.
 use Rattle.std.proofs.Common.{◌≡◌, ℕ, zero, suc, ◌+◌, ◌<◌, ◌≤◌, max, All, List, [], ◌∷◌, ◌++◌, length, get_or, map, set, sum, refl, sym, ap, ◌∙◌, arith}
+use Rattle.std.proofs.lemmas.List.{get_or_default, get_or_past}
 use Rattle.std.proofs.lemmas.List.Sums.{sum_by-cons}
 use Rattle.std.specs.Prelude.{◌≢◌}
 use Rattle.gr_model.specs.Groups.{put}
@@ -40,22 +41,16 @@ map_put f none (y ∷ ys) (suc p) x = ap (λ rest. f y ∷ rest) (map_put f none
 
 -- ---- numbers
 
-sum_cons : (n : ℕ) (ns : List ℕ) → sum (n ∷ ns) ≡ n + sum ns
-sum_cons n ns = sum_by-cons (λ (m : ℕ). m) n ns
-
 -- where nothing stood there
 pub sum_put : (ns : List ℕ) (p n : ℕ) → get_or ns p 0 ≡ 0 → sum (put 0 ns p n) ≡ sum ns + n
-sum_put [] zero n none = omega (arith, sum_cons n [])
-sum_put [] (suc p) n none = let rest = sum_put [] p n refl in omega (arith, rest, sum_cons 0 (put 0 [] p n))
-sum_put (m ∷ ns) zero n none = omega (arith, sum_cons n ns, sum_cons m ns, none)
-sum_put (m ∷ ns) (suc p) n none = let rest = sum_put ns p n none in omega (arith, rest, sum_cons m (put 0 ns p n), sum_cons m ns)
+sum_put [] zero n none = grind (arith, sum_by-cons)
+sum_put [] (suc p) n none = grind (arith, sum_by-cons, sum_put [] p n refl)
+sum_put (m ∷ ns) zero n none = grind (arith, sum_by-cons (λ (k : ℕ). k) n ns, sum_by-cons)
+sum_put (m ∷ ns) (suc p) n none = omega (arith, sum_put ns p n none, sum_by-cons (λ (k : ℕ). k) m (put 0 ns p n), sum_by-cons (λ (k : ℕ). k) m ns)
 
 -- each is small where the others are
 pub all_put : (P : ℕ → Type 0) (ns : List ℕ) (p n : ℕ) → P 0 → P n → All P ns → All P (put 0 ns p n)
-all_put P [] zero n nothing new all k d there = grind arith
-all_put P [] (suc p) n nothing new all k d there = grind (arith, all_put P [] p n nothing new)
-all_put P (m ∷ ns) zero n nothing new all k d there = grind (arith, all k d)
-all_put P (m ∷ ns) (suc p) n nothing new all k d there = grind (arith, all 0 d, all_put P ns p n nothing new (λ i e lt. all (suc i) e (omega (arith, lt))))
+all_put P ns p n nothing new all k d there = grind (arith, put_same 0 ns p n, put_other 0 ns p n k, get_or_default (put 0 ns p n) k d 0 there, all k 0, get_or_past ns k 0)
 
 -- ---- lists that grow up to a place
 

@@ -3,18 +3,15 @@ use Rattle.std.proofs.Common.{List, arith}
 use Rattle.gr_model.specs.declared.event.EventId.{EventId}
 use Rattle.gr_model.specs.declared.event.Word.{Word}
 use Rattle.gr_model.specs.LawfulOrders.{IsIn, IsLawful}
-use Rattle.gr_model.specs.Races.{MayRace, IsRace, IsRacy}
+use Rattle.gr_model.specs.Races.{IsRace, IsRacy}
 use Rattle.gr_model.specs.Streams.{Grows, Streams}
 use Rattle.gr_model.specs.Waits.{IsGrounded}
 use Rattle.gr_model.proofs.Descent.{lawful_is_grounded}
 use Rattle.gr_model.proofs.GrowthLaws.{before_shrinks, event_grows, stage_grows, word_grows}
 
 module _ (s t : Streams) (grows : Grows s t) (w : Word) where
-  may_race_grows : (e f : EventId) → MayRace s w e f → MayRace t w e f
-  may_race_grows e f c = grind (arith, event_grows, word_grows)
-
   race_grows : (e f : EventId) → IsGrounded s e → IsGrounded s f → IsRace s w e f → IsRace t w e f
-  race_grows e f ge gf r = grind (arith, may_race_grows, before_shrinks)
+  race_grows e f ge gf r = grind (arith, event_grows, word_grows, before_shrinks)
 
   grounded_grows : (e : EventId) → IsGrounded s e → IsGrounded t e
   grounded_grows e g = (g.0, stage_grows s t grows g.0 e g.1)

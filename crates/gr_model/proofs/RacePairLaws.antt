@@ -12,15 +12,5 @@ use Rattle.gr_model.proofs.HitsAreRaces.{may_race_swaps}
 pub race_swap : (s : Streams) (w : Word) (e f : EventId) → IsRace s w e f → IsRace s w f e
 race_swap s w e f race = record { may_race = may_race_swaps race.may_race; not_before = race.not_after; not_after = race.not_before }
 
--- a race of a pair is one of its events as they stand
-pub race_of : (s : Streams) (w : Word) (e f : EventId) (pair : Pair) → IsTurned e f pair → IsRace s w pair.0 pair.1 → IsRace s w e f
-race_of s w e f pair h race = grind (arith, race_swap)
-
-pub of_race : (s : Streams) (w : Word) (e f : EventId) (pair : Pair) → IsTurned e f pair → IsRace s w e f → IsRace s w pair.0 pair.1
-of_race s w e f pair h race = grind (arith, race_swap)
-
-pub both_grounded : (s : Streams) (e f : EventId) (pair : Pair) → IsTurned e f pair → IsGrounded s e → IsGrounded s f → IsGrounded s pair.0 × IsGrounded s pair.1
-both_grounded s e f pair h a b = grind arith
-
 pub race_pair : (s : Streams) (w : Word) (e f : EventId) (pair : Pair) → IsTurned e f pair → EventBelow pair.0 pair.1 → IsGrounded s e → IsGrounded s f → IsRace s w e f → IsRacePair s w pair
-race_pair s w e f pair turned below first second race = grind (arith, both_grounded, of_race)
+race_pair s w e f pair turned below first second race = grind (arith, race_swap)

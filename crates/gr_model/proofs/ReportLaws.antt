@@ -3,30 +3,15 @@ use Rattle.std.proofs.Common.{◌≡◌, ℕ, zero, suc, ◌<◌, All, List, [],
 use Rattle.std.specs.List.{flat_map, range_with_len, sum_by}
 use Rattle.std.proofs.lemmas.List.Sums.{sum_by-cons}
 use Rattle.std.proofs.lemmas.List.Concat.{flat_map-cons}
-use Rattle.std.proofs.lemmas.List.Elements.{All-append, All-from_get_or, All-head, All-map, All-nil, All-tail, All-weaker}
+use Rattle.std.proofs.lemmas.List.Elements.{All-append, All-head, All-map, All-nil, All-tail}
 use Rattle.std.proofs.lemmas.List.FromFn.{get_or-range_with_len, length-range_with_len}
-use Rattle.gr_model.specs.declared.event.EventId.{EventId}
-use Rattle.gr_model.specs.declared.event.ItemId.{ItemId}
-use Rattle.gr_model.specs.declared.event.Word.{Word}
-use Rattle.gr_model.specs.declared.report.Divergence.{Divergence}
 use Rattle.gr_model.specs.Counts.{IsNumberOf}
-use Rattle.gr_model.specs.Reports.{DivergenceBelow, EventBelow, IsCut, IsDivergence, IsHeld, IsReportOf, IsUnmatchedEntry, UnmatchedBelow, WholeReport, WordBelow}
+use Rattle.gr_model.specs.Reports.{DivergenceBelow, IsCut, IsDivergence, IsHeld, IsReportOf, IsUnmatchedEntry, UnmatchedBelow, WholeReport, WordBelow}
 use Rattle.gr_model.specs.Races.{IsRacy}
 use Rattle.gr_model.specs.Shapes.{HasItem, items_of}
 use Rattle.gr_model.specs.Streams.{Streams}
 use Rattle.gr_model.specs.Waits.{IsGrounded}
 use Rattle.gr_model.proofs.AscendingLists.{one_list}
-
--- ---- the orders go one way
-
-words_one_way : (v w : Word) → WordBelow v w → WordBelow w v → ⊥
-words_one_way v w a b = grind arith
-
-divergences_one_way : (d e : Divergence) → DivergenceBelow d e → DivergenceBelow e d → ⊥
-divergences_one_way d e a b = omega arith
-
-events_one_way : (e f : EventId) → EventBelow e f → EventBelow f e → ⊥
-events_one_way e f a b = omega arith
 
 -- ---- numbers
 
@@ -44,16 +29,10 @@ All-flat_map : {X Y : Type 0} (P : Y → Type 0) (f : X → List Y) (xs : List X
 All-flat_map P f [] all = All-nil P
 All-flat_map P f (x ∷ xs) all = rw (flat_map-cons f x xs) (All-append P (f x) (flat_map f xs) (All-head (λ y. All P (f y)) x xs all) (All-flat_map P f xs (All-tail (λ y. All P (f y)) x xs all)))
 
-below_range : (n : ℕ) → All (λ i. i < n) (range_with_len 0 n)
-below_range n = All-from_get_or (λ i. i < n) (range_with_len 0 n) 0 (λ i lt. let within : i < n = omega (arith, lt, length-range_with_len 0 n) in omega (arith, within, get_or-range_with_len 0 n i 0 within))
-
 items_are_there : (sizes : List ℕ) → All (HasItem sizes) (items_of sizes)
 items_are_there sizes =
-    let items : ℕ → List ItemId = λ g. map (λ i. record { group = g; item = i }) (range_with_len 0 (slice_index sizes g)) in
-    All-flat_map (HasItem sizes) items (range_with_len 0 (length sizes)) (All-weaker (λ g. g < length sizes) (λ g. All (HasItem sizes) (items g))
-    (λ g there. All-map (HasItem sizes) (λ i. record { group = g; item = i }) (range_with_len 0 (slice_index sizes g))
-    (All-weaker (λ i. i < slice_index sizes g) (λ i. HasItem sizes (record { group = g; item = i })) (λ i below. (there, below)) _ (below_range (slice_index sizes g))))
-    _ (below_range (length sizes)))
+    All-flat_map (HasItem sizes) (λ g. map (λ i. record { group = g; item = i }) (range_with_len 0 (slice_index sizes g))) (range_with_len 0 (length sizes))
+    (λ k d lt. All-map (HasItem sizes) _ _ (λ i e within. grind (arith, get_or-range_with_len, length-range_with_len)))
 
 one_held : (s : Streams) (m n : ℕ) → IsHeld s m → IsHeld s n → m ≡ n
 one_held s m n a b = grind (arith, sum_same, number_one, items_are_there)
@@ -62,12 +41,9 @@ one_held s m n a b = grind (arith, sum_same, number_one, items_are_there)
 
 pub one_report : (s : Streams) (r q : WholeReport) → IsReportOf s r → IsReportOf s q → r ≡ q
 one_report s r q a b =
-    let races = one_list WordBelow words_one_way (IsRacy s (IsGrounded s)) r.races q.races a.races b.races in
-    let divergences = one_list DivergenceBelow divergences_one_way (IsDivergence s) r.divergences q.divergences a.rest.divergences b.rest.divergences in
-    let unmatched = one_list UnmatchedBelow (λ u v. events_one_way u.event v.event) (IsUnmatchedEntry s) r.unmatched q.unmatched a.rest.unmatched b.rest.unmatched in
-    let cut = one_list (λ g h. g < h) (λ g h (a : g < h) (b : h < g). omega arith) (IsCut s) r.cut q.cut a.rest.cut b.rest.cut in
+    let races = one_list WordBelow (λ v w a b. grind arith) (IsRacy s (IsGrounded s)) r.races q.races a.races b.races in
+    let divergences = one_list DivergenceBelow (λ d e a b. omega arith) (IsDivergence s) r.divergences q.divergences a.rest.divergences b.rest.divergences in
+    let unmatched = one_list UnmatchedBelow (λ u v a b. omega arith) (IsUnmatchedEntry s) r.unmatched q.unmatched a.rest.unmatched b.rest.unmatched in
+    let cut = one_list (λ g h. g < h) (λ g h a b. omega arith) (IsCut s) r.cut q.cut a.rest.cut b.rest.cut in
     let held = one_held s r.held q.held a.rest.held b.rest.held in
-    let groups = a.rest.groups ∙ sym b.rest.groups in
-    let items = a.rest.items ∙ sym b.rest.items in
-    let records = a.rest.records ∙ sym b.rest.records in
-    λ i. record { races = races i; divergences = divergences i; unmatched = unmatched i; cut = cut i; held = held i; groups = groups i; items = items i; records = records i }
+    grind (arith, races, divergences, unmatched, cut, held)

@@ -1,5 +1,5 @@
 -- Prefixes of a work-group's stream: they grow by records that may come next, and a complete one is the whole.
-use Rattle.std.proofs.Common.{◌≡◌, ◌⊎◌, ℕ, ◌-◌, ◌<◌, List, [], ◌∷◌, ◌++◌, length, Some, slice_get, refl, sym, ◌∙◌, arith, length-append, IsTrue, IsFalse}
+use Rattle.std.proofs.Common.{◌≡◌, ℕ, ◌-◌, ◌<◌, List, [], ◌∷◌, ◌++◌, length, refl, arith, length-append, IsTrue, IsFalse}
 use Rattle.std.proofs.lemmas.Grind.{common_steps}
 use Rattle.std.proofs.lemmas.Option.{gets, slice_get_within, slice_get-get_or}
 use Rattle.gr_model.specs.declared.event.Event.{Event}
@@ -9,22 +9,13 @@ use Rattle.gr_model.specs.Streams.{IsPrefix, is_complete}
 use Rattle.gr_model.proofs.ListsOfRecords.{is_complete-last}
 use Rattle.gr_model.proofs.Places.{slice_get-append}
 
--- a prefix as long as the list is the list
--- the element behind a prefix
-slice_get-seam : {T : Type 0} (xs : List T) (y : T) (ys : List T) → slice_get (xs ++ y ∷ ys) (length xs) ≡ Some y
-slice_get-seam xs y ys = grind (arith, common_steps, gets)
-
--- an element of a list that was pushed to stood there, or is the one pushed
-slice_get-push : {T : Type 0} (xs : List T) (y : T) (k : ℕ) (x : T) → slice_get (xs ++ y ∷ []) k ≡ Some x → (slice_get xs k ≡ Some x) ⊎ ((k ≡ length xs) × (y ≡ x))
-slice_get-push xs y k x at = grind (arith, common_steps, gets)
-
 pub prefix_nil : (n : ℕ) → IsPrefix n []
 prefix_nil n = grind arith
 
 pub prefix_push : (n : ℕ) (xs : List Event) (e : Event) → IsPrefix n xs → IsEventOk e n → IsFalse (is_complete xs) → length xs < MOST_RECORDS → IsPrefix n (xs ++ e ∷ [])
 prefix_push n xs e prefix ok unended room = record {
   few = omega (arith, length-append xs (e ∷ []));
-  good = λ p x at. grind (arith, slice_get-push xs e p x at, prefix.good p x, is_complete-last xs x, length-append);
+  good = λ p x at. grind (arith, common_steps, gets, prefix.good p x, is_complete-last xs x);
 }
 
 pub prefix_prefix : (n : ℕ) (xs ys : List Event) → IsPrefix n (xs ++ ys) → IsPrefix n xs
@@ -39,15 +30,14 @@ prefix_whole n [] ys prefix whole = cc
 prefix_whole n (x ∷ xs) [] prefix whole = refl
 prefix_whole n (x ∷ xs) (y ∷ ys) prefix whole =
     let end = slice_get-get_or (x ∷ xs) (length (x ∷ xs) - 1) x (omega arith) in
-    let last = (prefix.good _ _ (slice_get-append (x ∷ xs) (y ∷ ys) _ _ end)).1 (sym (is_complete-last (x ∷ xs) _ end) ∙ whole) in
-    absurd (omega (arith, last, length-append xs (y ∷ ys)))
+    grind (arith, prefix.good _ _ (slice_get-append (x ∷ xs) (y ∷ ys) _ _ end), is_complete-last (x ∷ xs) _ end, length-append xs (y ∷ ys))
 
 -- what a stream has next
 pub next_ok : (n : ℕ) (xs : List Event) (e : Event) (ys : List Event) → IsPrefix n (xs ++ e ∷ ys) → IsEventOk e n
-next_ok n xs e ys prefix = (prefix.good (length xs) e (slice_get-seam xs e ys)).0
+next_ok n xs e ys prefix = (prefix.good (length xs) e (grind (arith, common_steps, gets))).0
 
 pub next_unended : (n : ℕ) (xs : List Event) (e : Event) (ys : List Event) → IsPrefix n (xs ++ e ∷ ys) → IsFalse (is_complete xs)
 next_unended n xs e ys prefix = grind (arith, prefix_whole n xs (e ∷ ys) prefix)
 
 pub next_room : (n : ℕ) (xs : List Event) (e : Event) (ys : List Event) → IsPrefix n (xs ++ e ∷ ys) → length xs < MOST_RECORDS
-next_room n xs e ys prefix = let few = prefix.few in omega (arith, length-append xs (e ∷ ys))
+next_room n xs e ys prefix = omega (arith, prefix.few, length-append xs (e ∷ ys))

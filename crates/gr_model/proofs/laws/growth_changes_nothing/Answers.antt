@@ -1,17 +1,11 @@
-use Rattle.std.proofs.Common.{ℕ, suc, zero, ◌↔◌}
-use Rattle.gr_model.specs.declared.event.EventId.{EventId}
-use Rattle.gr_model.specs.Streams.{Grows, Streams}
-use Rattle.gr_model.specs.Waits.{Stage, Waits}
+use Rattle.gr_model.proofs.Descent.{stage_up}
 use Rattle.gr_model.proofs.GrowthLaws.{waits_grows, waits_shrink, stage_grows, stage_shrinks, before_grows, before_shrinks}
 use Rattle.gr_model.proofs.CountLaws.{count_stays}
 use Rattle.gr_model.proofs.laws.growth_changes_nothing.Goals as goal
 
-waits_stay : (s t : Streams) (e d : EventId) → Grows s t → (n : ℕ) → Stage s n e → Waits s e d ↔ Waits t e d
-waits_stay s t e d grows zero h = absurd h
-waits_stay s t e d grows (suc n) h = (waits_grows s t grows e d h.0, waits_shrink s t grows n e h d)
-
 pub returns-clause-waits : goal.returns-clause-waits
-returns-clause-waits c s t e d grows g = waits_stay s t e d grows g.0 g.1
+returns-clause-waits c s t e d grows g =
+    let up = stage_up s g.0 e g.1 in (waits_grows s t grows e d up.0, waits_shrink s t grows g.0 e up d)
 
 pub returns-clause-stages : goal.returns-clause-stages
 returns-clause-stages c s t e n grows g = (stage_grows s t grows n e, stage_shrinks s t grows g.0 e g.1 n)
