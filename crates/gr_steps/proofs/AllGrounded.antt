@@ -1,7 +1,6 @@
 -- Where no acquire is unmatched in complete lists, every event is grounded.
 -- Of each item the first event that is not would be a barrier of a convergent instance. One with the least number would have met: each other item of its group stands at a barrier of the same instance, or has passed what is before it.
-use Rattle.std.proofs.Common.{◌≡◌, ◌⊎◌, ℕ, zero, suc, ◌<◌, ◌≤◌, List, length, refl, sym, ap, ◌∙◌, subst, ⊎_elim, arith, eq-or-lt_of_le}
-use Rattle.std.proofs.lemmas.Bool.{cases_lt}
+use Rattle.std.proofs.Common.{◌≡◌, ◌⊎◌, ℕ, zero, suc, ◌<◌, List, refl, sym, subst, ⊎_elim, arith}
 use Rattle.std.proofs.lemmas.Option.{slice_get_within}
 use Rattle.gr_model.specs.declared.event.EventId.{EventId}
 use Rattle.gr_model.specs.declared.event.ItemId.{ItemId}
@@ -28,8 +27,7 @@ event_of i n = record { at = i; index = n }
 -- with an event, the earlier ones of its item are there
 earlier_event : (s : Streams) (e : EventId) → IsEvent s e → (n : ℕ) → n < e.index → IsEvent s (event_of e.at n)
 earlier_event s e there n lt =
-    let within : e.index < length (trace_of s e.at) = slice_get_within (trace_of s e.at) e.index there.0 there.1 in
-    there_is (trace_of s e.at) n (omega arith)
+    there_is (trace_of s e.at) n (omega (arith, lt, slice_get_within (trace_of s e.at) e.index there.0 there.1))
 
 -- an event stands in a convergent instance
 record StandsConvergent (s : Streams) (e : EventId) : Type 0 where
@@ -93,10 +91,7 @@ module _ (s : Streams) (complete : AreComplete s) (matched : (e : EventId) → �
       passed i lt =
           let p = previous_of d i lt in
           let stage = h.2 p.0 (for_arrival a d met p.1) in
-          ⊎_elim
-          (λ (same : i ≡ p.0.index). stage_in s n all is k (event_of d.at i) (subst (λ x. Stage s k x) (sym (same_event (event_of d.at i) p.0 (sym p.1.item) same)) stage))
-          (λ (less : i < p.0.index). let lower = below_in_item s (Stage s) (stage_descends s) k (event_of d.at i) p.0 stage (sym p.1.item) less in stage_in s n all is lower.0 (event_of d.at i) lower.2)
-          (eq-or-lt_of_le p.2)
+          grind (arith, stage, p, same_event (event_of d.at i) p.0, below_in_item s (Stage s) (stage_descends s) k (event_of d.at i) p.0, stage_in s n all is)
 
   -- so an event is grounded where all before it are, and all before the barriers that it meets
   comes_with : (e : EventId) → IsEvent s e → IsPassed e → ((a : Mark) (b d : EventId) → Together s a e b → IsPrevious d b → IsIn all d) → IsIn all e
@@ -110,7 +105,7 @@ module _ (s : Streams) (complete : AreComplete s) (matched : (e : EventId) → �
       (λ c. record { group = h.0; instance = h.1; mark = c.0; stands = h.2; convergent = c.1 })
       (λ d. absurd (away (comes_with e there passed (λ a b x met p. absurd (meets_none s h.0 h.1 a e b h.2 d met)))))
       (settled s complete e h.0 h.1 h.2))
-      (λ none. absurd (away (comes_with e there passed (λ a b d met p. absurd (none (met.group, met.instance, met.first))))))
+      (λ none. absurd (away (comes_with e there passed (λ a b d met p. grind (arith, none, met.first)))))
 
   -- up to an event all of its item are grounded, or there is a first that is not
   search : (e : EventId) → IsPassed e ⊎ ((i : ℕ) × IsLeastWithout (λ j. IsIn all (event_of e.at j)) e.index i)
@@ -119,13 +114,8 @@ module _ (s : Streams) (complete : AreComplete s) (matched : (e : EventId) → �
   -- of two barriers of an item the earlier is of an earlier instance
   earlier_instance : (b f : EventId) (g k h l : ℕ) → b.at ≡ f.at → StandsIn s b g k → StandsIn s f h l → f.index < b.index → l < k
   earlier_instance b f g k h l at hb hf lt =
-      let there = moved s f h l g l (sym hf.group ∙ (ap (λ i. i.group) (sym at) ∙ hb.group)) refl hf in
-      ⊎_elim (λ (less : l < k). less)
-      (λ (ge : k ≤ l). ⊎_elim
-      (λ (same : k ≡ l). absurd (omega (arith, lt, ap (λ e. e.index) (stands_same s b f g k hb (moved s f g l g k refl (sym same) there) (ap (λ i. i.item) at)))))
-      (λ (over : k < l). absurd (omega (arith, lt, stands_before s b f g k l hb there at over)))
-      (eq-or-lt_of_le ge))
-      (cases_lt l k)
+      let there = moved s f h l g l (grind (arith, hf.group, at, hb.group)) refl hf in
+      grind (arith, lt, at, hb, there, stands_same s b f g k, moved s f g l g k, stands_before s b f g k l)
 
   -- no item's first event that is not grounded stands in a convergent instance, by induction on the number of the instance: each item of the group has passed what is before its barrier, or is held at one of an earlier instance
   none_held : (bound : ℕ) (e : EventId) (at : StandsConvergent s e) → at.instance < bound → IsPassed e → (IsIn all e → ⊥) → ⊥

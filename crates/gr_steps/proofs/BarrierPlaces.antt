@@ -1,5 +1,5 @@
 -- The places of the elements that pass a test, and so the barriers of an item: each has one number, and a later one a greater.
-use Rattle.std.proofs.Common.{◌≡◌, ℕ, zero, suc, ◌+◌, ◌<◌, Bool, true, false, cond, List, [], ◌∷◌, Some, None, slice_get, refl, sym, ap, ◌∙◌, subst, arith}
+use Rattle.std.proofs.Common.{◌≡◌, ℕ, zero, suc, ◌+◌, ◌<◌, Bool, true, false, cond, List, [], ◌∷◌, Some, None, slice_get, refl, sym, ◌∙◌, arith}
 use Rattle.gr_model.specs.declared.event.Event.{Event}
 use Rattle.gr_model.specs.declared.event.EventId.{EventId}
 use Rattle.gr_model.specs.Barriers.{IsConvergent, IsDivergent, StandsIn, Together, is_barrier, mark_of}
@@ -27,7 +27,7 @@ places_from-find {X} test i (y ∷ xs) zero x at t = grind (arith)
 places_from-find {X} test i (y ∷ xs) (suc j) x at t =
     let rest = places_from test (suc i) xs in
     let found = places_from-find test (suc i) xs j x at t in
-    let there : slice_get rest found.0 ≡ Some (i + suc j) = found.1 ∙ ap Some (let n : suc i + j ≡ i + suc j = omega arith in n) in
+    let there : slice_get rest found.0 ≡ Some (i + suc j) = grind (arith, found.1) in
     elim (test y) as (λ b. (k : ℕ) × (slice_get (cond b (i ∷ rest) rest) k ≡ Some (i + suc j))) [
       | true ↦ (suc found.0, there)
       | false ↦ (found.0, there)
@@ -51,23 +51,19 @@ barrier_there s e g k stands = grind (arith, places_from-there)
 pub barrier_stands : (s : Streams) (e : EventId) (x : Event) → event_at s e ≡ Some x → is_barrier x ≡ true → e.at.item < size_of s e.at.group → (k : ℕ) × StandsIn s e e.at.group k
 barrier_stands s e x at t item =
     let found = places_from-find is_barrier 0 (trace_of s e.at) e.index x at t in
-    (found.0, record { group = refl; item = item; place = found.1 ∙ ap Some (let n : 0 + e.index ≡ e.index = omega arith in n) })
+    (found.0, record { group = refl; item = item; place = grind (arith, found.1) })
 
 -- an event stands in an instance or in none
 pub standing : (s : Streams) (e : EventId) → Dec ((g k : ℕ) × StandsIn s e g k)
 standing s e =
     elim (event_at s e) as (λ o. (event_at s e ≡ o) → Dec ((g k : ℕ) × StandsIn s e g k)) [
-      | None ↦ λ none. no (λ h. let there = barrier_there s e h.0 h.1 h.2 in let n : None ≡ Some there.0 = sym none ∙ there.1 in cc)
-      | Some x ↦ λ at. by_cases (decided x)
+      | None ↦ λ none. no (λ h. grind (arith, none, barrier_there s e h.0 h.1 h.2))
+      | Some x ↦ λ at.
+          let decided : Dec ((is_barrier x ≡ true) × (e.at.item < size_of s e.at.group)) = grind arith in
+          by_cases decided
           (λ t. let here = barrier_stands s e x at t.0 t.1 in yes (e.at.group, here.0, here.1))
-          (λ other. no (λ h. other (is_one x at h.0 h.1 h.2)))
+          (λ other. no (λ h. grind (arith, other, at, h.2, barrier_there s e h.0 h.1 h.2)))
     ] refl
-  where
-    decided : (x : Event) → Dec ((is_barrier x ≡ true) × (e.at.item < size_of s e.at.group))
-    decided x = grind arith
-
-    is_one : (x : Event) → event_at s e ≡ Some x → (g k : ℕ) → StandsIn s e g k → (is_barrier x ≡ true) × (e.at.item < size_of s e.at.group)
-    is_one x at g k stands = grind (arith, barrier_there s e g k stands)
 
 -- each item of the group has a barrier of a convergent instance
 pub barrier_of : (s : Streams) (g k : ℕ) (a : Mark) → IsConvergent s g k a → (i : ℕ) → i < size_of s g → (n : ℕ) × StandsIn s (record { at = record { group = g; item = i }; index = n }) g k
@@ -91,14 +87,12 @@ stands_before s b c g k l hb hc at lt = grind (arith, places_from-ordered)
 
 -- a barrier of an instance is one of each that it is
 pub moved : (s : Streams) (b : EventId) (g k h l : ℕ) → g ≡ h → k ≡ l → StandsIn s b g k → StandsIn s b h l
-moved s b g k h l group number stands = subst (λ n. StandsIn s b h n) number (subst (λ n. StandsIn s b n k) group stands)
+moved s b g k h l group number stands = grind arith
 
 -- whom a barrier of an instance meets stands in that instance
 pub meets_in : (s : Streams) (g k : ℕ) (a : Mark) (e b : EventId) → StandsIn s e g k → Together s a e b → StandsIn s b g k
-meets_in s g k a e b stands met =
-    let same = same_instance s e met.group met.instance g k met.first stands in
-    moved s b met.group met.instance g k same.0 same.1 met.second
+meets_in s g k a e b stands met = grind (arith, same_instance s e met.group met.instance g k met.first stands, met.second)
 
 -- a barrier of a divergent instance meets nobody
 pub meets_none : (s : Streams) (g k : ℕ) (a : Mark) (e b : EventId) → StandsIn s e g k → IsDivergent s g k → Together s a e b → ⊥
-meets_none s g k a e b stands divergent met = grind (arith, same_instance s e met.group met.instance g k met.first stands, not_both s g k a)
+meets_none s g k a e b stands divergent met = grind (arith, same_instance, not_both s g k a)

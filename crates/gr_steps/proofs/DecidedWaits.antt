@@ -1,19 +1,18 @@
 -- In complete lists every instance is settled, and it can be decided whether an event has its releases and whether all that it waits for is of a set.
-use Rattle.std.proofs.Common.{◌≡◌, ◌⊎◌, ℕ, ◌<◌, ◌≤◌, length, Some, None, refl, sym, ap, ◌∙◌, subst, inl, inr, ⊎_elim, arith}
+use Rattle.std.proofs.Common.{◌≡◌, ◌⊎◌, ℕ, ◌<◌, ◌≤◌, length, Some, None, refl, sym, subst, inl, inr, ⊎_elim, arith}
 use Rattle.std.proofs.lemmas.Bool.{cases_lt}
 use Rattle.std.proofs.lemmas.List.{get_or_past}
 use Rattle.gr_model.specs.declared.event.EventId.{EventId}
-use Rattle.gr_model.specs.declared.event.ItemId.{ItemId}
 use Rattle.gr_model.specs.declared.event.Name.{Name}
-use Rattle.gr_model.specs.Barriers.{IsConvergent, IsDivergent, StandsIn, Together, arrivals, is_barrier, mark_of}
+use Rattle.gr_model.specs.Barriers.{IsConvergent, IsDivergent, StandsIn, Together, arrivals, mark_of}
 use Rattle.gr_model.specs.Instances.{Mark}
 use Rattle.gr_model.specs.Names.{HasItsReleases, HasName, Matches, MatchesBy, names_at, release_place}
-use Rattle.gr_model.specs.Streams.{AreComplete, Streams, place_of, size_of, trace_of, word_at}
+use Rattle.gr_model.specs.Streams.{AreComplete, Streams, size_of, trace_of, word_at}
 use Rattle.gr_model.specs.Waits.{IsPrevious, Waits, for_arrival, for_meeting, for_previous, for_release}
 use Rattle.gr_model.proofs.Places.{place-filter_map}
 use Rattle.gr_model.proofs.Cuts.{same_event}
 use Rattle.gr_steps.proofs.BarrierPlaces.{barrier_of, standing, stands_same, meets_in, meets_none}
-use Rattle.gr_steps.proofs.Deciding.{IsLeastWithout, all_below, all_dec, dec_map, mark_dec, option_dec, word_dec, dec_four}
+use Rattle.gr_steps.proofs.Deciding.{IsLeastWithout, all_below, all_dec, dec_map, option_dec, word_dec, dec_four}
 use Rattle.gr_steps.proofs.EventRecords.{one_release}
 use Rattle.gr_steps.proofs.Orders.{previous_of}
 
@@ -29,13 +28,10 @@ settled s complete e g k stands =
     ⊎_elim
     (λ all. inl (come.0, (omega (arith, stands.item), all)))
     (λ (other : (i : ℕ) × IsLeastWithout (λ i. arrivals s g k i ≡ Some come.0) (size_of s g) i). inr (differs other.0 other.1.0 other.1.1))
-    (all_below (λ i. arrivals s g k i ≡ Some come.0) (size_of s g) (λ i lt. option_dec mark_dec (arrivals s g k i) (Some come.0)))
+    (all_below (λ i. arrivals s g k i ≡ Some come.0) (size_of s g) (λ i lt. option_dec (λ a b. grind arith) (arrivals s g k i) (Some come.0)))
   where
     come : (a : Mark) × (arrivals s g k e.at.item ≡ Some a)
-    come =
-        let here : ItemId = record { group = g; item = e.at.item } in
-        let same : e.at ≡ here = λ i. record { group = stands.group i; item = e.at.item } in
-        place-filter_map mark_of 0 (trace_of s here) k e.index (ap (λ i. place_of s is_barrier i k) (sym same) ∙ stands.place)
+    come = place-filter_map mark_of 0 (trace_of s (record { group = g; item = e.at.item })) k e.index (grind (arith, stands.group, stands.place))
 
     differs : (i : ℕ) → i < size_of s g → (arrivals s g k i ≡ Some come.0 → ⊥) → IsDivergent s g k
     differs i lt other = grind (arith, group_of_items, come)
@@ -46,10 +42,10 @@ settled s complete e g k stands =
 release_of_name_dec : (s : Streams) (e : EventId) (n : Name) → HasName s e n → Dec ((d : EventId) × MatchesBy s n e d)
 release_of_name_dec s e n named =
     elim (release_place s n) as (λ o. (release_place s n ≡ o) → Dec ((d : EventId) × MatchesBy s n e d)) [
-      | None ↦ λ absent. no (λ r. let c : None ≡ Some r.0.index = sym absent ∙ r.1.place in cc)
+      | None ↦ λ absent. no (λ r. grind (arith, absent, r.1.place))
       | Some k ↦ λ at. dec_map
           (λ word. (record { at = n.at; index = k }, record { named = named; item = refl; place = at; word = word }))
-          (λ r. let same : r.0 ≡ record { at = n.at; index = k } = grind (arith, r.1.item, r.1.place, at) in r.1.word ∙ ap (word_at s) same)
+          (λ r. grind (arith, r.1, at, same_event r.0 (record { at = n.at; index = k })))
           (option_dec word_dec (word_at s e) (word_at s (record { at = n.at; index = k })))
     ] refl
 
@@ -63,9 +59,8 @@ pub previous_dec : (Q : EventId → Type 0) → ((d : EventId) → Dec (Q d)) �
 previous_dec Q decide e =
     ⊎_elim
     (λ (some : 0 < e.index).
-    let p = previous_of e 0 some in
-    dec_map (λ q c is. subst Q (same_event p.0 c (p.1.item ∙ sym is.item) (omega (arith, p.1.next, is.next))) q) (λ all. all p.0 p.1) (decide p.0))
-    (λ (none : e.index ≤ 0). yes (λ d p. absurd (omega (arith, p.next, none))))
+    let p = previous_of e 0 some in dec_map (λ q c is. grind (arith, q, is, p.1, same_event p.0 c)) (λ all. all p.0 p.1) (decide p.0))
+    (λ (none : e.index ≤ 0). yes (λ d p. grind (arith, p.next)))
     (cases_lt 0 e.index)
 
 -- an item's barrier of an instance is of a set

@@ -2,7 +2,6 @@
 use Rattle.std.proofs.Common.{◌≡◌, ◌⊎◌, ℕ, zero, suc, ◌<◌, List, [], ◌∷◌, Contains, Option, Some, None, refl, inl, inr, ⊎_elim, arith}
 use Rattle.gr_model.specs.declared.event.EventId.{EventId}
 use Rattle.gr_model.specs.declared.event.Word.{Word}
-use Rattle.gr_model.specs.Instances.{Mark}
 use Rattle.gr_model.specs.LawfulOrders.{IsIn}
 use Rattle.gr_steps.proofs.Orders.{in_cases, in_either}
 
@@ -15,9 +14,6 @@ dec_both h d = grind arith
 pub dec_four : {P Q R S : Type 0} → Dec P → Dec Q → Dec R → Dec S → Dec (P × Q × R × S)
 dec_four p q r s = grind arith
 
-pub dec_either : {P Q : Type 0} → Dec P → Dec Q → Dec (P ⊎ Q)
-dec_either h q = grind arith
-
 pub by_cases : {P G : Type 0} → Dec P → (P → G) → ((P → ⊥) → G) → G
 by_cases h some none = grind arith
 
@@ -29,19 +25,13 @@ option_dec d None b = grind arith
 option_dec d (Some x) None = grind arith
 option_dec d (Some x) (Some y) = grind (arith, d x y)
 
-pub mark_dec : (a b : Mark) → Dec (a ≡ b)
-mark_dec a b = grind arith
-
 pub word_dec : (v w : Word) → Dec (v ≡ w)
 word_dec v w = grind arith
 
-pub event_dec : (d e : EventId) → Dec (d ≡ e)
-event_dec d e = grind arith
-
 -- an event stands in a list or does not
 pub in_dec : (xs : List EventId) (e : EventId) → Dec (IsIn xs e)
-in_dec [] e = no (λ h. let n : None ≡ Some e = h.1 in cc)
-in_dec (x ∷ xs) e = dec_map (in_either x xs e) (in_cases x xs e) (dec_either (event_dec e x) (in_dec xs e))
+in_dec [] e = grind arith
+in_dec (x ∷ xs) e = dec_map (in_either x xs e) (in_cases x xs e) (grind (arith, in_dec xs e))
 
 -- P holds of all numbers below a bound, or there is a least one of which it does not
 abbrev pub IsLeastWithout : (ℕ → Type 0) → ℕ → ℕ → Type 0
@@ -51,16 +41,9 @@ pub all_below : (P : ℕ → Type 0) (bound : ℕ) → ((i : ℕ) → i < bound 
 all_below P zero d = inl (λ i lt. absurd (omega arith))
 all_below P (suc n) d =
     ⊎_elim
-    (λ all. last (d n (omega arith)) all)
+    (λ all. grind (arith, d n (omega arith), all))
     (λ (h : (i : ℕ) × IsLeastWithout P n i). inr (h.0, (omega (arith, h.1.0), h.1.1, h.1.2)))
     (all_below P n (λ i lt. d i (omega arith)))
-  where
-    last : Dec (P n) → ((i : ℕ) → i < n → P i) → ((i : ℕ) → i < suc n → P i) ⊎ ((i : ℕ) × IsLeastWithout P (suc n) i)
-    last h all = grind (arith)
-
--- an element of a list is its first or one of the rest
-first_or_rest : {X : Type 0} (y : X) (xs : List X) (x : X) → Contains (y ∷ xs) x → (y ≡ x) ⊎ Contains xs x
-first_or_rest y xs x h = grind arith
 
 -- where P or Q holds of each element of a list, P holds of all or Q of some
 pub all_or_some : {X : Type 0} (P Q : X → Type 0) (xs : List X) → ((x : X) → Contains xs x → P x ⊎ Q x) → ((x : X) → Contains xs x → P x) ⊎ ((x : X) × Contains xs x × Q x)
@@ -69,7 +52,7 @@ all_or_some P Q (y ∷ xs) each =
     let behind : (x : _) → Contains xs x → Contains (y ∷ xs) x = λ x there. (suc there.0, omega (arith, there.1), there.2) in
     ⊎_elim
     (λ (first : P y). ⊎_elim
-    (λ rest. inl (λ x there. grind (arith, first, rest x, first_or_rest y xs x there)))
+    (λ rest. inl (λ x there. grind (arith, first, rest x, there)))
     (λ some. inr (some.0, behind some.0 some.1, some.2))
     (all_or_some P Q xs (λ x there. each x (behind x there))))
     (λ (first : Q y). inr (y, (0, omega arith, refl), first))
@@ -78,7 +61,4 @@ all_or_some P Q (y ∷ xs) each =
 -- whether P holds of all elements of a list
 pub all_dec : {X : Type 0} (P : X → Type 0) (xs : List X) → ((x : X) → Contains xs x → Dec (P x)) → Dec ((x : X) → Contains xs x → P x)
 all_dec {X} P xs decide =
-    ⊎_elim
-    (λ (all : (x : X) → Contains xs x → P x). yes all)
-    (λ (some : (x : X) × Contains xs x × (P x → ⊥)). no (λ all. some.2 (all some.0 some.1)))
-    (all_or_some P (λ x. P x → ⊥) xs (λ x there. by_cases (decide x there) inl inr))
+    grind (arith, all_or_some P (λ x. P x → ⊥) xs (λ x there. by_cases (decide x there) inl inr))

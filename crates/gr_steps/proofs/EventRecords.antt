@@ -1,6 +1,7 @@
 -- The record of an event stands in its group's list; a name is that of one release, and a barrier has none.
-use Rattle.std.proofs.Common.{◌≡◌, ◌==◌, ℕ, zero, suc, ◌<◌, Bool, true, false, cond, IsTrue, List, [], ◌∷◌, length, Contains, Some, slice_get, filter, refl, subst, arith, not}
-use Rattle.std.proofs.lemmas.Bool.{and_parts, eqb-true}
+use Rattle.std.proofs.Common.{◌≡◌, ℕ, suc, ◌<◌, Bool, true, IsTrue, List, [], ◌∷◌, length, Contains, Some, slice_get, filter, arith}
+use Rattle.std.proofs.lemmas.Bool.{and_parts}
+use Rattle.std.proofs.lemmas.Bool.Decides.{nat_tests}
 use Rattle.std.proofs.lemmas.Option.{slice_get_past}
 use Rattle.std.proofs.lemmas.List.{get_or_past}
 use Rattle.gr_model.specs.declared.event.Event.{Event}
@@ -9,7 +10,7 @@ use Rattle.gr_model.specs.declared.event.Kind.{Kind}
 use Rattle.gr_model.specs.declared.event.Name.{Name}
 use Rattle.gr_model.specs.Access.{is_acquire_kind}
 use Rattle.gr_model.specs.Barriers.{is_barrier}
-use Rattle.gr_model.specs.Events.{IsNamingOk, is_end}
+use Rattle.gr_model.specs.Events.{IsNamingOk}
 use Rattle.gr_model.specs.Names.{MatchesBy}
 use Rattle.gr_model.specs.Streams.{ArePrefixes, IsEvent, Streams, event_at, is_of, list_of, size_of}
 use Rattle.gr_model.proofs.Cuts.{same_event}
@@ -17,15 +18,10 @@ use Rattle.gr_model.proofs.Cuts.{same_event}
 -- what a filter keeps is there
 pub filter-there : {X : Type 0} (test : X → Bool) (xs : List X) (k : ℕ) (x : X) → slice_get (filter test xs) k ≡ Some x → (p : ℕ) × (slice_get xs p ≡ Some x) × (test x ≡ true)
 filter-there test [] k x at = cc
-filter-there {X} test (y ∷ xs) k x at =
-    elim (test y) as (λ b. (test y ≡ b) → slice_get (cond b (y ∷ filter test xs) (filter test xs)) k ≡ Some x → (p : ℕ) × (slice_get (y ∷ xs) p ≡ Some x) × (test x ≡ true)) [
-      | true ↦ λ t at. kept t k at (λ k at. filter-there test xs k x at)
-      | false ↦ λ t at. let there = filter-there test xs k x at in (suc there.0, there.1, there.2)
-    ] refl at
+filter-there test (y ∷ xs) k x at = grind (arith, later, filter-there test xs)
   where
-    kept : test y ≡ true → (k : ℕ) → slice_get (y ∷ filter test xs) k ≡ Some x → ((k : ℕ) → slice_get (filter test xs) k ≡ Some x → (p : ℕ) × (slice_get xs p ≡ Some x) × (test x ≡ true)) → (p : ℕ) × (slice_get (y ∷ xs) p ≡ Some x) × (test x ≡ true)
-    kept t zero at later = let same : y ≡ x = let e : Some y ≡ Some x = at in cc in (0, at, subst (λ z. test z ≡ true) same t)
-    kept t (suc k) at later = let there = later k at in (suc there.0, there.1, there.2)
+    later : (p : ℕ) → (slice_get xs p ≡ Some x) × (test x ≡ true) → (q : ℕ) × (slice_get (y ∷ xs) q ≡ Some x) × (test x ≡ true)
+    later p h = (suc p, h.0, h.1)
 
 -- the record of an event stands in its group's list
 pub record_there : (s : Streams) (e : EventId) (x : Event) → event_at s e ≡ Some x → (p : ℕ) × (slice_get (list_of s e.at.group) p ≡ Some x)
@@ -43,8 +39,7 @@ module _ (s : Streams) (prefixes : ArePrefixes s) (e : EventId) (x : Event) (at 
   pub item_of_event : e.at.item < size_of s e.at.group
   item_of_event =
       let kept = filter-there (is_of e.at.item) (list_of s e.at.group) e.index x at in
-      let ok = ((prefixes.each e.at.group group_of_event).good kept.0 x kept.1).0 in
-      subst (λ n. n < size_of s e.at.group) (eqb-true x.item e.at.item (and_parts (x.item == e.at.item) (not (is_end x)) kept.2).0) ok.0
+      grind (arith, kept, nat_tests, and_parts, (prefixes.each e.at.group group_of_event).good kept.0 x kept.1)
 
 -- a name is that of one release
 pub one_release : (s : Streams) (n : Name) (e d f : EventId) → MatchesBy s n e d → MatchesBy s n e f → d ≡ f
@@ -57,6 +52,5 @@ named_acquires kind names n named ok = grind arith
 pub barriers_name_nothing : (s : Streams) → ArePrefixes s → (e : EventId) (x : Event) (n : Name) → event_at s e ≡ Some x → is_barrier x ≡ true → Contains x.names n → ⊥
 barriers_name_nothing s prefixes e x n at barrier named =
     let there = record_there s e x at in
-    let group = group_of_event s prefixes e x at in
-    let good = (prefixes.each e.at.group group).good there.0 x there.1 in
+    let good = (prefixes.each e.at.group (group_of_event s prefixes e x at)).good there.0 x there.1 in
     grind (arith, barrier, named_acquires x.kind x.names n named good.0.1)

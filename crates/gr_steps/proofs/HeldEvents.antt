@@ -1,5 +1,5 @@
 -- How many events are held where no step is left.
-use Rattle.std.proofs.Common.{◌≡◌, ℕ, zero, suc, ◌-◌, ◌<◌, ◌≤◌, List, length, subst, inl, inr, ⊎_elim, arith, eq-or-lt_of_le, refl}
+use Rattle.std.proofs.Common.{◌≡◌, ℕ, zero, suc, ◌-◌, ◌<◌, ◌≤◌, List, length, inl, ⊎_elim, arith, eq-or-lt_of_le, refl}
 use Rattle.std.specs.List.{sum_by}
 use Rattle.std.proofs.lemmas.Option.{slice_get_within}
 use Rattle.gr_model.specs.declared.event.EventId.{EventId}
@@ -17,7 +17,7 @@ number_from : (P : ℕ → Type 0) (c bound : ℕ) → c ≤ bound → ((k : ℕ
 number_from P c zero le before behind = omega arith
 number_from P c (suc b) le before behind =
     ⊎_elim
-    (λ (same : c ≡ suc b). inr (before b (omega arith), subst (λ n. IsNumberOf P b n) (let n : b - b ≡ suc b - c = omega arith in n) (number_from P b b (omega arith) (λ k lt. before k (omega arith)) (λ k ge lt. absurd (omega arith)))))
+    (λ (same : c ≡ suc b). grind (arith, before b, number_from P b b (omega arith) (λ k lt. before k (omega arith)) (λ k ge lt. absurd (omega arith))))
     (λ (lt : c < suc b). inl (b - c, omega arith, behind b (omega arith) (omega arith), number_from P c b (omega arith) before (λ k ge below. behind k ge (omega arith))))
     (eq-or-lt_of_le le)
 
@@ -25,17 +25,13 @@ module _ (s : Streams) (order : List EventId) (lawful : IsLawful s order) (groun
   few : (i : ItemId) → c i ≤ length (trace_of s i)
   few i =
       let e : EventId = record { at = i; index = length (trace_of s i) } in
-      let not_over : ¬ (length (trace_of s i) < c i) = λ over.
-      let there = (first e).1 over in
-      let event = (lawful.event there.0 e there.1).0 in
-      omega (arith, slice_get_within (trace_of s i) (length (trace_of s i)) event.0 event.1) in
-      omega arith
+      grind (arith, first e, lawful.event, slice_get_within)
 
   held_of : (i : ItemId) → IsHeldOf s i (length (trace_of s i) - c i)
   held_of i =
       number_from (λ k. ¬ IsGrounded s (record { at = i; index = k })) (c i) (length (trace_of s i)) (few i)
-      (λ k lt held. held ((grounded (record { at = i; index = k })).0 ((first (record { at = i; index = k })).1 lt)))
-      (λ k ge lt g. let below : k < c i = (first (record { at = i; index = k })).0 ((grounded (record { at = i; index = k })).1 g) in omega arith)
+      (λ k lt held. grind (arith, grounded (record { at = i; index = k }), first (record { at = i; index = k })))
+      (λ k ge lt g. grind (arith, grounded (record { at = i; index = k }), first (record { at = i; index = k })))
 
   pub held_at_rest : IsHeld s (sum_by (λ i. length (trace_of s i) - c i) (items_of s.sizes))
   held_at_rest = (λ i. length (trace_of s i) - c i, λ i there. held_of i, refl)

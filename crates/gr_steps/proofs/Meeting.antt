@@ -1,50 +1,23 @@
 -- A lawful order stays lawful where the barriers of an instance that can meet come behind it; and when an instance can meet.
-use Rattle.std.proofs.Common.{◌≡◌, ◌⊎◌, ℕ, ◌+◌, ◌<◌, List, ◌++◌, length, Some, slice_get, Contains, refl, sym, ap, ◌∙◌, subst, inl, inr, arith}
-use Rattle.std.proofs.lemmas.Option.{slice_get_within}
+use Rattle.std.proofs.Common.{◌≡◌, ℕ, ◌<◌, List, ◌++◌, Some, slice_get, Contains, refl, sym, ap, ◌∙◌, subst, inl, arith}
 use Rattle.gr_model.specs.declared.event.EventId.{EventId}
 use Rattle.gr_model.specs.declared.event.Name.{Name}
-use Rattle.gr_model.specs.Barriers.{IsConvergent, StandsIn, Together}
+use Rattle.gr_model.specs.Barriers.{IsConvergent, StandsIn}
 use Rattle.gr_model.specs.Instances.{Mark}
-use Rattle.gr_model.specs.LawfulOrders.{IsAt, IsIn, IsLawful}
+use Rattle.gr_model.specs.LawfulOrders.{IsIn, IsLawful}
 use Rattle.gr_model.specs.Names.{HasName, names_of}
 use Rattle.gr_model.specs.Streams.{ArePrefixes, IsEvent, Streams}
 use Rattle.gr_model.specs.Waits.{IsSettled, IsPrevious, Waits, for_arrival, for_meeting, for_previous, for_release}
-use Rattle.gr_model.proofs.Places.{slice_get-append}
 use Rattle.gr_steps.specs.Steps.{AreBarriers, HasMet, IsMeeting}
 use Rattle.gr_steps.proofs.BarrierPlaces.{barrier_of, barrier_there, same_instance, stands_before, stands_same, meets_in}
 use Rattle.gr_steps.proofs.EventRecords.{barriers_name_nothing}
-use Rattle.gr_steps.proofs.Orders.{at_behind, split_last, there_is, handled_upto, previous_of}
+use Rattle.gr_steps.proofs.Orders.{lawful_longer, there_is, handled_upto, previous_of}
 
 module _ (s : Streams) (prefixes : ArePrefixes s) (order : List EventId) (lawful : IsLawful s order) (g k : ℕ) (a : Mark) (meeting : IsMeeting s order g k a) (bs : List EventId) (are : AreBarriers s g k bs) where
-  -- what stands in the longer order: what stood there, or one of the barriers
-  abbrev IsOneOf : ℕ → EventId → Type 0
-  IsOneOf p x = IsAt order p x ⊎ ((i : ℕ) × (p ≡ length order + i) × (slice_get bs i ≡ Some x))
-
   no_name : (x : EventId) (n : Name) → StandsIn s x g k → HasName s x n → ⊥
   no_name x n stands named =
       let there = barrier_there s x g k stands in
       barriers_name_nothing s prefixes x there.0 n there.1 there.2 (subst (λ names. Contains names n) (ap names_of there.1) named)
-
-  met_event : (p : ℕ) (x : EventId) → IsOneOf p x → IsEvent s x × IsSettled s x
-  met_event p x (inl at) = lawful.event p x at
-  met_event p x (inr h) =
-      let stands = (are.each h.0 x h.2).1 in
-      let there = barrier_there s x g k stands in (
-        (there.0, there.1),
-        record {
-          release = λ n named. absurd (no_name x n stands named);
-          instance = λ h l other. let same = same_instance s x g k h l stands other in inl (a, subst (λ n. IsConvergent s h n a) same.1 (subst (λ n. IsConvergent s n k a) same.0 meeting.convergent));
-        },
-      )
-
-  met_once : (p q : ℕ) (x : EventId) → IsOneOf p x → IsOneOf q x → p ≡ q
-  met_once p q x (inl at) (inl bt) = lawful.once p q x at bt
-  met_once p q x (inl at) (inr h) = absurd (meeting.fresh (x, (are.each h.0 x h.2).1, (p, at)))
-  met_once p q x (inr h) (inl bt) = absurd (meeting.fresh (x, (are.each h.0 x h.2).1, (q, bt)))
-  met_once p q x (inr h) (inr l) =
-      let i : x.at.item ≡ h.0 = (are.each h.0 x h.2).0 in
-      let j : x.at.item ≡ l.0 = (are.each l.0 x l.2).0 in
-      omega (arith, h.1, l.1)
 
   -- what a barrier of the instance waits for is handled
   met_waits : (x d : EventId) → StandsIn s x g k → Waits s x d → IsIn order d
@@ -56,13 +29,6 @@ module _ (s : Streams) (prefixes : ArePrefixes s) (order : List EventId) (lawful
       let other = lawful.together there.0 c d m there.1 met in
       (other.0, other.2)
 
-  met_after : (p : ℕ) (x d : EventId) → IsOneOf p x → Waits s x d → (q : ℕ) × (q < p) × IsAt (order ++ bs) q d
-  met_after p x d (inl at) w = let there = lawful.after p x d at w in (there.0, there.1, slice_get-append order bs there.0 d there.2)
-  met_after p x d (inr h) w =
-      let there = met_waits x d (are.each h.0 x h.2).1 w in
-      let within : there.0 < length order = slice_get_within order there.0 d there.1 in
-      (there.0, omega (arith, h.1, within), slice_get-append order bs there.0 d there.1)
-
   -- each barrier stands at its item's place
   barrier_at : (b : EventId) → StandsIn s b g k → slice_get bs b.at.item ≡ Some b
   barrier_at b stands =
@@ -70,21 +36,24 @@ module _ (s : Streams) (prefixes : ArePrefixes s) (order : List EventId) (lawful
       let is = are.each b.at.item there.0 there.1 in
       there.1 ∙ ap Some (stands_same s there.0 b g k is.1 stands is.0)
 
-  met_together : (p : ℕ) (x b : EventId) (m : Mark) → IsOneOf p x → Together s m x b → (q : ℕ) × (q + x.at.item ≡ p + b.at.item) × IsAt (order ++ bs) q b
-  met_together p x b m (inl at) met = let there = lawful.together p x b m at met in (there.0, there.1, slice_get-append order bs there.0 b there.2)
-  met_together p x b m (inr h) met =
-      let is = are.each h.0 x h.2 in
-      let item : x.at.item ≡ h.0 = is.0 in
-      let other = barrier_at b (meets_in s g k m x b is.1 met) in
-      (length order + b.at.item, omega (arith, h.1), at_behind order bs b.at.item b other)
+  met_event : (x : EventId) → StandsIn s x g k → IsEvent s x × IsSettled s x
+  met_event x stands =
+      let there = barrier_there s x g k stands in (
+        (there.0, there.1),
+        record {
+          release = λ n named. absurd (no_name x n stands named);
+          instance = λ h l other. inl (a, grind (arith, same_instance s x g k h l stands other, meeting.convergent));
+        },
+      )
 
   pub lawful_meet : IsLawful s (order ++ bs)
-  lawful_meet = record {
-    event = λ p x at. met_event p x (split_last order bs p x at);
-    once = λ p q x at bt. met_once p q x (split_last order bs p x at) (split_last order bs q x bt);
-    after = λ p x d at w. met_after p x d (split_last order bs p x at) w;
-    together = λ p x b m at met. met_together p x b m (split_last order bs p x at) met;
-  }
+  lawful_meet = lawful_longer s order bs lawful (record {
+    event = λ i x at. met_event x (are.each i x at).1;
+    fresh = λ i x at h. meeting.fresh (x, (are.each i x at).1, h);
+    once = λ i j x at bt. omega (arith, (are.each i x at).0, (are.each j x bt).0);
+    waits = λ i x d at w. met_waits x d (are.each i x at).1 w;
+    together = λ i x b m at met. (b.at.item, omega (arith, (are.each i x at).0), barrier_at b (meets_in s g k m x b (are.each i x at).1 met));
+  })
 
 -- ---- when an instance can meet
 

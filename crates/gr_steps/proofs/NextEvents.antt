@@ -1,6 +1,5 @@
 -- What is ready is its item's next event; and when the next events are ready or can meet, by how many events of each item were handled.
-use Rattle.std.proofs.Common.{◌≡◌, ◌↔◌, ℕ, ◌<◌, List, sym, ap, subst, ⊎_elim, arith, ◌∙◌}
-use Rattle.std.proofs.lemmas.Bool.{cases_lt}
+use Rattle.std.proofs.Common.{◌≡◌, ◌↔◌, ℕ, ◌<◌, List, sym, ap, arith, ◌∙◌}
 use Rattle.gr_model.specs.declared.event.EventId.{EventId}
 use Rattle.gr_model.specs.declared.event.ItemId.{ItemId}
 use Rattle.gr_model.specs.declared.event.Name.{Name}
@@ -16,7 +15,7 @@ use Rattle.gr_steps.proofs.Orders.{handled_upto, previous_of}
 
 module _ (s : Streams) (order : List EventId) (lawful : IsLawful s order) (e : EventId) (ready : IsReady s order e) (d : EventId) (item : d.at ≡ e.at) where
   handled_is_before : IsIn order d → d.index < e.index
-  handled_is_before h = ⊎_elim (λ lt. lt) (λ ge. absurd (ready.fresh (handled_upto s order lawful e d (sym item) ge h))) (cases_lt d.index e.index)
+  handled_is_before h = grind (arith, ready.fresh, handled_upto s order lawful e d (sym item))
 
   before_is_handled : d.index < e.index → IsIn order d
   before_is_handled lt =
@@ -31,7 +30,7 @@ module _ (s : Streams) (order : List EventId) (lawful : IsLawful s order) (c : I
   pub next_is_ready : IsEvent s e → e.index ≡ c e.at → ((n : Name) → HasName s e n → (d : EventId) × MatchesBy s n e d × (d.index < c d.at)) → ((g k : ℕ) → StandsIn s e g k → IsDivergent s g k) → IsReady s order e
   next_is_ready there next release divergent = record {
     event = there;
-    fresh = λ h. let lt = (first e).0 h in omega (arith, lt, next);
+    fresh = λ h. omega (arith, (first e).0 h, next);
     release = λ n named. let d = release n named in (d.0, d.1);
     waits = waits;
     instance = divergent;
@@ -43,23 +42,18 @@ module _ (s : Streams) (order : List EventId) (lawful : IsLawful s order) (c : I
       waits : (d : EventId) → Waits s e d → IsIn order d
       waits d (for_previous previous) = previous_in d previous
       waits d (for_release match) =
-          let there = release match.name match.by.named in
-          subst (λ x. IsIn order x) (one_release s match.name e there.0 d there.1 match.by) ((first there.0).1 there.2)
+          let there = release match.name match.by.named in grind (arith, there, one_release s match.name e there.0 d there.1 match.by, first d)
       waits d (for_arrival a b met previous) =
           absurd (not_both s met.group met.instance a met.convergent (divergent met.group met.instance met.first))
       waits d (for_meeting a b previous met) =
-          let there = previous_in b previous in
-          let other = lawful.together there.0 b d a there.1 met in
-          (other.0, other.2)
+          let there = previous_in b previous in let other = lawful.together there.0 b d a there.1 met in (other.0, other.2)
 
   -- and what is ready is the next, with its release handled
   pub ready_is_next : IsReady s order e → e.index ≡ c e.at
   ready_is_next ready =
-      let not_less : ¬ (e.index < c e.at) = λ lt. ready.fresh ((first e).1 lt) in
       let not_more : ¬ (c e.at < e.index) = λ lt.
-      let p = previous_of e (c e.at) lt in
-      omega (arith, (first p.0).0 (ready.waits p.0 (for_previous p.1)), p.2, ap c p.1.item) in
-      omega arith
+      let p = previous_of e (c e.at) lt in omega (arith, (first p.0).0 (ready.waits p.0 (for_previous p.1)), p.2, ap c p.1.item) in
+      grind (arith, not_more, ready.fresh, first e)
 
   pub ready_release : IsReady s order e → (n : Name) → HasName s e n → (d : EventId) × MatchesBy s n e d × (d.index < c d.at)
   ready_release ready n named =

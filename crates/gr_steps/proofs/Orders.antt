@@ -1,12 +1,15 @@
 -- Places in an order and in a longer one, and what a lawful order has.
-use Rattle.std.proofs.Common.{◌≡◌, ◌⊎◌, ℕ, zero, suc, ◌+◌, ◌<◌, List, [], ◌∷◌, ◌++◌, length, Some, slice_get, refl, sym, ap, inl, inr, arith, ◌≤◌, subst, ⊎_elim, eq-or-lt_of_le}
+use Rattle.std.proofs.Common.{◌≡◌, ◌⊎◌, ℕ, zero, suc, ◌+◌, ◌<◌, List, [], ◌∷◌, ◌++◌, length, Some, slice_get, refl, sym, ap, inl, inr, arith, ◌≤◌, ⊎_elim}
 use Rattle.std.proofs.lemmas.Grind.{common_steps}
-use Rattle.std.proofs.lemmas.Option.{gets}
+use Rattle.std.proofs.lemmas.Option.{gets, slice_get_within}
 use Rattle.gr_model.specs.declared.event.EventId.{EventId}
+use Rattle.gr_model.specs.Barriers.{Together}
+use Rattle.gr_model.specs.Instances.{Mark}
 use Rattle.gr_model.specs.LawfulOrders.{IsAt, IsIn, IsLawful}
-use Rattle.gr_model.specs.Streams.{Streams}
+use Rattle.gr_model.specs.Streams.{IsEvent, Streams}
 use Rattle.gr_model.proofs.Descent.{below_in_item, lawful_descends}
-use Rattle.gr_model.specs.Waits.{IsPrevious}
+use Rattle.gr_model.specs.Waits.{IsPrevious, IsSettled, Waits}
+use Rattle.gr_model.proofs.Places.{slice_get-append}
 use Rattle.gr_model.proofs.Cuts.{same_event}
 
 -- ---- lists
@@ -30,12 +33,9 @@ number_before (suc m) lt = (m, refl)
 
 -- ---- events
 
-in_cases_at : (x : EventId) (xs : List EventId) (e : EventId) (p : ℕ) → IsAt (x ∷ xs) p e → (e ≡ x) ⊎ IsIn xs e
-in_cases_at x xs e p at = grind arith
-
 -- what stands in a list is its first, or stands behind it
 pub in_cases : (x : EventId) (xs : List EventId) (e : EventId) → IsIn (x ∷ xs) e → (e ≡ x) ⊎ IsIn xs e
-in_cases x xs e h = in_cases_at x xs e h.0 h.1
+in_cases x xs e (p, at) = grind arith
 
 pub in_either : (x : EventId) (xs : List EventId) (e : EventId) → (e ≡ x) ⊎ IsIn xs e → IsIn (x ∷ xs) e
 in_either x xs e (inl same) = (0, ap Some (sym same))
@@ -46,13 +46,11 @@ in_either x xs e (inr h) = (suc h.0, h.1)
 -- with an event, the earlier ones of its item stand in a lawful order
 pub handled_before : (s : Streams) (order : List EventId) → IsLawful s order → (d e : EventId) → d.at ≡ e.at → d.index < e.index → IsIn order e → IsIn order d
 handled_before s order lawful d e item below there =
-    let lower = below_in_item s (IsAt order) (lawful_descends s order lawful) there.0 d e there.1 item below in
-    (lower.0, lower.2)
+    let lower = below_in_item s (IsAt order) (lawful_descends s order lawful) there.0 d e there.1 item below in (lower.0, lower.2)
 
 -- and so do it and they
 pub handled_upto : (s : Streams) (order : List EventId) → IsLawful s order → (d e : EventId) → d.at ≡ e.at → d.index ≤ e.index → IsIn order e → IsIn order d
-handled_upto s order lawful d e item upto there =
-    ⊎_elim (λ same. subst (λ x. IsIn order x) (sym (same_event d e item same)) there) (λ lt. handled_before s order lawful d e item lt there) (eq-or-lt_of_le upto)
+handled_upto s order lawful d e item upto there = grind (arith, same_event d e item, handled_before s order lawful d e item, there)
 
 -- the event before another stands at or behind each that is earlier than that
 pub previous_of : (e : EventId) (n : ℕ) → n < e.index → (p : EventId) × IsPrevious p e × (n ≤ p.index)
@@ -61,3 +59,29 @@ previous_of e n lt = let m = number_before e.index (omega (arith, lt)) in (recor
 -- the order of no events is lawful
 pub lawful_empty : (s : Streams) → IsLawful s []
 lawful_empty s = grind arith
+
+-- events that may come behind a lawful order: they wait for what stands in it alone
+pub record AreNext (s : Streams) (order next : List EventId) : Type 0 where
+  pub event : (i : ℕ) (x : EventId) → IsAt next i x → IsEvent s x × IsSettled s x
+  pub fresh : (i : ℕ) (x : EventId) → IsAt next i x → ¬ IsIn order x
+  pub once : (i j : ℕ) (x : EventId) → IsAt next i x → IsAt next j x → i ≡ j
+  pub waits : (i : ℕ) (x d : EventId) → IsAt next i x → Waits s x d → IsIn order d
+  pub together : (i : ℕ) (x b : EventId) (a : Mark) → IsAt next i x → Together s a x b → (j : ℕ) × (j + x.at.item ≡ i + b.at.item) × IsAt next j b
+
+pub lawful_longer : (s : Streams) (order next : List EventId) → IsLawful s order → AreNext s order next → IsLawful s (order ++ next)
+lawful_longer s order next lawful are = record {
+  event = λ p x at. ⊎_elim (lawful.event p x) (λ h. are.event h.0 x h.2) (split_last order next p x at);
+  once = λ p q x at bt. grind (arith, split_last order next p x at, split_last order next q x bt, lawful.once p q x, are.once, are.fresh);
+  after = λ p x d at w. ⊎_elim
+      (λ was. let there = lawful.after p x d was w in (there.0, there.1, slice_get-append order next there.0 d there.2))
+      (λ h.
+      let there = are.waits h.0 x d h.2 w in
+      (there.0, omega (arith, h.1, slice_get_within order there.0 d there.1), slice_get-append order next there.0 d there.1))
+      (split_last order next p x at);
+  together = λ p x b a at met. ⊎_elim
+      (λ was. let there = lawful.together p x b a was met in (there.0, there.1, slice_get-append order next there.0 b there.2))
+      (λ h.
+      let there = are.together h.0 x b a h.2 met in
+      (length order + there.0, omega (arith, h.1, there.1), at_behind order next there.0 b there.2))
+      (split_last order next p x at);
+}

@@ -1,13 +1,15 @@
 -- In complete lists the grounded events are those of a list that can be found, so each event is grounded or is not.
-use Rattle.std.proofs.Common.{◌≡◌, ◌⊎◌, ℕ, zero, suc, ◌+◌, ◌<◌, ◌≤◌, ◌==◌, not, List, [], ◌∷◌, length, Some, None, slice_get, map, refl, sym, ap, ◌∙◌, subst, inl, inr, ⊎_elim, arith, eqb-true}
+use Rattle.std.proofs.Common.{Option, ◌≡◌, ◌⊎◌, ℕ, zero, suc, ◌+◌, ◌<◌, ◌≤◌, List, [], ◌∷◌, length, Some, None, slice_get, map, refl, sym, ap, subst, inl, inr, ⊎_elim, arith}
 use Rattle.std.specs.List.{flat_map, range_with_len}
 use Rattle.std.proofs.lemmas.List.FromFn.{get_or-range_with_len, length-range_with_len}
 use Rattle.std.proofs.lemmas.Bool.{and_parts}
+use Rattle.std.proofs.lemmas.Bool.Decides.{nat_tests}
 use Rattle.std.proofs.lemmas.Option.{slice_get-get_or, slice_get_within, gets}
 use Rattle.std.proofs.lemmas.Grind.{common_steps}
+use Rattle.gr_model.specs.declared.event.Event.{Event}
 use Rattle.gr_model.specs.declared.event.EventId.{EventId}
-use Rattle.gr_model.specs.Events.{is_end}
 use Rattle.gr_model.specs.LawfulOrders.{IsIn}
+use Rattle.gr_model.specs.Names.{HasItsReleases}
 use Rattle.gr_model.specs.Streams.{AreComplete, IsEvent, Streams, event_at, is_of, list_of, trace_of}
 use Rattle.gr_model.specs.Waits.{IsSettled, IsGrounded, Stage, Waits}
 use Rattle.gr_model.proofs.Descent.{stage_up}
@@ -15,7 +17,7 @@ use Rattle.gr_model.proofs.Places.{slice_get-append}
 use Rattle.gr_steps.proofs.DecidedWaits.{releases_dec, settled, waits_dec}
 use Rattle.gr_steps.proofs.Deciding.{by_cases, in_dec}
 use Rattle.gr_steps.proofs.EventRecords.{filter-there, group_there}
-use Rattle.gr_steps.proofs.Orders.{at_behind, in_cases}
+use Rattle.gr_steps.proofs.Orders.{at_behind, in_cases, in_either}
 
 -- an event that can go and whose waits are all in a list
 record IsNext (s : Streams) (reached : List EventId) (e : EventId) : Type 0 where
@@ -38,16 +40,13 @@ AreStuck s reached xs = (d : EventId) → IsIn xs d → IsNext s reached d → �
 module _ (s : Streams) (complete : AreComplete s) where
   next_dec : (reached : List EventId) (e : EventId) → Dec (IsNext s reached e)
   next_dec reached e =
-      elim (event_at s e) as (λ o. (event_at s e ≡ o) → Dec (IsNext s reached e)) [
-        | None ↦ λ none. no (λ h. let c : None ≡ Some h.event.0 = sym none ∙ h.event.1 in cc)
-        | Some x ↦ λ at. elim (releases_dec s e) as (λ _. Dec (IsNext s reached e)) [
-          | no h ↦ no (λ next. h next.go.release)
-          | yes r ↦ elim (waits_dec s complete (IsIn reached) (in_dec reached) e r) as (λ _. Dec (IsNext s reached e)) [
-            | no h ↦ no (λ next. h next.waits)
-            | yes w ↦ yes (record { event = (x, at); go = record { release = r; instance = settled s complete e }; waits = w })
-          ]
-        ]
-      ] refl
+      by_cases (releases_dec s e)
+      (λ r. by_cases (waits_dec s complete (IsIn reached) (in_dec reached) e r) (λ w. there (event_at s e) refl r w) (λ h. no (λ next. h next.waits)))
+      (λ h. no (λ next. h next.go.release))
+    where
+      there : (o : Option Event) → event_at s e ≡ o → HasItsReleases s e → ((d : EventId) → Waits s e d → IsIn reached d) → Dec (IsNext s reached e)
+      there None none r w = no (λ next. grind (arith, none, next.event))
+      there (Some x) at r w = yes (record { event = (x, at); go = record { release = r; instance = settled s complete e }; waits = w })
 
   take_next : (reached xs : List EventId) → IsTaken s reached xs ⊎ AreStuck s reached xs
   take_next reached [] = inr (λ d h next. let c : None ≡ Some d = h.1 in cc)
@@ -56,14 +55,13 @@ module _ (s : Streams) (complete : AreComplete s) where
       first : Dec (IsNext s reached x) → IsTaken s reached xs ⊎ AreStuck s reached xs → IsTaken s reached (x ∷ xs) ⊎ AreStuck s reached (x ∷ xs)
       first (yes next) rest = inl (x, xs, next, refl, λ d h. in_cases x xs d h)
       first (no h) (inl t) =
-          inl (t.0, x ∷ t.1, t.2, ap suc t.3, λ d there. ⊎_elim (λ (same : d ≡ x). inr (0, ap Some (sym same))) (λ later. ⊎_elim (λ same. inl same) (λ (k : IsIn t.1 d). inr (suc k.0, k.1)) (t.4 d later)) (in_cases x xs d there))
-      first (no h) (inr stuck) =
-          inr (λ d there next. ⊎_elim (λ (same : d ≡ x). h (subst (λ y. IsNext s reached y) same next)) (λ later. stuck d later next) (in_cases x xs d there))
+          inl (t.0, x ∷ t.1, t.2, ap suc t.3, λ d there. grind (arith, in_cases x xs d there, t.4 d, in_either x t.1 d))
+      first (no h) (inr stuck) = inr (λ d there next. grind (arith, in_cases x xs d there, h, stuck d, next))
 
   stuck_closed : (n : ℕ) (reached xs : List EventId) → ((e : EventId) → IsIn reached e → Stage s n e) → ((e : EventId) → IsEvent s e → IsIn reached e ⊎ IsIn xs e) → AreStuck s reached xs → IsClosed s n reached
   stuck_closed n reached xs stage cover stuck = record {
     stage = stage;
-    closed = λ e there go waits. ⊎_elim (λ h. h) (λ candidate. absurd (stuck e candidate (record { event = there; go = go; waits = waits }))) (cover e there);
+    closed = λ e there go waits. grind (arith, cover e there, stuck e, there, go, waits);
   }
 
   stage_more : (n : ℕ) (reached : List EventId) (x : EventId) → ((e : EventId) → IsIn reached e → Stage s n e) → IsNext s reached x → (e : EventId) → IsIn (x ∷ reached) e → Stage s (suc n) e
@@ -74,11 +72,7 @@ module _ (s : Streams) (complete : AreComplete s) where
       (in_cases x reached e there)
 
   cover_more : (reached xs : List EventId) (t : IsTaken s reached xs) → ((e : EventId) → IsEvent s e → IsIn reached e ⊎ IsIn xs e) → (e : EventId) → IsEvent s e → IsIn (t.0 ∷ reached) e ⊎ IsIn t.1 e
-  cover_more reached xs t cover e there =
-      ⊎_elim
-      (λ (h : IsIn reached e). inl (suc h.0, h.1))
-      (λ h. ⊎_elim (λ (same : e ≡ t.0). inl (0, ap Some (sym same))) (λ other. inr other) (t.4 e h))
-      (cover e there)
+  cover_more reached xs t cover e there = grind (arith, cover e there, t.4 e, in_either t.0 reached e)
 
   -- the candidates are taken until none comes next
   closing : (fuel n : ℕ) (reached xs : List EventId) → length xs ≤ fuel → ((e : EventId) → IsIn reached e → Stage s n e) → ((e : EventId) → IsEvent s e → IsIn reached e ⊎ IsIn xs e) → (m : ℕ) × (all : List EventId) × IsClosed s m all
@@ -95,8 +89,7 @@ module _ (s : Streams) (complete : AreComplete s) where
 in_flat_map : {X Y : Type 0} (f : X → List Y) (xs : List X) (p : ℕ) (x : X) → slice_get xs p ≡ Some x → (q : ℕ) (y : Y) → slice_get (f x) q ≡ Some y → (k : ℕ) × (slice_get (flat_map f xs) k ≡ Some y)
 in_flat_map f [] p x at q y there = cc
 in_flat_map f (z ∷ xs) zero x at q y there =
-    let same : x ≡ z = let c : Some z ≡ Some x = at in cc in
-    (q, slice_get-append (f z) (flat_map f xs) q y (subst (λ w. slice_get (f w) q ≡ Some y) same there))
+    (q, slice_get-append (f z) (flat_map f xs) q y (grind (arith, at, there)))
 in_flat_map f (z ∷ xs) (suc p) x at q y there =
     let h = in_flat_map f xs p x at q y there in
     (length (f z) + h.0, at_behind (f z) (flat_map f xs) h.0 y h.1)
@@ -119,7 +112,7 @@ unfolding candidates item_candidates
 event_is_candidate s e there =
     let g = e.at.group in
     let listed = filter-there (is_of e.at.item) (list_of s g) e.index there.0 there.1 in
-    let item : there.0.item ≡ e.at.item = eqb-true there.0.item e.at.item (and_parts (there.0.item == e.at.item) (not (is_end there.0)) listed.2).0 in
+    let item : there.0.item ≡ e.at.item = grind (arith, nat_tests, and_parts, listed.2) in
     let within : e.index < length (trace_of s e.at) = slice_get_within (trace_of s e.at) e.index there.0 there.1 in
     let last : slice_get (item_candidates s g e.at.item) e.index ≡ Some e = in_map (λ n. record { at = e.at; index = n }) (range_with_len 0 (length (trace_of s e.at))) e.index e.index (in_range (length (trace_of s e.at)) e.index within) in
     let inner = in_flat_map (λ x. item_candidates s g x.item) (list_of s g) listed.0 there.0 listed.1 e.index e (subst (λ i. slice_get (item_candidates s g i) e.index ≡ Some e) (sym item) last) in
@@ -137,5 +130,4 @@ stage_in s n all c (suc m) e h = c.closed e h.0 h.1 (λ d w. stage_in s n all c 
 
 pub grounded_dec : (s : Streams) → AreComplete s → (e : EventId) → IsGrounded s e ⊎ ¬ IsGrounded s e
 grounded_dec s complete e =
-    let all = reached s complete in
-    by_cases (in_dec all.1 e) (λ h. inl (all.0, all.2.stage e h)) (λ away. inr (λ (g : IsGrounded s e). away (stage_in s all.0 all.1 all.2 g.0 e g.1)))
+    let all = reached s complete in grind (arith, in_dec all.1 e, all.2.stage e, stage_in s all.0 all.1 all.2)

@@ -1,5 +1,5 @@
 -- A lawful order, and a step behind it, stay so where lists that are not complete grow.
-use Rattle.std.proofs.Common.{◌≡◌, ℕ, suc, ◌<◌, List, [], ◌∷◌, ◌++◌, length, sym, ◌∙◌, subst, arith}
+use Rattle.std.proofs.Common.{ℕ, suc, List, [], ◌∷◌, ◌++◌, length, ◌∙◌, arith}
 use Rattle.std.proofs.lemmas.Grind.{common_steps}
 use Rattle.std.proofs.lemmas.Option.{gets}
 use Rattle.gr_model.specs.declared.event.EventId.{EventId}
@@ -16,9 +16,6 @@ use Rattle.gr_steps.proofs.Handling.{lawful_handle}
 use Rattle.gr_steps.proofs.Meeting.{meeting_of}
 use Rattle.gr_steps.proofs.Orders.{there_is}
 
-at_last : (order : List EventId) (e : EventId) → IsAt (order ++ (e ∷ [])) (length order) e
-at_last order e = grind (arith, common_steps, gets)
-
 module _ (s t : Streams) (grows : Grows s t) (old : List EventId) (lawful : IsLawful s old) where
   stage_of : (p : ℕ) (e : EventId) → IsAt old p e → Stage s (suc p) e
   stage_of p e at = lawful_stage s old lawful (suc p) p e (omega arith) at
@@ -33,7 +30,7 @@ module _ (s t : Streams) (grows : Grows s t) (old : List EventId) (lawful : IsLa
 
   -- an event that is ready has a stage
   ready_stage : (e : EventId) → IsReady s old e → Stage s (suc (length old)) e
-  ready_stage e ready = lawful_stage s (old ++ (e ∷ [])) (lawful_handle s old lawful e ready) (suc (length old)) (length old) e (omega arith) (at_last old e)
+  ready_stage e ready = lawful_stage s (old ++ (e ∷ [])) (lawful_handle s old lawful e ready) (suc (length old)) (length old) e (omega arith) (grind (arith, common_steps, gets))
 
   ready_grows : (e : EventId) → IsReady s old e → IsReady t old e
   ready_grows e ready =
@@ -53,10 +50,9 @@ module _ (s t : Streams) (grows : Grows s t) (old : List EventId) (lawful : IsLa
   -- the barriers of the instance are those that they were
   stands_was : (g k : ℕ) (a : Mark) (bs : List EventId) → IsConvergent s g k a → AreBarriers s g k bs → (b : EventId) → StandsIn t b g k → StandsIn s b g k
   stands_was g k a bs met are b stands =
-      let there = there_is bs b.at.item (subst (λ n. b.at.item < n) (sym (are.count ∙ size_of_met s t grows g k a met)) stands.item) in
+      let there = there_is bs b.at.item (omega (arith, are.count, size_of_met s t grows g k a met, stands.item)) in
       let is = are.each b.at.item there.0 there.1 in
-      let same : there.0 ≡ b = stands_same t there.0 b g k (stands_grows s t grows there.0 g k is.1) stands is.0 in
-      subst (λ x. StandsIn s x g k) same is.1
+      grind (arith, is, stands_same t there.0 b g k (stands_grows s t grows there.0 g k is.1) stands is.0)
 
   pub meets_grows : (g k : ℕ) (new : List EventId) → Meets s old g k new → Meets t old g k new
   meets_grows g k new h = record {

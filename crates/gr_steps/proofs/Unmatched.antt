@@ -1,5 +1,5 @@
 -- An unmatched acquire has a cause, so a report names each.
-use Rattle.std.proofs.Common.{◌≡◌, ◌⊎◌, ℕ, Some, None, [], subst, inl, inr, ⊎_elim, arith, refl, Contains}
+use Rattle.std.proofs.Common.{◌≡◌, ◌⊎◌, ℕ, Some, None, [], inl, inr, ⊎_elim, arith, refl}
 use Rattle.gr_model.specs.declared.event.EventId.{EventId}
 use Rattle.gr_model.specs.declared.event.Name.{Name}
 use Rattle.gr_model.specs.declared.report.AcquireCause.{AcquireCause}
@@ -19,7 +19,7 @@ has_cause s e =
     ⊎_elim
     (λ (there : (n : Name) → HasName s e n → IsThere s n). ⊎_elim
     (λ (same : (n : Name) → HasName s e n → IsOfItsWord s e n). (Behind, same))
-    (λ (other : (n : Name) × HasName s e n × IsOfOtherWord s e n). (OtherWord, (λ n named. not_absent n (there n named), other)))
+    (λ (other : (n : Name) × HasName s e n × IsOfOtherWord s e n). (OtherWord, (λ n named absent. grind (arith, there n named, absent), other)))
     (all_or_some (IsOfItsWord s e) (IsOfOtherWord s e) (names_at s e) (λ n named. of_word n (there n named))))
     (λ (absent : (n : Name) × HasName s e n × IsAbsent s n). (Absent, absent))
     (all_or_some (IsThere s) (IsAbsent s) (names_at s e) (λ n named. there_or_absent n))
@@ -31,9 +31,6 @@ has_cause s e =
           | Some k ↦ λ at. inl (k, at)
         ] refl
 
-    not_absent : (n : Name) → IsThere s n → ¬ IsAbsent s n
-    not_absent n there absent = cc
-
     of_word : (n : Name) → IsThere s n → IsOfItsWord s e n ⊎ IsOfOtherWord s e n
     of_word n there =
         by_cases (option_dec word_dec (word_at s (record { at = n.at; index = there.0 })) (word_at s e)) (λ same. inl (there.0, there.1, same)) (λ other. inr (there.0, there.1, other))
@@ -41,6 +38,4 @@ has_cause s e =
 pub none_unmatched : (s : Streams) (r : WholeReport) → IsReportButRaces s r → r.unmatched ≡ [] → (e : EventId) → ¬ IsUnmatchedAcquire s e
 none_unmatched s r report none e unmatched =
     let cause = has_cause s e in
-    let listed = (report.unmatched.exact (record { event = e; cause = cause.0 })).1 (record { unmatched = unmatched; cause = cause.1 }) in
-    let gone = subst (λ l. Contains l (record { event = e; cause = cause.0 })) none listed in
-    absurd (omega (arith, gone.1))
+    grind (arith, none, (report.unmatched.exact (record { event = e; cause = cause.0 })).1 (record { unmatched = unmatched; cause = cause.1 }))
