@@ -1,10 +1,10 @@
 -- The accesses along an order that has become longer.
-use Rattle.std.proofs.Common.{◌≡◌, ℕ, suc, true, List, [], ◌∷◌, ◌++◌, Some, None, is_some, slice_get, refl, sym, subst, append-nil, arith}
+use Rattle.std.proofs.Common.{◌≡◌, ℕ, suc, true, List, [], ◌∷◌, ◌++◌, Some, None, is_some, slice_get, refl, append-nil, arith}
 use Rattle.gr_model.specs.declared.event.EventId.{EventId}
 use Rattle.gr_model.specs.declared.event.Kind.{Kind}
 use Rattle.gr_model.specs.declared.event.Word.{Word}
 use Rattle.gr_model.specs.Access.{word_if_access}
-use Rattle.gr_model.specs.Barriers.{StandsIn, mark_of_kind}
+use Rattle.gr_model.specs.Barriers.{mark_of_kind}
 use Rattle.gr_model.specs.Streams.{Streams, word_at}
 use Rattle.gr_clocks.specs.declared.access.Access.{Access}
 use Rattle.gr_steps.specs.Steps.{AreBarriers, Handles, Meets}
@@ -32,11 +32,8 @@ kind_without_word : (k : Kind) (site : ℕ) (w : Word) → is_some (mark_of_kind
 kind_without_word k site w is = grind arith
 
 -- barriers have no words
-barriers_have_none : (s : Streams) (g k : ℕ) (b : EventId) → StandsIn s b g k → word_at s b ≡ None
-barriers_have_none s g k b stands = grind (arith, barrier_there, kind_without_word)
-
 none_of_barriers : (s : Streams) (g k : ℕ) (barriers : List EventId) → AreBarriers s g k barriers → AreAccesses s barriers []
-none_of_barriers s g k barriers are = none_of s barriers (λ i b at. barriers_have_none s g k b (are.each i b at).1)
+none_of_barriers s g k barriers are = none_of s barriers (λ i b at. grind (arith, are.each i b at, barrier_there, kind_without_word))
 
 -- ---- steps
 
@@ -45,10 +42,8 @@ handled_adds s old new e accesses x step are of_e = grind (arith, accesses_after
 
 pub others_add_none : (s : Streams) (old new : List EventId) (e : EventId) (accesses : List ClockedAccess) → Handles s old e new → AreAccesses s old accesses → word_at s e ≡ None → AreAccesses s new accesses
 others_add_none s old new e accesses step are none =
-    subst (λ (order : List EventId). AreAccesses s order accesses) (sym step.order)
-    (subst (λ (xs : List ClockedAccess). AreAccesses s (old ++ e ∷ []) xs) (append-nil accesses) (accesses_after s old (e ∷ []) accesses [] are (of_other none of_none)))
+    grind (arith, step.order, append-nil accesses, accesses_after s old (e ∷ []) accesses [] are (of_other none of_none))
 
 pub met_add_none : (s : Streams) (old new : List EventId) (g k : ℕ) (accesses : List ClockedAccess) → Meets s old g k new → AreAccesses s old accesses → AreAccesses s new accesses
 met_add_none s old new g k accesses step are =
-    subst (λ (order : List EventId). AreAccesses s order accesses) (sym step.order)
-    (subst (λ (xs : List ClockedAccess). AreAccesses s (old ++ step.barriers) xs) (append-nil accesses) (accesses_after s old step.barriers accesses [] are (none_of_barriers s g k step.barriers step.are)))
+    grind (arith, step.order, append-nil accesses, accesses_after s old step.barriers accesses [] are (none_of_barriers s g k step.barriers step.are))

@@ -1,5 +1,5 @@
 -- A clock that counts just what an event sees has of each item the number of its events that the event sees.
-use Rattle.std.proofs.Common.{ℕ, ◌<◌, List, length, arith}
+use Rattle.std.proofs.Common.{ℕ, ◌≤◌, List, length, arith}
 use Rattle.std.proofs.lemmas.Option.{slice_get_within}
 use Rattle.gr_model.specs.declared.event.Space.{Space}
 use Rattle.gr_model.specs.declared.event.ItemId.{ItemId}
@@ -16,8 +16,5 @@ pub clocks_count : (s : Streams) (m : Space) (order : List EventId) (e : EventId
 clocks_count s m order e c j lawful there just =
     let at : ℕ → EventId = λ k. record { at = j; index = k } in
     let size : ℕ = length (trace_of s j) in
-    let not_over : ¬ (size < count_of c j) = λ more.
-    let stands = seen_handled s m order lawful e (at size) there ((just (at size)).0 more) in
-    let event = (lawful.event stands.0 (at size) stands.1).0 in
-    omega (arith, slice_get_within (trace_of s j) size event.0 event.1) in
-    number_of_prefix (λ k. Sees s m e (at k)) size (count_of c j) (omega arith) (λ k _. ((just (at k)).1, (just (at k)).0))
+    let few : count_of c j ≤ size = grind (arith, just (at size), seen_handled s m order lawful e (at size) there, lawful.event, slice_get_within) in
+    number_of_prefix (λ k. Sees s m e (at k)) size (count_of c j) few (λ k _. ((just (at k)).1, (just (at k)).0))

@@ -1,50 +1,47 @@
 -- What an event that is handled sees; and what its item, and the others, know then.
-use Rattle.std.proofs.Common.{◌≡◌, ◌≢◌, ◌⊎◌, ◌↔◌, List, [], ◌∷◌, refl, sym, ap, ◌∙◌, subst, inr, ⊎_elim, arith}
+use Rattle.std.proofs.Common.{inl, ◌≡◌, ◌≢◌, ◌⊎◌, ◌↔◌, List, [], ◌∷◌, refl, subst, inr, ⊎_elim, arith}
 use Rattle.gr_model.specs.declared.event.EventId.{EventId}
 use Rattle.gr_model.specs.declared.event.ItemId.{ItemId}
 use Rattle.gr_model.specs.declared.event.Space.{Space}
-use Rattle.gr_model.specs.Barriers.{Together}
 use Rattle.gr_model.specs.Counts.{Sees}
-use Rattle.gr_model.specs.Instances.{Mark}
 use Rattle.gr_model.specs.LawfulOrders.{IsIn, IsLawful}
 use Rattle.gr_model.specs.Streams.{Streams}
 use Rattle.gr_model.proofs.GrowthLaws.{not_both}
 use Rattle.gr_steps.specs.Steps.{Handles}
 use Rattle.gr_closure.specs.Knowledge.{Knows, Learns, by_event, by_instance}
 use Rattle.gr_closure.proofs.LongerOrders.{in_back, in_prefix, in_longer, knows_more}
-use Rattle.gr_closure.proofs.NextInItem.{known_before, next_sees, ready_event_is_next}
+use Rattle.gr_closure.proofs.NextInItem.{next_sees, ready_event_is_next}
 
 module _ (s : Streams) (m : Space) (old new : List EventId) (e : EventId) (lawful : IsLawful s old) (handles : Handles s old e new) where
   pub handled_sees : (d : EventId) → Sees s m e d ↔ ((d ≡ e) ⊎ Knows s m old e.at d ⊎ Learns s m e d)
   handled_sees d = next_sees s m old e handles.ready.event (ready_event_is_next s old lawful e handles.ready) d
 
   pub handled_stays : (x : EventId) → IsIn old x → IsIn new x
-  handled_stays x h = subst (λ l. IsIn l x) (sym handles.order) (in_prefix old (e ∷ []) x h)
+  handled_stays x h = grind (arith, handles.order, in_prefix old (e ∷ []) x h)
 
   pub handled_now : IsIn new e
-  handled_now = subst (λ l. IsIn l e) (sym handles.order) (in_back old (e ∷ []) e (0, refl))
+  handled_now = grind (arith, handles.order, in_back old (e ∷ []) e (0, refl))
 
   pub handled_cases : (x : EventId) → IsIn new x → IsIn old x ⊎ (x ≡ e)
   handled_cases x h = grind (arith, in_longer old (e ∷ []) x (subst (λ l. IsIn l x) handles.order h))
-
-  -- it is no barrier of a convergent instance
-  apart : (a : Mark) (c : EventId) → Together s a c e → ⊥
-  apart a c met = not_both s met.group met.instance a met.convergent (handles.ready.instance met.group met.instance met.second)
 
   pub handled_knows : (d : EventId) → Knows s m new e.at d ↔ Sees s m e d
   handled_knows d = (sees, λ seen. by_event e handled_now refl seen)
     where
       before : Knows s m old e.at d → Sees s m e d
-      before k = inr (known_before s m old e handles.ready.event (ready_event_is_next s old lawful e handles.ready) d k)
+      before k = (handled_sees d).1 (inr (inl k))
 
       sees : Knows s m new e.at d → Sees s m e d
       sees (by_event x h item seen) =
-          ⊎_elim (λ was. before (by_event x was item seen)) (λ (same : x ≡ e). subst (λ y. Sees s m y d) same seen) (handled_cases x h)
+          ⊎_elim (λ was. before (by_event x was item seen)) (λ same. grind (arith, same, seen)) (handled_cases x h)
       sees (by_instance a c b h item flagged met seen) =
-          ⊎_elim (λ was. before (by_instance a c b was item flagged met seen)) (λ (same : b ≡ e). absurd (apart a c (subst (λ y. Together s a c y) same met))) (handled_cases b h)
+          ⊎_elim
+          (λ was. before (by_instance a c b was item flagged met seen))
+          (λ same. grind (arith, same, met.second, not_both s met.group met.instance a met.convergent, handles.ready.instance met.group met.instance))
+          (handled_cases b h)
 
   pub others_know_after_handle : (i : ItemId) (d : EventId) → i ≢ e.at → Knows s m new i d ↔ Knows s m old i d
   others_know_after_handle i d other = (
-    knows_more s m new old i d (λ x item h. ⊎_elim (λ was. was) (λ (same : x ≡ e). absurd (other (sym item ∙ ap (λ y. y.at) same))) (handled_cases x h)),
+    knows_more s m new old i d (λ x item h. grind (arith, handled_cases x h, other, item)),
     knows_more s m old new i d (λ x item h. handled_stays x h),
   )

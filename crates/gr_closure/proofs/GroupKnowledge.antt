@@ -1,5 +1,5 @@
 -- What a barrier sees whose instance meets; and what its item, its group, and the others, know then.
-use Rattle.std.proofs.Common.{◌≡◌, ◌≢◌, ◌⊎◌, ◌↔◌, ℕ, ◌<◌, List, Some, IsTrue, IsFalse, refl, sym, ap, ◌∙◌, subst, inl, inr, ⊎_elim, true≢false, arith}
+use Rattle.std.proofs.Common.{◌≡◌, ◌≢◌, ◌⊎◌, ◌↔◌, ℕ, ◌<◌, List, IsTrue, IsFalse, refl, sym, subst, inl, inr, ⊎_elim, arith}
 use Rattle.gr_model.specs.declared.event.EventId.{EventId}
 use Rattle.gr_model.specs.declared.event.ItemId.{ItemId}
 use Rattle.gr_model.specs.declared.event.Space.{Space}
@@ -7,56 +7,49 @@ use Rattle.gr_model.specs.Barriers.{IsConvergent, StandsIn, Together}
 use Rattle.gr_model.specs.Counts.{Sees}
 use Rattle.gr_model.specs.Instances.{Mark, flags}
 use Rattle.gr_model.specs.LawfulOrders.{IsIn, IsLawful}
-use Rattle.gr_model.specs.Streams.{ArePrefixes, IsEvent, Streams, size_of}
+use Rattle.gr_model.specs.Streams.{ArePrefixes, Streams, size_of}
 use Rattle.gr_steps.specs.Steps.{Meets}
 use Rattle.gr_steps.proofs.BarrierPlaces.{barrier_of, barrier_there, moved, same_instance, stands_same}
 use Rattle.gr_steps.proofs.EventRecords.{barriers_name_nothing}
 use Rattle.gr_steps.proofs.Orders.{there_is}
 use Rattle.gr_closure.specs.Knowledge.{Knows, Learns, by_event, by_instance}
 use Rattle.gr_closure.proofs.LongerOrders.{in_back, in_prefix, in_longer, knows_more}
-use Rattle.gr_closure.proofs.NextInItem.{barrier_is_next, known_before, next_sees}
+use Rattle.gr_closure.proofs.NextInItem.{barrier_is_next, next_sees}
 
 module _ (s : Streams) (m : Space) (old new : List EventId) (g k : ℕ) (prefixes : ArePrefixes s) (lawful : IsLawful s old) (met : Meets s old g k new) where
-  event_of : (b : EventId) → StandsIn s b g k → IsEvent s b
-  event_of b stands = let there = barrier_there s b g k stands in (there.0, there.1)
-
   -- a barrier names nothing, so it learns nothing
   learns_nothing : (b d : EventId) → StandsIn s b g k → Learns s m b d → ⊥
   learns_nothing b d stands l = grind (arith, barrier_there, barriers_name_nothing)
 
   pub met_sees : (b d : EventId) → StandsIn s b g k → Sees s m b d ↔ ((d ≡ b) ⊎ Knows s m old b.at d)
   met_sees b d stands =
-      let sees = next_sees s m old b (event_of b stands) (barrier_is_next s old lawful g k met.mark met.meeting b stands) d in (
-        λ seen. ⊎_elim (λ same. inl same) (λ h. ⊎_elim (λ known. inr known) (λ l. absurd (learns_nothing b d stands l)) h) (sees.0 seen),
-        ⊎_elim (λ same. inl same) (λ known. sees.1 (inr (inl known))),
+      let there = barrier_there s b g k stands in
+      let sees = next_sees s m old b (there.0, there.1) (barrier_is_next s old lawful g k met.mark met.meeting b stands) d in (
+        λ seen. ⊎_elim inl (⊎_elim inr (λ l. absurd (learns_nothing b d stands l))) (sees.0 seen),
+        ⊎_elim inl (λ known. sees.1 (inr (inl known))),
       )
 
   -- ---- the longer order
 
   pub met_stays : (x : EventId) → IsIn old x → IsIn new x
-  met_stays x h = subst (λ l. IsIn l x) (sym met.order) (in_prefix old met.barriers x h)
+  met_stays x h = grind (arith, met.order, in_prefix old met.barriers x h)
 
   pub met_now : (b : EventId) → StandsIn s b g k → IsIn new b
   met_now b stands =
-      let there = there_is met.barriers b.at.item (subst (λ n. b.at.item < n) (sym met.are.count) stands.item) in
+      let there = there_is met.barriers b.at.item (omega (arith, met.are.count, stands.item)) in
       let is = met.are.each b.at.item there.0 there.1 in
-      let same : there.0 ≡ b = stands_same s there.0 b g k is.1 stands is.0 in
-      subst (λ l. IsIn l b) (sym met.order) (in_back old met.barriers b (b.at.item, there.1 ∙ ap Some same))
+      grind (arith, met.order, there, stands_same s there.0 b g k is.1 stands is.0, in_back old met.barriers b)
 
   pub met_cases : (x : EventId) → IsIn new x → IsIn old x ⊎ StandsIn s x g k
-  met_cases x h = ⊎_elim (λ was. inl was) (λ (b : IsIn met.barriers x). inr (met.are.each b.0 x b.1).1) (in_longer old met.barriers x (subst (λ l. IsIn l x) met.order h))
+  met_cases x h = grind (arith, in_longer old met.barriers x (subst (λ l. IsIn l x) met.order h), met.are.each)
 
   -- what a barrier's item knew, the barrier sees
   known_seen : (b d : EventId) → StandsIn s b g k → Knows s m old b.at d → Sees s m b d
-  known_seen b d stands known = inr (known_before s m old b (event_of b stands) (barrier_is_next s old lawful g k met.mark met.meeting b stands) d known)
+  known_seen b d stands known = (met_sees b d stands).1 (inr known)
 
   -- of an instance that a barrier stands in, this is the number
   here : (a : Mark) (c b : EventId) → StandsIn s b g k → Together s a c b → StandsIn s c g k × IsConvergent s g k a
   here a c b stands t = grind (arith, same_instance, moved)
-
-  -- the item's own barrier is the one
-  own : (x b : EventId) → StandsIn s x g k → StandsIn s b g k → x.at ≡ b.at → x ≡ b
-  own x b hx hb item = stands_same s x b g k hx hb (ap (λ i. i.item) item)
 
   -- ---- in a memory that is flagged
 
@@ -77,16 +70,13 @@ module _ (s : Streams) (m : Space) (old new : List EventId) (g k : ℕ) (prefixe
 
   -- ---- in the other
 
-  one_mark : (a : Mark) → IsConvergent s g k a → a ≡ met.mark
-  one_mark a c = let e : Some a ≡ Some met.mark = sym (c.1 0 c.0) ∙ met.meeting.convergent.1 0 c.0 in cc
-
   own_sees : (b d : EventId) → IsFalse (flags met.mark m) → StandsIn s b g k → Knows s m new b.at d → Sees s m b d
   own_sees b d apart stands (by_event x h item seen) =
-      ⊎_elim (λ was. known_seen b d stands (by_event x was item seen)) (λ now. subst (λ y. Sees s m y d) (own x b now stands item) seen) (met_cases x h)
+      ⊎_elim (λ was. known_seen b d stands (by_event x was item seen)) (λ now. grind (arith, stands_same s x b g k now stands, item, seen)) (met_cases x h)
   own_sees b d apart stands (by_instance a c x h item flagged t seen) =
       ⊎_elim
       (λ was. known_seen b d stands (by_instance a c x was item flagged t seen))
-      (λ now. absurd (true≢false (sym (subst (λ f. IsTrue (flags f m)) (one_mark a (here a c x now t).1) flagged) ∙ apart)))
+      (λ now. let one = (here a c x now t).1 in grind (arith, one.1 0 one.0, met.meeting.convergent.1 0 one.0, flagged, apart))
       (met_cases x h)
 
   pub unflagged_knows : (b d : EventId) → IsFalse (flags met.mark m) → StandsIn s b g k → Knows s m new b.at d ↔ Sees s m b d
@@ -96,6 +86,6 @@ module _ (s : Streams) (m : Space) (old new : List EventId) (g k : ℕ) (prefixe
 
   pub others_know_after_meet : (i : ItemId) (d : EventId) → i.group ≢ g → Knows s m new i d ↔ Knows s m old i d
   others_know_after_meet i d other = (
-    knows_more s m new old i d (λ x item h. ⊎_elim (λ was. was) (λ (now : StandsIn s x g k). absurd (other (ap (λ j. j.group) (sym item) ∙ now.group))) (met_cases x h)),
+    knows_more s m new old i d (λ x item h. grind (arith, met_cases x h, other, item)),
     knows_more s m old new i d (λ x item h. met_stays x h),
   )

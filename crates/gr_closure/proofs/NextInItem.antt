@@ -1,6 +1,5 @@
 -- An event that is next in its item: the handled events of the item are those before it. So is what is handled, and each barrier of an instance that meets. It sees itself, what its item knows, and what it learns.
-use Rattle.std.proofs.Common.{◌≡◌, ◌⊎◌, ◌↔◌, ℕ, ◌<◌, ◌≤◌, List, refl, sym, subst, inl, inr, ⊎_elim, arith, eq-or-lt_of_le}
-use Rattle.std.proofs.lemmas.Bool.{cases_lt}
+use Rattle.std.proofs.Common.{◌∙◌, ◌≡◌, ◌⊎◌, ◌↔◌, ℕ, ◌<◌, List, sym, inl, inr, ⊎_elim, arith}
 use Rattle.gr_model.specs.declared.event.EventId.{EventId}
 use Rattle.gr_model.specs.declared.event.Space.{Space}
 use Rattle.gr_model.specs.Barriers.{StandsIn}
@@ -9,10 +8,9 @@ use Rattle.gr_model.specs.Instances.{Mark}
 use Rattle.gr_model.specs.HappensBefore.{BasePair, HappensBefore, behind_barrier, sequenced, synchronized}
 use Rattle.gr_model.specs.LawfulOrders.{IsIn, IsLawful}
 use Rattle.gr_model.specs.Streams.{IsEvent, Streams}
-use Rattle.gr_model.proofs.Cuts.{same_event}
 use Rattle.gr_steps.specs.Steps.{IsMeeting, IsReady}
 use Rattle.gr_steps.proofs.NextEvents.{next_of_item}
-use Rattle.gr_steps.proofs.Orders.{handled_before, number_before}
+use Rattle.gr_steps.proofs.Orders.{handled_upto, previous_of}
 use Rattle.gr_closure.specs.Knowledge.{Knows, Learns, by_event, by_instance}
 use Rattle.gr_closure.proofs.Seeing.{last_pair, seen_before}
 
@@ -24,37 +22,12 @@ module _ (s : Streams) (order : List EventId) (lawful : IsLawful s order) where
   pub ready_event_is_next : (e : EventId) → IsReady s order e → IsNextInItem order e
   ready_event_is_next e ready d item = next_of_item s order lawful e ready d item
 
-  module _ (g k : ℕ) (a : Mark) (meeting : IsMeeting s order g k a) (b : EventId) (stands : StandsIn s b g k) (d : EventId) (item : d.at ≡ b.at) where
-    handled_is_before : IsIn order d → d.index < b.index
-    handled_is_before h =
-        ⊎_elim
-        (λ (lt : d.index < b.index). lt)
-        (λ (ge : b.index ≤ d.index). absurd (meeting.fresh (
-          b,
-          stands,
-          ⊎_elim
-              (λ (same : b.index ≡ d.index). subst (λ x. IsIn order x) (same_event d b item (sym same)) h)
-              (λ (lt : b.index < d.index). handled_before s order lawful b d (sym item) lt h)
-              (eq-or-lt_of_le ge),
-        )))
-        (cases_lt d.index b.index)
-
-    before_is_handled : d.index < b.index → IsIn order d
-    before_is_handled lt =
-        let n = number_before b.index (omega (arith, lt)) in
-        let p : EventId = record { at = b.at; index = n.0 } in
-        let there = meeting.before b p stands (record { item = refl; next = n.1 }) in
-        ⊎_elim
-        (λ (same : d.index ≡ n.0). subst (λ x. IsIn order x) (sym (same_event d p item same)) there)
-        (λ (less : d.index < n.0). handled_before s order lawful d p item less there)
-        (eq-or-lt_of_le (let le : d.index ≤ n.0 = omega (arith, n.1, lt) in le))
-
-    meeting_next : IsIn order d ↔ (d.index < b.index)
-    meeting_next = (handled_is_before, before_is_handled)
-
   -- the barriers of an instance that may meet are next
   pub barrier_is_next : (g k : ℕ) (a : Mark) → IsMeeting s order g k a → (b : EventId) → StandsIn s b g k → IsNextInItem order b
-  barrier_is_next g k a meeting b stands d item = meeting_next g k a meeting b stands d item
+  barrier_is_next g k a meeting b stands d item = (
+    λ h. grind (arith, h, stands, meeting.fresh, handled_upto s order lawful b d (sym item)),
+    λ lt. let p = previous_of b d.index lt in handled_upto s order lawful d p.0 (item ∙ sym p.1.item) p.2 (meeting.before b p.0 stands p.1),
+  )
 
 -- ---- what it sees
 
@@ -73,8 +46,8 @@ module _ (s : Streams) (m : Space) (old : List EventId) (e : EventId) (there : I
       by_last x seen (synchronized match inclusive) = inr (record { release = x; matches = match; inclusive = inclusive; seen = seen })
       by_last x seen (behind_barrier a b flagged met item below event) = inl (by_instance a x b ((next b item).1 below) item flagged met seen)
 
-  learned_before : Learns s m e d → HappensBefore s m d e
-  learned_before l = seen_before s m d l.release e l.seen (synchronized l.matches l.inclusive)
-
   pub next_sees : Sees s m e d ↔ ((d ≡ e) ⊎ Knows s m old e.at d ⊎ Learns s m e d)
-  next_sees = (⊎_elim (λ same. inl same) (λ before. inr (before_known before)), ⊎_elim (λ same. inl same) (λ h. inr (⊎_elim (λ k. known_before k) (λ l. learned_before l) h)))
+  next_sees = (
+    ⊎_elim inl (λ before. inr (before_known before)),
+    ⊎_elim inl (λ h. inr (⊎_elim known_before (λ l. seen_before s m d l.release e l.seen (synchronized l.matches l.inclusive)) h)),
+  )

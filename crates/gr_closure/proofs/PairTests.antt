@@ -1,5 +1,5 @@
 -- Of two accesses the race test tells whether their events clash.
-use Rattle.std.proofs.Common.{◌≡◌, ◌<◌, Bool, true, false, ◌&&◌, ◌||◌, arith}
+use Rattle.std.proofs.Common.{◌↔◌, ◌≡◌, ◌<◌, ◌&&◌, ◌||◌, arith}
 use Rattle.std.specs.Prelude.{not}
 use Rattle.std.proofs.lemmas.Bool.{and_parts, and_from, not-true, not_from_false, false_from_ne_true, ltb-true, lt-ltb, true≢false}
 use Rattle.gr_model.specs.declared.event.EventId.{EventId}
@@ -17,25 +17,16 @@ use Rattle.gr_clocks.specs.ClockedAccess.{ClockedAccess, bare}
 use Rattle.gr_shadow.specs.Clashes.{clashes}
 use Rattle.gr_closure.specs.Accesses.{IsAccess}
 
-not_exempt : (e p r : Bool) → e ≡ not (p && not r) → p ≡ true → r ≡ false → not e ≡ true
-not_exempt e p r is modifying apart = grind arith
-
-exempt_parts : (e p r : Bool) → e ≡ not (p && not r) → not e ≡ true → (p ≡ true) × (r ≡ false)
-exempt_parts e p r is h = grind arith
-
 module _ (s : Streams) (w : Word) (e f : EventId) (x y : ClockedAccess) (of_e : IsAccess s e (bare x)) (of_f : IsAccess s f (bare y)) where
   exemption : exempt x.class x.item.group y.class y.item.group ≡ not ((modifies of_e.event.kind || modifies of_f.event.kind) && not (inclusive of_e.event.kind x.item.group of_f.event.kind y.item.group))
   exemption = exemption_told of_e.event.kind of_f.event.kind x.class y.class x.item.group y.item.group of_e.class of_f.class
 
   -- y's clock counts x's event where this happens before y's
-  seen : x.index < count_of y.clock x.item → Sees s (memory_of y.word) f e
-  seen lt = grind arith
-
-  counted : Sees s (memory_of y.word) f e → x.index < count_of y.clock x.item
-  counted h = grind arith
+  seen : (x.index < count_of y.clock x.item) ↔ Sees s (memory_of y.word) f e
+  seen = grind arith
 
   pub clash_is_hit : RacesInOrder s w e f → ClashesAt (λ z. z.word) clashes w x y
-  clash_is_hit c = grind (arith, and_from, not_from_false, false_from_ne_true, same_items, not_exempt, exemption, seen, ltb-true)
+  clash_is_hit c = grind (arith, and_from, not_from_false, false_from_ne_true, same_items, exemption, seen, ltb-true)
 
   pub hit_is_clash : ClashesAt (λ z. z.word) clashes w x y → RacesInOrder s w e f
-  hit_is_clash h = grind (arith, true≢false, same_item_self, not-true, lt-ltb, counted, and_parts, exempt_parts, exemption)
+  hit_is_clash h = grind (arith, true≢false, same_item_self, not-true, lt-ltb, seen, and_parts, exemption)
