@@ -68,7 +68,7 @@ stage_descends s (suc n) e d h w = (n, omega arith, h.2 d w)
 pub lawful_stage : (s : Streams) (order : List EventId) → IsLawful s order → (n p : ℕ) (e : EventId) → p < n → IsAt order p e → Stage s n e
 lawful_stage s order l zero p e lt at = absurd (omega arith)
 lawful_stage s order l (suc n) p e lt at =
-    ((l.event p e at).0, (l.event p e at).1, λ d w. let there = l.after p e d at w in lawful_stage s order l n there.0 d (omega (arith, there.1)) there.2)
+    ((l.event p e at).0, (l.event p e at).1, λ d w. grind (arith, l.after p e d at w, lawful_stage s order l n))
 
 pub lawful_is_grounded : (s : Streams) (order : List EventId) (e : EventId) → IsLawful s order → IsIn order e → IsGrounded s e
 lawful_is_grounded s order e lawful there = (suc there.0, lawful_stage s order lawful (suc there.0) there.0 e (omega arith) there.1)

@@ -158,7 +158,8 @@ module _ (s t : Streams) (grows : Grows s t) where
 
   pair_shrinks : (m : Space) (n : ℕ) (e f : EventId) → Stage s n f → BasePair t m e f → BasePair s m e f
   pair_shrinks m n e f h (sequenced item below there) = sequenced item below (stage_event n f h).0
-  pair_shrinks m n e f h (synchronized match inclusive) = grind (arith, synchronized, stage_event, matches_shrinks, release_event, event_grows, word_grows)
+  pair_shrinks m n e f h (synchronized match inclusive) =
+      grind (arith, synchronized, stage_event, matches_shrinks, release_event, event_grows, word_grows)
   pair_shrinks m n e f h (behind_barrier a b flagged met item below there) =
       let lower = below_in_item s (Stage s) (stage_descends s) n b f h item below in
       let barrier = stage_event lower.0 b lower.2 in

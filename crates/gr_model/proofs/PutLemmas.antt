@@ -46,11 +46,13 @@ pub sum_put : (ns : List ℕ) (p n : ℕ) → get_or ns p 0 ≡ 0 → sum (put 0
 sum_put [] zero n none = grind (arith, sum_by-cons)
 sum_put [] (suc p) n none = grind (arith, sum_by-cons, sum_put [] p n refl)
 sum_put (m ∷ ns) zero n none = grind (arith, sum_by-cons (λ (k : ℕ). k) n ns, sum_by-cons)
-sum_put (m ∷ ns) (suc p) n none = omega (arith, sum_put ns p n none, sum_by-cons (λ (k : ℕ). k) m (put 0 ns p n), sum_by-cons (λ (k : ℕ). k) m ns)
+sum_put (m ∷ ns) (suc p) n none =
+    omega (arith, sum_put ns p n none, sum_by-cons (λ (k : ℕ). k) m (put 0 ns p n), sum_by-cons (λ (k : ℕ). k) m ns)
 
 -- each is small where the others are
 pub all_put : (P : ℕ → Type 0) (ns : List ℕ) (p n : ℕ) → P 0 → P n → All P ns → All P (put 0 ns p n)
-all_put P ns p n nothing new all k d there = grind (arith, put_same 0 ns p n, put_other 0 ns p n k, get_or_default (put 0 ns p n) k d 0 there, all k 0, get_or_past ns k 0)
+all_put P ns p n nothing new all k d there =
+    grind (arith, put_same 0 ns p n, put_other 0 ns p n k, get_or_default (put 0 ns p n) k d 0 there, all k 0, get_or_past ns k 0)
 
 -- ---- lists that grow up to a place
 

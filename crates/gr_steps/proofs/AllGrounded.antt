@@ -1,17 +1,17 @@
 -- Where no acquire is unmatched in complete lists, every event is grounded.
 -- Of each item the first event that is not would be a barrier of a convergent instance. One with the least number would have met: each other item of its group stands at a barrier of the same instance, or has passed what is before it.
-use Rattle.std.proofs.Common.{◌≡◌, ◌⊎◌, ℕ, zero, suc, ◌<◌, List, refl, sym, subst, ⊎_elim, arith}
+use Rattle.std.proofs.Common.{◌≡◌, ℕ, zero, suc, ◌<◌, List, refl, sym, subst, ⊎_elim, arith}
 use Rattle.std.proofs.lemmas.Option.{slice_get_within}
 use Rattle.gr_model.specs.declared.event.EventId.{EventId}
 use Rattle.gr_model.specs.declared.event.ItemId.{ItemId}
 use Rattle.gr_model.specs.declared.event.Name.{Name}
-use Rattle.gr_model.specs.Barriers.{IsConvergent, StandsIn, Together}
+use Rattle.gr_model.specs.Barriers.{StandsIn, Together}
 use Rattle.gr_model.specs.Instances.{Mark}
 use Rattle.gr_model.specs.LawfulOrders.{IsIn}
 use Rattle.gr_model.specs.Names.{HasName}
 use Rattle.gr_model.specs.Reports.{IsUnmatchedAcquire}
 use Rattle.gr_model.specs.Streams.{AreComplete, IsEvent, Streams, trace_of}
-use Rattle.gr_model.specs.Waits.{IsSettled, IsGrounded, IsPrevious, Stage, Waits, for_arrival, for_meeting, for_previous, for_release}
+use Rattle.gr_model.specs.Waits.{IsGrounded, IsPrevious, Stage, Waits, for_arrival, for_meeting, for_previous, for_release}
 use Rattle.gr_model.proofs.Descent.{below_in_item, stage_descends}
 use Rattle.gr_steps.proofs.BarrierPlaces.{barrier_there, moved, standing, stands_before, stands_same, meets_in, meets_none}
 use Rattle.gr_steps.proofs.DecidedWaits.{settled}
@@ -29,21 +29,10 @@ earlier_event : (s : Streams) (e : EventId) → IsEvent s e → (n : ℕ) → n 
 earlier_event s e there n lt =
     there_is (trace_of s e.at) n (omega (arith, lt, slice_get_within (trace_of s e.at) e.index there.0 there.1))
 
--- an event stands in a convergent instance
-record StandsConvergent (s : Streams) (e : EventId) : Type 0 where
-  group : ℕ
-  instance : ℕ
-  mark : Mark
-  stands : StandsIn s e group instance
-  convergent : IsConvergent s group instance mark
-
 module _ (s : Streams) (complete : AreComplete s) (matched : (e : EventId) → ¬ IsUnmatchedAcquire s e) (n : ℕ) (all : List EventId) (is : IsClosed s n all) where
   -- all before an event in its item are grounded
   abbrev IsPassed : EventId → Type 0
   IsPassed e = (i : ℕ) → i < e.index → IsIn all (event_of e.at i)
-
-  grounded : (e : EventId) → IsIn all e → IsGrounded s e
-  grounded e h = (n, is.stage e h)
 
   -- an event that is not grounded, though all before it are, names nothing
   no_name : (e : EventId) → IsEvent s e → IsPassed e → (IsIn all e → ⊥) → (m : Name) → HasName s e m → ⊥
@@ -53,7 +42,7 @@ module _ (s : Streams) (complete : AreComplete s) (matched : (e : EventId) → �
         name = m;
         named = named;
         held = λ g. away (stage_in s n all is g.0 e g.1);
-        before = λ d item lt. grounded d (subst (λ i. IsIn all (event_of i d.index)) (sym item) (passed d.index lt));
+        before = λ d item lt. (n, is.stage d (subst (λ i. IsIn all (event_of i d.index)) (sym item) (passed d.index lt)));
       })
 
   -- the event before one is among those before it
@@ -62,11 +51,10 @@ module _ (s : Streams) (complete : AreComplete s) (matched : (e : EventId) → �
 
   -- an event is grounded where all before it are, and, unless it names something, what its instance has it wait for
   comes : (e : EventId) → IsEvent s e → IsPassed e → ((a : Mark) (b d : EventId) → Together s a e b → IsPrevious d b → IsIn all d) → ((a : Mark) (c d : EventId) → IsPrevious c e → Together s a c d → IsIn all d) → IsIn all e
-  comes e there passed arrival meeting = by_cases (in_dec all e) (λ h. h) (λ away. is.closed e there (go away) (waits away))
+  comes e there passed arrival meeting =
+      by_cases (in_dec all e) (λ h. h)
+      (λ away. is.closed e there (record { release = λ m named. absurd (no_name e there passed away m named); instance = settled s complete e }) (waits away))
     where
-      go : (IsIn all e → ⊥) → IsSettled s e
-      go away = record { release = λ m named. absurd (no_name e there passed away m named); instance = settled s complete e }
-
       waits : (IsIn all e → ⊥) → (d : EventId) → Waits s e d → IsIn all d
       waits away d (for_previous p) = previous_in e d passed p
       waits away d (for_release m) = absurd (no_name e there passed away m.name m.by.named)
@@ -98,52 +86,43 @@ module _ (s : Streams) (complete : AreComplete s) (matched : (e : EventId) → �
   comes_with e there passed arrival = comes e there passed arrival (λ a c d p met. met_in n a c d (is.stage c (previous_in e c passed p)) met)
 
   -- the first event of an item that is not grounded is a barrier of a convergent instance
-  first_held : (e : EventId) → IsEvent s e → IsPassed e → (IsIn all e → ⊥) → StandsConvergent s e
+  first_held : (e : EventId) → IsEvent s e → IsPassed e → (IsIn all e → ⊥) → (a : Mark) × Together s a e e
   first_held e there passed away =
       by_cases (standing s e)
       (λ h. ⊎_elim
-      (λ c. record { group = h.0; instance = h.1; mark = c.0; stands = h.2; convergent = c.1 })
+      (λ c. (c.0, record { group = h.0; instance = h.1; convergent = c.1; first = h.2; second = h.2 }))
       (λ d. absurd (away (comes_with e there passed (λ a b x met p. absurd (meets_none s h.0 h.1 a e b h.2 d met)))))
       (settled s complete e h.0 h.1 h.2))
       (λ none. absurd (away (comes_with e there passed (λ a b d met p. grind (arith, none, met.first)))))
 
-  -- up to an event all of its item are grounded, or there is a first that is not
-  search : (e : EventId) → IsPassed e ⊎ ((i : ℕ) × IsLeastWithout (λ j. IsIn all (event_of e.at j)) e.index i)
-  search e = all_below (λ j. IsIn all (event_of e.at j)) e.index (λ i lt. in_dec all (event_of e.at i))
-
   -- of two barriers of an item the earlier is of an earlier instance
   earlier_instance : (b f : EventId) (g k h l : ℕ) → b.at ≡ f.at → StandsIn s b g k → StandsIn s f h l → f.index < b.index → l < k
   earlier_instance b f g k h l at hb hf lt =
-      let there = moved s f h l g l (grind (arith, hf.group, at, hb.group)) refl hf in
-      grind (arith, lt, at, hb, there, stands_same s b f g k, moved s f g l g k, stands_before s b f g k l)
+      grind (arith, lt, at, hb, hf, stands_same s b f g k hb, moved s f h l g, stands_before s b f g k l hb)
 
   -- no item's first event that is not grounded stands in a convergent instance, by induction on the number of the instance: each item of the group has passed what is before its barrier, or is held at one of an earlier instance
-  none_held : (bound : ℕ) (e : EventId) (at : StandsConvergent s e) → at.instance < bound → IsPassed e → (IsIn all e → ⊥) → ⊥
-  none_held zero e at lt passed away = omega arith
-  none_held (suc bound) e at lt passed away =
-      away (comes_with e (let there = barrier_there s e at.group at.instance at.stands in (there.0, there.1)) passed (λ m b d met p.
-      let other = meets_in s at.group at.instance m e b at.stands met in
+  none_held : (bound : ℕ) (a : Mark) (e : EventId) (at : Together s a e e) → at.instance < bound → IsPassed e → (IsIn all e → ⊥) → ⊥
+  none_held zero a e at lt passed away = omega arith
+  none_held (suc bound) a e at lt passed away =
+      away (comes_with e (let there = barrier_there s e at.group at.instance at.first in (there.0, there.1)) passed (λ m b d met p.
+      let other = meets_in s at.group at.instance m e b at.first met in
       let there = barrier_there s b at.group at.instance other in
       ⊎_elim
       (λ (passed : IsPassed b). previous_in b d passed p)
       (λ (h : (i : ℕ) × IsLeastWithout (λ j. IsIn all (event_of b.at j)) b.index i).
       let f : EventId = event_of b.at h.0 in
       let held = first_held f (earlier_event s b (there.0, there.1) h.0 h.1.0) h.1.2 h.1.1 in
-      let earlier = earlier_instance b f at.group at.instance held.group held.instance refl other held.stands h.1.0 in
-      absurd (none_held bound f held (omega (arith, earlier, lt)) h.1.2 h.1.1))
-      (search b)))
+      let earlier = earlier_instance b f at.group at.instance held.1.group held.1.instance refl other held.1.first h.1.0 in
+      absurd (none_held bound held.0 f held.1 (omega (arith, earlier, lt)) h.1.2 h.1.1))
+      (all_below (λ j. IsIn all (event_of b.at j)) b.index (λ i lt. in_dec all (event_of b.at i)))))
 
-  every_event : (e : EventId) → IsEvent s e → IsIn all e
-  every_event e there =
-      ⊎_elim
-      (λ (passed : IsPassed e). by_cases (in_dec all e) (λ h. h) (λ away. absurd (no_first e there passed away)))
-      (λ (h : (i : ℕ) × IsLeastWithout (λ j. IsIn all (event_of e.at j)) e.index i). absurd (no_first (event_of e.at h.0) (earlier_event s e there h.0 h.1.0) h.1.2 h.1.1))
-      (search e)
-    where
-      no_first : (f : EventId) → IsEvent s f → IsPassed f → (IsIn all f → ⊥) → ⊥
-      no_first f event passed away = let held = first_held f event passed away in none_held (suc held.instance) f held (omega arith) passed away
+  every_event : (m : ℕ) (e : EventId) → e.index < m → IsEvent s e → IsIn all e
+  every_event zero e lt there = absurd (omega arith)
+  every_event (suc m) e lt there =
+      let passed : IsPassed e = λ i below. every_event m (event_of e.at i) (omega arith) (earlier_event s e there i below) in
+      by_cases (in_dec all e) (λ h. h)
+      (λ away. let held = first_held e there passed away in absurd (none_held (suc held.1.instance) held.0 e held.1 (omega arith) passed away))
 
 pub all_is_grounded : (s : Streams) → AreComplete s → ((e : EventId) → ¬ IsUnmatchedAcquire s e) → (e : EventId) → IsEvent s e → IsGrounded s e
 all_is_grounded s complete matched e there =
-    let all = reached s complete in
-    (all.0, all.2.stage e (every_event s complete matched all.0 all.1 all.2 e there))
+    let all = reached s complete in (all.0, all.2.stage e (every_event s complete matched all.0 all.1 all.2 (suc e.index) e (omega arith) there))

@@ -12,14 +12,6 @@ use Rattle.gr_steps.proofs.Deciding.{by_cases}
 
 -- ---- places
 
-once_here : (i n : ℕ) (rest : List ℕ) → ((k : ℕ) → slice_get rest k ≡ Some n → i < n) → ((k l : ℕ) → slice_get rest k ≡ Some n → slice_get rest l ≡ Some n → k ≡ l) → (k l : ℕ) → slice_get (i ∷ rest) k ≡ Some n → slice_get (i ∷ rest) l ≡ Some n → k ≡ l
-once_here i n rest above once k l a b = grind arith
-
--- a place has one number
-pub places_from-once : {X : Type 0} (test : X → Bool) (i : ℕ) (xs : List X) (n k l : ℕ) → slice_get (places_from test i xs) k ≡ Some n → slice_get (places_from test i xs) l ≡ Some n → k ≡ l
-places_from-once test i [] n k l a b = cc
-places_from-once {X} test i (x ∷ xs) n k l a b = grind (arith, places_from-there, once_here, places_from-once test (suc i) xs)
-
 -- an element that passes the test has a number
 pub places_from-find : {X : Type 0} (test : X → Bool) (i : ℕ) (xs : List X) (j : ℕ) (x : X) → slice_get xs j ≡ Some x → test x ≡ true → (k : ℕ) × (slice_get (places_from test i xs) k ≡ Some (i + j))
 places_from-find test i [] j x at t = cc
@@ -40,6 +32,10 @@ ordered_here i m n rest above later k l lt a b = grind arith
 pub places_from-ordered : {X : Type 0} (test : X → Bool) (i : ℕ) (xs : List X) (k l m n : ℕ) → k < l → slice_get (places_from test i xs) k ≡ Some m → slice_get (places_from test i xs) l ≡ Some n → m < n
 places_from-ordered test i [] k l m n lt a b = cc
 places_from-ordered {X} test i (x ∷ xs) k l m n lt a b = grind (arith, ordered_here, places_from-there, places_from-ordered test (suc i) xs)
+
+-- so a place has one number
+pub places_from-once : {X : Type 0} (test : X → Bool) (i : ℕ) (xs : List X) (n k l : ℕ) → slice_get (places_from test i xs) k ≡ Some n → slice_get (places_from test i xs) l ≡ Some n → k ≡ l
+places_from-once test i xs n k l a b = grind (arith, places_from-ordered test i xs k l n n, places_from-ordered test i xs l k n n)
 
 -- ---- barriers
 

@@ -1,26 +1,22 @@
 -- In complete lists every instance is settled, and it can be decided whether an event has its releases and whether all that it waits for is of a set.
-use Rattle.std.proofs.Common.{◌≡◌, ◌⊎◌, ℕ, ◌<◌, ◌≤◌, length, Some, None, refl, sym, subst, inl, inr, ⊎_elim, arith}
+use Rattle.std.proofs.Common.{◌≡◌, ◌⊎◌, ℕ, ◌<◌, ◌≤◌, Some, None, refl, sym, inl, inr, ⊎_elim, arith}
 use Rattle.std.proofs.lemmas.Bool.{cases_lt}
 use Rattle.std.proofs.lemmas.List.{get_or_past}
 use Rattle.gr_model.specs.declared.event.EventId.{EventId}
 use Rattle.gr_model.specs.declared.event.Name.{Name}
 use Rattle.gr_model.specs.Barriers.{IsConvergent, IsDivergent, StandsIn, Together, arrivals, mark_of}
 use Rattle.gr_model.specs.Instances.{Mark}
-use Rattle.gr_model.specs.Names.{HasItsReleases, HasName, Matches, MatchesBy, names_at, release_place}
+use Rattle.gr_model.specs.Names.{HasItsReleases, HasName, MatchesBy, names_at, release_place}
 use Rattle.gr_model.specs.Streams.{AreComplete, Streams, size_of, trace_of, word_at}
 use Rattle.gr_model.specs.Waits.{IsPrevious, Waits, for_arrival, for_meeting, for_previous, for_release}
 use Rattle.gr_model.proofs.Places.{place-filter_map}
 use Rattle.gr_model.proofs.Cuts.{same_event}
 use Rattle.gr_steps.proofs.BarrierPlaces.{barrier_of, standing, stands_same, meets_in, meets_none}
-use Rattle.gr_steps.proofs.Deciding.{IsLeastWithout, all_below, all_dec, dec_map, option_dec, word_dec, dec_four}
+use Rattle.gr_steps.proofs.Deciding.{IsLeastWithout, all_below, all_dec, by_cases, dec_both, dec_map, option_dec, word_dec, dec_four}
 use Rattle.gr_steps.proofs.EventRecords.{one_release}
 use Rattle.gr_steps.proofs.Orders.{previous_of}
 
 -- ---- instances
-
--- a group with items is one of the shape
-group_of_items : (s : Streams) (g i : ℕ) → i < size_of s g → g < length s.sizes
-group_of_items s g i within = grind (arith, get_or_past)
 
 -- an instance of a complete list is convergent or divergent, where an item has come to it
 pub settled : (s : Streams) → AreComplete s → (e : EventId) (g k : ℕ) → StandsIn s e g k → ((a : Mark) × IsConvergent s g k a) ⊎ IsDivergent s g k
@@ -34,25 +30,22 @@ settled s complete e g k stands =
     come = place-filter_map mark_of 0 (trace_of s (record { group = g; item = e.at.item })) k e.index (grind (arith, stands.group, stands.place))
 
     differs : (i : ℕ) → i < size_of s g → (arrivals s g k i ≡ Some come.0 → ⊥) → IsDivergent s g k
-    differs i lt other = grind (arith, group_of_items, come)
-
--- ---- releases
-
--- whether an event has the release of one of its names
-release_of_name_dec : (s : Streams) (e : EventId) (n : Name) → HasName s e n → Dec ((d : EventId) × MatchesBy s n e d)
-release_of_name_dec s e n named =
-    elim (release_place s n) as (λ o. (release_place s n ≡ o) → Dec ((d : EventId) × MatchesBy s n e d)) [
-      | None ↦ λ absent. no (λ r. grind (arith, absent, r.1.place))
-      | Some k ↦ λ at. dec_map
-          (λ word. (record { at = n.at; index = k }, record { named = named; item = refl; place = at; word = word }))
-          (λ r. grind (arith, r.1, at, same_event r.0 (record { at = n.at; index = k })))
-          (option_dec word_dec (word_at s e) (word_at s (record { at = n.at; index = k })))
-    ] refl
-
-pub releases_dec : (s : Streams) (e : EventId) → Dec (HasItsReleases s e)
-releases_dec s e = all_dec (λ n. (d : EventId) × MatchesBy s n e d) (names_at s e) (release_of_name_dec s e)
+    differs i lt other = grind (arith, get_or_past s.sizes g 0, come)
 
 -- ---- what is waited for
+
+-- whether an event has the release of one of its names, and this is of a set
+release_dec : (s : Streams) (Q : EventId → Type 0) → ((d : EventId) → Dec (Q d)) → (e : EventId) (n : Name) → HasName s e n → Dec ((d : EventId) × MatchesBy s n e d × Q d)
+release_dec s Q decide e n named =
+    elim (release_place s n) as (λ o. (release_place s n ≡ o) → Dec ((d : EventId) × MatchesBy s n e d × Q d)) [
+      | None ↦ λ absent. no (λ r. grind (arith, absent, r.1.place))
+      | Some k ↦ λ at.
+          let there : EventId = record { at = n.at; index = k } in
+          dec_map
+          (λ h. (there, record { named = named; item = refl; place = at; word = h.0 }, h.1))
+          (λ r. grind (arith, r.1, r.2, at, same_event r.0 there))
+          (dec_both (option_dec word_dec (word_at s e) (word_at s there)) (decide there))
+    ] refl
 
 -- the event before another, if there is one, has what can be decided of each event
 pub previous_dec : (Q : EventId → Type 0) → ((d : EventId) → Dec (Q d)) → (e : EventId) → Dec ((d : EventId) → IsPrevious d e → Q d)
@@ -71,16 +64,15 @@ module _ (s : Streams) (complete : AreComplete s) where
   -- each barrier of an event's convergent instance has what can be decided of each event
   instance_dec : (Q : EventId → Type 0) → ((b : EventId) → Dec (Q b)) → (c : EventId) → Dec ((a : Mark) (b : EventId) → Together s a c b → Q b)
   instance_dec Q decide c =
-      elim (standing s c) as (λ _. Dec ((a : Mark) (b : EventId) → Together s a c b → Q b)) [
-        | no h ↦ yes (λ a b met. absurd (h (met.group, met.instance, met.first)))
-        | yes h ↦ ⊎_elim (λ m. convergent h.0 h.1 h.2 m.0 m.1) (λ d. yes (λ a b met. absurd (meets_none s h.0 h.1 a c b h.2 d met))) (settled s complete c h.0 h.1 h.2)
-      ]
+      by_cases (standing s c)
+      (λ h. ⊎_elim (λ m. convergent h.0 h.1 h.2 m.0 m.1) (λ d. yes (λ a b met. absurd (meets_none s h.0 h.1 a c b h.2 d met))) (settled s complete c h.0 h.1 h.2))
+      (λ none. yes (λ a b met. absurd (none (met.group, met.instance, met.first))))
     where
       of_item : (g k : ℕ) (a : Mark) → IsConvergent s g k a → (i : ℕ) → i < size_of s g → Dec (IsOfItem s Q g k i)
       of_item g k a m i lt =
           let there = barrier_of s g k a m i lt in
           let b : EventId = record { at = record { group = g; item = i }; index = there.0 } in
-          dec_map (λ q c item stands. subst Q (stands_same s b c g k there.1 stands (sym item)) q) (λ all. all b refl there.1) (decide b)
+          dec_map (λ q c item stands. grind (arith, q, stands_same s b c g k there.1 stands (sym item))) (λ all. all b refl there.1) (decide b)
 
       convergent : (g k : ℕ) → StandsIn s c g k → (a : Mark) → IsConvergent s g k a → Dec ((a : Mark) (b : EventId) → Together s a c b → Q b)
       convergent g k stands a m =
@@ -89,29 +81,27 @@ module _ (s : Streams) (complete : AreComplete s) where
           (λ (h : (i : ℕ) × IsLeastWithout (IsOfItem s Q g k) (size_of s g) i). no (λ all. h.1.1 (λ b item other. all a b (record { group = g; instance = k; convergent = m; first = stands; second = other }))))
           (all_below (IsOfItem s Q g k) (size_of s g) (of_item g k a m))
 
-  module _ (In : EventId → Type 0) (in_dec : (d : EventId) → Dec (In d)) (e : EventId) (releases : HasItsReleases s e) where
-    release_dec : Dec ((d : EventId) → Matches s e d → In d)
-    release_dec =
-        dec_map
-        (λ (all : (n : Name) → HasName s e n → (d : EventId) → MatchesBy s n e d → In d). λ d m. all m.name m.by.named d m.by)
-        (λ all n named d by. all d (record { name = n; by = by }))
-        (all_dec (λ n. (d : EventId) → MatchesBy s n e d → In d) (names_at s e) of_name)
-      where
-        of_name : (n : Name) → HasName s e n → Dec ((d : EventId) → MatchesBy s n e d → In d)
-        of_name n named = let r = releases n named in dec_map (λ h d by. subst In (one_release s n e r.0 d r.1 by) h) (λ all. all r.0 r.1) (in_dec r.0)
-
+  module _ (In : EventId → Type 0) (in_dec : (d : EventId) → Dec (In d)) (e : EventId) where
     -- all that an event waits for, by its four clauses
-    abbrev IsAll : Type 0
-    IsAll = (d : EventId) → Waits s e d → In d
-
-    all_of : ((d : EventId) → IsPrevious d e → In d) → ((d : EventId) → Matches s e d → In d) → ((a : Mark) (b : EventId) → Together s a e b → (d : EventId) → IsPrevious d b → In d) → ((c : EventId) → IsPrevious c e → (a : Mark) (d : EventId) → Together s a c d → In d) → IsAll
+    all_of : ((d : EventId) → IsPrevious d e → In d) → ((n : Name) → HasName s e n → (d : EventId) × MatchesBy s n e d × In d) → ((a : Mark) (b : EventId) → Together s a e b → (d : EventId) → IsPrevious d b → In d) → ((c : EventId) → IsPrevious c e → (a : Mark) (d : EventId) → Together s a c d → In d) → (d : EventId) → Waits s e d → In d
     all_of previous release arrival meeting d (for_previous p) = previous d p
-    all_of previous release arrival meeting d (for_release m) = release d m
+    all_of previous release arrival meeting d (for_release m) =
+        let r = release m.name m.by.named in grind (arith, r, one_release s m.name e r.0 d r.1 m.by)
     all_of previous release arrival meeting d (for_arrival a b met p) = arrival a b met d p
     all_of previous release arrival meeting d (for_meeting a c p met) = meeting c p a d met
 
-    pub waits_dec : Dec IsAll
+    pub waits_dec : Dec (HasItsReleases s e × ((d : EventId) → Waits s e d → In d))
     waits_dec =
-        dec_map (λ h. all_of h.0 h.1 h.2 h.3)
-        (λ all. (λ d p. all d (for_previous p), λ d m. all d (for_release m), λ a b met d p. all d (for_arrival a b met p), λ c p a d met. all d (for_meeting a c p met)))
-        (dec_four (previous_dec In in_dec e) release_dec (instance_dec (λ b. (d : EventId) → IsPrevious d b → In d) (previous_dec In in_dec) e) (previous_dec (λ c. (a : Mark) (d : EventId) → Together s a c d → In d) (instance_dec In in_dec) e))
+        dec_map
+        (λ h. (λ n named. let r = h.1 n named in (r.0, r.1), all_of h.0 h.1 h.2 h.3))
+        (λ h. (
+          λ d p. h.1 d (for_previous p),
+          λ n named. let r = h.0 n named in (r.0, r.1, h.1 r.0 (for_release (record { name = n; by = r.1 }))),
+          λ a b met d p. h.1 d (for_arrival a b met p),
+          λ c p a d met. h.1 d (for_meeting a c p met),
+        ))
+        (dec_four
+        (previous_dec In in_dec e)
+        (all_dec (λ n. (d : EventId) × MatchesBy s n e d × In d) (names_at s e) (release_dec s In in_dec e))
+        (instance_dec (λ b. (d : EventId) → IsPrevious d b → In d) (previous_dec In in_dec) e)
+        (previous_dec (λ c. (a : Mark) (d : EventId) → Together s a c d → In d) (instance_dec In in_dec) e))

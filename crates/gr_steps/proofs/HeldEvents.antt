@@ -6,7 +6,7 @@ use Rattle.gr_model.specs.declared.event.EventId.{EventId}
 use Rattle.gr_model.specs.declared.event.ItemId.{ItemId}
 use Rattle.gr_model.specs.Counts.{IsNumberOf}
 use Rattle.gr_model.specs.LawfulOrders.{IsLawful}
-use Rattle.gr_model.specs.Reports.{IsHeld, IsHeldOf}
+use Rattle.gr_model.specs.Reports.{IsHeld}
 use Rattle.gr_model.specs.Shapes.{items_of}
 use Rattle.gr_model.specs.Streams.{Streams, trace_of}
 use Rattle.gr_model.specs.Waits.{IsGrounded}
@@ -27,11 +27,11 @@ module _ (s : Streams) (order : List EventId) (lawful : IsLawful s order) (groun
       let e : EventId = record { at = i; index = length (trace_of s i) } in
       grind (arith, first e, lawful.event, slice_get_within)
 
-  held_of : (i : ItemId) → IsHeldOf s i (length (trace_of s i) - c i)
-  held_of i =
-      number_from (λ k. ¬ IsGrounded s (record { at = i; index = k })) (c i) (length (trace_of s i)) (few i)
-      (λ k lt held. grind (arith, grounded (record { at = i; index = k }), first (record { at = i; index = k })))
-      (λ k ge lt g. grind (arith, grounded (record { at = i; index = k }), first (record { at = i; index = k })))
-
   pub held_at_rest : IsHeld s (sum_by (λ i. length (trace_of s i) - c i) (items_of s.sizes))
-  held_at_rest = (λ i. length (trace_of s i) - c i, λ i there. held_of i, refl)
+  held_at_rest = (
+    λ i. length (trace_of s i) - c i,
+    λ i there. number_from (λ k. ¬ IsGrounded s (record { at = i; index = k })) (c i) (length (trace_of s i)) (few i)
+        (λ k lt held. grind (arith, grounded (record { at = i; index = k }), first (record { at = i; index = k })))
+        (λ k ge lt g. grind (arith, grounded (record { at = i; index = k }), first (record { at = i; index = k }))),
+    refl,
+  )

@@ -1,11 +1,11 @@
 -- A lawful order stays lawful where the barriers of an instance that can meet come behind it; and when an instance can meet.
-use Rattle.std.proofs.Common.{◌≡◌, ℕ, ◌<◌, List, ◌++◌, Some, slice_get, Contains, refl, sym, ap, ◌∙◌, subst, inl, arith}
+use Rattle.std.proofs.Common.{◌≡◌, ℕ, ◌<◌, List, ◌++◌, Some, slice_get, refl, sym, inl, arith}
 use Rattle.gr_model.specs.declared.event.EventId.{EventId}
 use Rattle.gr_model.specs.declared.event.Name.{Name}
 use Rattle.gr_model.specs.Barriers.{IsConvergent, StandsIn}
 use Rattle.gr_model.specs.Instances.{Mark}
 use Rattle.gr_model.specs.LawfulOrders.{IsIn, IsLawful}
-use Rattle.gr_model.specs.Names.{HasName, names_of}
+use Rattle.gr_model.specs.Names.{HasName}
 use Rattle.gr_model.specs.Streams.{ArePrefixes, IsEvent, Streams}
 use Rattle.gr_model.specs.Waits.{IsSettled, IsPrevious, Waits, for_arrival, for_meeting, for_previous, for_release}
 use Rattle.gr_steps.specs.Steps.{AreBarriers, HasMet, IsMeeting}
@@ -16,8 +16,7 @@ use Rattle.gr_steps.proofs.Orders.{lawful_longer, there_is, handled_upto, previo
 module _ (s : Streams) (prefixes : ArePrefixes s) (order : List EventId) (lawful : IsLawful s order) (g k : ℕ) (a : Mark) (meeting : IsMeeting s order g k a) (bs : List EventId) (are : AreBarriers s g k bs) where
   no_name : (x : EventId) (n : Name) → StandsIn s x g k → HasName s x n → ⊥
   no_name x n stands named =
-      let there = barrier_there s x g k stands in
-      barriers_name_nothing s prefixes x there.0 n there.1 there.2 (subst (λ names. Contains names n) (ap names_of there.1) named)
+      let there = barrier_there s x g k stands in barriers_name_nothing s prefixes x there.0 n there.1 there.2 (rw there.1 at named)
 
   -- what a barrier of the instance waits for is handled
   met_waits : (x d : EventId) → StandsIn s x g k → Waits s x d → IsIn order d
@@ -26,15 +25,13 @@ module _ (s : Streams) (prefixes : ArePrefixes s) (order : List EventId) (lawful
   met_waits x d stands (for_arrival m b met previous) = meeting.before b d (meets_in s g k m x b stands met) previous
   met_waits x d stands (for_meeting m c previous met) =
       let there = meeting.before x c stands previous in
-      let other = lawful.together there.0 c d m there.1 met in
-      (other.0, other.2)
+      let other = lawful.together there.0 c d m there.1 met in (other.0, other.2)
 
   -- each barrier stands at its item's place
   barrier_at : (b : EventId) → StandsIn s b g k → slice_get bs b.at.item ≡ Some b
   barrier_at b stands =
-      let there = there_is bs b.at.item (subst (λ n. b.at.item < n) (sym are.count) stands.item) in
-      let is = are.each b.at.item there.0 there.1 in
-      there.1 ∙ ap Some (stands_same s there.0 b g k is.1 stands is.0)
+      let there = there_is bs b.at.item (omega (arith, are.count, stands.item)) in
+      let is = are.each b.at.item there.0 there.1 in grind (arith, there, stands_same s there.0 b g k is.1 stands is.0)
 
   met_event : (x : EventId) → StandsIn s x g k → IsEvent s x × IsSettled s x
   met_event x stands =
@@ -67,6 +64,5 @@ meeting_of s order lawful g k a convergent fresh before = record { convergent = 
         let later = barrier_of s g k a convergent 0 convergent.0 in
         let c : EventId = record { at = record { group = g; item = 0 }; index = first.0 } in
         let b : EventId = record { at = record { group = g; item = 0 }; index = later.0 } in
-        let below : first.0 < later.0 = stands_before s c b g l k first.1 later.1 refl lt in
-        let p = previous_of b first.0 below in
+        let p = previous_of b first.0 (stands_before s c b g l k first.1 later.1 refl lt) in
         (c, first.1, handled_upto s order lawful c p.0 (sym p.1.item) p.2 (before b p.0 later.1 p.1))

@@ -13,17 +13,11 @@ use Rattle.gr_steps.specs.Steps.{AreFirst, IsReady}
 use Rattle.gr_steps.proofs.EventRecords.{one_release}
 use Rattle.gr_steps.proofs.Orders.{handled_upto, previous_of}
 
-module _ (s : Streams) (order : List EventId) (lawful : IsLawful s order) (e : EventId) (ready : IsReady s order e) (d : EventId) (item : d.at ≡ e.at) where
-  handled_is_before : IsIn order d → d.index < e.index
-  handled_is_before h = grind (arith, ready.fresh, handled_upto s order lawful e d (sym item))
-
-  before_is_handled : d.index < e.index → IsIn order d
-  before_is_handled lt =
-      let p = previous_of e d.index lt in
-      handled_upto s order lawful d p.0 (item ∙ sym p.1.item) p.2 (ready.waits p.0 (for_previous p.1))
-
-  pub next_of_item : IsIn order d ↔ (d.index < e.index)
-  next_of_item = (handled_is_before, before_is_handled)
+pub next_of_item : (s : Streams) (order : List EventId) → IsLawful s order → (e : EventId) → IsReady s order e → (d : EventId) → d.at ≡ e.at → IsIn order d ↔ (d.index < e.index)
+next_of_item s order lawful e ready d item = (
+  λ h. grind (arith, h, ready.fresh, handled_upto s order lawful e d (sym item)),
+  λ lt. let p = previous_of e d.index lt in handled_upto s order lawful d p.0 (item ∙ sym p.1.item) p.2 (ready.waits p.0 (for_previous p.1)),
+)
 
 module _ (s : Streams) (order : List EventId) (lawful : IsLawful s order) (c : ItemId → ℕ) (first : AreFirst order c) (e : EventId) where
   -- the next event is ready if its release is handled and it is no barrier of a convergent or waiting instance

@@ -4,7 +4,7 @@ use Rattle.std.specs.List.{flat_map, range_with_len}
 use Rattle.std.proofs.lemmas.List.FromFn.{get_or-range_with_len, length-range_with_len}
 use Rattle.std.proofs.lemmas.Bool.{and_parts}
 use Rattle.std.proofs.lemmas.Bool.Decides.{nat_tests}
-use Rattle.std.proofs.lemmas.Option.{slice_get-get_or, slice_get_within, gets}
+use Rattle.std.proofs.lemmas.Option.{slice_get-map, slice_get-get_or, slice_get_within, gets}
 use Rattle.std.proofs.lemmas.Grind.{common_steps}
 use Rattle.gr_model.specs.declared.event.Event.{Event}
 use Rattle.gr_model.specs.declared.event.EventId.{EventId}
@@ -14,7 +14,7 @@ use Rattle.gr_model.specs.Streams.{AreComplete, IsEvent, Streams, event_at, is_o
 use Rattle.gr_model.specs.Waits.{IsSettled, IsGrounded, Stage, Waits}
 use Rattle.gr_model.proofs.Descent.{stage_up}
 use Rattle.gr_model.proofs.Places.{slice_get-append}
-use Rattle.gr_steps.proofs.DecidedWaits.{releases_dec, settled, waits_dec}
+use Rattle.gr_steps.proofs.DecidedWaits.{settled, waits_dec}
 use Rattle.gr_steps.proofs.Deciding.{by_cases, in_dec}
 use Rattle.gr_steps.proofs.EventRecords.{filter-there, group_there}
 use Rattle.gr_steps.proofs.Orders.{at_behind, in_cases, in_either}
@@ -40,9 +40,9 @@ AreStuck s reached xs = (d : EventId) → IsIn xs d → IsNext s reached d → �
 module _ (s : Streams) (complete : AreComplete s) where
   next_dec : (reached : List EventId) (e : EventId) → Dec (IsNext s reached e)
   next_dec reached e =
-      by_cases (releases_dec s e)
-      (λ r. by_cases (waits_dec s complete (IsIn reached) (in_dec reached) e r) (λ w. there (event_at s e) refl r w) (λ h. no (λ next. h next.waits)))
-      (λ h. no (λ next. h next.go.release))
+      by_cases (waits_dec s complete (IsIn reached) (in_dec reached) e)
+      (λ h. there (event_at s e) refl h.0 h.1)
+      (λ none. no (λ next. none (next.go.release, next.waits)))
     where
       there : (o : Option Event) → event_at s e ≡ o → HasItsReleases s e → ((d : EventId) → Waits s e d → IsIn reached d) → Dec (IsNext s reached e)
       there None none r w = no (λ next. grind (arith, none, next.event))
@@ -77,7 +77,7 @@ module _ (s : Streams) (complete : AreComplete s) where
   -- the candidates are taken until none comes next
   closing : (fuel n : ℕ) (reached xs : List EventId) → length xs ≤ fuel → ((e : EventId) → IsIn reached e → Stage s n e) → ((e : EventId) → IsEvent s e → IsIn reached e ⊎ IsIn xs e) → (m : ℕ) × (all : List EventId) × IsClosed s m all
   closing zero n reached xs few stage cover =
-      ⊎_elim (λ (t : IsTaken s reached xs). absurd (omega (arith, few, t.3))) (λ (stuck : AreStuck s reached xs). (n, reached, stuck_closed n reached xs stage cover stuck)) (take_next reached xs)
+      (n, reached, stuck_closed n reached xs stage cover (λ d h next. omega (arith, few, slice_get_within xs h.0 d h.1)))
   closing (suc fuel) n reached xs few stage cover =
       ⊎_elim
       (λ (t : IsTaken s reached xs). closing fuel (suc n) (t.0 ∷ reached) t.1 (omega (arith, few, t.3)) (stage_more n reached t.0 stage t.2) (cover_more reached xs t cover))
@@ -86,19 +86,14 @@ module _ (s : Streams) (complete : AreComplete s) where
 
 -- ---- all events are candidates
 
-in_flat_map : {X Y : Type 0} (f : X → List Y) (xs : List X) (p : ℕ) (x : X) → slice_get xs p ≡ Some x → (q : ℕ) (y : Y) → slice_get (f x) q ≡ Some y → (k : ℕ) × (slice_get (flat_map f xs) k ≡ Some y)
-in_flat_map f [] p x at q y there = cc
-in_flat_map f (z ∷ xs) zero x at q y there =
-    (q, slice_get-append (f z) (flat_map f xs) q y (grind (arith, at, there)))
-in_flat_map f (z ∷ xs) (suc p) x at q y there =
-    let h = in_flat_map f xs p x at q y there in
-    (length (f z) + h.0, at_behind (f z) (flat_map f xs) h.0 y h.1)
+in_flat_map : {X Y : Type 0} (f : X → List Y) (xs : List X) (x : X) (y : Y) → (p : ℕ) × (slice_get xs p ≡ Some x) → (q : ℕ) × (slice_get (f x) q ≡ Some y) → (k : ℕ) × (slice_get (flat_map f xs) k ≡ Some y)
+in_flat_map f [] x y (p, at) there = cc
+in_flat_map f (z ∷ xs) x y (zero, at) (q, there) = (q, slice_get-append (f z) (flat_map f xs) q y (grind (arith, at, there)))
+in_flat_map f (z ∷ xs) x y (suc p, at) there =
+    let h = in_flat_map f xs x y (p, at) there in (length (f z) + h.0, at_behind (f z) (flat_map f xs) h.0 y h.1)
 
 in_range : (n k : ℕ) → k < n → slice_get (range_with_len 0 n) k ≡ Some k
 in_range n k lt = grind (arith, length-range_with_len, slice_get-get_or, get_or-range_with_len, common_steps, gets)
-
-in_map : {X Y : Type 0} (f : X → Y) (xs : List X) (k : ℕ) (x : X) → slice_get xs k ≡ Some x → slice_get (map f xs) k ≡ Some (f x)
-in_map f xs k x at = grind (arith, common_steps, gets)
 
 -- of an item the places of its trace, of a group those of the items of its records, and of all groups
 item_candidates : Streams → ℕ → ℕ → List EventId
@@ -112,11 +107,10 @@ unfolding candidates item_candidates
 event_is_candidate s e there =
     let g = e.at.group in
     let listed = filter-there (is_of e.at.item) (list_of s g) e.index there.0 there.1 in
-    let item : there.0.item ≡ e.at.item = grind (arith, nat_tests, and_parts, listed.2) in
-    let within : e.index < length (trace_of s e.at) = slice_get_within (trace_of s e.at) e.index there.0 there.1 in
-    let last : slice_get (item_candidates s g e.at.item) e.index ≡ Some e = in_map (λ n. record { at = e.at; index = n }) (range_with_len 0 (length (trace_of s e.at))) e.index e.index (in_range (length (trace_of s e.at)) e.index within) in
-    let inner = in_flat_map (λ x. item_candidates s g x.item) (list_of s g) listed.0 there.0 listed.1 e.index e (subst (λ i. slice_get (item_candidates s g i) e.index ≡ Some e) (sym item) last) in
-    in_flat_map (λ g. flat_map (λ x. item_candidates s g x.item) (list_of s g)) (range_with_len 0 (length s.lists)) g g (in_range (length s.lists) g (group_there s e there)) inner.0 e inner.1
+    let within = slice_get_within (trace_of s e.at) e.index there.0 there.1 in
+    let last : slice_get (item_candidates s g there.0.item) e.index ≡ Some e = grind (arith, nat_tests, and_parts, listed.2, slice_get-map, in_range, within) in
+    in_flat_map (λ g. flat_map (λ x. item_candidates s g x.item) (list_of s g)) (range_with_len 0 (length s.lists)) g e (g, in_range (length s.lists) g (group_there s e there))
+    (in_flat_map (λ x. item_candidates s g x.item) (list_of s g) there.0 e (listed.0, listed.1) (e.index, last))
 
 -- ---- the grounded events
 

@@ -17,14 +17,11 @@ module _ (s : Streams) (order : List EventId) (lawful : IsLawful s order) (rest 
   stuck : (e : EventId) → IsEvent s e → IsSettled s e → ((d : EventId) → Waits s e d → IsIn order d) → (IsIn order e → ⊥) → ⊥
   stuck e there go waits away =
       by_cases (standing s e)
-      (λ h. ⊎_elim (λ c. meet h.0 h.1 c.0 h.2 c.1) (λ d. handle (divergent h.0 h.1 h.2 d)) (go.instance h.0 h.1 h.2))
+      (λ h. ⊎_elim (λ c. meet h.0 h.1 c.0 h.2 c.1) (λ d. handle (λ g k stands. grind (arith, d, stands, same_instance s e h.0 h.1 g k h.2))) (go.instance h.0 h.1 h.2))
       (λ none. handle (λ g k stands. absurd (none (g, k, stands))))
     where
       handle : ((g k : ℕ) → StandsIn s e g k → IsDivergent s g k) → ⊥
       handle each = rest.handles e.at (e, refl, record { event = there; fresh = away; waits = waits; release = go.release; instance = each })
-
-      divergent : (g k : ℕ) → StandsIn s e g k → IsDivergent s g k → (h l : ℕ) → StandsIn s e h l → IsDivergent s h l
-      divergent g k stands d h l other = grind (arith, same_instance)
 
       meet : (g k : ℕ) (a : Mark) → StandsIn s e g k → IsConvergent s g k a → ⊥
       meet g k a stands convergent = rest.meets g (

@@ -10,7 +10,7 @@ use Rattle.gr_model.specs.Streams.{Grows, Streams}
 use Rattle.gr_model.specs.Waits.{Stage}
 use Rattle.gr_model.proofs.Descent.{lawful_stage}
 use Rattle.gr_model.proofs.GrowthLaws.{convergent_grows, divergent_grows, size_of_met, stage_grows, stands_grows, stands_shrinks, together_shrinks, waits_shrink}
-use Rattle.gr_steps.specs.Steps.{AreBarriers, Handles, IsReady, Meets}
+use Rattle.gr_steps.specs.Steps.{AreBarriers, Handles, Meets}
 use Rattle.gr_steps.proofs.BarrierPlaces.{stands_same}
 use Rattle.gr_steps.proofs.Handling.{lawful_handle}
 use Rattle.gr_steps.proofs.Meeting.{meeting_of}
@@ -29,23 +29,21 @@ module _ (s t : Streams) (grows : Grows s t) (old : List EventId) (lawful : IsLa
   }
 
   -- an event that is ready has a stage
-  ready_stage : (e : EventId) → IsReady s old e → Stage s (suc (length old)) e
-  ready_stage e ready = lawful_stage s (old ++ (e ∷ [])) (lawful_handle s old lawful e ready) (suc (length old)) (length old) e (omega arith) (grind (arith, common_steps, gets))
-
-  ready_grows : (e : EventId) → IsReady s old e → IsReady t old e
-  ready_grows e ready =
-      let stage = ready_stage e ready in
+  pub handles_grows : (e : EventId) (new : List EventId) → Handles s old e new → Handles t old e new
+  handles_grows e new h =
+      let longer = lawful_handle s old lawful e h.ready in
+      let stage = lawful_stage s (old ++ (e ∷ [])) longer (suc (length old)) (length old) e (omega arith) (grind (arith, common_steps, gets)) in
       let there = stage_grows s t grows (suc (length old)) e stage in
       record {
-        event = there.0;
-        fresh = ready.fresh;
-        release = there.1.release;
-        waits = λ d w. ready.waits d (waits_shrink s t grows (length old) e stage d w);
-        instance = λ g k stands. divergent_grows s t grows g k (ready.instance g k (stands_shrinks s t grows e g k ready.event stands));
+        ready = record {
+          event = there.0;
+          fresh = h.ready.fresh;
+          release = there.1.release;
+          waits = λ d w. h.ready.waits d (waits_shrink s t grows (length old) e stage d w);
+          instance = λ g k stands. divergent_grows s t grows g k (h.ready.instance g k (stands_shrinks s t grows e g k h.ready.event stands));
+        };
+        order = h.order;
       }
-
-  pub handles_grows : (e : EventId) (new : List EventId) → Handles s old e new → Handles t old e new
-  handles_grows e new h = record { ready = ready_grows e h.ready; order = h.order }
 
   -- the barriers of the instance are those that they were
   stands_was : (g k : ℕ) (a : Mark) (bs : List EventId) → IsConvergent s g k a → AreBarriers s g k bs → (b : EventId) → StandsIn t b g k → StandsIn s b g k
