@@ -30,19 +30,14 @@ module _ (s t : Streams) (grows : Grows s t) (m : Space) (f : EventId) (n : ℕ)
   seen_event e seen = grind (arith, stage_event, below_before s (Stage s) (stage_descends s) m e f, stage)
 
   module _ (j : ItemId) where
-    event_of : ℕ → EventId
+    abbrev event_of : ℕ → EventId
     event_of k = record { at = j; index = k }
 
-    -- an event that is not in the shorter lists is not seen
-    not_seen : (k : ℕ) → length (trace_of s j) ≤ k → Sees t m f (event_of k) → ⊥
-    unfolding event_of
-    not_seen k le seen = grind (arith, seen_event (event_of k), seen_stays (event_of k), slice_get_within (trace_of s j) k)
-
     pub count_stays : (k : ℕ) → IsCount s m f j k ↔ IsCount t m f j k
-    unfolding event_of
     count_stays k =
         let more = trace_grows s t grows j in
         let longer : length (trace_of t j) ≡ length more.0 + length (trace_of s j) = grind (arith, more.1, length-append) in
-        let beyond = number_beyond (λ i. Sees t m f (event_of i)) (length (trace_of s j)) (length more.0) (length (trace_of t j)) longer not_seen k in
+        let beyond = number_beyond (λ i. Sees t m f (event_of i)) (length (trace_of s j)) (length more.0) (length (trace_of t j)) longer
+        (λ i le seen. grind (arith, le, seen, seen_event (event_of i), seen_stays (event_of i), slice_get_within (trace_of s j) i)) k in
         let same = number_same _ _ (length (trace_of s j)) (λ i lt. seen_stays (event_of i)) k in
         (λ h. beyond.0 (same.0 h), λ h. same.1 (beyond.1 h))

@@ -28,8 +28,7 @@ module _ (s : Streams) (At : ℕ → EventId → Type 0) (down : Descends s At) 
   below_by (suc n) p e f at item next =
       let d : EventId = record { at = f.at; index = suc (n + e.index) } in
       let there = down p f d at (for_previous (record { item = refl; next = omega arith })) in
-      let far = below_by n there.0 e d there.2 item refl in
-      (far.0, omega arith, far.2)
+      let far = below_by n there.0 e d there.2 item refl in (far.0, omega arith, far.2)
 
   pub below_in_item : (p : ℕ) (e f : EventId) → At p f → e.at ≡ f.at → e.index < f.index → IsBelow At p e
   below_in_item p e f at item below = below_by (f.index - suc e.index) p e f at item (omega arith)
@@ -51,10 +50,7 @@ module _ (s : Streams) (At : ℕ → EventId → Type 0) (down : Descends s At) 
 
   pub below_before : (m : Space) (e f : EventId) → HappensBefore s m e f → (p : ℕ) → At p f → IsBelow At p e
   below_before m e f (by_pair pair) p at = below_by_pair m p e f at pair
-  below_before m e f (through {f = d} before pair) p at =
-      let there = below_by_pair m p d f at pair in
-      let far = below_before m e d before there.0 there.2 in
-      (far.0, lt_trans far.1 there.1, far.2)
+  below_before m e f (through {f = d} before pair) p at = grind (arith, below_by_pair m p d f at pair, below_before m e d before)
 
 -- the places of a lawful order, and the stages, descend
 pub lawful_descends : (s : Streams) (order : List EventId) → IsLawful s order → Descends s (IsAt order)

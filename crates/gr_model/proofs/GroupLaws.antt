@@ -20,11 +20,8 @@ part_of_none = grind arith
 
 -- a group comes that had not, where there is room for it
 pub part_with_group : (sizes : List ℕ) (g n : ℕ) → IsPartOfShape sizes → g < MOST_GROUPS → slice_index sizes g ≡ 0 → n ≤ MOST_ITEMS_OF_A_GROUP → sum sizes + n ≤ MOST_ITEMS → IsPartOfShape (put 0 sizes g n)
-part_with_group sizes g n part group none size room = record {
-  groups = omega (arith, length_put 0 sizes g n, part.groups, group);
-  each = all_put (λ m. m ≤ MOST_ITEMS_OF_A_GROUP) sizes g n (omega arith) size part.each;
-  total = omega (arith, sum_put sizes g n none, room);
-}
+part_with_group sizes g n part group none size room =
+    grind (arith, length_put 0 sizes g n, all_put (λ m. m ≤ MOST_ITEMS_OF_A_GROUP) sizes g n (omega arith) size part.each, sum_put sizes g n none)
 
 module _ (s : Streams) (g n : ℕ) where
   -- of each group as much has come as before

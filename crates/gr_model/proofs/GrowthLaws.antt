@@ -10,7 +10,7 @@ use Rattle.gr_model.specs.Access.{event_word, is_release}
 use Rattle.gr_model.specs.Barriers.{IsConvergent, IsDivergent, StandsIn, Together, arrivals, is_barrier, mark_of}
 use Rattle.gr_model.specs.HappensBefore.{BasePair, HappensBefore, behind_barrier, by_pair, sequenced, synchronized, through}
 use Rattle.gr_model.specs.Instances.{Mark}
-use Rattle.gr_model.specs.Names.{HasName, Matches, MatchesBy, names_at, names_of}
+use Rattle.gr_model.specs.Names.{HasName, Matches, MatchesBy, names_of}
 use Rattle.gr_model.specs.Streams.{Grows, IsEvent, Streams, event_at, is_of, list_of, place_of, size_of, trace_of, word_at}
 use Rattle.gr_model.specs.Waits.{IsSettled, Stage, Waits, for_arrival, for_meeting, for_previous, for_release}
 use Rattle.gr_model.specs.declared.event.Space.{Space}
@@ -45,19 +45,12 @@ module _ (s t : Streams) (grows : Grows s t) where
   pub word_grows : (e : EventId) → IsEvent s e → word_at t e ≡ word_at s e
   word_grows e there = ap (option_and_then (event_word e.at.group)) (event_grows e there.0 there.1 ∙ sym there.1)
 
-  names_grow : (e : EventId) → IsEvent s e → names_at t e ≡ names_at s e
-  names_grow e there = ap names_of (event_grows e there.0 there.1 ∙ sym there.1)
-
   -- an event has the names that it had
   name_was : (f : EventId) (n : Name) → IsEvent s f → HasName t f n → HasName s f n
-  name_was f n there named = subst (λ names. Contains names n) (names_grow f there) named
-
-  -- an event has the release that it had
-  release_event : (n : Name) (f e : EventId) → MatchesBy s n f e → IsEvent s e
-  release_event n f e m = place_there is_release e n.release (ap (λ i. place_of s is_release i n.release) m.item ∙ m.place)
+  name_was f n there named = subst (λ x. Contains (names_of x) n) (event_grows f there.0 there.1 ∙ sym there.1) named
 
   matches_by_grows : (n : Name) (f e : EventId) → IsEvent s f → MatchesBy s n f e → MatchesBy t n f e
-  matches_by_grows n f e there m = grind (arith, names_grow, place_grows, word_grows, release_event)
+  matches_by_grows n f e there m = grind (arith, event_grows, place_grows, place_there)
 
   matches_grows : (f e : EventId) → IsEvent s f → Matches s f e → Matches t f e
   matches_grows f e there m = record { name = m.name; by = matches_by_grows m.name f e there m.by }
@@ -69,10 +62,6 @@ module _ (s t : Streams) (grows : Grows s t) where
       record { name = m.name; by = grind (arith, had, place_grows is_release m.name.at, same_event had.0 e) }
 
   -- ---- barriers
-
-  -- a group of which an event has come keeps its size
-  pub size_stays : (e : EventId) → IsEvent s e → size_of s e.at.group ≡ size_of t e.at.group
-  size_stays e there = grind arith
 
   -- what has come of an item stays, and so does the size of its group
   arrival_grows : (g k i : ℕ) (a : Mark) → arrivals s g k i ≡ Some a → (arrivals t g k i ≡ Some a) × (size_of s g ≡ size_of t g)
@@ -95,10 +84,10 @@ module _ (s t : Streams) (grows : Grows s t) where
 
   -- a barrier's number stays
   pub stands_grows : (e : EventId) (g k : ℕ) → StandsIn s e g k → StandsIn t e g k
-  stands_grows e g k h = grind (arith, size_stays, place_there, place_grows)
+  stands_grows e g k h = grind (arith, place_there, place_grows)
 
   pub stands_shrinks : (e : EventId) (g k : ℕ) → IsEvent s e → StandsIn t e g k → StandsIn s e g k
-  stands_shrinks e g k there h = grind (arith, size_stays, place_shrinks)
+  stands_shrinks e g k there h = grind (arith, place_shrinks)
 
   pub together_grows : (a : Mark) (e b : EventId) → Together s a e b → Together t a e b
   together_grows a e b h = search (arith, convergent_grows, stands_grows)
@@ -159,7 +148,7 @@ module _ (s t : Streams) (grows : Grows s t) where
   pair_shrinks : (m : Space) (n : ℕ) (e f : EventId) → Stage s n f → BasePair t m e f → BasePair s m e f
   pair_shrinks m n e f h (sequenced item below there) = sequenced item below (stage_event n f h).0
   pair_shrinks m n e f h (synchronized match inclusive) =
-      grind (arith, synchronized, stage_event, matches_shrinks, release_event, event_grows, word_grows)
+      grind (arith, synchronized, stage_event, matches_shrinks, place_there, event_grows, word_grows)
   pair_shrinks m n e f h (behind_barrier a b flagged met item below there) =
       let lower = below_in_item s (Stage s) (stage_descends s) n b f h item below in
       let barrier = stage_event lower.0 b lower.2 in

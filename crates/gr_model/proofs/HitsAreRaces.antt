@@ -4,9 +4,8 @@ use Rattle.std.proofs.Math.Bool.{or_comm}
 use Rattle.std.proofs.lemmas.Bool.{cases_lt}
 use Rattle.std.proofs.lemmas.Bool.Decides.{nat_tests}
 use Rattle.gr_model.specs.declared.event.EventId.{EventId}
-use Rattle.gr_model.specs.declared.event.Kind.{Kind}
 use Rattle.gr_model.specs.declared.event.Word.{Word}
-use Rattle.gr_model.specs.Access.{inclusive, memory_of}
+use Rattle.gr_model.specs.Access.{memory_of}
 use Rattle.gr_model.specs.Hits.{SomePair}
 use Rattle.gr_model.specs.LawfulOrders.{IsAt, IsLawful}
 use Rattle.gr_model.specs.Races.{RacesInOrder, MayRace, IsRace, IsRacy}
@@ -16,11 +15,8 @@ use Rattle.gr_model.proofs.Descent.{below_before, lawful_descends}
 pub eqb_swap : (a b : ℕ) → eqb a b ≡ eqb b a
 eqb_swap a b = grind (arith, nat_tests)
 
-pub inclusive_swap : (a : Kind) (g : ℕ) (b : Kind) (h : ℕ) → inclusive a g b h ≡ inclusive b h a g
-inclusive_swap a g b h = grind (arith, eqb_swap)
-
 pub may_race_swaps : {s : Streams} {w : Word} {e f : EventId} → MayRace s w e f → MayRace s w f e
-may_race_swaps c = grind (arith, or_comm, inclusive_swap)
+may_race_swaps c = grind (arith, or_comm, eqb_swap)
 
 -- where a later event of a lawful order clashes with an earlier one the two are a race
 pub clash_is_race : (s : Streams) (order : List EventId) (w : Word) (p q : ℕ) (e f : EventId) → IsLawful s order → p < q → IsAt order p e → IsAt order q f → RacesInOrder s w e f → IsRace s w e f

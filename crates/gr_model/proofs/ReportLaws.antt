@@ -6,7 +6,7 @@ use Rattle.std.proofs.lemmas.List.Concat.{flat_map-cons}
 use Rattle.std.proofs.lemmas.List.Elements.{All-append, All-head, All-map, All-nil, All-tail}
 use Rattle.std.proofs.lemmas.List.FromFn.{get_or-range_with_len, length-range_with_len}
 use Rattle.gr_model.specs.Counts.{IsNumberOf}
-use Rattle.gr_model.specs.Reports.{DivergenceBelow, IsCut, IsDivergence, IsHeld, IsReportOf, IsUnmatchedEntry, UnmatchedBelow, WholeReport, WordBelow}
+use Rattle.gr_model.specs.Reports.{DivergenceBelow, IsCut, IsDivergence, IsReportOf, IsUnmatchedEntry, UnmatchedBelow, WholeReport, WordBelow}
 use Rattle.gr_model.specs.Races.{IsRacy}
 use Rattle.gr_model.specs.Shapes.{HasItem, items_of}
 use Rattle.gr_model.specs.Streams.{Streams}
@@ -34,9 +34,6 @@ items_are_there sizes =
     All-flat_map (HasItem sizes) (λ g. map (λ i. record { group = g; item = i }) (range_with_len 0 (slice_index sizes g))) (range_with_len 0 (length sizes))
     (λ k d lt. All-map (HasItem sizes) _ _ (λ i e within. grind (arith, get_or-range_with_len, length-range_with_len)))
 
-one_held : (s : Streams) (m n : ℕ) → IsHeld s m → IsHeld s n → m ≡ n
-one_held s m n a b = grind (arith, sum_same, number_one, items_are_there)
-
 -- ---- the report
 
 pub one_report : (s : Streams) (r q : WholeReport) → IsReportOf s r → IsReportOf s q → r ≡ q
@@ -45,5 +42,4 @@ one_report s r q a b =
     let divergences = one_list DivergenceBelow (λ d e a b. omega arith) (IsDivergence s) r.divergences q.divergences a.rest.divergences b.rest.divergences in
     let unmatched = one_list UnmatchedBelow (λ u v a b. omega arith) (IsUnmatchedEntry s) r.unmatched q.unmatched a.rest.unmatched b.rest.unmatched in
     let cut = one_list (λ g h. g < h) (λ g h a b. omega arith) (IsCut s) r.cut q.cut a.rest.cut b.rest.cut in
-    let held = one_held s r.held q.held a.rest.held b.rest.held in
-    grind (arith, races, divergences, unmatched, cut, held)
+    grind (arith, races, divergences, unmatched, cut, sum_same, number_one, items_are_there)
