@@ -7,7 +7,7 @@ use Rattle.gr_model.specs.Access.{word_if_access}
 use Rattle.gr_model.specs.Barriers.{mark_of_kind}
 use Rattle.gr_model.specs.Streams.{Streams, word_at}
 use Rattle.gr_clocks.specs.declared.access.Access.{Access}
-use Rattle.gr_steps.specs.Steps.{AreBarriers, Handles, Meets}
+use Rattle.gr_steps.specs.Steps.{Handles, Meets}
 use Rattle.gr_steps.proofs.BarrierPlaces.{barrier_there}
 use Rattle.gr_clocks.specs.ClockedAccess.{ClockedAccess, clocked, bare}
 use Rattle.gr_closure.specs.Accesses.{IsAccess}
@@ -28,12 +28,9 @@ none_of : (s : Streams) (events : List EventId) → ((i : ℕ) (b : EventId) →
 none_of s [] no_words = of_none
 none_of s (b ∷ events) no_words = of_other (no_words 0 b refl) (none_of s events (λ i d at. no_words (suc i) d at))
 
+-- barriers have no words
 kind_without_word : (k : Kind) (site : ℕ) (w : Word) → is_some (mark_of_kind k site) ≡ true → word_if_access k w ≡ None
 kind_without_word k site w is = grind arith
-
--- barriers have no words
-none_of_barriers : (s : Streams) (g k : ℕ) (barriers : List EventId) → AreBarriers s g k barriers → AreAccesses s barriers []
-none_of_barriers s g k barriers are = none_of s barriers (λ i b at. grind (arith, are.each i b at, barrier_there, kind_without_word))
 
 -- ---- steps
 
@@ -46,4 +43,5 @@ others_add_none s old new e accesses step are none =
 
 pub met_add_none : (s : Streams) (old new : List EventId) (g k : ℕ) (accesses : List ClockedAccess) → Meets s old g k new → AreAccesses s old accesses → AreAccesses s new accesses
 met_add_none s old new g k accesses step are =
-    grind (arith, step.order, append-nil accesses, accesses_after s old step.barriers accesses [] are (none_of_barriers s g k step.barriers step.are))
+    let barriers = none_of s step.barriers (λ i b at. grind (arith, step.are.each i b at, barrier_there, kind_without_word)) in
+    grind (arith, step.order, append-nil accesses, accesses_after s old step.barriers accesses [] are barriers)

@@ -13,7 +13,7 @@ use Rattle.gr_steps.proofs.BarrierPlaces.{barrier_of, barrier_there, moved, same
 use Rattle.gr_steps.proofs.EventRecords.{barriers_name_nothing}
 use Rattle.gr_steps.proofs.Orders.{there_is}
 use Rattle.gr_closure.specs.Knowledge.{Knows, Learns, by_event, by_instance}
-use Rattle.gr_closure.proofs.LongerOrders.{in_back, in_prefix, in_longer, knows_more}
+use Rattle.gr_closure.proofs.LongerOrders.{in_back, in_prefix, in_longer, knows_more, knows_split}
 use Rattle.gr_closure.proofs.NextInItem.{barrier_is_next, next_sees}
 
 module _ (s : Streams) (m : Space) (old new : List EventId) (g k : ℕ) (prefixes : ArePrefixes s) (lawful : IsLawful s old) (met : Meets s old g k new) where
@@ -31,9 +31,6 @@ module _ (s : Streams) (m : Space) (old new : List EventId) (g k : ℕ) (prefixe
 
   -- ---- the longer order
 
-  pub met_stays : (x : EventId) → IsIn old x → IsIn new x
-  met_stays x h = grind (arith, met.order, in_prefix old met.barriers x h)
-
   pub met_now : (b : EventId) → StandsIn s b g k → IsIn new b
   met_now b stands =
       let there = there_is met.barriers b.at.item (omega (arith, met.are.count, stands.item)) in
@@ -43,10 +40,6 @@ module _ (s : Streams) (m : Space) (old new : List EventId) (g k : ℕ) (prefixe
   pub met_cases : (x : EventId) → IsIn new x → IsIn old x ⊎ StandsIn s x g k
   met_cases x h = grind (arith, in_longer old met.barriers x (subst (λ l. IsIn l x) met.order h), met.are.each)
 
-  -- what a barrier's item knew, the barrier sees
-  known_seen : (b d : EventId) → StandsIn s b g k → Knows s m old b.at d → Sees s m b d
-  known_seen b d stands known = (met_sees b d stands).1 (inr known)
-
   -- of an instance that a barrier stands in, this is the number
   here : (a : Mark) (c b : EventId) → StandsIn s b g k → Together s a c b → StandsIn s c g k × IsConvergent s g k a
   here a c b stands t = grind (arith, same_instance, moved)
@@ -54,10 +47,11 @@ module _ (s : Streams) (m : Space) (old new : List EventId) (g k : ℕ) (prefixe
   -- ---- in a memory that is flagged
 
   some_sees : (b d : EventId) → StandsIn s b g k → Knows s m new b.at d → (c : EventId) × StandsIn s c g k × Sees s m c d
-  some_sees b d stands (by_event x h item seen) =
-      ⊎_elim (λ was. (b, stands, known_seen b d stands (by_event x was item seen))) (λ now. (x, now, seen)) (met_cases x h)
-  some_sees b d stands (by_instance a c x h item flagged t seen) =
-      ⊎_elim (λ was. (b, stands, known_seen b d stands (by_instance a c x was item flagged t seen))) (λ now. (c, (here a c x now t).0, seen)) (met_cases x h)
+  some_sees b d stands known = ⊎_elim (λ was. (b, stands, (met_sees b d stands).1 (inr was))) now (knows_split s m old met.barriers new b.at d met.order known)
+    where
+      now : Knows s m met.barriers b.at d → (c : EventId) × StandsIn s c g k × Sees s m c d
+      now (by_event x h item seen) = (x, (met.are.each h.0 x h.1).1, seen)
+      now (by_instance a c x h item flagged t seen) = (c, (here a c x (met.are.each h.0 x h.1).1 t).0, seen)
 
   pub flagged_knows : (i : ItemId) (d : EventId) → IsTrue (flags met.mark m) → i.group ≡ g → i.item < size_of s g → Knows s m new i d ↔ ((b : EventId) × StandsIn s b g k × Sees s m b d)
   flagged_knows i d flagged group within =
@@ -71,13 +65,12 @@ module _ (s : Streams) (m : Space) (old new : List EventId) (g k : ℕ) (prefixe
   -- ---- in the other
 
   own_sees : (b d : EventId) → IsFalse (flags met.mark m) → StandsIn s b g k → Knows s m new b.at d → Sees s m b d
-  own_sees b d apart stands (by_event x h item seen) =
-      ⊎_elim (λ was. known_seen b d stands (by_event x was item seen)) (λ now. grind (arith, stands_same s x b g k now stands, item, seen)) (met_cases x h)
-  own_sees b d apart stands (by_instance a c x h item flagged t seen) =
-      ⊎_elim
-      (λ was. known_seen b d stands (by_instance a c x was item flagged t seen))
-      (λ now. let one = (here a c x now t).1 in grind (arith, one.1 0 one.0, met.meeting.convergent.1 0 one.0, flagged, apart))
-      (met_cases x h)
+  own_sees b d apart stands known = ⊎_elim (λ was. (met_sees b d stands).1 (inr was)) now (knows_split s m old met.barriers new b.at d met.order known)
+    where
+      now : Knows s m met.barriers b.at d → Sees s m b d
+      now (by_event x h item seen) = grind (arith, stands_same s x b g k (met.are.each h.0 x h.1).1 stands, item, seen)
+      now (by_instance a c x h item flagged t seen) =
+          let one = (here a c x (met.are.each h.0 x h.1).1 t).1 in grind (arith, one.1 0 one.0, met.meeting.convergent.1 0 one.0, flagged, apart)
 
   pub unflagged_knows : (b d : EventId) → IsFalse (flags met.mark m) → StandsIn s b g k → Knows s m new b.at d ↔ Sees s m b d
   unflagged_knows b d apart stands = (own_sees b d apart stands, λ seen. by_event b (met_now b stands) refl seen)
@@ -87,5 +80,5 @@ module _ (s : Streams) (m : Space) (old new : List EventId) (g k : ℕ) (prefixe
   pub others_know_after_meet : (i : ItemId) (d : EventId) → i.group ≢ g → Knows s m new i d ↔ Knows s m old i d
   others_know_after_meet i d other = (
     knows_more s m new old i d (λ x item h. grind (arith, met_cases x h, other, item)),
-    knows_more s m old new i d (λ x item h. met_stays x h),
+    knows_more s m old new i d (λ x item h. grind (arith, met.order, in_prefix old met.barriers x h)),
   )

@@ -6,18 +6,15 @@ use Rattle.gr_model.specs.Streams.{Grows, Streams}
 use Rattle.gr_model.specs.Waits.{IsGrounded}
 use Rattle.gr_model.proofs.Descent.{lawful_is_grounded}
 use Rattle.gr_model.proofs.GrowthLaws.{before_grows, before_shrinks, event_grows, stage_event, word_grows}
-use Rattle.gr_clocks.specs.ClockedAccess.{ClockedAccess, bare}
-use Rattle.gr_closure.specs.Accesses.{IsAccess}
+use Rattle.gr_clocks.specs.ClockedAccess.{ClockedAccess}
 use Rattle.gr_closure.specs.AccessesAlong.{AreAccesses, of_none, of_access, of_other}
 
 module _ (s t : Streams) (grows : Grows s t) where
-  access_grows : (e : EventId) (x : ClockedAccess) → IsGrounded s e → IsAccess s e (bare x) → IsAccess t e (bare x)
-  access_grows e x grounded of_e = grind (arith, word_grows, event_grows, before_grows, before_shrinks)
-
   along : (order : List EventId) (accesses : List ClockedAccess) → ((p : ℕ) (e : EventId) → slice_get order p ≡ Some e → IsGrounded s e) → AreAccesses s order accesses → AreAccesses t order accesses
   along _ _ grounded of_none = of_none
   along _ _ grounded (of_access {e = e} {x = x} {order = order} {accesses = accesses} of_e rest) =
-      of_access (access_grows e x (grounded 0 e refl) of_e) (along order accesses (λ p d at. grounded (suc p) d at) rest)
+      let here = grounded 0 e refl in
+      of_access (grind (arith, of_e, here, word_grows, event_grows, before_grows, before_shrinks)) (along order accesses (λ p d at. grounded (suc p) d at) rest)
   along _ _ grounded (of_other {e = e} {order = order} {accesses = accesses} none rest) =
       let here = grounded 0 e refl in
       of_other (word_grows s t grows e (stage_event s t grows here.0 e here.1).0 ∙ none) (along order accesses (λ p d at. grounded (suc p) d at) rest)

@@ -5,7 +5,6 @@ use Rattle.gr_model.specs.declared.event.ItemId.{ItemId}
 use Rattle.gr_model.specs.declared.event.Space.{Space}
 use Rattle.gr_model.specs.Barriers.{Together}
 use Rattle.gr_model.specs.Counts.{Sees}
-use Rattle.gr_model.specs.Instances.{Mark}
 use Rattle.gr_model.specs.LawfulOrders.{IsIn, IsLawful}
 use Rattle.gr_model.specs.Streams.{Grows, Streams}
 use Rattle.gr_model.proofs.Descent.{lawful_is_grounded, together-swap}
@@ -17,10 +16,6 @@ module _ (s t : Streams) (m : Space) (order : List EventId) (grows : Grows s t) 
   pub seen_stays : (e d : EventId) → IsIn order e → Sees s m e d ↔ Sees t m e d
   seen_stays e d h = grind (arith, lawful_is_grounded s order e lawful h, before_grows s t grows m d e, before_shrinks s t grows m d e)
 
-  -- the barriers that a handled barrier has met stay the same
-  met_shrinks : (a : Mark) (c b : EventId) → IsIn order b → Together t a c b → Together s a c b
-  met_shrinks a c b h met = grind (arith, together-swap, together_shrinks)
-
   known_grows : (i : ItemId) (d : EventId) → Knows s m order i d → Knows t m order i d
   known_grows i d (by_event e h item seen) = by_event e h item ((seen_stays e d h).0 seen)
   known_grows i d (by_instance a c b h item flagged met seen) = by_instance a c b h item flagged (together_grows s t grows a c b met) ((seen_stays c d (met_handled s m order lawful a c b h met)).0 seen)
@@ -28,7 +23,7 @@ module _ (s t : Streams) (m : Space) (order : List EventId) (grows : Grows s t) 
   known_shrinks : (i : ItemId) (d : EventId) → Knows t m order i d → Knows s m order i d
   known_shrinks i d (by_event e h item seen) = by_event e h item ((seen_stays e d h).1 seen)
   known_shrinks i d (by_instance a c b h item flagged met seen) =
-      let was = met_shrinks a c b h met in
+      let was : Together s a c b = grind (arith, met, h, together-swap, together_shrinks) in
       by_instance a c b h item flagged was ((seen_stays c d (met_handled s m order lawful a c b h was)).1 seen)
 
   pub knowledge_stays : (i : ItemId) (d : EventId) → Knows s m order i d ↔ Knows t m order i d

@@ -22,3 +22,10 @@ in_longer old more e h = ⊎_elim (λ at. inl (h.0, at)) (λ (b : (i : ℕ) × (
 pub knows_more : (s : Streams) (m : Space) (old new : List EventId) (i : ItemId) (d : EventId) → ((e : EventId) → e.at ≡ i → IsIn old e → IsIn new e) → Knows s m old i d → Knows s m new i d
 knows_more s m old new i d keep (by_event e h item seen) = by_event e (keep e item h) item seen
 knows_more s m old new i d keep (by_instance a c b h item flagged met seen) = by_instance a c b (keep b item h) item flagged met seen
+
+-- and what it knows along a longer one, it knew, or knows along what is new
+pub knows_split : (s : Streams) (m : Space) (old more new : List EventId) (i : ItemId) (d : EventId) → new ≡ old ++ more → Knows s m new i d → Knows s m old i d ⊎ Knows s m more i d
+knows_split s m old more new i d is (by_event e h item seen) =
+    ⊎_elim (λ was. inl (by_event e was item seen)) (λ now. inr (by_event e now item seen)) (in_longer old more e (rw is at h))
+knows_split s m old more new i d is (by_instance a c b h item flagged met seen) =
+    ⊎_elim (λ was. inl (by_instance a c b was item flagged met seen)) (λ now. inr (by_instance a c b now item flagged met seen)) (in_longer old more b (rw is at h))

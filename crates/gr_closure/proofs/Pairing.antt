@@ -5,7 +5,7 @@ use Rattle.gr_model.specs.declared.event.Word.{Word}
 use Rattle.gr_model.specs.LawfulOrders.{IsLawful}
 use Rattle.gr_model.specs.Hits.{SomePair}
 use Rattle.gr_model.specs.RacePairs.{IsRacePair, IsTurned, Pair}
-use Rattle.gr_model.specs.Races.{RacesInOrder, IsRace}
+use Rattle.gr_model.specs.Races.{RacesInOrder}
 use Rattle.gr_model.specs.Reports.{EventBelow}
 use Rattle.gr_model.specs.Streams.{Streams}
 use Rattle.gr_model.proofs.Cuts.{same_event}
@@ -19,33 +19,25 @@ use Rattle.gr_closure.specs.AccessesAlong.{AreAccesses}
 use Rattle.gr_closure.proofs.Clashing.{pairs_along}
 use Rattle.gr_closure.proofs.PairTests.{clash_is_hit, hit_is_clash}
 
--- the event of an access along an order
-its_event : (s : Streams) (d : EventId) (x : ClockedAccess) → IsAccess s d (bare x) → event_of x ≡ d
-its_event s d x of_d = same_event (event_of x) d of_d.item of_d.index
-
 module _ (s : Streams) (w : Word) (e f : EventId) where
   -- two events that clash on the word are these
-  pub record AreClashing (d g : EventId) : Type 0 where
-    pub clash : RacesInOrder s w d g
-    pub first : d ≡ e
-    pub second : g ≡ f
+  abbrev AreClashing : EventId → EventId → Type 0
+  AreClashing d g = RacesInOrder s w d g × (d ≡ e) × (g ≡ f)
 
   -- two accesses that clash are those of two events of the order that clash
   clash_there : (order : List EventId) (accesses : List ClockedAccess) → AreAccesses s order accesses → IsClashIn accesses w e f → SomePair AreClashing order
-  clash_there order accesses are = (pairs_along s AreClashing (IsClashOf w e f) same (λ d g c. grind (arith, c.clash.may_race.word_first, c.clash.may_race.word_second)) order accesses are).0
+  clash_there order accesses are = (pairs_along s AreClashing (IsClashOf w e f) same (λ d g c. grind (arith, c.0.may_race.word_first, c.0.may_race.word_second)) order accesses are).0
     where
       same : (d g : EventId) (x y : ClockedAccess) → IsAccess s d (bare x) → IsAccess s g (bare y) → AreClashing d g ↔ IsClashOf w e f x y
       same d g x y of_d of_g =
-          grind (arith, clash_is_hit s w d g x y of_d of_g, hit_is_clash s w d g x y of_d of_g, its_event s d x of_d, its_event s g y of_g)
+          grind (arith, clash_is_hit s w d g x y of_d of_g, hit_is_clash s w d g x y of_d of_g, same_event (event_of x) d, same_event (event_of y) g)
 
 pub clashing_events_differ : (s : Streams) (order : List EventId) (accesses : List ClockedAccess) (w : Word) (e f : EventId) → AreAccesses s order accesses → IsClashIn accesses w e f → e ≢ f
 clashing_events_differ s order accesses w e f are h same =
-    let c = clash_there s w e f order accesses are h in grind (arith, c.7.clash.may_race.others, c.7, same)
+    let c = clash_there s w e f order accesses are h in grind (arith, c.7.0.may_race.others, c.7, same)
 
 pub clashes_are_race_pairs : (s : Streams) (order : List EventId) (accesses : List ClockedAccess) (w : Word) (e f : EventId) (pair : Pair) → IsLawful s order → AreAccesses s order accesses → IsClashIn accesses w e f → IsTurned e f pair → EventBelow pair.0 pair.1 → IsRacePair s w pair
 clashes_are_race_pairs s order accesses w e f pair lawful are h turned below =
     let c = clash_there s w e f order accesses are h in
-    let race : IsRace s w c.2 c.3 = clash_is_race s order w c.0 c.1 c.2 c.3 lawful c.4 c.5 c.6 c.7.clash in
-    let first = lawful_is_grounded s order c.2 lawful (c.0, c.5) in
-    let second = lawful_is_grounded s order c.3 lawful (c.1, c.6) in
-    grind (arith, race_pair s w e f pair turned below, c.7, first, second, race)
+    let race = clash_is_race s order w c.0 c.1 c.2 c.3 lawful c.4 c.5 c.6 c.7.0 in
+    grind (arith, race_pair s w e f pair turned below, c.7, lawful_is_grounded s order c.2 lawful (c.0, c.5), lawful_is_grounded s order c.3 lawful (c.1, c.6), race)
