@@ -43,12 +43,6 @@ places_from-once test i xs n k l a b = grind (arith, places_from-ordered test i 
 pub barrier_there : (s : Streams) (e : EventId) (g k : ℕ) → StandsIn s e g k → (x : Event) × (event_at s e ≡ Some x) × (is_barrier x ≡ true)
 barrier_there s e g k stands = grind (arith, places_from-there)
 
--- a barrier of an item of its group stands in an instance
-pub barrier_stands : (s : Streams) (e : EventId) (x : Event) → event_at s e ≡ Some x → is_barrier x ≡ true → e.at.item < size_of s e.at.group → (k : ℕ) × StandsIn s e e.at.group k
-barrier_stands s e x at t item =
-    let found = places_from-find is_barrier 0 (trace_of s e.at) e.index x at t in
-    (found.0, record { group = refl; item = item; place = grind (arith, found.1) })
-
 -- an event stands in an instance or in none
 pub standing : (s : Streams) (e : EventId) → Dec ((g k : ℕ) × StandsIn s e g k)
 standing s e =
@@ -57,7 +51,9 @@ standing s e =
       | Some x ↦ λ at.
           let decided : Dec ((is_barrier x ≡ true) × (e.at.item < size_of s e.at.group)) = grind arith in
           by_cases decided
-          (λ t. let here = barrier_stands s e x at t.0 t.1 in yes (e.at.group, here.0, here.1))
+          (λ t.
+          let found = places_from-find is_barrier 0 (trace_of s e.at) e.index x at t.0 in
+          yes (e.at.group, found.0, record { group = refl; item = t.1; place = grind (arith, found.1) }))
           (λ other. no (λ h. grind (arith, other, at, h.2, barrier_there s e h.0 h.1 h.2)))
     ] refl
 
@@ -70,12 +66,9 @@ barrier_of s g k a c i within =
 pub same_instance : (s : Streams) (e : EventId) (g k h l : ℕ) → StandsIn s e g k → StandsIn s e h l → (g ≡ h) × (k ≡ l)
 same_instance s e g k h l a b = (sym a.group ∙ b.group, places_from-once is_barrier 0 (trace_of s e.at) e.index k l a.place b.place)
 
--- two barriers of an instance stand in one group, and in one item they are one
-pub same_item : (s : Streams) (b c : EventId) (g k l : ℕ) → StandsIn s b g k → StandsIn s c g l → b.at.item ≡ c.at.item → b.at ≡ c.at
-same_item s b c g k l hb hc item = λ i. record { group = (hb.group ∙ sym hc.group) i; item = item i }
-
+-- two barriers of an instance are one where they are of one item
 pub stands_same : (s : Streams) (b c : EventId) (g k : ℕ) → StandsIn s b g k → StandsIn s c g k → b.at.item ≡ c.at.item → b ≡ c
-stands_same s b c g k hb hc item = grind (arith, same_item, same_event)
+stands_same s b c g k hb hc item = grind (arith, same_event)
 
 -- of an item's barriers, that of an earlier instance is earlier
 pub stands_before : (s : Streams) (b c : EventId) (g k l : ℕ) → StandsIn s b g k → StandsIn s c g l → b.at ≡ c.at → k < l → b.index < c.index

@@ -1,5 +1,5 @@
 -- What can be decided of numbers, words, marks and events, of all numbers below a bound, and of all elements of a list.
-use Rattle.std.proofs.Common.{◌≡◌, ◌⊎◌, ℕ, zero, suc, ◌<◌, List, [], ◌∷◌, Contains, Option, Some, None, refl, inl, inr, ⊎_elim, arith}
+use Rattle.std.proofs.Common.{◌≡◌, ◌⊎◌, ℕ, zero, suc, ◌<◌, List, [], ◌∷◌, Contains, Option, Some, refl, inl, inr, ⊎_elim, arith}
 use Rattle.gr_model.specs.declared.event.EventId.{EventId}
 use Rattle.gr_model.specs.declared.event.Word.{Word}
 use Rattle.gr_model.specs.LawfulOrders.{IsIn}
@@ -21,9 +21,8 @@ pub number_dec : (m n : ℕ) → Dec (m ≡ n)
 number_dec m n = grind arith
 
 pub option_dec : {X : Type 0} → ((x y : X) → Dec (x ≡ y)) → (a b : Option X) → Dec (a ≡ b)
-option_dec d None b = grind arith
-option_dec d (Some x) None = grind arith
 option_dec d (Some x) (Some y) = grind (arith, d x y)
+option_dec d a b = grind arith
 
 pub word_dec : (v w : Word) → Dec (v ≡ w)
 word_dec v w = grind arith

@@ -1,16 +1,13 @@
 -- The record of an event stands in its group's list; a name is that of one release, and a barrier has none.
-use Rattle.std.proofs.Common.{◌≡◌, ℕ, suc, ◌<◌, Bool, true, IsTrue, List, [], ◌∷◌, length, Contains, Some, slice_get, filter, arith}
+use Rattle.std.proofs.Common.{◌≡◌, ℕ, suc, ◌<◌, Bool, true, List, [], ◌∷◌, length, Contains, Some, slice_get, filter, arith}
 use Rattle.std.proofs.lemmas.Bool.{and_parts}
 use Rattle.std.proofs.lemmas.Bool.Decides.{nat_tests}
 use Rattle.std.proofs.lemmas.Option.{slice_get_past}
 use Rattle.std.proofs.lemmas.List.{get_or_past}
 use Rattle.gr_model.specs.declared.event.Event.{Event}
 use Rattle.gr_model.specs.declared.event.EventId.{EventId}
-use Rattle.gr_model.specs.declared.event.Kind.{Kind}
 use Rattle.gr_model.specs.declared.event.Name.{Name}
-use Rattle.gr_model.specs.Access.{is_acquire_kind}
 use Rattle.gr_model.specs.Barriers.{is_barrier}
-use Rattle.gr_model.specs.Events.{IsNamingOk}
 use Rattle.gr_model.specs.Names.{MatchesBy}
 use Rattle.gr_model.specs.Streams.{ArePrefixes, IsEvent, Streams, event_at, is_of, list_of, size_of}
 use Rattle.gr_model.proofs.Cuts.{same_event}
@@ -45,12 +42,7 @@ module _ (s : Streams) (prefixes : ArePrefixes s) (e : EventId) (x : Event) (at 
 pub one_release : (s : Streams) (n : Name) (e d f : EventId) → MatchesBy s n e d → MatchesBy s n e f → d ≡ f
 one_release s n e d f a b = grind (arith, same_event)
 
--- what names a release is an acquire
-named_acquires : (kind : Kind) (names : List Name) (n : Name) → Contains names n → IsNamingOk kind names → IsTrue (is_acquire_kind kind)
-named_acquires kind names n named ok = grind arith
-
 pub barriers_name_nothing : (s : Streams) → ArePrefixes s → (e : EventId) (x : Event) (n : Name) → event_at s e ≡ Some x → is_barrier x ≡ true → Contains x.names n → ⊥
 barriers_name_nothing s prefixes e x n at barrier named =
     let there = record_there s e x at in
-    let good = (prefixes.each e.at.group (group_of_event s prefixes e x at)).good there.0 x there.1 in
-    grind (arith, barrier, named_acquires x.kind x.names n named good.0.1)
+    grind (arith, barrier, named, (prefixes.each e.at.group (group_of_event s prefixes e x at)).good there.0 x there.1)

@@ -11,7 +11,7 @@ use Rattle.gr_model.specs.Waits.{IsSettled, IsPrevious, Waits, for_arrival, for_
 use Rattle.gr_steps.specs.Steps.{AreBarriers, HasMet, IsMeeting}
 use Rattle.gr_steps.proofs.BarrierPlaces.{barrier_of, barrier_there, same_instance, stands_before, stands_same, meets_in}
 use Rattle.gr_steps.proofs.EventRecords.{barriers_name_nothing}
-use Rattle.gr_steps.proofs.Orders.{lawful_longer, there_is, handled_upto, previous_of}
+use Rattle.gr_steps.proofs.Orders.{met_handled, lawful_longer, there_is, handled_upto, previous_of}
 
 module _ (s : Streams) (prefixes : ArePrefixes s) (order : List EventId) (lawful : IsLawful s order) (g k : ℕ) (a : Mark) (meeting : IsMeeting s order g k a) (bs : List EventId) (are : AreBarriers s g k bs) where
   no_name : (x : EventId) (n : Name) → StandsIn s x g k → HasName s x n → ⊥
@@ -23,9 +23,7 @@ module _ (s : Streams) (prefixes : ArePrefixes s) (order : List EventId) (lawful
   met_waits x d stands (for_previous previous) = meeting.before x d stands previous
   met_waits x d stands (for_release match) = absurd (no_name x match.name stands match.by.named)
   met_waits x d stands (for_arrival m b met previous) = meeting.before b d (meets_in s g k m x b stands met) previous
-  met_waits x d stands (for_meeting m c previous met) =
-      let there = meeting.before x c stands previous in
-      let other = lawful.together there.0 c d m there.1 met in (other.0, other.2)
+  met_waits x d stands (for_meeting m c previous met) = met_handled s order lawful m c d (meeting.before x c stands previous) met
 
   -- each barrier stands at its item's place
   barrier_at : (b : EventId) → StandsIn s b g k → slice_get bs b.at.item ≡ Some b

@@ -11,7 +11,7 @@ use Rattle.gr_model.specs.Waits.{IsPrevious, Waits, for_arrival, for_meeting, fo
 use Rattle.gr_model.proofs.GrowthLaws.{not_both}
 use Rattle.gr_steps.specs.Steps.{AreFirst, IsReady}
 use Rattle.gr_steps.proofs.EventRecords.{one_release}
-use Rattle.gr_steps.proofs.Orders.{handled_upto, previous_of}
+use Rattle.gr_steps.proofs.Orders.{met_handled, handled_upto, previous_of}
 
 pub next_of_item : (s : Streams) (order : List EventId) → IsLawful s order → (e : EventId) → IsReady s order e → (d : EventId) → d.at ≡ e.at → IsIn order d ↔ (d.index < e.index)
 next_of_item s order lawful e ready d item = (
@@ -39,8 +39,7 @@ module _ (s : Streams) (order : List EventId) (lawful : IsLawful s order) (c : I
           let there = release match.name match.by.named in grind (arith, there, one_release s match.name e there.0 d there.1 match.by, first d)
       waits d (for_arrival a b met previous) =
           absurd (not_both s met.group met.instance a met.convergent (divergent met.group met.instance met.first))
-      waits d (for_meeting a b previous met) =
-          let there = previous_in b previous in let other = lawful.together there.0 b d a there.1 met in (other.0, other.2)
+      waits d (for_meeting a b previous met) = met_handled s order lawful a b d (previous_in b previous) met
 
   -- and what is ready is the next, with its release handled
   pub ready_is_next : IsReady s order e → e.index ≡ c e.at

@@ -60,6 +60,10 @@ previous_of e n lt = let m = number_before e.index (omega (arith, lt)) in (recor
 pub lawful_empty : (s : Streams) → IsLawful s []
 lawful_empty s = grind arith
 
+-- with a barrier, each that it meets stands in a lawful order
+pub met_handled : (s : Streams) (order : List EventId) → IsLawful s order → (a : Mark) (e b : EventId) → IsIn order e → Together s a e b → IsIn order b
+met_handled s order lawful a e b h met = let there = lawful.together h.0 e b a h.1 met in (there.0, there.2)
+
 -- events that may come behind a lawful order: they wait for what stands in it alone
 pub record AreNext (s : Streams) (order next : List EventId) : Type 0 where
   pub event : (i : ℕ) (x : EventId) → IsAt next i x → IsEvent s x × IsSettled s x

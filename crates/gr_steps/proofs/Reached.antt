@@ -20,10 +20,8 @@ use Rattle.gr_steps.proofs.EventRecords.{filter-there, group_there}
 use Rattle.gr_steps.proofs.Orders.{at_behind, in_cases, in_either}
 
 -- an event that can go and whose waits are all in a list
-record IsNext (s : Streams) (reached : List EventId) (e : EventId) : Type 0 where
-  event : IsEvent s e
-  go : IsSettled s e
-  waits : (d : EventId) → Waits s e d → IsIn reached d
+abbrev IsNext : Streams → List EventId → EventId → Type 0
+IsNext s reached e = IsEvent s e × IsSettled s e × ((d : EventId) → Waits s e d → IsIn reached d)
 
 -- a list of events of one stage that has every event that could come to it
 pub record IsClosed (s : Streams) (n : ℕ) (reached : List EventId) : Type 0 where
@@ -42,21 +40,21 @@ module _ (s : Streams) (complete : AreComplete s) where
   next_dec reached e =
       by_cases (waits_dec s complete (IsIn reached) (in_dec reached) e)
       (λ h. there (event_at s e) refl h.0 h.1)
-      (λ none. no (λ next. none (next.go.release, next.waits)))
+      (λ none. no (λ next. none (next.1.release, next.2)))
     where
       there : (o : Option Event) → event_at s e ≡ o → HasItsReleases s e → ((d : EventId) → Waits s e d → IsIn reached d) → Dec (IsNext s reached e)
-      there None none r w = no (λ next. grind (arith, none, next.event))
-      there (Some x) at r w = yes (record { event = (x, at); go = record { release = r; instance = settled s complete e }; waits = w })
+      there None none r w = no (λ next. grind (arith, none, next.0))
+      there (Some x) at r w = yes ((x, at), record { release = r; instance = settled s complete e }, w)
 
   take_next : (reached xs : List EventId) → IsTaken s reached xs ⊎ AreStuck s reached xs
   take_next reached [] = inr (λ d h next. let c : None ≡ Some d = h.1 in cc)
-  take_next reached (x ∷ xs) = first (next_dec reached x) (take_next reached xs)
-    where
-      first : Dec (IsNext s reached x) → IsTaken s reached xs ⊎ AreStuck s reached xs → IsTaken s reached (x ∷ xs) ⊎ AreStuck s reached (x ∷ xs)
-      first (yes next) rest = inl (x, xs, next, refl, λ d h. in_cases x xs d h)
-      first (no h) (inl t) =
-          inl (t.0, x ∷ t.1, t.2, ap suc t.3, λ d there. grind (arith, in_cases x xs d there, t.4 d, in_either x t.1 d))
-      first (no h) (inr stuck) = inr (λ d there next. grind (arith, in_cases x xs d there, h, stuck d, next))
+  take_next reached (x ∷ xs) =
+      by_cases (next_dec reached x)
+      (λ next. inl (x, xs, next, refl, in_cases x xs))
+      (λ not. ⊎_elim
+      (λ (t : IsTaken s reached xs). inl (t.0, x ∷ t.1, t.2, ap suc t.3, λ d there. grind (arith, in_cases x xs d there, t.4 d, in_either x t.1 d)))
+      (λ stuck. inr (λ d there next. grind (arith, in_cases x xs d there, not, stuck d, next)))
+      (take_next reached xs))
 
   stuck_closed : (n : ℕ) (reached xs : List EventId) → ((e : EventId) → IsIn reached e → Stage s n e) → ((e : EventId) → IsEvent s e → IsIn reached e ⊎ IsIn xs e) → AreStuck s reached xs → IsClosed s n reached
   stuck_closed n reached xs stage cover stuck = record {
@@ -67,12 +65,9 @@ module _ (s : Streams) (complete : AreComplete s) where
   stage_more : (n : ℕ) (reached : List EventId) (x : EventId) → ((e : EventId) → IsIn reached e → Stage s n e) → IsNext s reached x → (e : EventId) → IsIn (x ∷ reached) e → Stage s (suc n) e
   stage_more n reached x stage next e there =
       ⊎_elim
-      (λ (same : e ≡ x). subst (λ y. Stage s (suc n) y) (sym same) (next.event, next.go, λ d w. stage d (next.waits d w)))
+      (λ (same : e ≡ x). subst (λ y. Stage s (suc n) y) (sym same) (next.0, next.1, λ d w. stage d (next.2 d w)))
       (λ was. stage_up s n e (stage e was))
       (in_cases x reached e there)
-
-  cover_more : (reached xs : List EventId) (t : IsTaken s reached xs) → ((e : EventId) → IsEvent s e → IsIn reached e ⊎ IsIn xs e) → (e : EventId) → IsEvent s e → IsIn (t.0 ∷ reached) e ⊎ IsIn t.1 e
-  cover_more reached xs t cover e there = grind (arith, cover e there, t.4 e, in_either t.0 reached e)
 
   -- the candidates are taken until none comes next
   closing : (fuel n : ℕ) (reached xs : List EventId) → length xs ≤ fuel → ((e : EventId) → IsIn reached e → Stage s n e) → ((e : EventId) → IsEvent s e → IsIn reached e ⊎ IsIn xs e) → (m : ℕ) × (all : List EventId) × IsClosed s m all
@@ -80,7 +75,8 @@ module _ (s : Streams) (complete : AreComplete s) where
       (n, reached, stuck_closed n reached xs stage cover (λ d h next. omega (arith, few, slice_get_within xs h.0 d h.1)))
   closing (suc fuel) n reached xs few stage cover =
       ⊎_elim
-      (λ (t : IsTaken s reached xs). closing fuel (suc n) (t.0 ∷ reached) t.1 (omega (arith, few, t.3)) (stage_more n reached t.0 stage t.2) (cover_more reached xs t cover))
+      (λ (t : IsTaken s reached xs). closing fuel (suc n) (t.0 ∷ reached) t.1 (omega (arith, few, t.3)) (stage_more n reached t.0 stage t.2)
+      (λ e there. grind (arith, cover e there, t.4 e, in_either t.0 reached e)))
       (λ (stuck : AreStuck s reached xs). (n, reached, stuck_closed n reached xs stage cover stuck))
       (take_next reached xs)
 

@@ -1,16 +1,17 @@
 -- Where no event may be handled and no instance may meet, every grounded event is handled.
 use Rattle.std.proofs.Common.{ℕ, zero, suc, List, refl, ⊎_elim, arith}
 use Rattle.gr_model.specs.declared.event.EventId.{EventId}
-use Rattle.gr_model.specs.Barriers.{IsConvergent, IsDivergent, StandsIn}
+use Rattle.gr_model.specs.Barriers.{Together, IsConvergent, IsDivergent, StandsIn}
 use Rattle.gr_model.specs.Instances.{Mark}
 use Rattle.gr_model.specs.LawfulOrders.{IsIn, IsLawful}
 use Rattle.gr_model.specs.Streams.{IsEvent, Streams}
 use Rattle.gr_model.specs.Waits.{IsSettled, Stage, Waits, for_arrival}
-use Rattle.gr_model.proofs.Descent.{lawful_is_grounded}
+use Rattle.gr_model.proofs.Descent.{together-swap, lawful_is_grounded}
 use Rattle.gr_steps.specs.Steps.{AreGrounded, IsAtRest}
 use Rattle.gr_steps.proofs.BarrierPlaces.{same_instance, standing}
 use Rattle.gr_steps.proofs.Deciding.{by_cases, in_dec}
 use Rattle.gr_steps.proofs.Meeting.{meeting_of}
+use Rattle.gr_steps.proofs.Orders.{met_handled}
 
 module _ (s : Streams) (order : List EventId) (lawful : IsLawful s order) (rest : IsAtRest s order) where
   -- an event that is not handled still waits for something
@@ -24,13 +25,15 @@ module _ (s : Streams) (order : List EventId) (lawful : IsLawful s order) (rest 
       handle each = rest.handles e.at (e, refl, record { event = there; fresh = away; waits = waits; release = go.release; instance = each })
 
       meet : (g k : ℕ) (a : Mark) → StandsIn s e g k → IsConvergent s g k a → ⊥
-      meet g k a stands convergent = rest.meets g (
-        k,
-        a,
-        meeting_of s order lawful g k a convergent
-            (λ met. away (let there = lawful.together met.2.0 met.0 e a met.2.1 (record { group = g; instance = k; convergent = convergent; first = met.1; second = stands }) in (there.0, there.2)))
-            (λ b d other previous. waits d (for_arrival a b (record { group = g; instance = k; convergent = convergent; first = stands; second = other }) previous)),
-      )
+      meet g k a stands convergent =
+          let together : (b : EventId) → StandsIn s b g k → Together s a e b = λ b other. record { group = g; instance = k; convergent = convergent; first = stands; second = other } in
+          rest.meets g (
+            k,
+            a,
+            meeting_of s order lawful g k a convergent
+                (λ met. away (met_handled s order lawful a met.0 e met.2 (together-swap (together met.0 met.1))))
+                (λ b d other previous. waits d (for_arrival a b (together b other) previous)),
+          )
 
   stage_handled : (n : ℕ) (e : EventId) → Stage s n e → IsIn order e
   stage_handled zero e h = absurd h

@@ -28,7 +28,7 @@ module _ (s t : Streams) (grows : Grows s t) (old : List EventId) (lawful : IsLa
     together = λ p e b a at met. lawful.together p e b a at (together_shrinks s t grows a e b (lawful.event p e at).0 (lawful.event p e at).1 met);
   }
 
-  -- an event that is ready has a stage
+  -- an event that is ready has a stage, and so it is ready in the longer lists
   pub handles_grows : (e : EventId) (new : List EventId) → Handles s old e new → Handles t old e new
   handles_grows e new h =
       let longer = lawful_handle s old lawful e h.ready in
