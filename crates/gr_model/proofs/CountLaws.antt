@@ -17,9 +17,8 @@ number_same P Q (suc b) same n = grind (arith, same b, number_same P Q b (λ k l
 
 -- a fact that holds nowhere from a bound on holds as often below a greater bound
 number_beyond : (P : ℕ → Type 0) (b more c : ℕ) → c ≡ more + b → ((k : ℕ) → b ≤ k → P k → ⊥) → (n : ℕ) → IsNumberOf P b n ↔ IsNumberOf P c n
-number_beyond P b zero c is none n = grind arith
-number_beyond P b (suc more) zero is none n = absurd (omega arith)
 number_beyond P b (suc more) (suc c) is none n = grind (arith, number_beyond P b more c (omega arith) none n)
+number_beyond P b more c is none n = grind arith
 
 module _ (s t : Streams) (grows : Grows s t) (m : Space) (f : EventId) (n : ℕ) (stage : Stage s n f) where
   seen_stays : (e : EventId) → Sees s m f e ↔ Sees t m f e

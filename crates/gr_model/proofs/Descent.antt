@@ -7,7 +7,7 @@ use Rattle.gr_model.specs.HappensBefore.{BasePair, HappensBefore, behind_barrier
 use Rattle.gr_model.specs.Instances.{Mark}
 use Rattle.gr_model.specs.LawfulOrders.{IsAt, IsIn, IsLawful}
 use Rattle.gr_model.specs.Streams.{Streams}
-use Rattle.gr_model.specs.Waits.{IsGrounded, IsPrevious, Stage, Waits, for_meeting, for_previous, for_release}
+use Rattle.gr_model.specs.Waits.{IsGrounded, Stage, Waits, for_meeting, for_previous, for_release}
 
 -- the same instance, with the two barriers the other way round
 pub together-swap : {s : Streams} {a : Mark} {e b : EventId} → Together s a e b → Together s a b e
@@ -33,20 +33,18 @@ module _ (s : Streams) (At : ℕ → EventId → Type 0) (down : Descends s At) 
   pub below_in_item : (p : ℕ) (e f : EventId) → At p f → e.at ≡ f.at → e.index < f.index → IsBelow At p e
   below_in_item p e f at item below = below_by (f.index - suc e.index) p e f at item (omega arith)
 
-  -- behind a barrier, each barrier of its instance is lower
-  pub below_by_barrier : (p : ℕ) (a : Mark) (e b f : EventId) → At p f → Together s a e b → b.at ≡ f.at → b.index < f.index → IsBelow At p e
-  below_by_barrier p a e b f at met item below =
-      let next : EventId = record { at = f.at; index = suc b.index } in
-      let previous : IsPrevious b next = record { item = item; next = refl } in
-      ⊎_elim
-      (λ (same : suc b.index ≡ f.index). down p f e at (for_meeting a b (record { item = item; next = same }) (together-swap met)))
-      (λ (lt : suc b.index < f.index). let there = below_in_item p next f at refl lt in let far = down there.0 next e there.2 (for_meeting a b previous (together-swap met)) in (far.0, lt_trans far.1 there.1, far.2))
-      (eq-or-lt_of_le below)
-
   pub below_by_pair : (m : Space) (p : ℕ) (e f : EventId) → At p f → BasePair s m e f → IsBelow At p e
   below_by_pair m p e f at (sequenced item below there) = below_in_item p e f at item below
   below_by_pair m p e f at (synchronized match inclusive) = down p f e at (for_release match)
-  below_by_pair m p e f at (behind_barrier a b flagged met item below there) = below_by_barrier p a e b f at met item below
+  below_by_pair m p e f at (behind_barrier a b flagged met item below there) =
+      let next : EventId = record { at = f.at; index = suc b.index } in
+      ⊎_elim
+      (λ (same : suc b.index ≡ f.index). down p f e at (for_meeting a b (record { item = item; next = same }) (together-swap met)))
+      (λ (lt : suc b.index < f.index).
+      let there = below_in_item p next f at refl lt in
+      let far = down there.0 next e there.2 (for_meeting a b (record { item = item; next = refl }) (together-swap met)) in
+      (far.0, lt_trans far.1 there.1, far.2))
+      (eq-or-lt_of_le below)
 
   pub below_before : (m : Space) (e f : EventId) → HappensBefore s m e f → (p : ℕ) → At p f → IsBelow At p e
   below_before m e f (by_pair pair) p at = below_by_pair m p e f at pair

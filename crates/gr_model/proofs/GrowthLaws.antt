@@ -134,9 +134,8 @@ module _ (s t : Streams) (grows : Grows s t) where
       ((h.0.0, event_grows e h.0.0 h.0.1), can_go_grows e h.0 h.1, λ d w. stage_grows n d (h.2 d (waits_shrink n e h d w)))
 
   pub stage_shrinks : (k : ℕ) (e : EventId) → Stage s k e → (n : ℕ) → Stage t n e → Stage s n e
-  stage_shrinks zero e h n l = absurd h
-  stage_shrinks (suc k) e h zero l = l
   stage_shrinks (suc k) e h (suc n) l = (h.0, h.1, λ d w. stage_shrinks k d (h.2 d w) n (l.2 d (waits_grows e d h.0 w)))
+  stage_shrinks k e h n l = grind arith
 
   -- ---- what happens before an event that is reached
 

@@ -1,5 +1,5 @@
 -- An element of which something holds, and a pair of elements, an earlier and a later one, that are related.
-use Rattle.std.proofs.Common.{◌≡◌, ◌⊎◌, ◌↔◌, ℕ, zero, suc, ◌<◌, Bool, true, List, [], ◌∷◌, Some, slice_get, filter, refl, subst, inl, inr, arith}
+use Rattle.std.proofs.Common.{◌≡◌, ◌⊎◌, ◌↔◌, ℕ, suc, Bool, true, List, [], ◌∷◌, Some, slice_get, filter, refl, inl, inr, arith}
 use Rattle.gr_model.specs.Hits.{SomePair}
 
 -- P holds of an element
@@ -8,9 +8,8 @@ SomeOf P [] = ⊥
 SomeOf P (x ∷ xs) = P x ⊎ SomeOf P xs
 
 pub SomeOf-at : {X : Type 0} (P : X → Type 0) (xs : List X) (p : ℕ) (x : X) → slice_get xs p ≡ Some x → P x → SomeOf P xs
-SomeOf-at P [] p x at h = cc
-SomeOf-at P (y ∷ xs) zero x at h = inl (let same : x ≡ y = cc in subst P same h)
 SomeOf-at P (y ∷ xs) (suc p) x at h = inr (SomeOf-at P xs p x at h)
+SomeOf-at P xs p x at h = grind arith
 
 pub SomeOf-place : {X : Type 0} (P : X → Type 0) (xs : List X) → SomeOf P xs → (p : ℕ) × (x : X) × (slice_get xs p ≡ Some x) × P x
 SomeOf-place P [] h = absurd h
@@ -22,18 +21,14 @@ abbrev pub PairIn : {X : Type 0} → (X → X → Type 0) → List X → Type 0
 PairIn R [] = ⊥
 PairIn R (x ∷ xs) = SomeOf (R x) xs ⊎ PairIn R xs
 
-PairIn-at : {X : Type 0} (R : X → X → Type 0) (xs : List X) (p q : ℕ) (x y : X) → p < q → slice_get xs p ≡ Some x → slice_get xs q ≡ Some y → R x y → PairIn R xs
-PairIn-at R [] p q x y lt at_x at_y r = cc
-PairIn-at R (z ∷ xs) zero q x y lt at_x at_y r = grind (arith, SomeOf-at (R z) xs)
-PairIn-at R (z ∷ xs) (suc p) q x y lt at_x at_y r = grind (arith, PairIn-at R xs p)
-
 pub SomePair-from_in : {X : Type 0} (R : X → X → Type 0) (xs : List X) → PairIn R xs → SomePair R xs
 SomePair-from_in R [] h = absurd h
 SomePair-from_in R (z ∷ xs) (inl h) = let there = SomeOf-place (R z) xs h in (0, suc there.0, z, there.1, omega arith, refl, there.2, there.3)
 SomePair-from_in R (z ∷ xs) (inr h) = let there = SomePair-from_in R xs h in (suc there.0, suc there.1, there.2, there.3, omega (arith, there.4), there.5, there.6, there.7)
 
 pub PairIn-from_some : {X : Type 0} (R : X → X → Type 0) (xs : List X) → SomePair R xs → PairIn R xs
-PairIn-from_some R xs h = PairIn-at R xs h.0 h.1 h.2 h.3 h.4 h.5 h.6 h.7
+PairIn-from_some R (z ∷ xs) (suc p, suc q, x, y, lt, at_x, at_y, r) = inr (PairIn-from_some R xs (p, q, x, y, omega (arith, lt), at_x, at_y, r))
+PairIn-from_some R xs (p, q, x, y, lt, at_x, at_y, r) = grind (arith, SomeOf-at (R x))
 
 -- a filter keeps an element of which P holds, where it keeps all such elements
 pub SomeOf-filter : {X : Type 0} (keep : X → Bool) (P : X → Type 0) → ((x : X) → P x → keep x ≡ true) → (xs : List X) → SomeOf P xs ↔ SomeOf P (filter keep xs)

@@ -6,22 +6,19 @@ use Rattle.std.specs.Prelude.{◌≢◌}
 use Rattle.gr_model.specs.Groups.{put}
 
 pub put_same : {X : Type 0} (none : X) (xs : List X) (p : ℕ) (x : X) → get_or (put none xs p x) p none ≡ x
-put_same none [] zero x = refl
 put_same none [] (suc p) x = put_same none [] p x
-put_same none (y ∷ ys) zero x = refl
 put_same none (y ∷ ys) (suc p) x = put_same none ys p x
+put_same none xs p x = refl
 
 pub put_other : {X : Type 0} (none : X) (xs : List X) (p : ℕ) (x : X) (q : ℕ) → q ≢ p → get_or (put none xs p x) q none ≡ get_or xs q none
-put_other none [] zero x q apart = grind arith
 put_other none [] (suc p) x q apart = grind (arith, put_other none [] p x)
-put_other none (y ∷ ys) zero x q apart = grind arith
 put_other none (y ∷ ys) (suc p) x q apart = grind (arith, put_other none ys p x)
+put_other none xs p x q apart = grind arith
 
 pub length_put : {X : Type 0} (none : X) (xs : List X) (p : ℕ) (x : X) → length (put none xs p x) ≡ max (length xs) (p + 1)
-length_put none [] zero x = refl
-length_put none [] (suc p) x = let rest = length_put none [] p x in omega (arith, rest)
-length_put none (y ∷ ys) zero x = omega arith
-length_put none (y ∷ ys) (suc p) x = let rest = length_put none ys p x in omega (arith, rest)
+length_put none [] (suc p) x = omega (arith, length_put none [] p x)
+length_put none (y ∷ ys) (suc p) x = omega (arith, length_put none ys p x)
+length_put none xs p x = omega arith
 
 -- within the list it is written
 pub put_within : {X : Type 0} (none : X) (xs : List X) (p : ℕ) (x : X) → p < length xs → put none xs p x ≡ set xs p x
@@ -34,10 +31,9 @@ put_behind none [] p x over = grind arith
 put_behind none (y ∷ ys) p x over = grind (arith, put_behind none ys)
 
 pub map_put : {X Y : Type 0} (f : X → Y) (none : X) (xs : List X) (p : ℕ) (x : X) → map f (put none xs p x) ≡ put (f none) (map f xs) p (f x)
-map_put f none [] zero x = refl
 map_put f none [] (suc p) x = ap (λ rest. f none ∷ rest) (map_put f none [] p x)
-map_put f none (y ∷ ys) zero x = refl
 map_put f none (y ∷ ys) (suc p) x = ap (λ rest. f y ∷ rest) (map_put f none ys p x)
+map_put f none xs p x = refl
 
 -- ---- numbers
 

@@ -17,6 +17,5 @@ events_else g s other = ap (λ b. cond b (s.event ∷ []) []) (ne_eqb s.group g 
 
 -- a list is complete where what was added last is an end
 pub is_complete-push : (xs : List Event) (x : Event) → is_complete (xs ++ x ∷ []) ≡ is_end x
-is_complete-push [] x = refl
-is_complete-push (y ∷ []) x = refl
 is_complete-push (y ∷ z ∷ zs) x = is_complete-push (z ∷ zs) x
+is_complete-push xs x = refl

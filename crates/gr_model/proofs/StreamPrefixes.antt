@@ -1,5 +1,5 @@
 -- Prefixes of a work-group's stream: they grow by records that may come next, and a complete one is the whole.
-use Rattle.std.proofs.Common.{◌≡◌, ℕ, ◌-◌, ◌<◌, List, [], ◌∷◌, ◌++◌, length, refl, arith, length-append, IsTrue, IsFalse}
+use Rattle.std.proofs.Common.{◌≡◌, ℕ, ◌-◌, ◌<◌, List, [], ◌∷◌, ◌++◌, length, arith, length-append, IsTrue, IsFalse}
 use Rattle.std.proofs.lemmas.Grind.{common_steps}
 use Rattle.std.proofs.lemmas.Option.{gets, slice_get_within, slice_get-get_or}
 use Rattle.gr_model.specs.declared.event.Event.{Event}
@@ -26,11 +26,10 @@ prefix_prefix n xs ys prefix = record {
 
 -- what is complete has no more
 pub prefix_whole : (n : ℕ) (xs ys : List Event) → IsPrefix n (xs ++ ys) → IsTrue (is_complete xs) → ys ≡ []
-prefix_whole n [] ys prefix whole = cc
-prefix_whole n (x ∷ xs) [] prefix whole = refl
 prefix_whole n (x ∷ xs) (y ∷ ys) prefix whole =
     let end = slice_get-get_or (x ∷ xs) (length (x ∷ xs) - 1) x (omega arith) in
     grind (arith, prefix.good _ _ (slice_get-append (x ∷ xs) (y ∷ ys) _ _ end), is_complete-last (x ∷ xs) _ end, length-append xs (y ∷ ys))
+prefix_whole n xs ys prefix whole = cc
 
 -- what a stream has next
 pub next_ok : (n : ℕ) (xs : List Event) (e : Event) (ys : List Event) → IsPrefix n (xs ++ e ∷ ys) → IsEventOk e n
