@@ -37,13 +37,10 @@ module _ (s : Streams) (complete : AreComplete s) (matched : (e : EventId) → �
   -- an event that is not grounded, though all before it are, names nothing
   no_name : (e : EventId) → IsEvent s e → IsPassed e → (IsIn all e → ⊥) → (m : Name) → HasName s e m → ⊥
   no_name e there passed away m named =
-      matched e (record {
-        event = there;
-        name = m;
-        named = named;
-        held = λ g. away (stage_in s n all is g.0 e g.1);
-        before = λ d item lt. (n, is.stage d (subst (λ i. IsIn all (event_of i d.index)) (sym item) (passed d.index lt)));
-      })
+      let held : ¬ IsGrounded s e = λ g. away (stage_in s n all is g.0 e g.1) in
+      let before : (d : EventId) → d.at ≡ e.at → d.index < e.index → IsGrounded s d = λ d item lt.
+      (n, is.stage d (subst (λ i. IsIn all (event_of i d.index)) (sym item) (passed d.index lt))) in
+      matched e (search (there, named, held, before))
 
   -- the event before one is among those before it
   previous_in : (e d : EventId) → IsPassed e → IsPrevious d e → IsIn all d
@@ -63,9 +60,7 @@ module _ (s : Streams) (complete : AreComplete s) (matched : (e : EventId) → �
 
   -- the barriers of an instance are together
   joined : (a m : Mark) (c d b : EventId) → Together s a c d → Together s m d b → Together s a c b
-  joined a m c d b first second =
-      let second : StandsIn s b first.group first.instance = meets_in s first.group first.instance m d b first.second second in
-      record { group = first.group; instance = first.instance; convergent = first.convergent; first = first.first; second = second }
+  joined a m c d b first second = search (first, meets_in s first.group first.instance m d b first.second second)
 
   -- with a barrier that is grounded, each that it meets is
   met_in : (k : ℕ) (a : Mark) (c d : EventId) → Stage s k c → Together s a c d → IsIn all d

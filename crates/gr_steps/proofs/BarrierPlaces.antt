@@ -1,5 +1,5 @@
 -- The places of the elements that pass a test, and so the barriers of an item: each has one number, and a later one a greater.
-use Rattle.std.proofs.Common.{◌≡◌, ℕ, zero, suc, ◌+◌, ◌<◌, Bool, true, false, cond, List, [], ◌∷◌, Some, None, slice_get, refl, sym, ◌∙◌, arith}
+use Rattle.std.proofs.Common.{◌≡◌, ℕ, suc, ◌+◌, ◌<◌, Bool, true, false, cond, List, [], ◌∷◌, Some, None, slice_get, refl, sym, ◌∙◌, arith}
 use Rattle.gr_model.specs.declared.event.Event.{Event}
 use Rattle.gr_model.specs.declared.event.EventId.{EventId}
 use Rattle.gr_model.specs.Barriers.{IsConvergent, IsDivergent, StandsIn, Together, is_barrier, mark_of}
@@ -14,9 +14,7 @@ use Rattle.gr_steps.proofs.Deciding.{by_cases}
 
 -- an element that passes the test has a number
 pub places_from-find : {X : Type 0} (test : X → Bool) (i : ℕ) (xs : List X) (j : ℕ) (x : X) → slice_get xs j ≡ Some x → test x ≡ true → (k : ℕ) × (slice_get (places_from test i xs) k ≡ Some (i + j))
-places_from-find test i [] j x at t = cc
-places_from-find {X} test i (y ∷ xs) zero x at t = grind (arith)
-places_from-find {X} test i (y ∷ xs) (suc j) x at t =
+places_from-find test i (y ∷ xs) (suc j) x at t =
     let rest = places_from test (suc i) xs in
     let found = places_from-find test (suc i) xs j x at t in
     let there : slice_get rest found.0 ≡ Some (i + suc j) = grind (arith, found.1) in
@@ -24,6 +22,7 @@ places_from-find {X} test i (y ∷ xs) (suc j) x at t =
       | true ↦ (suc found.0, there)
       | false ↦ (found.0, there)
     ]
+places_from-find test i xs j x at t = grind arith
 
 ordered_here : (i m n : ℕ) (rest : List ℕ) → ((l : ℕ) → slice_get rest l ≡ Some n → i < n) → ((k l : ℕ) → k < l → slice_get rest k ≡ Some m → slice_get rest l ≡ Some n → m < n) → (k l : ℕ) → k < l → slice_get (i ∷ rest) k ≡ Some m → slice_get (i ∷ rest) l ≡ Some n → m < n
 ordered_here i m n rest above later k l lt a b = grind arith

@@ -20,13 +20,9 @@ filter-there test (y ∷ xs) k x at = grind (arith, later, filter-there test xs)
     later : (p : ℕ) → (slice_get xs p ≡ Some x) × (test x ≡ true) → (q : ℕ) × (slice_get (y ∷ xs) q ≡ Some x) × (test x ≡ true)
     later p h = (suc p, h.0, h.1)
 
--- the record of an event stands in its group's list
-pub record_there : (s : Streams) (e : EventId) (x : Event) → event_at s e ≡ Some x → (p : ℕ) × (slice_get (list_of s e.at.group) p ≡ Some x)
-record_there s e x at = let there = filter-there (is_of e.at.item) (list_of s e.at.group) e.index x at in (there.0, there.1)
-
 -- a group with an event has a list
 pub group_there : (s : Streams) (e : EventId) → IsEvent s e → e.at.group < length s.lists
-group_there s e there = grind (arith, record_there, get_or_past, slice_get_past)
+group_there s e there = grind (arith, filter-there, get_or_past, slice_get_past)
 
 module _ (s : Streams) (prefixes : ArePrefixes s) (e : EventId) (x : Event) (at : event_at s e ≡ Some x) where
   -- an event is of a group and an item of the shape
@@ -44,5 +40,5 @@ one_release s n e d f a b = grind (arith, same_event)
 
 pub barriers_name_nothing : (s : Streams) → ArePrefixes s → (e : EventId) (x : Event) (n : Name) → event_at s e ≡ Some x → is_barrier x ≡ true → Contains x.names n → ⊥
 barriers_name_nothing s prefixes e x n at barrier named =
-    let there = record_there s e x at in
+    let there = filter-there (is_of e.at.item) (list_of s e.at.group) e.index x at in
     grind (arith, barrier, named, (prefixes.each e.at.group (group_of_event s prefixes e x at)).good there.0 x there.1)

@@ -22,15 +22,11 @@ number_from P c (suc b) le before behind =
     (eq-or-lt_of_le le)
 
 module _ (s : Streams) (order : List EventId) (lawful : IsLawful s order) (grounded : AreGrounded s order) (c : ItemId → ℕ) (first : AreFirst order c) where
-  few : (i : ItemId) → c i ≤ length (trace_of s i)
-  few i =
-      let e : EventId = record { at = i; index = length (trace_of s i) } in
-      grind (arith, first e, lawful.event, slice_get_within)
-
   pub held_at_rest : IsHeld s (sum_by (λ i. length (trace_of s i) - c i) (items_of s.sizes))
   held_at_rest = (
     λ i. length (trace_of s i) - c i,
-    λ i there. number_from (λ k. ¬ IsGrounded s (record { at = i; index = k })) (c i) (length (trace_of s i)) (few i)
+    λ i there. number_from (λ k. ¬ IsGrounded s (record { at = i; index = k })) (c i) (length (trace_of s i))
+        (grind (arith, first (record { at = i; index = length (trace_of s i) }), lawful.event, slice_get_within))
         (λ k lt held. grind (arith, grounded (record { at = i; index = k }), first (record { at = i; index = k })))
         (λ k ge lt g. grind (arith, grounded (record { at = i; index = k }), first (record { at = i; index = k }))),
     refl,

@@ -33,13 +33,9 @@ module _ (s : Streams) (prefixes : ArePrefixes s) (order : List EventId) (lawful
 
   met_event : (x : EventId) → StandsIn s x g k → IsEvent s x × IsSettled s x
   met_event x stands =
-      let there = barrier_there s x g k stands in (
-        (there.0, there.1),
-        record {
-          release = λ n named. absurd (no_name x n stands named);
-          instance = λ h l other. inl (a, grind (arith, same_instance s x g k h l stands other, meeting.convergent));
-        },
-      )
+      let there = barrier_there s x g k stands in
+      let meets : (h l : ℕ) → StandsIn s x h l → IsConvergent s h l a = λ h l other. grind (arith, same_instance s x g k h l stands other, meeting.convergent) in
+      ((there.0, there.1), record { release = λ n named. absurd (no_name x n stands named); instance = λ h l other. inl (a, meets h l other) })
 
   pub lawful_meet : IsLawful s (order ++ bs)
   lawful_meet = lawful_longer s order bs lawful (record {

@@ -5,7 +5,7 @@ use Rattle.gr_model.specs.declared.event.ItemId.{ItemId}
 use Rattle.gr_model.specs.declared.event.Name.{Name}
 use Rattle.gr_model.specs.Barriers.{IsDivergent, StandsIn}
 use Rattle.gr_model.specs.LawfulOrders.{IsIn, IsLawful}
-use Rattle.gr_model.specs.Names.{HasName, MatchesBy}
+use Rattle.gr_model.specs.Names.{HasItsReleases, HasName, MatchesBy}
 use Rattle.gr_model.specs.Streams.{IsEvent, Streams}
 use Rattle.gr_model.specs.Waits.{IsPrevious, Waits, for_arrival, for_meeting, for_previous, for_release}
 use Rattle.gr_model.proofs.GrowthLaws.{not_both}
@@ -22,13 +22,10 @@ next_of_item s order lawful e ready d item = (
 module _ (s : Streams) (order : List EventId) (lawful : IsLawful s order) (c : ItemId → ℕ) (first : AreFirst order c) (e : EventId) where
   -- the next event is ready if its release is handled and it is no barrier of a convergent or waiting instance
   pub next_is_ready : IsEvent s e → e.index ≡ c e.at → ((n : Name) → HasName s e n → (d : EventId) × MatchesBy s n e d × (d.index < c d.at)) → ((g k : ℕ) → StandsIn s e g k → IsDivergent s g k) → IsReady s order e
-  next_is_ready there next release divergent = record {
-    event = there;
-    fresh = λ h. omega (arith, (first e).0 h, next);
-    release = λ n named. let d = release n named in (d.0, d.1);
-    waits = waits;
-    instance = divergent;
-  }
+  next_is_ready there next release divergent =
+      let fresh : ¬ IsIn order e = λ h. omega (arith, (first e).0 h, next) in
+      let releases : HasItsReleases s e = λ n named. let d = release n named in (d.0, d.1) in
+      search (there, fresh, releases, waits, divergent)
     where
       previous_in : (d : EventId) → IsPrevious d e → IsIn order d
       previous_in d p = (first d).1 (let same : c d.at ≡ c e.at = ap c p.item in omega (arith, p.next, next, same))

@@ -57,10 +57,8 @@ module _ (s : Streams) (complete : AreComplete s) where
       (take_next reached xs))
 
   stuck_closed : (n : ℕ) (reached xs : List EventId) → ((e : EventId) → IsIn reached e → Stage s n e) → ((e : EventId) → IsEvent s e → IsIn reached e ⊎ IsIn xs e) → AreStuck s reached xs → IsClosed s n reached
-  stuck_closed n reached xs stage cover stuck = record {
-    stage = stage;
-    closed = λ e there go waits. grind (arith, cover e there, stuck e, there, go, waits);
-  }
+  stuck_closed n reached xs stage cover stuck =
+      record { stage = stage; closed = λ e there go waits. grind (arith, cover e there, stuck e, there, go, waits) }
 
   stage_more : (n : ℕ) (reached : List EventId) (x : EventId) → ((e : EventId) → IsIn reached e → Stage s n e) → IsNext s reached x → (e : EventId) → IsIn (x ∷ reached) e → Stage s (suc n) e
   stage_more n reached x stage next e there =

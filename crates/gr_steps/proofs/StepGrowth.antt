@@ -1,13 +1,13 @@
 -- A lawful order, and a step behind it, stay so where lists that are not complete grow.
-use Rattle.std.proofs.Common.{ℕ, suc, List, [], ◌∷◌, ◌++◌, length, ◌∙◌, arith}
+use Rattle.std.proofs.Common.{ℕ, suc, List, [], ◌∷◌, ◌++◌, length, arith}
 use Rattle.std.proofs.lemmas.Grind.{common_steps}
 use Rattle.std.proofs.lemmas.Option.{gets}
 use Rattle.gr_model.specs.declared.event.EventId.{EventId}
-use Rattle.gr_model.specs.Barriers.{IsConvergent, StandsIn}
+use Rattle.gr_model.specs.Barriers.{IsConvergent, IsDivergent, StandsIn}
 use Rattle.gr_model.specs.Instances.{Mark}
-use Rattle.gr_model.specs.LawfulOrders.{IsAt, IsLawful}
+use Rattle.gr_model.specs.LawfulOrders.{IsAt, IsIn, IsLawful}
 use Rattle.gr_model.specs.Streams.{Grows, Streams}
-use Rattle.gr_model.specs.Waits.{Stage}
+use Rattle.gr_model.specs.Waits.{Stage, Waits}
 use Rattle.gr_model.proofs.Descent.{lawful_stage}
 use Rattle.gr_model.proofs.GrowthLaws.{convergent_grows, divergent_grows, size_of_met, stage_grows, stands_grows, stands_shrinks, together_shrinks, waits_shrink}
 use Rattle.gr_steps.specs.Steps.{AreBarriers, Handles, Meets}
@@ -34,16 +34,10 @@ module _ (s t : Streams) (grows : Grows s t) (old : List EventId) (lawful : IsLa
       let longer = lawful_handle s old lawful e h.ready in
       let stage = lawful_stage s (old ++ (e ∷ [])) longer (suc (length old)) (length old) e (omega arith) (grind (arith, common_steps, gets)) in
       let there = stage_grows s t grows (suc (length old)) e stage in
-      record {
-        ready = record {
-          event = there.0;
-          fresh = h.ready.fresh;
-          release = there.1.release;
-          waits = λ d w. h.ready.waits d (waits_shrink s t grows (length old) e stage d w);
-          instance = λ g k stands. divergent_grows s t grows g k (h.ready.instance g k (stands_shrinks s t grows e g k h.ready.event stands));
-        };
-        order = h.order;
-      }
+      let waits : (d : EventId) → Waits t e d → IsIn old d = λ d w. h.ready.waits d (waits_shrink s t grows (length old) e stage d w) in
+      let instance : (g k : ℕ) → StandsIn t e g k → IsDivergent t g k = λ g k stands.
+      divergent_grows s t grows g k (h.ready.instance g k (stands_shrinks s t grows e g k h.ready.event stands)) in
+      search (there.0, h.ready.fresh, there.1.release, waits, instance, h.order)
 
   -- the barriers of the instance are those that they were
   stands_was : (g k : ℕ) (a : Mark) (bs : List EventId) → IsConvergent s g k a → AreBarriers s g k bs → (b : EventId) → StandsIn t b g k → StandsIn s b g k
@@ -53,13 +47,11 @@ module _ (s t : Streams) (grows : Grows s t) (old : List EventId) (lawful : IsLa
       grind (arith, is, stands_same t there.0 b g k (stands_grows s t grows there.0 g k is.1) stands is.0)
 
   pub meets_grows : (g k : ℕ) (new : List EventId) → Meets s old g k new → Meets t old g k new
-  meets_grows g k new h = record {
-    mark = h.mark;
-    meeting = meeting_of t old lawful_grows g k h.mark
-        (convergent_grows s t grows g k h.mark h.meeting.convergent)
-        (λ met. h.meeting.fresh (met.0, stands_was g k h.mark h.barriers h.meeting.convergent h.are met.0 met.1, met.2))
-        (λ b d stands previous. h.meeting.before b d (stands_was g k h.mark h.barriers h.meeting.convergent h.are b stands) previous);
-    barriers = h.barriers;
-    are = record { count = h.are.count ∙ size_of_met s t grows g k h.mark h.meeting.convergent; each = λ i b at. let is = h.are.each i b at in (is.0, stands_grows s t grows b g k is.1) };
-    order = h.order;
-  }
+  meets_grows g k new h =
+      let convergent = h.meeting.convergent in
+      let was = stands_was g k h.mark h.barriers convergent h.are in
+      let meeting = meeting_of t old lawful_grows g k h.mark (convergent_grows s t grows g k h.mark convergent)
+      (λ met. h.meeting.fresh (met.0, was met.0 met.1, met.2))
+      (λ b d stands previous. h.meeting.before b d (was b stands) previous) in
+      let are : AreBarriers t g k h.barriers = grind (arith, h.are.count, h.are.each, size_of_met s t grows g k h.mark convergent, stands_grows s t grows) in
+      search (meeting, are, h.order)
