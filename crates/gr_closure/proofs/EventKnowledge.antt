@@ -20,8 +20,10 @@ module _ (s : Streams) (m : Space) (old new : List EventId) (e : EventId) (lawfu
   handled_cases x h = grind (arith, in_longer old (e ∷ []) x (subst (λ l. IsIn l x) handles.order h))
 
   pub handled_knows : (d : EventId) → Knows s m new e.at d ↔ Sees s m e d
-  handled_knows d =
-      (λ known. ⊎_elim (λ was. (handled_sees d).1 (inr (inl was))) now (knows_split s m old (e ∷ []) new e.at d handles.order known), by_event e there refl)
+  handled_knows d = (
+    λ known. ⊎_elim (λ was. (handled_sees d).1 (inr (inl was))) now (knows_split s m old (e ∷ []) new e.at d handles.order known),
+    by_event e there refl,
+  )
     where
       there : IsIn new e
       there = grind (arith, handles.order, in_back old (e ∷ []) e (0, refl))
