@@ -75,7 +75,8 @@ impl<A: Allocator> Piece<A> {
         if !event.names.as_slice().is_empty() {
             return self.push_naming(event);
         }
-        self.shorts.push(Short::of(event, false))?;
+        self.shorts.reserve(1)?;
+        self.shorts.push_reserved(Short::of(event, false));
         Ok(())
     }
 
@@ -87,8 +88,9 @@ impl<A: Allocator> Piece<A> {
         ensures ok { OnOk result (self.new ≡ self.old ++ event.now ∷ []) }
         ensures err { OnErr result (self.new ≡ self.old) }
     {
+        self.shorts.reserve(1)?;
         self.names.reserve(1)?;
-        self.shorts.push(Short::of(event, true))?;
+        self.shorts.push_reserved(Short::of(event, true));
         self.names.push_reserved(event.names);
         Ok(())
     }

@@ -100,6 +100,7 @@ impl<A: Allocator> Touches<A> {
 
     /// Keeps a touch.
     /// Requires: it belongs here (`has`).
+    #[inline(always)]
     pub(crate) fn add(&mut self, touch: Touch) -> Result<(), Memory>
         requires { IsOfClass self.old.class self.old.group touch }
         ensures kept { OnOk result (Keeps self.new.touches (self.old.touches ++ touch ∷ [])) }
