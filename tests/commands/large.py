@@ -280,13 +280,21 @@ class Histories(ProgramTest):
         wanted = "".join(f"access 0 0 {index} write record {index} phase 0 behind {it}\n" for index, it in enumerate(behind))
         self.assert_run(self.gpurace("history", "g", "16", "writes"), f"{wanted}end accesses 2000 held 0 races no\n".encode(), 0)
 
-
     def test_262144_items_that_count(self):
         """Each item of 1,024 groups adds one to a counter."""
         adds = b"".join(b"\x04\x00\x02\x01" + access(item, 0, GLOBAL, 16)[4:] for item in range(256))
         self.put("counter", b"".join(b"GRT3" + header(group, 256)[4:] + adds + END for group in range(1_024)))
         end = "end accesses 262144 held 0 races no"
         self.assert_history(["counter"], "rmw dev rlx", lambda item, index: item, 262_144, end, 0)
+        self.assert_run(self.gpurace("explain", "g", "16", "counter"), b"no race global 16\n", 0)
+
+    def test_60000_items_of_one_group_that_count(self):
+        """Each item adds one to a counter in local memory, at work-group scope."""
+        adds = (b"\x04\x01\x01\x01" + access(item, 0, LOCAL, 16)[4:] for item in range(60_000))
+        self.put("counter", header(0, 60_000) + b"".join(adds) + END)
+        end = "end accesses 60000 held 0 races no"
+        self.assert_run(self.gpurace("explain", "l0", "16", "counter"), b"no race local 0 16\n", 0)
+        self.assertEqual(self.gpurace("history", "l0", "16", "counter").stdout.decode().splitlines()[-1], end)
 
     def test_65536_items_that_take_turns(self):
         """Each item takes the release of the one before it, in its own group or at the end of the group before."""
