@@ -1,5 +1,5 @@
 -- What is kept of a list of touches tells the same clashes.
-use Rattle.std.proofs.Common.{◌≡◌, ◌⊎◌, inl, inr, ℕ, zero, suc, ◌+◌, ◌<◌, ◌≤◌, All, Bool, true, false, ◌&&◌, List, [], ◌∷◌, ◌++◌, length, get_or, slice_set, is_some, Option, Some, None, Contains, drop, refl, sym, ◌∙◌, ap, subst, arith, ⊎_elim, append_assoc}
+use Rattle.std.proofs.Common.{◌≡◌, ◌⊎◌, ◌↔◌, inl, inr, ℕ, zero, suc, ◌+◌, ◌<◌, ◌≤◌, All, Bool, true, false, cond, ◌&&◌, List, [], ◌∷◌, ◌++◌, length, get_or, slice_set, is_some, Option, Some, None, Contains, drop, refl, sym, ◌∙◌, ap, arith, ⊎_elim, append_assoc}
 use Rattle.std.specs.Prelude.{not}
 use Rattle.std.specs.List.{list_any, All, find}
 use Rattle.std.specs.Bool.{MatchBool}
@@ -11,12 +11,12 @@ use Rattle.std.proofs.lemmas.Bool.Decides.{nat_tests}
 use Rattle.std.specs.Option.{option_or}
 use Rattle.std.proofs.lemmas.List.{append-nil, drop_all, drop_more}
 use Rattle.std.proofs.lemmas.List.Folds.{Any-from_list_any, find-append, list_any_at}
-use Rattle.std.proofs.lemmas.List.Elements.{All-contains, All-contains_itself, All-weaker, Contains-append_left, Contains-append_right, Contains-append_cases, Contains-push, Contains-push_cases}
+use Rattle.std.proofs.lemmas.List.Elements.{All-tail, All-contains, All-contains_itself, All-weaker, Contains-append_left, Contains-append_right, Contains-append_cases, Contains-push, Contains-push_cases}
 use Rattle.gr_model.specs.declared.class.Class.{Class}
 use Rattle.gr_model.specs.Classes.{exempt}
 use Rattle.gr_clocks.specs.ClockedAccess.{ClockedAccess}
 use Rattle.gr_shadow.specs.declared.touch.Touch.{Touch}
-use Rattle.gr_shadow.specs.Keeps.{touch_clashes, is_unseen, IsInPlaceOf, Keeps, kept_group, TouchList, IsOfClass, all_touches}
+use Rattle.gr_shadow.specs.Keeps.{touch_clashes, is_unseen, IsInPlaceOf, Keeps, TouchList, IsOfClass, all_touches}
 
 -- ---- elements of which a test holds
 
@@ -25,6 +25,9 @@ Contains-first x xs = Contains-append_left (x ∷ []) xs x (Contains-push [] x)
 
 pub Contains-rest : {X : Type 0} (x : X) (xs : List X) (z : X) → Contains xs z → Contains (x ∷ xs) z
 Contains-rest x xs z there = Contains-append_right (x ∷ []) xs z there
+
+pub Contains-append : {X : Type 0} (xs ys : List X) (x : X) → Contains (xs ++ ys) x ↔ (Contains xs x ⊎ Contains ys x)
+Contains-append xs ys x = (Contains-append_cases xs ys x, ⊎_elim (Contains-append_left xs ys x) (Contains-append_right xs ys x))
 
 found : {X : Type 0} (f : X → Bool) (xs : List X) → list_any f xs ≡ true → (x : X) × Contains xs x × (f x ≡ true)
 found f xs h = let any = Any-from_list_any f xs h in (any.1, (any.0, any.2, any.3), any.4)
@@ -36,14 +39,6 @@ same_answer : (b c : Bool) → (b ≡ true → c ≡ true) → (c ≡ true → b
 same_answer b c to from = grind (arith, to, from)
 
 -- ---- the first element of which a test holds
-
-find_same : {X : Type 0} (f g : X → Bool) (xs : List X) → ((x : X) → Contains xs x → f x ≡ g x) → find f xs ≡ find g xs
-find_same f g [] same = refl
-find_same f g (x ∷ xs) same = grind (arith, same x (Contains-first x xs), find_same f g xs (λ z there. same z (Contains-rest x xs z there)))
-
-find_none : {X : Type 0} (f : X → Bool) (xs : List X) → ((x : X) → Contains xs x → f x ≡ false) → find f xs ≡ None
-find_none f [] none = refl
-find_none f (x ∷ xs) none = grind (arith, none x (Contains-first x xs), find_none f xs (λ z there. none z (Contains-rest x xs z there)))
 
 pub find_told : {X : Type 0} (f : X → Bool) (xs : List X) → list_any f xs ≡ is_some (find f xs)
 find_told f [] = refl
@@ -64,16 +59,12 @@ later_clashes : (y : ClockedAccess) (t u : Touch) → IsInPlaceOf t u → touch_
 later_clashes y t u p h = grind (arith, nat_tests, p.item, p.class, p.index)
 
 pub clashes_kept : (y : ClockedAccess) (kept all : List Touch) → Keeps kept all → list_any (touch_clashes y) kept ≡ list_any (touch_clashes y) all
-clashes_kept y kept all k = same_answer _ _ to from
-  where
-    to : list_any (touch_clashes y) kept ≡ true → list_any (touch_clashes y) all ≡ true
-    to h = let t = found (touch_clashes y) kept h in finds (touch_clashes y) all t.0 (k.each t.0 t.1) t.2
-
-    from : list_any (touch_clashes y) all ≡ true → list_any (touch_clashes y) kept ≡ true
-    from h =
-        let u = found (touch_clashes y) all h in
-        let t = k.some u.0 u.1 in
-        finds (touch_clashes y) kept t.0 t.1 (later_clashes y t.0 u.0 t.2 u.2)
+clashes_kept y kept all k = same_answer _ _
+    (λ h. let t = found (touch_clashes y) kept h in finds (touch_clashes y) all t.0 (k.each t.0 t.1) t.2)
+    (λ h.
+    let u = found (touch_clashes y) all h in
+    let t = k.some u.0 u.1 in
+    finds (touch_clashes y) kept t.0 t.1 (later_clashes y t.0 u.0 t.2 u.2))
 
 -- ---- lists that are kept
 
@@ -105,7 +96,7 @@ Keeps-append a b c d k l = record {
 }
 
 swapped : (a b c : List Touch) (t : Touch) → Contains ((a ++ b) ++ c) t → Contains ((a ++ c) ++ b) t
-swapped a b c t h = ⊎_elim (λ p. ⊎_elim (λ q. Contains-append_left (a ++ c) b t (Contains-append_left a c t q)) (λ q. Contains-append_right (a ++ c) b t q) (Contains-append_cases a b t p)) (λ p. Contains-append_left (a ++ c) b t (Contains-append_right a c t p)) (Contains-append_cases (a ++ b) c t h)
+swapped a b c t h = grind (arith, Contains-append (a ++ b) c t, Contains-append a b t, Contains-append (a ++ c) b t, Contains-append a c t)
 
 -- one more touch, kept in the first or in the second of two lists
 pub Keeps-first : (a b x r : List Touch) → Keeps a (b ++ x) → Keeps (a ++ r) ((b ++ r) ++ x)
@@ -125,20 +116,15 @@ Keeps-at (t ∷ ts) (suc p) old new x within at k = Keeps-second (t ∷ []) _ ts
 only : (t u : Touch) → Contains (t ∷ []) u → t ≡ u
 only t u h = ⊎_elim (λ none. absurd (omega (arith, none.1))) (λ same. same) (Contains-push_cases [] t u h)
 
-stands_for_two : (t u x : Touch) → IsInPlaceOf t u → Contains (u ∷ []) x ⊎ Contains (t ∷ []) x → IsInPlaceOf t x
-stands_for_two t u x stands h = ⊎_elim (λ p. subst (λ (v : Touch). IsInPlaceOf t v) (only u x p) stands) (λ p. subst (λ (v : Touch). IsInPlaceOf t v) (only t x p) (in_place_of_itself t)) h
-
-pub Keeps-other : (t u : Touch) → IsInPlaceOf t u → Keeps (t ∷ []) (u ∷ t ∷ [])
-Keeps-other t u stands = record {
-  each = λ x h. Contains-append_right (u ∷ []) (t ∷ []) x h;
-  some = λ x h. (t, Contains-first t [], stands_for_two t u x stands (Contains-append_cases (u ∷ []) (t ∷ []) x h));
-}
-
 pub Keeps-one : (t u : Touch) → IsInPlaceOf t u → Keeps (t ∷ []) (t ∷ u ∷ [])
 Keeps-one t u stands = record {
   each = λ x h. Contains-append_left (t ∷ []) (u ∷ []) x h;
-  some = λ x h. (t, Contains-first t [], stands_for_two t u x stands (⊎_elim (λ p. inr p) (λ p. inl p) (Contains-append_cases (t ∷ []) (u ∷ []) x h)));
+  some = λ x h. (t, Contains-first t [], ⊎_elim (λ p. rw (← only t x p) (in_place_of_itself t)) (λ p. rw (← only u x p) stands) (Contains-append_cases (t ∷ []) (u ∷ []) x h));
 }
+
+pub Keeps-other : (t u : Touch) → IsInPlaceOf t u → Keeps (t ∷ []) (u ∷ t ∷ [])
+Keeps-other t u stands =
+    Keeps-trans _ (t ∷ u ∷ []) _ (Keeps-one t u stands) (Keeps-same _ _ (swapped [] (t ∷ []) (u ∷ [])) (swapped [] (u ∷ []) (t ∷ [])))
 
 -- what holds of all touches holds of those that are kept
 pub All-kept : (P : Touch → Type 0) (kept all : List Touch) → Keeps kept all → All P all → All P kept
@@ -158,13 +144,11 @@ taking next kept false next_after kept_after took other same = (other refl, same
 module _ {S : Type 0} (R : S → Touch → Touch → Bool → S → Touch → Touch → Type 0) (takes : (s : S) (x k : Touch) (b : Bool) (t : S) (x' k' : Touch) → R s x k b t x' k' → IsTaking x k b x' k') where
   deduped : (s : S) (k : Touch) (xs ys : List Touch) → DedupsFrom R s k xs ys → Keeps ys (k ∷ xs)
   deduped s k [] ys is = rw is (Keeps-self (k ∷ []))
-  deduped s k (x ∷ xs) ys (b, t, x', k', r, rest) = step b (takes s x k b t x' k' r) rest (deduped t k' xs ys) (λ zs. deduped t x' xs zs)
-    where
-      step : (b : Bool) → IsTaking x k b x' k' → MatchBool b (DedupsFrom R t k' xs ys) ((zs : List Touch) × DedupsFrom R t x' xs zs × (ys ≡ k' ∷ zs)) → (DedupsFrom R t k' xs ys → Keeps ys (k' ∷ xs)) → ((zs : List Touch) → DedupsFrom R t x' xs zs → Keeps zs (x' ∷ xs)) → Keeps ys (k ∷ x ∷ xs)
-      step true took rest taken others = Keeps-trans ys (k' ∷ xs) (k ∷ x ∷ xs) (taken rest) (Keeps-append (k' ∷ []) (k ∷ x ∷ []) xs xs took (Keeps-self xs))
-      step false same (zs, more, is) taken others =
-          let kept : Keeps (k ∷ zs) (k ∷ x ∷ xs) = Keeps-append (k ∷ []) (k ∷ []) zs (x ∷ xs) (Keeps-self (k ∷ [])) (subst (λ (z : Touch). Keeps zs (z ∷ xs)) same.1 (others zs more)) in
-          rw (is, same.0) kept
+  deduped s k (x ∷ xs) ys (true, t, x', k', r, rest) =
+      Keeps-trans ys (k' ∷ xs) (k ∷ x ∷ xs) (deduped t k' xs ys rest) (Keeps-append (k' ∷ []) (k ∷ x ∷ []) xs xs (takes s x k true t x' k' r) (Keeps-self xs))
+  deduped s k (x ∷ xs) ys (false, t, x', k', r, (zs, more, is)) =
+      let same = takes s x k false t x' k' r in
+      rw (is, same.0) (Keeps-append (k ∷ []) (k ∷ []) zs (x ∷ xs) (Keeps-self (k ∷ [])) (rw (← same.1) (deduped t x' xs zs more)))
 
   pub Keeps-deduped : (s : S) (xs ys : List Touch) → IsDeduped R s xs ys → Keeps ys xs
   Keeps-deduped s [] ys is = let none : ys ≡ [] = is.told in rw none (Keeps-self [])
@@ -182,32 +166,22 @@ Keeps-push [] new x k = rw append-nil k
 Keeps-push (l ∷ lists) new x k = Keeps-second l.touches _ (all_touches lists) x (Keeps-push lists new x k)
 
 -- what is found behind the first lists
-unfold_at : (f : Touch → Bool) (lists : List TouchList) (k : ℕ) (l : TouchList) → k < length lists → l ≡ get_or lists k l → find f (all_touches (drop k lists)) ≡ option_or (find f l.touches) (find f (all_touches (drop (k + 1) lists)))
-unfold_at f lists k l lt is =
-    ap (λ ls. find f (all_touches ls)) (drop_more lists k l lt)
-    ∙ ap (λ (m : TouchList). find f (m.touches ++ all_touches (drop (k + 1) lists))) (sym is)
-    ∙ find-append f l.touches (all_touches (drop (k + 1) lists))
-
-pub found_here : (f : Touch → Bool) (lists : List TouchList) (k : ℕ) (l : TouchList) (o : Option Touch) → k < length lists → l ≡ get_or lists k l → find f l.touches ≡ o → is_some o ≡ true → find f (all_touches (drop k lists)) ≡ o
-found_here f lists k l o lt is found some = grind (arith, unfold_at f lists k l lt is)
-
-pub found_later : (f : Touch → Bool) (lists : List TouchList) (k : ℕ) (l : TouchList) (o : Option Touch) → k < length lists → l ≡ get_or lists k l → find f l.touches ≡ o → is_some o ≡ false → find f (all_touches (drop k lists)) ≡ find f (all_touches (drop (k + 1) lists))
-found_later f lists k l o lt is found none = grind (arith, unfold_at f lists k l lt is)
+pub found_at : (f : Touch → Bool) (lists : List TouchList) (k : ℕ) (l : TouchList) → k < length lists → l ≡ get_or lists k l → find f (all_touches (drop k lists)) ≡ option_or (find f l.touches) (find f (all_touches (drop (k + 1) lists)))
+found_at f lists k l lt is = rw (drop_more lists k l lt, ← is) (find-append f l.touches (all_touches (drop (k + 1) lists)))
 
 pub found_nowhere : (f : Touch → Bool) (lists : List TouchList) (k : ℕ) → length lists ≤ k → find f (all_touches (drop k lists)) ≡ None
-found_nowhere f lists k all = ap (λ ls. find f (all_touches ls)) (drop_all k lists all)
+found_nowhere f lists k all = rw (drop_all k lists all) refl
 
 -- ---- touches of one class
 
-exempt_by_kept_group : (c : Class) (g : ℕ) (d : Class) (h : ℕ) → exempt c g d h ≡ exempt c (kept_group c g) d h
-exempt_by_kept_group c g d h = grind arith
-
 touch_told : (y : ClockedAccess) (c : Class) (g : ℕ) (t : Touch) → IsOfClass c g t → touch_clashes y t ≡ (not (exempt c g y.class y.item.group) && is_unseen y t)
-touch_told y c g t of = grind (arith, exempt_by_kept_group t.class t.item.group y.class y.item.group, of.apart, of.same)
+touch_told y c g t of = grind (arith, of.apart, of.same)
+
+unless_exempt : {X : Type 0} (e u : Bool) (x y : Option X) → cond (not e && u) x (cond e None y) ≡ cond e None (cond u x y)
+unless_exempt e u x y = grind arith
 
 -- of touches of one class an access clashes with none where it is exempt with them, and else with those that it has not seen
-pub class_exempt : (y : ClockedAccess) (c : Class) (g : ℕ) (ts : List Touch) → All (IsOfClass c g) ts → exempt c g y.class y.item.group ≡ true → find (touch_clashes y) ts ≡ None
-class_exempt y c g ts of is = find_none (touch_clashes y) ts (λ t there. grind (arith, touch_told y c g t (All-contains (IsOfClass c g) ts t of there)))
-
-pub class_finds : (y : ClockedAccess) (c : Class) (g : ℕ) (ts : List Touch) → All (IsOfClass c g) ts → exempt c g y.class y.item.group ≡ false → find (touch_clashes y) ts ≡ find (is_unseen y) ts
-class_finds y c g ts of is = find_same (touch_clashes y) (is_unseen y) ts (λ t there. grind (arith, touch_told y c g t (All-contains (IsOfClass c g) ts t of there)))
+pub class_told : (y : ClockedAccess) (c : Class) (g : ℕ) (ts : List Touch) → All (IsOfClass c g) ts → find (touch_clashes y) ts ≡ cond (exempt c g y.class y.item.group) None (find (is_unseen y) ts)
+class_told y c g [] of = grind arith
+class_told y c g (t ∷ ts) of =
+    rw (touch_told y c g t (of 0 t (omega arith)), class_told y c g ts (All-tail (IsOfClass c g) t ts of)) (unless_exempt (exempt c g y.class y.item.group) (is_unseen y t) (Some t) (find (is_unseen y) ts))

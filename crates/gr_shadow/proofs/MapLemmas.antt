@@ -1,6 +1,5 @@
 -- A map of shadows as what is kept of each word.
-use Rattle.std.proofs.Common.{◌≡◌, ◌↔◌, true, IsTrue, List, [], ◌∷◌, cond, Option, Some, None, Contains, refl, sym, ◌∙◌, ap, subst, arith, true≢false}
-use Rattle.std.specs.Prelude.{unwrap_or}
+use Rattle.std.proofs.Common.{◌≡◌, ◌↔◌, IsTrue, List, [], ◌∷◌, cond, Option, Some, None, Contains, refl, ◌∙◌, arith}
 use Rattle.std.specs.Map.{lookup, keys_of}
 use Rattle.std.specs.List.{IsDistinct}
 use Rattle.std.proofs.lemmas.Option.{get_or_from_slice_get, slice_get_within}
@@ -11,25 +10,18 @@ use Rattle.gr_model.proofs.Pairs.{SomeOf, SomeOf-at, SomeOf-place}
 use Rattle.gr_model.proofs.WordLemmas.{same_from_equal}
 use Rattle.gr_model.proofs.Places.{Contains-at}
 use Rattle.gr_clocks.specs.ClockedAccess.{ClockedAccess}
-use Rattle.gr_shadow.specs.Kept.{WordShadow, no_shadow, IsShadowAfter, Kept, same_word, shadow_at, answered_words, IsAfter}
+use Rattle.gr_shadow.specs.Kept.{WordShadow, IsShadowAfter, Kept, same_word, shadow_at, answered_words, IsAfter}
 
 -- what an update leaves in a map
 abbrev pub HasUpdate : Kept → Word → WordShadow → Kept → Type 0
 HasUpdate old v s new = (w : Word) → lookup (same_word w) new ≡ cond (same_word v w) (Some s) (lookup (same_word w) old)
 
 -- a map in which the word of an access has its next shadow, and each other word what it had
-after_from_update : (old : Kept) (y : ClockedAccess) (s : WordShadow) (new : Kept) → IsShadowAfter (shadow_at old y.word) y s → HasUpdate old y.word s new → IsAfter old y new
-after_from_update old y s new after update =
-    record {
-      word = let now : shadow_at new y.word ≡ s = grind (arith, update y.word, equal.laws-law.refl y.word) in rw now after;
-      others = λ w f. grind (arith, update w);
-    }
-
-pub after_write : (entries old : Kept) (y : ClockedAccess) (s t : WordShadow) (new : Kept) → entries ≡ old → lookup (same_word y.word) entries ≡ Some s → IsShadowAfter s y t → HasUpdate entries y.word t new → IsAfter old y new
-after_write entries old y s t new same found after update = rw (← same) (after_from_update entries y t new (rw found after) update)
-
-pub after_insert : (entries old : Kept) (y : ClockedAccess) (t : WordShadow) (new : Kept) → entries ≡ old → lookup (same_word y.word) entries ≡ None → IsShadowAfter no_shadow y t → HasUpdate entries y.word t new → IsAfter old y new
-after_insert entries old y t new same absent after update = rw (← same) (after_from_update entries y t new (rw absent after) update)
+pub after_update : (old : Kept) (y : ClockedAccess) (s : WordShadow) (new : Kept) → IsShadowAfter (shadow_at old y.word) y s → HasUpdate old y.word s new → IsAfter old y new
+after_update old y s new after update = record {
+  word = let now : shadow_at new y.word ≡ s = grind (arith, update y.word, equal.laws-law.refl y.word) in rw now after;
+  others = λ w f. grind (arith, update w);
+}
 
 -- ---- the words that were answered
 
@@ -55,12 +47,11 @@ answered_words_told kept distinct w = (to, from (lookup (same_word w) kept) refl
     to h =
         let e = SomeOf-place (IsAnsweredAt w) kept ((some_answered kept w).0 ((Contains-some (answered_words kept) w).0 h)) in
         let there : Contains kept e.1 = (Contains-some kept e.1).1 (SomeOf-at (λ x. x ≡ e.1) kept e.0 e.1 e.2 refl) in
-        let found = lookup-from_Contains equal.laws-law e.1.0 e.1.1 kept distinct there in
-        subst (λ v. IsTrue (shadow_at kept v).answered) e.3.0 (ap (λ o. (unwrap_or o no_shadow).answered) found ∙ e.3.1)
+        rw (← e.3.0, lookup-from_Contains equal.laws-law e.1.0 e.1.1 kept distinct there) (e.3.1)
 
     from : (o : Option WordShadow) → lookup (same_word w) kept ≡ o → IsTrue (shadow_at kept w).answered → Contains (answered_words kept) w
-    from None found h = absurd (true≢false (sym h ∙ ap (λ o. (unwrap_or o no_shadow).answered) found))
+    from None found h = grind arith
     from (Some s) found h =
         let there = SomeOf-place (λ e. e ≡ (w, s)) kept ((Contains-some kept (w, s)).0 (Contains-from_lookup same_from_equal w s kept found)) in
-        let said : s.answered ≡ true = sym (ap (λ o. (unwrap_or o no_shadow).answered) found) ∙ h in
-        (Contains-some (answered_words kept) w).1 ((some_answered kept w).1 (SomeOf-at (IsAnsweredAt w) kept there.0 there.1 there.2 (ap (λ e. e.0) there.3, ap (λ e. e.1.answered) there.3 ∙ said)))
+        let is : IsAnsweredAt w there.1 = rw (there.3) (refl, rw found at h) in
+        (Contains-some (answered_words kept) w).1 ((some_answered kept w).1 (SomeOf-at (IsAnsweredAt w) kept there.0 there.1 there.2 is))

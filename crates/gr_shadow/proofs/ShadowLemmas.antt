@@ -1,11 +1,11 @@
 -- What shadows tell of the accesses that they stand for.
-use Rattle.std.proofs.Common.{◌≡◌, ◌⊎◌, ◌↔◌, inl, inr, Bool, true, false, ◌&&◌, ◌||◌, IsTrue, List, [], ◌∷◌, ◌++◌, map, if◌then◌else◌, cond, is_some, Option, Some, None, refl, sym, ◌∙◌, ap, subst, arith, ⊎_elim, true≢false}
-use Rattle.std.specs.Prelude.{not, if◌then◌else◌, option_map}
-use Rattle.std.proofs.lemmas.Bool.{or_right, or_parts}
+use Rattle.std.proofs.Common.{◌≡◌, ◌⊎◌, ◌↔◌, inl, inr, Bool, true, false, ◌&&◌, ◌||◌, IsTrue, List, [], ◌∷◌, ◌++◌, map, cond, is_some, Option, Some, None, refl, sym, ◌∙◌, ap, arith}
+use Rattle.std.proofs.lemmas.Bool.{and_from, and_parts, or_parts}
+use Rattle.std.proofs.lemmas.Bool.Decides.{Decides-or}
 use Rattle.std.specs.Bool.{then_some}
 use Rattle.std.specs.List.{find, list_any}
-use Rattle.std.proofs.lemmas.List.{append-nil, map-append}
-use Rattle.std.proofs.lemmas.List.Elements.{filter-append}
+use Rattle.std.proofs.lemmas.List.{map_push}
+use Rattle.indexmap.proofs.SetLemmas.{filter_keep, filter_skip}
 use Rattle.gr_model.specs.declared.event.Word.{Word}
 use Rattle.gr_model.specs.contracts.event.WordEq.TheImpl.Laws as equal
 use Rattle.gr_model.specs.Hits.{ClashesAt}
@@ -15,7 +15,7 @@ use Rattle.gr_clocks.specs.ClockedAccess.{ClockedAccess}
 use Rattle.gr_shadow.specs.Clashes.{clashes, event_of, IsClashIn, IsClashOf, IsHitIn}
 use Rattle.gr_shadow.specs.declared.touch.Touch.{Touch}
 use Rattle.gr_shadow.specs.Keeps.{Keeps, touch_of, touch_clashes, touch_event}
-use Rattle.gr_shadow.specs.Kept.{WordShadow, clash_with, clashes_before, is_first_hit, IsShadowAfter, Kept, same_word, shadow_at, IsAfter}
+use Rattle.gr_shadow.specs.Kept.{WordShadow, clashes_before, is_first_hit, IsShadowAfter, Kept, same_word, shadow_at, IsAfter}
 use Rattle.gr_shadow.specs.StandsFor.{accesses_to, KeepsClash, StandsFor, IsHitBy}
 use Rattle.gr_shadow.proofs.HitLemmas.{SomePair-push}
 use Rattle.gr_shadow.proofs.KeepsLemmas.{clashes_kept, find_is, find_told, Keeps-self, Keeps-trans, Keeps-append}
@@ -32,19 +32,19 @@ hit_by_push xs y w = SomePair-push (ClashesAt (λ x. x.word) clashes w) xs y
 pub word_of_clash : (xs : List ClockedAccess) (y : ClockedAccess) (w : Word) → ClashesBefore xs y w → y.word ≡ w
 word_of_clash xs y w h = (SomeOf-place (λ x. ClashesAt (λ x. x.word) clashes w x y) xs h).3.second
 
+any_kept : {X Y : Type 0} (f : Y → Bool) (g : X → Y) (b : Bool) (x : X) (xs : List X) → list_any f (map g (cond b (x ∷ xs) xs)) ≡ ((b && f (g x)) || list_any f (map g xs))
+any_kept f g b x xs = grind arith
+
 -- what is kept of the accesses to a word tells which of them clash with one more
 clash_told : (xs : List ClockedAccess) (y : ClockedAccess) (w : Word) → y.word ≡ w → IsTrue (list_any (touch_clashes y) (map touch_of (accesses_to w xs))) ↔ ClashesBefore xs y w
-clash_told [] y w at = (λ h. absurd (true≢false (sym h)), λ h. absurd h)
-clash_told (x ∷ xs) y w at =
-    let rest = clash_told xs y w at in
-    elim (same_word x.word w) as (λ b. (same_word x.word w ≡ b) → IsTrue (list_any (touch_clashes y) (map touch_of (cond b (x ∷ accesses_to w xs) (accesses_to w xs)))) ↔ ClashesBefore (x ∷ xs) y w) [
-      | true ↦ λ t. here rest (clashes x y) refl (same_from_equal x.word w t)
-      | false ↦ λ f. (λ h. inr (rest.0 h), ⊎_elim (λ k. absurd (true≢false (sym (subst (λ v. same_word v w ≡ true) (sym k.first) (equal.laws-law.refl w)) ∙ f))) (λ s. rest.1 s))
-    ] refl
+clash_told [] y w at = grind arith
+clash_told (x ∷ xs) y w at = rw (any_kept (touch_clashes y) touch_of (same_word x.word w) x (accesses_to w xs)) (Decides-or (same_word x.word w && clashes x y) _ first (clash_told xs y w at))
   where
-    here : IsTrue (list_any (touch_clashes y) (map touch_of (accesses_to w xs))) ↔ ClashesBefore xs y w → (b : Bool) → clashes x y ≡ b → x.word ≡ w → IsTrue (b || list_any (touch_clashes y) (map touch_of (accesses_to w xs))) ↔ ClashesBefore (x ∷ xs) y w
-    here rest true c first = (λ _. inl (record { first = first; second = at; clashes = c }), λ _. refl)
-    here rest false c first = (λ h. inr (rest.0 h), ⊎_elim (λ k. absurd (true≢false (sym k.clashes ∙ c))) (λ s. rest.1 s))
+    first : IsTrue (same_word x.word w && clashes x y) ↔ ClashesAt (λ x. x.word) clashes w x y
+    first = (
+      λ h. let p = and_parts (same_word x.word w) (clashes x y) h in record { first = same_from_equal x.word w p.0; second = at; clashes = p.1 },
+      λ c. and_from (same_word x.word w) (clashes x y) (rw (c.first) (equal.laws-law.refl w)) c.clashes,
+    )
 
 pub clashes_before_told : (xs : List ClockedAccess) (kept : Kept) (y : ClockedAccess) (w : Word) → StandsFor xs kept → (shadow_at kept w).answered ≡ false → y.word ≡ w → IsTrue (clashes_before (shadow_at kept w) y) ↔ ClashesBefore xs y w
 clashes_before_told xs kept y w stands not_yet at = grind (arith, clashes_kept y _ _ (stands.touches w not_yet), clash_told xs y w at)
@@ -92,26 +92,22 @@ clash_stays xs y w old new same keeps = record {
 
 -- a word that was not answered becomes hit exactly where a touch that is kept clashes
 pub first_told : (old : WordShadow) (y : ClockedAccess) → old.answered ≡ false → is_first_hit old y ≡ is_some (find (touch_clashes y) old.touches)
-first_told old y not_yet = ap (λ a. not a && clashes_before old y) not_yet ∙ find_told (touch_clashes y) old.touches
+first_told old y not_yet = grind (arith, find_told (touch_clashes y) old.touches)
 
 -- the shadow of a word after its first hit, and after another access
 pub hit_after : (old new : WordShadow) (y : ClockedAccess) (t : Touch) → old.answered ≡ false → find (touch_clashes y) old.touches ≡ Some t → new.answered ≡ true → new.clash ≡ Some (touch_event t, touch_event (touch_of y)) → IsShadowAfter old y new
-hit_after old new y t not_yet found answered clash =
-    let hit : clashes_before old y ≡ true = find_told (touch_clashes y) old.touches ∙ ap is_some found in
-    record {
-      answered = answered ∙ sym (or_right old.answered _ hit);
-      clash = λ _. clash ∙ sym (ap (λ b. if b then old.clash else clash_with old y) not_yet ∙ ap (option_map (λ (u : Touch). (touch_event u, touch_event (touch_of y)))) found);
-      touches = λ not_answered. absurd (true≢false (sym answered ∙ not_answered));
-    }
+hit_after old new y t not_yet found answered clash = record {
+  answered = grind (arith, find_told (touch_clashes y) old.touches);
+  clash = λ _. rw (clash, not_yet, found) refl;
+  touches = λ not_answered. cc;
+}
 
 pub kept_after : (old new : WordShadow) (y : ClockedAccess) → old.answered ≡ false → find (touch_clashes y) old.touches ≡ None → new.answered ≡ old.answered → Keeps new.touches (old.touches ++ touch_of y ∷ []) → IsShadowAfter old y new
-kept_after old new y not_yet none answered kept =
-    let no_hit : clashes_before old y ≡ false = find_told (touch_clashes y) old.touches ∙ ap is_some none in
-    record {
-      answered = answered ∙ not_yet ∙ sym (ap (λ a. a || clashes_before old y) not_yet ∙ no_hit);
-      clash = λ is. absurd (true≢false (sym is ∙ answered ∙ not_yet));
-      touches = λ _. kept;
-    }
+kept_after old new y not_yet none answered kept = record {
+  answered = grind (arith, find_told (touch_clashes y) old.touches);
+  clash = λ is. cc;
+  touches = λ _. kept;
+}
 
 -- ---- what is kept after one more access stands for the list with it
 
@@ -119,46 +115,37 @@ pub stands_after : (xs : List ClockedAccess) (old : Kept) (y : ClockedAccess) (n
 stands_after xs old y new stands after = record {
   touches = λ w. touched w (same_word y.word w) refl;
   answered = λ w. told w (same_word y.word w) refl;
-  clashes = λ w a. clashed w (same_word y.word w) refl a;
+  clashes = λ w. clashed w (same_word y.word w) refl;
 }
   where
-    listed : (w : Word) (b : Bool) → same_word y.word w ≡ b → map touch_of (accesses_to w (xs ++ y ∷ [])) ≡ map touch_of (accesses_to w xs) ++ map touch_of (cond b (y ∷ []) [])
-    listed w b e = ap (map touch_of) (filter-append (λ x. same_word x.word w) xs (y ∷ [])) ∙ map-append touch_of (accesses_to w xs) (accesses_to w (y ∷ [])) ∙ ap (λ b. map touch_of (accesses_to w xs) ++ map touch_of (cond b (y ∷ []) [])) e
-
     here : (w : Word) → same_word y.word w ≡ true → IsShadowAfter (shadow_at old w) y (shadow_at new w)
-    here w t = subst (λ (v : Word). IsShadowAfter (shadow_at old v) y (shadow_at new v)) (same_from_equal y.word w t) after.word
+    here w t = rw (← same_from_equal y.word w t) after.word
 
     touched : (w : Word) (b : Bool) → same_word y.word w ≡ b → (shadow_at new w).answered ≡ false → Keeps (shadow_at new w).touches (map touch_of (accesses_to w (xs ++ y ∷ [])))
     touched w true t not_yet =
         let step = here w t in
-        let was = (or_parts _ _ (sym step.answered ∙ not_yet)).0 in
-        subst (λ ts. Keeps (shadow_at new w).touches ts) (sym (listed w true t)) (Keeps-trans _ _ _ (step.touches not_yet) (Keeps-append _ _ _ _ (stands.touches w was) (Keeps-self (touch_of y ∷ []))))
+        rw (filter_keep (λ x. same_word x.word w) xs y t, map_push touch_of (accesses_to w xs) y) (Keeps-trans _ _ _ (step.touches not_yet) (Keeps-append _ _ _ _ (stands.touches w (or_parts _ _ (sym step.answered ∙ not_yet)).0) (Keeps-self (touch_of y ∷ []))))
     touched w false f not_yet =
-        let same = after.others w f in
-        let was = sym (ap (λ s. s.answered) same) ∙ not_yet in
-        subst (λ ts. Keeps (shadow_at new w).touches ts) (sym (listed w false f ∙ append-nil (map touch_of (accesses_to w xs)))) (subst (λ (s : WordShadow). Keeps s.touches (map touch_of (accesses_to w xs))) (sym same) (stands.touches w was))
-
-    -- the clash of a word that is answered after the access
-    newly : (w : Word) → (shadow_at old w).answered ≡ false → same_word y.word w ≡ true → IsTrue (shadow_at new w).answered → (o : Option Touch) → find (touch_clashes y) (shadow_at old w).touches ≡ o → KeepsClash (xs ++ y ∷ []) w (shadow_at new w)
-    newly w not_yet t a None empty = grind (arith, (here w t).answered, find_told (touch_clashes y) (shadow_at old w).touches)
-    newly w not_yet t a (Some u) found =
-        let step = here w t in
-        record {
-          earlier = touch_event u;
-          later = event_of y;
-          kept = step.clash a ∙ ap (λ b. if b then (shadow_at old w).clash else clash_with (shadow_at old w) y) not_yet ∙ ap (option_map (λ (u : Touch). (touch_event u, touch_event (touch_of y)))) found;
-          clash = clash_in xs old y w u stands not_yet (same_from_equal y.word w t) found;
-        }
-
-    clashed_here : (w : Word) (b : Bool) → (shadow_at old w).answered ≡ b → same_word y.word w ≡ true → IsTrue (shadow_at new w).answered → KeepsClash (xs ++ y ∷ []) w (shadow_at new w)
-    clashed_here w true was t a = clash_stays xs y w _ _ ((here w t).clash a ∙ ap (λ b. if b then (shadow_at old w).clash else clash_with (shadow_at old w) y) was) (stands.clashes w was)
-    clashed_here w false was t a = newly w was t a (find (touch_clashes y) (shadow_at old w).touches) refl
+        rw (filter_skip (λ x. same_word x.word w) xs y f, after.others w f) (stands.touches w (rw (after.others w f) at not_yet))
 
     clashed : (w : Word) (b : Bool) → same_word y.word w ≡ b → IsTrue (shadow_at new w).answered → KeepsClash (xs ++ y ∷ []) w (shadow_at new w)
-    clashed w true t a = clashed_here w (shadow_at old w).answered refl t a
+    clashed w true t a = by_answer (shadow_at old w).answered refl (find (touch_clashes y) (shadow_at old w).touches) refl
+      where
+        step : IsShadowAfter (shadow_at old w) y (shadow_at new w)
+        step = here w t
+
+        -- the clash of a word that was answered before, and of one that is answered after the access
+        by_answer : (b : Bool) → (shadow_at old w).answered ≡ b → (o : Option Touch) → find (touch_clashes y) (shadow_at old w).touches ≡ o → KeepsClash (xs ++ y ∷ []) w (shadow_at new w)
+        by_answer true was o found = clash_stays xs y w (shadow_at old w) (shadow_at new w) (rw (step.clash a, was) refl) (stands.clashes w was)
+        by_answer false not_yet None found = grind (arith, step.answered, find_told (touch_clashes y) (shadow_at old w).touches)
+        by_answer false not_yet (Some u) found = record {
+          earlier = touch_event u;
+          later = event_of y;
+          kept = rw (step.clash a, not_yet, found) refl;
+          clash = clash_in xs old y w u stands not_yet (same_from_equal y.word w t) found;
+        }
     clashed w false f a =
-        let same = after.others w f in
-        clash_stays xs y w _ _ (ap (λ s. s.clash) same) (stands.clashes w (sym (ap (λ s. s.answered) same) ∙ a))
+        clash_stays xs y w (shadow_at old w) (shadow_at new w) (rw (after.others w f) refl) (stands.clashes w (rw (after.others w f) at a))
 
     told : (w : Word) (b : Bool) → same_word y.word w ≡ b → IsTrue (shadow_at new w).answered ↔ IsHitIn (xs ++ y ∷ []) w
     told w true t =

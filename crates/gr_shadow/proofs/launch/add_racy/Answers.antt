@@ -1,20 +1,11 @@
-use Rattle.std.proofs.Common.{List, Contains, Some, sym, subst, inl, inr, ⊎_elim, ◌∙◌, ap, ◌++◌}
-use Rattle.std.proofs.lemmas.List.Elements.{Contains-append_cases, Contains-append_left, Contains-append_right}
-use Rattle.gr_model.specs.declared.event.Word.{Word}
-use Rattle.gr_shadow.specs.Launches.{StandsForLocal}
+use Rattle.std.proofs.Common.{arith}
+use Rattle.gr_shadow.proofs.KeepsLemmas.{Contains-append}
 use Rattle.gr_shadow.proofs.launch.add_racy.Goals as goal
 
 pub returns-in-None : goal.returns-in-None
-returns-in-None g c accesses stands w =
-    let none = subst (λ o. StandsForLocal accesses (Some o)) c.in-None.is stands in
-    (λ h. inl h, ⊎_elim (λ h. h) (λ hit. absurd (none w hit)))
+returns-in-None g c accesses stands w = let none = rw c.in-None.is at stands in grind (arith, none w)
 
 pub returns-in_ok-extend_from_slice-in-Some : goal.returns-in_ok-extend_from_slice-in-Some
 returns-in_ok-extend_from_slice-in-Some g c accesses stands w =
-    let old = c.args.words.now.items in
-    let racy = c.in_ok-racy-in-Some.racy.items in
-    let listed = c.in_ok-racy-in-Some.ensures accesses (subst (λ o. StandsForLocal accesses (Some o)) c.in-Some.is stands) in
-    let is = c.in_ok-extend_from_slice-in-Some.ensures.items ∙ ap (λ (l : List Word). old ++ l) c.as_slice.ensures.value in (
-      λ h. ⊎_elim (λ a. inl a) (λ b. inr ((listed.exact w).0 b)) (Contains-append_cases old racy w (subst (λ (l : List Word). Contains l w) is h)),
-      ⊎_elim (λ a. subst (λ (l : List Word). Contains l w) (sym is) (Contains-append_left old racy w a)) (λ hit. subst (λ (l : List Word). Contains l w) (sym is) (Contains-append_right old racy w ((listed.exact w).1 hit))),
-    )
+    let listed = c.in_ok-racy-in-Some.ensures accesses (rw c.in-Some.is at stands) in
+    rw (c.in_ok-extend_from_slice-in-Some.ensures.items, c.as_slice.ensures.value) (grind (arith, listed.exact w, Contains-append c.args.words.now.items c.in_ok-racy-in-Some.racy.items w))

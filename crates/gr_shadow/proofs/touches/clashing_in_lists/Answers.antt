@@ -1,18 +1,18 @@
-use Rattle.std.proofs.Common.{sym, ◌∙◌}
+use Rattle.std.proofs.Common.{sym, ◌∙◌, arith}
 use Rattle.gr_clocks.specs.ClockedAccess.{clocked}
 use Rattle.gr_shadow.specs.Keeps.{touch_clashes}
-use Rattle.gr_shadow.proofs.KeepsLemmas.{found_later, found_here, found_nowhere}
+use Rattle.gr_shadow.proofs.KeepsLemmas.{found_at, found_nowhere}
 use Rattle.gr_shadow.proofs.touches.clashing_in_lists.Goals as goal
 
 pub returns-then-is_some : goal.returns-then-is_some
 returns-then-is_some g c =
-    let f = touch_clashes (clocked c.args.access.now) in
-    sym (c.loop-list.invariant ∙ found_here f c.args.lists.now c.loop-list.list-index c.list-item.result c.clashing-touch.result c.loop-list-test.true c.list-item.is (sym c.clashing-touch.ensures) (sym c.is_some.ensures ∙ c.if-is_some.true))
+    let found = found_at (touch_clashes (clocked c.args.access.now)) c.args.lists.now c.loop-list.list-index c.list-item.result c.loop-list-test.true c.list-item.is in
+    grind (arith, found, c.loop-list.invariant, c.clashing-touch.ensures, c.is_some.ensures, c.if-is_some.true)
 
 pub loop-list-preserved : goal.loop-list-preserved
 loop-list-preserved g c =
-    let f = touch_clashes (clocked c.args.access.now) in
-    c.loop-list.invariant ∙ found_later f c.args.lists.now c.loop-list.list-index c.list-item.result c.clashing-touch.result c.loop-list-test.true c.list-item.is (sym c.clashing-touch.ensures) (sym c.is_some.ensures ∙ c.if-is_some.false)
+    let found = found_at (touch_clashes (clocked c.args.access.now)) c.args.lists.now c.loop-list.list-index c.list-item.result c.loop-list-test.true c.list-item.is in
+    grind (arith, found, c.loop-list.invariant, c.clashing-touch.ensures, c.is_some.ensures, c.if-is_some.false)
 
 pub returns : goal.returns
 returns g c = sym (c.loop-list.invariant ∙ found_nowhere (touch_clashes (clocked c.args.access.now)) c.args.lists.now c.loop-list.list-index c.loop-list-test.false)
