@@ -1,13 +1,12 @@
 -- What is kept of a list of touches tells the same clashes.
-use Rattle.std.proofs.Common.{◌≡◌, ◌⊎◌, ◌↔◌, inl, inr, ℕ, zero, suc, ◌+◌, ◌<◌, ◌≤◌, All, Bool, true, false, cond, ◌&&◌, List, [], ◌∷◌, ◌++◌, length, get_or, slice_set, is_some, Option, Some, None, Contains, drop, refl, sym, ◌∙◌, ap, arith, ⊎_elim, append_assoc}
+use Rattle.std.proofs.Common.{◌≡◌, ◌⊎◌, ◌↔◌, ℕ, zero, suc, ◌+◌, ◌<◌, ◌≤◌, All, Bool, true, false, cond, ◌&&◌, List, [], ◌∷◌, ◌++◌, length, get_or, slice_set, is_some, Option, Some, None, Contains, drop, refl, sym, ◌∙◌, ap, arith, ⊎_elim, append_assoc}
 use Rattle.std.specs.Prelude.{not}
 use Rattle.std.specs.List.{list_any, All, find}
 use Rattle.std.specs.Bool.{MatchBool}
 use Rattle.std.specs.List.Retain.{DedupsFrom, IsDeduped}
 use Rattle.std.specs.List.Sorted.{IsPermutation}
-use Rattle.std.proofs.lemmas.Bool.{cases_Bool}
 use Rattle.std.proofs.lemmas.List.Sorted.{Contains-permutation, IsPermutation-sym}
-use Rattle.std.proofs.lemmas.Bool.Decides.{nat_tests}
+use Rattle.std.proofs.lemmas.Bool.Decides.{nat_tests, same_from_decides}
 use Rattle.std.specs.Option.{option_or}
 use Rattle.std.proofs.lemmas.List.{append-nil, drop_all, drop_more}
 use Rattle.std.proofs.lemmas.List.Folds.{Any-from_list_any, find-append, list_any_at}
@@ -35,9 +34,6 @@ found f xs h = let any = Any-from_list_any f xs h in (any.1, (any.0, any.2, any.
 pub finds : {X : Type 0} (f : X → Bool) (xs : List X) (x : X) → Contains xs x → f x ≡ true → list_any f xs ≡ true
 finds f xs x there h = list_any_at f xs there.0 x there.1 (ap f there.2 ∙ h)
 
-same_answer : (b c : Bool) → (b ≡ true → c ≡ true) → (c ≡ true → b ≡ true) → b ≡ c
-same_answer b c to from = grind (arith, to, from)
-
 -- ---- the first element of which a test holds
 
 pub find_told : {X : Type 0} (f : X → Bool) (xs : List X) → list_any f xs ≡ is_some (find f xs)
@@ -46,11 +42,7 @@ find_told f (x ∷ xs) = grind (arith, find_told f xs)
 
 pub find_is : {X : Type 0} (f : X → Bool) (xs : List X) (x : X) → find f xs ≡ Some x → Contains xs x × (f x ≡ true)
 find_is f [] x is = cc
-find_is f (y ∷ xs) x is =
-    elim (cases_Bool (f y)) [
-      | inl holds ↦ let same : y ≡ x = grind arith in rw (← same) (Contains-first y xs, holds)
-      | inr fails ↦ let rest = find_is f xs x (grind arith) in (Contains-rest y xs x rest.0, rest.1)
-    ]
+find_is f (y ∷ xs) x is = grind (arith, find_is f xs x, Contains-first y xs, Contains-rest y xs x)
 
 -- ---- what is kept tells the same clashes
 
@@ -59,20 +51,21 @@ later_clashes : (y : ClockedAccess) (t u : Touch) → IsInPlaceOf t u → touch_
 later_clashes y t u p h = grind (arith, nat_tests, p.item, p.class, p.index)
 
 pub clashes_kept : (y : ClockedAccess) (kept all : List Touch) → Keeps kept all → list_any (touch_clashes y) kept ≡ list_any (touch_clashes y) all
-clashes_kept y kept all k = same_answer _ _
-    (λ h. let t = found (touch_clashes y) kept h in finds (touch_clashes y) all t.0 (k.each t.0 t.1) t.2)
-    (λ h.
-    let u = found (touch_clashes y) all h in
-    let t = k.some u.0 u.1 in
-    finds (touch_clashes y) kept t.0 t.1 (later_clashes y t.0 u.0 t.2 u.2))
+clashes_kept y kept all k = same_from_decides {P = list_any (touch_clashes y) all ≡ true} _ _ (to, from) (λ h. h, λ h. h)
+  where
+    to : list_any (touch_clashes y) kept ≡ true → list_any (touch_clashes y) all ≡ true
+    to h = let t = found (touch_clashes y) kept h in finds (touch_clashes y) all t.0 (k.each t.0 t.1) t.2
+
+    from : list_any (touch_clashes y) all ≡ true → list_any (touch_clashes y) kept ≡ true
+    from h =
+        let u = found (touch_clashes y) all h in
+        let t = k.some u.0 u.1 in
+        finds (touch_clashes y) kept t.0 t.1 (later_clashes y t.0 u.0 t.2 u.2)
 
 -- ---- lists that are kept
 
 in_place_of_itself : (t : Touch) → IsInPlaceOf t t
 in_place_of_itself t = record { item = refl; class = refl; index = omega arith }
-
-in_place_of_both : (t u v : Touch) → IsInPlaceOf t u → IsInPlaceOf u v → IsInPlaceOf t v
-in_place_of_both t u v p q = grind arith
 
 pub Keeps-same : (a b : List Touch) → ((t : Touch) → Contains a t → Contains b t) → ((t : Touch) → Contains b t → Contains a t) → Keeps a b
 Keeps-same a b to from = record { each = to; some = λ u h. (u, from u h, in_place_of_itself u) }
@@ -86,7 +79,7 @@ Keeps-trans a b c k l = record {
   some = λ v h.
       let u = l.some v h in
       let t = k.some u.0 u.1 in
-      (t.0, t.1, in_place_of_both t.0 u.0 v t.2 u.2);
+      (t.0, t.1, grind (arith, t.2, u.2));
 }
 
 pub Keeps-append : (a b c d : List Touch) → Keeps a b → Keeps c d → Keeps (a ++ c) (b ++ d)

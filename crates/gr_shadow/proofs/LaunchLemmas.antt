@@ -43,23 +43,11 @@ pair_unfiltered keep R (x ∷ xs) h = grind (arith, some_unfiltered keep (R x) x
 unfiltered : (keep : Word → Bool) (R : ClockedAccess → ClockedAccess → Type 0) (accesses : List ClockedAccess) → SomePair R (accesses_in keep accesses) → SomePair R accesses
 unfiltered keep R accesses h = SomePair-from_in R accesses (pair_unfiltered (λ x. keep x.word) R accesses (PairIn-from_some R (accesses_in keep accesses) h))
 
--- a word that is hit among some accesses is hit
-pub hit_of_part : (keep : Word → Bool) (accesses : List ClockedAccess) (w : Word) → IsHitIn (accesses_in keep accesses) w → IsHitIn accesses w
-hit_of_part keep accesses w h = unfiltered keep _ accesses h
-
 hit_in_part : (keep : Word → Bool) (accesses : List ClockedAccess) (w : Word) → keep w ≡ true → IsHitIn accesses w → IsHitIn (accesses_in keep accesses) w
 hit_in_part keep accesses w kept h = (IsHit-filter (λ x. x.word) clashes keep accesses w kept).0 h
 
 no_hit : (accesses : List ClockedAccess) (w : Word) → accesses ≡ [] → ¬ IsHitIn accesses w
 no_hit accesses w none h = elim (PairIn-from_some _ [] (rw none at h)) [ ]
-
--- ---- one access more
-
-more : (keep : Word → Bool) (accesses : List ClockedAccess) (y : ClockedAccess) → keep y.word ≡ true → accesses_in keep (accesses ++ y ∷ []) ≡ accesses_in keep accesses ++ y ∷ []
-more keep accesses y is = filter_keep (λ x. keep x.word) accesses y is
-
-as_before : (keep : Word → Bool) (accesses : List ClockedAccess) (y : ClockedAccess) → keep y.word ≡ false → accesses_in keep (accesses ++ y ∷ []) ≡ accesses_in keep accesses
-as_before keep accesses y is = filter_skip (λ x. keep x.word) accesses y is
 
 -- ---- the word that an access answers
 
@@ -69,20 +57,17 @@ word_of_hit accesses y w by = grind (arith, hit_by_push accesses y w, word_of_cl
 
 -- so it is told by the accesses to its memory
 pub hit_by_part : (keep : Word → Bool) (accesses : List ClockedAccess) (y : ClockedAccess) → keep y.word ≡ true → (w : Word) → IsHitBy (accesses_in keep accesses) y w ↔ IsHitBy accesses y w
-hit_by_part keep accesses y kept w = (
-  λ by.
-      let is = word_of_hit (accesses_in keep accesses) y w by in
-      record {
-        now = hit_of_part keep (accesses ++ y ∷ []) w (rw (more keep accesses y kept) by.now);
-        before = λ h. by.before (hit_in_part keep accesses w (rw (← is) kept) h);
+hit_by_part keep accesses y kept w =
+    let more = filter_keep (λ x. keep x.word) accesses y kept in (
+      λ by. record {
+        now = unfiltered keep _ (accesses ++ y ∷ []) (rw more by.now);
+        before = λ h. by.before (hit_in_part keep accesses w (rw (← word_of_hit (accesses_in keep accesses) y w by) kept) h);
       },
-  λ by.
-      let is = word_of_hit accesses y w by in
-      record {
-        now = rw (← more keep accesses y kept) (hit_in_part keep (accesses ++ y ∷ []) w (rw (← is) kept) by.now);
-        before = λ h. by.before (hit_of_part keep accesses w h);
+      λ by. record {
+        now = rw (← more) (hit_in_part keep (accesses ++ y ∷ []) w (rw (← word_of_hit accesses y w by) kept) by.now);
+        before = λ h. by.before (unfiltered keep _ accesses h);
       },
-)
+    )
 
 pub answers_by_part : (keep : Word → Bool) (accesses : List ClockedAccess) (y : ClockedAccess) → keep y.word ≡ true → (r : Result (Option Word) Memory) → IfOk r (λ answer. (w : Word) → answer ≡ Some w ↔ IsHitBy (accesses_in keep accesses) y w) → IfOk r (λ answer. (w : Word) → answer ≡ Some w ↔ IsHitBy accesses y w)
 answers_by_part keep accesses y kept r told = IfOk-weaker r _ _ (λ answer of_part w. grind (arith, hit_by_part keep accesses y kept w, of_part w)) told
@@ -97,9 +82,9 @@ at_each_push P xs x here j other = grind (arith, gets, get_or_push, get_or_appen
 pub local_more : {accesses : List ClockedAccess} (y : ClockedAccess) (group : ℕ) {old : LaunchKept} (o : Option Kept) → is_local_of group y.word ≡ true → group < length old.local → StandsForLaunch accesses old → StandsForLocal (accesses_in (is_local_of group) accesses ++ y ∷ []) (Some o)
     → StandsForLaunch (accesses ++ y ∷ []) (record { global = old.global; local = slice_set old.local group o })
 local_more {accesses} y group {old} o is lt stands after = record {
-  global = rw (as_before is_global accesses y (grind arith)) stands.global;
-  local = λ g. at_each_set (λ n. StandsForLocal (accesses_in (is_local_of n) (accesses ++ y ∷ []))) old.local group o lt (subst (λ (l : List ClockedAccess). StandsForLocal l (Some o)) (sym (more (is_local_of group) accesses y is)) after) g
-      (λ other. subst (λ (l : List ClockedAccess). StandsForLocal l (slice_get old.local g)) (sym (as_before (is_local_of g) accesses y (grind (arith, nat_tests)))) (stands.local g));
+  global = rw (filter_skip (λ x. is_global x.word) accesses y (grind arith)) stands.global;
+  local = λ g. at_each_set (λ n. StandsForLocal (accesses_in (is_local_of n) (accesses ++ y ∷ []))) old.local group o lt (subst (λ (l : List ClockedAccess). StandsForLocal l (Some o)) (sym (filter_keep (λ x. is_local_of group x.word) accesses y is)) after) g
+      (λ other. subst (λ (l : List ClockedAccess). StandsForLocal l (slice_get old.local g)) (sym (filter_skip (λ x. is_local_of g x.word) accesses y (grind (arith, nat_tests)))) (stands.local g));
 }
 
 -- ---- one group more, and another table of one
@@ -141,9 +126,6 @@ below_more accesses n w = (
   ⊎_elim (⊎_elim (λ a. inl a) (λ b. inr (b.0, omega (arith, b.1), b.2))) (λ h. inr (n, omega arith, h)),
 )
 
-pub iff_trans : {A B C : Type 0} → A ↔ B → B ↔ C → A ↔ C
-iff_trans p q = (λ a. q.0 (p.0 a), λ c. p.1 (q.1 c))
-
 pub iff_more : {A B C D E : Type 0} → A ↔ (B ⊎ C) → B ↔ D → E ↔ (D ⊎ C) → A ↔ E
 iff_more p q r = grind arith
 
@@ -157,7 +139,7 @@ hit_kept accesses k g v stands here = by_table (slice_get k.local g) refl
     by_table (Some (Some kept)) is = (kept, is, rw is at (stands.local g))
 
 pub hit_below : {accesses : List ClockedAccess} {k : LaunchKept} → StandsForLaunch accesses k → (w : Word) → IsHitBelow accesses (length k.local) w ↔ IsHitIn accesses w
-hit_below {accesses} {k} stands w = (⊎_elim (λ a. hit_of_part is_global accesses w a) (λ b. hit_of_part (is_local_of b.0) accesses w b.2), by_word w)
+hit_below {accesses} {k} stands w = (⊎_elim (λ a. unfiltered is_global _ accesses a) (λ b. unfiltered (is_local_of b.0) _ accesses b.2), by_word w)
   where
     by_word : (w : Word) → IsHitIn accesses w → IsHitBelow accesses (length k.local) w
     by_word (Global v) h = inl (hit_in_part is_global accesses (Global v) refl h)

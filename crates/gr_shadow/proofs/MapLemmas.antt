@@ -1,9 +1,11 @@
 -- A map of shadows as what is kept of each word.
-use Rattle.std.proofs.Common.{◌≡◌, ◌↔◌, IsTrue, List, [], ◌∷◌, cond, Option, Some, None, Contains, refl, ◌∙◌, arith}
+use Rattle.std.proofs.Common.{◌≡◌, ◌↔◌, true, IsTrue, List, [], ◌∷◌, cond, Some, Contains, refl, ◌∙◌, arith}
 use Rattle.std.specs.Map.{lookup, keys_of}
 use Rattle.std.specs.List.{IsDistinct}
 use Rattle.std.proofs.lemmas.Option.{get_or_from_slice_get, slice_get_within}
-use Rattle.std.proofs.lemmas.Map.Views.{Contains-from_lookup, lookup-from_Contains}
+use Rattle.std.proofs.lemmas.Map.{lookup-none}
+use Rattle.std.proofs.lemmas.Map.Entries.{none_past_head}
+use Rattle.std.proofs.lemmas.Map.Keys.{IsDistinct-tail}
 use Rattle.gr_model.specs.declared.event.Word.{Word}
 use Rattle.gr_model.specs.contracts.event.WordEq.TheImpl.Laws as equal
 use Rattle.gr_model.proofs.Pairs.{SomeOf, SomeOf-at, SomeOf-place}
@@ -31,27 +33,15 @@ Contains-some xs w = (
   λ h. let p = SomeOf-place (λ x. x ≡ w) xs h in (p.0, slice_get_within xs p.0 p.1 p.2, get_or_from_slice_get xs p.0 p.1 w p.2 ∙ p.3),
 )
 
--- an entry is that of a word that was answered
-abbrev pub IsAnsweredAt : Word → Word × WordShadow → Type 0
-IsAnsweredAt w e = (e.0 ≡ w) × IsTrue e.1.answered
+pub iff_trans : {A B C : Type 0} → A ↔ B → B ↔ C → A ↔ C
+iff_trans p q = (λ a. q.0 (p.0 a), λ c. p.1 (q.1 c))
 
-some_answered : (kept : Kept) (w : Word) → SomeOf (λ v. v ≡ w) (answered_words kept) ↔ SomeOf (IsAnsweredAt w) kept
-some_answered [] w = (λ h. h, λ h. h)
-some_answered (e ∷ kept) w = grind (arith, some_answered kept w)
+some_answered : (kept : Kept) → IsDistinct same_word (keys_of kept) → (w : Word) → SomeOf (λ v. v ≡ w) (answered_words kept) ↔ IsTrue (shadow_at kept w).answered
+some_answered [] distinct w = grind arith
+some_answered (e ∷ kept) distinct w =
+    let past = λ (t : same_word w e.0 ≡ true). lookup-none (same_word w) kept (none_past_head equal.laws-law w e kept distinct t) in
+    grind (arith, past, some_answered kept (IsDistinct-tail same_word e.0 (keys_of kept) distinct) w, same_from_equal w e.0, equal.laws-law.refl w)
 
 -- where the words of a map differ, the words that were answered are those whose shadow says so
 pub answered_words_told : (kept : Kept) → IsDistinct same_word (keys_of kept) → (w : Word) → Contains (answered_words kept) w ↔ IsTrue (shadow_at kept w).answered
-answered_words_told kept distinct w = (to, from (lookup (same_word w) kept) refl)
-  where
-    to : Contains (answered_words kept) w → IsTrue (shadow_at kept w).answered
-    to h =
-        let e = SomeOf-place (IsAnsweredAt w) kept ((some_answered kept w).0 ((Contains-some (answered_words kept) w).0 h)) in
-        let there : Contains kept e.1 = (Contains-some kept e.1).1 (SomeOf-at (λ x. x ≡ e.1) kept e.0 e.1 e.2 refl) in
-        rw (← e.3.0, lookup-from_Contains equal.laws-law e.1.0 e.1.1 kept distinct there) (e.3.1)
-
-    from : (o : Option WordShadow) → lookup (same_word w) kept ≡ o → IsTrue (shadow_at kept w).answered → Contains (answered_words kept) w
-    from None found h = grind arith
-    from (Some s) found h =
-        let there = SomeOf-place (λ e. e ≡ (w, s)) kept ((Contains-some kept (w, s)).0 (Contains-from_lookup same_from_equal w s kept found)) in
-        let is : IsAnsweredAt w there.1 = rw (there.3) (refl, rw found at h) in
-        (Contains-some (answered_words kept) w).1 ((some_answered kept w).1 (SomeOf-at (IsAnsweredAt w) kept there.0 there.1 there.2 is))
+answered_words_told kept distinct w = iff_trans (Contains-some (answered_words kept) w) (some_answered kept distinct w)

@@ -1,15 +1,14 @@
 -- What shadows tell of the accesses that they stand for.
-use Rattle.std.proofs.Common.{◌≡◌, ◌⊎◌, ◌↔◌, inl, inr, Bool, true, false, ◌&&◌, ◌||◌, IsTrue, List, [], ◌∷◌, ◌++◌, map, cond, is_some, Option, Some, None, refl, sym, ◌∙◌, ap, arith}
+use Rattle.std.proofs.Common.{◌≡◌, ◌⊎◌, ◌↔◌, inl, inr, Bool, true, false, ◌&&◌, ◌||◌, IsTrue, List, [], ◌∷◌, ◌++◌, map, cond, Option, Some, None, refl, sym, ◌∙◌, ap, arith}
 use Rattle.std.proofs.lemmas.Bool.{and_from, and_parts, or_parts}
 use Rattle.std.proofs.lemmas.Bool.Decides.{Decides-or}
-use Rattle.std.specs.Bool.{then_some}
 use Rattle.std.specs.List.{find, list_any}
 use Rattle.std.proofs.lemmas.List.{map_push}
 use Rattle.indexmap.proofs.SetLemmas.{filter_keep, filter_skip}
 use Rattle.gr_model.specs.declared.event.Word.{Word}
 use Rattle.gr_model.specs.contracts.event.WordEq.TheImpl.Laws as equal
 use Rattle.gr_model.specs.Hits.{ClashesAt}
-use Rattle.gr_model.proofs.Pairs.{SomeOf, SomeOf-place}
+use Rattle.gr_model.proofs.Pairs.{SomeOf, SomeOf-at, SomeOf-place}
 use Rattle.gr_model.proofs.WordLemmas.{same_from_equal}
 use Rattle.gr_clocks.specs.ClockedAccess.{ClockedAccess}
 use Rattle.gr_shadow.specs.Clashes.{clashes, event_of, IsClashIn, IsClashOf, IsHitIn}
@@ -54,15 +53,7 @@ pub answer_told : (xs : List ClockedAccess) (kept : Kept) (y : ClockedAccess) �
 answer_told xs kept y stands w =
     grind (arith, hit_by_push xs y w, stands.answered w, word_of_clash xs y w, clashes_before_told xs kept y w stands)
 
--- a word is answered where its test holds
-pub then_some_is : (hit : Bool) (v w : Word) → then_some hit v ≡ Some w ↔ ((v ≡ w) × IsTrue hit)
-then_some_is hit v w = grind arith
-
 -- ---- clashes
-
-some_weaker : {X : Type 0} (P Q : X → Type 0) (xs : List X) → ((x : X) → P x → Q x) → SomeOf P xs → SomeOf Q xs
-some_weaker P Q [] weaker h = h
-some_weaker P Q (x ∷ xs) weaker h = grind (arith, weaker x, some_weaker P Q xs weaker)
 
 -- a touch of the accesses to a word is that of one of them
 some_access : (w : Word) (t : Touch) (xs : List ClockedAccess) → SomeOf (λ u. u ≡ t) (map touch_of (accesses_to w xs)) → SomeOf (λ x. (x.word ≡ w) × (touch_of x ≡ t)) xs
@@ -74,12 +65,12 @@ pub clash_in : (xs : List ClockedAccess) (kept : Kept) (y : ClockedAccess) (w : 
 clash_in xs kept y w t stands not_yet at is =
     let found = find_is (touch_clashes y) _ t is in
     let there = (Contains-some (map touch_of (accesses_to w xs)) t).0 ((stands.touches w not_yet).each t found.0) in
-    let earlier = some_weaker _ (λ x. IsClashOf w (touch_event t) (event_of y) x y) xs (λ x of_t. record {
-      clash = record { first = of_t.0; second = at; clashes = ap (touch_clashes y) of_t.1 ∙ found.1 };
-      earlier = ap touch_event of_t.1;
+    let x = SomeOf-place _ xs (some_access w t xs there) in
+    (SomePair-push (IsClashOf w (touch_event t) (event_of y)) xs y).1 (inr (SomeOf-at _ xs x.0 x.1 x.2 (record {
+      clash = record { first = x.3.0; second = at; clashes = ap (touch_clashes y) x.3.1 ∙ found.1 };
+      earlier = ap touch_event x.3.1;
       later = refl;
-    }) (some_access w t xs there) in
-    (SomePair-push (IsClashOf w (touch_event t) (event_of y)) xs y).1 (inr earlier)
+    })))
 
 -- a clash stays one where the list becomes longer
 clash_stays : (xs : List ClockedAccess) (y : ClockedAccess) (w : Word) (old new : WordShadow) → new.clash ≡ old.clash → KeepsClash xs w old → KeepsClash (xs ++ y ∷ []) w new
@@ -89,10 +80,6 @@ clash_stays xs y w old new same keeps = record {
   kept = same ∙ keeps.kept;
   clash = (SomePair-push (IsClashOf w keeps.earlier keeps.later) xs y).1 (inl keeps.clash);
 }
-
--- a word that was not answered becomes hit exactly where a touch that is kept clashes
-pub first_told : (old : WordShadow) (y : ClockedAccess) → old.answered ≡ false → is_first_hit old y ≡ is_some (find (touch_clashes y) old.touches)
-first_told old y not_yet = grind (arith, find_told (touch_clashes y) old.touches)
 
 -- the shadow of a word after its first hit, and after another access
 pub hit_after : (old new : WordShadow) (y : ClockedAccess) (t : Touch) → old.answered ≡ false → find (touch_clashes y) old.touches ≡ Some t → new.answered ≡ true → new.clash ≡ Some (touch_event t, touch_event (touch_of y)) → IsShadowAfter old y new

@@ -17,12 +17,10 @@ returns-in_ok-push-in-None-clause-kept g c =
     rw c.in_ok-push-in-None.ensures.items (Keeps-push c.args.lists.now.items _ (c.args.touch ∷ []) (rw c.new-list.ensures.touches at c.in_ok-add-in-None.ensures.kept))
 
 pub returns-in_err-add-in-None-clause-kept : goal.returns-in_err-add-in-None-clause-kept
-returns-in_err-add-in-None-clause-kept g c =
-    rw ((err_from_is_err_and c.from_residual.result c.from_residual.ensures.1).1) tt
+returns-in_err-add-in-None-clause-kept g c = rw ((err_from_is_err_and c.from_residual.result c.from_residual.ensures.1).1) tt
 
 pub returns-in_err-add-in-None-clause-err : goal.returns-in_err-add-in-None-clause-err
-returns-in_err-add-in-None-clause-err g c =
-    rw ((err_from_is_err_and c.from_residual.result c.from_residual.ensures.1).1) refl
+returns-in_err-add-in-None-clause-err g c = rw ((err_from_is_err_and c.from_residual.result c.from_residual.ensures.1).1) refl
 
 pub returns-in_err-push-in-None-clause-kept : goal.returns-in_err-push-in-None-clause-kept
 returns-in_err-push-in-None-clause-kept g c =

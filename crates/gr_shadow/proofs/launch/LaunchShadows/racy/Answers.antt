@@ -1,6 +1,7 @@
 use Rattle.std.proofs.Common.{◌≡◌, ap, arith, inl, length}
 use Rattle.gr_shadow.specs.Launches.{accesses_in, is_global, is_local_of}
-use Rattle.gr_shadow.proofs.LaunchLemmas.{below_more, below_none, hit_below, iff_more, iff_trans, local_at}
+use Rattle.gr_shadow.proofs.LaunchLemmas.{below_more, below_none, hit_below, iff_more, local_at}
+use Rattle.gr_shadow.proofs.MapLemmas.{iff_trans}
 use Rattle.gr_shadow.proofs.launch.LaunchShadows.racy.Goals as goal
 
 pub loop-local-init : goal.loop-local-init

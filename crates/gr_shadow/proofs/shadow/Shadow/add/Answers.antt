@@ -1,6 +1,8 @@
-use Rattle.std.proofs.Common.{arith, sym, ◌∙◌}
+use Rattle.std.proofs.Common.{◌≡◌, false, arith, sym, ◌∙◌}
 use Rattle.gr_clocks.specs.ClockedAccess.{clocked}
-use Rattle.gr_shadow.proofs.ShadowLemmas.{first_told, hit_after, kept_after}
+use Rattle.gr_shadow.specs.Keeps.{touch_clashes}
+use Rattle.gr_shadow.proofs.KeepsLemmas.{find_told}
+use Rattle.gr_shadow.proofs.ShadowLemmas.{hit_after, kept_after}
 use Rattle.gr_shadow.proofs.shadow.Shadow.add.Goals as goal
 
 pub returns-in-Some-clause-shadow : goal.returns-in-Some-clause-shadow
@@ -9,7 +11,8 @@ returns-in-Some-clause-shadow g c =
 
 pub returns-in-Some-clause-hit : goal.returns-in-Some-clause-hit
 returns-in-Some-clause-hit g c =
-    grind (arith, first_told c.args.self.now (clocked c.args.access.now) (rw (← c.self.view_is) c.if-self.false), c.clashing.ensures, c.in-Some.is)
+    let not_yet : c.args.self.now.answered ≡ false = rw (← c.self.view_is) c.if-self.false in
+    grind (arith, not_yet, find_told (touch_clashes (clocked c.args.access.now)) c.args.self.now.touches, c.clashing.ensures, c.in-Some.is)
 
 pub returns-in_ok-keep-in-None-clause-shadow : goal.returns-in_ok-keep-in-None-clause-shadow
 returns-in_ok-keep-in-None-clause-shadow g c =
@@ -17,4 +20,5 @@ returns-in_ok-keep-in-None-clause-shadow g c =
 
 pub returns-in_ok-keep-in-None-clause-hit : goal.returns-in_ok-keep-in-None-clause-hit
 returns-in_ok-keep-in-None-clause-hit g c =
-    grind (arith, first_told c.args.self.now (clocked c.args.access.now) (rw (← c.self.view_is) c.if-self.false), c.clashing.ensures, c.in-None.is)
+    let not_yet : c.args.self.now.answered ≡ false = rw (← c.self.view_is) c.if-self.false in
+    grind (arith, not_yet, find_told (touch_clashes (clocked c.args.access.now)) c.args.self.now.touches, c.clashing.ensures, c.in-None.is)

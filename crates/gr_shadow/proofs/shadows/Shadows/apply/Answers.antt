@@ -1,6 +1,6 @@
 use Rattle.std.proofs.Common.{arith}
 use Rattle.gr_clocks.specs.ClockedAccess.{clocked}
-use Rattle.gr_shadow.proofs.ShadowLemmas.{answer_told, stands_after, then_some_is}
+use Rattle.gr_shadow.proofs.ShadowLemmas.{answer_told, stands_after}
 use Rattle.gr_shadow.proofs.shadows.Shadows.apply.Goals as goal
 
 pub returns-clause-stands : goal.returns-clause-stands
@@ -8,4 +8,4 @@ returns-clause-stands g c accesses stands = stands_after accesses _ _ _ stands c
 
 pub returns-clause-word : goal.returns-clause-word
 returns-clause-word g c accesses stands w =
-    grind (arith, answer_told accesses c.args.self.now (clocked c.args.access.now) stands w, then_some_is c.in_ok-hit.hit c.args.access.now.word w, c.then_some.ensures, c.in_ok-hit.ensures.hit)
+    grind (arith, answer_told accesses c.args.self.now (clocked c.args.access.now) stands w, c.then_some.ensures, c.in_ok-hit.ensures.hit)
