@@ -130,23 +130,23 @@ pub iff_more : {A B C D E : Type 0} → A ↔ (B ⊎ C) → B ↔ D → E ↔ (D
 iff_more p q r = grind arith
 
 -- where a local word is hit, something is kept of its group
-hit_kept : (accesses : List ClockedAccess) (k : LaunchKept) (g v : ℕ) → StandsForLaunch accesses k → IsHitIn (accesses_in (is_local_of g) accesses) (Local g v) → (kept : Kept) × (slice_get k.local g ≡ Some (Some kept)) × StandsFor (accesses_in (is_local_of g) accesses) kept
-hit_kept accesses k g v stands here = by_table (slice_get k.local g) refl
+hit_kept : {accesses : List ClockedAccess} {k : LaunchKept} (g v : ℕ) → StandsForLaunch accesses k → IsHitIn accesses (Local g v) → IsHitIn (accesses_in (is_local_of g) accesses) (Local g v) × (kept : Kept) × (slice_get k.local g ≡ Some (Some kept)) × StandsFor (accesses_in (is_local_of g) accesses) kept
+hit_kept {accesses} {k} g v stands h = by_table (slice_get k.local g) refl
   where
-    by_table : (o : Option (Option Kept)) → slice_get k.local g ≡ o → (kept : Kept) × (slice_get k.local g ≡ Some (Some kept)) × StandsFor (accesses_in (is_local_of g) accesses) kept
+    here : IsHitIn (accesses_in (is_local_of g) accesses) (Local g v)
+    here = hit_in_part (is_local_of g) accesses (Local g v) (eq-eqb g g refl) h
+
+    by_table : (o : Option (Option Kept)) → slice_get k.local g ≡ o → IsHitIn (accesses_in (is_local_of g) accesses) (Local g v) × (kept : Kept) × (slice_get k.local g ≡ Some (Some kept)) × StandsFor (accesses_in (is_local_of g) accesses) kept
     by_table None is = absurd (no_hit (accesses_in (is_local_of g) accesses) (Local g v) (rw is at (stands.local g)) here)
     by_table (Some None) is = absurd ((rw is at (stands.local g)) (Local g v) here)
-    by_table (Some (Some kept)) is = (kept, is, rw is at (stands.local g))
+    by_table (Some (Some kept)) is = (here, kept, is, rw is at (stands.local g))
 
 pub hit_below : {accesses : List ClockedAccess} {k : LaunchKept} → StandsForLaunch accesses k → (w : Word) → IsHitBelow accesses (length k.local) w ↔ IsHitIn accesses w
 hit_below {accesses} {k} stands w = (⊎_elim (λ a. unfiltered is_global _ accesses a) (λ b. unfiltered (is_local_of b.0) _ accesses b.2), by_word w)
   where
     by_word : (w : Word) → IsHitIn accesses w → IsHitBelow accesses (length k.local) w
     by_word (Global v) h = inl (hit_in_part is_global accesses (Global v) refl h)
-    by_word (Local g v) h =
-        let here = hit_in_part (is_local_of g) accesses (Local g v) (eq-eqb g g refl) h in
-        let kept = hit_kept accesses k g v stands here in
-        inr (g, slice_get_within k.local g (Some kept.0) kept.1, here)
+    by_word (Local g v) h = let p = hit_kept g v stands h in inr (g, slice_get_within k.local g (Some p.1) p.2, p.0)
 
 -- ---- the clash of a word that is hit
 
@@ -155,7 +155,6 @@ launch_clash_there {accesses} {k} stands (Global v) h =
     let there = clash_there stands.global (Global v) (hit_in_part is_global accesses (Global v) refl h) in
     (there.0, there.1, there.2, unfiltered is_global _ accesses there.3)
 launch_clash_there {accesses} {k} stands (Local g v) h =
-    let here = hit_in_part (is_local_of g) accesses (Local g v) (eq-eqb g g refl) h in
-    let kept = hit_kept accesses k g v stands here in
-    let there = clash_there kept.2 (Local g v) here in
-    (there.0, rw kept.1 there.1, there.2, unfiltered (is_local_of g) _ accesses there.3)
+    let p = hit_kept g v stands h in
+    let there = clash_there p.3 (Local g v) p.0 in
+    (there.0, rw p.2 there.1, there.2, unfiltered (is_local_of g) _ accesses there.3)
