@@ -1,5 +1,5 @@
 -- What is so of the list of steps and of those that wait where a group comes: no step may be made that could not be.
-use Rattle.std.proofs.Common.{◌≡◌, ℕ, List, [], ◌∷◌, length, arith, Vec, filter, filter_map, slice_get, Some, None, Option, sym, ap, ◌∙◌, subst, inl, inr, ⊎_elim}
+use Rattle.std.proofs.Common.{◌≡◌, ℕ, List, [], arith, Vec, filter, filter_map, slice_get, None, Option, ap, ◌∙◌, subst, inr, ⊎_elim}
 use Rattle.std.proofs.lemmas.Bool.{cases_eq}
 use Rattle.gr_model.specs.declared.event.Event.{Event}
 use Rattle.gr_model.specs.declared.event.ItemId.{ItemId}
@@ -12,27 +12,11 @@ use Rattle.gr_model.specs.LawfulOrders.{IsLawful}
 use Rattle.gr_model.specs.Streams.{ArePrefixes, Streams, is_complete, is_of, list_of, size_of, trace_of}
 use Rattle.gr_model.proofs.GroupLaws.{group_grows, list_stays, nothing_came, size_stays}
 use Rattle.gr_steps.specs.Steps.{CanMeet}
-use Rattle.gr_order.specs.declared.steps.Ready.{Ready}
-use Rattle.gr_order.specs.declared.steps.Ready.TheVariants.{Group, Item}
-use Rattle.gr_order.specs.Answers.{CanMake}
 use Rattle.gr_order.specs.Sequences.{Sequence, with_group}
 use Rattle.gr_agenda.specs.Kept.{AreUndiverged, IsKept}
 use Rattle.gr_agenda.specs.Lists.{IsWaiting, Steps}
-use Rattle.gr_agenda.proofs.TakeFrames.{Takes, arrived_meets, held_was, ready_was, still_held}
-
--- ---- lists that grow
-
--- where all stay who wait, nothing that is ready is missing
-pub kept_wider : {Z : Type 0} (q : Sequence) (t : Steps) (lists lists2 : List (Vec ItemId Z)) → IsKept q t lists → ((n : Name) (i : ItemId) → IsWaiting lists n i → IsWaiting lists2 n i) → IsKept q t lists2
-kept_wider q t lists lists2 kept wider = record {
-  ready = kept.ready;
-  waits = λ d n held. ⊎_elim (λ stands. inl stands) (λ noted. inr (noted.0, noted.1, wider noted.0 d.at noted.2)) (kept.waits d n held);
-}
-
--- in no lists nobody waits
-pub none_waits : {Z : Type 0} (lists : List (Vec ItemId Z)) (n : Name) (i : ItemId) → length lists ≡ 0 → IsWaiting lists n i → ⊥
-none_waits [] n i none there = absurd cc
-none_waits (list ∷ lists) n i none there = absurd (omega arith)
+use Rattle.gr_agenda.proofs.Frames.{Frame, IsSameGroup, frame_taken}
+use Rattle.gr_agenda.proofs.KeptLemmas.{kept_framed}
 
 -- ---- a group comes
 
@@ -62,37 +46,18 @@ module _ (q : Sequence) (g n : ℕ) (prefixes : ArePrefixes q.taken) (lawful : I
       (subst (λ m. IsDivergentOf (is_complete (list_of more h)) m (arrivals more h k)) (size_stays q.taken g n h apart) divergent))
       (cases_eq h g)
 
-  takes : Takes q.taken more q.handled (λ d. ⊥)
-  takes = search (arith, group_grows, same_trace, divergent_was)
+  frame : Frame q.taken more q.handled q.handled (λ x. ⊥) (λ d. ⊥)
+  frame = frame_taken q.taken more q.handled (λ d. ⊥) (group_grows q.taken g n prefixes can) lawful (λ d apart. ap (λ (l : List Event). slice_get l d.index) (same_trace d.at)) (λ d h k apart stands. divergent_was h k)
 
-  never : ⊥ → ⊥
-  never e = e
-
-  meets_was : (h : ℕ) → CanMeet more q.handled h → CanMeet q.taken q.handled h
-  meets_was h meets =
-      ⊎_elim
-      (λ (same : h ≡ g).
-      let convergent = meets.2.convergent in
-      let none : None ≡ Some meets.1 = sym (nobody meets.0 0) ∙ (ap (λ m. arrivals more m meets.0 0) (sym same) ∙ convergent.1 0 convergent.0) in
-      absurd (none_is_some meets.1 none))
-      (λ apart. arrived_meets q.taken more q.handled (λ d. ⊥) takes h (size_stays q.taken g n h apart) (λ k i. ap (λ (l : List Event). slice_get (filter_map mark_of l) k) (same_trace (record { group = h; item = i }))) meets)
-      (cases_eq h g)
+  pub kept_with_group : {Z : Type 0} (t : Steps) (lists lists2 : List (Vec ItemId Z)) → IsKept q t lists → ((m : Name) (i : ItemId) → IsWaiting lists m i → IsWaiting lists2 m i) → IsKept (with_group q g n) t lists2
+  kept_with_group t lists lists2 kept wider =
+      kept_framed t t kept (λ r has. has) frame (λ d. inr (λ e. e)) (λ d own. absurd own) g (λ can. absurd (no_meeting can)) stays (λ x new. absurd new) (λ m. inr (λ x new at place. new)) lists2 (λ m i waits. inr (wider m i waits))
     where
-      none_is_some : {X : Type 0} (x : X) → None ≡ Some x → ⊥
-      none_is_some x e = cc
+      no_meeting : CanMeet more q.handled g → ⊥
+      no_meeting can = grind (arith, nobody, can.2.convergent)
 
-  made_before : (r : Ready) → CanMake (with_group q g n) r → CanMake q r
-  made_before (Item i) h = (h.0, h.1, ready_was q.taken more q.handled (λ d. ⊥) takes h.0 never h.2)
-  made_before (Group h) meets = meets_was h meets
-
-  pub kept_with_group : {Z : Type 0} (steps : Steps) (lists : List (Vec ItemId Z)) → IsKept q steps lists → IsKept (with_group q g n) steps lists
-  kept_with_group steps lists kept = record {
-    ready = λ r h. kept.ready r (made_before r h);
-    waits = λ d m held. ⊎_elim
-        (λ has. inl has)
-        (λ noted. inr (noted.0, still_held q.taken more q.handled (λ e. ⊥) takes d noted.0 never noted.1, noted.2))
-        (kept.waits d m (held_was q.taken more q.handled (λ e. ⊥) takes d m never held));
-  }
+      stays : (h : ℕ) → (h ≡ g → ⊥) → IsSameGroup q.taken more h
+      stays h apart = (size_stays q.taken g n h apart, λ k i. ap (λ (l : List Event). slice_get (filter_map mark_of l) k) (same_trace (record { group = h; item = i })))
 
   pub undiverged_with_group : (undiverged : List (Option ℕ)) → AreUndiverged q.taken undiverged → AreUndiverged more undiverged
   undiverged_with_group undiverged are h k at divergent = are h k at (divergent_was h k divergent)

@@ -1,12 +1,11 @@
 -- What a record that is taken changes: an item or a group that it does not touch can go on only as before.
-use Rattle.std.proofs.Common.{Contains, cond, is_some, length, ◌+◌, ◌≡◌, ◌<◌, ℕ, List, [], ◌∷◌, ◌++◌, Bool, true, false, Some, Option, refl, sym, ap, ◌∙◌, subst, inl, inr, ⊎_elim, filter, filter_map, slice_get, arith, append-nil, true≢false}
+use Rattle.std.proofs.Common.{cond, is_some, length, ◌+◌, ◌≡◌, ◌<◌, ℕ, List, [], ◌∷◌, ◌++◌, Bool, true, false, Some, Option, Vec, ◌⊎◌, ◌≤◌, refl, sym, ap, ◌∙◌, subst, inl, inr, ⊎_elim, filter, filter_map, slice_get, arith, append-nil, true≢false}
 use Rattle.std.specs.List.{cons_option}
-use Rattle.std.proofs.lemmas.List.{get_or-set_same, get_or-set_other}
 use Rattle.gr_model.proofs.Sending.{is_complete-push}
 use Rattle.gr_model.specs.declared.event.Kind.{Kind}
 use Rattle.gr_model.specs.Instances.{HasArrived, IsDivergentOf, Mark}
 use Rattle.gr_lanes.specs.Takes.{CanTake, next_of, with_record}
-use Rattle.gr_lanes.proofs.Growth.{record_grows}
+use Rattle.gr_lanes.proofs.Growth.{here, other, record_grows}
 use Rattle.gr_lanes.proofs.IndexLemmas.{length-places, no_trace, places_more}
 use Rattle.gr_lanes.proofs.InstanceLemmas.{some_mark}
 use Rattle.gr_steps.proofs.Orders.{at_behind, split_last}
@@ -19,89 +18,26 @@ use Rattle.gr_model.specs.declared.event.Event.{Event}
 use Rattle.gr_model.specs.declared.event.EventId.{EventId}
 use Rattle.gr_model.specs.declared.event.ItemId.{ItemId}
 use Rattle.gr_model.specs.declared.event.Name.{Name}
-use Rattle.gr_model.specs.Access.{is_release}
-use Rattle.gr_model.specs.Barriers.{IsDivergent, StandsIn, arrivals, is_barrier, mark_of, mark_of_kind}
+use Rattle.gr_model.specs.Barriers.{IsDivergent, arrivals, is_barrier, mark_of, mark_of_kind}
 use Rattle.gr_model.specs.Events.{is_end, is_end_kind}
 use Rattle.gr_model.specs.LawfulOrders.{IsIn, IsLawful}
-use Rattle.gr_model.specs.Names.{HasName, MatchesBy, names_of, release_place}
-use Rattle.gr_model.specs.Streams.{ArePrefixes, Grows, IsEvent, Streams, event_at, is_complete, is_of, list_of, place_of, places_from, size_of, trace_of}
-use Rattle.gr_model.specs.Waits.{for_release}
-use Rattle.gr_model.proofs.GrowthLaws.{convergent_grows, event_grows, stands_grows, stands_shrinks, trace_grows, waits_grows, word_grows}
-use Rattle.gr_model.proofs.Places.{places_from-append, places_from-within, slice_get-append}
+use Rattle.gr_model.specs.Names.{HasName}
+use Rattle.gr_model.specs.Streams.{ArePrefixes, Streams, event_at, is_complete, is_of, list_of, place_of, size_of, trace_of}
 use Rattle.std.proofs.lemmas.Option.{slice_get_within, gets}
 use Rattle.std.proofs.lemmas.Grind.{common_steps}
-use Rattle.gr_steps.specs.Steps.{CanMeet, IsMeeting, IsReady}
-use Rattle.gr_agenda.specs.Kept.{IsHeldUp}
+use Rattle.gr_steps.specs.Steps.{CanMeet, IsReady}
+use Rattle.gr_agenda.proofs.Frames.{Frame, frame_taken, meets_was}
+use Rattle.gr_agenda.proofs.KeptLemmas.{Goes, items_of, kept_framed}
+use Rattle.gr_agenda.specs.Kept.{AreUndiverged, IsForgotten, IsKept, IsPending, IsTold}
+use Rattle.gr_agenda.specs.Lists.{Has, KeepsSteps, Steps}
+use Rattle.gr_order.proofs.AtOnceLemmas.{there_at_once}
+use Rattle.gr_order.proofs.ForgetLemmas.{unhandled_remembered}
+use Rattle.gr_order.specs.Forgetting.{ForgetsHandled}
+use Rattle.gr_lanes.specs.Remembered.{Remembered, forgotten_of}
+use Rattle.gr_order.specs.Sequences.{IsSequence, Sequence, taking}
+use Rattle.gr_order.specs.declared.steps.Ready.TheVariants.{Group, Item}
+use Rattle.gr_steps.proofs.EventRecords.{barriers_name_nothing}
 use Rattle.gr_agenda.specs.Reaches.{IsFollowing, next_instance}
-
--- t has more records than s; an event of which T holds not is as it was, and its instances are divergent only where they were
-pub record Takes (s t : Streams) (h : List EventId) (T : EventId → Type 0) : Type 0 where
-  pub grows : Grows s t
-  pub lawful : IsLawful s h
-  pub event : (d : EventId) → (T d → ⊥) → event_at t d ≡ event_at s d
-  pub divergent : (d : EventId) (g k : ℕ) → (T d → ⊥) → StandsIn s d g k → IsDivergent t g k → IsDivergent s g k
-
--- places and names of events that were there stay
-module _ (s t : Streams) (grows : Grows s t) where
-  place_grows : (test : Event → Bool) (i : ItemId) (k n : ℕ) → place_of s test i k ≡ Some n → place_of t test i k ≡ Some n
-  place_grows test i k n at =
-      let more = trace_grows s t grows i in rw (more.1, places_from-append) (slice_get-append (places_from test 0 (trace_of s i)) _ k n at)
-
-  place_shrinks : (test : Event → Bool) (e : EventId) (k : ℕ) → IsEvent s e → place_of t test e.at k ≡ Some e.index → place_of s test e.at k ≡ Some e.index
-  place_shrinks test e k there at = grind (arith, trace_grows s t grows e.at, places_from-within test (trace_of s e.at), slice_get_within (trace_of s e.at) e.index there.0 there.1)
-
-  name_grows : (e : EventId) (n : Name) → IsEvent s e → HasName s e n → HasName t e n
-  name_grows e n there named = subst (λ names. Contains names n) (ap names_of (there.1 ∙ sym (event_grows s t grows e there.0 there.1))) named
-
-  -- the release of a name is the one that it was, where it was there
-  release_was : (n : Name) (x : EventId) → IsEvent s x → x.at ≡ n.at → release_place t n ≡ Some x.index → release_place s n ≡ Some x.index
-  release_was n x there at place = grind (arith, place_shrinks)
-
-module _ (s t : Streams) (h : List EventId) (T : EventId → Type 0) (takes : Takes s t h T) where
-  handled_event : (x : EventId) → IsIn h x → IsEvent s x
-  handled_event x there = (takes.lawful.event there.0 x there.1).0
-
-  event_was : (d : EventId) → (T d → ⊥) → event_at t d ≡ event_at s d
-  event_was d apart = takes.event d apart
-
-  name_was : (d : EventId) → (T d → ⊥) → (n : Name) → HasName t d n → HasName s d n
-  name_was d apart n named = subst (λ names. Contains names n) (ap names_of (event_was d apart)) named
-
-  pub held_was : (d : EventId) (n : Name) → (T d → ⊥) → IsHeldUp t h d n → IsHeldUp s h d n
-  held_was d n apart held = grind (arith, name_was d apart n held.named, held.fresh, held.previous, held.free, place_grows s t takes.grows is_release n.at n.release)
-
-  -- an event is held up by each name by which it was
-  pub still_held : (d : EventId) (n : Name) → (T d → ⊥) → IsHeldUp s h d n → IsHeldUp t h d n
-  still_held d n apart held = grind (arith, event_was d apart, held.fresh, held.previous, held.free, release_was s t takes.grows n, handled_event)
-
-  matches_was : (n : Name) (d f : EventId) → IsEvent s d → IsEvent s f → HasName s d n → MatchesBy t n d f → MatchesBy s n d f
-  matches_was n d f here there named m = grind (arith, release_was s t takes.grows n f there m.item m.place, word_grows s t takes.grows d here, word_grows s t takes.grows f there)
-
-  pub ready_was : (d : EventId) → (T d → ⊥) → IsReady t h d → IsReady s h d
-  ready_was d apart ready =
-      let here : IsEvent s d = (ready.event.0, sym (event_was d apart) ∙ ready.event.1) in record {
-        event = here;
-        fresh = ready.fresh;
-        release = λ n named.
-            let r = ready.release n (name_grows s t takes.grows d n here named) in
-            (r.0, matches_was n d r.0 here (handled_event r.0 (ready.waits r.0 (for_release (record { name = n; by = r.1 })))) named r.1);
-        waits = λ x w. ready.waits x (waits_grows s t takes.grows d x here w);
-        instance = λ g k stands. takes.divergent d g k apart stands (ready.instance g k (stands_grows s t takes.grows d g k stands));
-      }
-
-  module _ (g : ℕ) (size_was : size_of t g ≡ size_of s g) (arrival_was : (k i : ℕ) → arrivals t g k i ≡ arrivals s g k i) where
-    meeting_was : (k : ℕ) (a : Mark) → IsMeeting t h g k a → IsMeeting s h g k a
-    meeting_was k a meeting = record {
-      convergent = (subst (λ n. 0 < n) size_was meeting.convergent.0, λ i lt. sym (arrival_was k i) ∙ meeting.convergent.1 i (subst (λ n. i < n) (sym size_was) lt));
-      fresh = λ met. meeting.fresh (met.0, stands_grows s t takes.grows met.0 g k met.1, met.2);
-      least = λ l b lt c.
-          let met = meeting.least l b lt (convergent_grows s t takes.grows g l b c) in
-          (met.0, stands_shrinks s t takes.grows met.0 g l (handled_event met.0 met.2) met.1, met.2);
-      before = λ b d stands p. meeting.before b d (stands_grows s t takes.grows b g k stands) p;
-    }
-
-    pub arrived_meets : CanMeet t h g → CanMeet s h g
-    arrived_meets can = (can.0, can.1, meeting_was can.0 can.1 can.2)
 
 -- ---- marks
 
@@ -129,29 +65,18 @@ module _ (s : Streams) (g : ℕ) (x : Event) (prefixes : ArePrefixes s) (can : C
   abbrev more : Streams
   more = with_record s g x
 
-  here : list_of more g ≡ list_of s g ++ x ∷ []
-  here = get_or-set_same s.lists g (list_of s g ++ x ∷ []) [] (omega (arith, prefixes.count, can.group))
-
-  other : (k : ℕ) → (k ≡ g → ⊥) → list_of more k ≡ list_of s k
-  other k apart = get_or-set_other s.lists g k (list_of s g ++ x ∷ []) [] apart
-
   other_trace : (i : ItemId) → (i.group ≡ g → ⊥) → trace_of more i ≡ trace_of s i
-  other_trace i apart = ap (λ (l : List Event). filter (is_of i.item) l) (other i.group apart)
+  other_trace i apart = ap (λ (l : List Event). filter (is_of i.item) l) (other s g x prefixes can i.group apart)
 
   pub other_divergent : (k n : ℕ) → (k ≡ g → ⊥) → IsDivergent more k n → IsDivergent s k n
-  other_divergent k n apart = subst (λ (l : List Event). IsDivergentOf (is_complete l) (size_of s k) (λ i. slice_get (filter_map mark_of (filter (is_of i) l)) n)) (other k apart)
+  other_divergent k n apart = subst (λ (l : List Event). IsDivergentOf (is_complete l) (size_of s k) (λ i. slice_get (filter_map mark_of (filter (is_of i) l)) n)) (other s g x prefixes can k apart)
 
   pub other_arrivals : (n : ℕ) → (n ≡ g → ⊥) → (k i : ℕ) → arrivals more n k i ≡ arrivals s n k i
   other_arrivals n apart k i = ap (λ (l : List Event). slice_get (filter_map mark_of l) k) (other_trace (record { group = n; item = i }) apart)
 
   -- it touches at most the items of its group
-  pub takes_wide : (h : List EventId) → IsLawful s h → Takes s more h (λ d. d.at.group ≡ g)
-  takes_wide h lawful = record {
-    grows = record_grows s g x prefixes can;
-    lawful = lawful;
-    event = λ d apart. ap (λ (l : List Event). slice_get l d.index) (other_trace d.at apart);
-    divergent = λ d k n apart stands. other_divergent k n (λ same. apart (stands.group ∙ same));
-  }
+  pub takes_wide : (h : List EventId) → IsLawful s h → Frame s more h h (λ x. ⊥) (λ d. d.at.group ≡ g)
+  takes_wide h lawful = frame_taken s more h (λ d. d.at.group ≡ g) (record_grows s g x prefixes can) lawful (λ d apart. ap (λ (l : List Event). slice_get l d.index) (other_trace d.at apart)) (λ d k n apart stands. other_divergent k n (λ same. apart (stands.group ∙ same)))
 
   -- and where it is no end, and no mark comes to an instance with which none came before, only its own
   module _ (ends : is_end x ≡ false) where
@@ -159,13 +84,13 @@ module _ (s : Streams) (g : ℕ) (x : Event) (prefixes : ArePrefixes s) (can : C
     own = record { group = g; item = x.item }
 
     longer_trace : (i : ℕ) → trace_of more (record { group = g; item = i }) ≡ trace_of s (record { group = g; item = i }) ++ cond (is_of i x) (x ∷ []) []
-    longer_trace i = ap (λ (l : List Event). filter (is_of i) l) here ∙ filter-append (is_of i) (list_of s g) (x ∷ [])
+    longer_trace i = ap (λ (l : List Event). filter (is_of i) l) (here s g x prefixes can) ∙ filter-append (is_of i) (list_of s g) (x ∷ [])
 
     longer_marks : (i : ℕ) → filter_map mark_of (trace_of more (record { group = g; item = i })) ≡ filter_map mark_of (trace_of s (record { group = g; item = i })) ++ filter_map mark_of (cond (is_of i x) (x ∷ []) [])
     longer_marks i = ap (λ (l : List Event). filter_map mark_of l) (longer_trace i) ∙ filter_map-append mark_of (trace_of s (record { group = g; item = i })) (cond (is_of i x) (x ∷ []) [])
 
     not_complete : is_complete (list_of more g) ≡ false
-    not_complete = ap is_complete here ∙ (is_complete-push (list_of s g) x ∙ ends)
+    not_complete = ap is_complete (here s g x prefixes can) ∙ (is_complete-push (list_of s g) x ∙ ends)
 
     item_is : (i : ℕ) → is_of i x ≡ true → x.item ≡ i
     item_is i is = grind (arith, eqb-true)
@@ -187,13 +112,8 @@ module _ (s : Streams) (g : ℕ) (x : Event) (prefixes : ArePrefixes s) (can : C
           (λ apart. other_divergent k n apart divergent)
           (cases_eq k g)
 
-      pub takes_own : (h : List EventId) → IsLawful s h → Takes s more h (λ d. d.at ≡ own)
-      takes_own h lawful = record {
-        grows = record_grows s g x prefixes can;
-        lawful = lawful;
-        event = λ d apart. ap (λ (l : List Event). slice_get l d.index) (own_trace d.at apart);
-        divergent = λ d k n apart stands divergent. divergent_was k n divergent;
-      }
+      pub takes_own : (h : List EventId) → IsLawful s h → Frame s more h h (λ x. ⊥) (λ d. d.at ≡ own)
+      takes_own h lawful = frame_taken s more h (λ d. d.at ≡ own) (record_grows s g x prefixes can) lawful (λ d apart. ap (λ (l : List Event). slice_get l d.index) (own_trace d.at apart)) (λ d k n apart stands. divergent_was k n)
 
     -- a record that is no barrier brings no mark
     module _ (plain : is_barrier x ≡ false) where
@@ -211,7 +131,7 @@ module _ (s : Streams) (g : ℕ) (x : Event) (prefixes : ArePrefixes s) (can : C
 
       -- no instance of the group may meet now that might not before
       pub own_meets : (h : List EventId) → IsLawful s h → CanMeet more h g → CanMeet s h g
-      own_meets h lawful = arrived_meets s more h (λ d. d.at ≡ own) (takes_own plain_marks h lawful) g refl same_arrival
+      own_meets h lawful = meets_was (takes_own plain_marks h lawful) g (refl, same_arrival) (λ x new group. new)
 
     -- a barrier that follows another of its instance brings the mark of that
     module _ (follows : IsFollowing s g x) where
@@ -277,14 +197,85 @@ module _ (s : Streams) (g : ℕ) (x : Event) (prefixes : ArePrefixes s) (can : C
         last_event : (d : EventId) → (d ≡ e → ⊥) → event_at more d ≡ event_at s d
         last_event d apart = grind (arith, own, more, own_longer, get_before, same_event, e, other, own_trace, item_cases)
 
-        pub takes_last : (h : List EventId) → IsLawful s h → Takes s more h (λ d. d ≡ e)
-        takes_last h lawful = record {
-          grows = record_grows s g x prefixes can;
-          lawful = lawful;
-          event = last_event;
-          divergent = λ d k n apart stands divergent. else_divergent k n divergent;
-        }
+        pub takes_last : (h : List EventId) → IsLawful s h → Frame s more h h (λ x. ⊥) (λ d. d ≡ e)
+        takes_last h lawful = frame_taken s more h (λ d. d ≡ e) (record_grows s g x prefixes can) lawful last_event (λ d k n apart stands. else_divergent k n)
 
         -- which can't be handled
         pub last_stuck : (h : List EventId) → IsReady more h e → ⊥
         last_stuck h ready = undiverged (ready.instance g brought (record { group = refl; item = can.item; place = own_place }))
+
+-- ---- a record is taken
+
+-- the instance to which a barrier brings its item is not forgotten, since the barrier was not handled
+pub own_remembered : (q : Sequence) → IsSequence q → (g : ℕ) (x : Event) → CanTake q.taken g x → is_barrier x ≡ true → (k : ℕ) → k ≡ next_instance q.taken g x.item → (r : Remembered) → r.streams ≡ with_record q.taken g x → ForgetsHandled r q.handled → forgotten_of r g ≤ k
+own_remembered q is g x can barrier k next r streams forgets = unhandled_remembered r q.handled forgets e out k place
+  where
+    e : EventId
+    e = next_of q.taken g x
+
+    place : place_of r.streams is_barrier e.at k ≡ Some e.index
+    place = grind (arith, e, own_place, barrier_goes_on)
+
+    out : ¬ IsIn q.handled e
+    out there = grind (arith, there, e, slice_get_within, is.lawful.event there.0 e there.1)
+
+module _ {Z : Type 0} {q : Sequence} {t : Steps} {lists : List (Vec ItemId Z)} (is : IsSequence q) (kept : IsKept q t lists) (undiverged : List (Option ℕ)) (are : AreUndiverged q.taken undiverged) (g : ℕ) (x : Event) (can : CanTake q.taken g x) (t2 : Steps) (keeps : KeepsSteps t t2) where
+  abbrev longer : Streams
+  longer = with_record q.taken g x
+
+  abbrev next : EventId
+  next = next_of q.taken g x
+
+  kept_took : {T : EventId → Type 0} → Frame q.taken longer q.handled q.handled (λ x. ⊥) T → ((d : EventId) → T d ⊎ (T d → ⊥)) → ((d : EventId) → T d → Goes (taking q g x) d → Has t2 (Item d.at)) → (CanMeet longer q.handled g → Has t2 (Group g)) → IsKept (taking q g x) t2 lists
+  kept_took frame decided items group = kept_framed t t2 kept keeps frame decided items g group (λ n apart. (refl, other_arrivals q.taken g x is.prefixes can n apart)) (λ x new. absurd new) (λ n. inr (λ x new at place. new)) lists (λ n i waits. inr waits)
+
+  pub took_wide : (new : List (Option ℕ)) → IsForgotten undiverged g new → Has t2 (Group g) → ArePrefixes longer → ((i : ℕ) → i < size_of q.taken g → IsPending (taking q g x) (record { group = g; item = i }) → Has t2 (Item (record { group = g; item = i }))) → IsKept (taking q g x) t2 lists × AreUndiverged longer new
+  took_wide new forgotten group prefixes items = (
+    kept_took (takes_wide q.taken g x is.prefixes can q.handled is.lawful) (λ d. cases_eq d.at.group g) (items_of (taking q g x) prefixes g t2 items) (λ can. group),
+    λ h k told divergent. grind (arith, forgotten.none k, forgotten.others h k told, are h k, other_divergent q.taken g x is.prefixes can h k, cases_eq h g),
+  )
+
+  took_own : is_end x ≡ false → AddsNoMark q.taken longer g → Has t2 (Item next.at) → (CanMeet longer q.handled g → Has t2 (Group g)) → IsKept (taking q g x) t2 lists × AreUndiverged longer undiverged
+  took_own ends marks item group = (
+    kept_took (takes_own q.taken g x is.prefixes can ends marks q.handled is.lawful) (λ d. item_cases d.at next.at) (λ d own goes. rw own item) group,
+    λ h k told divergent. are h k told (divergent_was q.taken g x is.prefixes can ends marks h k divergent),
+  )
+
+  pub took_plain : is_barrier x ≡ false → is_end x ≡ false → Has t2 (Item next.at) → IsKept (taking q g x) t2 lists × AreUndiverged longer undiverged
+  took_plain plain ends item = took_own ends (plain_marks q.taken g x is.prefixes can ends plain) item (λ meets. keeps (Group g) (kept.ready (Group g) (own_meets q.taken g x is.prefixes can ends plain q.handled is.lawful meets)))
+
+  pub took_following : IsFollowing q.taken g x → Has t2 (Group g) → Has t2 (Item next.at) → IsKept (taking q g x) t2 lists × AreUndiverged longer undiverged
+  took_following follows group item = search (arith, barrier_goes_on, took_own, following_marks)
+
+  -- a barrier of an instance that is not divergent behind it can't go on by itself, and lets no other item go on
+  pub took_undiverged : is_barrier x ≡ true → (k : ℕ) → k ≡ next_instance q.taken g x.item → ArePrefixes longer → ¬ IsDivergent longer g k → Has t2 (Group g) → (new : List (Option ℕ)) → IsTold undiverged g k new → IsKept (taking q g x) t2 lists × AreUndiverged longer new
+  took_undiverged barrier k same prefixes not_divergent group new tells = (
+    kept_took (takes_last q.taken g x is.prefixes can ends barrier still q.handled is.lawful) event_cases stuck (λ meets. group),
+    λ h n told divergent. grind (arith, tells.own n, tells.others h n, are h n, other_divergent q.taken g x is.prefixes can h n, cases_eq h g),
+  )
+    where
+      ends : is_end x ≡ false
+      ends = barrier_goes_on x.kind x.word barrier
+
+      still : ¬ IsDivergent longer g (next_instance q.taken g x.item)
+      still = rw (← same) not_divergent
+
+      event_cases : (d : EventId) → (d ≡ next) ⊎ (d ≡ next → ⊥)
+      event_cases d = grind arith
+
+      names_nothing : (n : Name) → HasName longer next n → ⊥
+      names_nothing n named = grind (arith, there_at_once q.taken g x is.prefixes can ends, barriers_name_nothing longer prefixes next x n)
+
+      stuck : (d : EventId) → d ≡ next → Goes (taking q g x) d → Has t2 (Item d.at)
+      stuck d same (inl ready) = absurd (last_stuck q.taken g x is.prefixes can ends barrier still q.handled (rw same at ready))
+      stuck d same (inr (n, held)) = absurd (names_nothing n (rw same at held.named))
+
+  -- so it is with one that follows another, where its instance was known not to be divergent
+  pub took_told : IsFollowing q.taken g x → (k : ℕ) → k ≡ next_instance q.taken g x.item → ArePrefixes longer → slice_get undiverged g ≡ Some (Some k) → Has t2 (Group g) → IsKept (taking q g x) t2 lists × AreUndiverged longer undiverged
+  took_told follows k same prefixes told group = took_undiverged follows.barrier k same prefixes still group undiverged (record { own = λ n at. cc; others = λ h n apart at. at })
+    where
+      ends : is_end x ≡ false
+      ends = barrier_goes_on x.kind x.word follows.barrier
+
+      still : ¬ IsDivergent longer g k
+      still divergent = are g k told (divergent_was q.taken g x is.prefixes can ends (following_marks q.taken g x is.prefixes can ends follows) g k divergent)
