@@ -1,5 +1,5 @@
 -- Where an event is handled as soon as its record is taken, no step becomes ready: the record is taken, its event is handled, and its item has no other.
-use Rattle.std.proofs.Common.{◌≡◌, ◌+◌, ◌<◌, ℕ, List, [], ◌∷◌, Option, Some, Vec, length, refl, sym, ap, subst, inr, ⊎_elim, arith}
+use Rattle.std.proofs.Common.{◌≡◌, ◌<◌, ℕ, List, [], ◌∷◌, Option, Some, Vec, refl, sym, ap, subst, inr, arith}
 use Rattle.gr_model.specs.declared.event.Event.{Event}
 use Rattle.gr_model.specs.declared.event.EventId.{EventId}
 use Rattle.gr_model.specs.declared.event.ItemId.{ItemId}
@@ -18,33 +18,29 @@ use Rattle.gr_order.specs.Sequences.{HandlesEvent, IsSequence, Sequence, taking}
 use Rattle.gr_order.proofs.AtOnceLemmas.{others_at_once, there_at_once}
 use Rattle.gr_agenda.specs.Kept.{AreUndiverged, IsKept}
 use Rattle.gr_agenda.specs.Lists.{Steps}
-use Rattle.gr_agenda.proofs.Frames.{Frame, frame_more}
+use Rattle.gr_agenda.proofs.Frames.{Frame, frame_event}
 use Rattle.gr_agenda.proofs.KeptLemmas.{Goes, kept_framed, named_there, passes_there}
 use Rattle.gr_agenda.proofs.TakeFrames.{AddsNoMark, divergent_was, other_arrivals, plain_marks, takes_own}
 use Rattle.gr_order.proofs.StateLemmas.{item_cases}
 
-module _ {Z : Type 0} (q : Sequence) (is : IsSequence q) (t : Steps) (lists : List (Vec ItemId Z)) (kept : IsKept q t lists) (g : ℕ) (x : Event) (go : GoesAtOnce q g x) (q2 : Sequence) (step : HandlesEvent (taking q g x) (next_of q.taken g x) q2) where
+module _ {Z : Type 0} (q : Sequence) (is : IsSequence q) (t : Steps) (lists : List (Vec ItemId Z)) (kept : IsKept q t lists) (g : ℕ) (x : Event)
+    (go : GoesAtOnce q g x) (q2 : Sequence) (step : HandlesEvent (taking q g x) (next_of q.taken g x) q2) where
   abbrev e : EventId
   e = next_of q.taken g x
 
   abbrev more : Streams
   more = with_record q.taken g x
 
-  one_is : (d : EventId) → IsIn (e ∷ []) d → d ≡ e
-  one_is d there = grind arith
-
-  marks : AddsNoMark q.taken more g
+  marks : (n : ℕ) → AddsNoMark q.taken more g n
   marks = plain_marks q.taken g x is.prefixes go.can go.access.ends go.access.barrier
 
-  frame : Frame q.taken q2.taken q.handled q2.handled (IsIn (e ∷ [])) (λ d. d.at ≡ e.at)
-  frame = rw (step.taken, step.handles.order) (frame_more (takes_own q.taken g x is.prefixes go.can go.access.ends marks q.handled is.lawful) (e ∷ []) (λ d new there. grind (arith, one_is, step.handles.ready.fresh)) (λ d b new same. grind (arith, one_is)))
+  frame : Frame q.taken q2.taken q.handled q2.handled (λ d. d ≡ e) (λ d. d.at ≡ e.at)
+  frame = rw (step.taken, step.handles.order) (frame_event (takes_own q.taken g x is.prefixes go.can go.access.ends marks q.handled is.lawful) e
+      step.handles.ready.fresh (λ d same. same))
 
   -- behind both steps all events of the item are handled
   all_handled : (d : EventId) → d.at ≡ e.at → IsEvent q2.taken d → IsIn q2.handled d
-  all_handled d own = rw (step.taken, step.handles.order) (λ there. ⊎_elim
-      (λ (was : IsEvent q.taken d). let old = go.first d own was in (old.0, slice_get-append q.handled (e ∷ []) old.0 d old.1))
-      (λ (same : d ≡ e). (length q.handled + 0, at_behind q.handled (e ∷ []) 0 d (ap Some (sym same))))
-      (others_at_once q.taken g x is.prefixes go.can go.access.ends d own there))
+  all_handled d own = rw (step.taken, step.handles.order) (λ there. grind (arith, go.first d own, slice_get-append q.handled (e ∷ []), at_behind q.handled (e ∷ []) 0 d, others_at_once q.taken g x is.prefixes go.can go.access.ends d own there))
 
   -- so none of them goes on, and the group can't meet
   none_goes : (d : EventId) → d.at ≡ e.at → Goes q2 d → ⊥
@@ -57,11 +53,13 @@ module _ {Z : Type 0} (q : Sequence) (is : IsSequence q) (t : Steps) (lists : Li
       can.2.fresh (d, b.1, all_handled d refl (grind (arith, barrier_there q2.taken d g can.0 b.1)))
 
   -- and nobody waits for the event
-  no_release : (n : Name) (d : EventId) → IsIn (e ∷ []) d → d.at ≡ n.at → release_place q2.taken n ≡ Some d.index → ⊥
-  no_release n d new at = rw step.taken (λ place. grind (arith, one_is d new, passes_there more is_release e, there_at_once q.taken g x is.prefixes go.can go.access.ends))
+  no_release : (n : Name) (d : EventId) → d ≡ e → d.at ≡ n.at → release_place q2.taken n ≡ Some d.index → ⊥
+  no_release n d new at = rw step.taken (λ place. grind (arith, passes_there more is_release e, there_at_once q.taken g x is.prefixes go.can go.access.ends))
 
   pub kept_at_once : (undiverged : List (Option ℕ)) → AreUndiverged q.taken undiverged → IsKept q2 t lists × AreUndiverged q2.taken undiverged
   kept_at_once undiverged are = (
-    kept_framed t t kept (λ r has. has) frame (λ d. item_cases d.at e.at) (λ d own goes. absurd (none_goes d own goes)) g (λ can. absurd (no_meeting can)) (λ n apart. rw step.taken (refl, other_arrivals q.taken g x is.prefixes go.can n apart)) (λ d new. grind (arith, one_is)) (λ n. inr (no_release n)) lists (λ n i waits. inr waits),
-    rw step.taken (λ h k told divergent. are h k told (divergent_was q.taken g x is.prefixes go.can go.access.ends marks h k divergent)),
+    kept_framed t t kept (λ r has. has) frame (λ d. item_cases d.at e.at) (λ d own goes. absurd (none_goes d own goes)) g
+        (λ can. absurd (no_meeting can)) (λ n apart. rw step.taken (refl, other_arrivals q.taken g x is.prefixes go.can n apart))
+        (λ d new. ap (λ (y : EventId). y.at.group) new) (λ n. inr (no_release n)) lists (λ n i waits. inr waits),
+    rw step.taken (λ h k told divergent. are h k told (divergent_was q.taken g x is.prefixes go.can go.access.ends h k (marks k) divergent)),
   )

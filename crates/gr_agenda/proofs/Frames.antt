@@ -1,5 +1,5 @@
 -- What a step changes: an item or a group that it does not touch can go on only as before, or by a release that it waited for.
-use Rattle.std.proofs.Common.{◌≡◌, ◌⊎◌, ℕ, ◌<◌, List, [], ◌++◌, Some, append-nil, Contains, refl, sym, ap, ◌∙◌, subst, inl, inr, ⊎_elim, arith}
+use Rattle.std.proofs.Common.{◌≡◌, ◌⊎◌, ℕ, ◌<◌, List, [], ◌∷◌, ◌++◌, Some, append-nil, refl, sym, ap, ◌∙◌, subst, inl, inr, ⊎_elim, arith}
 use Rattle.std.proofs.lemmas.Option.{slice_get_within}
 use Rattle.gr_model.specs.declared.event.EventId.{EventId}
 use Rattle.gr_model.specs.declared.event.ItemId.{ItemId}
@@ -8,7 +8,7 @@ use Rattle.gr_model.specs.Access.{is_release}
 use Rattle.gr_model.specs.Barriers.{IsDivergent, StandsIn, arrivals}
 use Rattle.gr_model.specs.Instances.{Mark}
 use Rattle.gr_model.specs.LawfulOrders.{IsIn, IsLawful}
-use Rattle.gr_model.specs.Names.{HasName, MatchesBy, names_at, names_of, release_place}
+use Rattle.gr_model.specs.Names.{HasName, MatchesBy, names_at, release_place}
 use Rattle.gr_model.specs.Streams.{Grows, IsEvent, Streams, event_at, list_of, places_from, size_of, trace_of}
 use Rattle.gr_model.specs.Waits.{Waits, for_arrival, for_meeting, for_previous, for_release}
 use Rattle.gr_model.proofs.Cuts.{same_event}
@@ -18,7 +18,7 @@ use Rattle.gr_steps.specs.Steps.{CanMeet, IsMeeting, IsReady}
 use Rattle.gr_steps.proofs.Deciding.{all_or_some}
 use Rattle.gr_steps.proofs.EventRecords.{one_release}
 use Rattle.gr_steps.proofs.Orders.{split_last}
-use Rattle.gr_agenda.specs.Kept.{IsHeldUp}
+use Rattle.gr_agenda.specs.Kept.{IsHeldUp, IsReleaseHandled}
 
 -- t has the records of s and maybe more, and the events New are handled behind those of h, which makes those of h2. An event of which T
 -- holds not is as it was, none of its item is new, and its instances are divergent only where they were
@@ -35,33 +35,24 @@ pub record Frame (s t : Streams) (h h2 : List EventId) (New T : EventId → Type
 -- nothing new is handled
 pub frame_taken : (s t : Streams) (h : List EventId) (T : EventId → Type 0) → Grows s t → IsLawful s h → ((d : EventId) → ¬ T d → event_at t d ≡ event_at s d)
     → ((d : EventId) (g k : ℕ) → ¬ T d → StandsIn s d g k → IsDivergent t g k → IsDivergent s g k) → Frame s t h h (λ x. ⊥) T
-frame_taken s t h T grows lawful event divergent = record {
-  grows = grows;
-  lawful = lawful;
-  old = λ x there. there;
-  split = λ x there. inl there;
-  fresh = λ x new. absurd new;
-  touched = λ x d new. absurd new;
-  event = event;
-  divergent = divergent;
-}
+frame_taken s t h T grows lawful event divergent = grind arith
 
 -- and then these events are
-pub frame_more : {s t : Streams} {h : List EventId} {T : EventId → Type 0} → Frame s t h h (λ x. ⊥) T → (new : List EventId) → ((x : EventId) → IsIn new x → ¬ IsIn h x) → ((x d : EventId) → IsIn new x → x.at ≡ d.at → T d) → Frame s t h (h ++ new) (IsIn new) T
-frame_more {h} frame new fresh touched = record {
-  grows = frame.grows;
-  lawful = frame.lawful;
-  old = λ x there. (there.0, slice_get-append h new there.0 x there.1);
-  split = λ x there. grind (arith, split_last);
-  fresh = fresh;
-  touched = touched;
-  event = frame.event;
-  divergent = frame.divergent;
-}
+pub frame_more : {s t : Streams} {h : List EventId} {T : EventId → Type 0} → Frame s t h h (λ x. ⊥) T → (new : List EventId)
+    → ((x : EventId) → IsIn new x → ¬ IsIn h x) → ((x d : EventId) → IsIn new x → x.at ≡ d.at → T d) → Frame s t h (h ++ new) (IsIn new) T
+frame_more {h} frame new fresh touched = grind (arith, slice_get-append h new, split_last h new, frame, fresh, touched)
+
+pub frame_event : {s t : Streams} {h : List EventId} {T : EventId → Type 0} → Frame s t h h (λ x. ⊥) T → (e : EventId) → ¬ IsIn h e
+    → ((d : EventId) → d.at ≡ e.at → T d) → Frame s t h (h ++ e ∷ []) (λ x. x ≡ e) T
+frame_event {h} frame e fresh touched = grind (arith, slice_get-append h (e ∷ []), split_last h (e ∷ []), frame, fresh, touched)
 
 -- of the same streams
 pub frame_same : (s : Streams) (h : List EventId) (T : EventId → Type 0) → IsLawful s h → Frame s s h h (λ x. ⊥) T
-frame_same s h T lawful = frame_taken s s h T (record { sizes = λ g. inl refl; lists = λ g. ([], sym (append-nil (list_of s g))); whole = λ g whole. refl }) lawful (λ d apart. refl) (λ d g k apart stands divergent. divergent)
+frame_same s h T lawful = frame_taken s s h T (record {
+  sizes = λ g. inl refl;
+  lists = λ g. ([], sym (append-nil (list_of s g)));
+  whole = λ g whole. refl;
+}) lawful (λ d apart. refl) (λ d g k apart stands divergent. divergent)
 
 -- of a group as many items have come, with the same barriers
 abbrev pub IsSameGroup : Streams → Streams → ℕ → Type 0
@@ -75,39 +66,28 @@ module _ {s t : Streams} {h h2 : List EventId} {New T : EventId → Type 0} (fra
       rw (more.1, places_from-append) (slice_get-append (places_from is_release 0 (trace_of s n.at)) _ n.release k at)
 
   place_shrinks : (n : Name) (x : EventId) → IsIn h x → x.at ≡ n.at → release_place t n ≡ Some x.index → release_place s n ≡ Some x.index
-  place_shrinks n x there at place =
-      let was = (frame.lawful.event there.0 x there.1).0 in
-      let more = trace_grows s t frame.grows n.at in
-      let within = slice_get_within (trace_of s x.at) x.index was.0 was.1 in
-      grind (arith, places_from-within is_release (trace_of s n.at) more.0 n.release x.index, more.1, within)
+  place_shrinks n x there at place = grind (arith, frame.lawful.event there.0 x there.1, trace_grows s t frame.grows n.at, places_from-within is_release (trace_of s n.at), slice_get_within (trace_of s x.at) x.index)
 
   module _ (d : EventId) (apart : ¬ T d) where
     name_was : (n : Name) → HasName t d n → HasName s d n
-    name_was n named = subst (λ names. Contains names n) (ap names_of (frame.event d apart)) named
+    name_was n named = grind (arith, frame.event d apart)
 
     name_grows : (n : Name) → HasName s d n → HasName t d n
-    name_grows n named = subst (λ names. Contains names n) (sym (ap names_of (frame.event d apart))) named
+    name_grows n named = grind (arith, frame.event d apart)
 
     -- what stood before it in its item was handled before
     was_in : (x : EventId) → x.at ≡ d.at → IsIn h2 x → IsIn h x
-    was_in x item there = ⊎_elim (λ was. was) (λ (new : New x). absurd (apart (frame.touched x d new item))) (frame.split x there)
+    was_in x item there = grind (arith, frame.touched x d, frame.split x there)
 
     pub held_was : (n : Name) → IsHeldUp t h2 d n → IsHeldUp s h d n
-    held_was n held = record {
-      named = name_was n held.named;
-      fresh = λ there. held.fresh (frame.old d there);
-      previous = λ p before. was_in p before.item (held.previous p before);
-      free = λ there. held.free (there.0, there.1, place_grows n there.0.index there.2, frame.old there.0 there.3);
-    }
+    held_was n held = grind (arith, name_was n held.named, held.fresh, frame.old d, was_in, held.previous, held.free, place_grows n, frame.old)
 
     -- it is held up by each name by which it was, if the release of that name is not new
-    pub still_held : (n m : Name) → IsHeldUp t h2 d n → IsHeldUp s h d m → ((x : EventId) → New x → x.at ≡ m.at → release_place t m ≡ Some x.index → ⊥) → IsHeldUp t h2 d m
-    still_held n m held was old = record {
-      named = name_grows m was.named;
-      fresh = held.fresh;
-      previous = held.previous;
-      free = λ there. grind (arith, was.free, old there.0, frame.split there.0 there.3, place_shrinks m there.0);
-    }
+    pub still_held : (n m : Name) → IsHeldUp t h2 d n → IsHeldUp s h d m
+        → ((x : EventId) → New x → x.at ≡ m.at → release_place t m ≡ Some x.index → ⊥) → IsHeldUp t h2 d m
+    still_held n m held was old =
+        let free : ¬ IsReleaseHandled t h2 m = λ there. grind (arith, was.free, old there.0, frame.split there.0 there.3, place_shrinks m there.0) in
+        grind (arith, name_grows m was.named, held.fresh, held.previous)
 
     module _ (ready : IsReady t h2 d) where
       here : IsEvent s d
@@ -115,35 +95,22 @@ module _ {s t : Streams} {h h2 : List EventId} {New T : EventId → Type 0} (fra
 
       -- the release of each of its names was handled before or is new
       was_or_new : (n : Name) → HasName s d n → (f : EventId) × MatchesBy t n d f × (IsIn h f ⊎ New f)
-      was_or_new n named =
-          let r = ready.release n (name_grows n named) in
-          (r.0, r.1, frame.split r.0 (ready.waits r.0 (for_release (record { name = n; by = r.1 }))))
+      was_or_new n named = let r = ready.release n (name_grows n named) in (r.0, r.1, frame.split r.0 (ready.waits r.0 (for_release (record { name = n; by = r.1 }))))
 
       matches_was : (n : Name) (f : EventId) → HasName s d n → MatchesBy t n d f → IsIn h f → MatchesBy s n d f
-      matches_was n f named m there = record {
-        named = named;
-        item = m.item;
-        place = place_shrinks n f there m.item m.place;
-        word = sym (word_grows s t frame.grows d here) ∙ (m.word ∙ word_grows s t frame.grows f (frame.lawful.event there.0 f there.1).0);
-      }
+      matches_was n f named m there = grind (arith, place_shrinks n f there m.item m.place, word_grows s t frame.grows d here, word_grows s t frame.grows f, frame.lawful.event there.0 f there.1)
 
       held_up : (n : Name) → HasName s d n → (f : EventId) → MatchesBy t n d f → New f → IsHeldUp s h d n
-      held_up n named f by new = record {
-        named = named;
-        fresh = λ there. ready.fresh (frame.old d there);
-        previous = λ p before. was_in p before.item (ready.waits p (for_previous before));
-        free = λ there. grind (arith, place_grows n there.0.index there.2, by.item, by.place, same_event f there.0, frame.fresh f new);
-      }
+      held_up n named f by new = grind (arith, ready.fresh, frame.old d, was_in, ready.waits, place_grows n, same_event f, frame.fresh f new)
 
       -- it was ready, where the releases that it names were handled before
       waits_was : ((n : Name) → HasName s d n → (f : EventId) × MatchesBy s n d f × IsIn h f) → (x : EventId) → Waits s d x → IsIn h x
       waits_was released x (for_previous p) = was_in x p.item (ready.waits x (for_previous p))
       waits_was released x (for_release match) = grind (arith, released match.name match.by.named, one_release s match.name d)
-      waits_was released x (for_arrival a b met p) = absurd (not_both s met.group met.instance a met.convergent (frame.divergent d met.group met.instance apart met.first (ready.instance met.group met.instance (stands_grows s t frame.grows d met.group met.instance met.first))))
+      waits_was released x (for_arrival a b met p) = grind (arith, not_both s met.group met.instance a met.convergent, frame.divergent d met.group met.instance apart met.first, ready.instance met.group met.instance, stands_grows s t frame.grows d met.group met.instance met.first)
       waits_was released x (for_meeting a c p met) =
           let before = was_in c p.item (ready.waits c (for_previous p)) in
-          let other = frame.lawful.together before.0 c x a before.1 met in
-          (other.0, other.2)
+          grind (arith, frame.lawful.together before.0 c x a before.1 met)
 
       ready_was : ((n : Name) → HasName s d n → (f : EventId) × MatchesBy s n d f × IsIn h f) → IsReady s h d
       ready_was released = record {
@@ -170,7 +137,7 @@ module _ {s t : Streams} {h h2 : List EventId} {New T : EventId → Type 0} (fra
 
   module _ (g : ℕ) (same : IsSameGroup s t g) (apart : (x : EventId) → New x → x.at.group ≡ g → ⊥) where
     group_was : (x : EventId) → x.at.group ≡ g → IsIn h2 x → IsIn h x
-    group_was x group there = ⊎_elim (λ was. was) (λ (new : New x). absurd (apart x new group)) (frame.split x there)
+    group_was x group there = grind (arith, frame.split x there)
 
     meeting_was : (k : ℕ) (a : Mark) → IsMeeting t h2 g k a → IsMeeting s h g k a
     meeting_was k a meeting = record {

@@ -1,5 +1,5 @@
 -- The list of steps has all that is ready, behind each step and each record.
-use Rattle.std.proofs.Common.{◌≡◌, ◌⊎◌, ◌<◌, ℕ, List, [], ◌∷◌, Bool, true, Some, Option, Vec, refl, sym, ap, ◌∙◌, subst, inl, inr, ⊎_elim, arith, is_some}
+use Rattle.std.proofs.Common.{◌≡◌, ◌⊎◌, ◌<◌, ℕ, List, [], Bool, true, Some, Option, Vec, refl, sym, ap, ◌∙◌, subst, inl, inr, ⊎_elim, arith, is_some}
 use Rattle.std.proofs.lemmas.Bool.{cases_eq}
 use Rattle.std.proofs.Math.ListN.{get_or-map}
 use Rattle.gr_model.specs.declared.event.Event.{Event}
@@ -24,7 +24,7 @@ use Rattle.gr_order.specs.Answers.{CanMake}
 use Rattle.gr_order.specs.Sequences.{HandlesEvent, IsSequence, MeetsInstance, Sequence, nothing}
 use Rattle.gr_agenda.specs.Kept.{IsHeldUp, IsKept, IsNoted, IsPending}
 use Rattle.gr_agenda.specs.Lists.{Has, IsWaiting, KeepsSteps, Steps}
-use Rattle.gr_agenda.proofs.Frames.{Frame, IsSameGroup, frame_more, frame_same, held_was, meets_was, new_release, ready_or_held, still_held}
+use Rattle.gr_agenda.proofs.Frames.{Frame, IsSameGroup, frame_event, frame_more, frame_same, held_was, meets_was, new_release, ready_or_held, still_held}
 
 -- the place of an event that passes a test is that of such an event
 pub passes_there : (s : Streams) (test : Event → Bool) (e : EventId) (k : ℕ) → place_of s test e.at k ≡ Some e.index → (x : Event) × (event_at s e ≡ Some x) × (test x ≡ true)
@@ -32,7 +32,7 @@ passes_there s test e k place = grind (arith, places_from-there test 0 (trace_of
 
 -- an event that has a name is there
 pub named_there : (s : Streams) (d : EventId) (n : Name) → HasName s d n → IsEvent s d
-named_there s d n named = grind (arith, s)
+named_there s d n named = grind arith
 
 -- a barrier is no release
 not_both : (kind : Kind) (word : ℕ) → is_some (mark_of_kind kind word) ≡ true → is_release_kind kind ≡ true → ⊥
@@ -45,18 +45,19 @@ abbrev pub Goes : Sequence → EventId → Type 0
 Goes q d = IsReady q.taken q.handled d ⊎ ((n : Name) × IsHeldUp q.taken q.handled d n)
 
 -- where each item of a group stands in the list that may go on, each of its events does
-pub items_of : (q : Sequence) → ArePrefixes q.taken → (g : ℕ) (t : Steps) → ((i : ℕ) → i < size_of q.taken g → IsPending q (record { group = g; item = i }) → Has t (Item (record { group = g; item = i })))
+pub items_of : (q : Sequence) → ArePrefixes q.taken → (g : ℕ) (t : Steps)
+    → ((i : ℕ) → i < size_of q.taken g → IsPending q (record { group = g; item = i }) → Has t (Item (record { group = g; item = i })))
     → (d : EventId) → d.at.group ≡ g → Goes q d → Has t (Item d.at)
-items_of q prefixes g t items d own goes =
-    let there : IsEvent q.taken d = grind (arith, named_there q.taken d) in
-    let within = item_of_event q.taken prefixes d there.0 there.1 in
-    grind (arith, items d.at.item)
+items_of q prefixes g t items d own goes = grind (arith, named_there q.taken d, item_of_event q.taken prefixes d, items d.at.item)
 
 -- each event that the step touches stands in the list, if it can go on, and so does its group; and of each name those who wait for its release do, or the release is not new
-module _ {Z : Type 0} {q q2 : Sequence} (t t2 : Steps) {lists : List (Vec ItemId Z)} {New T : EventId → Type 0} (kept : IsKept q t lists) (keeps : KeepsSteps t t2) (frame : Frame q.taken q2.taken q.handled q2.handled New T)
+module _ {Z : Type 0} {q q2 : Sequence} (t t2 : Steps) {lists : List (Vec ItemId Z)} {New T : EventId → Type 0} (kept : IsKept q t lists)
+    (keeps : KeepsSteps t t2) (frame : Frame q.taken q2.taken q.handled q2.handled New T)
     (decided : (d : EventId) → T d ⊎ (T d → ⊥)) (items : (d : EventId) → T d → Goes q2 d → Has t2 (Item d.at))
-    (g : ℕ) (group : CanMeet q2.taken q2.handled g → Has t2 (Group g)) (stays : (n : ℕ) → (n ≡ g → ⊥) → IsSameGroup q.taken q2.taken n) (of_group : (x : EventId) → New x → x.at.group ≡ g)
-    (releases : (n : Name) → ((i : ItemId) → IsWaiting lists n i → Has t2 (Item i)) ⊎ ((x : EventId) → New x → x.at ≡ n.at → release_place q2.taken n ≡ Some x.index → ⊥)) where
+    (g : ℕ) (group : CanMeet q2.taken q2.handled g → Has t2 (Group g)) (stays : (n : ℕ) → (n ≡ g → ⊥) → IsSameGroup q.taken q2.taken n)
+    (of_group : (x : EventId) → New x → x.at.group ≡ g)
+    (releases : (n : Name) → ((i : ItemId) → IsWaiting lists n i → Has t2 (Item i)) ⊎ ((x : EventId) → New x → x.at ≡ n.at
+    → release_place q2.taken n ≡ Some x.index → ⊥)) where
   -- what is ready behind the step and was held up before has been woken
   woken : (d : EventId) → ¬ T d → IsReady q2.taken q2.handled d → (n : Name) → IsHeldUp q.taken q.handled d n → Has t2 (Item d.at)
   woken d apart ready n held = ⊎_elim
@@ -69,7 +70,8 @@ module _ {Z : Type 0} {q q2 : Sequence} (t t2 : Steps) {lists : List (Vec ItemId
   framed_ready : (r : Ready) → CanMake q2 r → Has t2 r
   framed_ready (Item i) can = rw (← can.1) (⊎_elim
       (λ own. items can.0 own (inl can.2))
-      (λ apart. ⊎_elim (λ was. keeps (Item can.0.at) (kept.ready (Item can.0.at) (can.0, refl, was))) (λ held. woken can.0 apart can.2 held.0 held.1) (ready_or_held frame can.0 apart can.2))
+      (λ apart. ⊎_elim (λ was. keeps (Item can.0.at) (kept.ready (Item can.0.at) (can.0, refl, was))) (λ held. woken can.0 apart can.2 held.0 held.1)
+      (ready_or_held frame can.0 apart can.2))
       (decided can.0))
   framed_ready (Group n) can = ⊎_elim
       (λ (same : n ≡ g). rw same (group (rw same at can)))
@@ -97,37 +99,43 @@ module _ {Z : Type 0} {q q2 : Sequence} (t t2 : Steps) {lists : List (Vec ItemId
 place_cases : (i j : ItemId) (o : Option ℕ) (k : ℕ) → ((i ≡ j) × (o ≡ Some k)) ⊎ ((i ≡ j) × (o ≡ Some k) → ⊥)
 place_cases i j o k = grind arith
 
-module _ {Z : Type 0} (q : Sequence) (is : IsSequence q) (t t2 : Steps) (lists lists2 : List (Vec ItemId Z)) (kept : IsKept q t lists) (keeps : KeepsSteps t t2) (q2 : Sequence) where
-  pub kept_handled : (e : EventId) → HandlesEvent q e q2 → Has t2 (Item e.at) → (CanMeet q2.taken q2.handled e.at.group → e.at.item < size_of q2.taken e.at.group → Has t2 (Group e.at.group))
+module _ {Z : Type 0} (q : Sequence) (is : IsSequence q) (t t2 : Steps) (lists lists2 : List (Vec ItemId Z)) (kept : IsKept q t lists)
+    (keeps : KeepsSteps t t2) (q2 : Sequence) where
+  pub kept_handled : (e : EventId) → HandlesEvent q e q2 → Has t2 (Item e.at)
+      → (CanMeet q2.taken q2.handled e.at.group → e.at.item < size_of q2.taken e.at.group → Has t2 (Group e.at.group))
       → ((n : Name) (i : ItemId) → IsWaiting lists n i → Has t2 (Item i) ⊎ IsWaiting lists2 n i)
       → ((n : Name) → n.at ≡ e.at → release_place q.taken n ≡ Some e.index → (i : ItemId) → IsWaiting lists n i → Has t2 (Item i)) → IsKept q2 t2 lists2
   kept_handled e step item group others woken =
-      kept_framed t t2 kept keeps frame (λ d. item_cases d.at e.at) (λ d own goes. subst (λ i. Has t2 (Item i)) (sym own) item) e.at.group (λ can. group can (rw step.taken within)) (λ n apart. rw step.taken (refl, λ k i. refl)) (λ x new. grind (arith, one_is)) releases lists2 others
+      kept_framed t t2 kept keeps frame (λ d. item_cases d.at e.at) (λ d own goes. subst (λ i. Has t2 (Item i)) (sym own) item) e.at.group
+      (λ can. group can (rw step.taken within)) (λ n apart. rw step.taken (refl, λ k i. refl)) (λ x new. ap (λ (y : EventId). y.at.group) new)
+      releases lists2 others
     where
-      one_is : (x : EventId) → IsIn (e ∷ []) x → x ≡ e
-      one_is x there = grind arith
-
-      frame : Frame q.taken q2.taken q.handled q2.handled (IsIn (e ∷ [])) (λ d. d.at ≡ e.at)
-      frame = rw (step.taken, step.handles.order) (frame_more (frame_same q.taken q.handled (λ d. d.at ≡ e.at) is.lawful) (e ∷ []) (λ x new there. grind (arith, one_is, step.handles.ready.fresh)) (λ x d new same. grind (arith, one_is)))
+      frame : Frame q.taken q2.taken q.handled q2.handled (λ x. x ≡ e) (λ d. d.at ≡ e.at)
+      frame = rw (step.taken, step.handles.order) (frame_event (frame_same q.taken q.handled (λ d. d.at ≡ e.at) is.lawful) e step.handles.ready.fresh (λ d same. same))
 
       within : e.at.item < size_of q.taken e.at.group
       within = let there = step.handles.ready.event in item_of_event q.taken is.prefixes e there.0 there.1
 
-      releases : (n : Name) → ((i : ItemId) → IsWaiting lists n i → Has t2 (Item i)) ⊎ ((x : EventId) → IsIn (e ∷ []) x → x.at ≡ n.at → release_place q2.taken n ≡ Some x.index → ⊥)
+      releases : (n : Name) → ((i : ItemId) → IsWaiting lists n i → Has t2 (Item i)) ⊎ ((x : EventId) → x ≡ e → x.at ≡ n.at → release_place q2.taken n ≡ Some x.index → ⊥)
       releases n = rw step.taken (⊎_elim
           (λ (this : (n.at ≡ e.at) × (release_place q.taken n ≡ Some e.index)). inl (woken n this.0 this.1))
-          (λ another. inr (λ x new at place. another (sym at ∙ ap (λ (y : EventId). y.at) (one_is x new), place ∙ ap (λ (y : EventId). Some y.index) (one_is x new))))
+          (λ another. inr (λ x new at place. another (rw new at (sym at), rw new at place)))
           (place_cases n.at e.at (release_place q.taken n) e.index))
 
-  pub kept_met : (g k : ℕ) → MeetsInstance q g k q2 → Has t2 (Group g) → ((i : ℕ) → i < size_of q2.taken g → IsPending q2 (record { group = g; item = i }) → Has t2 (Item (record { group = g; item = i }))) → IsKept q2 t2 lists
+  pub kept_met : (g k : ℕ) → MeetsInstance q g k q2 → Has t2 (Group g)
+      → ((i : ℕ) → i < size_of q2.taken g → IsPending q2 (record { group = g; item = i }) → Has t2 (Item (record { group = g; item = i })))
+      → IsKept q2 t2 lists
   kept_met g k met group items =
-      kept_framed t t2 kept keeps frame (λ d. cases_eq d.at.group g) (items_of q2 (rw met.taken is.prefixes) g t2 items) g (λ can. group) (λ n apart. rw met.taken (refl, λ k i. refl)) (λ x new. (stands x new).group) (λ n. inr (none_released n)) lists (λ n i waits. inr waits)
+      kept_framed t t2 kept keeps frame (λ d. cases_eq d.at.group g) (items_of q2 (rw met.taken is.prefixes) g t2 items) g (λ can. group)
+      (λ n apart. rw met.taken (refl, λ k i. refl)) (λ x new. (stands x new).group) (λ n. inr (none_released n)) lists (λ n i waits. inr waits)
     where
       stands : (x : EventId) → IsIn met.meets.barriers x → StandsIn q.taken x g k
       stands x there = (met.meets.are.each there.0 x there.1).1
 
       frame : Frame q.taken q2.taken q.handled q2.handled (IsIn met.meets.barriers) (λ d. d.at.group ≡ g)
-      frame = rw (met.taken, met.meets.order) (frame_more (frame_same q.taken q.handled (λ d. d.at.group ≡ g) is.lawful) met.meets.barriers (λ x new there. met.meets.meeting.fresh (x, stands x new, there)) (λ x d new same. ap (λ (i : ItemId). i.group) (sym same) ∙ (stands x new).group))
+      frame = rw (met.taken, met.meets.order) (frame_more (frame_same q.taken q.handled (λ d. d.at.group ≡ g) is.lawful) met.meets.barriers
+          (λ x new there. met.meets.meeting.fresh (x, stands x new, there))
+          (λ x d new same. ap (λ (i : ItemId). i.group) (sym same) ∙ (stands x new).group))
 
       none_released : (n : Name) (x : EventId) → IsIn met.meets.barriers x → x.at ≡ n.at → release_place q2.taken n ≡ Some x.index → ⊥
       none_released n x new at = rw met.taken (λ place. grind (arith, barrier_there, stands, passes_there, not_both))
@@ -140,18 +148,15 @@ pub kept_looked : {Z : Type 0} (q : Sequence) (t t2 : Steps) (lists lists2 : Lis
     → ((d : EventId) (n : Name) → IsHeldUp q.taken q.handled d n → Item d.at ≡ step → Has t2 (Item d.at) ⊎ IsNoted q.taken q.handled lists2 d)
     → IsKept q t2 lists2
 kept_looked {Z} q t t2 lists lists2 step kept can't less more noted = record {
-  ready = λ r can. less r (kept.ready r can) (λ same. can't (subst (CanMake q) same can));
+  ready = λ r can. less r (kept.ready r can) (λ same. can't (rw same at can));
   waits = λ d n held. ⊎_elim
       (λ (same : Item d.at ≡ step). noted d n held same)
-      (λ apart. ⊎_elim
+      (λ (apart : Item d.at ≡ step → ⊥). ⊎_elim
       (λ (has : Has t (Item d.at)). inl (less (Item d.at) has apart))
       (λ (noted : IsNoted q.taken q.handled lists d). inr (noted.0, noted.1, more noted.0 d.at noted.2))
       (kept.waits d n held))
-      (step_cases d.at step);
+      (grind arith);
 }
-  where
-    step_cases : (i : ItemId) (r : Ready) → (Item i ≡ r) ⊎ (Item i ≡ r → ⊥)
-    step_cases i r = grind arith
 
 -- ---- nothing was taken
 

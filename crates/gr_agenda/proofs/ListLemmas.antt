@@ -1,5 +1,5 @@
 -- Elements of lists that grow and shrink at their end, and the lists of those that wait.
-use Rattle.std.proofs.Common.{◌≡◌, ◌⊎◌, ◌+◌, ◌<◌, ℕ, List, [], ◌∷◌, ◌++◌, Bool, true, Some, Vec, slice_get, length, refl, sym, ap, ◌∙◌, subst, inl, inr, ⊎_elim, arith}
+use Rattle.std.proofs.Common.{◌≡◌, ◌⊎◌, ◌+◌, ◌<◌, ℕ, List, [], ◌∷◌, ◌++◌, Bool, true, Some, Vec, slice_get, length, refl, ap, ◌∙◌, inl, inr, ⊎_elim, arith}
 use Rattle.std.specs.Prelude.{slice_index_or, slice_set}
 use Rattle.std.proofs.lemmas.Bool.{cases_eq}
 use Rattle.std.proofs.lemmas.List.{length_push}
@@ -10,11 +10,11 @@ use Rattle.gr_model.specs.declared.event.Name.{Name}
 use Rattle.gr_model.proofs.Places.{slice_get-append}
 use Rattle.gr_steps.proofs.Orders.{at_behind, split_last}
 use Rattle.gr_order.specs.declared.steps.Ready.{Ready}
-use Rattle.gr_agenda.specs.Lists.{AreMarked, Has, IsAmong, IsLast, IsPlace, IsWaiting, KeepsSteps, Steps, bucket_of}
+use Rattle.gr_agenda.specs.Lists.{AreMarked, Has, IsAmong, IsLast, IsPlace, IsWaiting, Steps, bucket_of}
 
 module _ {X : Type 0} (xs : List X) (x : X) where
   pub among_more : (y : X) → IsAmong xs y → IsAmong (xs ++ x ∷ []) y
-  among_more y there = (there.0, slice_get-append xs (x ∷ []) there.0 y there.1)
+  among_more y there = grind (arith, slice_get-append)
 
   pub among_last : IsAmong (xs ++ x ∷ []) x
   among_last = (length xs + 0, at_behind xs (x ∷ []) 0 x refl)
@@ -23,13 +23,9 @@ module _ {X : Type 0} (xs : List X) (x : X) where
   among_cases y there = grind (arith, split_last)
 
 pub at_index : {X : Type 0} (list : List X) (n p : ℕ) (d x : X) → n < length list → p ≡ n → slice_get list p ≡ Some x → slice_index_or list n d ≡ x
-at_index list n p d x lt same at = let both : Some (slice_index_or list n d) ≡ Some x = sym (slice_get-get_or list n d lt) ∙ (ap (slice_get list) (sym same) ∙ at) in cc
+at_index list n p d x lt same at = grind (arith, slice_get-get_or list n d)
 
 -- ---- marks
-
--- a step has one place, and at a place there is one step
-pub one_place : (r : Ready) (p n : ℕ) → IsPlace r p → IsPlace r n → p ≡ n
-one_place r p n a b = grind arith
 
 pub one_step : (r o : Ready) (p : ℕ) → IsPlace r p → IsPlace o p → r ≡ o
 one_step r o p a b = grind arith
@@ -41,13 +37,6 @@ marked_more marks new steps after step are is each r p place at = grind (arith, 
 -- what stood there and is not the last one stands there still
 pub has_less : (t : Steps) (after : List Ready) (step : Ready) → t.steps ≡ after ++ step ∷ [] → (r : Ready) → Has t r → (IsLast t r → ⊥) → Has (record { steps = after; short = t.short }) r
 has_less t after step is r h apart = grind (arith, among_cases, common_steps, gets)
-
-pub has_more : (t : Steps) (after : List Ready) (step : Ready) → after ≡ t.steps ++ step ∷ [] → KeepsSteps t (record { steps = after; short = t.short })
-has_more t after step is r (inl short) = inl short
-has_more t after step is r (inr there) = inr (subst (λ l. IsAmong l r) (sym is) (among_more t.steps step r there))
-
-pub has_last : (t : Steps) (after : List Ready) (step : Ready) → after ≡ t.steps ++ step ∷ [] → Has (record { steps = after; short = t.short }) step
-has_last t after step is = inr (subst (λ l. IsAmong l step) (sym is) (among_last t.steps step))
 
 -- there is one last step
 pub one_last : (t : Steps) (r o : Ready) → IsLast t r → IsLast t o → r ≡ o
