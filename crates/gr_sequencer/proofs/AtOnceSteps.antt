@@ -1,8 +1,7 @@
 -- What is known where an event that names nothing is handled as soon as its record is taken.
-use Rattle.std.proofs.Common.{arith, ◌≡◌, ℕ, ◌<◌, length, List, [], ◌∷◌, ◌++◌, false, refl, ap, ◌∙◌, sym, subst}
+use Rattle.std.proofs.Common.{arith, ◌≡◌, ℕ, ◌<◌, length, [], ◌∷◌, ◌++◌, false, refl, ap, ◌∙◌}
 use Rattle.gr_model.specs.declared.event.Event.{Event}
 use Rattle.gr_model.specs.declared.event.EventId.{EventId}
-use Rattle.gr_model.specs.declared.event.Name.{Name}
 use Rattle.gr_model.specs.declared.event.Space.{Space}
 use Rattle.gr_model.specs.declared.limits.TheConstants.{MOST_RECORDS}
 use Rattle.gr_model.specs.Access.{is_release}
@@ -22,14 +21,14 @@ use Rattle.gr_sequencer.specs.Known.{CountWhatIsKnown, IsKnown, IsNextAtOnce, Kn
 use Rattle.gr_sequencer.specs.Sources.{AreSources}
 use Rattle.gr_sequencer.proofs.EventSteps.{known_or_learned_alone, known_or_learned_sees, learns_nothing_steps, snapshots_longer, steps_true}
 use Rattle.gr_sequencer.proofs.KnownGrowth.{known_grows}
-use Rattle.gr_sequencer.proofs.Teaching.{AreSourcesOf, sources_all, sources_none}
+use Rattle.gr_sequencer.proofs.Teaching.{sources_all, sources_none}
 
 module _ (q : Sequence) (g : ℕ) (x : Event) (known : Known) (e : EventId) (is : IsNextAtOnce q g x known e) where
   abbrev more : Streams
   more = with_record q.taken g x
 
   no_sources : AreSources more e []
-  no_sources = sources_all more e x is.there [] (subst (λ (names : List Name). AreSourcesOf more e names []) (sym is.names) (sources_none more e))
+  no_sources = grind (arith, sources_all more e x is.there [], sources_none more e, is.names)
 
   -- with one event more its item's clock counts what is seen
   pub sees_at_once : (m : Space) (n : Counts) → CountsOneMore (clock_in known.clocks m e.at) e.at n → CountsJust n (Sees more m e)

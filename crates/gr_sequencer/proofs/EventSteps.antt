@@ -1,5 +1,6 @@
 -- What is known where an event is handled.
-use Rattle.std.proofs.Common.{◌≡◌, ◌≢◌, ◌↔◌, ℕ, ◌+◌, ◌<◌, max, Bool, true, false, All, List, [], ◌∷◌, ◌++◌, Some, IsTrue, map, length, refl, sym, ap, ◌∙◌, subst, inl, ⊎_elim, arith, true≢false}
+use Rattle.gr_order.proofs.StateLemmas.{item_cases}
+use Rattle.std.proofs.Common.{◌≡◌, ◌≢◌, ◌↔◌, ℕ, ◌+◌, ◌<◌, max, All, List, [], ◌∷◌, ◌++◌, Some, IsTrue, map, length, refl, ◌∙◌, inl, ⊎_elim, arith}
 use Rattle.std.proofs.lemmas.List.{map-id}
 use Rattle.gr_model.specs.declared.event.Event.{Event}
 use Rattle.gr_model.specs.declared.event.EventId.{EventId}
@@ -16,11 +17,9 @@ use Rattle.gr_steps.specs.Steps.{Handles}
 use Rattle.gr_steps.proofs.EventRecords.{group_of_event, item_of_event}
 use Rattle.gr_clocks.specs.declared.clock.TheConstants.{LARGEST_COUNT}
 use Rattle.gr_clocks.specs.Counts.{Counts, IsJoinOfAll, count_of, greatest_count, tick_at}
-use Rattle.gr_clocks.specs.Rows.{same_item}
 use Rattle.gr_clocks.specs.ItemClocks.{Acquires, AreSpent, IsSpent, ItemClocks, ReleaseClock, Ticks, clock_in, clocks_in, clocks_left}
 use Rattle.gr_clocks.proofs.JoinLemmas.{joined_none}
 use Rattle.gr_clocks.proofs.ReleaseLemmas.{acquires_none, left_all, left_counted}
-use Rattle.gr_clocks.proofs.RowLemmas.{same_items, same_item_self}
 use Rattle.gr_closure.specs.Accesses.{CountsJust}
 use Rattle.gr_closure.specs.Knowledge.{Knows}
 use Rattle.gr_closure.proofs.EventKnowledge.{handled_cases, handled_knows, handled_sees, others_know_after_handle}
@@ -38,7 +37,7 @@ module _ (s : Streams) (order : List EventId) (known : Known) (e : EventId) (nex
   has_item = grind (arith, group_of_event, item_of_event)
 
   pub has_clock : HasItem known.clocks.sizes e.at
-  has_clock = subst (λ sizes. HasItem sizes e.at) (sym next.follows.clocks.shape) has_item
+  has_clock = grind (arith, has_item, next.follows.clocks.shape)
 
   is_next : IsNextInItem order e
   is_next = ready_event_is_next s order next.lawful e next.ready
@@ -59,9 +58,7 @@ module _ (s : Streams) (order : List EventId) (known : Known) (e : EventId) (nex
   -- ---- there is room
 
   pub unspent : IsSpent known.clocks e.at → ⊥
-  unspent (m, full) =
-      let own = own_count s m order e is_next (Knows s m order e.at) (known_handled s m order next.lawful e.at) (own_known s m order e.at) (count_of (own_clock m)) (counts m) in
-      omega (arith, index_counts s next.prefixes e next.ready.event)
+  unspent (m, full) = omega (arith, index_counts s next.prefixes e next.ready.event, own_count s m order e is_next (Knows s m order e.at) (known_handled s m order next.lawful e.at) (own_known s m order e.at) (count_of (own_clock m)) (counts m), full)
 
   -- ---- what its item knew, or the event learns
 
@@ -104,9 +101,7 @@ module _ (s : Streams) (order : List EventId) (known : Known) (e : EventId) (nex
     joined_counts m d = below_greater d.index (count_of (own_clock m) d.at) (greatest_count (clocks_left m sources) d.at) (joined m d.at) refl (counts m d) (are.counts m d)
 
     pub sources_unspent : ¬ AreSpent sources e.at
-    sources_unspent (k, l, below, at, full) =
-        let m = memory_of l.word in
-        omega (arith, left_counted sources e.at k l below at, just_own m (joined m) (joined_counts m), index_counts s next.prefixes e next.ready.event)
+    sources_unspent (k, l, below, at, full) = omega (arith, left_counted sources e.at k l below at, just_own (memory_of l.word) (joined (memory_of l.word)) (joined_counts (memory_of l.word)), index_counts s next.prefixes e next.ready.event)
 
     pub sources_steps : (new : ItemClocks) → Acquires known.clocks e.at sources new → Steps new
     sources_steps new acquires = record {
@@ -123,28 +118,16 @@ module _ (s : Streams) (order : List EventId) (known : Known) (e : EventId) (nex
   steps_true new steps = record {
     shape = steps.shape ∙ next.follows.clocks.shape;
     tables = λ m. steps.tables m ∙ next.follows.clocks.tables m;
-    counts = λ m i has d. by_item m i has d (same_item i e.at) refl;
+    counts = λ m i has d. ⊎_elim
+        (λ (same : i ≡ e.at). rw same (against (steps.item m d) (handled_knows s m order (order ++ e ∷ []) e next.lawful handles d)))
+        (λ apart. rw (steps.others m i apart) (against (next.follows.clocks.counts m i has d) (others_know_after_handle s m order (order ++ e ∷ []) e next.lawful handles i d apart)))
+        (item_cases i e.at);
   }
     where
-      longer : List EventId
-      longer = order ++ e ∷ []
-
-      handles : Handles s order e longer
+      handles : Handles s order e (order ++ e ∷ [])
       handles = record { ready = next.ready; order = refl }
-
-      own_now : (m : Space) (d : EventId) → (d.index < count_of (clock_in new m e.at) d.at) ↔ Knows s m longer e.at d
-      own_now m d = against (steps.item m d) (handled_knows s m order longer e next.lawful handles d)
-
-      other_now : (m : Space) (i : ItemId) → HasItem s.sizes i → i ≢ e.at → (d : EventId) → (d.index < count_of (clock_in new m i) d.at) ↔ Knows s m longer i d
-      other_now m i has other d = rw (steps.others m i other) (against (next.follows.clocks.counts m i has d) (others_know_after_handle s m order longer e next.lawful handles i d other))
-
-      by_item : (m : Space) (i : ItemId) → HasItem s.sizes i → (d : EventId) (b : Bool) → same_item i e.at ≡ b → (d.index < count_of (clock_in new m i) d.at) ↔ Knows s m longer i d
-      by_item m i has d true t = subst (λ j. (d.index < count_of (clock_in new m j) d.at) ↔ Knows s m longer j d) (sym (same_items i e.at t)) (own_now m d)
-      by_item m i has d false f = other_now m i has (λ same. true≢false (sym (same_item_self e.at) ∙ ap (λ j. same_item j e.at) (sym same) ∙ f)) d
 
   -- ---- what is left
 
   pub snapshots_longer : (snapshots : Snapshots) → ((r : EventId) → r ≢ e → snapshot_at snapshots r ≡ snapshot_at known.snapshots r) → ((x : Event) → event_at s e ≡ Some x → IsTrue (is_release x) → IsSnapshotBy s e (snapshot_at snapshots e)) → AreSnapshots s (order ++ e ∷ []) snapshots
-  snapshots_longer snapshots others own r x h at releases =
-      let cases = handled_cases s Global order (order ++ e ∷ []) e next.lawful (record { ready = next.ready; order = refl }) r h in
-      grind (arith, others r, next.ready.fresh, next.follows.snapshots r x, own x)
+  snapshots_longer snapshots others own r x h at releases = grind (arith, handled_cases s Global order (order ++ e ∷ []) e next.lawful (record { ready = next.ready; order = refl }) r h, others r, next.ready.fresh, next.follows.snapshots r x, own x)

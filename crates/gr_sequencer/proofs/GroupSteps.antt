@@ -1,5 +1,5 @@
 -- What is known where an instance meets.
-use Rattle.std.proofs.Common.{◌≡◌, ◌≢◌, ◌↔◌, ℕ, zero, suc, ◌+◌, ◌<◌, Bool, true, false, List, ◌++◌, map, length, refl, sym, ap, ◌∙◌, subst, ⊎_elim, arith}
+use Rattle.std.proofs.Common.{◌≡◌, ◌≢◌, ◌↔◌, ℕ, zero, suc, ◌+◌, ◌<◌, Bool, true, false, List, ◌++◌, map, length, refl, sym, ◌∙◌, ⊎_elim, arith}
 use Rattle.std.proofs.lemmas.Bool.{cases_eq}
 use Rattle.std.specs.Prelude.{slice_index}
 use Rattle.gr_model.specs.declared.event.EventId.{EventId}
@@ -30,7 +30,7 @@ use Rattle.gr_closure.proofs.HandledKnowledge.{known_handled, own_known}
 -- the greatest of some numbers has what one of them has
 below_greatest : (n : ℕ) (f : ℕ → ℕ) (x : ℕ) → (x < greatest n f) ↔ ((k : ℕ) × (k < n) × (x < f k))
 below_greatest zero f x = grind arith
-below_greatest (suc n) f x = let rest = below_greatest n f x in grind arith
+below_greatest (suc n) f x = grind (arith, below_greatest n f x)
 
 module _ (s : Streams) (order : List EventId) (g k : ℕ) (clocks : ItemClocks) (prefixes : ArePrefixes s) (lawful : IsLawful s order) (are : CountWhatIsKnown s order clocks) (a : Mark) (meeting : IsMeeting s order g k a) where
   -- the barrier of each item of the group
@@ -55,20 +55,16 @@ module _ (s : Streams) (order : List EventId) (g k : ℕ) (clocks : ItemClocks) 
   -- ---- there is room
 
   index_small : (b : EventId) → StandsIn s b g k → b.index < LARGEST_COUNT
-  index_small b h = let there = barrier_there s b g k h in index_counts s prefixes b (there.0, there.1)
+  index_small b h = grind (arith, barrier_there s b g k h, index_counts s prefixes b)
 
   size_here : (m : Space) → slice_index (map length (clocks_in clocks m)) g ≡ size_of s g
-  size_here m = ap (λ sizes. slice_index sizes g) (are.tables m)
+  size_here m = grind (arith, are.tables m)
 
   pub group_unspent : IsGroupSpent clocks g → ⊥
   group_unspent h =
-      let m = h.0 in
-      let i = h.1.0 in
-      let within : i < size_of s g = subst (λ n. i < n) (size_here m) h.1.1 in
-      let b = barrier i within in
-      let full : b.index ≡ LARGEST_COUNT = sym (own m b (stands i within)) ∙ h.1.2 in
-      let small = index_small b (stands i within) in
-      omega (arith, full, small)
+      let within = rw (size_here h.0) at h.1.1 in
+      let b = barrier h.1.0 within in
+      omega (arith, own h.0 b (stands h.1.0 within), h.1.2, index_small b (stands h.1.0 within))
 
   -- ---- the instance meets
 
@@ -85,9 +81,6 @@ module _ (s : Streams) (order : List EventId) (g k : ℕ) (clocks : ItemClocks) 
     module _ (new_clocks : ItemClocks) (global local : Bool) (flags_global : global ≡ a.global) (flags_local : local ≡ a.local) (meets : MeetsClocks clocks g global local new_clocks) where
       flags_told : (m : Space) → orders global local m ≡ flags a m
       flags_told m = grind arith
-
-      table_shape : (m : Space) → map length (clocks_in new_clocks m) ≡ map length (clocks_in clocks m)
-      table_shape m = grind arith
 
       -- in a memory that is flagged, all that the barriers see
       all_seen : (m : Space) (n : ℕ) (d : EventId) → n < size_of s g → JoinsGroup (clocks_in clocks m) g (clocks_in new_clocks m) → (d.index < count_of (clock_in new_clocks m (item_of g n)) d.at) ↔ ((b : EventId) × StandsIn s b g k × Sees s m b d)
@@ -112,22 +105,19 @@ module _ (s : Streams) (order : List EventId) (g k : ℕ) (clocks : ItemClocks) 
               let b = barrier n within in
               against (barrier_sees m b (stands n within) (count_of (clock_in new_clocks m b.at)) (ticks.items n (rw (size_here m) within)).counts d) (unflagged_knows s m order new g k prefixes lawful met b d f (stands n within))
 
-      other_clock : (m : Space) (i : ItemId) → i.group ≢ g → clock_in new_clocks m i ≡ clock_in clocks m i
-      other_clock m i other = grind arith
-
       other_now : (m : Space) (i : ItemId) (d : EventId) → HasItem s.sizes i → i.group ≢ g → (d.index < count_of (clock_in new_clocks m i) d.at) ↔ Knows s m new i d
-      other_now m i d has other = rw (other_clock m i other) (against (are.counts m i has d) (others_know_after_meet s m order new g k prefixes lawful met i d other))
+      other_now m i d has other =
+          let same : clock_in new_clocks m i ≡ clock_in clocks m i = grind arith in
+          rw same (against (are.counts m i has d) (others_know_after_meet s m order new g k prefixes lawful met i d other))
 
       pub meets_true : CountWhatIsKnown s new new_clocks
       meets_true = record {
         shape = meets.shape ∙ are.shape;
-        tables = λ m. table_shape m ∙ are.tables m;
+        tables = λ m. grind (arith, are.tables m);
         counts = λ m i has d. ⊎_elim (λ group. rw group (group_now m i.item d (rw (← group) has.1))) (other_now m i d has) (cases_eq i.group g);
       }
 
     -- ---- what is left: a barrier is no release
 
     pub snapshots_behind : (snapshots : Snapshots) → AreSnapshots s order snapshots → AreSnapshots s new snapshots
-    snapshots_behind snapshots was r x h at releases =
-        let cases = met_cases s Global order new g k prefixes lawful met r h in
-        grind (arith, was r x, barrier_there s r g k)
+    snapshots_behind snapshots was r x h at releases = grind (arith, met_cases s Global order new g k prefixes lawful met r h, was r x, barrier_there s r g k)

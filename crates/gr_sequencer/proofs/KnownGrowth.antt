@@ -53,7 +53,7 @@ module _ (s : Streams) (order : List EventId) (prefixes : ArePrefixes s) (lawful
 
   -- none of its events was handled
   no_event : (i : ItemId) (e : EventId) → i.group ≡ g → e.at ≡ i → IsIn order e → ⊥
-  no_event i e group item h = grind (arith, (lawful.event h.0 e h.1).0, nothing_came s g n prefixes can)
+  no_event i e group item h = grind (arith, lawful.event h.0 e h.1, nothing_came s g n prefixes can)
 
   knows_nothing : (m : Space) (i : ItemId) (d : EventId) → i.group ≡ g → Knows s m order i d → ⊥
   knows_nothing m i d group (by_event e h item seen) = no_event i e group item h

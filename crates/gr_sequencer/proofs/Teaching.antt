@@ -1,6 +1,6 @@
 -- What an event learns from the releases that it names.
 use mathlib.Core.List.{map-map}
-use Rattle.std.proofs.Common.{◌≡◌, ◌≢◌, ◌⊎◌, ◌↔◌, ℕ, ◌+◌, ◌<◌, ◌≤◌, All, Contains, List, [], ◌∷◌, ◌++◌, length, get_or, map, take, Some, IsTrue, refl, sym, ap, ◌∙◌, subst, inl, ⊎_elim, suc, arith}
+use Rattle.std.proofs.Common.{◌≡◌, ◌≢◌, ◌⊎◌, ◌↔◌, ℕ, ◌+◌, ◌<◌, ◌≤◌, All, Contains, List, [], ◌∷◌, ◌++◌, length, get_or, map, take, Some, IsTrue, refl, ◌∙◌, ⊎_elim, suc, arith}
 use Rattle.std.proofs.lemmas.List.Elements.{All-push, Contains-append_left, Contains-push, Contains-push_cases}
 use Rattle.std.proofs.lemmas.List.{length-append}
 use Rattle.std.proofs.Math.Seq.{take-suc}
@@ -9,34 +9,28 @@ use Rattle.gr_model.specs.declared.event.EventId.{EventId}
 use Rattle.gr_model.specs.declared.event.Name.{Name}
 use Rattle.gr_model.specs.declared.event.Space.{Space}
 use Rattle.gr_model.specs.Access.{inclusive, is_release, memory_of}
-use Rattle.gr_model.specs.Counts.{Sees}
 use Rattle.gr_model.specs.HappensBefore.{IsInclusive}
 use Rattle.gr_model.specs.LawfulOrders.{IsIn}
-use Rattle.gr_model.specs.Names.{HasName, Matches, MatchesBy, names_of, release_place}
+use Rattle.gr_model.specs.Names.{HasName, Matches, MatchesBy, release_place}
 use Rattle.gr_model.specs.Streams.{Streams, event_at, word_at}
 use Rattle.gr_model.specs.Waits.{for_release}
 use Rattle.gr_model.proofs.Places.{places_from-there}
 use Rattle.gr_model.proofs.Cuts.{same_event}
 use Rattle.gr_steps.specs.Steps.{IsReady}
 use Rattle.gr_steps.proofs.EventRecords.{one_release}
-use Rattle.gr_clocks.specs.Counts.{count_of, greatest_count}
+use Rattle.gr_clocks.specs.Counts.{greatest_count}
 use Rattle.gr_clocks.specs.ItemClocks.{ReleaseClock, AreOfOneWord, clocks_left}
 use Rattle.gr_clocks.proofs.ReleaseLemmas.{left_elsewhere, left_here}
 use Rattle.gr_sequencer.specs.Known.{IsSnapshotOf}
 use Rattle.gr_sequencer.specs.Sources.{AreSources, IsSource, LearnsNothing, LearnsBy}
-use Rattle.gr_sequencer.proofs.Spaces.{space_cases}
+use Rattle.gr_sequencer.proofs.SeenCounts.{against, below_greater}
 
 module _ (s : Streams) (order : List EventId) (e r : EventId) (x given : Event) (n : Name) (event : event_at s e ≡ Some x) (named : Contains x.names n) (item : r.at ≡ n.at) (place : release_place s n ≡ Some r.index) (there : event_at s r ≡ Some given) (ready : IsReady s order e) where
   has_name : HasName s e n
-  has_name = subst (λ names. Contains names n) (sym (ap names_of event)) named
+  has_name = grind (arith, event, named)
 
   matches_by : MatchesBy s n e r
-  matches_by =
-      let found = ready.release n has_name in
-      let f = found.0 in
-      let by = found.1 in
-      let same : f ≡ r = same_event f r (by.item ∙ sym item) (let is : Some f.index ≡ Some r.index = sym by.place ∙ place in cc) in
-      subst (MatchesBy s n e) same by
+  matches_by = grind (arith, ready.release n has_name, same_event)
 
   matches : Matches s e r
   matches = record { name = n; by = matches_by }
@@ -56,17 +50,18 @@ module _ (s : Streams) (order : List EventId) (e r : EventId) (x given : Event) 
     word = matches_by.word ∙ is.word;
     counts = λ d. (
       λ below. record { release = r; by = matches_by; inclusive = within; seen = (is.counts d).0 below },
-      λ l. (is.counts d).1 (subst (λ f. Sees s (memory_of snapshots.word) f d) (from_release (memory_of snapshots.word) d l) l.seen),
+      λ l. (is.counts d).1 (rw (from_release (memory_of snapshots.word) d l) at l.seen),
     );
-    others = λ m d other l.
-        let w : Some l.inclusive.word ≡ Some snapshots.word = sym l.inclusive.has_word ∙ ap (word_at s) (from_release m d l) ∙ is.word in
-        other (sym l.inclusive.memory ∙ (let same : l.inclusive.word ≡ snapshots.word = cc in ap memory_of same));
+    others = λ m d other l. other (grind (arith, l.inclusive, from_release m d l, is.word));
   }
     where
       within : IsInclusive s (memory_of snapshots.word) r e
       within = record { first = given; second = x; at_first = there; at_second = event; word = snapshots.word; has_word = is.word; memory = refl; scopes = scopes }
 
 -- ---- the sources of several names
+
+space_cases : (m n : Space) → (m ≡ n) ⊎ (m ≢ n)
+space_cases m n = grind arith
 
 -- in a memory, e learns of d from the release of one of these names
 abbrev pub LearnsFrom : Streams → Space → EventId → List Name → EventId → Type 0
@@ -93,39 +88,27 @@ module _ (s : Streams) (e : EventId) where
       -- a name from whose release nothing is learned
       pub sources_same : LearnsNothing s e n → AreSourcesOf s e (names ++ n ∷ []) sources
       sources_same none = record {
-        few = grind (arith, length-append names (n ∷ []));
+        few = grind (arith, length-append names (n ∷ []), are.few);
         words = are.words;
-        counts = λ m d. (
-          λ below. (longer m d).1 (inl ((are.counts m d).0 below)),
-          λ l. ⊎_elim (are.counts m d).1 (λ by. absurd (none m d by)) ((longer m d).0 l),
-        );
+        counts = λ m d. against (grind (arith, are.counts m d, none m d)) (longer m d);
       }
 
       -- a name from whose release something is
       pub sources_more : (l : ReleaseClock) → IsSource s e n l → AreSourcesOf s e (names ++ n ∷ []) (sources ++ l ∷ [])
       sources_more l is = record {
-        few = let size = length-append names (n ∷ []) in let more = length-append sources (l ∷ []) in omega (arith, are.few, size, more);
+        few = grind (arith, length-append names (n ∷ []), length-append sources (l ∷ []), are.few);
         words = All-push (λ r. word_at s e ≡ Some r.word) sources l are.words is.word;
-        counts = λ m d. ⊎_elim (λ same. in_its_memory m d same) (λ other. in_another m d other) (space_cases m (memory_of l.word));
+        counts = λ m d. against (⊎_elim (in_its_memory m d) (in_another m d) (space_cases m (memory_of l.word))) (longer m d);
       }
         where
           all : Space → EventId → ℕ
           all m d = greatest_count (clocks_left m (sources ++ l ∷ [])) d.at
 
-          in_its_memory : (m : Space) (d : EventId) → m ≡ memory_of l.word → (d.index < all m d) ↔ LearnsFrom s m e (names ++ n ∷ []) d
-          in_its_memory m d same =
-              let most = left_here m sources l d.at same in
-              let by : (d.index < count_of l.clock d.at) ↔ LearnsBy s m e n d = rw same (is.counts d) in (
-                λ below. (longer m d).1 (grind (arith, (are.counts m d).0, by.0)),
-                λ learned. grind (arith, (longer m d).0 learned, (are.counts m d).1, by.1),
-              )
+          in_its_memory : (m : Space) (d : EventId) → m ≡ memory_of l.word → (d.index < all m d) ↔ (LearnsFrom s m e names d ⊎ LearnsBy s m e n d)
+          in_its_memory m d same = below_greater d.index _ _ _ (left_here m sources l d.at same) (are.counts m d) (rw same (is.counts d))
 
-          in_another : (m : Space) (d : EventId) → m ≢ memory_of l.word → (d.index < all m d) ↔ LearnsFrom s m e (names ++ n ∷ []) d
-          in_another m d other =
-              let same = left_elsewhere m sources l d.at other in (
-                λ below. (longer m d).1 (inl ((are.counts m d).0 (omega arith))),
-                λ learned. grind (arith, (longer m d).0 learned, (are.counts m d).1, is.others m d other),
-              )
+          in_another : (m : Space) (d : EventId) → m ≢ memory_of l.word → (d.index < all m d) ↔ (LearnsFrom s m e names d ⊎ LearnsBy s m e n d)
+          in_another m d other = grind (arith, left_elsewhere m sources l d.at other, are.counts m d, is.others m d other)
 
   -- all names
   pub sources_all : (x : Event) → event_at s e ≡ Some x → (sources : List ReleaseClock) → AreSourcesOf s e x.names sources → AreSources s e sources

@@ -1,10 +1,7 @@
-use Rattle.std.proofs.Common.{◌∙◌, ap}
+use Rattle.std.proofs.Common.{arith}
 use Rattle.gr_model.specs.Access.{is_release}
-use Rattle.gr_lanes.specs.Indices.{record_of}
 use Rattle.gr_lanes.proofs.IndexLemmas.{record_is}
 use Rattle.gr_sequencer.proofs.sources.release_event.Goals as goal
 
 pub returns : goal.returns
-returns g c =
-    c.release_event.ensures ∙ (ap (λ t. record_of t is_release c.args.name.at c.args.name.release) c.lanes.ensures.taken
-    ∙ record_is c.args.order.now.taken is_release c.args.name.at c.args.name.release c.args.index c.requires)
+returns g c = grind (arith, c.release_event.ensures, c.lanes.ensures.taken, record_is c.args.order.now.taken is_release c.args.name.at c.args.name.release c.args.index)
