@@ -19,7 +19,7 @@ use Rattle.gr_order.specs.Sequences.{IsSequence, Sequence}
 use Rattle.gr_order.proofs.AtOnceLemmas.{there_at_once}
 use Rattle.gr_sequencer.specs.Known.{CountWhatIsKnown, IsKnown, IsNextAtOnce, Known}
 use Rattle.gr_sequencer.specs.Sources.{AreSources}
-use Rattle.gr_sequencer.proofs.EventSteps.{known_or_learned_alone, known_or_learned_sees, learns_nothing_steps, snapshots_longer, steps_true}
+use Rattle.gr_sequencer.proofs.EventSteps.{known_or_learned_alone, known_or_learned_sees, learns_nothing_true, snapshots_longer}
 use Rattle.gr_sequencer.proofs.KnownGrowth.{known_grows}
 use Rattle.gr_sequencer.proofs.Teaching.{sources_all, sources_none}
 
@@ -38,7 +38,7 @@ module _ (q : Sequence) (g : ℕ) (x : Event) (known : Known) (e : EventId) (is 
 
   -- the clocks where the item's have one event more
   pub known_at_once : (new : ItemClocks) → Ticks known.clocks e.at new → CountWhatIsKnown more (q.handled ++ e ∷ []) new
-  known_at_once new ticks = steps_true more q.handled known e is.next new (learns_nothing_steps more q.handled known e is.next new no_sources ticks)
+  known_at_once new ticks = learns_nothing_true more q.handled known e is.next new no_sources ticks
 
 -- a record that goes at once is such an event
 pub next_at_once : (q : Sequence) → IsSequence q → (g : ℕ) (x : Event) → GoesAtOnce q g x → IsEventButItem x → length (list_of q.taken g) < MOST_RECORDS → (known : Known) → IsKnown q.taken q.handled known

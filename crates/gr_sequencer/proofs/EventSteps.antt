@@ -1,6 +1,6 @@
 -- What is known where an event is handled.
 use Rattle.gr_order.proofs.StateLemmas.{item_cases}
-use Rattle.std.proofs.Common.{◌≡◌, ◌≢◌, ◌↔◌, ℕ, ◌+◌, ◌<◌, max, All, List, [], ◌∷◌, ◌++◌, Some, IsTrue, map, length, refl, ◌∙◌, inl, ⊎_elim, arith}
+use Rattle.std.proofs.Common.{◌≡◌, ◌≢◌, ◌↔◌, ℕ, ◌+◌, ◌<◌, max, All, List, [], ◌∷◌, ◌++◌, Some, IsTrue, map, refl, ◌∙◌, inl, ⊎_elim, arith}
 use Rattle.std.proofs.lemmas.List.{map-id}
 use Rattle.gr_model.specs.declared.event.Event.{Event}
 use Rattle.gr_model.specs.declared.event.EventId.{EventId}
@@ -17,7 +17,7 @@ use Rattle.gr_steps.specs.Steps.{Handles}
 use Rattle.gr_steps.proofs.EventRecords.{group_of_event, item_of_event}
 use Rattle.gr_clocks.specs.declared.clock.TheConstants.{LARGEST_COUNT}
 use Rattle.gr_clocks.specs.Counts.{Counts, IsJoinOfAll, count_of, greatest_count, tick_at}
-use Rattle.gr_clocks.specs.ItemClocks.{Acquires, AreSpent, IsSpent, ItemClocks, ReleaseClock, Ticks, clock_in, clocks_in, clocks_left}
+use Rattle.gr_clocks.specs.ItemClocks.{Acquires, AreSpent, IsSpent, ItemClocks, ReleaseClock, Ticks, clock_in, clocks_left}
 use Rattle.gr_clocks.proofs.JoinLemmas.{joined_none}
 use Rattle.gr_clocks.proofs.ReleaseLemmas.{acquires_none, left_all, left_counted}
 use Rattle.gr_closure.specs.Accesses.{CountsJust}
@@ -42,6 +42,9 @@ module _ (s : Streams) (order : List EventId) (known : Known) (e : EventId) (nex
   is_next : IsNextInItem order e
   is_next = ready_event_is_next s order next.lawful e next.ready
 
+  handles : Handles s order e (order ++ e ∷ [])
+  handles = record { ready = next.ready; order = refl }
+
   counts : (m : Space) → CountsJust (own_clock m) (Knows s m order e.at)
   counts m = next.follows.clocks.counts m e.at has_item
 
@@ -58,7 +61,9 @@ module _ (s : Streams) (order : List EventId) (known : Known) (e : EventId) (nex
   -- ---- there is room
 
   pub unspent : IsSpent known.clocks e.at → ⊥
-  unspent (m, full) = omega (arith, index_counts s next.prefixes e next.ready.event, own_count s m order e is_next (Knows s m order e.at) (known_handled s m order next.lawful e.at) (own_known s m order e.at) (count_of (own_clock m)) (counts m), full)
+  unspent (m, full) =
+      let own = own_count s m order e is_next (Knows s m order e.at) (known_handled s m order next.lawful e.at) (own_known s m order e.at) (count_of (own_clock m)) (counts m) in
+      omega (arith, index_counts s next.prefixes e next.ready.event)
 
   -- ---- what its item knew, or the event learns
 
@@ -71,7 +76,7 @@ module _ (s : Streams) (order : List EventId) (known : Known) (e : EventId) (nex
     known_or_learned_room full = omega (arith, index_counts s next.prefixes e next.ready.event, just_own)
 
     pub known_or_learned_sees : (n : ItemId → ℕ) → ((j : ItemId) → n j ≡ c j + tick_at e.at j) → (d : EventId) → (d.index < n d.at) ↔ Sees s m e d
-    known_or_learned_sees n tick = seen_count s m order e is_next (KnowsOrLearns s order m e) (known_or_learned_in m) (own_known_or_learned m) c just (handled_sees s m order (order ++ e ∷ []) e next.lawful (record { ready = next.ready; order = refl })) n tick
+    known_or_learned_sees n tick = seen_count s m order e is_next (KnowsOrLearns s order m e) (known_or_learned_in m) (own_known_or_learned m) c just (handled_sees s m order (order ++ e ∷ []) e next.lawful handles) n tick
 
   -- the item's clock, joined with the sources, which are all on words of the memory
   pub known_or_learned_sources : (m : Space) (c joined : Counts) (sources : List ReleaseClock) → AreSources s e sources → c ≡ own_clock m → All (λ l. m ≡ memory_of l.word) sources → IsJoinOfAll c (map (λ (l : ReleaseClock). l.clock) sources) joined → CountsJust joined (KnowsOrLearns s order m e)
@@ -85,13 +90,6 @@ module _ (s : Streams) (order : List EventId) (known : Known) (e : EventId) (nex
 
   -- ---- what is known behind it
 
-  -- the clocks of its item count what it sees, and the others are as they were
-  pub record Steps (new : ItemClocks) : Type 0 where
-    pub shape : new.sizes ≡ known.clocks.sizes
-    pub tables : (m : Space) → map length (clocks_in new m) ≡ map length (clocks_in known.clocks m)
-    pub item : (m : Space) → CountsJust (clock_in new m e.at) (Sees s m e)
-    pub others : (m : Space) (j : ItemId) → j ≢ e.at → clock_in new m j ≡ clock_in known.clocks m j
-
   module _ (sources : List ReleaseClock) (are : AreSources s e sources) where
     -- what the item's clock and the sources count together in a memory
     abbrev joined : Space → ItemId → ℕ
@@ -101,33 +99,31 @@ module _ (s : Streams) (order : List EventId) (known : Known) (e : EventId) (nex
     joined_counts m d = below_greater d.index (count_of (own_clock m) d.at) (greatest_count (clocks_left m sources) d.at) (joined m d.at) refl (counts m d) (are.counts m d)
 
     pub sources_unspent : ¬ AreSpent sources e.at
-    sources_unspent (k, l, below, at, full) = omega (arith, left_counted sources e.at k l below at, just_own (memory_of l.word) (joined (memory_of l.word)) (joined_counts (memory_of l.word)), index_counts s next.prefixes e next.ready.event)
+    sources_unspent (k, l, below, at, full) =
+        let m = memory_of l.word in
+        omega (arith, left_counted sources e.at k l below at, just_own m (joined m) (joined_counts m), index_counts s next.prefixes e next.ready.event)
 
-    pub sources_steps : (new : ItemClocks) → Acquires known.clocks e.at sources new → Steps new
-    sources_steps new acquires = record {
-      shape = acquires.shape;
-      tables = λ m. (acquires.learns m).shape;
-      item = λ m. known_or_learned_sees m (joined m) (joined_counts m) (count_of (clock_in new m e.at)) (acquires.learns m).item.counts;
-      others = λ m. (acquires.learns m).others;
+    -- its item's clock counts what it sees, and the others are as they were
+    pub sources_true : (new : ItemClocks) → Acquires known.clocks e.at sources new → CountWhatIsKnown s (order ++ e ∷ []) new
+    sources_true new acquires = record {
+      shape = acquires.shape ∙ next.follows.clocks.shape;
+      tables = λ m. (acquires.learns m).shape ∙ next.follows.clocks.tables m;
+      counts = λ m i has d.
+          let learns = acquires.learns m in
+          let sees = known_or_learned_sees m (joined m) (joined_counts m) (count_of (clock_in new m e.at)) learns.item.counts d in
+          let others = others_know_after_handle s m order (order ++ e ∷ []) e next.lawful handles i d in
+          ⊎_elim
+          (λ (same : i ≡ e.at). rw same (against sees (handled_knows s m order (order ++ e ∷ []) e next.lawful handles d)))
+          (λ apart. rw (learns.others i apart) (against (next.follows.clocks.counts m i has d) (others apart)))
+          (item_cases i e.at);
     }
 
-  pub learns_nothing_steps : (new : ItemClocks) → AreSources s e [] → Ticks known.clocks e.at new → Steps new
-  learns_nothing_steps new are ticks = sources_steps [] are new (acquires_none known.clocks e.at [] new refl ticks)
-
-  pub steps_true : (new : ItemClocks) → Steps new → CountWhatIsKnown s (order ++ e ∷ []) new
-  steps_true new steps = record {
-    shape = steps.shape ∙ next.follows.clocks.shape;
-    tables = λ m. steps.tables m ∙ next.follows.clocks.tables m;
-    counts = λ m i has d. ⊎_elim
-        (λ (same : i ≡ e.at). rw same (against (steps.item m d) (handled_knows s m order (order ++ e ∷ []) e next.lawful handles d)))
-        (λ apart. rw (steps.others m i apart) (against (next.follows.clocks.counts m i has d) (others_know_after_handle s m order (order ++ e ∷ []) e next.lawful handles i d apart)))
-        (item_cases i e.at);
-  }
-    where
-      handles : Handles s order e (order ++ e ∷ [])
-      handles = record { ready = next.ready; order = refl }
+  pub learns_nothing_true : (new : ItemClocks) → AreSources s e [] → Ticks known.clocks e.at new → CountWhatIsKnown s (order ++ e ∷ []) new
+  learns_nothing_true new are ticks = sources_true [] are new (acquires_none known.clocks e.at [] new refl ticks)
 
   -- ---- what is left
 
   pub snapshots_longer : (snapshots : Snapshots) → ((r : EventId) → r ≢ e → snapshot_at snapshots r ≡ snapshot_at known.snapshots r) → ((x : Event) → event_at s e ≡ Some x → IsTrue (is_release x) → IsSnapshotBy s e (snapshot_at snapshots e)) → AreSnapshots s (order ++ e ∷ []) snapshots
-  snapshots_longer snapshots others own r x h at releases = grind (arith, handled_cases s Global order (order ++ e ∷ []) e next.lawful (record { ready = next.ready; order = refl }) r h, others r, next.ready.fresh, next.follows.snapshots r x, own x)
+  snapshots_longer snapshots others own r x h at releases =
+      let cases = handled_cases s Global order (order ++ e ∷ []) e next.lawful handles r h in
+      grind (arith, others r, next.ready.fresh, next.follows.snapshots r x, own x)

@@ -1,5 +1,5 @@
 -- What is known where an instance meets.
-use Rattle.std.proofs.Common.{◌≡◌, ◌≢◌, ◌↔◌, ℕ, zero, suc, ◌+◌, ◌<◌, Bool, true, false, List, ◌++◌, map, length, refl, sym, ◌∙◌, ⊎_elim, arith}
+use Rattle.std.proofs.Common.{◌≡◌, ◌≢◌, ◌↔◌, ℕ, zero, suc, ◌+◌, ◌<◌, Bool, true, false, List, ◌++◌, map, length, refl, ◌∙◌, ⊎_elim, arith}
 use Rattle.std.proofs.lemmas.Bool.{cases_eq}
 use Rattle.std.specs.Prelude.{slice_index}
 use Rattle.gr_model.specs.declared.event.EventId.{EventId}
@@ -79,9 +79,6 @@ module _ (s : Streams) (order : List EventId) (g k : ℕ) (clocks : ItemClocks) 
     -- ---- what is known behind the meeting
 
     module _ (new_clocks : ItemClocks) (global local : Bool) (flags_global : global ≡ a.global) (flags_local : local ≡ a.local) (meets : MeetsClocks clocks g global local new_clocks) where
-      flags_told : (m : Space) → orders global local m ≡ flags a m
-      flags_told m = grind arith
-
       -- in a memory that is flagged, all that the barriers see
       all_seen : (m : Space) (n : ℕ) (d : EventId) → n < size_of s g → JoinsGroup (clocks_in clocks m) g (clocks_in new_clocks m) → (d.index < count_of (clock_in new_clocks m (item_of g n)) d.at) ↔ ((b : EventId) × StandsIn s b g k × Sees s m b d)
       all_seen m n d within joins =
@@ -97,7 +94,7 @@ module _ (s : Streams) (order : List EventId) (g k : ℕ) (clocks : ItemClocks) 
           )
 
       group_now : (m : Space) (n : ℕ) (d : EventId) → n < size_of s g → (d.index < count_of (clock_in new_clocks m (item_of g n)) d.at) ↔ Knows s m new (item_of g n) d
-      group_now m n d within = by_flag (orders global local m) (meets.groups m) (sym (flags_told m))
+      group_now m n d within = by_flag (orders global local m) (meets.groups m) (grind arith)
         where
           by_flag : (b : Bool) → MeetsGroup (clocks_in clocks m) g b (clocks_in new_clocks m) → flags a m ≡ b → (d.index < count_of (clock_in new_clocks m (item_of g n)) d.at) ↔ Knows s m new (item_of g n) d
           by_flag true joins t = against (all_seen m n d within joins) (flagged_knows s m order new g k prefixes lawful met (item_of g n) d t refl within)

@@ -1,5 +1,5 @@
--- What is known where nothing was handled, and where a record is taken.
-use Rattle.std.proofs.Common.{◌≡◌, ◌≢◌, ◌⊎◌, inl, inr, ◌↔◌, ℕ, ◌<◌, List, [], refl, ap, ◌∙◌, arith}
+-- What is known where a record is taken, and where a group comes.
+use Rattle.std.proofs.Common.{◌≡◌, ◌≢◌, ◌⊎◌, inl, inr, ◌↔◌, ℕ, ◌<◌, List, refl, ap, ◌∙◌, arith}
 use Rattle.std.proofs.lemmas.Bool.{cases_eq}
 use Rattle.gr_model.specs.declared.event.Event.{Event}
 use Rattle.gr_model.specs.declared.event.EventId.{EventId}
@@ -12,7 +12,7 @@ use Rattle.gr_model.specs.Streams.{ArePrefixes, Grows, Streams}
 use Rattle.gr_model.proofs.GroupLaws.{group_grows, item_was, nothing_came, size_now}
 use Rattle.gr_model.proofs.GrowthLaws.{event_grows, word_grows}
 use Rattle.gr_clocks.specs.Counts.{count_of}
-use Rattle.gr_clocks.specs.ItemClocks.{AddsGroup, AreNew, ItemClocks, clock_in}
+use Rattle.gr_clocks.specs.ItemClocks.{AddsGroup, clock_in}
 use Rattle.gr_lanes.specs.Takes.{CanTake, with_record}
 use Rattle.gr_lanes.proofs.Growth.{record_grows}
 use Rattle.gr_order.specs.Sequences.{IsSequence, Sequence}
@@ -20,11 +20,6 @@ use Rattle.gr_closure.specs.Knowledge.{Knows, by_event, by_instance}
 use Rattle.gr_closure.proofs.KnowledgeGrowth.{knowledge_stays, seen_stays}
 use Rattle.gr_sequencer.proofs.SeenCounts.{through}
 use Rattle.gr_sequencer.specs.Known.{AreSnapshots, IsKnown, Known, Snapshots}
-
--- ---- nothing was handled
-
-pub known_at_first : (s : Streams) (clocks : ItemClocks) (snapshots : Snapshots) → AreNew s.sizes clocks → IsKnown s [] (record { clocks = clocks; snapshots = snapshots })
-known_at_first s clocks snapshots new = grind arith
 
 -- ---- a record is taken
 

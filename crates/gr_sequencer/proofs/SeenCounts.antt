@@ -1,5 +1,5 @@
 -- What an event that is next in its item sees, as a count: what its item knows or it learns, and one more of its item.
-use Rattle.std.proofs.Common.{◌≡◌, ◌≢◌, ◌⊎◌, ◌↔◌, ℕ, ◌+◌, ◌<◌, max, List, length, refl, arith}
+use Rattle.std.proofs.Common.{◌≡◌, ◌⊎◌, ◌↔◌, ℕ, ◌+◌, ◌<◌, max, List, refl, arith}
 use Rattle.std.proofs.lemmas.List.Sums.{count_by-le-length, length-filter}
 use Rattle.std.proofs.lemmas.Option.{slice_get_within}
 use Rattle.gr_model.specs.declared.event.EventId.{EventId}
@@ -22,10 +22,6 @@ through p q = (λ a. q.0 (p.0 a), λ c. p.1 (q.1 c))
 pub against : {A B C : Type 0} → A ↔ B → C ↔ B → A ↔ C
 against p q = (λ a. q.1 (p.0 a), λ c. p.1 (q.0 c))
 
--- numbers with the same numbers below them
-same_below : (a b : ℕ) → ((k : ℕ) → (k < a) ↔ (k < b)) → a ≡ b
-same_below a b below = grind (arith, below a, below b)
-
 -- what is below the greater of two counts
 pub below_greater : {K L : Type 0} (x c l n : ℕ) → n ≡ max c l → (x < c) ↔ K → (x < l) ↔ L → (x < n) ↔ (K ⊎ L)
 below_greater x c l n is known learned = grind arith
@@ -38,19 +34,20 @@ below_ticked x c t n is ticks sees known = grind arith
 pub index_counts : (s : Streams) → ArePrefixes s → (e : EventId) → IsEvent s e → e.index < LARGEST_COUNT
 index_counts s prefixes e (x, there) =
     let few = (prefixes.each e.at.group (group_of_event s prefixes e x there)).few in
-    let within : e.index < length (trace_of s e.at) = slice_get_within (trace_of s e.at) e.index x there in
-    omega (arith, length-filter (is_of e.at.item) (list_of s e.at.group), count_by-le-length (is_of e.at.item) (list_of s e.at.group))
+    let within = slice_get_within (trace_of s e.at) e.index x there in
+    omega (arith, within, length-filter (is_of e.at.item) (list_of s e.at.group), count_by-le-length (is_of e.at.item) (list_of s e.at.group))
 
 -- W is what the event's item knows, or that and what the event learns, as far as it counts
 module _ (s : Streams) (m : Space) (order : List EventId) (e : EventId) (next : IsNextInItem order e) (W : EventId → Type 0) (handled : (d : EventId) → W d → IsIn order d) (own : (d : EventId) → d.at ≡ e.at → IsIn order d → W d)
     (c : ItemId → ℕ) (counts : (d : EventId) → (d.index < c d.at) ↔ W d) where
   -- of the item, all events before it
   pub own_count : c e.at ≡ e.index
-  own_count = same_below (c e.at) e.index (λ k. let d : EventId = record { at = e.at; index = k } in through (counts d) (through (handled d, own d refl) (next d refl)))
+  own_count =
+      let d : EventId = record { at = e.at; index = c e.at } in
+      grind (arith, counts d, handled d, own d refl, next d refl, counts e, handled e, own e refl, next e refl)
 
   -- with one event more it is what is seen
   pub seen_count : ((d : EventId) → Sees s m e d ↔ ((d ≡ e) ⊎ W d)) → (n : ItemId → ℕ) → ((j : ItemId) → n j ≡ c j + tick_at e.at j) → (d : EventId) → (d.index < n d.at) ↔ Sees s m e d
-  seen_count sees n behind d = below_ticked d.index (c d.at) (tick_at e.at d.at) (n d.at) (behind d.at) ticks (sees d) (counts d)
-    where
-      ticks : (tick_at e.at d.at ≡ 0 × (d ≢ e)) ⊎ (tick_at e.at d.at ≡ 1 × (d ≡ e ↔ (d.index ≡ c d.at)))
-      ticks = grind (arith, own_count, same_items e.at d.at, same_event d e, same_item_self e.at)
+  seen_count sees n behind d =
+      below_ticked d.index (c d.at) (tick_at e.at d.at) (n d.at) (behind d.at)
+      (grind (arith, own_count, same_items e.at d.at, same_event d e, same_item_self e.at)) (sees d) (counts d)

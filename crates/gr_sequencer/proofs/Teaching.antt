@@ -11,7 +11,7 @@ use Rattle.gr_model.specs.declared.event.Space.{Space}
 use Rattle.gr_model.specs.Access.{inclusive, is_release, memory_of}
 use Rattle.gr_model.specs.HappensBefore.{IsInclusive}
 use Rattle.gr_model.specs.LawfulOrders.{IsIn}
-use Rattle.gr_model.specs.Names.{HasName, Matches, MatchesBy, release_place}
+use Rattle.gr_model.specs.Names.{MatchesBy, release_place}
 use Rattle.gr_model.specs.Streams.{Streams, event_at, word_at}
 use Rattle.gr_model.specs.Waits.{for_release}
 use Rattle.gr_model.proofs.Places.{places_from-there}
@@ -26,33 +26,23 @@ use Rattle.gr_sequencer.specs.Sources.{AreSources, IsSource, LearnsNothing, Lear
 use Rattle.gr_sequencer.proofs.SeenCounts.{against, below_greater}
 
 module _ (s : Streams) (order : List EventId) (e r : EventId) (x given : Event) (n : Name) (event : event_at s e ≡ Some x) (named : Contains x.names n) (item : r.at ≡ n.at) (place : release_place s n ≡ Some r.index) (there : event_at s r ≡ Some given) (ready : IsReady s order e) where
-  has_name : HasName s e n
-  has_name = grind (arith, event, named)
-
   matches_by : MatchesBy s n e r
-  matches_by = grind (arith, ready.release n has_name, same_event)
-
-  matches : Matches s e r
-  matches = record { name = n; by = matches_by }
+  matches_by = grind (arith, event, named, ready.release n, same_event)
 
   pub release_handled : IsIn order r
-  release_handled = ready.waits r (for_release matches)
+  release_handled = ready.waits r (for_release (record { name = n; by = matches_by }))
 
   pub given_releases : IsTrue (is_release given)
   given_releases = grind (arith, places_from-there)
-
-  -- what the event learns by this name, it learns from this release
-  from_release : (m : Space) (d : EventId) (l : LearnsBy s m e n d) → l.release ≡ r
-  from_release m d l = one_release s n e l.release r l.by matches_by
 
   pub source_of : IsTrue (inclusive given.kind r.at.group x.kind e.at.group) → (snapshots : ReleaseClock) → IsSnapshotOf s r snapshots → IsSource s e n snapshots
   source_of scopes snapshots is = record {
     word = matches_by.word ∙ is.word;
     counts = λ d. (
       λ below. record { release = r; by = matches_by; inclusive = within; seen = (is.counts d).0 below },
-      λ l. (is.counts d).1 (rw (from_release (memory_of snapshots.word) d l) at l.seen),
+      λ l. (is.counts d).1 (rw (one_release s n e l.release r l.by matches_by) at l.seen),
     );
-    others = λ m d other l. other (grind (arith, l.inclusive, from_release m d l, is.word));
+    others = λ m d other l. other (grind (arith, l.inclusive, one_release s n e l.release r l.by matches_by, is.word));
   }
     where
       within : IsInclusive s (memory_of snapshots.word) r e

@@ -1,7 +1,5 @@
-use Rattle.std.proofs.Common.{ap, refl, sym, ◌∙◌}
+use Rattle.std.proofs.Common.{refl}
 use Rattle.gr_model.specs.declared.event.ItemId.{ItemId}
-use Rattle.gr_model.specs.Barriers.{is_barrier}
-use Rattle.gr_model.specs.Streams.{Streams, place_of}
 use Rattle.gr_order.proofs.ForgetLemmas.{barrier_remembered}
 use Rattle.gr_sequencer.proofs.known.flags_of.Goals as goal
 
@@ -9,8 +7,4 @@ pub barrier-requires : goal.barrier-requires
 barrier-requires g c =
     let item : ItemId = record { group = c.args.group; item = 0 } in
     barrier_remembered c.lanes.result.now c.args.order.now.handled c.lanes.ensures.forgets item c.args.instance (λ p at there.
-    c.requires.fresh (
-      record { at = item; index = p },
-      record { group = refl; item = c.requires.convergent.1.0; place = ap (λ (s : Streams). place_of s is_barrier item c.args.instance) (sym c.lanes.ensures.taken) ∙ at },
-      there,
-    ))
+    c.requires.fresh (record { at = item; index = p }, record { group = refl; item = c.requires.convergent.1.0; place = rw (← c.lanes.ensures.taken) at }, there))

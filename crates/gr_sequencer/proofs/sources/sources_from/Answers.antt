@@ -1,7 +1,6 @@
-use Rattle.std.proofs.Common.{◌≡◌, ◌∙◌, ap, arith, length, take}
+use Rattle.std.proofs.Common.{◌≡◌, ap, arith, length, take}
 use Rattle.std.proofs.lemmas.List.{take_all}
 use Rattle.gr_model.specs.declared.event.Name.{Name}
-use Rattle.gr_sequencer.specs.Sources.{sources_in}
 use Rattle.gr_sequencer.proofs.Teaching.{next_names, sources_all, sources_more, sources_same}
 use Rattle.gr_sequencer.proofs.sources.sources_from.Goals as goal
 use Rattle.gr_sequencer.proofs.sources.sources_from.Goals.{in-Some, in_default}
@@ -11,8 +10,8 @@ loop-name-preserved g c =
     let blank : Name = record { at = record { group = 0; item = 0 }; release = 0 } in
     let more = next_names c.args.taken.now.names c.as_slice-names.result.now c.loop-name.name-index blank c.as_slice-names.ensures.names c.loop-name-test.true in
     elim c.match-source.branch [
-      | in-Some w ↦ rw (more, ap sources_in w.learned-is ∙ w.with.ensures) (sources_more _ _ _ _ _ c.loop-name.invariant w.in-Some.one.now w.in-Some.ensures)
-      | in_default w ↦ rw (more, ap sources_in w.learned-is) (sources_same _ _ _ _ _ c.loop-name.invariant w.in_default.ensures)
+      | in-Some w ↦ rw (more, w.learned-is, w.with.ensures) (sources_more _ _ _ _ _ c.loop-name.invariant w.in-Some.one.now w.in-Some.ensures)
+      | in_default w ↦ rw (more, w.learned-is) (sources_same _ _ _ _ _ c.loop-name.invariant w.in_default.ensures)
     ]
 
 pub returns : goal.returns

@@ -1,5 +1,5 @@
 use Rattle.std.proofs.Common.{Err, ap, arith, sym, ◌∙◌, ⊎_elim}
-use Rattle.gr_sequencer.proofs.EventSteps.{has_clock, learns_nothing_steps, sources_steps, sources_unspent, steps_true, unspent}
+use Rattle.gr_sequencer.proofs.EventSteps.{has_clock, learns_nothing_true, sources_true, sources_unspent, unspent}
 use Rattle.gr_sequencer.proofs.Teaching.{of_one_word}
 use Rattle.gr_sequencer.proofs.known.Known.advance.Goals as goal
 use Rattle.gr_sequencer.proofs.known.Known.advance.Goals.{in-None, in-Some, in-Ok, in-Err+in-Memory}
@@ -39,10 +39,10 @@ returns-clause-clocks g c =
           rw v.result-is (elim c.match-sources_of.branch [
             | in-None w ↦
                 let ticks = rw (sym w.answer-is ∙ v.in-Ok.is) at w.access-answer.ensures.ok in
-                rw w.self-inside-is (steps_true _ _ _ _ next w.access-answer.new.self (learns_nothing_steps _ _ _ _ next w.access-answer.new.self w.in-None.ensures ticks))
+                rw w.self-inside-is (learns_nothing_true _ _ _ _ next w.access-answer.new.self w.in-None.ensures ticks)
             | in-Some w ↦
                 let acquires = rw (sym w.answer-is ∙ v.in-Ok.is, w.as_slice.ensures) at w.acquire-answer.ensures.ok in
-                rw w.self-inside-is (steps_true _ _ _ _ next w.acquire-answer.new.self (sources_steps _ _ _ _ next w.in-Some.sources w.in-Some.ensures w.acquire-answer.new.self acquires))
+                rw w.self-inside-is (sources_true _ _ _ _ next w.in-Some.sources w.in-Some.ensures w.acquire-answer.new.self acquires)
           ])
       | in-Err+in-Memory v ↦ rw v.result-is tt
     ]

@@ -1,6 +1,5 @@
-use Rattle.gr_lanes.specs.Takes.{nothing_taken}
-use Rattle.gr_sequencer.proofs.KnownGrowth.{known_at_first}
+use Rattle.std.proofs.Common.{arith}
 use Rattle.gr_sequencer.proofs.known.Known.new.Goals as goal
 
 pub returns : goal.returns
-returns g c = known_at_first (nothing_taken c.args.shape.now) c.in-Ok.clocks c.new-2.result.entries (rw c.in-Ok.is at c.new.ensures.zero)
+returns g c = grind (arith, c.in-Ok.is, c.new.ensures.zero)
