@@ -36,9 +36,3 @@ sent_else h n [] apart = refl
 sent_else h n (e ∷ es) apart =
     let x : Sent = record { group = n; event = e } in
     events_append h (x ∷ []) (sent_by n es) ∙ (λ i. events_else h x (λ same. apart (sym same)) i ++ sent_else h n es apart i)
-
-pub none_sent : (g : ℕ) (es : List Event) → sent_by g es ≡ [] → es ≡ []
-none_sent g es none = sym (events_of_sent g es) ∙ ap events_in none
-
-pub same_events : (g h : ℕ) (es fs : List Event) → sent_by g es ≡ sent_by h fs → es ≡ fs
-same_events g h es fs same = sym (events_of_sent g es) ∙ ap events_in same ∙ events_of_sent h fs

@@ -1,5 +1,7 @@
 -- Prefixes of lists, and what a prefix of a work-group's stream says.
-use Rattle.std.proofs.Common.{arith, ◌≡◌, ◌≢◌, List, [], ◌∷◌, ◌++◌, refl, append-nil}
+use Rattle.std.proofs.Common.{arith, ◌≡◌, ◌≢◌, ℕ, List, [], ◌∷◌, ◌++◌, refl, subst, append-nil}
+use Rattle.gr_model.specs.declared.event.Event.{Event}
+use Rattle.gr_model.specs.Streams.{IsPrefix}
 use Rattle.gr_model.proofs.StreamPrefixes.{prefix_whole}
 use Rattle.gr_route.specs.Prefixes.{EndMakesAccepted, EndMakesWhole}
 
@@ -14,6 +16,9 @@ nil_back (x ∷ xs) ys e = absurd (cc)
 pub not_nil : {T : Type 0} (xs : List T) (y : T) (ys : List T) → xs ++ y ∷ ys ≢ []
 not_nil [] y ys e = cc
 not_nil (x ∷ xs) y ys e = cc
+
+pub prefix_as : {m n : ℕ} {xs ys : List Event} → m ≡ n → xs ≡ ys → IsPrefix m xs → IsPrefix n ys
+prefix_as size same p = subst (λ (y : ℕ × List Event). IsPrefix y.0 y.1) (λ i. (size i, same i)) p
 
 -- ---- laws
 

@@ -13,6 +13,11 @@ module _ {V : Type 0} where
   pub each_set : (F : ℕ → V → Type 0) (views : List V) (pass : ℕ) (w : V) → F pass w → ((j : ℕ) (u : V) → j ≢ pass → get_elem? views j ≡ some u → F j u) → Each F (set views pass w)
   each_set F views pass w mine others j u at = grind (arith, others j u, at_set views pass j w u)
 
+  -- where one view takes in another
+  pub each_merged : (F : ℕ → V → Type 0) (views : List V) (pass other : ℕ) (both spent : V) → F pass both → F other spent → ((j : ℕ) (u : V) → j ≢ pass → j ≢ other → get_elem? views j ≡ some u → F j u)
+      → Each F (set (set views pass both) other spent)
+  each_merged F views pass other both spent mine gone others j u at = grind (arith, others j u, at_set (set views pass both) other j spent u, at_set views pass j both u)
+
   pub each_one : (F : ℕ → V → Type 0) (w : V) → F 0 w → Each F (w ∷ [])
   each_one F w f zero u at = subst (λ y. F 0 y) (some-injective w u at) f
   each_one F w f (suc j) u at = absurd (some-ne-none u (sym at))
@@ -27,6 +32,9 @@ pub set_there : {V : Type 0} (views : List V) (pass : ℕ) (v w : V) → get_ele
 set_there [] pass v w at = absurd (some-ne-none v (sym at))
 set_there (x ∷ xs) zero v w at = refl
 set_there (x ∷ xs) (suc pass) v w at = set_there xs pass v w at
+
+pub there_before : {V : Type 0} (views : List V) (pass other : ℕ) (v w : V) → other ≢ pass → get_elem? (set views pass v) other ≡ some w → get_elem? views other ≡ some w
+there_before views pass other v w apart at = grind (arith, at_set views pass other v w at)
 
 -- a seat learns of what the queue holds that it agrees with what the seat knows
 pub agrees : {T V : Type 0} (holds : List T → List V → Type 0) (pass : ℕ) (v : V) → Learns holds pass v (AgreesWith holds v)

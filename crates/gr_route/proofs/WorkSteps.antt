@@ -1,22 +1,21 @@
 -- Each kind of step keeps the rule of a work queue, and what the steps tell a seat.
-use Rattle.std.proofs.Common.{arith, ◌≡◌, ◌≢◌, ℕ, Bool, false, List, [], ◌∷◌, ◌++◌, Option, length, set, sym, refl, ap, ◌∙◌, subst, ⊎_elim, append_assoc, append-nil, IsTrue, IsFalse}
+use Rattle.std.proofs.Common.{arith, ◌≡◌, ℕ, Bool, false, List, [], ◌∷◌, ◌++◌, Option, Some, length, set, sym, refl, ap, ◌∙◌, subst, append_assoc, append-nil, IsTrue, IsFalse}
 use Rattle.std.specs.Prelude.{IfSome}
 use Rattle.std.proofs.lemmas.Option.{IfSome_then}
 use mathlib.Core.Option as seat
-use lib.ListN.{get_elem?}
 use Rattle.crossbeam_queue.specs.Fifo as queue
 use Rattle.crossbeam_queue.specs.Passes.{IsSamePass, Pass, view}
-use Rattle.crossbeam_queue.proofs.Lists.{at_set}
 use Rattle.gr_route.specs.declared.work.Work.{Work}
 use Rattle.gr_route.specs.declared.work.Work.TheVariants.{Access, Stop}
 use Rattle.gr_route.specs.declared.work_rule.WorkView.{WorkView}
 use Rattle.gr_route.specs.Rooms.{AgreesWith}
 use Rattle.gr_route.specs.Batches.{all_of, front}
+use Rattle.gr_route.specs.Prefixes.{StartsWith}
 use Rattle.gr_route.specs.WorkRule.{BatchesAgree, FitsGiver, FitsWorker, Pops, Pushes, SeatsAgree, StopMakesWhole, StopsLast, after_join, after_split, first_view, giver_of, is_stopped, spent_view, worker_of}
 use Rattle.gr_route.specs.WorkSeats.{GiverTells, IsDelivery, IsWorkerPass, Worker, WorkerTells}
 use Rattle.gr_route.proofs.BatchLemmas.{all_of_push, front_left, front_of}
 use Rattle.gr_route.proofs.PrefixLemmas.{nil_back, nil_prefix, not_nil}
-use Rattle.gr_route.proofs.Views.{Each, agrees, each_one, each_set, each_snoc, held, none_holds, same_holder, set_there}
+use Rattle.gr_route.proofs.Views.{agrees, each_merged, each_one, each_set, each_snoc, none_holds, set_there, there_before}
 
 abbrev pub WorkerPass : Type 0 → Type 0
 WorkerPass A = Pass (List (Work A)) (WorkView A)
@@ -26,7 +25,7 @@ module _ {A : Type 0} where
 
   pub stops_push : (xs : List (Work A)) (x : Work A) → IsFalse (is_stopped xs) → StopsLast (xs ++ x ∷ [])
   stops_push [] x unstopped = ((λ _. refl), tt)
-  stops_push (Access y ∷ ys) x unstopped = ((λ e. none_holds e), stops_push ys x unstopped)
+  stops_push (Access y ∷ ys) x unstopped = (none_holds, stops_push ys x unstopped)
   stops_push (Stop ∷ ys) x unstopped = none_holds (sym unstopped)
 
   stops_prefix : (xs ys : List (Work A)) → StopsLast (xs ++ ys) → StopsLast xs
@@ -60,7 +59,7 @@ module _ {A : Type 0} where
     popped = [];
     queued = refl;
     stops = tt;
-    fits = each_one (Fits 0 seat.none [] []) first_view ((λ e. none_holds e), (λ _. (refl, refl, (λ _. (refl, refl, refl)), tt)));
+    fits = each_one (Fits 0 seat.none [] []) first_view (none_holds, (λ _. (refl, refl, (λ _. (refl, refl, refl)), tt)));
   }
 
   -- ---- a push
@@ -68,23 +67,25 @@ module _ {A : Type 0} where
   pub pushes_as : (n pass : ℕ) (v : WorkView A) (b : List (Work A)) → v ≡ giver_of v.pushed → StopsLast (v.pushed ++ b) → queue.Pushes BatchesAgree n pass v b (Pushes v b) × queue.Learns BatchesAgree pass v (AgreesWith BatchesAgree v)
   pushes_as n pass v b is stops = (
     (λ batches views room h at.
-        let mine = (h.fits pass v at).0 (ap (λ (u : WorkView A). u.pushes) is) in
+        let mine = (h.fits pass v at).0 (cc is) in
         let w : WorkView A = giver_of (v.pushed ++ b) in
-        let all : List (Work A) = h.sent ++ b in
-        let now : SeatsAgree (all_of batches ++ b) (set views pass w) = record {
-          worker = h.worker;
-          holder = h.holder;
-          sent = all;
-          popped = h.popped;
-          queued = sym (append_assoc h.popped (all_of batches) b) ∙ ap (λ k. k ++ b) h.queued;
-          stops = subst StopsLast (ap (λ k. k ++ b) mine.1) stops;
-          fits = each_set (Fits h.worker h.holder all h.popped) views pass w ((λ _. (mine.0, ap (λ k. k ++ b) mine.1)), (λ e. none_holds e))
-              (λ j u other there. let old = h.fits j u there in (
-                (λ p. absurd (other (same_holder (old.0 p).0 mine.0))),
-                (λ p. let q = old.1 p in (q.0, q.1, (λ f. held mine.0 (q.2 f).0), IfSome_then u.given q.3 (λ k t. held mine.0 t.0))),
-              ));
-        } in
-        (w, subst (λ (m : List (Work A)). SeatsAgree m (set views pass w)) (sym (all_of_push batches b)) now, refl)),
+        let all : List (Work A) = h.sent ++ b in (
+          w,
+          record {
+            worker = h.worker;
+            holder = h.holder;
+            sent = all;
+            popped = h.popped;
+            queued = grind (arith, all_of_push batches b, append_assoc h.popped (all_of batches) b, h.queued);
+            stops = subst StopsLast (ap (λ k. k ++ b) mine.1) stops;
+            fits = each_set (Fits h.worker h.holder all h.popped) views pass w ((λ _. (mine.0, ap (λ k. k ++ b) mine.1)), none_holds)
+                (λ j u other there. let old = h.fits j u there in (
+                  (λ p. grind (arith, old.0 p, mine.0, other)),
+                  (λ p. let q = old.1 p in (q.0, q.1, (λ f. absurd (cc (mine.0, (q.2 f).0))), IfSome_then u.given q.3 (λ k t. absurd (cc (mine.0, t.0))))),
+                ));
+          },
+          refl,
+        )),
     agrees BatchesAgree pass v,
   )
 
@@ -107,7 +108,7 @@ module _ {A : Type 0} where
   pub pops_as : (pass : ℕ) (v : WorkView A) (s : Bool) → v ≡ worker_of v.popped s v.given → queue.Pops BatchesAgree pass v (Pops v) × queue.Learns BatchesAgree pass v (AgreesWith BatchesAgree v)
   pops_as pass v s is = (
     (λ b batches views h at.
-        let mine = (h.fits pass v at).1 (ap (λ (u : WorkView A). u.pops) is) in
+        let mine = (h.fits pass v at).1 (cc is) in
         let w : WorkView A = worker_of (v.popped ++ b) v.split v.given in
         let now : SeatsAgree (all_of batches) (set views pass w) = record {
           worker = h.worker;
@@ -116,7 +117,7 @@ module _ {A : Type 0} where
           popped = h.popped ++ b;
           queued = append_assoc h.popped b (all_of batches) ∙ h.queued;
           stops = h.stops;
-          fits = each_set (Fits h.worker h.holder h.sent (h.popped ++ b)) views pass w ((λ e. none_holds e), (λ _. (mine.0, ap (λ k. k ++ b) mine.1, mine.2, mine.3)))
+          fits = each_set (Fits h.worker h.holder h.sent (h.popped ++ b)) views pass w (none_holds, (λ _. (mine.0, ap (λ k. k ++ b) mine.1, mine.2, mine.3)))
               (λ j u other there. let old = h.fits j u there in (old.0, (λ q. absurd (other ((old.1 q).0 ∙ sym mine.0)))));
         } in
         (w, now, (refl, (all_of batches, (set views pass w, pass, set_there views pass v w at, now))))),
@@ -127,8 +128,8 @@ module _ {A : Type 0} where
 
   pub splits_as : (pass : ℕ) (v : WorkView A) (s : Bool) → s ≡ false → v ≡ worker_of v.popped s v.given → queue.Forks BatchesAgree pass v (after_split v) (giver_of [])
   splits_as pass v s unsplit is items views h at =
-      let mine = (h.fits pass v at).1 (ap (λ (u : WorkView A). u.pops) is) in
-      let gone = mine.2 (ap (λ (u : WorkView A). u.split) is ∙ unsplit) in
+      let mine = (h.fits pass v at).1 (cc is) in
+      let gone = mine.2 (cc (is, unsplit)) in
       let vs : List (WorkView A) = set views pass (after_split v) in
       let F : ℕ → WorkView A → Type 0 = Fits h.worker (seat.some (length vs)) h.sent h.popped in
       record {
@@ -140,22 +141,17 @@ module _ {A : Type 0} where
         stops = h.stops;
         fits = each_snoc F vs (giver_of [])
             (each_set F views pass (after_split v)
-            ((λ e. none_holds e), (λ _. (mine.0, mine.1, (λ e. none_holds (sym e)), subst (λ o. IfSome o (λ all. (seat.some (length vs) ≡ seat.none) × (all ≡ h.sent))) (sym gone.2) tt)))
-            (λ j u other there. let old = h.fits j u there in ((λ q. held (old.0 q).0 gone.0), (λ q. absurd (other ((old.1 q).0 ∙ sym mine.0))))))
-            ((λ _. (refl, sym gone.1)), (λ e. none_holds e));
+            (none_holds, (λ _. (mine.0, mine.1, (λ e. none_holds (sym e)), subst (λ o. IfSome o (λ all. (seat.some (length vs) ≡ seat.none) × (all ≡ h.sent))) (sym gone.2) tt)))
+            (λ j u other there. let old = h.fits j u there in ((λ q. absurd (cc ((old.0 q).0, gone.0))), (λ q. absurd (other ((old.1 q).0 ∙ sym mine.0))))))
+            ((λ _. (refl, sym gone.1)), none_holds);
       }
 
   -- ---- a join
 
   pub joins_as : (pass : ℕ) (v : WorkView A) (s : Bool) (other : ℕ) (u : WorkView A) → v ≡ worker_of v.popped s v.given → u ≡ giver_of u.pushed → queue.Merges BatchesAgree pass v other u (after_join v u) spent_view
   joins_as pass v s other u is from items views h at two at' =
-      let mine = (h.fits pass v at).1 (ap (λ (y : WorkView A). y.pops) is) in
-      let was : get_elem? views other ≡ seat.some u = ⊎_elim (λ x. absurd (two x.0)) (λ x. x.1) (at_set views pass other (after_join v u) u at') in
-      let theirs = (h.fits other u was).0 (ap (λ (y : WorkView A). y.pushes) from) in
-      let F : ℕ → WorkView A → Type 0 = Fits h.worker seat.none h.sent h.popped in
-      let now : Each (λ j y. j ≢ other → F j y) (set views pass (after_join v u)) = each_set (λ j y. j ≢ other → F j y) views pass (after_join v u)
-      (λ _. ((λ e. none_holds e), (λ _. (mine.0, mine.1, (λ f. held theirs.0 (mine.2 f).0), (refl, theirs.1)))))
-      (λ j y diff there apart. let old = h.fits j y there in ((λ q. absurd (apart (same_holder (old.0 q).0 theirs.0))), (λ q. absurd (diff ((old.1 q).0 ∙ sym mine.0))))) in
+      let mine = (h.fits pass v at).1 (cc is) in
+      let theirs = (h.fits other u (there_before views pass other _ u two at')).0 (cc from) in
       record {
         worker = h.worker;
         holder = seat.none;
@@ -163,7 +159,9 @@ module _ {A : Type 0} where
         popped = h.popped;
         queued = h.queued;
         stops = h.stops;
-        fits = each_set F (set views pass (after_join v u)) other spent_view ((λ e. none_holds e), (λ e. none_holds e)) (λ j y apart there. now j y there apart);
+        fits = each_merged (Fits h.worker seat.none h.sent h.popped) views pass other (after_join v u) spent_view
+            (none_holds, (λ _. (mine.0, mine.1, (λ f. absurd (cc (theirs.0, (mine.2 f).0))), (refl, theirs.1)))) (none_holds, none_holds)
+            (λ j y mine' theirs' there. let old = h.fits j y there in ((λ q. grind (arith, old.0 q, theirs.0, theirs')), (λ q. absurd (mine' ((old.1 q).0 ∙ sym mine.0)))));
       }
 
   -- ---- the worker's seat, as contracts see it
@@ -192,34 +190,33 @@ module _ {A : Type 0} where
         prefix = IfSome_then v.given b.given (λ given e. ((r ++ items, e ∙ all), subst StopsLast (sym e) b.stops));
       }
 
+  -- of the giver's seat that was joined back
+  pub delivered_back : (w : Worker A) (all : List (Work A)) → w.given ≡ Some all → IsDelivery w → StartsWith all w.popped × StopsLast all
+  delivered_back w all is d = subst (λ o. IfSome o (λ l. StartsWith l w.popped × StopsLast l)) is d.prefix
+
   -- after the giver's seat was split off or joined back
   pub turned : (p q n : WorkerPass A) (s t u : Bool) (g : Option (List (Work A))) (r : List (Work A)) → IsWorkerPass p s r → IsSamePass p q → view q ≡ worker_of (view p).popped u g → u ≡ t → IsSamePass q n × (view n ≡ view q)
       → (batches : List (List (Work A))) × AgreesWith BatchesAgree (view q) batches → IsWorkerPass n t r
   turned p q n s t u g r is first now same then told = grind (arith, then.1, then.0.2, first.2, is.idle)
 
-  -- work is handed out of what was left, or of a batch where nothing was left: the seat before and after it, what was left before and after, and the work
-  pub record Hands (p q : WorkerPass A) (s : Bool) (r0 r1 b : List (Work A)) : Type 0 where
-    pub is : IsWorkerPass q s r1
-    pub now : seen q s r1 ≡ record (seen p s r0) { popped = front (view p).popped r0 ++ b }
+  -- work is handed out of what was left, or of a batch where nothing was left: the seat before it, the pass and what was left after it, and the work
+  pub record Hands (w : Worker A) (q : WorkerPass A) (s : Bool) (r b : List (Work A)) : Type 0 where
+    pub is : IsWorkerPass q s r
+    pub some : seen q s r ≡ record w { popped = w.popped ++ b }
+    pub delivery : IsDelivery (record w { popped = w.popped ++ b })
 
-  pub hands_left : (p : WorkerPass A) (s : Bool) (r0 r1 b : List (Work A)) → IsWorkerPass p s r0 → r0 ≡ b ++ r1 → Hands p p s r0 r1 b
-  hands_left p s r0 r1 b is first =
+  hands : (w : Worker A) (q : WorkerPass A) (s : Bool) (r b : List (Work A)) → IsWorkerPass q s r → seen q s r ≡ record w { popped = w.popped ++ b } → Hands w q s r b
+  hands w q s r b is some = record { is = is; some = some; delivery = subst IsDelivery some (delivery q s r is) }
+
+  pub hands_left : (w : Worker A) (p : WorkerPass A) (s : Bool) (r0 r1 b : List (Work A)) → IsWorkerPass p s r0 → seen p s r0 ≡ w → r0 ≡ b ++ r1 → Hands w p s r1 b
+  hands_left w p s r0 r1 b is was first =
       let old = front (view p).popped r0 in
-      let all = is.left ∙ ap (λ l. old ++ l) first ∙ sym (append_assoc old b r1) in
-      record {
-        is = record { idle = is.idle; known = is.known; left = front_left _ _ _ all; agrees = is.agrees };
-        now = ap (λ l. record (seen p s r0) { popped = l }) (front_of _ _ _ all);
-      }
+      let all : (view p).popped ≡ (old ++ b) ++ r1 = grind (arith, is.left, first, append_assoc old b r1) in
+      hands w p s r1 b record { idle = is.idle; known = is.known; left = front_left _ _ _ all; agrees = is.agrees } (grind (arith, was, front_of (view p).popped (old ++ b) r1 all))
 
-  pub hands_popped : (p q : WorkerPass A) (s : Bool) (r0 r1 b batch : List (Work A)) → IsWorkerPass p s r0 → r0 ≡ [] → batch ≡ b ++ r1 → IsSamePass p q → Pops (view p) batch (view q) → Hands p q s r0 r1 b
-  hands_popped p q s r0 r1 b batch is none first same told =
+  pub hands_popped : (w : Worker A) (p q : WorkerPass A) (s : Bool) (r0 r1 b batch : List (Work A)) → IsWorkerPass p s r0 → seen p s r0 ≡ w → r0 ≡ [] → batch ≡ b ++ r1 → IsSamePass p q → Pops (view p) batch (view q) → Hands w q s r1 b
+  hands_popped w p q s r0 r1 b batch is was none first same told =
       let old = front (view p).popped r0 in
-      let was : (view p).popped ≡ old = is.left ∙ ap (λ l. old ++ l) none ∙ append-nil old in
-      let all : (view q).popped ≡ (old ++ b) ++ r1 = ap (λ (u : WorkView A). u.popped) told.0 ∙ (λ i. was i ++ first i) ∙ sym (append_assoc old b r1) in
-      record {
-        is = record { idle = same.2 ∙ is.idle; known = cc (told.0, is.known); left = front_left _ _ _ all; agrees = told.1 };
-        now = λ i. record { queue = same.0 i; popped = front_of (view q).popped (old ++ b) r1 all i; split = s; given = (told.0 i).given };
-      }
-
-  pub handed : (p q : WorkerPass A) (s : Bool) (r0 r1 b : List (Work A)) (w : Worker A) → Hands p q s r0 r1 b → seen p s r0 ≡ w → seen q s r1 ≡ record w { popped = w.popped ++ b }
-  handed p q s r0 r1 b w h is = h.now ∙ ap (λ (u : Worker A). record u { popped = u.popped ++ b }) is
+      let all : (view q).popped ≡ (old ++ b) ++ r1 = grind (arith, told.0, is.left, none, first, append-nil old, append_assoc old b r1) in
+      let now : IsWorkerPass q s r1 = record { idle = same.2 ∙ is.idle; known = cc (told.0, is.known); left = front_left (view q).popped (old ++ b) r1 all; agrees = told.1 } in
+      hands w q s r1 b now (grind (arith, was, same, told.0, front_of (view q).popped (old ++ b) r1 all))

@@ -1,5 +1,4 @@
-use Rattle.std.proofs.Common.{ap, refl, rules}
-use Rattle.gr_route.specs.declared.intake_rule.IntakeView.{IntakeView}
+use Rattle.std.proofs.Common.{refl, rules}
 use Rattle.gr_route.specs.IntakeRule.{BatchesAgree}
 use Rattle.gr_route.proofs.PrefixLemmas.{end_makes_whole}
 use Rattle.gr_route.proofs.IntakeSteps.{delivered_last, delivery, joins_as, turned}
@@ -13,7 +12,7 @@ pub learn_as-requires-clause-rule : goal.learn_as-requires-clause-rule
 learn_as-requires-clause-rule g c = agrees BatchesAgree _ _
 
 pub invariant_of-taker : goal.invariant_of-taker
-invariant_of-taker g c = turned c.taker.inside.pass c.absorb.new.pass c.learn_as.new.pass _ _ _ _ _ c.taker.invariant refl c.absorb.ensures.queue c.absorb.ensures.rule (ap (λ (v : IntakeView). v.sizes) c.taker.invariant.known) c.learn_as.ensures.queue c.learn_as.ensures.rule
+invariant_of-taker g c = turned c.taker.inside.pass c.absorb.new.pass c.learn_as.new.pass _ _ _ _ _ c.taker.invariant refl c.absorb.ensures.queue c.absorb.ensures.rule (cc c.taker.invariant.known) c.learn_as.ensures.queue c.learn_as.ensures.rule
 
 pub returns-clause-delivery : goal.returns-clause-delivery
 returns-clause-delivery g c = delivery _ _ _ (invariant_of-taker g c)

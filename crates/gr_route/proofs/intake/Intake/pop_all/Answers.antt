@@ -1,21 +1,18 @@
-use Rattle.std.proofs.Common.{◌∙◌, ◌++◌, ap, rules, sym, append-nil}
-use Rattle.gr_route.specs.Batches.{sent_by}
-use Rattle.gr_route.proofs.IntakeSteps.{Hands, delivery, handed, hands_left, hands_popped, pops_as}
+use Rattle.std.proofs.Common.{arith, rules, append-nil}
+use Rattle.gr_route.proofs.IntakeSteps.{Hands, delivery, hands_left, hands_popped, pops_as}
 use Rattle.gr_route.proofs.intake.Intake.pop_all.Given.{Over}
 use Rattle.gr_route.proofs.intake.Intake.pop_all.Goals as goal
 
 -- ---- an event that was left
 
-left_over : (g : Over) (c : goal.After-new g) → Hands c.taker.inside.pass c.taker.inside.pass c.taker.inside.sizes.items c.taker.inside.rest c.next.new.self c.new.result
-left_over g c =
-    let batch = c.new.ensures ∙ ap (λ l. sent_by c.in-Some.sent.group l) c.one.ensures in
-    hands_left _ _ _ _ _ c.taker.invariant (c.in-Some.ensures.some ∙ ap (λ l. l ++ c.next.new.self) (sym batch))
+left_over : (g : Over) (c : goal.After-new g) → Hands c.args.taker.now c.taker.inside.pass c.taker.inside.sizes.items c.next.new.self c.new.result
+left_over g c = hands_left _ _ _ _ _ _ c.taker.invariant c.taker.view_is (grind (arith, c.in-Some.ensures.some, c.new.ensures, c.one.ensures))
 
 pub invariant_of-taker : goal.invariant_of-taker
 invariant_of-taker g c = (left_over g c).is
 
 pub returns-in-Some-clause-some : goal.returns-in-Some-clause-some
-returns-in-Some-clause-some g c = handed _ _ _ _ _ _ _ (left_over g c) c.taker.view_is
+returns-in-Some-clause-some g c = (left_over g c).some
 
 pub returns-in-Some-clause-delivery : goal.returns-in-Some-clause-delivery
 returns-in-Some-clause-delivery g c = delivery _ _ _ (left_over g c).is
@@ -28,16 +25,14 @@ pop_as-requires-clause-rule g c = pops_as _ _ _ c.taker.invariant.known
 pub returns-in_err-batch-clause-delivery : goal.returns-in_err-batch-clause-delivery
 returns-in_err-batch-clause-delivery g c = delivery c.pop_as.new.pass c.taker.inside.sizes.items c.next.new.self (search rules)
 
-all_of_it : (g : Over) (c : goal.In_ok-batch g) → Hands c.taker.inside.pass c.pop_as.new.pass c.taker.inside.sizes.items c.taker.inside.rest c.next.new.self c.in_ok-batch.batch
-all_of_it g c =
-    let none = c.in_default.ensures.none in
-    hands_popped _ _ _ _ _ _ _ c.taker.invariant none.0 (sym (append-nil c.in_ok-batch.batch) ∙ ap (λ l. c.in_ok-batch.batch ++ l) (sym none.1)) c.pop_as.ensures.queue c.in_ok-batch.ensures.rule
+all_of_it : (g : Over) (c : goal.In_ok-batch g) → Hands c.args.taker.now c.pop_as.new.pass c.taker.inside.sizes.items c.next.new.self c.in_ok-batch.batch
+all_of_it g c = hands_popped _ _ _ _ _ _ _ _ c.taker.invariant c.taker.view_is c.in_default.ensures.none.0 (grind (arith, c.in_default.ensures.none, append-nil c.in_ok-batch.batch)) c.pop_as.ensures.queue c.in_ok-batch.ensures.rule
 
 pub invariant_of-taker-2 : goal.invariant_of-taker-2
 invariant_of-taker-2 g c = (all_of_it g c).is
 
 pub returns-clause-some : goal.returns-clause-some
-returns-clause-some g c = handed _ _ _ _ _ _ _ (all_of_it g c) c.taker.view_is
+returns-clause-some g c = (all_of_it g c).some
 
 pub returns-clause-delivery : goal.returns-clause-delivery
 returns-clause-delivery g c = delivery _ _ _ (all_of_it g c).is

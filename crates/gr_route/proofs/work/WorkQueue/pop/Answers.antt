@@ -1,25 +1,24 @@
-use Rattle.std.proofs.Common.{[], ◌∷◌, rules, subst}
-use Rattle.gr_route.specs.WorkSeats.{IsDelivery}
-use Rattle.gr_route.proofs.WorkSteps.{Hands, delivery, handed, hands_left, hands_popped, pops_as, unstopped_before}
+use Rattle.std.proofs.Common.{[], ◌∷◌, rules}
+use Rattle.gr_route.proofs.WorkSteps.{Hands, delivery, hands_left, hands_popped, pops_as, unstopped_before}
 use Rattle.gr_route.proofs.work.WorkQueue.pop.Given.{Over}
 use Rattle.gr_route.proofs.work.WorkQueue.pop.Goals as goal
 
 -- ---- work that was left
 
-left_over : (g : Over) (c : goal.In-Some g) → Hands {A = g.row.A.Denot} c.worker.inside.pass c.worker.inside.pass c.worker.inside.split c.worker.inside.rest c.next.new.self (c.in-Some.work ∷ [])
-left_over g c = hands_left _ _ _ _ _ c.worker.invariant c.in-Some.ensures.some
+left_over : (g : Over) (c : goal.In-Some g) → Hands {A = g.row.A.Denot} c.args.worker.now c.worker.inside.pass c.worker.inside.split c.next.new.self (c.in-Some.work ∷ [])
+left_over g c = hands_left _ _ _ _ _ _ c.worker.invariant c.worker.view_is c.in-Some.ensures.some
 
 pub invariant_of-worker : goal.invariant_of-worker
 invariant_of-worker g c = (left_over g c).is
 
 pub returns-in-Some-clause-some : goal.returns-in-Some-clause-some
-returns-in-Some-clause-some g c = handed _ _ _ _ _ _ _ (left_over g c) c.worker.view_is
+returns-in-Some-clause-some g c = (left_over g c).some
 
 pub returns-in-Some-clause-delivery : goal.returns-in-Some-clause-delivery
 returns-in-Some-clause-delivery g c = delivery _ _ _ (left_over g c).is
 
 pub returns-in-Some-clause-next : goal.returns-in-Some-clause-next
-returns-in-Some-clause-next g c = unstopped_before _ _ (subst IsDelivery (returns-in-Some-clause-some g c) (returns-in-Some-clause-delivery g c)).stops
+returns-in-Some-clause-next g c = unstopped_before _ _ (left_over g c).delivery.stops
 
 -- ---- nothing was left
 
@@ -29,17 +28,17 @@ pop_as-requires-clause-rule g c = pops_as _ _ _ c.worker.invariant.known
 pub returns-in-None-clause-delivery : goal.returns-in-None-clause-delivery
 returns-in-None-clause-delivery g c = delivery c.pop_as.new.pass c.worker.inside.split c.next.new.self (search rules)
 
-first_of_batch : (g : Over) (c : goal.After-open g) → Hands {A = g.row.A.Denot} c.worker.inside.pass c.pop_as.new.pass c.worker.inside.split c.worker.inside.rest c.open.new.rest (c.open.result ∷ [])
-first_of_batch g c = hands_popped _ _ _ _ _ _ _ c.worker.invariant c.in_default.ensures.none.0 c.open.ensures c.pop_as.ensures.queue c.in-Some-pop_as.ensures.rule
+first_of_batch : (g : Over) (c : goal.After-open g) → Hands {A = g.row.A.Denot} c.args.worker.now c.pop_as.new.pass c.worker.inside.split c.open.new.rest (c.open.result ∷ [])
+first_of_batch g c = hands_popped _ _ _ _ _ _ _ _ c.worker.invariant c.worker.view_is c.in_default.ensures.none.0 c.open.ensures c.pop_as.ensures.queue c.in-Some-pop_as.ensures.rule
 
 pub invariant_of-worker-in-Some-pop_as : goal.invariant_of-worker-in-Some-pop_as
 invariant_of-worker-in-Some-pop_as g c = (first_of_batch g c).is
 
 pub returns-in-Some-pop_as-clause-some : goal.returns-in-Some-pop_as-clause-some
-returns-in-Some-pop_as-clause-some g c = handed _ _ _ _ _ _ _ (first_of_batch g c) c.worker.view_is
+returns-in-Some-pop_as-clause-some g c = (first_of_batch g c).some
 
 pub returns-in-Some-pop_as-clause-delivery : goal.returns-in-Some-pop_as-clause-delivery
 returns-in-Some-pop_as-clause-delivery g c = delivery _ _ _ (first_of_batch g c).is
 
 pub returns-in-Some-pop_as-clause-next : goal.returns-in-Some-pop_as-clause-next
-returns-in-Some-pop_as-clause-next g c = unstopped_before _ _ (subst IsDelivery (returns-in-Some-pop_as-clause-some g c) (returns-in-Some-pop_as-clause-delivery g c)).stops
+returns-in-Some-pop_as-clause-next g c = unstopped_before _ _ (first_of_batch g c).delivery.stops

@@ -1,6 +1,5 @@
-use Rattle.std.proofs.Common.{◌≡◌, true, sym, subst, refl}
-use Rattle.gr_route.specs.WorkRule.{BatchesAgree, giver_of}
-use Rattle.gr_route.specs.declared.work_rule.WorkView.{WorkView}
+use Rattle.std.proofs.Common.{true, refl}
+use Rattle.gr_route.specs.WorkRule.{BatchesAgree}
 use Rattle.gr_route.proofs.Views.{agrees}
 use Rattle.gr_route.proofs.WorkSteps.{splits_as, turned}
 use Rattle.gr_route.proofs.work.WorkQueue.split.Goals as goal
@@ -13,9 +12,3 @@ learn_as-requires-clause-rule g c = agrees BatchesAgree _ _
 
 pub invariant_of-worker : goal.invariant_of-worker
 invariant_of-worker g c = turned c.worker.inside.pass c.another-pass.new.pass c.learn_as.new.pass _ _ true _ _ c.worker.invariant c.another-pass.ensures.queue.0 c.another-pass.ensures.rule.0 refl c.learn_as.ensures.queue c.learn_as.ensures.rule
-
-pub invariant_of-result : goal.invariant_of-result
-invariant_of-result g c = record {
-  idle = c.another-pass.ensures.queue.1.1;
-  known = subst (λ (v : WorkView g.row.A.Denot). v ≡ giver_of v.pushed) (sym c.another-pass.ensures.rule.1) refl;
-}
