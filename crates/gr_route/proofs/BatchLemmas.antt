@@ -1,10 +1,9 @@
 -- Batches, and what is left of one.
 use Rattle.std.proofs.Common.{◌≡◌, ◌≢◌, ℕ, List, [], ◌∷◌, ◌++◌, refl, sym, ap, ◌∙◌, append_assoc, append-nil, length-append, arith}
+use Rattle.std.proofs.lemmas.Bool.Decides.{nat_tests}
 use Rattle.std.proofs.Math.Seq.{take-append_seam}
 use Rattle.gr_model.specs.declared.event.Event.{Event}
-use Rattle.gr_model.specs.declared.event.Sent.{Sent}
 use Rattle.gr_model.specs.Streams.{events_of}
-use Rattle.gr_model.proofs.Sending.{events_append, events_else, events_here}
 use Rattle.gr_route.specs.Batches.{all_of, front, sent_by}
 use Rattle.gr_route.specs.IntakeRule.{events_in}
 
@@ -27,12 +26,8 @@ events_of_sent g (e ∷ es) = ap (λ l. e ∷ l) (events_of_sent g es)
 
 pub sent_here : (n : ℕ) (es : List Event) → events_of n (sent_by n es) ≡ es
 sent_here n [] = refl
-sent_here n (e ∷ es) =
-    let x : Sent = record { group = n; event = e } in
-    events_append n (x ∷ []) (sent_by n es) ∙ (λ i. events_here x i ++ sent_here n es i)
+sent_here n (e ∷ es) = grind (arith, nat_tests, sent_here n es)
 
 pub sent_else : (h n : ℕ) (es : List Event) → h ≢ n → events_of h (sent_by n es) ≡ []
 sent_else h n [] apart = refl
-sent_else h n (e ∷ es) apart =
-    let x : Sent = record { group = n; event = e } in
-    events_append h (x ∷ []) (sent_by n es) ∙ (λ i. events_else h x (λ same. apart (sym same)) i ++ sent_else h n es apart i)
+sent_else h n (e ∷ es) apart = grind (arith, nat_tests, sent_else h n es apart)

@@ -1,10 +1,12 @@
 -- Each kind of step keeps the rule of an intake queue, and what the steps tell a seat.
-use Rattle.std.proofs.Common.{◌≡◌, ◌≢◌, ℕ, ◌<◌, List, [], ◌∷◌, ◌++◌, length, set, sym, refl, ap, ◌∙◌, subst, append_assoc, append-nil, arith}
+use Rattle.std.proofs.Common.{cond, eqb, eq-eqb, ne_eqb, ◌≡◌, ◌≢◌, ℕ, ◌<◌, List, [], ◌∷◌, ◌++◌, length, set, sym, refl, ap, ◌∙◌, subst, append_assoc, append-nil, arith}
 use Rattle.std.specs.Prelude.{slice_index}
 use Rattle.std.specs.List.{All}
 use Rattle.std.proofs.lemmas.List.{get_or-set_same, get_or-set_other}
 use Rattle.std.proofs.lemmas.List.Elements.{All-nil, All-contains, All-push, All-weaker, Contains-push}
+use mathlib.Core.Logic.{dite}
 use mathlib.Core.Option as seat
+use native.Mathlib.Decide.{ℕ_discrete}
 use Rattle.crossbeam_queue.specs.Fifo as queue
 use Rattle.crossbeam_queue.specs.Passes.{IsSamePass, Pass, view}
 use Rattle.gr_model.specs.declared.event.Event.{Event}
@@ -19,13 +21,19 @@ use Rattle.gr_route.specs.IntakeRule.{BatchesAgree, FitsJoined, FitsSeat, FitsTa
 use Rattle.gr_route.specs.IntakeSeats.{IsDelivered, IsDelivery, IsNextPopped, IsTakerPass, SeatTells, Taker, TakerTells}
 use Rattle.gr_route.specs.Rooms.{AgreesWith}
 use Rattle.gr_route.proofs.BatchLemmas.{all_of_push, events_of_sent, front_left, front_of, sent_else, sent_here}
-use Rattle.gr_route.proofs.PrefixLemmas.{nil_prefix, not_nil, prefix_as}
-use Rattle.gr_route.proofs.GroupLemmas.{by_place, changed, changes}
+use Rattle.gr_route.proofs.PrefixLemmas.{both_nil, prefix_as}
 use Rattle.gr_route.proofs.Sizes.{each_has_place}
-use Rattle.gr_route.proofs.Views.{agrees, each_one, each_set, each_snoc, none_holds, there_before, each_merged, same_holder, set_there}
+use Rattle.gr_route.proofs.Views.{agrees, each_one, each_set, each_snoc, none_holds, there_before, each_merged, set_there}
 
 abbrev Fits : (ℕ → seat.Option ℕ) → (ℕ → List Event) → (ℕ → ℕ) → ℕ → List Sent → ℕ → IntakeView → Type 0
 Fits holder sent size taker popped pass v = FitsSeat holder sent size pass v × FitsTaker holder sent size taker popped pass v
+
+-- a function with another value at one place
+abbrev changed : {A : Type 0} → (ℕ → A) → ℕ → A → ℕ → A
+changed f g x k = cond (eqb k g) x (f k)
+
+changes : {A : Type 0} (f : ℕ → A) (g : ℕ) (x : A) → (changed f g x g ≡ x) × ((k : ℕ) → k ≢ g → changed f g x k ≡ f k)
+changes f g x = (ap (λ b. cond b x (f g)) (eq-eqb g g refl), λ k other. ap (λ b. cond b x (f k)) (ne_eqb k g other))
 
 -- ---- a new queue
 
@@ -66,10 +74,10 @@ pushes_as n pass g items v es b is by grows = (
           size = h.size;
           popped = h.popped;
           queued = λ k. grind (arith, all_of_push batches b, append_assoc h.popped (all_of batches) b, events_append k (h.popped ++ all_of batches) b, h.queued k);
-          prefixes = λ k. by_place k v.group (λ same. rw same (prefix_as (cc) (cc) (grows (prefix_as (cc) (cc) (h.prefixes v.group))))) (λ apart. rw (other k apart) (h.prefixes k));
+          prefixes = λ k. dite (ℕ_discrete k v.group) (λ same. rw same (prefix_as (cc) (cc) (grows (prefix_as (cc) (cc) (h.prefixes v.group))))) (λ apart. rw (other k apart) (h.prefixes k));
           unseated = λ k none. grind (arith, h.unseated k none, other k, mine.0);
           fits = each_set (Fits h.holder sent h.size h.taker h.popped) views pass w ((λ _. (mine.0, here, mine.2)), none_holds) (λ j u apart there. let old = h.fits j u there in (
-            (λ q. grind (arith, old.0 q, other u.group, mine.0, same_holder)),
+            (λ q. grind (arith, old.0 q, other u.group, mine.0, apart)),
             (λ q. let o = old.1 q in (o.0, o.1, o.2, All-weaker (FitsJoined h.holder h.sent h.size) (FitsJoined h.holder sent h.size) (λ c t. grind (arith, t, other c.group, mine.0)) u.joined o.3)),
           ));
         },
@@ -103,7 +111,7 @@ taker_tells t items a =
 pub pops_as : (pass : ℕ) (v : IntakeView) (s : List ℕ) → v ≡ taker_of v.popped s v.joined → queue.Pops BatchesAgree pass v (Pops v) × queue.Learns BatchesAgree pass v (AgreesWith BatchesAgree v)
 pops_as pass v s is = (
   (λ b batches views h at.
-      let mine = (h.fits pass v at).1 (ap (λ (u : IntakeView). u.pops) is) in
+      let mine = (h.fits pass v at).1 (cc is) in
       let w : IntakeView = taker_of (v.popped ++ b) v.sizes v.joined in
       let now : SeatsAgree (all_of batches) (set views pass w) = record {
         taker = h.taker;
@@ -141,7 +149,7 @@ splits_as pass g n v s is within vacant some_items items views h at =
       size = size;
       popped = h.popped;
       queued = h.queued;
-      prefixes = λ k. by_place k g (λ same. rw (same, gone.1) (prefix_nil _)) (λ other. rw (sized.1 k other) (h.prefixes k));
+      prefixes = λ k. dite (ℕ_discrete k g) (λ same. rw (same, gone.1) (prefix_nil _)) (λ other. rw (sized.1 k other) (h.prefixes k));
       unseated = λ k none. grind (arith, none, h.unseated k, held.1 k, sized.1 k, sized.0, some_items);
       fits = each_snoc F vs (seat_of g n [])
           (each_set F views pass (after_split g n v) (
@@ -206,9 +214,9 @@ seen p s r = record { queue = p.table_id; popped = front (view p).popped r; size
 pub begun : (p : TakerPass) (s : List ℕ) (r : List Sent) → p.me.1 ≡ [] → view p ≡ first_view → s ≡ no_sizes → r ≡ [] → IsTakerPass p s r
 begun p s r idle is sizes none = record {
   idle = idle;
-  known = subst (λ (y : IntakeView × List ℕ). y.0 ≡ taker_of y.0.popped y.1 y.0.joined) (λ i. (sym is i, sym sizes i)) refl;
+  known = rw (is, sizes) refl;
   places = ap length sizes ∙ each_has_place;
-  left = front_left (view p).popped [] r (ap (λ (u : IntakeView). u.popped) is ∙ sym none);
+  left = front_left (view p).popped [] r (cc (is, none));
   agrees = ([], (first_view ∷ [], 0, ap seat.some (sym is), begins));
 }
 
@@ -221,8 +229,8 @@ delivery p s r is =
     let all : (g : ℕ) → events_of g (v.popped ++ is.agrees.0) ≡ events_of g t.popped ++ events_of g later = λ g.
     grind (arith, is.left, append_assoc t.popped r is.agrees.0, events_append g t.popped later) in
     record {
-      streams = λ g. prefix_prefix (slice_index s g) (events_of g t.popped) (events_of g later) (subst (IsPrefix (slice_index s g)) (all g) (b.streams g));
-      unseated = λ g none. nil_prefix (events_of g t.popped) (events_of g later) (sym (all g) ∙ b.unseated g none);
+      streams = λ g. prefix_prefix _ _ (events_of g later) (prefix_as refl (all g) (b.streams g));
+      unseated = λ g none. (both_nil (events_of g t.popped) (events_of g later) (sym (all g) ∙ b.unseated g none)).0;
       joined = All-weaker (λ j. (j.pushed ≡ events_of j.group (v.popped ++ is.agrees.0)) × (j.items ≡ slice_index s j.group)) (IsDelivered t)
           (λ j e. record {
             items = e.1;
@@ -244,7 +252,7 @@ next t x d =
     let e : events_of g (t.popped ++ x ∷ []) ≡ was ++ x.event ∷ [] = grind (arith, events_append g t.popped (x ∷ []), events_here x) in
     let all : IsPrefix size (was ++ x.event ∷ []) = subst (IsPrefix size) e (d.streams g) in
     record {
-      seated = λ none. not_nil was x.event [] (sym e ∙ d.unseated g none);
+      seated = λ none. absurd (cc (both_nil was (x.event ∷ []) (sym e ∙ d.unseated g none)).1);
       good = next_ok size was x.event [] all;
       unended = next_unended size was x.event [] all;
       room = next_room size was x.event [] all;

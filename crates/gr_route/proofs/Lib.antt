@@ -1,7 +1,6 @@
 pub mod BatchLemmas
 pub mod PrefixLemmas
 pub mod Sizes
-pub mod GroupLemmas
 pub mod IntakeSteps
 pub mod Views
 pub mod WorkSteps

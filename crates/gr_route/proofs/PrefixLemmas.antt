@@ -1,21 +1,13 @@
 -- Prefixes of lists, and what a prefix of a work-group's stream says.
-use Rattle.std.proofs.Common.{arith, ◌≡◌, ◌≢◌, ℕ, List, [], ◌∷◌, ◌++◌, refl, subst, append-nil}
+use Rattle.std.proofs.Common.{arith, ◌≡◌, ℕ, List, [], ◌∷◌, ◌++◌, refl, subst, append-nil}
 use Rattle.gr_model.specs.declared.event.Event.{Event}
 use Rattle.gr_model.specs.Streams.{IsPrefix}
 use Rattle.gr_model.proofs.StreamPrefixes.{prefix_whole}
 use Rattle.gr_route.specs.Prefixes.{EndMakesAccepted, EndMakesWhole}
 
-pub nil_prefix : {T : Type 0} (xs ys : List T) → xs ++ ys ≡ [] → xs ≡ []
-nil_prefix [] ys e = refl
-nil_prefix (x ∷ xs) ys e = absurd (cc)
-
-pub nil_back : {T : Type 0} (xs ys : List T) → xs ++ ys ≡ [] → ys ≡ []
-nil_back [] ys e = e
-nil_back (x ∷ xs) ys e = absurd (cc)
-
-pub not_nil : {T : Type 0} (xs : List T) (y : T) (ys : List T) → xs ++ y ∷ ys ≢ []
-not_nil [] y ys e = cc
-not_nil (x ∷ xs) y ys e = cc
+pub both_nil : {T : Type 0} (xs ys : List T) → xs ++ ys ≡ [] → (xs ≡ []) × (ys ≡ [])
+both_nil [] ys e = (refl, e)
+both_nil (x ∷ xs) ys e = absurd (cc)
 
 pub prefix_as : {m n : ℕ} {xs ys : List Event} → m ≡ n → xs ≡ ys → IsPrefix m xs → IsPrefix n ys
 prefix_as size same p = subst (λ (y : ℕ × List Event). IsPrefix y.0 y.1) (λ i. (size i, same i)) p

@@ -1,6 +1,6 @@
 -- What holds of each seat's view, where one view changes or one is added.
-use Rattle.std.proofs.Common.{arith, ◌≡◌, ◌≢◌, ℕ, zero, suc, false, true, true≢false, List, [], ◌∷◌, ◌++◌, length, set, sym, refl, ◌∙◌, subst}
-use mathlib.Core.Option.{Option, some, none, some-injective, some-ne-none}
+use Rattle.std.proofs.Common.{arith, ◌≡◌, ◌≢◌, ℕ, zero, suc, false, true, true≢false, List, [], ◌∷◌, ◌++◌, length, set, sym, refl, subst}
+use mathlib.Core.Option.{some, some-injective, some-ne-none}
 use lib.ListN.{get_elem?}
 use Rattle.crossbeam_queue.specs.Fifo.{Learns}
 use Rattle.crossbeam_queue.proofs.Lists.{at_set}
@@ -40,13 +40,5 @@ there_before views pass other v w apart at = grind (arith, at_set views pass oth
 pub agrees : {T V : Type 0} (holds : List T → List V → Type 0) (pass : ℕ) (v : V) → Learns holds pass v (AgreesWith holds v)
 agrees holds pass v items views h at = (views, pass, at, h)
 
--- of the number of the pass that holds a seat
-
 pub none_holds : {A : Type 0} → false ≡ true → A
 none_holds e = absurd (true≢false (sym e))
-
-pub same_holder : {a b : ℕ} {s : Option ℕ} → s ≡ some a → s ≡ some b → a ≡ b
-same_holder {a} {b} p q = some-injective a b (sym p ∙ q)
-
-pub held : {A : Type 0} {a : ℕ} {s : Option ℕ} → s ≡ some a → s ≡ none → A
-held {A} {a} p q = absurd (some-ne-none a (sym p ∙ q))

@@ -14,7 +14,7 @@ use Rattle.gr_route.specs.Prefixes.{StartsWith}
 use Rattle.gr_route.specs.WorkRule.{BatchesAgree, FitsGiver, FitsWorker, Pops, Pushes, SeatsAgree, StopMakesWhole, StopsLast, after_join, after_split, first_view, giver_of, is_stopped, spent_view, worker_of}
 use Rattle.gr_route.specs.WorkSeats.{GiverTells, IsDelivery, IsWorkerPass, Worker, WorkerTells}
 use Rattle.gr_route.proofs.BatchLemmas.{all_of_push, front_left, front_of}
-use Rattle.gr_route.proofs.PrefixLemmas.{nil_back, nil_prefix, not_nil}
+use Rattle.gr_route.proofs.PrefixLemmas.{both_nil}
 use Rattle.gr_route.proofs.Views.{agrees, each_merged, each_one, each_set, each_snoc, none_holds, set_there, there_before}
 
 abbrev pub WorkerPass : Type 0 → Type 0
@@ -30,18 +30,16 @@ module _ {A : Type 0} where
 
   stops_prefix : (xs ys : List (Work A)) → StopsLast (xs ++ ys) → StopsLast xs
   stops_prefix [] ys h = tt
-  stops_prefix (x ∷ xs) ys h = ((λ stop. nil_prefix xs ys (h.0 stop)), stops_prefix xs ys h.1)
+  stops_prefix (x ∷ xs) ys h = ((λ stop. (both_nil xs ys (h.0 stop)).0), stops_prefix xs ys h.1)
 
   none_after : (prefix rest : List (Work A)) → StopsLast (prefix ++ rest) → IsTrue (is_stopped prefix) → rest ≡ []
   none_after [] rest h stopped = none_holds stopped
   none_after (Access y ∷ xs) rest h stopped = none_after xs rest h.1 stopped
-  none_after (Stop ∷ xs) rest h stopped = nil_back xs rest (h.0 refl)
+  none_after (Stop ∷ xs) rest h stopped = (both_nil xs rest (h.0 refl)).1
 
   -- what comes last comes before no other
   pub unstopped_before : (xs : List (Work A)) (x : Work A) → StopsLast (xs ++ x ∷ []) → IsFalse (is_stopped xs)
-  unstopped_before [] x h = refl
-  unstopped_before (Access y ∷ xs) x h = unstopped_before xs x h.1
-  unstopped_before (Stop ∷ xs) x h = absurd (not_nil xs x [] (h.0 refl))
+  unstopped_before xs x h = grind (arith, none_after xs (x ∷ []) h)
 
   pub stop_makes_whole : StopMakesWhole A
   stop_makes_whole list prefix stops starts stopped = grind (arith, none_after prefix starts.0, starts.1, append-nil prefix)
@@ -173,7 +171,7 @@ module _ {A : Type 0} where
   begun p r idle is none = record {
     idle = idle;
     known = cc;
-    left = front_left (view p).popped [] r (ap (λ (u : WorkView A). u.popped) is ∙ sym none);
+    left = front_left (view p).popped [] r (cc (is, none));
     agrees = ([], (first_view ∷ [], 0, ap seat.some (sym is), begins));
   }
 
@@ -186,7 +184,7 @@ module _ {A : Type 0} where
       let all : v.popped ++ items ≡ a ++ (r ++ items) = ap (λ l. l ++ items) is.left ∙ append_assoc a r items in
       record {
         stops = stops_prefix a (r ++ items) (subst StopsLast all b.stops);
-        unsplit = λ f. nil_prefix a (r ++ items) (sym all ∙ b.unsplit f);
+        unsplit = λ f. (both_nil a (r ++ items) (sym all ∙ b.unsplit f)).0;
         prefix = IfSome_then v.given b.given (λ given e. ((r ++ items, e ∙ all), subst StopsLast (sym e) b.stops));
       }
 
