@@ -26,20 +26,12 @@ none_among = record { ascending = λ i j d lt below. absurd (omega (arith, below
 one_among : (seen : List (List ClockedAccess)) (given : List ClockedAccess) (v : Word) → (IsHitAmong seen v ⊎ IsHitIn given v) ↔ IsHitAmong (seen ++ given ∷ []) v
 one_among seen given v = (
   λ either. ⊎_elim
-      (λ (hit : IsHitAmong seen v). let lt = hit.1 in (
-        hit.0,
-        omega (arith, lt, length-append seen (given ∷ [])),
-        subst (λ (l : List ClockedAccess). IsHitIn l v) (sym (get_or_append_left seen (given ∷ []) [] hit.0 lt)) hit.2,
-      ))
-      (λ (hit : IsHitIn given v). (
-        length seen,
-        omega (arith, length-append seen (given ∷ [])),
-        subst (λ (l : List ClockedAccess). IsHitIn l v) (sym (get_or_push seen given [] (length seen) refl)) hit,
-      ))
+      (λ (hit : IsHitAmong seen v). let lt = hit.1 in (hit.0, omega (arith, lt, length-append seen (given ∷ [])), rw (get_or_append_left seen (given ∷ []) [] hit.0 lt) hit.2))
+      (λ (hit : IsHitIn given v). (length seen, omega (arith, length-append seen (given ∷ [])), rw (get_or_push seen given [] (length seen) refl) hit))
       either,
   λ hit. let lt = hit.1 in ⊎_elim
-      (λ (before : hit.0 < length seen). inl (hit.0, before, subst (λ (l : List ClockedAccess). IsHitIn l v) (get_or_append_left seen (given ∷ []) [] hit.0 before) hit.2))
-      (λ (after : length seen ≤ hit.0). inr (subst (λ (l : List ClockedAccess). IsHitIn l v) (get_or_push seen given [] hit.0 (omega (arith, lt, after, length-append seen (given ∷ [])))) hit.2))
+      (λ (before : hit.0 < length seen). inl (hit.0, before, rw (sym (get_or_append_left seen (given ∷ []) [] hit.0 before)) hit.2))
+      (λ (after : length seen ≤ hit.0). inr (rw (sym (get_or_push seen given [] hit.0 (omega (arith, lt, after, length-append seen (given ∷ []))))) hit.2))
       (cases_lt hit.0 (length seen)),
 )
 
@@ -65,7 +57,7 @@ module _ {A : Type 0} (config : Settings) (is : IsConfig config) (seq : Sequence
   given_is k lt = sym (whole.passed.2 k lt ∙ append-nil (get_or (given_of givers) k []))
 
   hit_here : (v : Word) (k : ℕ) → k < config.workers → (worker_number v config.workers == k) ≡ true → IsHitIn whole.passed.0 v ↔ IsHitIn (get_or (given_of givers) k []) v
-  hit_here v k lt mine = subst (λ (l : List ClockedAccess). IsHitIn whole.passed.0 v ↔ IsHitIn l v) (sym (given_is k lt))
+  hit_here v k lt mine = rw (given_is k lt)
       (IsHit-filter (λ (x : ClockedAccess). x.word) clashes (λ u. worker_number u config.workers == k) whole.passed.0 v mine)
 
   hit_among : (v : Word) → IsHitAmong (given_of givers) v ↔ IsHitIn whole.passed.0 v

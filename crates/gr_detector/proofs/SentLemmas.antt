@@ -1,5 +1,5 @@
 -- What was taken is what was sent, where all ends were popped.
-use Rattle.std.proofs.Common.{◌≡◌, ◌==◌, ℕ, suc, ◌<◌, ◌%◌, IsTrue, List, [], ◌∷◌, length, map, get_or, slice_get, sym, ap, ◌∙◌, subst, arith}
+use Rattle.std.proofs.Common.{◌≡◌, ◌==◌, ℕ, suc, ◌<◌, ◌%◌, IsTrue, List, [], ◌∷◌, length, map, get_or, sym, ap, ◌∙◌, arith}
 use Rattle.std.specs.Prelude.{All, filter}
 use Rattle.std.specs.List.{range_with_len}
 use Rattle.std.proofs.Math.Nat.{mod-lt}
@@ -39,12 +39,11 @@ module _ (config : Settings) (is : IsConfig config) (seq : Sequence) (sequence :
   pub taken_is_sent : (receipts : List Seat) → IsEachOnce (length seq.taken.sizes) receipts → ArePopped (pops_of takers) receipts → seq.taken ≡ sent_by seq.taken.sizes receipts
   taken_is_sent receipts once told =
       let n = length seq.taken.sizes in
-      let lists : seq.taken.lists ≡ map (λ g. sent_of g receipts) (range_with_len 0 n) = ext_get_or [] seq.taken.lists (map (λ g. sent_of g receipts) (range_with_len 0 n))
-      (sequence.prefixes.count ∙ sym (length-map-range_with_len (λ g. sent_of g receipts) 0 n))
-      (λ g lt.
+      let lists = ext_get_or [] seq.taken.lists (map (λ g. sent_of g receipts) (range_with_len 0 n)) (sequence.prefixes.count ∙ sym (length-map-range_with_len (λ g. sent_of g receipts) 0 n)) (λ g lt.
       let there : g < n = omega (arith, lt, sequence.prefixes.count) in
+      let whole : IsTrue (is_complete (popped_at (pops_of takers) g)) = rw (sym (popped_is g there)) (complete g there) in
       popped_is g there
-      ∙ (sent_is (pops_of takers) g receipts (subst (λ (l : List Event). IsTrue (is_complete l)) (popped_is g there) (complete g there)) told (once g there)
+      ∙ (sent_is (pops_of takers) g receipts whole told (once g there)
       ∙ sym (get_or-map-range_with_len (λ h. sent_of h receipts) 0 n g g [] there (omega arith)))) in
       λ k. record { sizes = seq.taken.sizes; lists = lists k }
 
@@ -52,6 +51,6 @@ module _ (config : Settings) (is : IsConfig config) (seq : Sequence) (sequence :
 pub are_here : (run : Run) (intakes : List TableId) (receipts : List Seat) → run.intakes ≡ intakes → length intakes ≡ run.config.queues → All (λ r. IsOfRun run r.group r.queue) receipts → AreHere intakes receipts
 are_here run intakes [] same count all = tt
 are_here run intakes (r ∷ receipts) same count all = (
-  ap (λ (l : List TableId). slice_get l (r.group % length intakes)) (sym same) ∙ (ap (λ n. slice_get run.intakes (r.group % n)) count ∙ (all 0 r (omega arith)).here),
+  rw (count, sym same) (all 0 r (omega arith)).here,
   are_here run intakes receipts same count (λ k d lt. all (suc k) d (omega (arith, lt))),
 )

@@ -1,8 +1,7 @@
 -- What a run is set up of, one queue, one sender and one worker after another.
-use Rattle.std.proofs.Common.{refl, ◌≡◌, ◌≢◌, ℕ, ◌+◌, ◌<◌, ◌%◌, List, [], ◌∷◌, ◌++◌, length, get_or, set, Some, slice_get, sym, ap, ◌∙◌, ⊎_elim, arith}
+use Rattle.std.proofs.Common.{refl, ◌⊎◌, ◌≡◌, ◌≢◌, ℕ, ◌+◌, ◌<◌, ◌%◌, List, [], ◌∷◌, ◌++◌, length, get_or, set, Some, slice_get, arith}
 use Rattle.std.proofs.Math.ListN.{get_or-eq_default}
 use Rattle.std.proofs.Math.Nat.{mod-lt}
-use Rattle.std.proofs.lemmas.Bool.{cases_eq}
 use Rattle.std.proofs.lemmas.Bool.Decides.{nat_tests}
 use Rattle.std.proofs.lemmas.List.{get_or-map, get_or-set_other, get_or-set_same, length-append, length-map, length-set}
 use Rattle.std.proofs.lemmas.Option.{slice_get-get_or}
@@ -33,10 +32,8 @@ open_more n sizes intakes senders s count each here g d lt = rows.each_push (IsO
 -- the queue that a group's events go to
 pub queue_at : (takers : List Taker) (intakes : List TableId) (n : ℕ) (d : Taker) → intakes_of takers ≡ intakes → 0 < length takers → slice_get intakes (n % length intakes) ≡ Some (get_or takers (n % length takers) d).queue
 queue_at takers intakes n d same some =
-    ap (λ (l : List TableId). slice_get l (n % length l)) (sym same)
-    ∙ (ap (λ m. slice_get (intakes_of takers) (n % m)) (length-map takers (λ (t : Taker). t.queue))
-    ∙ (slice_get-get_or (intakes_of takers) (n % length takers) d.queue (let lt = mod-lt n some in omega (arith, lt, length-map takers (λ (t : Taker). t.queue)))
-    ∙ ap Some (get_or-map (λ (t : Taker). t.queue) takers (n % length takers) d d.queue (mod-lt n some))))
+    let at = slice_get-get_or (intakes_of takers) (n % length takers) d.queue in
+    grind (arith, same, at, mod-lt n some, length-map takers (λ (t : Taker). t.queue), get_or-map (λ (t : Taker). t.queue) takers (n % length takers) d d.queue)
 
 -- a seat of a group with this size was split off
 abbrev pub seating : Taker → ℕ → ℕ → Taker
@@ -46,48 +43,33 @@ pub none_seated : (sizes : List ℕ) (takers : List Taker) → AreUnseated taker
 none_seated sizes takers un = grind (arith, un, each_has_place, none_has_size)
 
 module _ (n : ℕ) (sizes : List ℕ) (takers : List Taker) (was : AreSeatedBelow n sizes takers) (few : n < MOST_GROUPS) (some : 0 < length takers) (t : Taker) (at : t ≡ get_or takers (n % length takers) t) where
+  abbrev q : ℕ
+  q = n % length takers
+
+  abbrev s : Taker
+  s = seating t n (get_or sizes n 0)
+
   abbrev pub new : List Taker
-  new = set takers (n % length takers) (seating t n (get_or sizes n 0))
+  new = set takers q s
 
-  there : n % length takers < length takers
-  there = mod-lt n some
-
-  count : length new ≡ length takers
-  count = length-set takers (n % length takers) (seating t n (get_or sizes n 0))
+  -- the new seat is there, and each other as it was
+  each : (p : ℕ) (d : Taker) → p < length new → (p < length takers) × (length new ≡ length takers) × (((p ≡ q) × (get_or new p d ≡ s)) ⊎ ((p ≢ q) × (get_or new p d ≡ get_or takers p d)))
+  each p d lt = grind (arith, length-set takers q s, get_or-set_same takers q s d, get_or-set_other takers q p s d)
 
   wide_t : length t.sizes ≡ MOST_GROUPS
-  wide_t = ap (λ (u : Taker). length u.sizes) at ∙ was.wide (n % length takers) t there
-
-  -- of another group the seat is as before
-  size_else : (g v : ℕ) → g ≢ n → get_or (get_or takers (n % length takers) t).sizes g 0 ≡ v → get_or (set t.sizes n (get_or sizes n 0)) g 0 ≡ v
-  size_else g v apart is = get_or-set_other t.sizes n g (get_or sizes n 0) 0 apart ∙ (ap (λ (u : Taker). get_or u.sizes g 0) at ∙ is)
-
-  -- what is so of the new seat, and of each other as it was, is so of each
-  each : (P : ℕ → Taker → Type 0) → P (n % length takers) (seating t n (get_or sizes n 0)) → ((p : ℕ) (d : Taker) → p < length takers → p ≢ n % length takers → P p (get_or takers p d)) → (p : ℕ) (d : Taker) → p < length new → P p (get_or new p d)
-  each P here others p d lt = where_set (λ q u. q < length takers → P q u) takers (n % length takers) (seating t n (get_or sizes n 0)) d there (λ _. here) (λ q apart below. others q d below apart) p (omega (arith, lt, count))
+  wide_t = grind (arith, at, was.wide q t, mod-lt n some)
 
   pub seat_more : AreSeatedBelow (n + 1) sizes new
   seat_more = record {
-    wide = each (λ p u. length u.sizes ≡ MOST_GROUPS) (length-set t.sizes n (get_or sizes n 0) ∙ wide_t) (λ p d lt _. was.wide p d lt);
-    seated = λ p g d lt below mine. each (λ p u. g % length takers ≡ p → get_or u.sizes g 0 ≡ get_or sizes g 0)
-        (λ own. ⊎_elim
-        (λ (same : g ≡ n). ap (λ h. get_or (set t.sizes n (get_or sizes n 0)) h 0) same ∙ (get_or-set_same t.sizes n (get_or sizes n 0) 0 (omega (arith, few, wide_t)) ∙ ap (λ h. get_or sizes h 0) (sym same)))
-        (λ other. size_else g (get_or sizes g 0) other (was.seated (n % length takers) g t there (omega (arith, below, other)) own))
-        (cases_eq g n))
-        (λ q e within apart own. was.seated q g e within (let other : g ≢ n = λ same. apart (sym own ∙ ap (λ h. h % length takers) same) in omega (arith, below, other)) own)
-        p d lt (ap (λ m. g % m) (sym count) ∙ mine);
-    later = λ p g d lt after. each (λ p u. get_or u.sizes g 0 ≡ 0)
-        (size_else g 0 (λ same. omega (arith, after, same)) (was.later (n % length takers) g t there (omega (arith, after))))
-        (λ q e within _. was.later q g e within (omega (arith, after))) p d lt;
-    others = λ p g d lt not_mine. each (λ p u. g % length takers ≢ p → get_or u.sizes g 0 ≡ 0)
-        (λ not_own. size_else g 0 (λ same. not_own (ap (λ h. h % length takers) same)) (was.others (n % length takers) g t there not_own))
-        (λ q e within _ not_own. was.others q g e within not_own)
-        p d lt (λ same. not_mine (ap (λ m. g % m) count ∙ same));
+    wide = λ p d lt. grind (arith, each p d lt, was.wide p d, wide_t, length-set t.sizes n (get_or sizes n 0));
+    seated = λ p g d lt below mine. grind (arith, each p d lt, was.seated p g d, was.seated q g t, at, few, wide_t, get_or-set_same t.sizes n (get_or sizes n 0) 0, get_or-set_other t.sizes n g (get_or sizes n 0) 0);
+    later = λ p g d lt after. grind (arith, each p d lt, was.later p g d, was.later q g t, at, get_or-set_other t.sizes n g (get_or sizes n 0) 0);
+    others = λ p g d lt apart. grind (arith, each p d lt, was.others p g d, was.others q g t, at, get_or-set_other t.sizes n g (get_or sizes n 0) 0);
   }
 
   -- a group that has had no seat has none yet
   pub first : get_or t.sizes n 0 ≡ 0
-  first = ap (λ (u : Taker). get_or u.sizes n 0) at ∙ was.later (n % length takers) n t there (omega arith)
+  first = grind (arith, at, was.later q n t, mod-lt n some)
 
 -- all groups have had theirs
 pub all_seated : (config : Settings) (sizes : List ℕ) (takers : List Taker) → length takers ≡ config.queues → AreSeatedBelow (length sizes) sizes takers → AreSeated config sizes takers

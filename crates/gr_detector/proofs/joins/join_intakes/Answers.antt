@@ -3,10 +3,8 @@ use Rattle.std.specs.Vec.Iter.{into_iter_items}
 use Rattle.std.proofs.Math.Nat.{mod-lt}
 use Rattle.std.proofs.Math.Seq.{map-set_same}
 use Rattle.std.proofs.lemmas.List.{get_or-map, length-map, nil_from_length}
-use Rattle.std.proofs.lemmas.Option.{same_Some}
 use Rattle.gr_model.specs.declared.event.Event.{Event}
-use Rattle.gr_model.specs.declared.event.Sent.{Sent}
-use Rattle.gr_model.specs.Streams.{events_of, is_complete}
+use Rattle.gr_model.specs.Streams.{is_complete}
 use Rattle.gr_route.specs.IntakeSeats.{Seat, Taker, popped_of}
 use Rattle.gr_route.specs.Prefixes.{StartsWith}
 use Rattle.gr_sequencer_thread.specs.Feeds.{intakes_of}
@@ -25,19 +23,13 @@ loop-receipt-preserved g c =
     let items : into_iter_items c.loop-receipt.receipt-iterator ≡ r ∷ into_iter_items c.next.new.self = search rules in
     let group : c.from.result ≡ r.group = search rules in
     let seat : c.into_seat.result ≡ r = c.into_seat.ensures.seat in
-    let count : length inlets ≡ length init = sym (length-map inlets (λ (t : Taker). t.queue)) ∙ (ap length inv.0 ∙ length-map init (λ (t : Taker). t.queue)) in
+    let some : 0 < length inlets = grind (arith, c.requires.some, inv.0, length-map inlets (λ (t : Taker). t.queue), length-map init (λ (t : Taker). t.queue)) in
     let len : c.len.result ≡ length inlets = search rules in
-    let place : q ≡ c.from.result % length inlets = ap (λ n. c.from.result % n) len in
-    let lt : c.from.result % length inlets < length inlets = mod-lt c.from.result (omega (arith, c.requires.some, count)) in
-    let at : item ≡ get_or inlets (c.from.result % length inlets) item = c.index_mut.ensures.value ∙ ap (λ n. get_or inlets n item) place in
+    let at : item ≡ get_or inlets (r.group % length inlets) item = grind (arith, c.index_mut.ensures.value, len, group) in
     let here = subst (AreHere (intakes_of init)) items inv.2 in
     let popped : popped_at (pops_of init) r.group ≡ popped_of item c.into_seat.result.group =
-    ap (λ (l : List (List Sent)). popped_at l r.group) (sym inv.1)
-    ∙ (ap (λ n. events_of r.group (get_or (pops_of inlets) (r.group % n) [])) (length-map inlets (λ (t : Taker). t.popped))
-    ∙ (ap (λ n. events_of r.group (get_or (pops_of inlets) (n % length inlets) [])) (sym group)
-    ∙ (ap (events_of r.group) (get_or-map (λ (t : Taker). t.popped) inlets (c.from.result % length inlets) item [] lt)
-    ∙ (ap (λ (u : Taker). popped_of u r.group) (sym at)
-    ∙ ap (λ (s : Seat). popped_of item s.group) (sym seat))))) in
+    let there = get_or-map (λ (t : Taker). t.popped) inlets (r.group % length inlets) item [] (mod-lt r.group some) in
+    grind (arith, inv.1, length-map inlets (λ (t : Taker). t.popped), there, at, seat) in
     let pushed = ap (λ (s : Seat). s.pushed) seat in
     let mine : IsPopped (pops_of init) r = record {
       prefix = subst (λ (l : List Event). StartsWith r.pushed l) (sym popped) (subst (λ (l : List Event). StartsWith l (popped_of item c.into_seat.result.group)) pushed c.join_back.ensures.prefix);
@@ -68,11 +60,6 @@ join_back-requires g c =
     let item = c.index_mut.result.now in
     let r = c.in-Some.receipt in
     let here = subst (AreHere (intakes_of init)) c.in-Some.ensures.steps.0 inv.2 in
-    let count : length inlets ≡ length init = sym (length-map inlets (λ (t : Taker). t.queue)) ∙ (ap length inv.0 ∙ length-map init (λ (t : Taker). t.queue)) in
-    let some : 0 < length inlets = omega (arith, c.requires.some, count) in
+    let some : 0 < length inlets = grind (arith, c.requires.some, inv.0, length-map inlets (λ (t : Taker). t.queue), length-map init (λ (t : Taker). t.queue)) in
     let len : c.len.result ≡ length inlets = search rules in
-    let at : item ≡ get_or inlets (c.from.result % length inlets) item = c.index_mut.ensures.value ∙ ap (λ n. get_or inlets (c.from.result % n) item) len in
-    let group : c.from.result ≡ r.group = c.from.ensures ∙ c.group.ensures in
-    ap (λ (s : Seat). s.queue) c.into_seat.ensures.seat
-    ∙ (same_Some r.queue (get_or inlets (r.group % length inlets) item).queue (sym here.0 ∙ queue_at inlets (intakes_of init) r.group item inv.0 some)
-    ∙ (ap (λ n. (get_or inlets (n % length inlets) item).queue) (sym group) ∙ ap (λ (u : Taker). u.queue) (sym at)))
+    grind (arith, c.from.ensures, c.group.ensures, c.index_mut.ensures.value, len, c.into_seat.ensures.seat, here.0, queue_at inlets (intakes_of init) r.group item inv.0 some)

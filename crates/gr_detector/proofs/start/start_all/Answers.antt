@@ -8,8 +8,7 @@ loop-worker-preserved g c =
     let inv = c.loop-worker.invariant in
     let rest = into_iter_items c.next.new.self in
     let before = c.loop-worker.threads.items in (
-      ap (λ (l : List _). l ++ rest) (c.push_reserved.ensures.items ∙ ap (λ w. before ++ w ∷ []) c.in-Some-start_one.ensures)
-          ∙ (append_assoc before (c.in-Some.worker ∷ []) rest ∙ (ap (λ (l : List _). before ++ l) (sym c.in-Some.ensures.steps.0) ∙ inv.0)),
+      grind (arith, c.push_reserved.ensures.items, c.in-Some-start_one.ensures, append_assoc before (c.in-Some.worker ∷ []) rest, c.in-Some.ensures.steps.0, inv.0),
       omega (arith, inv.1, c.in-Some.ensures.steps.1, c.push_reserved.ensures.len),
       omega (arith, inv.2, c.push_reserved.ensures.capacity),
     )
@@ -34,4 +33,4 @@ pub returns-clause-all : goal.returns-clause-all
 returns-clause-all g c =
     let threads = c.loop-worker.threads.items in
     let over : into_iter_items c.loop-worker.worker-iterator ≡ [] = nil_from_length (into_iter_items c.loop-worker.worker-iterator) (sym c.loop-worker.worker-iterator.rest.ok.0 ∙ c.in-None.ensures.steps.0) in
-    sym (append-nil threads) ∙ (ap (λ (l : List _). threads ++ l) (sym over) ∙ c.loop-worker.invariant.0)
+    grind (arith, append-nil threads, over, c.loop-worker.invariant.0)

@@ -1,7 +1,6 @@
 use Rattle.std.proofs.Common.{◌≡◌, ◌∙◌, ◌++◌, ◌∷◌, [], List, append_assoc, append-nil, ap, arith, rules, sym, vec_len}
 use Rattle.std.proofs.lemmas.List.{map_push, nil_from_length}
 use Rattle.std.specs.Vec.Iter.{into_iter_items}
-use Rattle.atomic_table.specs.Seated.{TableId}
 use Rattle.gr_detector.specs.Runs.{worker_queues}
 use Rattle.gr_detector.proofs.stop.join_workers.Goals as goal
 
@@ -10,9 +9,9 @@ loop-worker-preserved g c =
     let inv = c.loop-worker.invariant in
     let rest = into_iter_items c.next.new.self in
     let before = c.loop-worker.ends.items in (
-      ap (λ (l : List _). worker_queues l ++ worker_queues rest) c.push_reserved.ensures.items
-          ∙ (ap (λ (l : List TableId). l ++ worker_queues rest) (map_push (λ w. w.queue) before c.join.result ∙ ap (λ (q : TableId). worker_queues before ++ q ∷ []) c.join.ensures)
-          ∙ (append_assoc (worker_queues before) (c.in-Some.worker.queue ∷ []) (worker_queues rest) ∙ (ap (λ l. worker_queues before ++ worker_queues l) (sym c.in-Some.ensures.steps.0) ∙ inv.0))),
+      let pushed = map_push (λ w. w.queue) before c.join.result in
+          let front = append_assoc (worker_queues before) (c.in-Some.worker.queue ∷ []) (worker_queues rest) in
+          grind (arith, c.push_reserved.ensures.items, pushed, c.join.ensures, front, c.in-Some.ensures.steps.0, inv.0),
       omega (arith, inv.1, c.in-Some.ensures.steps.1, c.push_reserved.ensures.len),
       omega (arith, inv.2, c.push_reserved.ensures.capacity),
     )
@@ -29,4 +28,4 @@ pub returns-clause-queues : goal.returns-clause-queues
 returns-clause-queues g c =
     let before = worker_queues c.loop-worker.ends.items in
     let over : into_iter_items c.loop-worker.worker-iterator ≡ [] = nil_from_length (into_iter_items c.loop-worker.worker-iterator) (sym c.loop-worker.worker-iterator.rest.ok.0 ∙ c.in-None.ensures.steps.0) in
-    sym (append-nil before) ∙ (ap (λ l. before ++ worker_queues l) (sym over) ∙ c.loop-worker.invariant.0)
+    grind (arith, append-nil before, over, c.loop-worker.invariant.0)
