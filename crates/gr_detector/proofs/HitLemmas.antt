@@ -1,6 +1,6 @@
 -- The words that are hit in what some worker was given, and that they are the races.
-use Rattle.std.proofs.Common.{◌≡◌, ◌⊎◌, ◌↔◌, ◌==◌, ℕ, ◌<◌, ◌≤◌, true, List, [], ◌∷◌, ◌++◌, length, get_or, Result, Ok, Err, refl, sym, ◌∙◌, subst, inl, inr, ⊎_elim, arith, append-nil, eq-eqb}
-use Rattle.std.specs.Prelude.{Contains, IfOk}
+use Rattle.std.proofs.Common.{◌≡◌, ◌⊎◌, ◌↔◌, ◌==◌, ℕ, ◌<◌, ◌≤◌, true, List, [], ◌∷◌, ◌++◌, length, get_or, refl, sym, ◌∙◌, subst, inl, inr, ⊎_elim, arith, append-nil, eq-eqb}
+use Rattle.std.specs.Prelude.{Contains}
 use Rattle.std.proofs.lemmas.Bool.{cases_lt}
 use Rattle.std.proofs.lemmas.List.{get_or_append_left, get_or_push, length-append, length-map}
 use Rattle.gr_model.specs.declared.event.Word.{Word}
@@ -35,15 +35,11 @@ one_among seen given v = (
       (cases_lt hit.0 (length seen)),
 )
 
-both_are : (old more : List Word) (seen : List (List ClockedAccess)) (given : List ClockedAccess) (new : List Word) → Lists WordBelow (λ w. Contains old w ⊎ Contains more w) new → Lists WordBelow (IsHitAmong seen) old → Lists WordBelow (IsHitIn given) more → Lists WordBelow (IsHitAmong (seen ++ given ∷ [])) new
+pub both_are : (old more : List Word) (seen : List (List ClockedAccess)) (given : List ClockedAccess) (new : List Word) → Lists WordBelow (λ w. Contains old w ⊎ Contains more w) new → Lists WordBelow (IsHitAmong seen) old → Lists WordBelow (IsHitIn given) more → Lists WordBelow (IsHitAmong (seen ++ given ∷ [])) new
 both_are old more seen given new both first second = lists_as new both (λ v. (
   λ has. (one_among seen given v).0 (⊎_elim (λ a. inl ((first.exact v).0 a)) (λ b. inr ((second.exact v).0 b)) has),
   λ hit. ⊎_elim (λ a. inl ((first.exact v).1 a)) (λ b. inr ((second.exact v).1 b)) ((one_among seen given v).1 hit),
 ))
-
-pub merged : {T E : Type 0} (items : T → List Word) (result : Result T E) (old more : List Word) (seen : List (List ClockedAccess)) (given : List ClockedAccess) → IfOk result (λ v. Lists WordBelow (λ w. Contains old w ⊎ Contains more w) (items v)) → Lists WordBelow (IsHitAmong seen) old → Lists WordBelow (IsHitIn given) more → IfOk result (λ v. Lists WordBelow (IsHitAmong (seen ++ given ∷ [])) (items v))
-merged items (Ok v) old more seen given both first second = both_are old more seen given (items v) both first second
-merged items (Err e) old more seen given both first second = tt
 
 -- ---- the races
 

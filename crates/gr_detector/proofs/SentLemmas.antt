@@ -27,14 +27,11 @@ popped_here [] q g lt events h = absurd (omega (arith, lt))
 popped_here (t ∷ ts) q g lt events h = h t ∙ ap (events_of g) (sym (get_or-map (λ (u : Taker). u.popped) (t ∷ ts) q t [] lt))
 
 module _ (config : Settings) (is : IsConfig config) (seq : Sequence) (sequence : IsSequence seq) (complete : AreComplete seq.taken) (takers : List Taker) (queues : length takers ≡ config.queues) (taken : AreTaken config seq.taken takers) where
-  pops_count : length (pops_of takers) ≡ config.queues
-  pops_count = length-map takers (λ (t : Taker). t.popped) ∙ queues
-
   popped_is : (g : ℕ) → g < length seq.taken.sizes → list_of seq.taken g ≡ popped_at (pops_of takers) g
   popped_is g there =
       let below = mod-lt g (let some = is.queues.0 in let pos : 0 < config.queues = omega (arith, some) in pos) in
-      popped_here takers (g % config.queues) g (omega (arith, below, queues)) (list_of seq.taken g) (λ d. taken g d there)
-      ∙ ap (λ n. events_of g (get_or (pops_of takers) (g % n) [])) (sym pops_count)
+      let here = popped_here takers (g % config.queues) g (omega (arith, below, queues)) (list_of seq.taken g) (λ d. taken g d there) in
+      grind (arith, here, queues, length-map takers (λ (t : Taker). t.popped))
 
   pub taken_is_sent : (receipts : List Seat) → IsEachOnce (length seq.taken.sizes) receipts → ArePopped (pops_of takers) receipts → seq.taken ≡ sent_by seq.taken.sizes receipts
   taken_is_sent receipts once told =

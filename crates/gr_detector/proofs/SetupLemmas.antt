@@ -3,27 +3,17 @@ use Rattle.std.proofs.Common.{refl, ◌⊎◌, ◌≡◌, ◌≢◌, ℕ, ◌+�
 use Rattle.std.proofs.Math.ListN.{get_or-eq_default}
 use Rattle.std.proofs.Math.Nat.{mod-lt}
 use Rattle.std.proofs.lemmas.Bool.Decides.{nat_tests}
-use Rattle.std.proofs.lemmas.List.{get_or-map, get_or-set_other, get_or-set_same, length-append, length-map, length-set}
+use Rattle.std.proofs.lemmas.List.{get_or-map, get_or-set_other, get_or-set_same, length-map, length-set}
 use Rattle.std.proofs.lemmas.Option.{slice_get-get_or}
 use Rattle.atomic_table.specs.Seated.{TableId}
 use Rattle.gr_model.specs.declared.limits.TheConstants.{MOST_GROUPS}
 use Rattle.gr_model.specs.Configs.{Settings}
 use Rattle.gr_clocks.proofs.RowLemmas as rows
-use Rattle.gr_route.proofs.Sizes.{each_has_place, none_has_size}
 use Rattle.gr_route.specs.IntakeSeats.{Taker}
 use Rattle.gr_threads.specs.Senders.{Sending}
-use Rattle.gr_sequencer_thread.proofs.Changes.{where_set}
 use Rattle.gr_sequencer_thread.specs.Feeds.{AreSeated, intakes_of}
 use Rattle.gr_detector.specs.Runs.{AreSendersOf, Run}
-use Rattle.gr_detector.specs.Setups.{AreOpenBelow, AreSeatedBelow, AreUnseated, IsOpenSender}
-
--- what is so of each element is so of each where one more is, of which it is so
-pub each_more : {X : Type 0} (P : X → Type 0) (xs : List X) (x : X) → ((k : ℕ) (d : X) → k < length xs → P (get_or xs k d)) → P x → (k : ℕ) (d : X) → k < length (xs ++ x ∷ []) → P (get_or (xs ++ x ∷ []) k d)
-each_more P xs x each here k d lt = rows.each_push (λ _ y. P y) d xs (xs ++ x ∷ []) x (length xs) refl (λ j. each j d) here refl k (omega (arith, lt, length-append xs (x ∷ [])))
-
--- and where one element was replaced by one of which it is so
-pub each_set : {X : Type 0} (P : X → Type 0) (xs : List X) (i : ℕ) (x : X) → ((k : ℕ) (d : X) → k < length xs → P (get_or xs k d)) → P x → i < length xs → (k : ℕ) (d : X) → k < length (set xs i x) → P (get_or (set xs i x) k d)
-each_set P xs i x each here there k d lt = where_set (λ j y. j < length xs → P y) xs i x d there (λ _. here) (λ j _. each j d) k (omega (arith, lt, length-set xs i x))
+use Rattle.gr_detector.specs.Setups.{AreOpenBelow, AreSeatedBelow, IsOpenSender}
 
 -- one sender more
 pub open_more : (n : ℕ) (sizes : List ℕ) (intakes : List TableId) (senders : List Sending) (s : Sending) → length senders ≡ n → AreOpenBelow n sizes intakes senders → IsOpenSender sizes intakes n s → AreOpenBelow (n + 1) sizes intakes (senders ++ s ∷ [])
@@ -38,9 +28,6 @@ queue_at takers intakes n d same some =
 -- a seat of a group with this size was split off
 abbrev pub seating : Taker → ℕ → ℕ → Taker
 seating t g n = record { queue = t.queue; popped = t.popped; sizes = set t.sizes g n; joined = t.joined }
-
-pub none_seated : (sizes : List ℕ) (takers : List Taker) → AreUnseated takers → AreSeatedBelow 0 sizes takers
-none_seated sizes takers un = grind (arith, un, each_has_place, none_has_size)
 
 module _ (n : ℕ) (sizes : List ℕ) (takers : List Taker) (was : AreSeatedBelow n sizes takers) (few : n < MOST_GROUPS) (some : 0 < length takers) (t : Taker) (at : t ≡ get_or takers (n % length takers) t) where
   abbrev q : ℕ

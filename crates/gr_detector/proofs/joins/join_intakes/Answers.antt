@@ -1,12 +1,9 @@
-use Rattle.std.proofs.Common.{◌≡◌, ◌∙◌, ◌<◌, ◌%◌, ◌∷◌, [], List, IsTrue, refl, rules, arith, ap, sym, subst, get_or, length}
+use Rattle.std.proofs.Common.{◌≡◌, ◌∙◌, ◌<◌, ◌%◌, ◌∷◌, [], refl, rules, arith, ap, sym, subst, get_or, length}
 use Rattle.std.specs.Vec.Iter.{into_iter_items}
 use Rattle.std.proofs.Math.Nat.{mod-lt}
 use Rattle.std.proofs.Math.Seq.{map-set_same}
 use Rattle.std.proofs.lemmas.List.{get_or-map, length-map, nil_from_length}
-use Rattle.gr_model.specs.declared.event.Event.{Event}
-use Rattle.gr_model.specs.Streams.{is_complete}
 use Rattle.gr_route.specs.IntakeSeats.{Seat, Taker, popped_of}
-use Rattle.gr_route.specs.Prefixes.{StartsWith}
 use Rattle.gr_sequencer_thread.specs.Feeds.{intakes_of}
 use Rattle.gr_detector.specs.Settling.{AreHere, ArePopped, IsPopped, popped_at, pops_of}
 use Rattle.gr_detector.proofs.SetupLemmas.{queue_at}
@@ -31,10 +28,8 @@ loop-receipt-preserved g c =
     let there = get_or-map (λ (t : Taker). t.popped) inlets (r.group % length inlets) item [] (mod-lt r.group some) in
     grind (arith, inv.1, length-map inlets (λ (t : Taker). t.popped), there, at, seat) in
     let pushed = ap (λ (s : Seat). s.pushed) seat in
-    let mine : IsPopped (pops_of init) r = record {
-      prefix = subst (λ (l : List Event). StartsWith r.pushed l) (sym popped) (subst (λ (l : List Event). StartsWith l (popped_of item c.into_seat.result.group)) pushed c.join_back.ensures.prefix);
-      whole = λ whole. popped ∙ (c.join_back.ensures.whole (subst (λ (l : List Event). IsTrue (is_complete l)) popped whole) ∙ pushed);
-    } in (
+    let back = c.join_back.ensures in
+    let mine : IsPopped (pops_of init) r = record { prefix = (back.prefix.0, grind (arith, popped, pushed, back.prefix.1)); whole = grind (arith, popped, pushed, back.whole) } in (
       map-set_same (λ (t : Taker). t.queue) inlets q c.join_back.new.self item (c.join_back.ensures.same.0 ∙ ap (λ (t : Taker). t.queue) c.index_mut.ensures.value) ∙ inv.0,
       map-set_same (λ (t : Taker). t.popped) inlets q c.join_back.new.self item (c.join_back.ensures.same.1 ∙ ap (λ (t : Taker). t.popped) c.index_mut.ensures.value) ∙ inv.1,
       here.1,

@@ -1,20 +1,19 @@
-use Rattle.std.proofs.Common.{◌≡◌, ◌∙◌, ◌<◌, ◌%◌, ◌+◌, ◌++◌, ◌∷◌, [], Some, rules, arith, refl, ap, sym, subst, length, get_or, set}
+use Rattle.std.proofs.Common.{◌≡◌, ◌∙◌, ◌<◌, ◌%◌, ◌++◌, ◌∷◌, [], rules, arith, refl, ap, length, get_or}
 use Rattle.std.proofs.Math.Nat.{mod-lt}
 use Rattle.std.proofs.Math.Seq.{map-set_same}
-use Rattle.std.proofs.lemmas.List.{length-append, length-map}
+use Rattle.std.proofs.lemmas.List.{get_or-set_other, get_or-set_same, length-append, length-map, length-set}
 use Rattle.gr_model.specs.declared.limits.TheConstants.{MOST_GROUPS, MOST_RECORDS}
 use Rattle.gr_route.specs.IntakeSeats.{Taker}
-use Rattle.gr_threads.specs.Senders.{Sending}
+use Rattle.gr_route.proofs.Sizes.{each_has_place, none_has_size}
 use Rattle.gr_sequencer_thread.specs.Feeds.{intakes_of}
-use Rattle.gr_detector.specs.Setups.{AreOpenBelow, AreSeatedBelow}
-use Rattle.gr_detector.proofs.SetupLemmas.{each_set, none_seated, open_more, queue_at, seat_more, seating}
+use Rattle.gr_detector.proofs.SetupLemmas.{open_more, queue_at, seat_more, seating}
 use Rattle.gr_detector.proofs.setup.senders_of.Goals as goal
 
 pub loop-group-init : goal.loop-group-init
 loop-group-init g c = record {
   intakes = refl;
   unpopped = c.requires.unpopped;
-  seated = none_seated c.args.shape.now c.args.inlets.now.items c.requires.unseated;
+  seated = grind (arith, c.requires.unseated, each_has_place, none_has_size);
   count = ap length c.new-senders.ensures.items;
   opened = λ h d lt. absurd (omega (arith, lt));
 }
@@ -34,9 +33,9 @@ loop-group-preserved g c =
     let place : q ≡ n % length inlets = ap (λ m. m % c.len.result) from ∙ ap (λ l. n % l) len in
     let is : t ≡ get_or inlets q t = c.index_mut.ensures.value in
     let at : t ≡ get_or inlets (n % length inlets) t = is ∙ ap (λ m. get_or inlets m t) place in
-    let count : length inlets ≡ length init = sym (length-map inlets (λ (u : Taker). u.queue)) ∙ (ap length inv.intakes ∙ length-map init (λ (u : Taker). u.queue)) in
+    let count : length inlets ≡ length init = grind (arith, inv.intakes, length-map inlets (λ (u : Taker). u.queue), length-map init (λ (u : Taker). u.queue)) in
     let some : 0 < length inlets = omega (arith, c.requires.some, count) in
-    let there : q < length inlets = subst (λ m. m < length inlets) (sym place) (mod-lt n some) in
+    let there : q < length inlets = rw place (mod-lt n some) in
     let few : n < MOST_GROUPS = omega (arith, c.loop-group-test.true, c.groups-group-end.ensures.count, c.groups-group-end.ensures.shape.groups) in
     let made : c.sender.new.self ≡ seating t n (get_or sizes n 0) = (let raw : c.sender.new.self ≡ seating t n c.items.result = search rules in raw) ∙ ap (seating t n) c.items.ensures.size in
     let pushed : c.push.new.self.items ≡ c.loop-group.senders.items ++ s ∷ [] = c.in_ok-push.ensures.items in
@@ -44,16 +43,8 @@ loop-group-preserved g c =
     let queue : s.queue.queue ≡ t.queue = search rules in
     record {
       intakes = map-set_same (λ (u : Taker). u.queue) inlets q c.sender.new.self t (ap (λ (u : Taker). u.queue) (made ∙ refl) ∙ ap (λ (u : Taker). u.queue) is) ∙ inv.intakes;
-      unpopped = each_set (λ (u : Taker). u.popped ≡ []) inlets q c.sender.new.self inv.unpopped (ap (λ (u : Taker). u.popped) made ∙ (ap (λ (u : Taker). u.popped) is ∙ inv.unpopped q t there)) there;
-      seated = subst (λ (u : Taker). AreSeatedBelow (n + 1) sizes (set inlets q u)) (sym made)
-          (subst (λ m. AreSeatedBelow (n + 1) sizes (set inlets m (seating t n (get_or sizes n 0)))) (sym place) (seat_more n sizes inlets inv.seated few some t at));
+      unpopped = λ p d lt. grind (arith, get_or-set_same inlets q c.sender.new.self d there, get_or-set_other inlets q p c.sender.new.self d, length-set inlets q c.sender.new.self, made, is, inv.unpopped q t there, inv.unpopped p d);
+      seated = rw (made, place) (seat_more n sizes inlets inv.seated few some t at);
       count = omega (arith, ap length pushed, length-append c.loop-group.senders.items (s ∷ []), inv.count);
-      opened = subst (AreOpenBelow (n + 1) sizes (intakes_of init)) (sym pushed)
-          (open_more n sizes (intakes_of init) c.loop-group.senders.items s inv.count inv.opened (record {
-            group = ap (λ (u : Sending). u.group) made_sender;
-            items = ap (λ (u : Sending). u.items) made_sender ∙ c.items.ensures.size;
-            records = ap (λ (u : Sending). u.records) made_sender;
-            sent = ap (λ (u : Sending). u.sent) made_sender;
-            here = queue_at inlets (intakes_of init) n t inv.intakes some ∙ ap Some (ap (λ (u : Taker). u.queue) (sym at) ∙ sym queue);
-          }));
+      opened = rw pushed (open_more n sizes (intakes_of init) c.loop-group.senders.items s inv.count inv.opened (grind (arith, made_sender, c.items.ensures.size, queue_at inlets (intakes_of init) n t inv.intakes some, at, queue)));
     }

@@ -1,9 +1,8 @@
-use Rattle.std.proofs.Common.{◌≡◌, ◌∙◌, arith, ap, sym, subst, length}
+use Rattle.std.proofs.Common.{◌≡◌, ◌∙◌, arith, ap, sym, length}
 use Rattle.std.proofs.lemmas.List.{length-map}
 use Rattle.gr_route.specs.IntakeSeats.{Taker}
 use Rattle.gr_sequencer_thread.specs.Ends.{Begin}
 use Rattle.gr_sequencer_thread.specs.Feeds.{intakes_of, works_of}
-use Rattle.gr_detector.specs.Runs.{AreSendersOf, run_of}
 use Rattle.gr_detector.proofs.SetupLemmas.{all_seated, senders_are}
 use Rattle.gr_detector.proofs.start.set_up.Goals as goal
 
@@ -27,7 +26,7 @@ returns-clause-senders g c =
     let now = c.senders_of.new.inlets.items in
     let queues : intakes_of now ≡ intakes_of was = c.in_ok-senders.ensures.queues in
     let count : length (intakes_of was) ≡ c.args.config.queues = length-map was (λ (t : Taker). t.queue) ∙ c.in_ok-inlets.ensures.count in
-    subst (λ (b : Begin g.row.A.Denot). AreSendersOf (run_of b) c.in_ok-senders.senders.items) (sym c.new-begin.ensures)
+    rw c.new-begin.ensures
     (senders_are (record { config = c.args.config; sizes = c.args.shape; intakes = intakes_of now }) (intakes_of was) c.in_ok-senders.senders.items queues count c.in_ok-senders.ensures.count c.in_ok-senders.ensures.senders)
 
 pub returns-clause-workers : goal.returns-clause-workers
