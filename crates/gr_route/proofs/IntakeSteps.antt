@@ -74,11 +74,16 @@ pushes_as n pass g items v es b is by grows = (
           size = h.size;
           popped = h.popped;
           queued = λ k. grind (arith, all_of_push batches b, append_assoc h.popped (all_of batches) b, events_append k (h.popped ++ all_of batches) b, h.queued k);
-          prefixes = λ k. dite (ℕ_discrete k v.group) (λ same. rw same (prefix_as (cc) (cc) (grows (prefix_as (cc) (cc) (h.prefixes v.group))))) (λ apart. rw (other k apart) (h.prefixes k));
+          prefixes = λ k. dite (ℕ_discrete k v.group)
+              (λ same. rw same (prefix_as (cc) (cc) (grows (prefix_as (cc) (cc) (h.prefixes v.group)))))
+              (λ apart. rw (other k apart) (h.prefixes k));
           unseated = λ k none. grind (arith, h.unseated k none, other k, mine.0);
           fits = each_set (Fits h.holder sent h.size h.taker h.popped) views pass w ((λ _. (mine.0, here, mine.2)), none_holds) (λ j u apart there. let old = h.fits j u there in (
             (λ q. grind (arith, old.0 q, other u.group, mine.0, apart)),
-            (λ q. let o = old.1 q in (o.0, o.1, o.2, All-weaker (FitsJoined h.holder h.sent h.size) (FitsJoined h.holder sent h.size) (λ c t. grind (arith, t, other c.group, mine.0)) u.joined o.3)),
+            (λ q.
+                let o = old.1 q in
+                let fits = All-weaker (FitsJoined h.holder h.sent h.size) (FitsJoined h.holder sent h.size) (λ c t. grind (arith, t, other c.group, mine.0)) in
+                (o.0, o.1, o.2, fits u.joined o.3)),
           ));
         },
         refl,
@@ -276,7 +281,8 @@ pub hands_left : (t : Taker) (p : TakerPass) (s : List ℕ) (r0 r1 b : List Sent
 hands_left t p s r0 r1 b is was first =
     let old = front (view p).popped r0 in
     let all : (view p).popped ≡ (old ++ b) ++ r1 = grind (arith, is.left, first, append_assoc old b r1) in
-    hands t p s r1 b record { idle = is.idle; known = is.known; places = is.places; left = front_left _ _ _ all; agrees = is.agrees } (grind (arith, was, front_of (view p).popped (old ++ b) r1 all))
+    let now : IsTakerPass p s r1 = record { idle = is.idle; known = is.known; places = is.places; left = front_left _ _ _ all; agrees = is.agrees } in
+    hands t p s r1 b now (grind (arith, was, front_of (view p).popped (old ++ b) r1 all))
 
 pub hands_popped : (t : Taker) (p q : TakerPass) (s : List ℕ) (r0 r1 b batch : List Sent) → IsTakerPass p s r0 → seen p s r0 ≡ t → r0 ≡ [] → batch ≡ b ++ r1 → IsSamePass p q → Pops (view p) batch (view q) → Hands t q s r1 b
 hands_popped t p q s r0 r1 b batch is was none first same told =

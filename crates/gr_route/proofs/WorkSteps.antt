@@ -210,7 +210,8 @@ module _ {A : Type 0} where
   hands_left w p s r0 r1 b is was first =
       let old = front (view p).popped r0 in
       let all : (view p).popped ≡ (old ++ b) ++ r1 = grind (arith, is.left, first, append_assoc old b r1) in
-      hands w p s r1 b record { idle = is.idle; known = is.known; left = front_left _ _ _ all; agrees = is.agrees } (grind (arith, was, front_of (view p).popped (old ++ b) r1 all))
+      let now : IsWorkerPass p s r1 = record { idle = is.idle; known = is.known; left = front_left _ _ _ all; agrees = is.agrees } in
+      hands w p s r1 b now (grind (arith, was, front_of (view p).popped (old ++ b) r1 all))
 
   pub hands_popped : (w : Worker A) (p q : WorkerPass A) (s : Bool) (r0 r1 b batch : List (Work A)) → IsWorkerPass p s r0 → seen p s r0 ≡ w → r0 ≡ [] → batch ≡ b ++ r1 → IsSamePass p q → Pops (view p) batch (view q) → Hands w q s r1 b
   hands_popped w p q s r0 r1 b batch is was none first same told =

@@ -26,7 +26,9 @@ pub returns-in_err-batch-clause-delivery : goal.returns-in_err-batch-clause-deli
 returns-in_err-batch-clause-delivery g c = delivery c.pop_as.new.pass c.taker.inside.sizes.items c.next.new.self (search rules)
 
 all_of_it : (g : Over) (c : goal.In_ok-batch g) → Hands c.args.taker.now c.pop_as.new.pass c.taker.inside.sizes.items c.next.new.self c.in_ok-batch.batch
-all_of_it g c = hands_popped _ _ _ _ _ _ _ _ c.taker.invariant c.taker.view_is c.in_default.ensures.none.0 (grind (arith, c.in_default.ensures.none, append-nil c.in_ok-batch.batch)) c.pop_as.ensures.queue c.in_ok-batch.ensures.rule
+all_of_it g c =
+    let none = c.in_default.ensures.none in
+    hands_popped _ _ _ _ _ _ _ _ c.taker.invariant c.taker.view_is none.0 (grind (arith, none, append-nil c.in_ok-batch.batch)) c.pop_as.ensures.queue c.in_ok-batch.ensures.rule
 
 pub invariant_of-taker-2 : goal.invariant_of-taker-2
 invariant_of-taker-2 g c = (all_of_it g c).is

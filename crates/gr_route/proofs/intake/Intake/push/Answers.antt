@@ -9,4 +9,5 @@ pub push_as-requires-clause-rule : goal.push_as-requires-clause-rule
 push_as-requires-clause-rule g c =
     let event = c.args.event in
     pushes_as _ _ _ _ _ (event ∷ []) _ c.seat.invariant.known (cc (c.new-batch.ensures, c.one.ensures))
-    (subst (λ (s : Seat). IsPrefix s.items s.pushed → IsPrefix s.items (s.pushed ++ event ∷ [])) (sym c.seat.view_is) (λ p. prefix_push _ _ event p c.requires.good c.requires.unended c.requires.room))
+    (subst (λ (s : Seat). IsPrefix s.items s.pushed → IsPrefix s.items (s.pushed ++ event ∷ [])) (sym c.seat.view_is)
+    (λ p. prefix_push _ _ event p c.requires.good c.requires.unended c.requires.room))
