@@ -36,7 +36,8 @@ module _ (config : Settings) (is : IsConfig config) (seq : Sequence) (sequence :
   pub taken_is_sent : (receipts : List Seat) → IsEachOnce (length seq.taken.sizes) receipts → ArePopped (pops_of takers) receipts → seq.taken ≡ sent_by seq.taken.sizes receipts
   taken_is_sent receipts once told =
       let n = length seq.taken.sizes in
-      let lists = ext_get_or [] seq.taken.lists (map (λ g. sent_of g receipts) (range_with_len 0 n)) (sequence.prefixes.count ∙ sym (length-map-range_with_len (λ g. sent_of g receipts) 0 n)) (λ g lt.
+      let lists = ext_get_or [] seq.taken.lists (map (λ g. sent_of g receipts) (range_with_len 0 n))
+      (sequence.prefixes.count ∙ sym (length-map-range_with_len (λ g. sent_of g receipts) 0 n)) (λ g lt.
       let there : g < n = omega (arith, lt, sequence.prefixes.count) in
       let whole : IsTrue (is_complete (popped_at (pops_of takers) g)) = rw (sym (popped_is g there)) (complete g there) in
       popped_is g there

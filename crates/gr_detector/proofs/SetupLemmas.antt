@@ -49,7 +49,9 @@ module _ (n : ℕ) (sizes : List ℕ) (takers : List Taker) (was : AreSeatedBelo
   pub seat_more : AreSeatedBelow (n + 1) sizes new
   seat_more = record {
     wide = λ p d lt. grind (arith, each p d lt, was.wide p d, wide_t, length-set t.sizes n (get_or sizes n 0));
-    seated = λ p g d lt below mine. grind (arith, each p d lt, was.seated p g d, was.seated q g t, at, few, wide_t, get_or-set_same t.sizes n (get_or sizes n 0) 0, get_or-set_other t.sizes n g (get_or sizes n 0) 0);
+    seated = λ p g d lt below mine.
+        let here = get_or-set_same t.sizes n (get_or sizes n 0) 0 in
+        grind (arith, each p d lt, was.seated p g d, was.seated q g t, at, few, wide_t, here, get_or-set_other t.sizes n g (get_or sizes n 0) 0);
     later = λ p g d lt after. grind (arith, each p d lt, was.later p g d, was.later q g t, at, get_or-set_other t.sizes n g (get_or sizes n 0) 0);
     others = λ p g d lt apart. grind (arith, each p d lt, was.others p g d, was.others q g t, at, get_or-set_other t.sizes n g (get_or sizes n 0) 0);
   }

@@ -8,7 +8,8 @@ loop-place-preserved g c k d lt =
     let receipts = c.args.receipts.now in
     let at = c.loop-place.place in
     let r = c.index-receipts-place.result in
-    grind (arith, lt, get_or_default receipts at d r, c.index-receipts-place.is, c.group.ensures, c.from-in-loop-place.ensures, c.if-from-place.false, c.loop-place.invariant k d, c.loop-place-test.true)
+    let read = get_or_default receipts at d r in
+    grind (arith, lt, read, c.index-receipts-place.is, c.group.ensures, c.from-in-loop-place.ensures, c.if-from-place.false, c.loop-place.invariant k d, c.loop-place-test.true)
 
 pub returns : goal.returns
 returns g c _ =

@@ -29,7 +29,10 @@ loop-receipt-preserved g c =
     grind (arith, inv.1, length-map inlets (λ (t : Taker). t.popped), there, at, seat) in
     let pushed = ap (λ (s : Seat). s.pushed) seat in
     let back = c.join_back.ensures in
-    let mine : IsPopped (pops_of init) r = record { prefix = (back.prefix.0, grind (arith, popped, pushed, back.prefix.1)); whole = grind (arith, popped, pushed, back.whole) } in (
+    let mine : IsPopped (pops_of init) r = record {
+      prefix = (back.prefix.0, grind (arith, popped, pushed, back.prefix.1));
+      whole = grind (arith, popped, pushed, back.whole);
+    } in (
       map-set_same (λ (t : Taker). t.queue) inlets q c.join_back.new.self item (c.join_back.ensures.same.0 ∙ ap (λ (t : Taker). t.queue) c.index_mut.ensures.value) ∙ inv.0,
       map-set_same (λ (t : Taker). t.popped) inlets q c.join_back.new.self item (c.join_back.ensures.same.1 ∙ ap (λ (t : Taker). t.popped) c.index_mut.ensures.value) ∙ inv.1,
       here.1,

@@ -33,7 +33,8 @@ pub returns : goal.returns
 returns g c =
     let old = c.loop-worker.invariant.2 in
     let over : into_iter_items c.loop-worker.worker-iterator ≡ [] = nil_from_length (into_iter_items c.loop-worker.worker-iterator) (sym c.loop-worker.invariant.1 ∙ c.in-None.ensures.steps.0) in
-    let none : into_iter_items c.loop-worker.left ≡ [] = nil_from_length _ (grind (arith, over, c.loop-worker.invariant.0, length-map (into_iter_items c.loop-worker.left) (λ (u : Giver g.row.A.Denot). u.queue))) in
+    let works = length-map (into_iter_items c.loop-worker.left) (λ (u : Giver g.row.A.Denot). u.queue) in
+    let none : into_iter_items c.loop-worker.left ≡ [] = nil_from_length _ (grind (arith, over, c.loop-worker.invariant.0, works)) in
     let all : old.0 ≡ given_of c.args.outlets.items = grind (arith, append-nil old.0, none, old.1) in
     subst (λ (l : List (List ClockedAccess)). IfOk c.loop-worker.words (λ v. Lists WordBelow (IsHitAmong l) v.items)) all old.2
 

@@ -43,8 +43,12 @@ loop-group-preserved g c =
     let queue : s.queue.queue ≡ t.queue = search rules in
     record {
       intakes = map-set_same (λ (u : Taker). u.queue) inlets q c.sender.new.self t (ap (λ (u : Taker). u.queue) (made ∙ refl) ∙ ap (λ (u : Taker). u.queue) is) ∙ inv.intakes;
-      unpopped = λ p d lt. grind (arith, get_or-set_same inlets q c.sender.new.self d there, get_or-set_other inlets q p c.sender.new.self d, length-set inlets q c.sender.new.self, made, is, inv.unpopped q t there, inv.unpopped p d);
+      unpopped = λ p d lt.
+          let here = get_or-set_same inlets q c.sender.new.self d there in
+          grind (arith, here, get_or-set_other inlets q p c.sender.new.self d, length-set inlets q c.sender.new.self, made, is, inv.unpopped q t there, inv.unpopped p d);
       seated = rw (made, place) (seat_more n sizes inlets inv.seated few some t at);
       count = omega (arith, ap length pushed, length-append c.loop-group.senders.items (s ∷ []), inv.count);
-      opened = rw pushed (open_more n sizes (intakes_of init) c.loop-group.senders.items s inv.count inv.opened (grind (arith, made_sender, c.items.ensures.size, queue_at inlets (intakes_of init) n t inv.intakes some, at, queue)));
+      opened =
+          let here = queue_at inlets (intakes_of init) n t inv.intakes some in
+          rw pushed (open_more n sizes (intakes_of init) c.loop-group.senders.items s inv.count inv.opened (grind (arith, made_sender, c.items.ensures.size, here, at, queue)));
     }

@@ -11,7 +11,8 @@ new-begin-requires g c =
     let was = c.in_ok-inlets.inlets.items in
     let now = c.senders_of.new.inlets.items in
     let queues : intakes_of now ≡ intakes_of was = c.in_ok-senders.ensures.queues in
-    let count : length now ≡ c.args.config.queues = grind (arith, queues, length-map now (λ (t : Taker). t.queue), length-map was (λ (t : Taker). t.queue), c.in_ok-inlets.ensures.count) in
+    let count : length now ≡ c.args.config.queues =
+    grind (arith, queues, length-map now (λ (t : Taker). t.queue), length-map was (λ (t : Taker). t.queue), c.in_ok-inlets.ensures.count) in
     record {
       queues = count;
       worker_count = c.in_ok-outlets.ensures.count.0;

@@ -20,7 +20,8 @@ join_intakes-requires-clause-here g c =
     let now = c.into_parts-inlets.result.inlets.items in
     let parts = c.into_parts-inlets.ensures in
     let same : run.intakes ≡ intakes_of now = grind (arith, parts.parts, c.join.ensures, c.self.view_is) in
-    let count : length (intakes_of now) ≡ run.config.queues = grind (arith, length-map now (λ (t : Taker). t.queue), parts.parts, parts.end.queues, c.join.ensures, c.self.view_is) in
+    let count : length (intakes_of now) ≡ run.config.queues =
+    grind (arith, length-map now (λ (t : Taker). t.queue), parts.parts, parts.end.queues, c.join.ensures, c.self.view_is) in
     are_here run (intakes_of now) c.args.receipts.items same count c.requires
 
 pub settle_all-races-requires-clause-stopped : goal.settle_all-races-requires-clause-stopped
@@ -41,7 +42,8 @@ returns-in-Some-Ok-clause-report g c =
     let races = c.in-Some-Ok.races.items in
     let report : end.report ≡ Some w = ap (λ (e : End g.row.A.Denot). e.report) parts.parts ∙ ap (option_map whole_of) c.in-Some-Ok.is-0 in
     let outlets = c.into_parts-inlets.result.outlets.items in
-    let hits : Lists WordBelow (IsHitAmong (given_of end.givers)) races = rw parts.parts (IfOk-at_ok (λ v. Lists WordBelow (IsHitAmong (given_of outlets)) v.items) c.in-Some-Ok.is-1 c.settle_all-races.ensures) in
+    let hits : Lists WordBelow (IsHitAmong (given_of end.givers)) races =
+    rw parts.parts (IfOk-at_ok (λ v. Lists WordBelow (IsHitAmong (given_of outlets)) v.items) c.in-Some-Ok.is-1 c.settle_all-races.ensures) in
     let told : ArePopped (pops_of end.takers) receipts = rw parts.parts c.join_intakes.ensures in
     let sizes : end.sizes ≡ c.args.self.sizes = grind (arith, c.join.ensures, c.self.view_is) in
     let once : IsEachOnce (length end.sizes) receipts = rw sizes (returns-in-Some-Ok-clause-once g c) in
