@@ -11,4 +11,3 @@ pub mod LineSites
 pub mod LineWords
 pub mod LinesAgain
 pub mod LinesFound
-pub mod NamesRead

@@ -1,11 +1,10 @@
 -- The streams in a list of bytes, one after another, as a loop reads them.
-use Rattle.std.proofs.Common.{◌≡◌, ℕ, zero, suc, ◌+◌, ◌-◌, ◌<◌, ◌≤◌, true, false, List, [], ◌∷◌, ◌++◌, length, drop, Some, Result, Ok, Err, refl, sym, ap, ap₂, subst, ◌∙◌, append_assoc, arith, inl, inr, IsTrue, All}
+use Rattle.std.proofs.Common.{◌≡◌, ℕ, zero, suc, ◌+◌, ◌<◌, ◌≤◌, true, false, List, [], ◌∷◌, ◌++◌, length, drop, Result, Ok, Err, refl, sym, ap, ap₂, subst, ◌∙◌, append_assoc, arith, inl, inr, IsTrue, All}
 use Rattle.std.specs.Prelude.{nat_lt, ◌==◌}
 use Rattle.std.proofs.lemmas.Bool.{ltb-false, cases_Bool, eqb-true}
-use Rattle.std.proofs.lemmas.List.{append-nil, get_or-append-add, take-append-drop, length-append, nil_from_length}
+use Rattle.std.proofs.lemmas.List.{get_or-append-add, take-append-drop, length-append, nil_from_length}
 use Rattle.std.specs.List.{flat_map}
 use Rattle.gr_record.specs.InputFaults.{Fails}
-use Rattle.gr_record.proofs.Outside.{fails_through}
 use Rattle.gr_model.specs.declared.event.Event.{Event}
 use Rattle.gr_model.specs.declared.limits.TheConstants.{MOST_RECORDS}
 use Rattle.gr_model.specs.Streams.{is_complete}
@@ -27,11 +26,9 @@ use Rattle.gr_record.specs.WholeStreams.{behind_records_at, front_header_at, fro
 use Rattle.gr_record.proofs.Found.{read_header_is_spelled}
 use Rattle.gr_record.proofs.FoundPrefixes.{is_at_end, records_found, events_sited}
 use Rattle.gr_record.proofs.Places.{bytes_drop}
-use Rattle.gr_text.specs.declared.forming.Form.{Form}
-use Rattle.gr_text.specs.Texts.{◌>>=◌, header_line, record_line, whole_line}
-use Rattle.gr_text.specs.Partial.{behind_end}
-use Rattle.gr_text.proofs.Steps.{bind_ok, map_err, map_ok, record_bind_err, up_to_ok, at_place_ok}
-use Rattle.gr_text.specs.Dumps.{WholeStream, stream_at, streams_at, formed, formed_event, formed_header, with_stream, parts_in}
+use Rattle.gr_text.specs.Texts.{header_line, record_line, whole_line}
+use Rattle.gr_text.proofs.Steps.{bind_ok, map_ok, up_to_ok, at_place_ok}
+use Rattle.gr_text.specs.Dumps.{WholeStream, stream_at, streams_at, formed, parts_in}
 use Rattle.std.proofs.lemmas.List.Elements.{All-cons, All-nil}
 use Rattle.std.proofs.lemmas.List.Folds.{flat_map-map}
 use Rattle.std.proofs.lemmas.List.Concat.{flat_map-append}
@@ -41,35 +38,9 @@ use Rattle.gr_text.specs.Wholes.{IsWhole, bytes_of, text_of, DumpedAreStreams}
 -- ---- one stream
 
 -- where memory suffices, the error in its place is that of the whole
-fault_at-fails : {X Y : Type 0} (place : ℕ) (e : RecordError) (read : Result X RecordError) (whole : Result Y Fault) → record_spec.Fails e read → (read ≡ Err e → whole ≡ Err (faults.Stream place e)) → Fails (stream_fault place e) whole
+pub fault_at-fails : {X Y : Type 0} (place : ℕ) (e : RecordError) (read : Result X RecordError) (whole : Result Y Fault) → record_spec.Fails e read → (read ≡ Err e → whole ≡ Err (faults.Stream place e)) → Fails (stream_fault place e) whole
 fault_at-fails place errors.Memory read whole h go = tt
 fault_at-fails place e read whole h go = go h
-
-module _ (form : Form) (text : List ℕ) (place : ℕ) (bytes : List ℕ) where
-  pub header_fails : (e : RecordError) → record_spec.Fails e (front_header_at bytes) → Fails (stream_fault place e) (with_stream form text (stream_at place bytes))
-  unfolding stream_at
-  header_fails e h = fault_at-fails place e (front_header_at bytes) (with_stream form text (stream_at place bytes)) h (λ k. rw k refl)
-
-  module _ (header : Header) (rest : List ℕ) (found : front_header_at bytes ≡ Ok (header, rest)) where
-    pub records_fail : (e : RecordError) → record_spec.Fails e (behind_records_at header rest) → Fails (stream_fault place e) (with_stream form text (stream_at place bytes))
-    unfolding stream_at
-    records_fail e h = fault_at-fails place e (behind_records_at header rest) (with_stream form text (stream_at place bytes)) h (λ k. rw (found, record_bind_err (front_records_at header rest) _ e k) refl)
-
-    -- the stream, where this stands behind its end
-    pub one_stream : (after : List ℕ) → front_records_at header rest ≡ Ok ((records_of header MOST_RECORDS rest).events, after)
-        → with_stream form text (stream_at place bytes) ≡ Ok (text ++ formed_header form header ++ flat_map (formed_event form header.version) (all_sited header.version (records_of header MOST_RECORDS rest).events rest), after)
-    unfolding stream_at
-    one_stream after k =
-        rw (found, k) (ap (λ (v : List ℕ). Ok (v, after)) (sym (append_assoc text (formed_header form header) (flat_map (formed_event form header.version) (all_sited header.version (records_of header MOST_RECORDS rest).events rest)))))
-
--- the records up to an end are those that are read
-pub behind_end_is : (h : Header) (bytes after : List ℕ) → Some after ≡ behind_end (records_of h MOST_RECORDS bytes).stop (records_of h MOST_RECORDS bytes).rest → front_records_at h bytes ≡ Ok ((records_of h MOST_RECORDS bytes).events, after)
-unfolding front_records_at
-behind_end_is h bytes after k = grind arith
-
-pub behind_records_are : (h : Header) (bytes after : List ℕ) → behind_records_at h bytes ≡ Ok after → front_records_at h bytes ≡ Ok ((records_of h MOST_RECORDS bytes).events, after)
-unfolding front_records_at
-behind_records_are h bytes after k = grind arith
 
 -- ---- what is read is spelled so
 
@@ -103,45 +74,10 @@ events_found h bytes fits events rest e =
     let f = records_found h MOST_RECORDS bytes fits in
     rw (← w.1, ← w.2) (record { parts = f.parts; runs = f.runs; few = f.few; ended = f.complete ∙ ap is_at_end w.0; fits = bytes_behind (events_spelling h.version (all_sited h.version r.events bytes)) r.rest (subst AreBytes f.parts fits) })
 
--- ---- the loop over streams
-
--- a text before that of what the streams say
-abbrev pub texts_behind : Form → List ℕ → Result (List WholeStream) Fault → Result (List ℕ) Fault
-texts_behind form prefix r = r >>= λ xs. Ok (prefix ++ flat_map (formed form) xs)
-
 pub nothing_left : (most place : ℕ) (bytes : List ℕ) → (length bytes == 0) ≡ true → streams_at most place bytes ≡ Ok []
 unfolding streams_at
 nothing_left zero place bytes e = refl
 nothing_left (suc most) place bytes e = rw e refl
-
-regroup : (form : Form) (prefix : List ℕ) (s : WholeStream) (r : Result (List WholeStream) Fault) → texts_behind form prefix (r >>= λ ss. Ok (s ∷ ss)) ≡ texts_behind form (prefix ++ formed form s) r
-regroup form prefix s r = grind (arith, append_assoc)
-
-module _ (form : Form) (prefix : List ℕ) (stop i : ℕ) (bytes : List ℕ) (total : Result (List ℕ) Fault) (so_far : texts_behind form prefix (streams_at (stop - i) i bytes) ≡ total) where
-  pub ends : (length bytes == 0) ≡ true → total ≡ Ok prefix
-  ends e = sym so_far ∙ rw (nothing_left (stop - i) i bytes e) (ap (λ (v : List ℕ). Ok v) (append-nil prefix))
-
-  pub is_full : stop ≤ i → total ≡ Ok prefix
-  unfolding streams_at
-  is_full le =
-      let k : stop - i ≡ 0 = omega arith in
-      sym (rw (k, append-nil prefix) at so_far)
-
-  module _ (lt : i < stop) (some : (length bytes == 0) ≡ false) where
-    step : (s : Result (WholeStream × List ℕ) Fault) → stream_at i bytes ≡ s → texts_behind form prefix (s >>= λ x. streams_at (stop - (i + 1)) (i + 1) x.1 >>= λ xs. Ok (x.0 ∷ xs)) ≡ total
-    unfolding streams_at
-    step s is =
-        let k : stop - i ≡ suc (stop - (i + 1)) = omega arith in
-        rw (k, some, is) at so_far
-
-    pub stream_fails : (f : Fault) → Fails f (with_stream form prefix (stream_at i bytes)) → Fails f total
-    stream_fails f h = fails_through f (with_stream form prefix (stream_at i bytes)) total h (λ e. sym (step (Err f) (map_err _ _ f e)))
-
-    pub goes_on : (text after : List ℕ) → with_stream form prefix (stream_at i bytes) ≡ Ok (text, after) → texts_behind form text (streams_at (stop - (i + 1)) (i + 1) after) ≡ total
-    goes_on text after e =
-        let x = map_ok (stream_at i bytes) (λ x. (prefix ++ formed form x.0, x.1)) (text, after) e in
-        subst (λ (y : List ℕ × List ℕ). texts_behind form y.0 (streams_at (stop - (i + 1)) (i + 1) y.1) ≡ total) x.2
-        (sym (regroup form prefix x.0.0 (streams_at (stop - (i + 1)) (i + 1) x.0.1)) ∙ step (Ok x.0) x.1)
 
 abbrev Found : Type 0
 Found = WholeStream × List ℕ

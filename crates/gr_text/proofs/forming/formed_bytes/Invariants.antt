@@ -1,7 +1,8 @@
-use Rattle.std.proofs.Common.{◌≡◌, ◌-◌, length}
-use Rattle.gr_text.specs.Dumps.{streams_at, formed_of}
-use Rattle.gr_text.proofs.Streaming.{texts_behind}
+use Rattle.std.proofs.Common.{◌≡◌, ◌-◌, ◌++◌, length, Ok}
+use Rattle.std.specs.List.{flat_map}
+use Rattle.gr_text.specs.Dumps.{formed, streams_at, formed_of}
+use Rattle.gr_text.specs.Texts.{◌>>=◌}
 use Rattle.gr_text.proofs.forming.formed_bytes.Given as goal
 
 abbrev pub invariant-loop-place : goal.invariant-loop-place
-invariant-loop-place g l = texts_behind l.form l.output.items (streams_at (length l.bytes - l.place) l.place l.rest) ≡ formed_of l.form l.bytes
+invariant-loop-place g l = (streams_at (length l.bytes - l.place) l.place l.rest >>= λ ss. Ok (l.output.items ++ flat_map (formed l.form) ss)) ≡ formed_of l.form l.bytes

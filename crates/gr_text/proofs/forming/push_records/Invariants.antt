@@ -1,8 +1,16 @@
-use Rattle.std.proofs.Common.{◌-◌}
+use Rattle.std.proofs.Common.{◌≡◌, ◌-◌, ◌++◌}
+use Rattle.std.specs.List.{flat_map}
 use Rattle.gr_model.specs.declared.limits.TheConstants.{MOST_RECORDS}
 use Rattle.gr_record.specs.Fronts.{records_of}
-use Rattle.gr_text.proofs.PartialLaws.{Completes}
+use Rattle.gr_record.specs.Sites.{all_sited}
+use Rattle.gr_text.specs.Dumps.{formed_event}
+use Rattle.gr_text.specs.Partial.{behind_end}
 use Rattle.gr_text.proofs.forming.push_records.Given as goal
 
+-- what is read of the bytes left completes what is read of all
 abbrev pub invariant-loop : goal.invariant-loop
-invariant-loop g l = Completes l.form l.header.version (records_of l.header MOST_RECORDS l.bytes) l.bytes l.initial.output.items l.output.items (records_of l.header (MOST_RECORDS - l.counter) l.rest) l.rest
+invariant-loop g l =
+    let written = flat_map (formed_event l.form l.header.version) in
+    let all = records_of l.header MOST_RECORDS l.bytes in
+    let rest = records_of l.header (MOST_RECORDS - l.counter) l.rest in
+    (l.output.items ++ written (all_sited l.header.version rest.events l.rest) ≡ l.initial.output.items ++ written (all_sited l.header.version all.events l.bytes)) × (behind_end rest.stop rest.rest ≡ behind_end all.stop all.rest)

@@ -1,8 +1,7 @@
-use Rattle.std.proofs.Common.{◌≡◌, ◌-◌, length}
+use Rattle.std.proofs.Common.{◌≡◌, ◌-◌, ◌++◌, length, take, Some}
 use Rattle.std.specs.Option.{option_map}
-use Rattle.gr_text.specs.LineReading.{names_said}
-use Rattle.gr_text.proofs.NamesRead.{names_behind}
+use Rattle.gr_text.specs.LineReading.{◌>>=◌, names_said}
 use Rattle.gr_text.proofs.parsing.parse_names.Given as goal
 
 abbrev pub invariant-loop-place : goal.invariant-loop-place
-invariant-loop-place l = (length l.names ≡ 4) × (names_behind l.names l.place (names_said (option_map (λ rest. rest.now) l.rest) (4 - l.place)) ≡ names_said (option_map (λ rest. rest.now) l.bytes) 4)
+invariant-loop-place l = (length l.names ≡ 4) × ((names_said (option_map (λ rest. rest.now) l.rest) (4 - l.place) >>= λ names. Some (take l.place l.names ++ names)) ≡ names_said (option_map (λ rest. rest.now) l.bytes) 4)

@@ -1,6 +1,9 @@
-use Rattle.std.proofs.Common.{arith}
-use Rattle.std.proofs.lemmas.Result.{on_ok_weaker}
-use Rattle.gr_text.proofs.PartialLaws.{front_text}
+use Rattle.std.proofs.Common.{append_assoc, arith}
+use Rattle.std.proofs.lemmas.List.Folds.{flat_map-map}
+use Rattle.gr_model.specs.declared.limits.TheConstants.{MOST_RECORDS}
+use Rattle.gr_record.specs.Fronts.{records_of}
+use Rattle.gr_record.specs.Sites.{all_sited}
+use Rattle.gr_text.specs.Texts.{record_line, whole_line}
 use Rattle.gr_text.proofs.Streaming.{header_found}
 use Rattle.gr_text.proofs.partial.push_front.Goals as goal
 
@@ -12,4 +15,5 @@ push_records-requires g c = (header_found c.args.bytes.now (λ i. let b = c.type
 
 pub returns-clause-text : goal.returns-clause-text
 returns-clause-text g c =
-    on_ok_weaker c.push_records.result (λ is. front_text c.args.bytes.now _ _ c.args.text.now.items _ _ _ c.in-Ok.ensures.exact c.header_line.ensures c.in_ok-push_line.ensures is) c.push_records.ensures.records
+    let same = flat_map-map whole_line record_line (all_sited c.in-Ok.header.version (records_of c.in-Ok.header MOST_RECORDS c.in-Ok.records.now).events c.in-Ok.records.now) in
+    grind (arith, append_assoc)

@@ -1,14 +1,23 @@
-use Rattle.std.proofs.Common.{length, ◌∙◌}
-use Rattle.gr_text.proofs.PartialLaws.{ends, is_full, next_stream}
+use Rattle.std.proofs.Common.{◌≡◌, ◌+◌, ◌-◌, length, suc, arith, append_assoc}
+use Rattle.std.proofs.lemmas.List.{append-nil}
+use Rattle.std.proofs.lemmas.List.Concat.{flat_map-append}
+use Rattle.gr_text.specs.Partial.{lines_before}
 use Rattle.gr_text.proofs.partial.text_before_fault.Goals as goal
 
 pub returns-in_default : goal.returns-in_default
+unfolding lines_before
 returns-in_default g c =
-    c.in_ok-behind.ensures.text ∙ ends c.loop.text.items (length c.args.bytes.now) c.loop.counter c.loop.rest.now _ c.loop.invariant c.loop-test.true (rw c.in_default.is at c.in_ok-behind.ensures.rest)
+    let k : length c.args.bytes.now - c.loop.counter ≡ suc (length c.args.bytes.now - (c.loop.counter + 1)) = omega (arith, c.loop-test.true) in
+    grind (arith, append-nil)
 
 pub loop-preserved : goal.loop-preserved
+unfolding lines_before
 loop-preserved g c =
-    rw c.in_ok-behind.ensures.text (next_stream c.loop.text.items (length c.args.bytes.now) c.loop.counter c.loop.rest.now _ c.loop.invariant c.loop-test.true c.in-Some.behind.now (rw c.in-Some.is at c.in_ok-behind.ensures.rest))
+    let k : length c.args.bytes.now - c.loop.counter ≡ suc (length c.args.bytes.now - (c.loop.counter + 1)) = omega (arith, c.loop-test.true) in
+    grind (arith, append_assoc, flat_map-append)
 
 pub returns : goal.returns
-returns g c = is_full c.loop.text.items (length c.args.bytes.now) c.loop.counter c.loop.rest.now _ c.loop.invariant c.loop-test.false
+unfolding lines_before
+returns g c =
+    let k : length c.args.bytes.now - c.loop.counter ≡ 0 = omega (arith, c.loop-test.false) in
+    grind (arith, append-nil)
