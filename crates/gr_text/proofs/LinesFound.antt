@@ -1,30 +1,28 @@
 -- What is read from a line has that line.
-use Rattle.std.proofs.Common.{◌≡◌, ℕ, ◌^◌, ◌<◌, ◌≤◌, Bool, true, false, cond, List, [], ◌∷◌, ◌++◌, zero, suc, Option, Some, None, refl, sym, ap, ap₂, subst, ◌∙◌, arith}
+use Rattle.std.proofs.Common.{◌≡◌, ℕ, ◌^◌, ◌<◌, Bool, true, false, cond, List, [], ◌∷◌, ◌++◌, zero, suc, Option, Some, None, refl, ap, ap₂, subst, ◌∙◌, arith}
 use Rattle.std.specs.Prelude.{decimal, codes, IfSome}
-use Rattle.std.proofs.lemmas.Bool.{ltb-true, and_parts, not-true}
+use Rattle.std.proofs.lemmas.Bool.{ltb-true, and_parts}
 use Rattle.std.proofs.lemmas.Bool.Decides.{nat_tests}
 use Rattle.gr_model.specs.declared.event.Space.{Space}
 use Rattle.gr_model.specs.declared.event.Scope.{Scope}
 use Rattle.gr_model.specs.declared.event.Order.{Order}
 use Rattle.gr_model.specs.declared.event.Kind.{Kind}
-use Rattle.gr_model.specs.declared.event.Kind.TheVariants.{Load, Store, Rmw}
+use Rattle.gr_model.specs.declared.event.Kind.TheVariants.{Read, Write, Load, Store, Rmw}
 use Rattle.gr_model.specs.declared.event.Name.{Name}
 use Rattle.gr_model.specs.declared.event.Event.{Event}
 use Rattle.gr_model.specs.declared.limits.TheConstants.{MOST_NAMES}
-use Rattle.gr_model.specs.Events.{IsKindOk, IsNamingOk, end_of}
+use Rattle.gr_model.specs.Events.{IsKindOk, IsNamingOk}
 use Rattle.gr_record.proofs.Places.{naming_found}
 use Rattle.gr_record.specs.declared.header.Version.{Version}
-use Rattle.gr_record.specs.declared.header.Version.TheVariants.{Four}
 use Rattle.gr_record.specs.declared.header.Header.{Header}
 use Rattle.gr_text.specs.declared.line.Line.{Line}
 use Rattle.gr_text.specs.declared.line.Line.TheVariants as lines
-use Rattle.gr_record.specs.Reading.{is_order_ok, naming}
-use Rattle.gr_record.specs.Versions.{most_groups, most_items}
-use Rattle.gr_record.specs.Spelling.{IsHeader}
-use Rattle.gr_text.specs.LineText.{space_word, scope_word, order_word, flags_word, version_words, names_words, first_word, later_words, later_text, line_text}
-use Rattle.gr_text.specs.LineReading.{short_of, cut_at, behind_space, first_of, ◌>>=◌, at_end, space_said, scope_said, order_said, flags_said, header_said, header_made, version_said, name_said, names_said, kind_said, atomic_said, barrier_said, event_said, checked, end_said, line_said}
+use Rattle.gr_record.specs.Reading.{is_naming_ok, is_order_ok}
+use Rattle.gr_record.specs.Spelling.{IsHeader, AreNamesOf}
+use Rattle.gr_text.specs.LineText.{space_word, scope_word, order_word, version_words, names_words, first_word, later_words, later_text, line_text}
+use Rattle.gr_text.specs.LineReading.{same, number_of, short_of, cut_at, behind_space, first_of, ◌>>=◌, at_end, space_said, scope_said, order_said, flags_said, header_said, header_made, version_said, name_said, names_said, kind_said, atomic_said, barrier_said, event_said, checked, end_said, line_said}
 use Rattle.gr_text.specs.LineLaws.{IsSaid, ReadIsText}
-use Rattle.gr_text.proofs.LineNumbers.{each_some, number_found, number_told, same_is, same_told}
+use Rattle.gr_text.proofs.LineNumbers.{each_some, number_told, same_is, same_told}
 use Rattle.gr_text.proofs.LineWords.{first_found}
 
 -- ---- steps that did not fail
@@ -32,9 +30,6 @@ use Rattle.gr_text.proofs.LineWords.{first_found}
 pub bind_some : {X Y : Type 0} (o : Option X) (f : X → Option Y) (y : Y) → (o >>= f) ≡ Some y → (x : X) × (o ≡ Some x) × (f x ≡ Some y)
 bind_some None f y e = absurd cc
 bind_some (Some x) f y e = (x, refl, e)
-
-at_end_some : {X : Type 0} (rest : Option (List ℕ)) (o : Option X) (y : X) → at_end rest o ≡ Some y → (rest ≡ None) × (o ≡ Some y)
-at_end_some rest o y e = grind arith
 
 pub guard_some : {X : Type 0} (b : Bool) (o : Option X) (y : X) → cond b o None ≡ Some y → (b ≡ true) × (o ≡ Some y)
 guard_some b o y e = grind arith
@@ -60,17 +55,11 @@ space_found : (word : List ℕ) (s : Space) → space_said word ≡ Some s → w
 unfolding space_said
 space_found word s e = grind (arith, same_told)
 
-scope_found : (word : List ℕ) (s : Scope) → scope_said word ≡ Some s → word ≡ scope_word s
-unfolding scope_said
-scope_found word s e = grind (arith, same_told)
+space_told : (word : List ℕ) → (space_said word ≡ space_said word) × IfSome (space_said word) (λ s. word ≡ space_word s)
+space_told word = (refl, each_some (space_said word) _ (space_found word))
 
-order_found : (word : List ℕ) (s : Order) → order_said word ≡ Some s → word ≡ order_word s
-unfolding order_said
-order_found word s e = grind (arith, same_told)
-
-flags_found : (word : List ℕ) (s : Bool × Bool) → flags_said word ≡ Some s → word ≡ flags_word s.0 s.1
-unfolding flags_said
-flags_found word s e = grind (arith, same_told)
+first_told : (bytes : List ℕ) → (cut_at 32 bytes ≡ cut_at 32 bytes) × (bytes ≡ (cut_at 32 bytes).0 ++ behind_space (cut_at 32 bytes).1)
+first_told bytes = (refl, first_found 32 bytes)
 
 -- a word, and what stands behind its space
 word_found : {X : Type 0} (bytes : List ℕ) (f : List ℕ → Option X) (x : X) → ((first_of bytes).1 >>= f) ≡ Some x → (rest : List ℕ) × (bytes ≡ (first_of bytes).0 ++ 32 ∷ rest) × (f rest ≡ Some x)
@@ -88,11 +77,9 @@ spaced e w r = joined e w (ap (λ (x : List ℕ). 32 ∷ x) r)
 
 -- ---- headers and names
 
-version_found : (rest : Option (List ℕ)) (v : Version) → version_said rest ≡ Some v → behind_space rest ≡ later_text (version_words v)
-version_found rest v e = grind (arith, same_told)
-
-made_found : (v : Version) (group items launch : ℕ) (h : Header) → header_made v group items launch ≡ Some h → (record { version = v; group = group; items = items; launch = launch } ≡ h) × (group < most_groups v) × (1 ≤ items) × (items ≤ most_items v)
-made_found v group items launch h e = grind (arith, nat_tests)
+made_found : (rest : Option (List ℕ)) (v : Version) (group items launch : List ℕ) (h : Header) → version_said rest ≡ Some v → (short_of group >>= λ g. short_of items >>= λ i. number_of launch >>= λ l. header_made v g i l) ≡ Some h
+    → IsHeader h × (group ≡ decimal h.group) × (items ≡ decimal h.items) × (launch ≡ decimal h.launch) × (behind_space rest ≡ later_text (version_words h.version))
+made_found rest v group items launch h k e = grind (arith, nat_tests, short_told, number_told, same_told)
 
 header_found : (bytes : List ℕ) (h : Header) → header_said bytes ≡ Some h → IsHeader h × (bytes ≡ decimal h.group ++ later_text (codes "items" ∷ decimal h.items ∷ codes "launch" ∷ decimal h.launch ∷ version_words h.version))
 unfolding header_said
@@ -104,18 +91,8 @@ header_found bytes h e =
     let v = bind_some _ _ h f.2 in
     let k = guard_some _ _ h v.2 in
     let keys = and_parts _ _ k.0 in
-    let g = bind_some _ _ h k.1 in
-    let i = bind_some _ _ h g.2 in
-    let l = bind_some _ _ h i.2 in
-    let m = made_found v.0 g.0 i.0 l.0 h l.2 in
-    let launch = number_found _ l.0 l.1 in
-    subst (λ (x : Header). IsHeader x × (bytes ≡ decimal x.group ++ later_text (codes "items" ∷ decimal x.items ∷ codes "launch" ∷ decimal x.launch ∷ version_words x.version))) m.0 (
-      record { group = m.1; some = m.2; items = m.3; launch = launch.1 },
-      spaced b.1 (short_found _ g.0 g.1).0 (spaced c.1 (same_is _ (codes "items") keys.0) (spaced d.1 (short_found _ i.0 i.1).0 (spaced f.1 (same_is _ (codes "launch") keys.1) (joined (first_found 32 f.0) launch.0 (version_found _ v.0 v.1))))),
-    )
-
-first_told : (bytes : List ℕ) → (cut_at 32 bytes ≡ cut_at 32 bytes) × (bytes ≡ (cut_at 32 bytes).0 ++ behind_space (cut_at 32 bytes).1)
-first_told bytes = (refl, first_found 32 bytes)
+    let m = made_found _ v.0 _ _ _ h v.1 k.1 in
+    (m.0, spaced b.1 m.1 (spaced c.1 (same_is _ (codes "items") keys.0) (spaced d.1 m.2 (spaced f.1 (same_is _ (codes "launch") keys.1) (joined (first_found 32 f.0) m.3 m.4)))))
 
 name_found : (bytes : List ℕ) (x : Name × Option (List ℕ)) (words : List (List ℕ)) → name_said bytes ≡ Some x → behind_space x.1 ≡ later_text words → bytes ≡ codes "<" ++ later_text (decimal x.0.at.group ∷ decimal x.0.at.item ∷ decimal x.0.release ∷ words)
 unfolding name_said
@@ -131,96 +108,70 @@ names_found (Some rest) (suc most) names e =
     let ih = names_found b.0.1 most c.0 c.1 in
     ap (λ (x : List ℕ). 32 ∷ x) (name_found rest b.0 (names_words c.0) b.1 ih) ∙ ap (λ (x : List Name). later_text (names_words x)) (some_is (b.0.0 ∷ c.0) names c.2)
 
-named_found : (kind : Kind) (said names : List Name) → naming Four kind said ≡ Some names → (said ≡ names) × IsNamingOk kind names
-named_found kind said names e =
-    let g = guard_some _ (Some said) names e in
-    let same_names = some_is said names g.1 in
-    (same_names, subst (IsNamingOk kind) same_names (naming_found Four kind said g.0).0)
+names_told : (rest : Option (List ℕ)) → (names_said rest MOST_NAMES ≡ names_said rest MOST_NAMES) × IfSome (names_said rest MOST_NAMES) (λ names. behind_space rest ≡ later_text (names_words names))
+names_told rest = (refl, each_some (names_said rest MOST_NAMES) _ (names_found rest MOST_NAMES))
+
+naming_told : (v : Version) (kind : Kind) (names : List Name) → (is_naming_ok v kind names ≡ is_naming_ok v kind names) × (is_naming_ok v kind names ≡ true → IsNamingOk kind names × AreNamesOf v names)
+naming_told v kind names = (refl, naming_found v kind names)
 
 -- ---- events
 
--- an item before what stands behind it
-abbrev after : ℕ → List ℕ → List ℕ
-after item bytes = decimal item ++ 32 ∷ bytes
-
 -- what stands behind an item
-record Said (item : ℕ) (bytes : List ℕ) (e : Event) : Type 0 where
-  text : after item bytes ≡ line_text (lines.Event e)
-  word : e.word < 2 ^ 32
-  naming : IsNamingOk e.kind e.names
-  ok : is_order_ok e.kind ≡ true → IsKindOk e.kind e.item e.space e.word
+Said : ℕ → List ℕ → Event → Type 0
+Said item bytes e = (decimal item ++ 32 ∷ bytes ≡ line_text (lines.Event e)) × (e.word < 2 ^ 32) × IsNamingOk e.kind e.names × (is_order_ok e.kind ≡ true → IsKindOk e.kind e.item e.space e.word)
 
--- a kind of atomic access, by its keyword
-record IsAtomic (key : List ℕ) (scope : Scope) (order : Order) (k : Kind) : Type 0 where
-  text : (e : Event) → first_word k e.item ++ later_text (later_words k e) ≡ decimal e.item ++ later_text (key ∷ space_word e.space ∷ decimal e.word ∷ scope_word scope ∷ order_word order ∷ names_words e.names)
-  ok : (item : ℕ) (space : Space) (word : ℕ) → is_order_ok k ≡ true → IsKindOk k item space word
-
-kind_found : (key : List ℕ) (scope : Scope) (order : Order) (k : Kind) → kind_said key scope order ≡ Some k → IsAtomic key scope order k
+kind_found : (key : List ℕ) (scope : Scope) (order : Order) (k : Kind) → kind_said key scope order ≡ Some k → (e : Event) → decimal e.item ++ later_text (key ∷ space_word e.space ∷ decimal e.word ∷ scope_word scope ∷ order_word order ∷ names_words e.names) ≡ first_word k e.item ++ later_text (later_words k e)
 unfolding kind_said
-kind_found key scope order (Load s o) e = record { text = λ x. grind (arith, same_told); ok = λ item space word h. not-true _ h }
-kind_found key scope order (Store s o) e = record { text = λ x. grind (arith, same_told); ok = λ item space word h. not-true _ h }
-kind_found key scope order (Rmw s o) e = record { text = λ x. grind (arith, same_told); ok = λ item space word h. tt }
-kind_found key scope order k e = absurd (grind arith)
+kind_found key scope order (Load s o) h e = grind (arith, same_told)
+kind_found key scope order (Store s o) h e = grind (arith, same_told)
+kind_found key scope order (Rmw s o) h e = grind (arith, same_told)
+kind_found key scope order k h e = absurd (grind arith)
+
+kind_ok : (key : List ℕ) (scope : Scope) (order : Order) (k : Kind) → kind_said key scope order ≡ Some k → (item : ℕ) (space : Space) (word : ℕ) → is_order_ok k ≡ true → IsKindOk k item space word
+unfolding kind_said
+kind_ok key scope order k h item space word ok = grind arith
+
+atomic_found : (key : List ℕ) (item : ℕ) (space : Space) (word : ℕ) (bytes : List ℕ) → word < 2 ^ 32 → (e : Event) → atomic_said key item space word bytes ≡ Some e → Said item (key ++ 32 ∷ (space_word space ++ 32 ∷ (decimal word ++ 32 ∷ bytes))) e
+unfolding atomic_said scope_said order_said Said
+atomic_found key item space word bytes lt e h =
+    let a : (s : Scope) × (o : Order) × (kind_said key s o ≡ Some e.kind) × (bytes ≡ scope_word s ++ later_text (order_word o ∷ names_words e.names)) × IsNamingOk e.kind e.names × (item ≡ e.item) × (space ≡ e.space) × (word ≡ e.word) = grind (arith, first_told, same_told, naming_told, names_told) in
+    (rw (a.3, a.5, a.6, a.7) (kind_found key a.0 a.1 e.kind a.2 e), rw a.7 at lt, a.4, kind_ok key a.0 a.1 e.kind a.2 e.item e.space e.word)
+
+atomic_told : (key : List ℕ) (item : ℕ) (space : Space) (word : ℕ) (bytes : List ℕ) → word < 2 ^ 32 → (atomic_said key item space word bytes ≡ atomic_said key item space word bytes) × IfSome (atomic_said key item space word bytes) (λ e. Said item (key ++ 32 ∷ (space_word space ++ 32 ∷ (decimal word ++ 32 ∷ bytes))) e)
+atomic_told key item space word bytes lt = (refl, each_some (atomic_said key item space word bytes) _ (atomic_found key item space word bytes lt))
+
+module _ (item : ℕ) (bytes key b c : List ℕ) (e : Event) (first : bytes ≡ key ++ 32 ∷ b) (second : b ≡ (first_of b).0 ++ 32 ∷ c) where
+  bar_found : same key (codes "bar") ≡ true → at_end (first_of c).1 (barrier_said item (first_of b).0 (first_of c).0) ≡ Some e → Said item bytes e
+  unfolding barrier_said flags_said Said
+  bar_found is h = grind (arith, first_told, number_told, same_told)
+
+  access_found : (space_said (first_of b).0 >>= λ space. number_of (first_of c).0 >>= λ word.
+      cond (same key (codes "r")) (at_end (first_of c).1 (Some (record { item = item; kind = Read; space = space; word = word; names = [] })))
+      (cond (same key (codes "w")) (at_end (first_of c).1 (Some (record { item = item; kind = Write; space = space; word = word; names = [] })))
+      ((first_of c).1 >>= λ d. atomic_said key item space word d))) ≡ Some e → Said item bytes e
+  unfolding Said
+  access_found h = let third = first_found 32 c in grind (arith, number_told, same_told, space_told, atomic_told)
 
 event_found : (item : ℕ) (bytes : List ℕ) (e : Event) → event_said item bytes ≡ Some e → Said item bytes e
-unfolding event_said barrier_said atomic_said
+unfolding event_said
 event_found item bytes e h =
     let b = word_found bytes _ e h in
     let c = word_found b.0 _ e b.2 in
-    choose _ _ _ e c.2 (Said item bytes e)
-    (λ key bar.
-    let z = at_end_some _ _ e bar in
-    let w = bind_some _ _ e z.1 in
-    let f = bind_some _ _ e w.2 in
-    let n = number_found _ w.0 w.1 in
-    let text = spaced b.1 (same_is _ (codes "bar") key) (spaced c.1 n.0 (joined (first_found 32 c.0) (flags_found _ f.0 f.1) (ap behind_space z.0))) in
-    subst (Said item bytes) (some_is _ e f.2) (record { text = ap (after item) text; word = n.1; naming = tt; ok = λ _. refl }))
-    (λ other.
-    let s = bind_some _ _ e other in
-    let w = bind_some _ _ e s.2 in
-    let space = space_found _ s.0 s.1 in
-    let n = number_found _ w.0 w.1 in
-    choose _ _ _ e w.2 (Said item bytes e)
-    (λ key read.
-    let z = at_end_some _ _ e read in
-    let text = spaced b.1 (same_is _ (codes "r") key) (spaced c.1 space (joined (first_found 32 c.0) n.0 (ap behind_space z.0))) in
-    subst (Said item bytes) (some_is _ e z.1) (record { text = ap (after item) text; word = n.1; naming = tt; ok = λ _. tt }))
-    (λ more. choose _ _ _ e more (Said item bytes e)
-    (λ key write.
-    let z = at_end_some _ _ e write in
-    let text = spaced b.1 (same_is _ (codes "w") key) (spaced c.1 space (joined (first_found 32 c.0) n.0 (ap behind_space z.0))) in
-    subst (Said item bytes) (some_is _ e z.1) (record { text = ap (after item) text; word = n.1; naming = tt; ok = λ _. tt }))
-    (λ atomic.
-    let d = word_found c.0 _ e atomic in
-    let r = word_found d.0 _ e d.2 in
-    let sc = bind_some _ _ e r.2 in
-    let o = bind_some _ _ e sc.2 in
-    let k = bind_some _ _ e o.2 in
-    let said = bind_some _ _ e k.2 in
-    let names = bind_some _ _ e said.2 in
-    let named = named_found k.0 said.0 names.0 names.1 in
-    let a = kind_found _ sc.0 o.0 k.0 k.1 in
-    let behind = joined (first_found 32 r.0) (order_found _ o.0 o.1) (names_found _ MOST_NAMES said.0 said.1 ∙ ap (λ (x : List Name). later_text (names_words x)) named.0) in
-    let text = spaced b.1 refl (spaced c.1 space (spaced d.1 n.0 (spaced r.1 (scope_found _ sc.0 sc.1) behind))) in
-    let x : Event = record { item = item; kind = k.0; space = s.0; word = w.0; names = names.0 } in
-    subst (Said item bytes) (some_is x e names.2) (record { text = ap (after item) text ∙ sym (a.text x); word = n.1; naming = named.1; ok = a.ok item s.0 w.0 }))))
+    choose _ _ _ e c.2 (Said item bytes e) (bar_found item bytes _ b.0 c.0 e b.1 c.1) (access_found item bytes _ b.0 c.0 e b.1 c.1)
 
 -- ---- whole lines
 
-line_of_event : (v : Version) (bytes rest : List ℕ) (item : ℕ) (x e : Event) → bytes ≡ after item rest → Said item rest x → checked v x ≡ Some e → IsSaid v (lines.Event e) × (bytes ≡ line_text (lines.Event e))
-line_of_event v bytes rest item x e first said check =
+line_of_event : (v : Version) (item : ℕ) (bytes : List ℕ) (x e : Event) → Said item bytes x → checked v x ≡ Some e → IsSaid v (lines.Event e) × (decimal item ++ 32 ∷ bytes ≡ line_text (lines.Event e))
+unfolding Said
+line_of_event v item bytes x e said check =
     let g = guard_some _ _ _ check in
     let q = and_parts _ _ g.0 in
     let p = and_parts _ _ q.0 in
-    subst (λ (y : Event). IsSaid v (lines.Event y) × (bytes ≡ line_text (lines.Event y))) (some_is x e g.1)
-    ((record { ok = (ltb-true _ _ p.0, said.naming, said.ok p.1); word = said.word }, (naming_found v x.kind x.names q.1).1), first ∙ said.text)
+    subst (λ (y : Event). IsSaid v (lines.Event y) × (decimal item ++ 32 ∷ bytes ≡ line_text (lines.Event y))) (some_is x e g.1)
+    ((record { ok = (ltb-true _ _ p.0, said.2, said.3 p.1); word = said.1 }, (naming_found v x.kind x.names q.1).1), said.0)
 
-end_is_said : (v : Version) (cut : Bool) → IsSaid v (lines.Event (end_of cut))
-end_is_said v cut = (record { ok = (grind arith, tt, (refl, refl, refl)); word = omega arith }, λ k d lt. absurd (omega arith))
-
-end_found : (rest : Option (List ℕ)) (e : Event) → end_said rest ≡ Some e → (cut : Bool) × (end_of cut ≡ e) × (codes "end" ++ behind_space rest ≡ line_text (lines.Event (end_of cut)))
-end_found None e h = (false, some_is (end_of false) e h, refl)
-end_found (Some rest) e h = let g = guard_some _ _ e h in (true, some_is (end_of true) e g.1, rw (same_is rest (codes "cut") g.0) refl)
+end_found : (v : Version) (rest : Option (List ℕ)) (e : Event) → end_said rest ≡ Some e → IsSaid v (lines.Event e) × (codes "end" ++ behind_space rest ≡ line_text (lines.Event e))
+end_found v rest e h = grind (arith, same_told)
 
 pub read_is_text : ReadIsText
 unfolding line_said
@@ -234,11 +185,12 @@ read_is_text v bytes l h =
     (λ other. choose _ _ _ l other (IsSaid v l × (bytes ≡ line_text l))
     (λ key end.
     let x = bind_some _ _ l end in
-    let f = end_found _ x.0 x.1 in
-    subst (λ (y : Line). IsSaid v y × (bytes ≡ line_text y)) (ap (λ (y : Event). lines.Event y) f.1 ∙ some_is _ l x.2) (end_is_said v f.0, joined (first_found 32 bytes) (same_is _ (codes "end") key) refl ∙ f.2))
+    let f = end_found v _ x.0 x.1 in
+    subst (λ (y : Line). IsSaid v y × (bytes ≡ line_text y)) (some_is _ l x.2) (f.0, joined (first_found 32 bytes) (same_is _ (codes "end") key) refl ∙ f.1))
     (λ event.
     let i = bind_some _ _ l event in
     let b = word_found bytes _ l i.2 in
     let x = bind_some _ _ l b.2 in
     let c = bind_some _ _ l x.2 in
-    subst (λ (y : Line). IsSaid v y × (bytes ≡ line_text y)) (some_is _ l c.2) (line_of_event v bytes b.0 i.0 x.0 c.0 (spaced b.1 (short_found _ i.0 i.1).0 refl) (event_found i.0 b.0 x.0 x.1) c.1)))
+    let f = line_of_event v i.0 b.0 x.0 c.0 (event_found i.0 b.0 x.0 x.1) c.1 in
+    subst (λ (y : Line). IsSaid v y × (bytes ≡ line_text y)) (some_is _ l c.2) (f.0, spaced b.1 (short_found _ i.0 i.1).0 refl ∙ f.1)))
