@@ -1,6 +1,6 @@
 -- A line has no line feed, and no `@` but that of its site; with its site it is read from its text, and what is read has that text.
-use Rattle.std.proofs.Common.{◌≡◌, ℕ, suc, ◌^◌, ◌<◌, Bool, true, false, List, [], ◌∷◌, ◌++◌, All, refl, sym, ap, ◌∙◌, arith, inl, inr, true≢false, ◌+◌, ◌-◌, length, take, Option, Some, None, subst, append_assoc}
-use Rattle.std.specs.Prelude.{nat_lt, not, ◌==◌, ◌&&◌, codes, decimal, ⊤, slice_index}
+use Rattle.std.proofs.Common.{◌≡◌, ℕ, suc, ◌^◌, ◌<◌, Bool, true, false, List, [], ◌∷◌, ◌++◌, All, refl, ap, arith, inl, inr, ◌+◌, ◌-◌, length, take, Some, None, append_assoc}
+use Rattle.std.specs.Prelude.{IfSome, nat_lt, not, ◌==◌, ◌&&◌, codes, decimal, ⊤, slice_index}
 use Rattle.std.proofs.lemmas.Bool.{and_parts, cases_Bool, eqb-true, eqb-false}
 use Rattle.std.proofs.lemmas.Bool.Decides.{nat_tests}
 use Rattle.gr_model.specs.declared.event.Scope.{Scope}
@@ -16,13 +16,14 @@ use Rattle.gr_record.proofs.Places.{each_in_range, header_group, header_items, i
 use Rattle.gr_text.specs.declared.line.Line.{Line}
 use Rattle.gr_text.specs.declared.line.Line.TheVariants as lines
 use Rattle.gr_text.specs.declared.line.SitedLine.{SitedLine}
-use Rattle.gr_text.specs.LineLaws.{IsSaid, IsSiteOf, IsSitedSaid, SitedTextIsRead, SitedReadIsText}
-use Rattle.gr_text.specs.LineReading.{IsWithout, behind_mark, cut_at, unspaced, site_said, event_in, sited_by, sited_said}
+use Rattle.gr_text.specs.LineLaws.{IsSaid, IsSiteOf, SitedTextIsRead, SitedReadIsText}
+use Rattle.gr_text.specs.LineReading.{line_said, IsWithout, behind_mark, cut_at, unspaced, site_said, sited_said}
 use Rattle.gr_text.specs.LineText.{line_text, sited_text, site_text, name_words, names_words, atomic_words, first_word, later_words, later_text, header_words}
 use Rattle.gr_text.proofs.LineWords.{are, are-append, are_weaker, are_without, is_digit, decimal_digits, first_back, first_found, short_again}
 use Rattle.std.proofs.lemmas.List.{append-nil, length-append, take_at, get_or-append-add}
 use Rattle.gr_record.specs.Versions.{has_sites}
-use Rattle.gr_text.proofs.LinesFound.{bind_some, guard_some, some_is, short_told, read_is_text}
+use Rattle.gr_text.proofs.LinesFound.{short_told, read_is_text}
+use Rattle.gr_text.proofs.LineNumbers.{each_some}
 use Rattle.gr_text.proofs.LinesAgain.{text_is_read}
 
 -- each byte is above that of a line feed, and none is `@`
@@ -103,11 +104,9 @@ last_space (b ∷ c ∷ bytes) h =
     let ih = last_space (c ∷ bytes) (rw k at h) in
     rw k (ap (λ (x : List ℕ). b ∷ x) ih)
 
-unspaced_found : (bytes front : List ℕ) → unspaced bytes ≡ Some front → bytes ≡ front ++ 32 ∷ []
+unspaced_told : (bytes : List ℕ) → (unspaced bytes ≡ unspaced bytes) × IfSome (unspaced bytes) (λ front. bytes ≡ front ++ 32 ∷ [])
 unfolding unspaced
-unspaced_found bytes front h =
-    let g = guard_some _ _ _ h in
-    last_space bytes (eqb-true _ 32 g.0) ∙ ap (λ (x : List ℕ). x ++ 32 ∷ []) (some_is (take (length bytes - 1) bytes) front g.1)
+unspaced_told bytes = let last = last_space bytes in grind (arith, nat_tests, last)
 
 unspaced_back : (front : List ℕ) → unspaced (front ++ 32 ∷ []) ≡ Some front
 unfolding unspaced
@@ -115,12 +114,6 @@ unspaced_back front =
     let k : length (front ++ 32 ∷ []) - 1 ≡ length front + 0 = omega (arith, length-append front (32 ∷ [])) in
     let z : length front + 0 ≡ length front = omega arith in
     rw (k, get_or-append-add front (32 ∷ []) 0 0, z, take_at front (32 ∷ []) (length front) refl) refl
-
--- ---- the number of a site
-
-site_found : (word : List ℕ) (site : ℕ) → site_said word ≡ Some site → (word ≡ decimal site) × (site < 2 ^ 16) × ((site == 0) ≡ false)
-unfolding site_said
-site_found word site h = grind (arith, short_told)
 
 -- ---- whole lines
 
@@ -155,32 +148,12 @@ sited_text_is_read v l (said, ok) = by_site l.line l.site (l.site == 0) refl sai
           | inr none_has ↦ absurd (eqb-false site 0 is (ok.1 none_has))
         ]
 
-event_is : (l : Line) (e : Event) → event_in l ≡ Some e → l ≡ lines.Event e
-event_is l e k = grind arith
+mark_told : (bytes : List ℕ) → (cut_at 64 bytes ≡ cut_at 64 bytes) × (bytes ≡ (cut_at 64 bytes).0 ++ behind_mark 64 (cut_at 64 bytes).1)
+mark_told bytes = (refl, first_found 64 bytes)
+
+line_told : (v : Version) (bytes : List ℕ) → (line_said v bytes ≡ line_said v bytes) × IfSome (line_said v bytes) (λ l. IsSaid v l × (bytes ≡ line_text l))
+line_told v bytes = (refl, each_some (line_said v bytes) _ (read_is_text v bytes))
 
 pub sited_read_is_text : SitedReadIsText
-unfolding sited_said
-sited_read_is_text v bytes l h = by_cut (cut_at 64 bytes).0 (cut_at 64 bytes).1 (first_found 64 bytes) h
-  where
-    by_cut : (before : List ℕ) (behind : Option (List ℕ)) → bytes ≡ before ++ behind_mark 64 behind → sited_by v before behind ≡ Some l → IsSitedSaid v l × (bytes ≡ sited_text l)
-    by_cut before None text k =
-        let x = bind_some _ _ _ k in
-        let r = read_is_text v before x.0 x.1 in
-        subst (λ (y : SitedLine). IsSitedSaid v y × (bytes ≡ sited_text y)) (some_is (record { line = x.0; site = 0 }) l x.2)
-        ((r.0, no_site v x.0), text ∙ ap (λ (w : List ℕ). w ++ []) r.1)
-    by_cut before (Some behind) text k =
-        let g = guard_some _ _ _ k in
-        let s = bind_some _ _ _ g.1 in
-        let f = bind_some _ _ _ s.2 in
-        let x = bind_some _ _ _ f.2 in
-        let e = bind_some _ _ _ x.2 in
-        let site = site_found behind s.0 s.1 in
-        let front = unspaced_found before f.0 f.1 in
-        let r = read_is_text v f.0 x.0 x.1 in
-        let is = event_is x.0 e.0 e.1 in
-        let said : IsSaid v (lines.Event e.0) = subst (IsSaid v) is r.0 in
-        let line : f.0 ≡ line_text (lines.Event e.0) = r.1 ∙ ap line_text is in
-        let whole : bytes ≡ line_text (lines.Event e.0) ++ 32 ∷ 64 ∷ decimal s.0 =
-        text ∙ ap (λ (w : List ℕ). before ++ 64 ∷ w) site.0 ∙ ap (λ (w : List ℕ). w ++ 64 ∷ decimal s.0) front ∙ append_assoc f.0 (32 ∷ []) (64 ∷ decimal s.0) ∙ ap (λ (w : List ℕ). w ++ 32 ∷ 64 ∷ decimal s.0) line in
-        subst (λ (y : SitedLine). IsSitedSaid v y × (bytes ≡ sited_text y)) (some_is (record { line = lines.Event e.0; site = s.0 }) l e.2)
-        ((said, (site.1, λ none. absurd (true≢false (sym g.0 ∙ none)))), rw site.2 whole)
+unfolding sited_said site_said
+sited_read_is_text v bytes l h = grind (arith, mark_told, short_told, line_told, unspaced_told, no_site, append_assoc)

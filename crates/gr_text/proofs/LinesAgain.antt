@@ -1,16 +1,15 @@
 -- What has a line is read from it.
-use Rattle.std.proofs.Common.{◌≡◌, ℕ, ◌^◌, ◌<◌, ◌≤◌, Bool, true, false, List, [], ◌∷◌, ◌++◌, length, zero, suc, All, Option, Some, None, refl, ap, arith}
+use Rattle.std.proofs.Common.{◌≡◌, ℕ, ◌^◌, ◌<◌, ◌≤◌, true, false, List, [], ◌∷◌, ◌++◌, length, zero, suc, All, Option, Some, None, refl, ap, arith}
 use Rattle.std.specs.Prelude.{not, decimal, codes}
 use Rattle.std.proofs.lemmas.Bool.{lt-ltb, le-leb}
 use Rattle.gr_model.specs.declared.event.Space.{Space}
-use Rattle.gr_model.specs.declared.event.Space.TheVariants.{Global}
 use Rattle.gr_model.specs.declared.event.Scope.{Scope}
 use Rattle.gr_model.specs.declared.event.Order.{Order}
 use Rattle.gr_model.specs.declared.event.Kind.{Kind}
 use Rattle.gr_model.specs.declared.event.Kind.TheVariants.{Read, Write, Load, Store, Rmw, Barrier, End}
 use Rattle.gr_model.specs.declared.event.Name.{Name}
 use Rattle.gr_model.specs.declared.event.Event.{Event}
-use Rattle.gr_model.specs.Events.{IsNamingOk, IsKindOk, end_of}
+use Rattle.gr_model.specs.Events.{IsNamingOk, IsKindOk}
 use Rattle.gr_record.specs.declared.header.Version.{Version}
 use Rattle.gr_record.specs.declared.header.Version.TheVariants.{One, Four}
 use Rattle.gr_model.specs.NameLists.{IsNameInRange}
@@ -55,44 +54,6 @@ names_again (n ∷ names) (suc most) few each =
     let ih = names_again names most (omega arith) (λ k d lt. each (suc k) d (omega arith)) in
     rw (one, ih) refl
 
--- ---- the words behind the item
-
-atomic_again : (key : List ℕ) (kind : Kind) (item : ℕ) (space : Space) (word : ℕ) (scope : Scope) (order : Order) (names : List Name) → kind_said key scope order ≡ Some kind → IsNamingOk kind names
-    → atomic_said key item space word (scope_word scope ++ later_text (order_word order ∷ names_words names)) ≡ Some (record { item = item; kind = kind; space = space; word = word; names = names })
-unfolding atomic_said
-atomic_again key kind item space word scope order names is ok =
-    let said = names_again names 4 (few_names kind names ok) (each_in_range kind names ok) in
-    rw (first_of_space (scope_word scope) _ (scope_again scope).0, word_before (order_word order) (names_words names) (order_again order).0, (scope_again scope).1, (order_again order).1, is, said, naming_back Four kind names ok (each_in_range kind names ok)) refl
-
-module _ (item word : ℕ) (space : Space) (fits : word < 2 ^ 32) where
-  abbrev place_words : List (List ℕ) → List (List ℕ)
-  place_words more = space_word space ∷ decimal word ∷ more
-
-  read_again : event_said item (codes "r" ++ later_text (place_words [])) ≡ Some (record { item = item; kind = Read; space = space; word = word; names = [] })
-  unfolding event_said same
-  read_again =
-      rw (first_of_space (codes "r") _ (key_word (codes "r") refl), first_of_space (space_word space) _ (space_again space).0, first_of_last (decimal word) (decimal_word word fits), (space_again space).1, number_back word fits) refl
-
-  write_again : event_said item (codes "w" ++ later_text (place_words [])) ≡ Some (record { item = item; kind = Write; space = space; word = word; names = [] })
-  unfolding event_said same
-  write_again =
-      rw (first_of_space (codes "w") _ (key_word (codes "w") refl), first_of_space (space_word space) _ (space_again space).0, first_of_last (decimal word) (decimal_word word fits), (space_again space).1, number_back word fits) refl
-
-  barrier_again : (global local : Bool) → event_said item (codes "bar" ++ later_text (decimal word ∷ flags_word global local ∷ [])) ≡ Some (record { item = item; kind = Barrier global local; space = Global; word = word; names = [] })
-  unfolding event_said barrier_said same
-  barrier_again global local =
-      rw (first_of_space (codes "bar") _ (key_word (codes "bar") refl), first_of_space (decimal word) _ (decimal_word word fits), first_of_last (flags_word global local) (flags_again global local).0, number_back word fits, (flags_again global local).1) refl
-
-  module _ (scope : Scope) (order : Order) (names : List Name) where
-    abbrev words_behind : List (List ℕ)
-    words_behind = scope_word scope ∷ order_word order ∷ names_words names
-
-    access_again : (key : List ℕ) (kind : Kind) → IsWord key → same key (codes "bar") ≡ false → same key (codes "r") ≡ false → same key (codes "w") ≡ false → kind_said key scope order ≡ Some kind → IsNamingOk kind names
-        → event_said item (key ++ later_text (place_words words_behind)) ≡ Some (record { item = item; kind = kind; space = space; word = word; names = names })
-    unfolding event_said
-    access_again key kind is no_barrier no_read no_write said ok =
-        rw (first_of_space key _ is, no_barrier, no_read, no_write, first_of_space (space_word space) _ (space_again space).0, first_of_space (decimal word) _ (decimal_word word fits), (space_again space).1, number_back word fits) (atomic_again key kind item space word scope order names said ok)
-
 -- ---- the whole line
 
 -- a line of a stream of one version
@@ -104,25 +65,31 @@ module _ (v : Version) where
       let few = items_within v in
       rw (first_of_space (decimal e.item) _ (decimal_word e.item (omega arith)), no_key e.item (codes "group") (omega arith) refl, no_key e.item (codes "end") (omega arith) refl, short_again e.item (omega arith), is, lt-ltb e.item (most_items v) lt, order, named) refl
 
-  end_again : (cut : Bool) → line_said v (line_text (lines.Event (end_of cut))) ≡ Some (lines.Event (end_of cut))
-  unfolding line_said same
-  end_again true = rw (first_of_space (codes "end") _ (key_word (codes "end") refl)) refl
-  end_again false = rw (first_of_last (codes "end") (key_word (codes "end") refl)) refl
+  access_again : (item word : ℕ) (space : Space) (scope : Scope) (order : Order) (names : List Name) (key : List ℕ) (kind : Kind) → item < most_items v → word < 2 ^ 32 → is_order_ok kind ≡ true → is_naming_ok v kind names ≡ true → IsNamingOk kind names
+      → IsWord key → same key (codes "bar") ≡ false → same key (codes "r") ≡ false → same key (codes "w") ≡ false → kind_said key scope order ≡ Some kind
+      → line_said v (decimal item ++ later_text (key ∷ space_word space ∷ decimal word ∷ scope_word scope ∷ order_word order ∷ names_words names)) ≡ Some (lines.Event (record { item = item; kind = kind; space = space; word = word; names = names }))
+  unfolding event_said atomic_said
+  access_again item word space scope order names key kind lt fits ordered named naming is no_barrier no_read no_write said =
+      let each = each_in_range kind names naming in
+      let found = names_again names 4 (few_names kind names naming) each in
+      event_line _ key (space_word space ∷ decimal word ∷ scope_word scope ∷ order_word order ∷ names_words names) lt ordered named
+      (rw (first_of_space key _ is, no_barrier, no_read, no_write, first_of_space (space_word space) _ (space_again space).0, first_of_space (decimal word) _ (decimal_word word fits), (space_again space).1, number_back word fits)
+      (rw (first_of_space (scope_word scope) _ (scope_again scope).0, word_before (order_word order) (names_words names) (order_again order).0, (scope_again scope).1, (order_again order).1, said, found, naming_back Four kind names naming each) refl))
 
   event_again : (item word : ℕ) (kind : Kind) (space : Space) (names : List Name) → item < most_items v → word < 2 ^ 32 → IsNamingOk kind names → is_naming_ok v kind names ≡ true → IsKindOk kind item space word
       → line_said v (line_text (lines.Event (record { item = item; kind = kind; space = space; word = word; names = names }))) ≡ Some (lines.Event (record { item = item; kind = kind; space = space; word = word; names = names }))
-  unfolding kind_said same
-  event_again item word Read space [] lt fits naming named ok = event_line _ (codes "r") (space_word space ∷ decimal word ∷ []) lt refl named (read_again item word space fits)
-  event_again item word Write space [] lt fits naming named ok = event_line _ (codes "w") (space_word space ∷ decimal word ∷ []) lt refl named (write_again item word space fits)
-  event_again item word (Load scope order) space names lt fits naming named ok = event_line _ (codes "ld") (space_word space ∷ decimal word ∷ scope_word scope ∷ order_word order ∷ names_words names) lt (ap not ok) named
-      (access_again item word space fits scope order names (codes "ld") (Load scope order) (key_word (codes "ld") refl) refl refl refl refl naming)
-  event_again item word (Store scope order) space names lt fits naming named ok = event_line _ (codes "st") (space_word space ∷ decimal word ∷ scope_word scope ∷ order_word order ∷ names_words names) lt (ap not ok) named
-      (access_again item word space fits scope order names (codes "st") (Store scope order) (key_word (codes "st") refl) refl refl refl refl naming)
-  event_again item word (Rmw scope order) space names lt fits naming named ok = event_line _ (codes "rmw") (space_word space ∷ decimal word ∷ scope_word scope ∷ order_word order ∷ names_words names) lt refl named
-      (access_again item word space fits scope order names (codes "rmw") (Rmw scope order) (key_word (codes "rmw") refl) refl refl refl refl naming)
-  event_again item word (Barrier global local) space [] lt fits naming named ok = rw ok (event_line _ (codes "bar") (decimal word ∷ flags_word global local ∷ []) lt refl named (barrier_again item word space fits global local))
-  event_again item word (End true) space [] lt fits naming named ok = rw (ok.0, ok.1, ok.2) (end_again true)
-  event_again item word (End false) space [] lt fits naming named ok = rw (ok.0, ok.1, ok.2) (end_again false)
+  unfolding kind_said same line_said event_said barrier_said
+  event_again item word Read space [] lt fits naming named ok = event_line _ (codes "r") (space_word space ∷ decimal word ∷ []) lt refl named
+      (rw (first_of_space (codes "r") _ (key_word (codes "r") refl), first_of_space (space_word space) _ (space_again space).0, first_of_last (decimal word) (decimal_word word fits), (space_again space).1, number_back word fits) refl)
+  event_again item word Write space [] lt fits naming named ok = event_line _ (codes "w") (space_word space ∷ decimal word ∷ []) lt refl named
+      (rw (first_of_space (codes "w") _ (key_word (codes "w") refl), first_of_space (space_word space) _ (space_again space).0, first_of_last (decimal word) (decimal_word word fits), (space_again space).1, number_back word fits) refl)
+  event_again item word (Load scope order) space names lt fits naming named ok = access_again item word space scope order names (codes "ld") _ lt fits (ap not ok) named naming (key_word (codes "ld") refl) refl refl refl refl
+  event_again item word (Store scope order) space names lt fits naming named ok = access_again item word space scope order names (codes "st") _ lt fits (ap not ok) named naming (key_word (codes "st") refl) refl refl refl refl
+  event_again item word (Rmw scope order) space names lt fits naming named ok = access_again item word space scope order names (codes "rmw") _ lt fits refl named naming (key_word (codes "rmw") refl) refl refl refl refl
+  event_again item word (Barrier global local) space [] lt fits naming named ok = rw ok (event_line _ (codes "bar") (decimal word ∷ flags_word global local ∷ []) lt refl named
+      (rw (first_of_space (codes "bar") _ (key_word (codes "bar") refl), first_of_space (decimal word) _ (decimal_word word fits), first_of_last (flags_word global local) (flags_again global local).0, number_back word fits, (flags_again global local).1) refl))
+  event_again item word (End true) space [] lt fits naming named ok = rw (ok.0, ok.1, ok.2, first_of_space (codes "end") _ (key_word (codes "end") refl)) refl
+  event_again item word (End false) space [] lt fits naming named ok = rw (ok.0, ok.1, ok.2, first_of_last (codes "end") (key_word (codes "end") refl)) refl
   event_again item word kind space names lt fits naming named ok = cc
 
 pub text_is_read : TextIsRead

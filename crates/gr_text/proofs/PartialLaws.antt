@@ -1,8 +1,8 @@
 -- What stands in bytes before their first fault, as loops find it, and that what is told of bytes is that.
-use Rattle.std.proofs.Common.{◌≡◌, ℕ, suc, ◌+◌, false, List, [], ◌++◌, length, map, Option, Some, None, Result, Ok, Err, refl, sym, ap, ◌∙◌, append_assoc, arith, inl, inr, ◌⊎◌, zero, ◌∷◌, subst, IfSome, IsOk}
+use Rattle.std.proofs.Common.{◌≡◌, ℕ, suc, ◌+◌, List, [], ◌++◌, length, map, Option, Some, None, Result, Ok, Err, refl, sym, ap, ◌∙◌, append_assoc, arith, inl, inr, ◌⊎◌, zero, ◌∷◌, subst, IfSome, IsOk}
 use Rattle.std.specs.List.{flat_map}
 use Rattle.std.specs.Option.{option_map_or}
-use Rattle.std.proofs.lemmas.Bool.{cases_Bool, eqb-true}
+use Rattle.std.proofs.lemmas.Bool.{cases_Bool}
 use Rattle.std.proofs.lemmas.List.{append-nil, nil_from_length}
 use Rattle.std.proofs.lemmas.List.Concat.{flat_map-append}
 use Rattle.gr_model.specs.declared.event.Event.{Event}
@@ -17,18 +17,18 @@ use Rattle.gr_record.specs.Sites.{all_sited, Sited}
 use Rattle.gr_record.specs.WholeStreams.{front_header_at, front_records_at, stream_spelling}
 use Rattle.gr_text.specs.Dumps.{WholeStream, parts_in, dumped, stream_at, streams_at, streams_in}
 use Rattle.gr_text.specs.Texts.{header_line, record_line, whole_line, ◌>>=◌}
-use Rattle.gr_text.specs.Partial.{front_at, lines_before, Front, front_behind, text_before_fault, WholeStreamsStandWhole, IsRefusedAtHeader, IsRefusedBehind, StandsBefore, RefusedIsToldUpToItsFault}
+use Rattle.gr_text.specs.Partial.{front_at, lines_before, Front, text_before_fault, WholeStreamsStandWhole, IsRefusedAtHeader, IsRefusedBehind, StandsBefore, RefusedIsToldUpToItsFault}
 use Rattle.std.specs.Prelude.{◌==◌}
 use Rattle.std.proofs.lemmas.List.Elements.{All-cons, All-nil}
 use Rattle.std.specs.Io.KnownBytes.{Appends}
 use Rattle.gr_record.specs.declared.fault.Fault.{Fault}
 use Rattle.gr_record.specs.declared.fault.Fault.TheVariants as faults
-use Rattle.gr_record.proofs.FoundPrefixes.{events_sited, is_at_end, records_found}
+use Rattle.gr_record.proofs.FoundPrefixes.{events_sited, records_found}
 use Rattle.gr_model.specs.Streams.{is_complete}
 use Rattle.gr_text.specs.Wholes.{IsWhole, bytes_of, text_of}
 use Rattle.gr_text.specs.Writes.{Writes}
 use Rattle.gr_text.proofs.Streaming.{stream_found, streams_text, header_found}
-use Rattle.gr_text.proofs.Steps.{at_place_err, at_place_ok, bind_err, bind_ok, map_err, map_ok, up_to_err}
+use Rattle.gr_text.proofs.Steps.{at_place_err, at_place_ok, bind_err, map_err, map_ok, up_to_err}
 
 abbrev Found : Type 0
 Found = WholeStream × List ℕ
@@ -45,10 +45,9 @@ unfolding stream_at front_records_at
 stands_whole place bytes x e = record { lines = grind arith; behind = grind arith }
 
 -- of a refused stream nothing is left behind, and what stands before the fault is what is read of it
-record StandsRefused (place : ℕ) (bytes : List ℕ) (p : ℕ) (e : RecordError) (front : Front) : Type 0 where
-  at : place ≡ p
-  none_left : front.behind ≡ None
-  stands : IsRefusedAtHeader e bytes front.lines ⊎ IsRefusedBehind e bytes front.lines
+nothing_behind : (place : ℕ) (bytes : List ℕ) (p : ℕ) (e : RecordError) → stream_at place bytes ≡ Err (faults.Stream p e) → (place ≡ p) × ((front_at bytes).behind ≡ None)
+unfolding stream_at front_records_at
+nothing_behind place bytes p e k = grind arith
 
 module _ (place : ℕ) (bytes : List ℕ) (fits : AreBytes bytes) (p : ℕ) (e : RecordError) where
   module _ (h : Header) (mid : List ℕ) (head : front_header_at bytes ≡ Ok (h, mid)) where
@@ -58,35 +57,30 @@ module _ (place : ℕ) (bytes : List ℕ) (fits : AreBytes bytes) (p : ℕ) (e :
     abbrev told : List Sited
     told = all_sited h.version taken.events mid
 
-    refused_behind : front_records_at h mid ≡ Err e → is_at_end taken.stop ≡ false → IsRefusedBehind e bytes (header_line h ∷ map record_line told)
-    refused_behind refused apart =
+    refused_behind : front_records_at h mid ≡ Err e → IsRefusedBehind e bytes (header_line h ∷ map record_line told)
+    unfolding front_records_at
+    refused_behind refused =
         let hf = header_found bytes fits h mid head in
         let rf = records_found h MOST_RECORDS mid hf.fits in
         record {
           stream = record { header = h; records = told };
           prefix = record { header = hf.header; runs = rf.runs; few = rf.few };
-          unended = ap is_complete (events_sited h.version taken.events mid) ∙ rf.complete ∙ apart;
+          unended = ap is_complete (events_sited h.version taken.events mid) ∙ rf.complete ∙ (up_to_err taken.stop taken.events taken.rest e refused).0;
           left = taken.rest;
           parts = hf.parts ∙ ap (λ (v : List ℕ). header_spelling h ++ v) rf.parts ∙ sym (append_assoc (header_spelling h) (events_spelling h.version told) taken.rest);
           refused = ap (front_records_at h) (sym rf.parts) ∙ refused;
           lines = refl;
         }
 
-    records_refused : front_records_at h mid ≡ Err e → place ≡ p → StandsRefused place bytes p e (front_behind (Ok (h, mid)))
-    unfolding front_records_at
-    records_refused refused at = let w = up_to_err taken.stop taken.events taken.rest e refused in record { at = at; none_left = w.1; stands = inr (refused_behind refused w.0) }
-
-  stands_refused : stream_at place bytes ≡ Err (faults.Stream p e) → StandsRefused place bytes p e (front_at bytes)
+  stands_refused : stream_at place bytes ≡ Err (faults.Stream p e) → IsRefusedAtHeader e bytes (front_at bytes).lines ⊎ IsRefusedBehind e bytes (front_at bytes).lines
   unfolding stream_at
   stands_refused k =
       elim (bind_err {X = Header × List ℕ} _ _ (faults.Stream p e) k) [
-        | inl refused ↦
-            let head = at_place_err place (front_header_at bytes) p e refused in
-            subst (λ (z : Result (Header × List ℕ) RecordError). StandsRefused place bytes p e (front_behind z)) (sym head.1) (record { at = head.0; none_left = refl; stands = inl (head.1, refl) })
+        | inl refused ↦ rw (at_place_err place (front_header_at bytes) p e refused).1 (inl (refl, refl))
         | inr read ↦
             let head = at_place_ok place (front_header_at bytes) read.0 read.1 in
             let records = at_place_err place (front_records_at read.0.0 read.0.1) p e (map_err {X = List Event × List ℕ} _ _ (faults.Stream p e) read.2) in
-            subst (λ (z : Result (Header × List ℕ) RecordError). StandsRefused place bytes p e (front_behind z)) (sym head) (records_refused read.0.0 read.0.1 head records.1 records.0)
+            rw head (inr (refused_behind read.0.0 read.0.1 head records.1))
       ]
 
 -- ---- and of all streams
@@ -96,19 +90,9 @@ unfolding lines_before
 lines_more most bytes left is = ap (λ (o : Option (List ℕ)). (front_at bytes).lines ++ option_map_or (λ rest. lines_before most rest) o []) is
 
 all_stand : (most place : ℕ) (bytes : List ℕ) (xs : List WholeStream) → streams_at most place bytes ≡ Ok xs → lines_before most bytes ≡ flat_map parts_in xs
-unfolding streams_at lines_before front_header_at
-all_stand zero place bytes xs e = let same : [] ≡ xs = cc e in ap (flat_map parts_in) same
-all_stand (suc most) place bytes xs e =
-    elim (cases_Bool (length bytes == 0)) [
-      | inl empty ↦
-          let same : [] ≡ xs = cc (rw empty at e) in
-          ap (lines_before (suc most)) (nil_from_length bytes (eqb-true (length bytes) 0 empty)) ∙ ap (flat_map parts_in) same
-      | inr some ↦
-          let s = bind_ok {X = Found} _ _ xs (rw some at e) in
-          let w = stands_whole place bytes s.0 s.1 in
-          let rest = map_ok _ _ xs s.2 in
-          rw (lines_more most bytes (Some s.0.1) w.behind, w.lines, all_stand most (place + 1) s.0.1 rest.0 rest.1) (ap (flat_map parts_in) rest.2)
-    ]
+unfolding streams_at lines_before front_header_at stream_at front_records_at
+all_stand zero place bytes xs e = grind arith
+all_stand (suc most) place bytes xs e = let ih = all_stand most (place + 1) in grind (arith, nil_from_length, ih)
 
 -- what is told of bytes of which the first stream is the one of this place
 abbrev StandsFrom : ℕ → ℕ → RecordError → ℕ → List ℕ → Type 0
@@ -148,9 +132,9 @@ stands_at p e (suc most) place bytes fits k =
     by_stream : (stream_at place bytes ≡ Err (faults.Stream p e)) ⊎ ((x : Found) × (stream_at place bytes ≡ Ok x) × ((streams_at most (place + 1) x.1 >>= λ ys. Ok (x.0 ∷ ys)) ≡ Err (faults.Stream p e)))
         → ((rest : List ℕ) → AreBytes rest → streams_at most (place + 1) rest ≡ Err (faults.Stream p e) → StandsFrom (place + 1) p e most rest) → StandsFrom place p e (suc most) bytes
     by_stream (inl refused) later =
-        let s = stands_refused place bytes fits p e refused in (
+        let s = nothing_behind place bytes p e refused in (
           0,
-          omega (arith, s.at),
+          omega (arith, s.0),
           record {
             streams = [];
             whole = All-nil IsWhole;
@@ -158,8 +142,8 @@ stands_at p e (suc most) place bytes fits k =
             rest = bytes;
             parts = refl;
             lines = (front_at bytes).lines;
-            front = s.stands;
-            is = ap (flat_map whole_line) (lines_more most bytes None s.none_left ∙ append-nil (front_at bytes).lines);
+            front = stands_refused place bytes fits p e refused;
+            is = ap (flat_map whole_line) (lines_more most bytes None s.1 ∙ append-nil (front_at bytes).lines);
           },
         )
     by_stream (inr (x, one, k)) later = by_rest x one (later x.1 (stream_found place bytes fits x one).fits (map_err _ _ (faults.Stream p e) k))
