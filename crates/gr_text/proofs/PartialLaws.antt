@@ -1,7 +1,6 @@
 -- What stands in bytes before their first fault, as loops find it, and that what is told of bytes is that.
 use Rattle.std.proofs.Common.{◌≡◌, ℕ, suc, ◌+◌, List, [], ◌++◌, length, map, Option, Some, None, Result, Ok, Err, refl, sym, ap, ◌∙◌, append_assoc, arith, inl, inr, ◌⊎◌, zero, ◌∷◌, subst, IfSome, IsOk}
 use Rattle.std.specs.List.{flat_map}
-use Rattle.std.specs.Option.{option_map_or}
 use Rattle.std.proofs.lemmas.Bool.{cases_Bool}
 use Rattle.std.proofs.lemmas.List.{append-nil, nil_from_length}
 use Rattle.std.proofs.lemmas.List.Concat.{flat_map-append}
@@ -12,12 +11,11 @@ use Rattle.gr_record.specs.declared.header.Header.{Header}
 use Rattle.gr_record.specs.Fronts.{Records, records_of}
 use Rattle.gr_record.specs.Laws.{AreBytes}
 use Rattle.gr_record.specs.Spelling.{events_spelling, header_spelling}
-use Rattle.gr_text.specs.declared.line.SitedLine.{SitedLine}
 use Rattle.gr_record.specs.Sites.{all_sited, Sited}
 use Rattle.gr_record.specs.WholeStreams.{front_header_at, front_records_at, stream_spelling}
 use Rattle.gr_text.specs.Dumps.{WholeStream, parts_in, dumped, stream_at, streams_at, streams_in}
 use Rattle.gr_text.specs.Texts.{header_line, record_line, whole_line, ◌>>=◌}
-use Rattle.gr_text.specs.Partial.{front_at, lines_before, Front, text_before_fault, WholeStreamsStandWhole, IsRefusedAtHeader, IsRefusedBehind, StandsBefore, RefusedIsToldUpToItsFault}
+use Rattle.gr_text.specs.Partial.{front_at, lines_before, text_before_fault, WholeStreamsStandWhole, IsRefusedAtHeader, IsRefusedBehind, StandsBefore, RefusedIsToldUpToItsFault}
 use Rattle.std.specs.Prelude.{◌==◌}
 use Rattle.std.proofs.lemmas.List.Elements.{All-cons, All-nil}
 use Rattle.std.specs.Io.KnownBytes.{Appends}
@@ -25,7 +23,7 @@ use Rattle.gr_record.specs.declared.fault.Fault.{Fault}
 use Rattle.gr_record.specs.declared.fault.Fault.TheVariants as faults
 use Rattle.gr_record.proofs.FoundPrefixes.{events_sited, records_found}
 use Rattle.gr_model.specs.Streams.{is_complete}
-use Rattle.gr_text.specs.Wholes.{IsWhole, bytes_of, text_of}
+use Rattle.gr_text.specs.Wholes.{IsWhole, bytes_of}
 use Rattle.gr_text.specs.Writes.{Writes}
 use Rattle.gr_text.proofs.Streaming.{stream_found, streams_text, header_found}
 use Rattle.gr_text.proofs.Steps.{at_place_err, at_place_ok, bind_err, map_err, map_ok, up_to_err}
@@ -36,18 +34,14 @@ Found = WholeStream × List ℕ
 -- ---- what stands before the fault of one stream
 
 -- a whole stream stands whole before its fault, and the bytes behind its end are left
-record StandsWhole (x : Found) (front : Front) : Type 0 where
-  lines : front.lines ≡ parts_in x.0
-  behind : front.behind ≡ Some x.1
+stands_whole : (most place : ℕ) (bytes : List ℕ) (x : Found) → stream_at place bytes ≡ Ok x → lines_before (suc most) bytes ≡ parts_in x.0 ++ lines_before most x.1
+unfolding lines_before stream_at front_records_at
+stands_whole most place bytes x e = grind arith
 
-stands_whole : (place : ℕ) (bytes : List ℕ) (x : Found) → stream_at place bytes ≡ Ok x → StandsWhole x (front_at bytes)
-unfolding stream_at front_records_at
-stands_whole place bytes x e = record { lines = grind arith; behind = grind arith }
-
--- of a refused stream nothing is left behind, and what stands before the fault is what is read of it
-nothing_behind : (place : ℕ) (bytes : List ℕ) (p : ℕ) (e : RecordError) → stream_at place bytes ≡ Err (faults.Stream p e) → (place ≡ p) × ((front_at bytes).behind ≡ None)
-unfolding stream_at front_records_at
-nothing_behind place bytes p e k = grind arith
+-- of a refused stream nothing is left behind
+nothing_behind : (most place : ℕ) (bytes : List ℕ) (p : ℕ) (e : RecordError) → stream_at place bytes ≡ Err (faults.Stream p e) → (place ≡ p) × (lines_before (suc most) bytes ≡ (front_at bytes).lines)
+unfolding lines_before stream_at front_records_at
+nothing_behind most place bytes p e k = grind (arith, append-nil)
 
 module _ (place : ℕ) (bytes : List ℕ) (fits : AreBytes bytes) (p : ℕ) (e : RecordError) where
   module _ (h : Header) (mid : List ℕ) (head : front_header_at bytes ≡ Ok (h, mid)) where
@@ -85,10 +79,6 @@ module _ (place : ℕ) (bytes : List ℕ) (fits : AreBytes bytes) (p : ℕ) (e :
 
 -- ---- and of all streams
 
-lines_more : (most : ℕ) (bytes : List ℕ) (left : Option (List ℕ)) → (front_at bytes).behind ≡ left → lines_before (suc most) bytes ≡ (front_at bytes).lines ++ option_map_or (λ rest. lines_before most rest) left []
-unfolding lines_before
-lines_more most bytes left is = ap (λ (o : Option (List ℕ)). (front_at bytes).lines ++ option_map_or (λ rest. lines_before most rest) o []) is
-
 all_stand : (most place : ℕ) (bytes : List ℕ) (xs : List WholeStream) → streams_at most place bytes ≡ Ok xs → lines_before most bytes ≡ flat_map parts_in xs
 unfolding streams_at lines_before front_header_at stream_at front_records_at
 all_stand zero place bytes xs e = grind arith
@@ -110,8 +100,7 @@ stands_at p e (suc most) place bytes fits k =
     by_rest : (x : Found) → stream_at place bytes ≡ Ok x → StandsFrom (place + 1) p e most x.1 → StandsFrom place p e (suc most) bytes
     by_rest x one (k, at, more) =
         let s = stream_found place bytes fits x one in
-        let w = stands_whole place bytes x one in
-        let lines_are = lines_more most bytes (Some x.1) w.behind ∙ ap (λ (v : List SitedLine). v ++ lines_before most x.1) w.lines in (
+        let lines_are = stands_whole most place bytes x one in (
           k + 1,
           omega (arith, at),
           record {
@@ -122,17 +111,14 @@ stands_at p e (suc most) place bytes fits k =
             parts = s.spelled ∙ ap (λ (v : List ℕ). stream_spelling x.0.header x.0.records ++ v) more.parts ∙ sym (append_assoc (stream_spelling x.0.header x.0.records) (bytes_of more.streams) more.rest);
             lines = more.lines;
             front = more.front;
-            is =
-                ap (flat_map whole_line) lines_are ∙ flat_map-append whole_line (parts_in x.0) (lines_before most x.1) ∙ ap (λ (v : List ℕ). flat_map whole_line (parts_in x.0) ++ v) more.is
-                ∙ sym (append_assoc (flat_map whole_line (parts_in x.0)) (text_of more.streams) (flat_map whole_line more.lines))
-                ∙ ap (λ (v : List ℕ). v ++ flat_map whole_line more.lines) (sym (flat_map-append whole_line (parts_in x.0) (flat_map parts_in more.streams)));
+            is = grind (arith, flat_map-append, append_assoc, lines_are, more.is);
           },
         )
 
     by_stream : (stream_at place bytes ≡ Err (faults.Stream p e)) ⊎ ((x : Found) × (stream_at place bytes ≡ Ok x) × ((streams_at most (place + 1) x.1 >>= λ ys. Ok (x.0 ∷ ys)) ≡ Err (faults.Stream p e)))
         → ((rest : List ℕ) → AreBytes rest → streams_at most (place + 1) rest ≡ Err (faults.Stream p e) → StandsFrom (place + 1) p e most rest) → StandsFrom place p e (suc most) bytes
     by_stream (inl refused) later =
-        let s = nothing_behind place bytes p e refused in (
+        let s = nothing_behind most place bytes p e refused in (
           0,
           omega (arith, s.0),
           record {
@@ -143,7 +129,7 @@ stands_at p e (suc most) place bytes fits k =
             parts = refl;
             lines = (front_at bytes).lines;
             front = stands_refused place bytes fits p e refused;
-            is = ap (flat_map whole_line) (lines_more most bytes None s.1 ∙ append-nil (front_at bytes).lines);
+            is = ap (flat_map whole_line) s.1;
           },
         )
     by_stream (inr (x, one, k)) later = by_rest x one (later x.1 (stream_found place bytes fits x one).fits (map_err _ _ (faults.Stream p e) k))
