@@ -1,12 +1,12 @@
 -- A text that is packed is one of whole streams.
 use Rattle.std.proofs.Common.{◌≡◌, ◌⊎◌, ℕ, ◌+◌, ◌-◌, ◌<◌, ◌≤◌, Bool, true, false, cond, List, [], ◌∷◌, ◌++◌, length, map, All, Option, Some, None, Ok, refl, sym, ap, ap₂, subst, ◌∙◌, arith, inl, inr, IsTrue, true≢false, append_assoc}
-use Rattle.std.specs.Prelude.{◌==◌}
 use Rattle.std.specs.List.{flat_map, onto_first}
-use Rattle.std.proofs.lemmas.Bool.{cases_Bool, both_ways, eqb-true}
+use Rattle.std.proofs.lemmas.Bool.{cases_Bool, both_ways}
 use Rattle.std.proofs.lemmas.List.{append-nil}
-use Rattle.std.proofs.lemmas.List.Elements.{All-cons, All-head, All-nil, All-tail}
+use Rattle.std.proofs.lemmas.List.Elements.{All-cons, All-head, All-tail}
 use Rattle.std.proofs.lemmas.List.Folds.{flat_map-map}
 use Rattle.gr_model.specs.declared.limits.TheConstants.{MOST_RECORDS}
+use Rattle.std.proofs.lemmas.Bool.Decides.{nat_tests}
 use Rattle.gr_model.specs.Events.{is_end}
 use Rattle.gr_model.specs.Streams.{is_complete}
 use Rattle.gr_record.specs.declared.header.Header.{Header}
@@ -26,7 +26,7 @@ use Rattle.gr_text.proofs.LineSites.{sited_read_is_text}
 use Rattle.gr_text.specs.declared.place.Place.{Place}
 use Rattle.gr_text.specs.declared.place.Place.TheVariants.{Outside, Inside}
 use Rattle.gr_text.specs.Lines.{lines_of}
-use Rattle.gr_text.specs.Texts.{◌>>=◌, record_line, version_at, lines_bytes, whole_line, said_at, line_at, over_at, said_from, said_in}
+use Rattle.gr_text.specs.Texts.{◌>>=◌, record_line, version_at, lines_bytes, whole_line, said_at, line_at, said_from, said_in}
 use Rattle.gr_text.specs.Dumps.{WholeStream, parts_in}
 use Rattle.gr_text.specs.Wholes.{IsWhole, bytes_of, text_of, PackedAreStreams}
 use Rattle.gr_text.proofs.Steps.{bind_ok, map_ok, line_at_ok, record_at_ok}
@@ -39,23 +39,16 @@ ended l = l ++ 10 ∷ []
 abbrev Joins : List ℕ → List (List ℕ) → Type 0
 Joins text ls = (text ≡ flat_map ended ls) ⊎ (text ++ 10 ∷ [] ≡ flat_map ended ls)
 
-joins_before : (b : ℕ) (bytes : List ℕ) (ls : List (List ℕ)) → Joins bytes ls → ((b ∷ bytes) ≡ b ∷ flat_map ended ls) ⊎ ((b ∷ bytes) ++ 10 ∷ [] ≡ b ∷ flat_map ended ls)
-joins_before b bytes ls h = grind arith
-
 joins_first : (b : ℕ) (bytes : List ℕ) (ls : List (List ℕ)) → Joins bytes ls → Joins (b ∷ bytes) (onto_first b ls)
 joins_first b [] [] h = inr refl
 joins_first b (c ∷ bytes) [] (inl h) = absurd cc
 joins_first b (c ∷ bytes) [] (inr h) = absurd cc
-joins_first b bytes (l ∷ ls) h = joins_before b bytes (l ∷ ls) h
+joins_first b bytes (l ∷ ls) h = grind arith
 
 joins_lines : (text : List ℕ) → Joins text (lines_of text)
 unfolding lines_of
 joins_lines [] = inl refl
-joins_lines (b ∷ bytes) =
-    elim (cases_Bool (b == 10)) [
-      | inl feed ↦ rw (feed, eqb-true b 10 feed) (joins_before 10 bytes (lines_of bytes) (joins_lines bytes))
-      | inr other ↦ rw other (joins_first b bytes (lines_of bytes) (joins_lines bytes))
-    ]
+joins_lines (b ∷ bytes) = let ih = joins_lines bytes in grind (arith, nat_tests, joins_first)
 
 -- ---- what may follow a place
 
@@ -129,13 +122,9 @@ record Said (place : Place) (ls : List (List ℕ)) (xs : List SitedLine) : Type 
   text : ls ≡ map sited_text xs
   follow : Follow place xs
 
-over : (place : Place) (xs : List SitedLine) → over_at place ≡ Ok xs → Said place [] xs
-over Outside xs k = let same : [] ≡ xs = cc k in subst (Said Outside []) same (record { text = refl; follow = record { streams = []; whole = All-nil IsWhole; parts = refl } })
-over (Inside h left) xs k = cc
-
 said_found : (ls : List (List ℕ)) (n : ℕ) (place : Place) (xs : List SitedLine) → said_from n place ls ≡ Ok xs → Said place ls xs
 unfolding said_from
-said_found [] n place xs k = over place xs k
+said_found [] n place xs k = grind arith
 said_found (l ∷ ls) n place xs k =
     let x = bind_ok (line_at n place (sited_said (version_at place) l)) (λ x. said_from (n + 1) x.1 ls >>= λ ys. Ok (x.0 ∷ ys)) xs k in
     let rest = map_ok (said_from (n + 1) x.0.1 ls) (λ ys. x.0.0 ∷ ys) xs x.2 in
