@@ -85,11 +85,7 @@ plain_above : (bytes : List ℕ) → ArePlain bytes → AreAbove bytes
 plain_above bytes h = are_weaker is_plain (nat_lt 10) (λ b k. (and_parts _ _ k).0) bytes h
 
 site_above : (site : ℕ) → site < 2 ^ 16 → AreAbove (site_text site)
-site_above site lt =
-    elim (cases_Bool (site == 0)) [
-      | inl none ↦ rw none refl
-      | inr some ↦ rw some (plain_above (decimal site) (number_plain site (omega arith)))
-    ]
+site_above site lt = let above = plain_above (decimal site) (number_plain site (omega arith)) in grind arith
 
 pub sited_above : (v : Version) (l : SitedLine) → IsSaid v l.line → l.site < 2 ^ 16 → AreAbove (sited_text l)
 sited_above v l said lt = are-append (nat_lt 10) (line_text l.line) (site_text l.site) (plain_above (line_text l.line) (line_plain v l.line said)) (site_above l.site lt)

@@ -1,7 +1,8 @@
 -- Words of a line: what stands before the first byte of a kind, and numbers and keywords.
-use Rattle.std.proofs.Common.{◌≡◌, ℕ, zero, suc, ◌+◌, List, [], ◌∷◌, ◌++◌, take, drop, Option, Some, None, refl, ap, arith, inl, inr, ◌%◌, ◌^◌, ◌<◌, Bool, true, false, ◌∙◌}
+use Rattle.std.proofs.Common.{◌≡◌, ℕ, zero, suc, ◌+◌, List, [], ◌∷◌, ◌++◌, take, drop, Option, Some, None, refl, ap, arith, ◌%◌, ◌^◌, ◌<◌, Bool, true, false, ◌∙◌}
 use Rattle.std.specs.Prelude.{◌==◌, nat_lt, nat_le, ◌&&◌, not, decimal}
-use Rattle.std.proofs.lemmas.Bool.{eq-eqb, ne_eqb, eqb-true, cases_Bool, lt-ltb, le-leb, and_parts, and_from, both_ways}
+use Rattle.std.proofs.lemmas.Bool.{eq-eqb, ne_eqb, lt-ltb, le-leb, and_parts, and_from, both_ways}
+use Rattle.std.proofs.lemmas.Bool.Decides.{nat_tests}
 use Rattle.std.proofs.lemmas.List.{append-nil}
 use Rattle.gr_text.specs.LineReading.{IsWithout, IsFirst, behind_mark, cut_at, same, short_of, IsWord, first_of, space_said, scope_said, order_said, flags_said}
 use Rattle.std.proofs.lemmas.Fmt.{decimal_by_steps}
@@ -9,7 +10,7 @@ use Rattle.gr_model.specs.declared.event.Space.{Space}
 use Rattle.gr_model.specs.declared.event.Scope.{Scope}
 use Rattle.gr_model.specs.declared.event.Order.{Order}
 use Rattle.gr_text.specs.LineText.{space_word, scope_word, order_word, flags_word}
-use Rattle.gr_text.proofs.LineNumbers.{same_is, number_back}
+use Rattle.gr_text.proofs.LineNumbers.{same_told, number_back}
 
 module _ (mark : ℕ) where
   pub first_cut : (at : ℕ) (bytes : List ℕ) → IsFirst mark bytes at → cut_at mark bytes ≡ (take at bytes, Some (drop (at + 1) bytes))
@@ -36,11 +37,7 @@ module _ (mark : ℕ) where
   pub first_found : (bytes : List ℕ) → bytes ≡ (cut_at mark bytes).0 ++ behind_mark mark (cut_at mark bytes).1
   unfolding cut_at
   first_found [] = refl
-  first_found (b ∷ bytes) =
-      elim (cases_Bool (b == mark)) [
-        | inl space ↦ rw space (ap (λ (x : ℕ). x ∷ bytes) (eqb-true b mark space))
-        | inr other ↦ rw other (ap (λ (x : List ℕ). b ∷ x) (first_found bytes))
-      ]
+  first_found (b ∷ bytes) = let ih = first_found bytes in grind (arith, nat_tests)
 
 -- ---- bytes of one kind
 
@@ -73,11 +70,7 @@ decimal_digits n lt = decimal_by_steps (λ _ ds. are is_digit ds ≡ true) digit
 
 -- a number is no keyword
 pub no_key : (n : ℕ) (key : List ℕ) → n < 2 ^ 32 → are is_digit key ≡ false → same (decimal n) key ≡ false
-no_key n key lt other =
-    elim (cases_Bool (same (decimal n) key)) [
-      | inl is ↦ absurd (both_ways _ (ap (are is_digit) (same_is (decimal n) key is) ∙ other) (decimal_digits n lt))
-      | inr no_match ↦ no_match
-    ]
+no_key n key lt other = let digits = decimal_digits n lt in grind (arith, same_told)
 
 -- ---- keywords
 
