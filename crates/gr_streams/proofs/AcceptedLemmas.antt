@@ -1,13 +1,13 @@
 -- Of a list that its group may have, each event is sent, and as it is.
-use Rattle.std.proofs.Common.{◌≡◌, ◌⊎◌, ℕ, zero, suc, ◌+◌, ◌<◌, ◌≤◌, Bool, true, false, List, [], ◌∷◌, ◌++◌, length, map, refl, sym, ◌∙◌, subst, arith, inl, inr, true≢false}
-use Rattle.std.specs.Prelude.{IsFalse, IsTrue}
-use Rattle.std.proofs.lemmas.List.{length-append, length-map}
+use Rattle.std.proofs.Common.{◌≡◌, ℕ, zero, suc, ◌+◌, ◌≤◌, Bool, List, [], ◌∷◌, ◌++◌, length, map, refl, sym, subst, arith, inl, inr, true≢false}
+use Rattle.std.specs.Prelude.{IsFalse}
+use Rattle.std.proofs.lemmas.Bool.{cases_Bool}
+use Rattle.std.proofs.lemmas.List.{length-append, length-map, nil_from_length}
 use Rattle.gr_model.specs.declared.event.Event.{Event}
 use Rattle.gr_model.specs.declared.event.Kind.{Kind}
 use Rattle.gr_model.specs.declared.event.Kind.TheVariants.{End}
 use Rattle.gr_model.specs.declared.event.Name.{Name}
 use Rattle.gr_model.specs.declared.event.Space.{Space}
-use Rattle.gr_model.specs.declared.limits.TheConstants.{MOST_RECORDS}
 use Rattle.gr_model.specs.Events.{IsEventOk, IsKindOk, IsNamingOk, end_of, is_end}
 use Rattle.gr_model.specs.Streams.{AreGood, IsAccepted, IsPrefix, is_complete}
 use Rattle.gr_model.proofs.Sending.{is_complete-push}
@@ -42,15 +42,15 @@ sent_as_they_are items (x ∷ xs) good =
     let rest = sent_as_they_are items xs (tail_good items x xs good) in
     λ k. first k ∷ rest k
 
--- an event that is no end has another behind it
-one_behind : (before : List Event) (e : Event) (after : List Event) → IsTrue (is_complete (before ++ e ∷ after)) → is_end e ≡ false → 1 ≤ length after
-one_behind before e [] whole open_end = absurd (true≢false (sym whole ∙ (is_complete-push before e ∙ open_end)))
-one_behind before e (x ∷ after) whole open_end = omega arith
-
 pub may_follow : (items : ℕ) (before : List Event) (e : Event) (after : List Event) → IsAccepted items (before ++ e ∷ after) → MayFollow items (map sent_as before) e
 may_follow items before e after list = record {
   unended = subst (λ (l : List Event). IsFalse (is_complete l)) (sym same) (next_unended items before e after prefix);
-  sendable = by_end (is_end e) refl;
+  sendable = elim (cases_Bool (is_end e)) [
+    | inl is ↦ inl is
+    | inr is ↦
+        let behind : 1 ≤ length after = grind (arith, is_complete-push before e, list.ended, nil_from_length after) in
+        inr ((is, next_ok items before e after prefix), omega (arith, length-map before sent_as, length-append before (e ∷ after), list.few, behind))
+  ];
 }
   where
     prefix : IsPrefix items (before ++ e ∷ after)
@@ -58,12 +58,6 @@ may_follow items before e after list = record {
 
     same : map sent_as before ≡ before
     same = sent_as_they_are items before (prefix_prefix items before (e ∷ after) prefix).good
-
-    by_end : (b : Bool) → is_end e ≡ b → IsTrue (is_end e) ⊎ ((IsFalse (is_end e) × IsEventOk e items) × (length (map sent_as before) + 1 < MOST_RECORDS))
-    by_end true is = inl is
-    by_end false is =
-        let behind = one_behind before e after list.ended is in
-        inr ((is, next_ok items before e after prefix), omega (arith, length-map before sent_as, length-append before (e ∷ after), list.few, behind))
 
 -- so none was refused
 pub none_refused : (items : ℕ) (events : List Event) → IsAccepted items events → IsStuck items events → ⊥

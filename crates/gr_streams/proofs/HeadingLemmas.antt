@@ -1,5 +1,5 @@
 -- Headers that are read one after the other.
-use Rattle.std.proofs.Common.{◌≡◌, ℕ, List, [], ◌∷◌, ◌++◌, Option, None, Some, Result, Ok, Err, refl, ◌∙◌, subst}
+use Rattle.std.proofs.Common.{◌≡◌, ℕ, List, [], ◌∷◌, ◌++◌, Option, None, Some, Ok, Err, refl}
 use Rattle.std.specs.Prelude.{IfSome, option_map}
 use Rattle.gr_record.specs.declared.header.Header.{Header}
 use Rattle.gr_record.specs.declared.fault.Fault.{Fault}
@@ -41,26 +41,23 @@ one_more_known _ _ o p h one = absurd h
 
 -- ---- headers
 
-abbrev refused : Fault → Result (List Header) Fault
-refused e = Err e
-
-after : (seen : List Header) (xs ys : List (List ℕ)) (r : Result (List Header) Fault) → headers_behind seen xs ≡ r → headers_behind seen (xs ++ ys) ≡ r >>= λ hs. headers_behind hs ys
+after : (seen : List Header) (xs ys : List (List ℕ)) → headers_behind seen (xs ++ ys) ≡ headers_behind seen xs >>= λ hs. headers_behind hs ys
 unfolding headers_behind
-after seen [] ys r is = subst (λ (x : Result (List Header) Fault). headers_behind seen ys ≡ x >>= λ hs. headers_behind hs ys) is refl
-after seen (b ∷ xs) ys r is = by_header (header_behind seen b) is (λ x k. after (seen ++ x ∷ []) xs ys r k)
-  where
-    by_header : (h : Result Header Fault) → (h >>= λ x. headers_behind (seen ++ x ∷ []) xs) ≡ r → ((x : Header) → headers_behind (seen ++ x ∷ []) xs ≡ r → headers_behind (seen ++ x ∷ []) (xs ++ ys) ≡ r >>= λ hs. headers_behind hs ys) → (h >>= λ x. headers_behind (seen ++ x ∷ []) (xs ++ ys)) ≡ r >>= λ hs. headers_behind hs ys
-    by_header (Err e) k go = subst (λ (x : Result (List Header) Fault). refused e ≡ x >>= λ hs. headers_behind hs ys) k refl
-    by_header (Ok x) k go = go x k
+after seen [] ys = refl
+after seen (b ∷ xs) ys =
+    elim (header_behind seen b) as (λ r. (r >>= λ h. headers_behind (seen ++ h ∷ []) (xs ++ ys)) ≡ (r >>= λ h. headers_behind (seen ++ h ∷ []) xs) >>= λ hs. headers_behind hs ys) [
+      | Err e ↦ refl
+      | Ok h ↦ after (seen ++ h ∷ []) xs ys
+    ]
 
 module _ (xs : List (List ℕ)) (hs : List Header) (read : headers_of xs ≡ Ok hs) (bytes : List ℕ) where
   pub one_more_header : (h : Header) → header_behind hs bytes ≡ Ok h → headers_of (xs ++ bytes ∷ []) ≡ Ok (hs ++ h ∷ [])
   unfolding headers_behind
-  one_more_header h is = after [] xs (bytes ∷ []) (Ok hs) read ∙ rw is refl
+  one_more_header h is = rw (after [] xs (bytes ∷ []), read, is) refl
 
   pub header_refused : (ys : List (List ℕ)) (f : Fault) → Fails f (header_behind hs bytes) → Fails f (headers_of (xs ++ bytes ∷ ys))
   unfolding headers_behind
-  header_refused ys f h = fails_through f (header_behind hs bytes) (headers_of (xs ++ bytes ∷ ys)) h (λ e. after [] xs (bytes ∷ ys) (Ok hs) read ∙ rw e refl)
+  header_refused ys f h = fails_through f (header_behind hs bytes) (headers_of (xs ++ bytes ∷ ys)) h (λ e. rw (after [] xs (bytes ∷ ys), read, e) refl)
 
 pub no_headers : headers_of [] ≡ Ok []
 unfolding headers_behind

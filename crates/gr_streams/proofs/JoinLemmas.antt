@@ -1,12 +1,10 @@
 -- The senders and the receipts of streams, one stream after the other.
-use Rattle.std.proofs.Common.{◌≡◌, ◌≢◌, ℕ, zero, suc, ◌+◌, ◌-◌, ◌<◌, List, [], ◌∷◌, ◌++◌, length, map, get_or, set, All, Contains, Option, None, Some}
-use Rattle.std.proofs.Common.{Result, Ok, Err, append-nil, refl, sym, ap, ◌∙◌, subst, arith, inl, inr}
+use Rattle.std.proofs.Common.{◌≡◌, ◌≢◌, ℕ, suc, ◌+◌, ◌-◌, ◌<◌, List, [], ◌∷◌, ◌++◌, length, map, get_or, set, All, Contains, Option, None, Some}
+use Rattle.std.proofs.Common.{Ok, Err, add-zero, append-nil, refl, sym, ap, ◌∙◌, subst, arith}
 use Rattle.std.proofs.lemmas.Bool.{cases_eq, cases_lt}
-use Rattle.std.proofs.Math.Seq.{get_or-append_seam}
-use Rattle.std.proofs.lemmas.List.{get_or-append_right, get_or-set_other, get_or-set_same, get_or_append_left, get_or_past, length-append, length-map, map-append, nil_from_length}
-use Rattle.std.proofs.lemmas.List.Elements.{All-cons, All-head, All-nil, All-tail, Contains-append_left}
+use Rattle.std.proofs.lemmas.List.{get_or-append-add, get_or-set_other, get_or-set_same, get_or_append_left, get_or_past, length-append, length-map, map-append, nil_from_length, places}
+use Rattle.std.proofs.lemmas.List.Elements.{Contains-append_left}
 use Rattle.gr_model.specs.declared.event.Event.{Event}
-use Rattle.gr_record.specs.declared.fault.Fault.{Fault}
 use Rattle.gr_record.specs.declared.header.Header.{Header}
 use Rattle.gr_intake.specs.Joined.{◌>>=◌}
 use Rattle.gr_route.specs.Batches.{all_of}
@@ -27,20 +25,12 @@ all_joined ys left all is none = all_yielded ys (all_of left) all is (ap (λ (l 
 -- ---- a sender is taken from its place
 
 pub has_place : (senders : List (Option Sending)) (g : ℕ) → HasSender senders g → g < length senders
-has_place senders g (s, at) =
-    elim (cases_lt g (length senders)) [
-      | inl lt ↦ lt
-      | inr past ↦ let none = get_or_past senders g None past in absurd cc
-    ]
+has_place senders g (s, at) = grind (arith, cases_lt g (length senders), get_or_past senders g None)
 
 -- those that are left were there
 pub was_there : (senders : List (Option Sending)) (group : ℕ) → group < length senders → (g : ℕ) (s : Sending)
     → get_or (set senders group None) g None ≡ Some s → get_or senders g None ≡ Some s
-was_there senders group lt g s at =
-    elim (cases_eq g group) [
-      | inl here ↦ let none = get_or-set_same senders group None None lt in absurd cc
-      | inr other ↦ sym (get_or-set_other senders group g None None other) ∙ at
-    ]
+was_there senders group lt g s at = grind (arith, cases_eq g group, get_or-set_same senders group None None lt, get_or-set_other senders group g None None)
 
 -- ---- the headers that are left
 
@@ -72,33 +62,22 @@ served_next h hs senders served =
 
 pub served_front : (hs gs : List Header) (senders : List (Option Sending)) → AreServed (hs ++ gs) senders → AreServed hs senders
 served_front hs gs senders served = record {
-  apart = λ i j d before within.
-      let all = served.apart i j d before (omega (arith, within, length-append hs gs)) in
-      subst (λ (h : Header). (get_or hs i d).group ≢ h.group) (get_or_append_left hs gs d j within)
-      (subst (λ (h : Header). h.group ≢ (get_or (hs ++ gs) j d).group) (get_or_append_left hs gs d i (omega (arith, before, within))) all);
+  apart = λ i j d before within. grind (arith, places, served.apart i j d);
   there = λ h in_hs. served.there h (Contains-append_left hs gs h in_hs);
   ready = λ h s in_hs. served.ready h s (Contains-append_left hs gs h in_hs);
 }
 
 -- ---- further streams
 
-module _ {X : Type 0} (P : X → Type 0) where
-  pub all_front : (xs ys : List X) → All P (xs ++ ys) → All P xs
-  all_front [] ys all = All-nil P
-  all_front (x ∷ xs) ys all = All-cons P x xs (All-head P x (xs ++ ys) all) (all_front xs ys (All-tail P x (xs ++ ys) all))
+module _ {X : Type 0} (P : X → Type 0) (xs ys : List X) (all : All P (xs ++ ys)) where
+  pub all_front : All P xs
+  all_front k d lt = subst P (get_or_append_left xs ys d k lt) (all k d (omega (arith, lt, length-append xs ys)))
 
-  pub all_back : (xs ys : List X) → All P (xs ++ ys) → All P ys
-  all_back [] ys all = all
-  all_back (x ∷ xs) ys all = all_back xs ys (All-tail P x (xs ++ ys) all)
+  pub all_back : All P ys
+  all_back k d lt = subst P (get_or-append-add xs ys k d) (all (length xs + k) d (omega (arith, lt, length-append xs ys)))
 
 placed_append : (n : ℕ) (xs ys : List Begun) → ArePlaced n xs → ArePlaced (n + length xs) ys → ArePlaced n (xs ++ ys)
-placed_append n xs ys placed more k d lt =
-    elim (cases_lt k (length xs)) [
-      | inl before ↦ ap (λ (x : Begun). x.place) (get_or_append_left xs ys d k before) ∙ placed k d before
-      | inr from ↦
-          let here = more (k - length xs) d (omega (arith, from, lt, length-append xs ys)) in
-          ap (λ (x : Begun). x.place) (get_or-append_right xs ys (length xs) k d refl from) ∙ omega (arith, from, here)
-    ]
+placed_append n xs ys placed more k d lt = grind (arith, places, cases_lt k (length xs), placed k d, more (k - length xs) d)
 
 pub begun_append : (n : ℕ) (gs hs : List Header) (js ks : List (Option (List ℕ))) (xs ys : List Begun) → AreBegun n gs js xs → AreBegun (n + length xs) hs ks ys → AreBegun n (gs ++ hs) (js ++ ks) (xs ++ ys)
 begun_append n gs hs js ks xs ys a b = record {
@@ -111,22 +90,18 @@ pub none_begun : (n : ℕ) → AreBegun n [] [] []
 none_begun n = record { placed = λ k d lt. absurd (omega (arith, lt)); groups = refl; bytes = refl }
 
 pub one_begun : (n : ℕ) (h : Header) (b : Begun) → b.place ≡ n → b.sender.group ≡ h.group → AreBegun n (h ∷ []) (b.bytes ∷ []) (b ∷ [])
-one_begun n h b place group = record { placed = placed; groups = ap (λ (g : ℕ). g ∷ []) group; bytes = refl }
-  where
-    placed : ArePlaced n (b ∷ [])
-    placed zero d lt = omega (arith, place)
-    placed (suc k) d lt = absurd (omega (arith, lt))
+one_begun n h b place group = record {
+  placed = λ k d lt. let first : k ≡ 0 = omega arith in rw first (omega (arith, place));
+  groups = ap (λ (g : ℕ). g ∷ []) group;
+  bytes = refl;
+}
 
 pub begun_count : (n : ℕ) (hs : List Header) (ks : List (Option (List ℕ))) (bs : List Begun) → AreBegun n hs ks bs → length bs ≡ length hs
 begun_count n hs ks bs are = sym (length-map bs (λ (b : Begun). b.sender.group)) ∙ (ap length are.groups ∙ length-map hs (λ (h : Header). h.group))
 
 pub placed_prefix : (bs : List Begun) (b : Begun) → ArePlaced 0 (bs ++ b ∷ []) → ArePlaced 0 bs × (b.place ≡ length bs)
 placed_prefix bs b placed =
-    let count : length (bs ++ b ∷ []) ≡ length bs + 1 = length-append bs (b ∷ []) in
-    let last = placed (length bs) b (omega (arith, count)) in (
-      (λ k d lt. ap (λ (x : Begun). x.place) (sym (get_or_append_left bs (b ∷ []) d k lt)) ∙ placed k d (omega (arith, lt, count))),
-      ap (λ (x : Begun). x.place) (sym (get_or-append_seam bs b [] b)) ∙ omega (arith, last),
-    )
+    (λ k d lt. grind (arith, places, placed k d), grind (arith, places, placed (length bs) b))
 
 -- the streams that the last of some ends are of
 pub one_end : {A : Type 0} (bs : List Begun) (es : List (Ended A)) (e : Ended A) → AreEndsOf bs (es ++ e ∷ []) → (cs : List Begun) × (b : Begun) × (bs ≡ cs ++ b ∷ []) × AreEndsOf cs es × IsEndOf b e.receipt e.fault
@@ -153,47 +128,17 @@ one_input _ k _ e = absurd cc
 
 -- ---- lists
 
-abbrev all : List (List Event) → Result (List (List Event)) Fault
-all ls = Ok ls
-
-same_all : (x y : List (List Event)) → all x ≡ all y → x ≡ y
-same_all x y e = cc
-
-abbrev none : Fault → Result (List (List Event)) Fault
-none e = Err e
-
-lists_length : (seen : List (List Event)) (xs : List (List ℕ)) (ls : List (List Event)) → lists_behind seen xs ≡ Ok ls → length ls ≡ length seen + length xs
+pub lists_more : (seen : List (List Event)) (xs : List (List ℕ)) (x : List ℕ) → lists_behind seen (xs ++ x ∷ []) ≡ and_one (lists_behind seen xs) (events_at (length seen + length xs) x)
 unfolding lists_behind
-lists_length seen [] ls is = omega (arith, ap length (same_all seen ls is))
-lists_length seen (b ∷ xs) ls is = by_events (events_at (length seen) b) is (λ es k. lists_length (seen ++ es ∷ []) xs ls k)
-  where
-    by_events : (r : Result (List Event) Fault) → (r >>= λ es. lists_behind (seen ++ es ∷ []) xs) ≡ Ok ls → ((es : List Event) → lists_behind (seen ++ es ∷ []) xs ≡ Ok ls → length ls ≡ length (seen ++ es ∷ []) + length xs) → length ls ≡ length seen + length (b ∷ xs)
-    by_events (Err e) k go = absurd cc
-    by_events (Ok es) k go = omega (arith, go es k, length-append seen (es ∷ []))
-
-after : (seen : List (List Event)) (xs ys : List (List ℕ)) (r : Result (List (List Event)) Fault) → lists_behind seen xs ≡ r → lists_behind seen (xs ++ ys) ≡ r >>= λ ls. lists_behind ls ys
-unfolding lists_behind
-after seen [] ys r is = subst (λ (x : Result (List (List Event)) Fault). lists_behind seen ys ≡ x >>= λ ls. lists_behind ls ys) is refl
-after seen (b ∷ xs) ys r is = by_events (events_at (length seen) b) is (λ es k. after (seen ++ es ∷ []) xs ys r k)
-  where
-    by_events : (h : Result (List Event) Fault) → (h >>= λ es. lists_behind (seen ++ es ∷ []) xs) ≡ r → ((es : List Event) → lists_behind (seen ++ es ∷ []) xs ≡ r → lists_behind (seen ++ es ∷ []) (xs ++ ys) ≡ r >>= λ ls. lists_behind ls ys) → (h >>= λ es. lists_behind (seen ++ es ∷ []) (xs ++ ys)) ≡ r >>= λ ls. lists_behind ls ys
-    by_events (Err e) k go = subst (λ (x : Result (List (List Event)) Fault). none e ≡ x >>= λ ls. lists_behind ls ys) k refl
-    by_events (Ok es) k go = go es k
-
-pub lists_more : (xs : List (List ℕ)) (x : List ℕ) → lists_of (xs ++ x ∷ []) ≡ and_one (lists_of xs) (events_at (length xs) x)
-unfolding lists_behind
-lists_more xs x = after [] xs (x ∷ []) (lists_of xs) refl ∙ by_lists (lists_of xs) refl
-  where
-    by_lists : (r : Result (List (List Event)) Fault) → lists_of xs ≡ r → (r >>= λ ls. lists_behind ls (x ∷ [])) ≡ and_one r (events_at (length xs) x)
-    by_lists (Err e) is = refl
-    by_lists (Ok ls) is =
-        let count : length ls ≡ length xs = omega (arith, lists_length [] xs ls is) in
-        ap (λ n. events_at n x >>= λ l. all (ls ++ l ∷ [])) count
+lists_more seen [] x = rw add-zero refl
+lists_more seen (b ∷ xs) x =
+    elim (events_at (length seen) b) as (λ r. (r >>= λ es. lists_behind (seen ++ es ∷ []) (xs ++ x ∷ [])) ≡ and_one (r >>= λ es. lists_behind (seen ++ es ∷ []) xs) (events_at (length seen + suc (length xs)) x)) [
+      | Err e ↦ refl
+      | Ok es ↦
+          let count : length seen + suc (length xs) ≡ length (seen ++ es ∷ []) + length xs = omega (arith, length-append seen (es ∷ [])) in
+          rw count (lists_more (seen ++ es ∷ []) xs x)
+    ]
 
 pub no_lists : lists_of [] ≡ Ok []
 unfolding lists_behind
 no_lists = refl
-
-pub no_inputs : (inputs : List (List ℕ)) → [] ≡ map some inputs → inputs ≡ []
-no_inputs [] e = refl
-no_inputs (x ∷ inputs) e = absurd cc

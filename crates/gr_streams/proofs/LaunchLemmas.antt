@@ -1,14 +1,13 @@
 -- The launch of streams that were sent.
 use Rattle.std.proofs.Common.{◌≡◌, ◌≢◌, ℕ, zero, suc, ◌<◌, cond, List, [], ◌∷◌, length, map, get_or, Contains, Option, None, Some}
 use Rattle.std.proofs.Common.{slice_get, refl, sym, ap, ◌∙◌, subst, arith, eq-eqb, inl, inr, ne_eqb}
-use Rattle.std.specs.Prelude.{option_map}
+use Rattle.std.specs.Prelude.{IfSome}
 use Rattle.std.specs.List.{range_with_len}
 use Rattle.std.proofs.lemmas.Bool.{cases_lt}
 use Rattle.std.proofs.lemmas.List.{get_or-map, get_or_past, length-map}
 use Rattle.std.proofs.lemmas.List.Elements.{All-cons, All-tail}
 use Rattle.std.proofs.lemmas.List.FromFn.{get_or-map-range_with_len, length-map-range_with_len}
-use Rattle.std.proofs.lemmas.Option.{slice_get-get_or, slice_get_within, get_or_from_slice_get}
-use Rattle.atomic_table.specs.Seated.{TableId}
+use Rattle.std.proofs.lemmas.Option.{IfSome_then, slice_get-get_or, slice_get_within, get_or_from_slice_get}
 use Rattle.gr_detector.specs.Runs.{AreReceiptsOf, AreSendersOf, IsOfRun, IsSenderOf, Run, sent_by, sent_of}
 use Rattle.gr_model.specs.declared.event.Event.{Event}
 use Rattle.gr_record.specs.declared.header.Header.{Header}
@@ -20,6 +19,7 @@ use Rattle.gr_threads.specs.Senders.{Sending}
 use Rattle.gr_steps.proofs.Orders.{there_is}
 use Rattle.gr_streams.specs.Headers.{AreApart, AreHeadersOf, bare, bares, streams_with}
 use Rattle.gr_streams.specs.Sources.{AreKnown, AreOfRun, AreReceiptsFor, AreSenders, AreServed, Begun}
+use Rattle.gr_streams.proofs.HeadingLemmas.{if_mapped}
 use Rattle.gr_streams.proofs.JoinLemmas.{apart_head, apart_tail, contains_tail}
 
 -- ---- senders
@@ -76,9 +76,7 @@ receipts_of_run run [] (r ∷ rs) all are = absurd (omega (arith, ap length are.
 receipts_of_run run (b ∷ bs) (r ∷ rs) all are =
     let group : r.group ≡ b.sender.group = (cons_is _ _ _ _ are.groups).0 in
     let queue : r.queue ≡ b.sender.queue.queue = (cons_is _ _ _ _ are.queues).0 in
-    let first : IsOfRun run b.sender.group b.sender.queue.queue = all 0 b (omega arith) in
-    All-cons (λ (x : Seat). IsOfRun run x.group x.queue) r rs
-    (subst (λ n. IsOfRun run n r.queue) (sym group) (subst (λ (q : TableId). IsOfRun run b.sender.group q) (sym queue) first))
+    All-cons (λ (x : Seat). IsOfRun run x.group x.queue) r rs (rw (group, queue) (all 0 b (omega arith)))
     (receipts_of_run run bs rs (All-tail (λ (x : Begun). IsOfRun run x.sender.group x.sender.queue.queue) b bs all) (record { groups = (cons_is _ _ _ _ are.groups).1; queues = (cons_is _ _ _ _ are.queues).1 }))
 
 -- ---- streams
@@ -144,18 +142,10 @@ launch_sent hs sizes rs apart launch same = record {
 
 -- ---- known bytes
 
-pub known_all : (ks ps : List (Option (List ℕ))) (inputs : List (List ℕ)) → AreKnown ks ps → all_known ks ≡ Some inputs → ps ≡ map (λ x. Some x) inputs
-known_all [] [] [] known is = refl
-known_all [] [] (x ∷ inputs) known is = absurd cc
-known_all [] (p ∷ ps) inputs known is = absurd known
-known_all (o ∷ ks) [] inputs known is = absurd known
-known_all (None ∷ ks) (p ∷ ps) inputs known is = absurd cc
-known_all (Some b ∷ ks) (p ∷ ps) inputs known is = by_rest (all_known ks) refl is (λ rest k. known_all ks ps rest known.1 k)
-  where
-    by_rest : (r : Option (List (List ℕ))) → all_known ks ≡ r → option_map (λ xs. b ∷ xs) r ≡ Some inputs → ((rest : List (List ℕ)) → all_known ks ≡ Some rest → ps ≡ map (λ x. Some x) rest) → p ∷ ps ≡ map (λ x. Some x) inputs
-    by_rest None k is go = absurd cc
-    by_rest (Some rest) k is go =
-        let all : b ∷ rest ≡ inputs = cc in
-        let first : p ≡ Some b = known.0 in
-        let others = go rest k in
-        (λ i. first i ∷ others i) ∙ ap (λ (l : List (List ℕ)). map (λ x. Some x) l) all
+pub known_all : (ks ps : List (Option (List ℕ))) → AreKnown ks ps → IfSome (all_known ks) (λ inputs. ps ≡ map (λ x. Some x) inputs)
+known_all [] [] known = refl
+known_all (None ∷ ks) (p ∷ ps) known = tt
+known_all (Some b ∷ ks) (p ∷ ps) known =
+    if_mapped (λ xs. b ∷ xs) (λ xs. p ∷ ps ≡ map (λ x. Some x) xs) (all_known ks)
+    (IfSome_then (all_known ks) (known_all ks ps known.1) (λ xs others i. known.0 i ∷ others i))
+known_all _ _ known = absurd known

@@ -1,5 +1,5 @@
 -- The streams of a launch are of different groups, so of each group there is one receipt.
-use Rattle.std.proofs.Common.{◌≡◌, ◌≢◌, ℕ, zero, suc, cond, List, [], ◌∷◌, length, Contains, refl, sym, ap, ◌∙◌, subst, arith, eq-eqb, ne_eqb}
+use Rattle.std.proofs.Common.{◌≡◌, ◌≢◌, ℕ, zero, suc, List, [], ◌∷◌, length, Contains, refl, sym, ap, ◌∙◌, subst, arith, eq-eqb, ne_eqb}
 use Rattle.std.specs.Prelude.{◌==◌, filter}
 use Rattle.gr_detector.specs.Refusals.{IsHandedBack}
 use Rattle.gr_detector.specs.Runs.{IsEachOnce, Run}
@@ -16,19 +16,12 @@ use Rattle.gr_streams.proofs.LaunchLemmas.{cons_is, groups_of, header_groups, he
 abbrev of_group : ℕ → List Seat → List Seat
 of_group g rs = filter (λ (r : Seat). r.group == g) rs
 
--- the first receipt is of the group, or is passed over
-first_of : (g : ℕ) (r : Seat) (rs : List Seat) → r.group ≡ g → length (of_group g (r ∷ rs)) ≡ suc (length (of_group g rs))
-first_of g r rs is = ap (λ b. length (cond b (r ∷ of_group g rs) (of_group g rs))) (eq-eqb r.group g is)
-
-passed_over : (g : ℕ) (r : Seat) (rs : List Seat) → r.group ≢ g → length (of_group g (r ∷ rs)) ≡ length (of_group g rs)
-passed_over g r rs other = ap (λ b. length (cond b (r ∷ of_group g rs) (of_group g rs))) (ne_eqb r.group g other)
-
 -- there is none of a group that no header is of
 none_of : (hs : List Header) (rs : List Seat) → groups_of rs ≡ header_groups hs → (g : ℕ) → ((h : Header) → Contains hs h → h.group ≢ g) → length (of_group g rs) ≡ 0
 none_of [] [] same g other = refl
 none_of (h ∷ hs) (r ∷ rs) same g other =
-    passed_over g r rs (λ is. other h (0, omega arith, refl) (sym ((cons_is _ _ _ _ same).0) ∙ is))
-    ∙ none_of hs rs (cons_is _ _ _ _ same).1 g (λ x in_hs. other x (suc in_hs.0, omega (arith, in_hs.1), in_hs.2))
+    rw (ne_eqb r.group g (λ is. other h (0, omega arith, refl) (sym ((cons_is _ _ _ _ same).0) ∙ is)))
+    (none_of hs rs (cons_is _ _ _ _ same).1 g (λ x in_hs. other x (suc in_hs.0, omega (arith, in_hs.1), in_hs.2)))
 none_of _ _ same g other = absurd cc
 
 -- there is one of a group that a header is of
@@ -37,12 +30,12 @@ one_of [] rs apart same h (k, lt, is) = absurd (omega (arith, lt))
 one_of (x ∷ hs) [] apart same h in_hs = absurd cc
 one_of (x ∷ hs) (r ∷ rs) apart same h (zero, lt, is) =
     let here : x.group ≡ h.group = ap (λ (y : Header). y.group) is in
-    first_of h.group r rs ((cons_is _ _ _ _ same).0 ∙ here)
-    ∙ ap suc (none_of hs rs (cons_is _ _ _ _ same).1 h.group (λ y in_hs e. apart_head x hs apart y in_hs (e ∙ sym here)))
+    rw (eq-eqb r.group h.group ((cons_is _ _ _ _ same).0 ∙ here))
+    (ap suc (none_of hs rs (cons_is _ _ _ _ same).1 h.group (λ y in_hs e. apart_head x hs apart y in_hs (e ∙ sym here))))
 one_of (x ∷ hs) (r ∷ rs) apart same h (suc k, lt, is) =
     let in_hs : Contains hs h = (k, omega (arith, lt), is) in
-    passed_over h.group r rs (λ e. apart_head x hs apart h in_hs (sym e ∙ (cons_is _ _ _ _ same).0))
-    ∙ one_of hs rs (apart_tail x hs apart) (cons_is _ _ _ _ same).1 h in_hs
+    rw (ne_eqb r.group h.group (λ e. apart_head x hs apart h in_hs (sym e ∙ (cons_is _ _ _ _ same).0)))
+    (one_of hs rs (apart_tail x hs apart) (cons_is _ _ _ _ same).1 h in_hs)
 
 -- so each group of the launch is there once
 pub each_once : (hs : List Header) (sizes : List ℕ) (rs : List Seat) → AreApart hs → AreHeadersOf hs sizes → groups_of rs ≡ header_groups hs → IsEachOnce (length sizes) rs

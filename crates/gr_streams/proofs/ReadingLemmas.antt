@@ -1,5 +1,5 @@
 -- What reading a stream leaves tells what its bytes are.
-use Rattle.std.proofs.Common.{◌≡◌, ℕ, ◌≤◌, Bool, true, false, List, ◌++◌, length, take, Option, None, Some, Result, Ok, Err, refl, sym, ap, ◌∙◌, subst, arith, append_assoc}
+use Rattle.std.proofs.Common.{◌≡◌, ℕ, ◌≤◌, Bool, true, false, List, [], ◌++◌, length, take, Option, None, Some, Result, Err, refl, sym, ap, ◌∙◌, subst, arith, append_assoc}
 use Rattle.std.specs.Prelude.{IfErr, IfOk, IfSome, IsTrue}
 use Rattle.std.specs.Io.KnownBytes.{Consumes, prepend_known}
 use Rattle.std.proofs.lemmas.List.{length-take, take-append-le}
@@ -11,45 +11,36 @@ use Rattle.gr_record.specs.declared.error.RecordError.{RecordError}
 use Rattle.gr_record.specs.declared.error.RecordError.TheVariants as errors
 use Rattle.gr_record.specs.declared.header.Header.{Header}
 use Rattle.gr_record.specs.declared.fault.Fault.{Fault}
-use Rattle.gr_record.specs.declared.fault.Fault.TheVariants as faults
 use Rattle.gr_record.specs.declared.stop.Stop.{Stop}
 use Rattle.gr_record.specs.declared.stop.Stop.TheVariants.{Inside, AtEnd, AtFault}
 use Rattle.gr_record.specs.Decoding.{HasMemory, Standing, answer, last_answer, reading}
 use Rattle.gr_record.specs.Faults.{stream_fault}
 use Rattle.gr_record.proofs.Resuming.{fault_stays}
-use Rattle.gr_intake.specs.Joined.{at_place}
 use Rattle.gr_threads.specs.Senders.{Sending}
 use Rattle.gr_streams.specs.Records.{events_at}
 use Rattle.gr_streams.specs.Sending.{AreSent, IsFed, Tells}
 use Rattle.gr_streams.specs.Sources.{IsHeaded}
 use Rattle.gr_streams.proofs.AcceptedLemmas.{none_refused, sent_as_they_are}
-use Rattle.gr_streams.proofs.HeaderLemmas.{headed_at}
-use Rattle.gr_streams.proofs.OutcomeLemmas.{events_told, read_to_end, told_by}
+use Rattle.gr_intake.proofs.Behind.{header_found}
+use Rattle.gr_streams.proofs.OutcomeLemmas.{events_told, read_to_end}
 
 -- ---- a fault
 
-told_fault : (place : ℕ) (bytes : List ℕ) (e : RecordError) → (reading MOST_RECORDS bytes).stop ≡ AtFault e → events_at place bytes ≡ Err (faults.Stream place e)
-told_fault place bytes e is = events_told place bytes ∙ ap (λ (s : Stop). at_place place (told_by s (reading MOST_RECORDS bytes).events)) is
-
 fault_tells : (place : ℕ) (bytes : List ℕ) (pushed : List Event) (e : RecordError) → (reading MOST_RECORDS bytes).stop ≡ AtFault e → Tells (events_at place bytes) pushed (Some (stream_fault place e))
 fault_tells place bytes pushed errors.Memory is = ((λ e. absurd cc), tt)
-fault_tells place bytes pushed e is = ((λ k. absurd cc), told_fault place bytes e is)
+fault_tells place bytes pushed e is = ((λ k. absurd cc), rw (events_told place bytes, is) refl)
 
 -- where a decoder stops, reading stops
 stops : (fed : List ℕ) (d : Standing) (s : Sending) (refused : Bool) → IsFed fed d s refused → d.stop ≡ (reading MOST_RECORDS fed).stop
 stops fed d s refused f = ap (λ (x : Standing). x.stop) f.stands ∙ ap (λ n. (reading n fed).stop) f.limit
-
-at_fault : (stop : Stop) (e : RecordError) → Err e ≡ answer stop → stop ≡ AtFault e
-at_fault (AtFault d) e h = cc
-at_fault _ e h = absurd cc
 
 -- a piece at fault, whatever follows it
 pub refused_tells : (place : ℕ) (fed rest : List ℕ) (pushed : List Event) (d : Standing) (s : Sending) (refused : Bool) (result : Result (Unit {0}) RecordError) (e : RecordError) → result ≡ Err e → (HasMemory result → result ≡ answer d.stop) → (HasMemory result → IsFed fed d s refused)
     → Tells (events_at place (fed ++ rest)) pushed (Some (stream_fault place e))
 refused_tells place fed rest pushed d s refused result errors.Memory is fault f = ((λ e. absurd cc), tt)
 refused_tells place fed rest pushed d s refused result e is fault f =
-    let has : HasMemory result = λ k. let same : Err e ≡ Err errors.Memory = sym is ∙ k in absurd cc in
-    let stop : (reading MOST_RECORDS fed).stop ≡ AtFault e = sym (stops fed d s refused (f has)) ∙ at_fault d.stop e (sym is ∙ fault has) in
+    let has : HasMemory result = λ k. absurd cc in
+    let stop : (reading MOST_RECORDS fed).stop ≡ AtFault e = grind (arith, stops fed d s refused (f has), fault has) in
     fault_tells place (fed ++ rest) pushed e (fault_stays MOST_RECORDS fed rest e stop).0
 
 -- ---- the end
@@ -65,7 +56,7 @@ module _ (place : ℕ) (fed : List ℕ) (h : Header) (d : Standing) (s : Sending
       list : IsAccepted s.items events
       list =
           let long : 12 ≤ length fed = omega (arith, length-take 12 fed, headed.1) in
-          let read = read_to_end fed h long (headed_at h (take 12 fed) headed) end in
+          let read = read_to_end fed h long (header_found (take 12 fed) headed.1 h [] headed.0) end in
           subst (λ n. IsAccepted n events) (sym items) (record { few = read.few; good = read.good; ended = read.ended })
 
       by_refused : (b : Bool) → AreSent s.items events s.sent b → pushed ≡ events
@@ -78,16 +69,9 @@ module _ (place : ℕ) (fed : List ℕ) (h : Header) (d : Standing) (s : Sending
   end_tells fault bad fine = by_stop d.stop refl bad fine
     where
       by_stop : (stop : Stop) → d.stop ≡ stop → IfErr (last_answer stop) (λ e. fault ≡ Some (stream_fault place e)) → IfOk (last_answer stop) (λ _. (fault ≡ None) × (IsTrue (is_complete s.sent) → pushed ≡ s.sent)) → Tells (events_at place fed) pushed fault
-      by_stop Inside is bad fine =
-          let stop : (reading MOST_RECORDS fed).stop ≡ Inside = sym (stops fed d s refused f) ∙ is in
-          subst (Tells (events_at place fed) pushed) (sym bad) ((λ k. absurd cc), events_told place fed ∙ ap (λ (x : Stop). at_place place (told_by x (reading MOST_RECORDS fed).events)) stop)
-      by_stop AtEnd is bad fine =
-          let stop : (reading MOST_RECORDS fed).stop ≡ AtEnd = sym (stops fed d s refused f) ∙ is in
-          let all = sent_all stop fine.1 in
-          subst (Tells (events_at place fed) pushed) (sym fine.0) (events_told place fed ∙ ap (λ (x : Stop). at_place place (told_by x (reading MOST_RECORDS fed).events)) stop ∙ ap (λ (l : List Event). at_place place (Ok l)) (sym all))
-      by_stop (AtFault e) is bad fine =
-          let stop : (reading MOST_RECORDS fed).stop ≡ AtFault e = sym (stops fed d s refused f) ∙ is in
-          subst (Tells (events_at place fed) pushed) (sym bad) (fault_tells place fed pushed e stop)
+      by_stop Inside is bad fine = rw (bad, events_told place fed, ← stops fed d s refused f, is) ((λ k. absurd cc), refl)
+      by_stop AtEnd is bad fine = rw (fine.0, sent_all (sym (stops fed d s refused f) ∙ is) fine.1, events_told place fed, ← stops fed d s refused f, is) refl
+      by_stop (AtFault e) is bad fine = rw bad (fault_tells place fed pushed e (sym (stops fed d s refused f) ∙ is))
 
 -- ---- bytes that come in pieces
 
@@ -97,7 +81,7 @@ still_headed h fed read headed =
     subst (IsHeaded h) (sym (take-append-le 12 fed read long)) headed
 
 pub regroup : (fed read piece rest : List ℕ) → ((fed ++ read) ++ piece) ++ rest ≡ fed ++ ((read ++ piece) ++ rest)
-regroup fed read piece rest = ap (λ (l : List ℕ). l ++ rest) (append_assoc fed read piece) ∙ append_assoc fed (read ++ piece) rest
+regroup fed read piece rest = simp append_assoc
 
 -- what is so of what was read and whatever follows it, is so of what the reader had
 pub of_known : (old new : Option (List ℕ)) (read : List ℕ) (P : List ℕ → Type 0) → Consumes old new read → ((rest : List ℕ) → P (read ++ rest)) → IfSome old P

@@ -1,8 +1,8 @@
 -- Whether a group was seen, and of which launch the headers are, without a look at each header.
-use Rattle.std.proofs.Common.{◌≡◌, ◌≢◌, ℕ, zero, suc, ◌<◌, true, false, List, [], ◌∷◌, ◌++◌, length, map, slice_get, get_or, Some, refl, sym, ap, ◌∙◌, subst, arith, inl, inr}
+use Rattle.std.proofs.Common.{Decides, ◌≡◌, ◌≢◌, ℕ, zero, suc, ◌<◌, false, List, [], ◌∷◌, ◌++◌, length, map, slice_get, get_or, Some, refl, sym, ap, ◌∙◌, subst, arith, inl, inr}
 use Rattle.std.specs.Prelude.{not, ◌==◌, All}
 use Rattle.std.specs.List.{list_any}
-use Rattle.std.proofs.lemmas.Bool.{cases_Bool, eq-eqb, eqb-true}
+use Rattle.std.proofs.lemmas.Bool.{cases_Bool, eq-eqb, eqb-true, true_from_ne_false}
 use Rattle.std.proofs.lemmas.List.Elements.{All-push}
 use Rattle.std.proofs.lemmas.List.Folds.{Any-from_list_any, list_any_at, list_any_none}
 use Rattle.std.proofs.lemmas.List.Quantifiers.{all_pairs_push}
@@ -22,30 +22,21 @@ abbrev HasCome : List ℕ → ℕ → Type 0
 HasCome sizes g = HasItem sizes (record { group = g; item = 0 })
 
 module _ (sizes : List ℕ) (hs : List Header) (seen : AreSeen sizes hs) where
-  -- a group that has come is that of a header
-  pub group_came : (g : ℕ) → HasCome sizes g → list_any (λ s. s.group == g) hs ≡ true
-  group_came g has =
-      elim (cases_Bool (list_any (λ (s : Header). s.group == g) hs)) [
-        | inl is ↦ is
-        | inr none ↦
-            let empty = seen.groups.others g (λ h (k, lt, is) same.
-            let test : ((get_or hs k h).group == g) ≡ true = ap (λ (s : Header). s.group == g) is ∙ eq-eqb h.group g same in
-            let some = list_any_at (λ (s : Header). s.group == g) hs k h lt test in
-            absurd cc) in
-            absurd (omega (arith, has.1, empty))
-      ]
-
-  -- a group that has not come is that of none
-  pub group_new : (g : ℕ) → (HasCome sizes g → ⊥) → list_any (λ s. s.group == g) hs ≡ false
-  group_new g new =
-      elim (cases_Bool (list_any (λ (s : Header). s.group == g) hs)) [
-        | inr none ↦ none
-        | inl some ↦
-            let (k, h, lt, is, test) = Any-from_list_any (λ (s : Header). s.group == g) hs some in
-            let there = seen.groups.there h (k, lt, is) in
-            let header : IsHeader h = subst IsHeader is (seen.each k h lt) in
-            absurd (new (subst (HasCome sizes) (eqb-true h.group g test) (there.0, omega (arith, there.1, header.some))))
-      ]
+  -- a group has come if a header is of it
+  pub group_came : (g : ℕ) → Decides (list_any (λ s. s.group == g) hs) (HasCome sizes g)
+  group_came g = (
+    λ some.
+        let (k, h, lt, is, test) = Any-from_list_any (λ (s : Header). s.group == g) hs some in
+        let there = seen.groups.there h (k, lt, is) in
+        let header : IsHeader h = subst IsHeader is (seen.each k h lt) in
+        subst (HasCome sizes) (eqb-true h.group g test) (there.0, omega (arith, there.1, header.some)),
+    λ has.
+        true_from_ne_false _ (λ none.
+        let empty = seen.groups.others g (λ h (k, lt, is) same.
+        let some = list_any_at (λ (s : Header). s.group == g) hs k h lt (ap (λ (s : Header). s.group == g) is ∙ eq-eqb h.group g same) in
+        absurd cc) in
+        absurd (omega (arith, has.1, empty))),
+  )
 
   -- the first header tells of which launch all are
   pub first_tells : (launch : ℕ) (h : Header) → slice_get hs 0 ≡ Some h

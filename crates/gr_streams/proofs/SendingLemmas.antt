@@ -1,7 +1,8 @@
 -- Events that are sent as they are decoded.
-use Rattle.std.proofs.Common.{◌≡◌, ℕ, zero, suc, ◌+◌, ◌<◌, true, List, [], ◌∷◌, ◌++◌, length, map, take, get_or, Option, None, Some, Result, Ok, Err, refl, sym, ap, ◌∙◌, subst, append_assoc}
+use Rattle.std.proofs.Common.{◌≡◌, ℕ, ◌+◌, ◌-◌, ◌<◌, true, List, [], ◌∷◌, ◌++◌, length, map, take, get_or, Option, None, Some, Result, refl, ap, ◌∙◌, append_assoc, arith}
 use Rattle.std.specs.Prelude.{IfErr, IsFalse, IsTrue, OnErr, OnOk}
-use Rattle.std.proofs.lemmas.List.{take_more}
+use Rattle.std.proofs.lemmas.Bool.{cases_lt}
+use Rattle.std.proofs.lemmas.List.{places, take_more}
 use Rattle.gr_model.specs.declared.event.Event.{Event}
 use Rattle.gr_model.specs.declared.limits.TheConstants.{MOST_RECORDS}
 use Rattle.gr_model.specs.Events.{end_of, is_end}
@@ -12,7 +13,6 @@ use Rattle.gr_record.specs.declared.header.Header.{Header}
 use Rattle.gr_record.specs.Laws.{AreBytes}
 use Rattle.gr_record.specs.Decoding.{GrowsAs, Reading, header_part, parts_of, read_from, reading}
 use Rattle.gr_threads.specs.declared.sender.SendError.{SendError}
-use Rattle.gr_threads.specs.declared.sender.SendError.TheVariants.{Closed, Full}
 use Rattle.gr_threads.specs.Refusals.{IsRefusalOfEnd, is_full}
 use Rattle.gr_threads.specs.Senders.{Sending}
 use Rattle.gr_streams.specs.Sending.{IsStuck, events_in}
@@ -25,10 +25,7 @@ ended (x ∷ y ∷ xs) e end = ended (y ∷ xs) e end
 
 -- a sender that was asked to close is closed
 pub is_closed : (old new : Sending) (r : Result (Unit {0}) SendError) → OnOk r (new ≡ record old { sent = old.sent ++ end_of true ∷ [] }) → OnErr r (new ≡ old) → IfErr r (λ e. IsRefusalOfEnd old true e) → IfErr r (λ e. IsFalse (is_full e)) → IsTrue (is_complete new.sent)
-is_closed old new (Ok u) ok err refused full = subst (λ (s : Sending). IsTrue (is_complete s.sent)) (sym ok) (ended old.sent (end_of true) refl)
-is_closed old new (Err Closed) ok err refused full = subst (λ (s : Sending). IsTrue (is_complete s.sent)) (sym err) refused
-is_closed old new (Err (Full x)) ok err refused full = absurd cc
-is_closed old new (Err _) ok err refused full = absurd refused
+is_closed old new r ok err refused full = grind (arith, ended old.sent (end_of true) refl)
 
 -- events that follow do not help
 pub stuck_more : (items : ℕ) (events more : List Event) → IsStuck items events → IsStuck items (events ++ more)
@@ -52,8 +49,7 @@ events_mapped (e ∷ es) = ap (λ (l : List Event). e ∷ l) (events_mapped es)
 -- one more of the parts
 pub next_part : (xs : List Part) (i : ℕ) (p : Part) → i < length xs → get_or xs i p ≡ p → events_in (take (i + 1) xs) ≡ events_in (take i xs) ++ events_in (p ∷ [])
 next_part xs i p lt is =
-    let more : take (i + 1) xs ≡ take i xs ++ p ∷ [] = take_more xs i p lt ∙ ap (λ (x : Part). take i xs ++ x ∷ []) is in
-    ap events_in more ∙ events_append (take i xs) (p ∷ [])
+    grind (arith, take_more xs i p lt, events_append (take i xs) (p ∷ []))
 
 pub nothing_read : (reading MOST_RECORDS []).events ≡ []
 unfolding read_from
@@ -68,14 +64,7 @@ read_events (Some h) es = events_mapped es
 -- the events that a piece adds are those among the parts that it adds
 pub piece_events : (fewer more : Reading) (old new : List Part) → old ≡ [] → GrowsAs (parts_of fewer) (parts_of more) old new → more.events ≡ fewer.events ++ events_in new
 piece_events fewer more old new none (added, longer, grown) =
-    let same : new ≡ added = grown ∙ ap (λ (l : List Part). l ++ added) none in
-    sym (read_events more.header more.events)
-    ∙ (ap events_in longer
-    ∙ (events_append (parts_of fewer) added
-    ∙ (ap (λ (l : List Event). l ++ events_in added) (read_events fewer.header fewer.events)
-    ∙ ap (λ (l : List Part). fewer.events ++ events_in l) (sym same))))
+    grind (arith, read_events more.header more.events, read_events fewer.header fewer.events, events_append (parts_of fewer) added)
 
 pub bytes_append : (xs ys : List ℕ) → AreBytes xs → AreBytes ys → AreBytes (xs ++ ys)
-bytes_append [] ys x y i = y i
-bytes_append (b ∷ xs) ys x y zero = x zero
-bytes_append (b ∷ xs) ys x y (suc i) = bytes_append xs ys (λ k. x (suc k)) y i
+bytes_append xs ys x y i = grind (arith, places, cases_lt i (length xs), x i, y (i - length xs))

@@ -1,4 +1,4 @@
-use Rattle.std.proofs.Common.{◌≡◌, ◌∙◌, ◌+◌, ◌++◌, ◌∷◌, [], List, append_assoc, ap, arith, length, subst, sym, take}
+use Rattle.std.proofs.Common.{◌≡◌, ◌∙◌, ◌+◌, ◌++◌, ◌∷◌, [], List, append_assoc, ap, arith, length, rules, subst, sym, take}
 use Rattle.std.proofs.Math.Seq.{take-length}
 use Rattle.gr_model.specs.declared.event.Event.{Event}
 use Rattle.gr_record.specs.declared.part.Part.{Part}
@@ -11,14 +11,8 @@ loop-part-preserved g c =
     let inv = c.loop-part.invariant in
     let i = c.loop-part.part-index in
     let parts = c.args.parts.now in
-    let old = c.forward_part-stuck.ensures.same in
     record {
-      same = record {
-        queue = old.queue ∙ inv.same.queue;
-        group = old.group ∙ inv.same.group;
-        items = old.items ∙ inv.same.items;
-        records = old.records ∙ inv.same.records;
-      };
+      same = search rules;
       sent = λ events most sent.
           let now = c.forward_part-stuck.ensures.sent (events ++ events_in (take i parts)) (inv.same.records ∙ most) (inv.sent events most sent) in
           let more : (events ++ events_in (take i parts)) ++ events_in (c.part-item.result ∷ []) ≡ events ++ events_in (take (i + 1) parts) =

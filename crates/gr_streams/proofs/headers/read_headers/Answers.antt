@@ -1,5 +1,4 @@
 use Rattle.std.proofs.Common.{◌≡◌, ◌≢◌, ◌∙◌, ◌++◌, ◌∷◌, [], ℕ, List, Ok, ap, arith, append_assoc, map, refl, rules, subst, sym}
-use Rattle.std.specs.Prelude.{IfSome}
 use Rattle.std.specs.Vec.Iter.{into_iter_items}
 use Rattle.std.proofs.lemmas.List.{map-append, map_push}
 use Rattle.std.proofs.lemmas.List.Elements.{All-push}
@@ -8,9 +7,8 @@ use Rattle.std.proofs.lemmas.Option.{same_Some}
 use Rattle.std.proofs.lemmas.Result.{err_from_is_err_and}
 use Rattle.gr_record.specs.InputFaults.{Fails}
 use Rattle.gr_record.specs.declared.header.Header.{Header}
-use Rattle.gr_replay.specs.Each.{all_known}
 use Rattle.gr_streams.specs.Headers.{header_behind, headers_of}
-use Rattle.gr_streams.specs.Sources.{AreKnown, IsHeaded, known_of}
+use Rattle.gr_streams.specs.Sources.{IsHeaded, known_of}
 use Rattle.gr_streams.specs.declared.source.Source.{Source}
 use Rattle.gr_streams.proofs.HeadingLemmas.{header_refused, known_so_far, no_headers, one_more_header, one_more_known}
 use Rattle.gr_streams.proofs.JoinLemmas.{all_yielded}
@@ -53,7 +51,7 @@ loop-reader-preserved g c =
     let left = into_iter_items c.next.new.self in
     let items : into_iter_items c.loop-reader.reader-iterator ≡ c.in-Some.reader ∷ left = search rules in
     rw (c.in_ok-seen.ensures, c.in_ok-keep.ensures) (record {
-      left = append_assoc c.loop-reader.yielded (c.in-Some.reader ∷ []) left ∙ (ap (λ l. c.loop-reader.yielded ++ l) (sym items) ∙ inv.left);
+      left = rw (append_assoc, ← items) inv.left;
       apart = all_pairs_push (λ (g h : Header). g.group ≢ h.group) hs s.header inv.apart c.in_ok-source.ensures.apart;
       sources = map_push (λ (x : Source _). x.header) c.loop-reader.sources.items s ∙ ap (λ l. l ++ s.header ∷ []) inv.sources;
       known = rw (map_push rem c.loop-reader.yielded c.in-Some.reader, map_push (known_of rem) c.loop-reader.sources.items s) (one_more_known (map rem c.loop-reader.yielded) (map (known_of rem) c.loop-reader.sources.items) (rem c.in-Some.reader) (known_of rem s) inv.known c.in_ok-source.ensures.known);
@@ -72,12 +70,10 @@ pub returns-clause-headers : goal.returns-clause-headers
 returns-clause-headers g c =
     let left = c.loop-reader.reader-iterator in
     let all = all_yielded c.loop-reader.yielded (into_iter_items left) c.args.readers.items c.loop-reader.invariant.left (sym left.rest.ok.0 ∙ c.in-None.ensures.steps.0) in
-    let read = λ (inputs : List (List ℕ)). headers_of inputs ≡ Ok c.loop-reader.seen in
-    let whole = λ (l : List g.row.T.Denot). IfSome (all_known (map g.T.Read.remaining l)) read in
-    rw c.into_headers-headers.ensures (subst whole all c.loop-reader.invariant.headers)
+    rw (c.into_headers-headers.ensures, ← all) c.loop-reader.invariant.headers
 
 pub returns-clause-known : goal.returns-clause-known
 returns-clause-known g c =
     let left = c.loop-reader.reader-iterator in
     let all = all_yielded c.loop-reader.yielded (into_iter_items left) c.args.readers.items c.loop-reader.invariant.left (sym left.rest.ok.0 ∙ c.in-None.ensures.steps.0) in
-    subst (λ (l : List g.row.T.Denot). AreKnown (map g.T.Read.remaining l) (map (known_of g.T.Read.remaining) c.loop-reader.sources.items)) all c.loop-reader.invariant.known
+    rw (← all) c.loop-reader.invariant.known

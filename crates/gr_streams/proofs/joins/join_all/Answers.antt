@@ -1,11 +1,11 @@
-use Rattle.std.proofs.Common.{◌≡◌, ◌∙◌, ◌+◌, ◌++◌, ◌∷◌, List, append_assoc, ap, arith, length, refl, rules, subst, sym}
+use Rattle.std.proofs.Common.{◌≡◌, ◌∙◌, ◌++◌, List, Some, append_assoc, ap, arith, length, refl, rules, sym}
 use Rattle.std.specs.Vec.Iter.{into_iter_items}
-use Rattle.std.proofs.lemmas.List.{length-append}
+use Rattle.std.proofs.lemmas.List.{length-append, length-map, nil_from_length}
 use Rattle.std.proofs.lemmas.Slice.Zip.{AllZip-long}
 use Rattle.gr_route.specs.Batches.{all_of}
 use Rattle.gr_route.proofs.BatchLemmas.{all_of_push}
-use Rattle.gr_streams.specs.Sources.{AreLeft, Begun, IsEndOf}
-use Rattle.gr_streams.proofs.JoinLemmas.{all_joined, no_inputs, no_lists}
+use Rattle.gr_streams.specs.Sources.{Begun, IsEndOf}
+use Rattle.gr_streams.proofs.JoinLemmas.{all_joined, no_lists}
 use Rattle.gr_streams.proofs.joins.join_all.Goals as goal
 
 pub loop-thread-init : goal.loop-thread-init
@@ -16,19 +16,15 @@ loop-thread-init g c =
       joined = record {
         receipts = record { groups = refl; queues = refl };
         write = tt;
-        tells = λ inputs read. rw (no_inputs inputs read.1) no_lists;
+        tells = λ inputs read. rw (nil_from_length inputs (omega (arith, ap length read.1, length-map inputs (λ l. Some l)))) no_lists;
       };
       room = omega (arith, c.requires.empty, c.requires.fits, ap (λ l. length (all_of l)) items);
     })
 
--- the streams of the next thread, and those after it
-next_count : (left rest : List (List Begun)) (t : List Begun) → left ≡ t ∷ rest → length (all_of left) ≡ length t + length (all_of rest)
-next_count left rest t is = ap (λ l. length (all_of l)) is ∙ length-append t (all_of rest)
-
 pub keep_each-fault-requires : goal.keep_each-fault-requires
 keep_each-fault-requires g c =
-    let count = next_count _ (into_iter_items c.next.new.self) c.in-Some.thread c.in-Some.ensures.steps.0 in
-    omega (arith, c.loop-thread.invariant.room, count, AllZip-long (λ b e. IsEndOf b e.receipt e.fault) c.in-Some.thread c.join.result.items c.join.ensures, c.join.result.ok.0)
+    let room = rw c.in-Some.ensures.steps.0 at c.loop-thread.invariant.room in
+    omega (arith, room, length-append {A = Begun}, AllZip-long (λ b e. IsEndOf b e.receipt e.fault) c.in-Some.thread c.join.result.items c.join.ensures, c.join.result.ok.0)
 
 pub loop-thread-preserved : goal.loop-thread-preserved
 loop-thread-preserved g c =
@@ -40,14 +36,13 @@ loop-thread-preserved g c =
     let yielded = all_of_push c.loop-thread.yielded t in
     let kept = c.keep_each-fault.ensures in
     record {
-      left = ap (λ l. l ++ all_of rest) yielded ∙ (append_assoc before t (all_of rest) ∙ (ap (λ l. before ++ all_of l) (sym items) ∙ inv.left));
+      left = ap (λ l. l ++ all_of rest) yielded ∙ (append_assoc before t (all_of rest) ∙ rw items at inv.left);
       joined = rw yielded (kept.left before t c.join.ensures inv.joined);
-      room = omega (arith, inv.room, next_count _ rest t items, kept.len, kept.capacity, AllZip-long (λ b e. IsEndOf b e.receipt e.fault) t c.join.result.items c.join.ensures, c.join.result.ok.0);
+      room = omega (arith, rw items at inv.room, length-append {A = Begun}, kept.len, kept.capacity, AllZip-long (λ b e. IsEndOf b e.receipt e.fault) t c.join.result.items c.join.ensures, c.join.result.ok.0);
     }
 
 pub returns : goal.returns
 returns g c =
     let left = c.loop-thread.thread-iterator in
-    subst (λ l. AreLeft l c.loop-thread.receipts.items c.loop-thread.fault)
-    (all_joined (all_of c.loop-thread.yielded) (into_iter_items left) (all_of c.args.threads.items) c.loop-thread.invariant.left (sym left.rest.ok.0 ∙ c.in-None.ensures.steps.0))
-    c.loop-thread.invariant.joined
+    let all = all_joined (all_of c.loop-thread.yielded) (into_iter_items left) (all_of c.args.threads.items) c.loop-thread.invariant.left (sym left.rest.ok.0 ∙ c.in-None.ensures.steps.0) in
+    rw (← all) c.loop-thread.invariant.joined

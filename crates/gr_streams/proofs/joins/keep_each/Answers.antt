@@ -1,20 +1,17 @@
-use Rattle.std.proofs.Common.{◌≡◌, ◌≢◌, ◌∙◌, ◌+◌, ◌++◌, ◌∷◌, [], List, Option, Some, Result, append-nil, append_assoc, ap, arith, length, map, refl, rules, subst, sym}
+use Rattle.std.proofs.Common.{◌≡◌, ◌≢◌, ◌∙◌, ◌+◌, ◌++◌, ◌∷◌, [], List, Option, Some, Result, append-nil, append_assoc, ap, arith, length, map, rules, subst, sym}
 use Rattle.std.specs.Prelude.{IfSome}
 use Rattle.std.specs.Vec.Iter.{into_iter_items}
-use Rattle.std.proofs.lemmas.List.{length-append, length-map, map_push}
+use Rattle.std.proofs.lemmas.List.{length-append, length-map, map_push, nil_from_length}
+use Rattle.std.proofs.lemmas.Slice.Zip.{AllZip-long}
 use Rattle.gr_model.specs.declared.event.Event.{Event}
 use Rattle.gr_record.specs.declared.fault.Fault.{Fault}
 use Rattle.gr_record.specs.declared.fault.Fault.TheVariants as faults
 use Rattle.gr_route.specs.IntakeSeats.{Seat}
 use Rattle.gr_streams.specs.Records.{and_one, events_at, lists_of}
 use Rattle.gr_streams.specs.Sending.{Tells}
-use Rattle.gr_streams.specs.Sources.{AreEndsOf, AreLeft, Begun, IsEndOf}
+use Rattle.gr_streams.specs.Sources.{AreLeft, Begun, IsEndOf}
 use Rattle.gr_streams.proofs.JoinLemmas.{lists_more, one_end, one_input, placed_prefix}
 use Rattle.gr_streams.proofs.joins.keep_each.Goals as goal
-
-no_ends : (A : Type 0) (begun : List Begun) → AreEndsOf {A = A} begun [] → begun ≡ []
-no_ends A [] are = refl
-no_ends A (b ∷ begun) are = absurd are
 
 -- what was left, and what one more stream has left, whose fault is the next
 module _ (bs : List Begun) (b : Begun) (rs : List Seat) (r : Seat) (first next both : Option Fault) (left : AreLeft bs rs first) (end : IsEndOf b r next) where
@@ -33,15 +30,16 @@ module _ (bs : List Begun) (b : Begun) (rs : List Seat) (r : Seat) (first next b
           let x = one.1 in
           let count : length bs ≡ length xs = sym (length-map bs (λ (y : Begun). y.bytes)) ∙ (ap length one.3 ∙ length-map xs (λ l. Some l)) in
           let told = subst (λ o. IfSome o (λ bytes. Tells (events_at b.place bytes) r.pushed next)) one.4 end.tells in
-          let here = subst (λ n. Tells (events_at n x) r.pushed next) (placed.1 ∙ count) told in
-          rw (one.2, lists_more xs x, map_push (λ (y : Seat). y.pushed) rs r)
-          (tells (lists_of xs) (events_at (length xs) x) (map (λ (y : Seat). y.pushed) rs) r.pushed (left.tells xs (placed.0, one.3)) here);
+          let at : b.place ≡ 0 + length xs = omega (arith, placed.1, count) in
+          let here = subst (λ n. Tells (events_at n x) r.pushed next) at told in
+          rw (one.2, lists_more [] xs x, map_push (λ (y : Seat). y.pushed) rs r)
+          (tells (lists_of xs) (events_at (0 + length xs) x) (map (λ (y : Seat). y.pushed) rs) r.pushed (left.tells xs (placed.0, one.3)) here);
     }
 
 pub loop-stream-init : goal.loop-stream-init
 loop-stream-init g c = record {
   left = search rules;
-  joined = λ before begun are left. subst (λ l. AreLeft l c.args.receipts.now.items c.args.fault) (sym (append-nil before) ∙ ap (λ l. before ++ l) (sym (no_ends g.row.A.Denot begun are))) left;
+  joined = λ before begun are left. subst (λ l. AreLeft l c.args.receipts.now.items c.args.fault) (sym (append-nil before) ∙ ap (λ l. before ++ l) (sym (nil_from_length begun (sym (AllZip-long (λ b e. IsEndOf b e.receipt e.fault) begun [] are))))) left;
   count = omega arith;
   room = search rules;
   capacity = search rules;
@@ -58,7 +56,7 @@ loop-stream-preserved g c =
     let grown : length (yielded ++ e ∷ []) ≡ length yielded + 1 = length-append yielded (e ∷ []) in
     let first = c.first_of-first.ensures in
     record {
-      left = append_assoc yielded (e ∷ []) rest ∙ (ap (λ l. yielded ++ l) (sym items) ∙ inv.left);
+      left = rw (append_assoc, ← items) inv.left;
       joined = λ before begun are left.
           let one = one_end begun yielded e are in
           let were = inv.joined before one.0 one.3 left in

@@ -1,4 +1,4 @@
-use Rattle.std.proofs.Common.{◌∙◌, ◌++◌, ◌∷◌, [], append_assoc, ap, arith, map, subst, sym}
+use Rattle.std.proofs.Common.{append_assoc, arith, map, subst}
 use Rattle.std.specs.Prelude.{All}
 use Rattle.std.specs.Vec.Iter.{into_iter_items}
 use Rattle.std.proofs.lemmas.List.{map_push}
@@ -20,7 +20,7 @@ loop-stream-preserved g c =
     let yielded = c.loop-stream.yielded in
     let read = c.read_on.ensures in
     record {
-      left = append_assoc yielded (u ∷ []) rest ∙ (ap (λ l. yielded ++ l) (sym items) ∙ inv.left);
+      left = rw (append_assoc, ← items) inv.left;
       unread = All-tail IsUnread u rest (subst (All IsUnread) items inv.unread);
       ends = rw (c.push_reserved.ensures.items, map_push (begun_of rem) yielded u)
           (all_zipped_more (λ b e. IsEndOf b e.receipt e.fault) (map (begun_of rem) yielded) c.loop-stream.ended.items (begun_of rem u) c.read_on.result inv.ends

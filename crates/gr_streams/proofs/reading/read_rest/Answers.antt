@@ -1,28 +1,20 @@
-use Rattle.std.proofs.Common.{◌≡◌, ◌∙◌, ◌++◌, ℕ, List, Option, None, Some, Result, append_assoc, arith, subst, sym, take}
-use Rattle.std.specs.Prelude.{IfSome}
+use Rattle.std.proofs.Common.{◌∙◌, ◌++◌, append_assoc, arith, rules, take}
 use Rattle.gr_record.proofs.Consuming.{Consumes-end, Consumes-then}
 use Rattle.gr_record.proofs.Outside.{at_known}
-use Rattle.gr_model.specs.declared.event.Event.{Event}
-use Rattle.gr_record.specs.declared.fault.Fault.{Fault}
 use Rattle.gr_record.specs.Decoding.{HasMemory}
 use Rattle.gr_streams.specs.Records.{events_at}
 use Rattle.gr_streams.specs.Sending.{Tells}
 use Rattle.gr_streams.proofs.ReadingLemmas.{end_tells, of_known, refused_tells, regroup, still_headed}
 use Rattle.gr_streams.proofs.reading.read_rest.Goals as goal
 
--- that a thread is missing, or a read failed, tells nothing of the input
-none_told : (known : Option (List ℕ)) (meaning : List ℕ → Result (List Event) Fault) (pushed : List Event) (o : Option Fault) (f : Fault) → o ≡ Some f → ((m : Result (List Event) Fault) → Tells m pushed (Some f)) → IfSome known (λ rest. Tells (meaning rest) pushed o)
-none_told None meaning pushed o f is tells = tt
-none_told (Some rest) meaning pushed o f is tells = subst (Tells (meaning rest) pushed) (sym is) (tells (meaning rest))
-
 pub returns-then-load-clause-tells : goal.returns-then-load-clause-tells
-returns-then-load-clause-tells g c = λ fed h headed items f. none_told (g.T.Read.remaining c.args.reader.now) (λ rest. events_at c.args.place (fed ++ rest)) c.fail.result.receipt.pushed c.fail.result.fault _ c.fail.ensures.fault (λ m. ((λ k. absurd cc), tt))
+returns-then-load-clause-tells g c = λ fed h headed items f. rw c.fail.ensures.fault (grind arith)
 
 pub returns-in-Err-clause-write : goal.returns-in-Err-clause-write
 returns-in-Err-clause-write g c = rw c.fail-in-Err.ensures.fault (λ k. absurd cc)
 
 pub returns-in-Err-clause-tells : goal.returns-in-Err-clause-tells
-returns-in-Err-clause-tells g c = λ fed h headed items f. none_told (g.T.Read.remaining c.args.reader.now) (λ rest. events_at c.args.place (fed ++ rest)) c.fail-in-Err.result.receipt.pushed c.fail-in-Err.result.fault _ c.fail-in-Err.ensures.fault (λ m. ((λ k. absurd cc), tt))
+returns-in-Err-clause-tells g c = λ fed h headed items f. rw c.fail-in-Err.ensures.fault (grind arith)
 
 pub returns-in-Err-take-clause-write : goal.returns-in-Err-take-clause-write
 returns-in-Err-take-clause-write g c = rw c.fail-in-Err-take.ensures.fault c.of_stream.ensures.values.1
@@ -31,7 +23,7 @@ pub returns-clause-write : goal.returns-clause-write
 returns-clause-write g c = rw c.fail-2.ensures.fault (λ k. absurd cc)
 
 pub returns-clause-tells : goal.returns-clause-tells
-returns-clause-tells g c = λ fed h headed items f. none_told (g.T.Read.remaining c.args.reader.now) (λ rest. events_at c.args.place (fed ++ rest)) c.fail-2.result.receipt.pushed c.fail-2.result.fault _ c.fail-2.ensures.fault (λ m. ((λ k. absurd cc), tt))
+returns-clause-tells g c = λ fed h headed items f. rw c.fail-2.ensures.fault (grind arith)
 
 pub returns-in-Ok-eq0-clause-tells : goal.returns-in-Ok-eq0-clause-tells
 returns-in-Ok-eq0-clause-tells g c = λ fed h headed items f.
@@ -59,15 +51,9 @@ pub loop-preserved : goal.loop-preserved
 loop-preserved g c =
     let inv = c.loop.invariant in
     let piece = take c.in-Ok.count c.read.new.buf in
-    let old = c.take.ensures.same in
     let has : HasMemory c.take.result = λ k. absurd cc in
     record {
-      same = record {
-        queue = old.queue ∙ inv.same.queue;
-        group = old.group ∙ inv.same.group;
-        items = old.items ∙ inv.same.items;
-        records = old.records ∙ inv.same.records;
-      };
+      same = search rules;
       read = inv.read ++ piece;
       consumed = Consumes-then _ _ _ _ _ inv.consumed c.in-Ok.ensures.bytes.0;
       fed = λ fed f. rw (← append_assoc fed inv.read piece) (c.take.ensures.fed has (fed ++ inv.read) (inv.fed fed f));

@@ -10,7 +10,6 @@ use Rattle.gr_replay.proofs.JoinedInputs.{each_are}
 use Rattle.gr_replay.proofs.Launching.{launch_accepts}
 use Rattle.gr_report.specs.Whole.{whole_of}
 use Rattle.gr_streams.specs.Headers.{AreApart, bares, streams_with}
-use Rattle.gr_streams.specs.Sources.{known_of}
 use Rattle.gr_streams.specs.Streams.{IsReportOn}
 use Rattle.gr_streams.proofs.EachLemmas.{each_read}
 use Rattle.gr_streams.proofs.HeadingLemmas.{if_any}
@@ -44,7 +43,7 @@ returns-clause-report g c =
     IfOk-weaker c.run_sources.result _ _
     (λ r h. if_any (all_known ks) _
     (λ inputs is.
-    let known = known_all ks (map (known_of g.T.Read.remaining) headed.sources.items) inputs read.known is in
+    let known = rw is at (known_all _ _ read.known) in
     let headers = rw is at read.headers in
     let on = subst (λ (l : List Header). IsReportOn l inputs (whole_of r)) read.sources (h inputs known) in
     let seen = streams_with hs on.lists in
@@ -66,7 +65,7 @@ returns-clause-fault g c =
     IfErr-weaker c.run_sources.result _ _
     (λ f h. if_any (all_known ks) _
     (λ inputs is.
-    let known = known_all ks (map (known_of g.T.Read.remaining) headed.sources.items) inputs read.known is in
+    let known = rw is at (known_all _ _ read.known) in
     let headers = rw is at read.headers in
     ⊎_elim
     (λ threads. inr (inl threads))

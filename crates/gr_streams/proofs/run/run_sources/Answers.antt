@@ -1,4 +1,4 @@
-use Rattle.std.proofs.Common.{◌≡◌, ◌∙◌, ◌⊎◌, Some, Result, ap, arith, inl, inr, length, map, refl, subst, sym, ⊎_elim}
+use Rattle.std.proofs.Common.{◌≡◌, ◌∙◌, ◌⊎◌, Some, Result, ap, arith, inr, length, map, subst, sym, ⊎_elim}
 use Rattle.std.proofs.lemmas.List.{length-map}
 use Rattle.std.proofs.lemmas.Result.{IfErr-weaker, IfOk-at_ok, IfOk-weaker}
 use Rattle.gr_detector.specs.Refusals.{IsHandedBack}
@@ -94,10 +94,7 @@ at_places-senders-requires g c =
 
 -- what a thread tells of its input is why the run fails, unless a thread is missing
 why : {Y : Type 0} (meaning : Result Y Fault) (f : Fault) → FailsHere f meaning → (f ≡ faults.Threads) ⊎ Fails f meaning
-why meaning faults.Threads here = inl refl
-why meaning faults.Memory here = inr tt
-why meaning faults.Read here = inr tt
-why meaning f here = inr here
+why meaning f here = grind arith
 
 pub returns-clause-fault : goal.returns-clause-fault
 returns-clause-fault g c =

@@ -11,8 +11,7 @@ abbrev pub invariant-loop-source : goal.invariant-loop-source
 invariant-loop-source g l = record {
   left : l.yielded ++ into_iter_items l.source-iterator ≡ l.fn.self;
   headed : All (λ s. IsHeaded s.header s.prefix.items) (into_iter_items l.source-iterator);
-  served : AreServed (map (λ s. s.header) (into_iter_items l.source-iterator)) l.senders.items;
-  others : (more : List Header) → AreServed (map (λ s. s.header) l.fn.self ++ more) l.initial.senders.items → AreServed (map (λ s. s.header) (into_iter_items l.source-iterator) ++ more) l.senders.items;
+  served : (more : List Header) → AreServed (map (λ s. s.header) l.fn.self ++ more) l.initial.senders.items → AreServed (map (λ s. s.header) (into_iter_items l.source-iterator) ++ more) l.senders.items;
   fewer : (k : ℕ) (s : Sending) → get_or l.senders.items k None ≡ Some s → get_or l.initial.senders.items k None ≡ Some s;
   unread : All IsUnread l.unread.items;
   begun : AreBegun l.fn.place (map (λ s. s.header) l.yielded) (map (known_of g.T.Read.remaining) l.yielded) (map (begun_of g.T.Read.remaining) l.unread.items);
