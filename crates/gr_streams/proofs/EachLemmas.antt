@@ -6,10 +6,10 @@ use Rattle.std.proofs.lemmas.List.{length-append}
 use Rattle.gr_model.specs.declared.event.Event.{Event}
 use Rattle.gr_record.specs.declared.header.Header.{Header}
 use Rattle.gr_record.specs.declared.fault.Fault.{Fault}
-use Rattle.gr_replay.specs.Each.{each_at, each_of, only_stream_at}
+use Rattle.gr_replay.specs.Each.{each_at, only_stream_at}
 use Rattle.gr_intake.specs.Joined.{Flat, ◌>>=◌, stream_at}
-use Rattle.gr_streams.specs.Headers.{header_behind, headers_behind, headers_of, streams_with}
-use Rattle.gr_streams.specs.Records.{events_at, lists_behind, lists_of}
+use Rattle.gr_streams.specs.Headers.{header_behind, headers_behind, streams_with}
+use Rattle.gr_streams.specs.Records.{events_at, lists_behind}
 
 any_with : (test : Header → Bool) (hs : List Header) (ls : List (List Event)) → length hs ≡ length ls → list_any (λ s. test s.header) (streams_with hs ls) ≡ list_any test hs
 any_with test [] ls count = refl
@@ -40,7 +40,7 @@ then_ok : {X Y : Type 0} (r : Result X Fault) (f : X → Result Y Fault) (y : Y)
 then_ok (Ok x) f y k = (x, refl, k)
 then_ok (Err e) f y k = absurd cc
 
-each_behind : (inputs : List (List ℕ)) (hs hs2 : List Header) (ls ls2 : List (List Event)) → length hs ≡ length ls → headers_behind hs inputs ≡ Ok hs2 → lists_behind ls inputs ≡ Ok ls2 → each_at (streams_with hs ls) inputs ≡ Ok (streams_with hs2 ls2)
+pub each_behind : (inputs : List (List ℕ)) (hs hs2 : List Header) (ls ls2 : List (List Event)) → length hs ≡ length ls → headers_behind hs inputs ≡ Ok hs2 → lists_behind ls inputs ≡ Ok ls2 → each_at (streams_with hs ls) inputs ≡ Ok (streams_with hs2 ls2)
 unfolding headers_behind lists_behind each_at
 each_behind [] hs hs2 ls ls2 count headers lists = let a = same_ok hs hs2 headers in let b = same_ok ls ls2 lists in λ i. Ok (streams_with (a i) (b i))
 each_behind (bytes ∷ inputs) hs hs2 ls ls2 count headers lists =
@@ -48,6 +48,3 @@ each_behind (bytes ∷ inputs) hs hs2 ls ls2 count headers lists =
     let l = then_ok (events_at (length ls) bytes) (λ l. lists_behind (ls ++ l ∷ []) inputs) ls2 lists in
     rw (one_stream hs ls bytes h.0 l.0 count h.1 l.1, ← one_more_with hs ls h.0 l.0 count)
     (each_behind inputs (hs ++ h.0 ∷ []) hs2 (ls ++ l.0 ∷ []) ls2 (omega (arith, count, length-append hs (h.0 ∷ []), length-append ls (l.0 ∷ []))) h.2 l.2)
-
-pub each_read : (inputs : List (List ℕ)) (hs : List Header) (ls : List (List Event)) → headers_of inputs ≡ Ok hs → lists_of inputs ≡ Ok ls → each_of inputs ≡ Ok (streams_with hs ls)
-each_read inputs hs ls headers lists = each_behind inputs [] hs [] ls refl headers lists

@@ -58,7 +58,3 @@ module _ (xs : List (List ℕ)) (hs : List Header) (read : headers_of xs ≡ Ok 
   pub header_refused : (ys : List (List ℕ)) (f : Fault) → Fails f (header_behind hs bytes) → Fails f (headers_of (xs ++ bytes ∷ ys))
   unfolding headers_behind
   header_refused ys f h = fails_through f (header_behind hs bytes) (headers_of (xs ++ bytes ∷ ys)) h (λ e. rw (after [] xs (bytes ∷ ys), read, e) refl)
-
-pub no_headers : headers_of [] ≡ Ok []
-unfolding headers_behind
-no_headers = refl

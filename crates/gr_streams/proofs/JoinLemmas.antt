@@ -3,14 +3,14 @@ use Rattle.std.proofs.Common.{◌≡◌, ◌≢◌, ℕ, suc, ◌+◌, ◌-◌, 
 use Rattle.std.proofs.Common.{Ok, Err, add-zero, append-nil, refl, sym, ap, ◌∙◌, subst, arith}
 use Rattle.std.proofs.lemmas.Bool.{cases_eq, cases_lt}
 use Rattle.std.proofs.lemmas.List.{get_or-append-add, get_or-set_other, get_or-set_same, get_or_append_left, get_or_past, length-append, length-map, map-append, nil_from_length, places}
-use Rattle.std.proofs.lemmas.List.Elements.{Contains-append_left}
+use Rattle.std.proofs.lemmas.List.Elements.{Contains-append_left, Contains-append_right}
 use Rattle.gr_model.specs.declared.event.Event.{Event}
 use Rattle.gr_record.specs.declared.header.Header.{Header}
 use Rattle.gr_intake.specs.Joined.{◌>>=◌}
 use Rattle.gr_route.specs.Batches.{all_of}
 use Rattle.gr_threads.specs.Senders.{Sending}
 use Rattle.gr_streams.specs.Headers.{AreApart}
-use Rattle.gr_streams.specs.Records.{and_one, events_at, lists_behind, lists_of}
+use Rattle.gr_streams.specs.Records.{and_one, events_at, lists_behind}
 use Rattle.gr_streams.specs.Sources.{AreBegun, AreEndsOf, ArePlaced, AreServed, Begun, HasSender, IsEndOf}
 use Rattle.gr_streams.specs.declared.forward.Ended.{Ended}
 
@@ -40,9 +40,6 @@ apart_head h hs apart x (k, lt, is) same = apart 0 (suc k) x (omega arith) (omeg
 pub apart_tail : (h : Header) (hs : List Header) → AreApart (h ∷ hs) → AreApart hs
 apart_tail h hs apart i j d before within = apart (suc i) (suc j) d (omega arith) (omega arith)
 
-pub contains_tail : {X : Type 0} (x y : X) (xs : List X) → Contains xs y → Contains (x ∷ xs) y
-contains_tail x y xs (k, lt, is) = (suc k, omega arith, is)
-
 pub contains_head : {X : Type 0} (x : X) (xs : List X) → Contains (x ∷ xs) x
 contains_head x xs = (0, omega arith, refl)
 
@@ -53,9 +50,9 @@ served_next h hs senders served =
     record {
       apart = apart_tail h hs served.apart;
       there = λ x in_hs.
-          let has = served.there x (contains_tail h x hs in_hs) in
+          let has = served.there x (Contains-append_right (h ∷ []) hs x in_hs) in
           (has.0, get_or-set_other senders h.group x.group None None (apart_head h hs served.apart x in_hs) ∙ has.1);
-      ready = λ x s in_hs at. served.ready x s (contains_tail h x hs in_hs) (was_there senders h.group lt x.group s at);
+      ready = λ x s in_hs at. served.ready x s (Contains-append_right (h ∷ []) hs x in_hs) (was_there senders h.group lt x.group s at);
     }
 
 -- the first headers have senders, if there are further ones
@@ -76,12 +73,9 @@ module _ {X : Type 0} (P : X → Type 0) (xs ys : List X) (all : All P (xs ++ ys
   pub all_back : All P ys
   all_back k d lt = subst P (get_or-append-add xs ys k d) (all (length xs + k) d (omega (arith, lt, length-append xs ys)))
 
-placed_append : (n : ℕ) (xs ys : List Begun) → ArePlaced n xs → ArePlaced (n + length xs) ys → ArePlaced n (xs ++ ys)
-placed_append n xs ys placed more k d lt = grind (arith, places, cases_lt k (length xs), placed k d, more (k - length xs) d)
-
 pub begun_append : (n : ℕ) (gs hs : List Header) (js ks : List (Option (List ℕ))) (xs ys : List Begun) → AreBegun n gs js xs → AreBegun (n + length xs) hs ks ys → AreBegun n (gs ++ hs) (js ++ ks) (xs ++ ys)
 begun_append n gs hs js ks xs ys a b = record {
-  placed = placed_append n xs ys a.placed b.placed;
+  placed = λ k d lt. grind (arith, places, cases_lt k (length xs), a.placed k d, b.placed (k - length xs) d);
   groups = rw (map-append (λ (x : Begun). x.sender.group) xs ys, a.groups, b.groups) (sym (map-append (λ (h : Header). h.group) gs hs));
   bytes = rw (map-append (λ (x : Begun). x.bytes) xs ys, a.bytes, b.bytes) refl;
 }
@@ -120,10 +114,8 @@ some x = Some x
 pub one_input : (ks : List (Option (List ℕ))) (k : Option (List ℕ)) (inputs : List (List ℕ)) → ks ++ k ∷ [] ≡ map some inputs → (xs : List (List ℕ)) × (x : List ℕ) × (inputs ≡ xs ++ x ∷ []) × (ks ≡ map some xs) × (k ≡ Some x)
 one_input [] k (x ∷ []) e = ([], x, refl, refl, cc)
 one_input (o ∷ ks) k (y ∷ inputs) e =
-    let first : o ≡ some y = cc in
-    let rest : ks ++ k ∷ [] ≡ map some inputs = cc in
-    let r = one_input ks k inputs rest in
-    (y ∷ r.0, r.1, ap (λ (l : List (List ℕ)). y ∷ l) r.2, (λ i. first i ∷ r.3 i), r.4)
+    let r = one_input ks k inputs cc in
+    (y ∷ r.0, r.1, cc (r.2), cc (r.3), r.4)
 one_input _ k _ e = absurd cc
 
 -- ---- lists
@@ -138,7 +130,3 @@ lists_more seen (b ∷ xs) x =
           let count : length seen + suc (length xs) ≡ length (seen ++ es ∷ []) + length xs = omega (arith, length-append seen (es ∷ [])) in
           rw count (lists_more (seen ++ es ∷ []) xs x)
     ]
-
-pub no_lists : lists_of [] ≡ Ok []
-unfolding lists_behind
-no_lists = refl

@@ -1,11 +1,11 @@
 -- The launch of streams that were sent.
 use Rattle.std.proofs.Common.{◌≡◌, ◌≢◌, ℕ, zero, suc, ◌<◌, cond, List, [], ◌∷◌, length, map, get_or, Contains, Option, None, Some}
-use Rattle.std.proofs.Common.{slice_get, refl, sym, ap, ◌∙◌, subst, arith, eq-eqb, inl, inr, ne_eqb}
+use Rattle.std.proofs.Common.{slice_get, refl, sym, ap, ◌∙◌, subst, arith, eq-eqb, ne_eqb}
 use Rattle.std.specs.Prelude.{IfSome}
 use Rattle.std.specs.List.{range_with_len}
 use Rattle.std.proofs.lemmas.Bool.{cases_lt}
 use Rattle.std.proofs.lemmas.List.{get_or-map, get_or_past, length-map}
-use Rattle.std.proofs.lemmas.List.Elements.{All-cons, All-tail}
+use Rattle.std.proofs.lemmas.List.Elements.{All-cons, All-tail, Contains-append_right}
 use Rattle.std.proofs.lemmas.List.FromFn.{get_or-map-range_with_len, length-map-range_with_len}
 use Rattle.std.proofs.lemmas.Option.{IfSome_then, slice_get-get_or, slice_get_within, get_or_from_slice_get}
 use Rattle.gr_detector.specs.Runs.{AreReceiptsOf, AreSendersOf, IsOfRun, IsSenderOf, Run, sent_by, sent_of}
@@ -20,13 +20,14 @@ use Rattle.gr_steps.proofs.Orders.{there_is}
 use Rattle.gr_streams.specs.Headers.{AreApart, AreHeadersOf, bare, bares, streams_with}
 use Rattle.gr_streams.specs.Sources.{AreKnown, AreOfRun, AreReceiptsFor, AreSenders, AreServed, Begun}
 use Rattle.gr_streams.proofs.HeadingLemmas.{if_mapped}
-use Rattle.gr_streams.proofs.JoinLemmas.{apart_head, apart_tail, contains_tail}
+use Rattle.gr_streams.proofs.JoinLemmas.{apart_head, apart_tail}
 
 -- ---- senders
 
--- a header is among the bare streams
-bare_in : (hs : List Header) (h : Header) → Contains hs h → Contains (bares hs) (bare h)
-bare_in hs h (k, lt, is) = (k, omega (arith, lt, length-map hs bare), get_or-map bare hs k h (bare h) lt ∙ ap bare is)
+-- the size of a header's group
+size_of : (hs : List Header) (sizes : List ℕ) → AreHeadersOf hs sizes → (h : Header) → Contains hs h → slice_get sizes h.group ≡ Some h.items
+size_of hs sizes launch h (k, lt, is) =
+    rw (← launch.2) (launch.1.each (bare h) (k, omega (arith, lt, length-map hs bare), get_or-map bare hs k h (bare h) lt ∙ ap bare is)).0
 
 abbrev sender : Sending → Option Sending
 sender s = Some s
@@ -37,13 +38,9 @@ places senders = map sender senders
 module _ (run : Run) (senders : List Sending) (are : AreSendersOf run senders) where
   at_place : (g : ℕ) (s : Sending) → get_or (places senders) g None ≡ Some s → IsSenderOf run g s
   at_place g s at =
-      elim (cases_lt g (length senders)) [
-        | inl lt ↦
-            let there : sender (get_or senders g s) ≡ Some s = sym (get_or-map sender senders g s None lt) ∙ at in
-            let is : get_or senders g s ≡ s = cc in
-            subst (IsSenderOf run g) is (are.each g s (omega (arith, lt, are.count)))
-        | inr past ↦ let none = get_or_past (places senders) g None (omega (arith, past, length-map senders sender)) in absurd cc
-      ]
+      let lt : g < length senders = grind (arith, cases_lt g (length senders), get_or_past (places senders) g None, length-map senders sender) in
+      let is : get_or senders g s ≡ s = grind (arith, get_or-map sender senders g s None lt) in
+      subst (IsSenderOf run g) is (are.each g s (omega (arith, lt, are.count)))
 
   pub of_run : AreSenders run (places senders)
   of_run g s at = let is = at_place g s at in subst (λ n. IsOfRun run n s.queue.queue) (sym is.group) is.of_run
@@ -52,18 +49,15 @@ module _ (run : Run) (senders : List Sending) (are : AreSendersOf run senders) w
   served hs apart launch = record {
     apart = apart;
     there = λ h in_hs.
-        let lt : h.group < length senders = omega (arith, slice_get_within run.sizes h.group h.items (size h in_hs), are.count) in
+        let lt : h.group < length senders = omega (arith, slice_get_within run.sizes h.group h.items (size_of hs run.sizes launch h in_hs), are.count) in
         let at = there_is senders h.group lt in
         let here = get_or_from_slice_get senders h.group at.0 at.0 at.1 in
         (at.0, get_or-map sender senders h.group at.0 None lt ∙ ap sender here);
     ready = λ h s in_hs at.
         let is = at_place h.group s at in
-        let items = is.items ∙ get_or_from_slice_get run.sizes h.group h.items 0 (size h in_hs) in
+        let items = is.items ∙ get_or_from_slice_get run.sizes h.group h.items 0 (size_of hs run.sizes launch h in_hs) in
         record { group = is.group; items = items; records = is.records; sent = is.sent };
   }
-    where
-      size : (h : Header) → Contains hs h → slice_get run.sizes h.group ≡ Some h.items
-      size h in_hs = subst (λ (l : List ℕ). slice_get l h.group ≡ Some h.items) launch.2 (launch.1.each (bare h) (bare_in hs h in_hs)).0
 
 -- ---- receipts
 
@@ -80,9 +74,6 @@ receipts_of_run run (b ∷ bs) (r ∷ rs) all are =
     (receipts_of_run run bs rs (All-tail (λ (x : Begun). IsOfRun run x.sender.group x.sender.queue.queue) b bs all) (record { groups = (cons_is _ _ _ _ are.groups).1; queues = (cons_is _ _ _ _ are.queues).1 }))
 
 -- ---- streams
-
-abbrev one : List Event → Option (List Event)
-one l = Some l
 
 abbrev pub groups_of : List Seat → List ℕ
 groups_of rs = map (λ (r : Seat). r.group) rs
@@ -106,7 +97,7 @@ stream_sent (h ∷ hs) (r ∷ rs) apart same f (zero, lt, is) =
 stream_sent (h ∷ hs) (r ∷ rs) apart same f (suc k, lt, is) =
     let rest = stream_sent hs rs (apart_tail h hs apart) (cons_is _ _ _ _ same).1 f (k, omega (arith, lt), is) in
     let other : r.group ≢ f.header.group = λ e. apart_head h hs apart f.header rest.0 (sym e ∙ (cons_is _ _ _ _ same).0) in (
-      contains_tail h f.header hs rest.0,
+      Contains-append_right (h ∷ []) hs f.header rest.0,
       ap (λ b. cond b r.pushed (sent_of f.header.group rs)) (ne_eqb r.group f.header.group other) ∙ rest.1,
     )
 
@@ -116,7 +107,7 @@ header_there (x ∷ hs) [] same h in_hs = absurd (omega (arith, ap length same))
 header_there (x ∷ hs) (r ∷ rs) same h (zero, lt, is) = (record { header = x; events = r.pushed }, (0, omega arith, refl), is)
 header_there (x ∷ hs) (r ∷ rs) same h (suc k, lt, is) =
     let rest = header_there hs rs (cons_is _ _ _ _ same).1 h (k, omega (arith, lt), is) in
-    (rest.0, contains_tail (record { header = x; events = r.pushed }) rest.0 (streams_with hs (pushed_of rs)) rest.1, rest.2)
+    (rest.0, Contains-append_right (record { header = x; events = r.pushed } ∷ []) (streams_with hs (pushed_of rs)) rest.0 rest.1, rest.2)
 
 -- the header of a bare stream
 pub header_in : (hs : List Header) (f : Flat) → Contains (bares hs) f → Contains hs f.header
@@ -133,11 +124,11 @@ launch_sent hs sizes rs apart launch same = record {
       (f.0, f.1, ap (λ (x : Header). x.group) f.2 ∙ has.2);
   each = λ f in_seen.
       let sent = stream_sent hs rs apart same f in_seen in
-      let size : slice_get sizes f.header.group ≡ Some f.header.items = subst (λ (l : List ℕ). slice_get l f.header.group ≡ Some f.header.items) launch.2 (launch.1.each (bare f.header) (bare_in hs f.header sent.0)).0 in
+      let size = size_of hs sizes launch f.header sent.0 in
       let lt = slice_get_within sizes f.header.group f.header.items size in
       let lists = map (λ g. sent_of g rs) (range_with_len 0 (length sizes)) in
       let there : f.header.group < length lists = omega (arith, lt, length-map-range_with_len (λ g. sent_of g rs) 0 (length sizes)) in
-      (size, slice_get-get_or lists f.header.group [] there ∙ ap (λ (l : List Event). one l) (get_or-map-range_with_len (λ g. sent_of g rs) 0 (length sizes) f.header.group f.header.group [] lt (omega arith) ∙ sent.1));
+      (size, rw (slice_get-get_or lists f.header.group [] there, get_or-map-range_with_len (λ g. sent_of g rs) 0 (length sizes) f.header.group f.header.group [] lt (omega arith), sent.1) refl);
 }
 
 -- ---- known bytes

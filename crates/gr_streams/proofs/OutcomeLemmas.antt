@@ -10,7 +10,7 @@ use Rattle.gr_record.specs.declared.header.Header.{Header}
 use Rattle.gr_record.specs.declared.stop.Stop.{Stop}
 use Rattle.gr_record.specs.declared.stop.Stop.TheVariants.{Inside, AtEnd, AtFault}
 use Rattle.gr_record.specs.declared.layout.TheConstants.{HEADER_LENGTH}
-use Rattle.gr_record.specs.Decoding.{Reading, closed, read_from, reading}
+use Rattle.gr_record.specs.Decoding.{closed, read_from, reading}
 use Rattle.gr_record.specs.Fronts.{records_of}
 use Rattle.gr_record.specs.Reading.{header_at}
 use Rattle.gr_record.specs.WholeStreams.{front_header_at, front_records_at, up_to}
@@ -25,19 +25,15 @@ told_by AtEnd events = Ok events
 told_by Inside events = Err errors.Truncated
 told_by (AtFault e) events = Err e
 
-abbrev pub told : Reading → Result (List Event) RecordError
-told r = told_by r.stop r.events
-
 its_header : (bytes : List ℕ) → HEADER_LENGTH ≤ length bytes → header_at bytes ≡ header_at (take HEADER_LENGTH bytes)
 its_header bytes long =
     let len : length (take HEADER_LENGTH bytes) ≡ HEADER_LENGTH = omega (arith, length-take HEADER_LENGTH bytes, long) in
     ap header_at (sym (take-append-drop HEADER_LENGTH bytes)) ∙ same_header (drop HEADER_LENGTH bytes) (take HEADER_LENGTH bytes) len
 
-module _ (place : ℕ) where
-  -- a stream that is read piece by piece is told as one that is read as a whole
-  pub events_told : (bytes : List ℕ) → events_at place bytes ≡ at_place place (told (reading MOST_RECORDS bytes))
-  unfolding events_at front_header_at front_records_at read_from
-  events_told bytes = grind (arith, its_header bytes)
+-- a stream that is read piece by piece is told as one that is read as a whole
+pub events_told : (place : ℕ) (bytes : List ℕ) → events_at place bytes ≡ at_place place (told_by (reading MOST_RECORDS bytes).stop (reading MOST_RECORDS bytes).events)
+unfolding events_at front_header_at front_records_at read_from
+events_told place bytes = grind (arith, its_header bytes)
 
 -- ---- whole streams
 

@@ -11,8 +11,7 @@ use Rattle.gr_record.specs.declared.error.RecordError.{RecordError}
 use Rattle.gr_record.specs.declared.error.RecordError.TheVariants as errors
 use Rattle.gr_record.specs.declared.header.Header.{Header}
 use Rattle.gr_record.specs.declared.fault.Fault.{Fault}
-use Rattle.gr_record.specs.declared.stop.Stop.{Stop}
-use Rattle.gr_record.specs.declared.stop.Stop.TheVariants.{Inside, AtEnd, AtFault}
+use Rattle.gr_record.specs.declared.stop.Stop.TheVariants.{AtEnd, AtFault}
 use Rattle.gr_record.specs.Decoding.{HasMemory, Standing, answer, last_answer, reading}
 use Rattle.gr_record.specs.Faults.{stream_fault}
 use Rattle.gr_record.proofs.Resuming.{fault_stays}
@@ -66,12 +65,7 @@ module _ (place : ℕ) (fed : List ℕ) (h : Header) (d : Standing) (s : Sending
           whole (subst (λ (l : List Event). IsTrue (is_complete l)) (sym same) list.ended) ∙ same
 
   pub end_tells : (fault : Option Fault) → IfErr (last_answer d.stop) (λ e. fault ≡ Some (stream_fault place e)) → IfOk (last_answer d.stop) (λ _. (fault ≡ None) × (IsTrue (is_complete s.sent) → pushed ≡ s.sent)) → Tells (events_at place fed) pushed fault
-  end_tells fault bad fine = by_stop d.stop refl bad fine
-    where
-      by_stop : (stop : Stop) → d.stop ≡ stop → IfErr (last_answer stop) (λ e. fault ≡ Some (stream_fault place e)) → IfOk (last_answer stop) (λ _. (fault ≡ None) × (IsTrue (is_complete s.sent) → pushed ≡ s.sent)) → Tells (events_at place fed) pushed fault
-      by_stop Inside is bad fine = rw (bad, events_told place fed, ← stops fed d s refused f, is) ((λ k. absurd cc), refl)
-      by_stop AtEnd is bad fine = rw (fine.0, sent_all (sym (stops fed d s refused f) ∙ is) fine.1, events_told place fed, ← stops fed d s refused f, is) refl
-      by_stop (AtFault e) is bad fine = rw bad (fault_tells place fed pushed e (sym (stops fed d s refused f) ∙ is))
+  end_tells fault bad fine = grind (arith, events_told place fed, stops fed d s refused f, sent_all, fault_tells place fed pushed)
 
 -- ---- bytes that come in pieces
 

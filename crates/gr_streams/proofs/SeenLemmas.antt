@@ -1,5 +1,5 @@
 -- Whether a group was seen, and of which launch the headers are, without a look at each header.
-use Rattle.std.proofs.Common.{Decides, ◌≡◌, ◌≢◌, ℕ, zero, suc, ◌<◌, false, List, [], ◌∷◌, ◌++◌, length, map, slice_get, get_or, Some, refl, sym, ap, ◌∙◌, subst, arith, inl, inr}
+use Rattle.std.proofs.Common.{Decides, ◌≡◌, ◌≢◌, ℕ, zero, suc, ◌<◌, List, [], ◌∷◌, ◌++◌, length, map, slice_get, get_or, Some, refl, sym, ap, ◌∙◌, subst, arith, inl, inr}
 use Rattle.std.specs.Prelude.{not, ◌==◌, All}
 use Rattle.std.specs.List.{list_any}
 use Rattle.std.proofs.lemmas.Bool.{cases_Bool, eq-eqb, eqb-true, true_from_ne_false}
@@ -43,13 +43,8 @@ module _ (sizes : List ℕ) (hs : List Header) (seen : AreSeen sizes hs) where
       → list_any (λ s. not (s.launch == launch)) hs ≡ not (h.launch == launch)
   first_tells launch h at =
       elim (cases_Bool (h.launch == launch)) [
-        | inl is ↦
-            let none : (k : ℕ) (d : Header) → k < length hs → not ((get_or hs k d).launch == launch) ≡ false =
-            λ k d lt. ap not (eq-eqb (get_or hs k d).launch launch (same k d lt ∙ eqb-true h.launch launch is)) in
-            list_any_none (λ (s : Header). not (s.launch == launch)) hs none ∙ sym (ap not is)
-        | inr other ↦
-            let first = ap (λ (s : Header). not (s.launch == launch)) (get_or_from_slice_get hs 0 h h at) ∙ ap not other in
-            list_any_at (λ (s : Header). not (s.launch == launch)) hs 0 h (slice_get_within hs 0 h at) first ∙ sym (ap not other)
+        | inl is ↦ rw is (list_any_none (λ (s : Header). not (s.launch == launch)) hs (λ k d lt. ap not (eq-eqb (get_or hs k d).launch launch (same k d lt ∙ eqb-true h.launch launch is))))
+        | inr other ↦ rw other (list_any_at (λ (s : Header). not (s.launch == launch)) hs 0 h (slice_get_within hs 0 h at) (rw (get_or_from_slice_get hs 0 h h at, other) refl))
       ]
     where
       first_same : (d : Header) → (get_or hs 0 d).launch ≡ h.launch

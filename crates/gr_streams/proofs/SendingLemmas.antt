@@ -4,14 +4,13 @@ use Rattle.std.specs.Prelude.{IfErr, IsFalse, IsTrue, OnErr, OnOk}
 use Rattle.std.proofs.lemmas.Bool.{cases_lt}
 use Rattle.std.proofs.lemmas.List.{places, take_more}
 use Rattle.gr_model.specs.declared.event.Event.{Event}
-use Rattle.gr_model.specs.declared.limits.TheConstants.{MOST_RECORDS}
 use Rattle.gr_model.specs.Events.{end_of, is_end}
 use Rattle.gr_model.specs.Streams.{is_complete}
 use Rattle.gr_record.specs.declared.part.Part.{Part}
 use Rattle.gr_record.specs.declared.part.Part.TheVariants as parts
 use Rattle.gr_record.specs.declared.header.Header.{Header}
 use Rattle.gr_record.specs.Laws.{AreBytes}
-use Rattle.gr_record.specs.Decoding.{GrowsAs, Reading, header_part, parts_of, read_from, reading}
+use Rattle.gr_record.specs.Decoding.{GrowsAs, Reading, header_part, parts_of}
 use Rattle.gr_threads.specs.declared.sender.SendError.{SendError}
 use Rattle.gr_threads.specs.Refusals.{IsRefusalOfEnd, is_full}
 use Rattle.gr_threads.specs.Senders.{Sending}
@@ -50,10 +49,6 @@ events_mapped (e ∷ es) = ap (λ (l : List Event). e ∷ l) (events_mapped es)
 pub next_part : (xs : List Part) (i : ℕ) (p : Part) → i < length xs → get_or xs i p ≡ p → events_in (take (i + 1) xs) ≡ events_in (take i xs) ++ events_in (p ∷ [])
 next_part xs i p lt is =
     grind (arith, take_more xs i p lt, events_append (take i xs) (p ∷ []))
-
-pub nothing_read : (reading MOST_RECORDS []).events ≡ []
-unfolding read_from
-nothing_read = refl
 
 -- ---- a piece more
 

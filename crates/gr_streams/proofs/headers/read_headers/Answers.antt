@@ -1,4 +1,4 @@
-use Rattle.std.proofs.Common.{◌≡◌, ◌≢◌, ◌∙◌, ◌++◌, ◌∷◌, [], ℕ, List, Ok, ap, arith, append_assoc, map, refl, rules, subst, sym}
+use Rattle.std.proofs.Common.{◌≡◌, ◌≢◌, ◌∙◌, ◌++◌, ◌∷◌, [], Ok, ap, arith, append_assoc, map, refl, rules, sym}
 use Rattle.std.specs.Vec.Iter.{into_iter_items}
 use Rattle.std.proofs.lemmas.List.{map-append, map_push}
 use Rattle.std.proofs.lemmas.List.Elements.{All-push}
@@ -7,14 +7,15 @@ use Rattle.std.proofs.lemmas.Option.{same_Some}
 use Rattle.std.proofs.lemmas.Result.{err_from_is_err_and}
 use Rattle.gr_record.specs.InputFaults.{Fails}
 use Rattle.gr_record.specs.declared.header.Header.{Header}
-use Rattle.gr_streams.specs.Headers.{header_behind, headers_of}
+use Rattle.gr_streams.specs.Headers.{header_behind, headers_behind, headers_of}
 use Rattle.gr_streams.specs.Sources.{IsHeaded, known_of}
 use Rattle.gr_streams.specs.declared.source.Source.{Source}
-use Rattle.gr_streams.proofs.HeadingLemmas.{header_refused, known_so_far, no_headers, one_more_header, one_more_known}
+use Rattle.gr_streams.proofs.HeadingLemmas.{header_refused, known_so_far, one_more_header, one_more_known}
 use Rattle.gr_streams.proofs.JoinLemmas.{all_yielded}
 use Rattle.gr_streams.proofs.headers.read_headers.Goals as goal
 
 pub loop-reader-init : goal.loop-reader-init
+unfolding headers_behind
 loop-reader-init g c =
     rw (c.new-seen.ensures, c.new-sources.ensures.items) (record {
       left = search rules;
@@ -22,7 +23,7 @@ loop-reader-init g c =
       sources = refl;
       known = tt;
       headed = λ k d lt. absurd (omega arith);
-      headers = no_headers;
+      headers = refl;
     })
 
 pub returns-in_err-source-clause-exact : goal.returns-in_err-source-clause-exact
@@ -33,9 +34,7 @@ returns-in_err-source-clause-exact g c =
     let f = c.in_err-source.field-0.0 in
     let left = into_iter_items c.next.new.self in
     let items : into_iter_items c.loop-reader.reader-iterator ≡ c.in-Some.reader ∷ left = search rules in
-    let all : c.args.readers.items ≡ c.loop-reader.yielded ++ c.in-Some.reader ∷ left = sym inv.left ∙ ap (λ l. c.loop-reader.yielded ++ l) items in
-    let known : map rem c.args.readers.items ≡ map rem c.loop-reader.yielded ++ rem c.in-Some.reader ∷ map rem left = ap (map rem) all ∙ map-append rem c.loop-reader.yielded (c.in-Some.reader ∷ left) in
-    rw (p.1, p.2, known)
+    rw (p.1, p.2, ← inv.left, items, map-append rem c.loop-reader.yielded)
     (known_so_far (map rem c.loop-reader.yielded) (map rem left) (rem c.in-Some.reader)
     (λ inputs. headers_of inputs ≡ Ok c.loop-reader.seen)
     (λ bytes. Fails f (header_behind c.loop-reader.seen bytes))
@@ -61,9 +60,7 @@ loop-reader-preserved g c =
           (λ inputs. headers_of inputs ≡ Ok hs)
           (λ bytes. header_behind hs bytes ≡ Ok s.header)
           (λ inputs. headers_of inputs ≡ Ok (hs ++ s.header ∷ []))
-          inv.headers c.in_ok-source.ensures.header (λ xs b ys none read is.
-          let behind = λ (l : List (List ℕ)). headers_of (xs ++ b ∷ l) ≡ Ok (hs ++ s.header ∷ []) in
-          subst behind (same_Some [] ys none) (one_more_header xs hs read b s.header is)));
+          inv.headers c.in_ok-source.ensures.header (λ xs b ys none read is. rw (← same_Some [] ys none) (one_more_header xs hs read b s.header is)));
     })
 
 pub returns-clause-headers : goal.returns-clause-headers

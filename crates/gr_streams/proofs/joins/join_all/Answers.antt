@@ -4,11 +4,13 @@ use Rattle.std.proofs.lemmas.List.{length-append, length-map, nil_from_length}
 use Rattle.std.proofs.lemmas.Slice.Zip.{AllZip-long}
 use Rattle.gr_route.specs.Batches.{all_of}
 use Rattle.gr_route.proofs.BatchLemmas.{all_of_push}
+use Rattle.gr_streams.specs.Records.{lists_behind}
 use Rattle.gr_streams.specs.Sources.{Begun, IsEndOf}
-use Rattle.gr_streams.proofs.JoinLemmas.{all_joined, no_lists}
+use Rattle.gr_streams.proofs.JoinLemmas.{all_joined}
 use Rattle.gr_streams.proofs.joins.join_all.Goals as goal
 
 pub loop-thread-init : goal.loop-thread-init
+unfolding lists_behind
 loop-thread-init g c =
     let items : into_iter_items c.into_iter-thread-iterator.result ≡ c.args.threads.items = search rules in
     rw c.requires.none (record {
@@ -16,7 +18,7 @@ loop-thread-init g c =
       joined = record {
         receipts = record { groups = refl; queues = refl };
         write = tt;
-        tells = λ inputs read. rw (nil_from_length inputs (omega (arith, ap length read.1, length-map inputs (λ l. Some l)))) no_lists;
+        tells = λ inputs read. rw (nil_from_length inputs (omega (arith, ap length read.1, length-map inputs (λ l. Some l)))) refl;
       };
       room = omega (arith, c.requires.empty, c.requires.fits, ap (λ l. length (all_of l)) items);
     })

@@ -1,7 +1,7 @@
 use Rattle.std.proofs.Common.{◌≡◌, ◌≢◌, ◌∙◌, ◌+◌, ◌++◌, ◌∷◌, [], List, Option, Some, Result, append-nil, append_assoc, ap, arith, length, map, rules, subst, sym}
 use Rattle.std.specs.Prelude.{IfSome}
 use Rattle.std.specs.Vec.Iter.{into_iter_items}
-use Rattle.std.proofs.lemmas.List.{length-append, length-map, map_push, nil_from_length}
+use Rattle.std.proofs.lemmas.List.{length-map, length_push, map_push, nil_from_length}
 use Rattle.std.proofs.lemmas.Slice.Zip.{AllZip-long}
 use Rattle.gr_model.specs.declared.event.Event.{Event}
 use Rattle.gr_record.specs.declared.fault.Fault.{Fault}
@@ -28,9 +28,8 @@ module _ (bs : List Begun) (b : Begun) (rs : List Seat) (r : Seat) (first next b
           let one = one_input (map (λ (x : Begun). x.bytes) bs) b.bytes inputs (sym (map_push (λ (x : Begun). x.bytes) bs b) ∙ read.1) in
           let xs = one.0 in
           let x = one.1 in
-          let count : length bs ≡ length xs = sym (length-map bs (λ (y : Begun). y.bytes)) ∙ (ap length one.3 ∙ length-map xs (λ l. Some l)) in
-          let told = subst (λ o. IfSome o (λ bytes. Tells (events_at b.place bytes) r.pushed next)) one.4 end.tells in
-          let at : b.place ≡ 0 + length xs = omega (arith, placed.1, count) in
+          let at : b.place ≡ 0 + length xs = omega (arith, placed.1, length-map bs (λ (y : Begun). y.bytes), ap length one.3, length-map xs (λ l. Some l)) in
+          let told = rw one.4 at end.tells in
           let here = subst (λ n. Tells (events_at n x) r.pushed next) at told in
           rw (one.2, lists_more [] xs x, map_push (λ (y : Seat). y.pushed) rs r)
           (tells (lists_of xs) (events_at (0 + length xs) x) (map (λ (y : Seat). y.pushed) rs) r.pushed (left.tells xs (placed.0, one.3)) here);
@@ -53,16 +52,15 @@ loop-stream-preserved g c =
     let items = c.in-Some.ensures.steps.0 in
     let yielded = c.loop-stream.yielded in
     let old = c.loop-stream.receipts.items in
-    let grown : length (yielded ++ e ∷ []) ≡ length yielded + 1 = length-append yielded (e ∷ []) in
     let first = c.first_of-first.ensures in
     record {
       left = rw (append_assoc, ← items) inv.left;
       joined = λ before begun are left.
           let one = one_end begun yielded e are in
           let were = inv.joined before one.0 one.3 left in
-          let now = left_next (before ++ one.0) one.1 old e.receipt c.loop-stream.first e.fault c.first_of-first.result were one.4 first.tells (first.write were.write one.4.write) in
-          rw c.push_reserved.ensures.items (subst (λ (l : List Begun). AreLeft l (old ++ e.receipt ∷ []) c.first_of-first.result) (append_assoc before one.0 (one.1 ∷ []) ∙ ap (λ l. before ++ l) (sym one.2)) now);
-      count = omega (arith, inv.count, grown, c.push_reserved.ensures.len);
+          rw (c.push_reserved.ensures.items, one.2, ← append_assoc before one.0 (one.1 ∷ []))
+          (left_next (before ++ one.0) one.1 old e.receipt c.loop-stream.first e.fault c.first_of-first.result were one.4 first.tells (first.write were.write one.4.write));
+      count = omega (arith, inv.count, length_push yielded e, c.push_reserved.ensures.len);
       room = omega (arith, inv.room, c.in-Some.ensures.steps.1, c.push_reserved.ensures.len, c.push_reserved.ensures.capacity);
       capacity = c.push_reserved.ensures.capacity ∙ inv.capacity;
     }

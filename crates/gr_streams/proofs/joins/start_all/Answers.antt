@@ -1,5 +1,5 @@
 use Rattle.std.proofs.Common.{◌≡◌, ◌∙◌, ◌+◌, ◌++◌, ◌∷◌, [], List}
-use Rattle.std.proofs.Common.{append_assoc, ap, arith, length, map, refl, rules, subst, sym}
+use Rattle.std.proofs.Common.{append_assoc, ap, arith, length, map, refl, rules, sym}
 use Rattle.std.specs.Vec.Iter.{into_iter_items}
 use Rattle.std.proofs.lemmas.List.{length-append, length-map, map-append}
 use Rattle.std.proofs.lemmas.List.Elements.{All-append}
@@ -67,8 +67,7 @@ loop-share-preserved g c =
     let yielded = all_of_push c.loop-share.yielded t in
     let count : length bs ≡ length before = begun_count _ _ _ _ inv.begun ∙ length-map before (λ (x : Source _). x.header) in
     let at : c.loop-share.place ≡ 0 + length bs = omega (arith, inv.place, count) in
-    let here : AreBegun c.loop-share.place (headers_in t) (map (known_of rem) t) more = rw c.start.ensures given.begun in
-    let begun : AreBegun (0 + length bs) (headers_in t) (map (known_of rem) t) more = subst (λ n. AreBegun n (headers_in t) (map (known_of rem) t) more) at here in
+    let begun : AreBegun (0 + length bs) (headers_in t) (map (known_of rem) t) more = rw (← at, c.start.ensures) given.begun in
     record {
       left = ap (λ l. l ++ all_of rest) yielded ∙ (append_assoc before t (all_of rest) ∙ rw items at inv.left);
       headed = all_back (λ (x : Source _). IsHeaded x.header x.prefix.items) t (all_of rest) (rw items at inv.headed);

@@ -1,4 +1,4 @@
-use Rattle.std.proofs.Common.{List, [], map, inl, inr, subst, sym, ⊎_elim}
+use Rattle.std.proofs.Common.{List, [], map, inl, inr, refl, subst, sym, ⊎_elim}
 use Rattle.std.proofs.lemmas.Option.{IfSome_then}
 use Rattle.std.proofs.lemmas.Result.{IfErr-weaker, IfOk-weaker, err_from_is_err_and}
 use Rattle.gr_record.specs.declared.fault.Fault.TheVariants as faults
@@ -11,7 +11,7 @@ use Rattle.gr_replay.proofs.Launching.{launch_accepts}
 use Rattle.gr_report.specs.Whole.{whole_of}
 use Rattle.gr_streams.specs.Headers.{AreApart, bares, streams_with}
 use Rattle.gr_streams.specs.Streams.{IsReportOn}
-use Rattle.gr_streams.proofs.EachLemmas.{each_read}
+use Rattle.gr_streams.proofs.EachLemmas.{each_behind}
 use Rattle.gr_streams.proofs.HeadingLemmas.{if_any}
 use Rattle.gr_streams.proofs.LaunchLemmas.{known_all}
 use Rattle.gr_streams.proofs.run.detect_streams.Goals as goal
@@ -47,7 +47,7 @@ returns-clause-report g c =
     let headers = rw is at read.headers in
     let on = subst (λ (l : List Header). IsReportOn l inputs (whole_of r)) read.sources (h inputs known) in
     let seen = streams_with hs on.lists in
-    let each = each_read inputs hs on.lists headers on.read in
+    let each = each_behind inputs [] hs [] on.lists refl headers on.read in
     record {
       launch = on.launch;
       spelled = (seen, each, on.spelled);

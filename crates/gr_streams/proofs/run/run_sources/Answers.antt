@@ -4,14 +4,12 @@ use Rattle.std.proofs.lemmas.Result.{IfErr-weaker, IfOk-at_ok, IfOk-weaker}
 use Rattle.gr_detector.specs.Refusals.{IsHandedBack}
 use Rattle.gr_detector.specs.Runs.{IsEachOnce, sent_by}
 use Rattle.gr_model.specs.Reports.{IsReportOf}
-use Rattle.gr_model.specs.Shapes.{IsShape}
 use Rattle.gr_record.specs.InputFaults.{Fails}
 use Rattle.gr_record.specs.declared.fault.Fault.{Fault}
 use Rattle.gr_record.specs.declared.fault.Fault.TheVariants as faults
 use Rattle.gr_report.specs.Whole.{whole_of}
 use Rattle.gr_route.specs.Batches.{all_of}
 use Rattle.gr_route.specs.IntakeSeats.{Seat}
-use Rattle.gr_streams.specs.Headers.{AreHeadersOf}
 use Rattle.gr_streams.specs.Records.{lists_of}
 use Rattle.gr_streams.specs.Sending.{FailsHere, Tells}
 use Rattle.gr_streams.specs.Sources.{AreSenders}
@@ -29,8 +27,7 @@ pub start_all-threads-requires-clause-senders : goal.start_all-threads-requires-
 start_all-threads-requires-clause-senders g c κs within =
     let hs = map (λ (s : Source _). s.header) c.args.sources.items in
     let run = c.in-Ok-start.started.1 in
-    let launch = subst (AreHeadersOf hs) (sym c.in-Ok-start.ensures.run.1) c.requires.shape in
-    rw (c.at_places-senders.ensures, c.in_ok-shares.ensures.shares) (served run c.in-Ok-start.started.0.items c.in-Ok-start.ensures.senders hs c.requires.apart launch)
+    rw (c.at_places-senders.ensures, c.in_ok-shares.ensures.shares) (served run c.in-Ok-start.started.0.items c.in-Ok-start.ensures.senders hs c.requires.apart (rw c.in-Ok-start.ensures.run.1 c.requires.shape))
 
 pub join_all-receipts-requires : goal.join_all-receipts-requires
 join_all-receipts-requires g c =
@@ -56,9 +53,8 @@ judge-requires g c =
     let hs = map (λ (s : Source _). s.header) c.args.sources.items in
     let run = c.in-Ok-start.started.1 in
     let receipts = c.join_all-receipts.result.receipts.items in
-    let launch = subst (AreHeadersOf hs) (sym c.in-Ok-start.ensures.run.1) c.requires.shape in
     let begun = rw c.in_ok-shares.ensures.shares at c.start_all-threads.ensures.begun in
-    let once : IsEachOnce (length run.sizes) receipts = each_once hs run.sizes receipts c.requires.apart launch (c.join_all-receipts.ensures.receipts.groups ∙ begun.groups) in
+    let once : IsEachOnce (length run.sizes) receipts = each_once hs run.sizes receipts c.requires.apart (rw c.in-Ok-start.ensures.run.1 c.requires.shape) (c.join_all-receipts.ensures.receipts.groups ∙ begun.groups) in
     IfErr-weaker c.finish.result (IsHandedBack run receipts) IsWantOfMemory (only_memory run receipts once) c.finish.ensures.refused
 
 pub returns-clause-report : goal.returns-clause-report
@@ -75,8 +71,8 @@ returns-clause-report g c =
       lists = pushed;
       read = subst (Tells (lists_of inputs) pushed) h.0 tells;
       launch = sent_by run.sizes receipts;
-      spelled = launch_sent hs run.sizes receipts c.requires.apart (subst (AreHeadersOf hs) (sym c.in-Ok-start.ensures.run.1) c.requires.shape) (c.join_all-receipts.ensures.receipts.groups ∙ begun.groups);
-      shape = subst IsShape (sym c.in-Ok-start.ensures.run.1) c.requires.good;
+      spelled = launch_sent hs run.sizes receipts c.requires.apart (rw c.in-Ok-start.ensures.run.1 c.requires.shape) (c.join_all-receipts.ensures.receipts.groups ∙ begun.groups);
+      shape = rw c.in-Ok-start.ensures.run.1 c.requires.good;
       exact = IfOk-at_ok (λ report. IsReportOf (sent_by run.sizes receipts) (whole_of report)) h.1 c.finish.ensures.report;
     })
     c.judge.ensures.report

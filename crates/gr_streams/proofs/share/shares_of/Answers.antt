@@ -7,11 +7,6 @@ use Rattle.gr_streams.proofs.JoinLemmas.{all_yielded}
 use Rattle.gr_streams.proofs.share.shares_of.Goals.{then-len-most+in_ok-add, else-len-most}
 use Rattle.gr_streams.proofs.share.shares_of.Goals as goal
 
--- one more is in the next share
-one_on : {X : Type 0} (all next next' left rest : List X) (x : X) (xs : List X) → next' ≡ next ++ x ∷ [] → left ≡ x ∷ rest → (all ++ next) ++ left ≡ xs → (all ++ next') ++ rest ≡ xs
-one_on all next next' left rest x xs pushed items is =
-    ap (λ l. (all ++ l) ++ rest) pushed ∙ (ap (λ l. l ++ rest) (sym (append_assoc all next (x ∷ []))) ∙ (append_assoc (all ++ next) (x ∷ []) rest ∙ (ap (λ l. (all ++ next) ++ l) (sym items) ∙ is)))
-
 pub loop-source-preserved : goal.loop-source-preserved
 loop-source-preserved g c =
     let old = c.loop-source in
@@ -23,8 +18,8 @@ loop-source-preserved g c =
           rw (shares, next) (append-nil (all_of old.shares.items ++ old.next.items))
       | else-len-most w ↦ rw (w.shares-is, w.next-is) refl
     ] in
-    one_on (all_of now.shares.items) now.next.items c.push.new.self.items _ (into_iter_items c.next.new.self) c.in-Some.source c.args.sources.items c.in_ok-push.ensures.items c.in-Some.ensures.steps.0
-    (ap (λ l. l ++ into_iter_items old.source-iterator) same ∙ old.invariant)
+    rw (c.in_ok-push.ensures.items, ← append_assoc (all_of now.shares.items) now.next.items (c.in-Some.source ∷ []), append_assoc (all_of now.shares.items ++ now.next.items))
+    (rw (← c.in-Some.ensures.steps.0, same) old.invariant)
 
 pub returns : goal.returns
 returns g c =

@@ -1,12 +1,13 @@
 use Rattle.std.proofs.Common.{arith}
-use Rattle.gr_streams.proofs.SendingLemmas.{nothing_read}
+use Rattle.gr_record.specs.Decoding.{read_from}
 use Rattle.gr_streams.proofs.forward.Forward.new.Goals as goal
 
 pub returns-clause-fed : goal.returns-clause-fed
+unfolding read_from
 returns-clause-fed g c = record {
   bytes = λ i. omega arith;
   limit = c.new.ensures.limit;
   stands = c.new.ensures.nothing;
   records = rw c.new-2.ensures c.requires.records;
-  sent = rw (c.new-2.ensures, nothing_read) c.requires.sent;
+  sent = rw c.new-2.ensures c.requires.sent;
 }

@@ -1,7 +1,7 @@
-use Rattle.std.proofs.Common.{◌≡◌, ◌∙◌, ◌+◌, ◌++◌, ◌∷◌, [], List}
+use Rattle.std.proofs.Common.{◌≡◌, ◌∙◌, ◌++◌, ◌∷◌, [], List}
 use Rattle.std.proofs.Common.{append-nil, append_assoc, arith, length, map, rules, refl, subst, sym}
 use Rattle.std.specs.Vec.Iter.{into_iter_items}
-use Rattle.std.proofs.lemmas.List.{nil_from_length, length-append, length-map, map_push}
+use Rattle.std.proofs.lemmas.List.{nil_from_length, length-map, length_push, map_push}
 use Rattle.std.proofs.lemmas.List.Elements.{All-head, All-nil, All-push, All-tail}
 use Rattle.gr_detector.specs.Runs.{IsOfRun}
 use Rattle.gr_record.specs.declared.header.Header.{Header}
@@ -49,7 +49,6 @@ loop-source-preserved g c =
     let us = c.loop-source.unread.items in
     let old = c.loop-source.senders.items in
     let sender = c.take_sender-sender.result in
-    let taken = c.take_sender-sender.ensures.taken in
     let at = c.take_sender-sender.ensures.there in
     let served = rw items at (inv.served [] (rw append-nil c.requires.senders)) in
     let in_all = contains_head s.header (headers_in rest ++ []) in
@@ -58,9 +57,8 @@ loop-source-preserved g c =
     let u : Unread _ _ = record { place = c.loop-source.place; source = s; sender = sender } in
     let b : Begun = begun_of rem u in
     let pushed = c.push_reserved.ensures.items in
-    let grown : length (yielded ++ s ∷ []) ≡ length yielded + 1 = length-append yielded (s ∷ []) in
     let count : length (map (begun_of rem) us) ≡ length yielded = begun_count _ _ _ _ inv.begun ∙ length-map yielded (λ (x : Source _). x.header) in
-    rw taken (record {
+    rw c.take_sender-sender.ensures.taken (record {
       left = rw (append_assoc, ← items) inv.left;
       headed = All-tail (λ (x : Source _). IsHeaded x.header x.prefix.items) s rest headed;
       served = λ more served. served_next s.header (headers_in rest ++ more) old (rw items at (inv.served more served));
@@ -72,8 +70,8 @@ loop-source-preserved g c =
       run = λ run senders.
           let of_run : IsOfRun run sender.group sender.queue.queue = senders s.header.group sender (inv.fewer s.header.group sender at) in
           rw (pushed, map_push (begun_of rem) us u) (All-push (λ (x : Begun). IsOfRun run x.sender.group x.sender.queue.queue) (map (begun_of rem) us) b (inv.run run senders) of_run);
-      place = omega (arith, inv.place, grown);
-      count = omega (arith, inv.count, grown, c.push_reserved.ensures.len);
+      place = omega (arith, inv.place, length_push yielded s);
+      count = omega (arith, inv.count, length_push yielded s, c.push_reserved.ensures.len);
       room = omega (arith, inv.room, c.in-Some.ensures.steps.1, c.push_reserved.ensures.len, c.push_reserved.ensures.capacity);
     })
 
