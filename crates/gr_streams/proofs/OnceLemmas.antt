@@ -41,8 +41,7 @@ one_of (x ∷ hs) (r ∷ rs) apart same h (suc k, lt, is) =
 pub each_once : (hs : List Header) (sizes : List ℕ) (rs : List Seat) → AreApart hs → AreHeadersOf hs sizes → groups_of rs ≡ header_groups hs → IsEachOnce (length sizes) rs
 each_once hs sizes rs apart launch same g lt =
     let has = launch.1.there g (omega (arith, lt, ap length launch.2)) in
-    let header : Header = has.0.header in
-    subst (λ n. length (of_group n rs) ≡ 1) has.2 (one_of hs rs apart same header (header_in hs has.0 has.1))
+    subst (λ n. length (of_group n rs) ≡ 1) has.2 (one_of hs rs apart same has.0.header (header_in hs has.0 has.1))
 
 -- and a run that is finished with these receipts hands none back
 pub only_memory : {A : Type 0} (run : Run) (rs : List Seat) → IsEachOnce (length run.sizes) rs → (e : FinishError A) → IsHandedBack run rs e → IsWantOfMemory e

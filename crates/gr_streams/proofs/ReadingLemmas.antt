@@ -2,8 +2,7 @@
 use Rattle.std.proofs.Common.{◌≡◌, ℕ, ◌≤◌, Bool, true, false, List, [], ◌++◌, length, take, Option, None, Some, Result, Err, refl, sym, ap, ◌∙◌, subst, arith, append_assoc}
 use Rattle.std.specs.Prelude.{IfErr, IfOk, IfSome, IsTrue}
 use Rattle.std.specs.Io.KnownBytes.{Consumes, prepend_known}
-use Rattle.std.proofs.lemmas.List.{length-take, take-append-le}
-use Rattle.std.proofs.Math.Seq.{take-length}
+use Rattle.std.proofs.lemmas.List.{length-take, take-append-le, take_all}
 use Rattle.gr_model.specs.declared.event.Event.{Event}
 use Rattle.gr_model.specs.declared.limits.TheConstants.{MOST_RECORDS}
 use Rattle.gr_model.specs.Streams.{IsAccepted, is_complete}
@@ -71,8 +70,7 @@ module _ (place : ℕ) (fed : List ℕ) (h : Header) (d : Standing) (s : Sending
 
 pub still_headed : (h : Header) (fed read : List ℕ) → IsHeaded h (take 12 fed) → IsHeaded h (take 12 (fed ++ read))
 still_headed h fed read headed =
-    let long : 12 ≤ length fed = omega (arith, length-take 12 fed, headed.1) in
-    subst (IsHeaded h) (sym (take-append-le 12 fed read long)) headed
+    rw (take-append-le 12 fed read (omega (arith, length-take 12 fed, headed.1))) headed
 
 pub regroup : (fed read piece rest : List ℕ) → ((fed ++ read) ++ piece) ++ rest ≡ fed ++ ((read ++ piece) ++ rest)
 regroup fed read piece rest = simp append_assoc
@@ -88,4 +86,4 @@ known_prefix None prefix P p = tt
 known_prefix (Some xs) prefix P p = p xs
 
 pub whole_prefix : (h : Header) (prefix : List ℕ) → IsHeaded h prefix → IsHeaded h (take 12 prefix)
-whole_prefix h prefix headed = subst (IsHeaded h) (sym (ap (λ n. take n prefix) (sym headed.1) ∙ take-length prefix)) headed
+whole_prefix h prefix headed = rw (take_all 12 prefix (omega (arith, headed.1))) headed

@@ -1,6 +1,5 @@
 use Rattle.std.proofs.Common.{◌≡◌, ◌≢◌, ◌∙◌, ◌+◌, ◌++◌, ◌∷◌, [], List, Option, Some, Result, append-nil, append_assoc, ap, arith, length, map, rules, subst, sym}
 use Rattle.std.specs.Prelude.{IfSome}
-use Rattle.std.specs.Vec.Iter.{into_iter_items}
 use Rattle.std.proofs.lemmas.List.{length-map, length_push, map_push, nil_from_length}
 use Rattle.std.proofs.lemmas.Slice.Zip.{AllZip-long}
 use Rattle.gr_model.specs.declared.event.Event.{Event}
@@ -48,7 +47,6 @@ pub loop-stream-preserved : goal.loop-stream-preserved
 loop-stream-preserved g c =
     let inv = c.loop-stream.invariant in
     let e = c.in-Some.stream in
-    let rest = into_iter_items c.next.new.self in
     let items = c.in-Some.ensures.steps.0 in
     let yielded = c.loop-stream.yielded in
     let old = c.loop-stream.receipts.items in

@@ -39,13 +39,12 @@ returns-in-Err-take-clause-tells g c = λ fed h headed items f.
     let inv = c.loop.invariant in
     let piece = take c.in-Ok.count c.read.new.buf in
     let end = c.fail-in-Err-take.result in
-    let fault = c.fail-in-Err-take.ensures.fault in
     let after = c.take.new.self in
     of_known _ (g.T.Read.remaining c.read.new.self) (inv.read ++ piece) (λ rest. Tells (events_at c.args.place (fed ++ rest)) end.receipt.pushed end.fault)
     (Consumes-then _ _ _ _ _ inv.consumed c.in-Ok.ensures.bytes.0)
     (λ rest.
     let tells = refused_tells c.args.place ((fed ++ inv.read) ++ piece) rest end.receipt.pushed after.decoder after.sender after.refused c.take.result c.in-Err-take.error c.in-Err-take.is c.take.ensures.fault (λ has. c.take.ensures.fed has (fed ++ inv.read) (inv.fed fed f)) in
-    rw (fault, c.of_stream.ensures.exact, ← regroup fed inv.read piece rest) tells)
+    rw (c.fail-in-Err-take.ensures.fault, c.of_stream.ensures.exact, ← regroup fed inv.read piece rest) tells)
 
 pub loop-preserved : goal.loop-preserved
 loop-preserved g c =

@@ -36,12 +36,10 @@ run_sources-requires-clause-apart g c κs within = subst AreApart (sym c.in_ok-h
 
 pub returns-clause-report : goal.returns-clause-report
 returns-clause-report g c =
-    let ks = map g.T.Read.remaining c.args.readers.items in
-    let headed = c.in_ok-headers.field-0 in
-    let hs = headed.headers.items in
+    let hs = c.in_ok-headers.field-0.headers.items in
     let read = c.in_ok-headers.ensures in
     IfOk-weaker c.run_sources.result _ _
-    (λ r h. if_any (all_known ks) _
+    (λ r h. if_any (all_known (map g.T.Read.remaining c.args.readers.items)) _
     (λ inputs is.
     let known = rw is at (known_all _ _ read.known) in
     let headers = rw is at read.headers in
@@ -58,12 +56,10 @@ returns-clause-report g c =
 
 pub returns-clause-fault : goal.returns-clause-fault
 returns-clause-fault g c =
-    let ks = map g.T.Read.remaining c.args.readers.items in
-    let headed = c.in_ok-headers.field-0 in
-    let hs = headed.headers.items in
+    let hs = c.in_ok-headers.field-0.headers.items in
     let read = c.in_ok-headers.ensures in
     IfErr-weaker c.run_sources.result _ _
-    (λ f h. if_any (all_known ks) _
+    (λ f h. if_any (all_known (map g.T.Read.remaining c.args.readers.items)) _
     (λ inputs is.
     let known = rw is at (known_all _ _ read.known) in
     let headers = rw is at read.headers in

@@ -1,4 +1,4 @@
-use Rattle.std.proofs.Common.{◌≡◌, ◌∙◌, ◌⊎◌, Some, Result, ap, arith, inr, length, map, subst, sym, ⊎_elim}
+use Rattle.std.proofs.Common.{◌≡◌, ◌∙◌, ◌⊎◌, Result, ap, arith, inr, length, map, subst, sym, ⊎_elim}
 use Rattle.std.proofs.lemmas.List.{length-map}
 use Rattle.std.proofs.lemmas.Result.{IfErr-weaker, IfOk-at_ok, IfOk-weaker}
 use Rattle.gr_detector.specs.Refusals.{IsHandedBack}
@@ -8,7 +8,6 @@ use Rattle.gr_record.specs.InputFaults.{Fails}
 use Rattle.gr_record.specs.declared.fault.Fault.{Fault}
 use Rattle.gr_record.specs.declared.fault.Fault.TheVariants as faults
 use Rattle.gr_report.specs.Whole.{whole_of}
-use Rattle.gr_route.specs.Batches.{all_of}
 use Rattle.gr_route.specs.IntakeSeats.{Seat}
 use Rattle.gr_streams.specs.Records.{lists_of}
 use Rattle.gr_streams.specs.Sending.{FailsHere, Tells}
@@ -43,10 +42,9 @@ join_all-receipts-requires g c =
 pub finish-requires : goal.finish-requires
 finish-requires g c =
     let run = c.in-Ok-start.started.1 in
-    let threads = all_of c.start_all-threads.result.items in
     let senders = of_run run c.in-Ok-start.started.0.items c.in-Ok-start.ensures.senders in
     let begun = c.start_all-threads.ensures.run run (subst (AreSenders run) (sym c.at_places-senders.ensures) senders) in
-    receipts_of_run run threads c.join_all-receipts.result.receipts.items begun c.join_all-receipts.ensures.receipts
+    receipts_of_run run _ c.join_all-receipts.result.receipts.items begun c.join_all-receipts.ensures.receipts
 
 pub judge-requires : goal.judge-requires
 judge-requires g c =
@@ -95,14 +93,12 @@ why meaning f here = grind arith
 pub returns-clause-fault : goal.returns-clause-fault
 returns-clause-fault g c =
     let begun = rw c.in_ok-shares.ensures.shares at c.start_all-threads.ensures.begun in
-    let pushed = map (λ (r : Seat). r.pushed) c.join_all-receipts.result.receipts.items in
     IfErr-weaker c.judge.result _ _
     (λ f h inputs known.
     ⊎_elim
     (λ told.
     let tells = c.join_all-receipts.ensures.tells inputs (begun.placed, begun.bytes ∙ known) in
-    let here : Tells (lists_of inputs) pushed (Some f) = subst (Tells (lists_of inputs) pushed) told tells in
-    why (lists_of inputs) f here.1)
+    why (lists_of inputs) f (rw told at tells).1)
     (λ memory. inr (subst (λ (e : Fault). Fails e (lists_of inputs)) (sym memory) tt))
     h)
     c.judge.ensures.fault

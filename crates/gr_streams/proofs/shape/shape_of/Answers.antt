@@ -12,19 +12,16 @@ items_of_bares (h ∷ hs) = ap (λ (l : List ℕ). h.items ∷ l) (items_of_bare
 
 pub returns-in-Some-clause-fault : goal.returns-in-Some-clause-fault
 returns-in-Some-clause-fault g c =
-    let h = rw c.deref.ensures.value at c.in-Some.ensures in
-    missing_permutation _ _ c.order_by_group.ensures.same c.in-Some.group h
+    missing_permutation _ _ c.order_by_group.ensures.same c.in-Some.group (rw c.deref.ensures.value at c.in-Some.ensures)
 
 pub returns-in-Ok-clause-launch : goal.returns-in-Ok-clause-launch
 returns-in-Ok-clause-launch g c =
-    let placed = rw c.deref.ensures.value at c.in_default.ensures in
     let sizes = rw c.deref-2.ensures.value at c.in_ok-sizes.ensures in
     let new = c.order_by_group.new.headers.items in
-    (launch_of (bares new), is_launch _ _ c.order_by_group.ensures.same placed, sym (c.in-Ok.ensures.sizes ∙ (sizes ∙ items_of_bares new)))
+    (launch_of (bares new), is_launch _ _ c.order_by_group.ensures.same (rw c.deref.ensures.value at c.in_default.ensures), sym (c.in-Ok.ensures.sizes ∙ (sizes ∙ items_of_bares new)))
 
 pub returns-clause-fault : goal.returns-clause-fault
 returns-clause-fault g c =
-    let placed = rw c.deref.ensures.value at c.in_default.ensures in
     let sizes = rw c.deref-2.ensures.value at c.in_ok-sizes.ensures in
     let new = c.order_by_group.new.headers.items in
-    (launch_of (bares new), is_launch _ _ c.order_by_group.ensures.same placed, subst (λ (l : List ℕ). IsShapeFault l c.in-Err.error) (sizes ∙ items_of_bares new) c.in-Err.ensures.refused)
+    (launch_of (bares new), is_launch _ _ c.order_by_group.ensures.same (rw c.deref.ensures.value at c.in_default.ensures), subst (λ (l : List ℕ). IsShapeFault l c.in-Err.error) (sizes ∙ items_of_bares new) c.in-Err.ensures.refused)

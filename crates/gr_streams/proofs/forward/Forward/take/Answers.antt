@@ -9,7 +9,6 @@ pub returns-clause-fed : goal.returns-clause-fed
 returns-clause-fed g c = λ has fed f.
     let piece = c.args.piece.now in
     let fits : AreBytes piece = λ i. let b = c.type_inv.piece i in omega arith in
-    let old = c.args.self.now.decoder in
     let grown = rw f.limit at (c.feed-outcome.ensures.parts has fed f.stands) in
     let events = piece_events (reading MOST_RECORDS fed) (reading MOST_RECORDS (fed ++ piece)) c.clear.new.self.items c.feed-outcome.new.parts.items c.clear.ensures.items grown in
     let sent = rw c.as_slice.ensures.value at (c.forward_all-self.ensures.sent (reading MOST_RECORDS fed).events f.records f.sent) in
