@@ -43,8 +43,13 @@ module _ (sizes : List ℕ) (hs : List Header) (seen : AreSeen sizes hs) where
       → list_any (λ s. not (s.launch == launch)) hs ≡ not (h.launch == launch)
   first_tells launch h at =
       elim (cases_Bool (h.launch == launch)) [
-        | inl is ↦ rw is (list_any_none (λ (s : Header). not (s.launch == launch)) hs (λ k d lt. ap not (eq-eqb (get_or hs k d).launch launch (same k d lt ∙ eqb-true h.launch launch is))))
-        | inr other ↦ rw other (list_any_at (λ (s : Header). not (s.launch == launch)) hs 0 h (slice_get_within hs 0 h at) (rw (get_or_from_slice_get hs 0 h h at, other) refl))
+        | inl is ↦
+            rw is
+            (list_any_none (λ (s : Header). not (s.launch == launch)) hs
+            (λ k d lt. ap not (eq-eqb (get_or hs k d).launch launch (same k d lt ∙ eqb-true h.launch launch is))))
+        | inr other ↦
+            rw other
+            (list_any_at (λ (s : Header). not (s.launch == launch)) hs 0 h (slice_get_within hs 0 h at) (rw (get_or_from_slice_get hs 0 h h at, other) refl))
       ]
     where
       first_same : (d : Header) → (get_or hs 0 d).launch ≡ h.launch

@@ -18,10 +18,12 @@ pub returns-in-Ok-clause-launch : goal.returns-in-Ok-clause-launch
 returns-in-Ok-clause-launch g c =
     let sizes = rw c.deref-2.ensures.value at c.in_ok-sizes.ensures in
     let new = c.order_by_group.new.headers.items in
-    (launch_of (bares new), is_launch _ _ c.order_by_group.ensures.same (rw c.deref.ensures.value at c.in_default.ensures), sym (c.in-Ok.ensures.sizes ∙ (sizes ∙ items_of_bares new)))
+    let launch = is_launch _ _ c.order_by_group.ensures.same (rw c.deref.ensures.value at c.in_default.ensures) in
+    (launch_of (bares new), launch, sym (c.in-Ok.ensures.sizes ∙ (sizes ∙ items_of_bares new)))
 
 pub returns-clause-fault : goal.returns-clause-fault
 returns-clause-fault g c =
     let sizes = rw c.deref-2.ensures.value at c.in_ok-sizes.ensures in
     let new = c.order_by_group.new.headers.items in
-    (launch_of (bares new), is_launch _ _ c.order_by_group.ensures.same (rw c.deref.ensures.value at c.in_default.ensures), subst (λ (l : List ℕ). IsShapeFault l c.in-Err.error) (sizes ∙ items_of_bares new) c.in-Err.ensures.refused)
+    let launch = is_launch _ _ c.order_by_group.ensures.same (rw c.deref.ensures.value at c.in_default.ensures) in
+    (launch_of (bares new), launch, subst (λ (l : List ℕ). IsShapeFault l c.in-Err.error) (sizes ∙ items_of_bares new) c.in-Err.ensures.refused)

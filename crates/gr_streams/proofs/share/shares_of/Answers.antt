@@ -18,8 +18,8 @@ loop-source-preserved g c =
           rw (shares, next) (append-nil (all_of old.shares.items ++ old.next.items))
       | else-len-most w ↦ rw (w.shares-is, w.next-is) refl
     ] in
-    rw (c.in_ok-push.ensures.items, ← append_assoc (all_of now.shares.items) now.next.items (c.in-Some.source ∷ []), append_assoc (all_of now.shares.items ++ now.next.items))
-    (rw (← c.in-Some.ensures.steps.0, same) old.invariant)
+    rw (c.in_ok-push.ensures.items, ← append_assoc (all_of now.shares.items) now.next.items (c.in-Some.source ∷ []))
+    (rw (append_assoc (all_of now.shares.items ++ now.next.items), ← c.in-Some.ensures.steps.0, same) old.invariant)
 
 pub returns : goal.returns
 returns g c =
