@@ -288,13 +288,13 @@ class Histories(ProgramTest):
         self.assert_history(["counter"], "rmw dev rlx", lambda item, index: item, 262_144, end, 0)
         self.assert_run(self.gpurace("explain", "g", "16", "counter"), b"no race global 16\n", 0)
 
-    def test_60000_items_of_one_group_that_count(self):
-        """Each item adds one to a counter in local memory, at work-group scope."""
-        adds = (b"\x04\x01\x01\x01" + access(item, 0, LOCAL, 16)[4:] for item in range(60_000))
-        self.put("counter", header(0, 60_000) + b"".join(adds) + END)
-        end = "end accesses 60000 held 0 races no"
+    def test_1024_items_of_one_group_that_count(self):
+        """Each item adds one to a counter in local memory, at work-group scope, 64 times."""
+        adds = b"".join(b"\x04\x01\x01\x01" + access(item, 0, LOCAL, 16)[4:] for item in range(1_024)) * 64
+        self.put("counter", b"GRT3" + header(0, 1_024)[4:] + adds + END)
         self.assert_run(self.gpurace("explain", "l0", "16", "counter"), b"no race local 0 16\n", 0)
-        self.assertEqual(self.gpurace("history", "l0", "16", "counter").stdout.decode().splitlines()[-1], end)
+        last = self.gpurace("history", "l0", "16", "counter").stdout.splitlines()[-1]
+        self.assertEqual(last, b"end accesses 65536 held 0 races no")
 
     def test_65536_items_that_take_turns(self):
         """Each item takes the release of the one before it, in its own group or at the end of the group before."""
