@@ -306,6 +306,27 @@ race on global word 5
             launch = self.judged([f"group 0 items 2 launch 7\n0 r g 5\n0 w g 5\n1 r g 5\n1 w g {word}\nend\n"], {})
             self.assertEqual([it.message for it in launch.findings], messages)
 
+    def test_items_that_count_at_one_line(self):
+        """Items of one group, and of two, count at line 4 of a file, or in two steps; between the two another word is read. An atomic comes first."""
+        atomic = "use an atomic, such as atomic_inc, atomic_add or atomic_fetch_add: each item reads the word and writes it at this line; without it"
+        counts = "r g 5", "r g 9", "w g 5"
+        one_group = ["group 0 items 2 launch 7\n" + "".join(f"{item} {step}\n" for item in (0, 1) for step in counts) + "end\n"]
+        two_groups = [f"group {group} items 1 launch 7\n" + "".join(f"0 {step}\n" for step in counts) + "end\n" for group in (0, 1)]
+        for streams, items, said in ((one_group, ("0 0", "0 1"), GLOBAL), (two_groups, ("0 0", "1 0"), GROUPS)):
+            at_one_line = "".join(f"{item} 0 a.cl:4:9 called at a.cl:{line}:1\n{item} 2 a.cl:4:5\n" for item, line in zip(items, (7, 8)))
+            launch = self.judged(streams, {"places": at_one_line})
+            self.assertEqual({it.message for it in launch.findings}, {f"{atomic} {said}"})
+            for places in (at_one_line.replace("a.cl:4:5", "a.cl:5:5"), at_one_line.replace(f"{items[1]} 2 a.cl:4:5", f"{items[1]} 2 b.cl:4:5")):
+                launch = self.judged(streams, {"places": places})
+                self.assertEqual({it.message for it in launch.findings}, {said})
+
+    def test_a_barrier_within_one_line_is_no_count(self):
+        """Each item reads the word in front of a barrier, and writes it behind."""
+        places = "".join(f"0 {item} {at} a.cl:4:9\n" for item in (0, 1) for at in (0, 2))
+        launch = self.judged(["group 0 items 2 launch 7\n" + "".join(f"{item} r g 5\n{item} bar 3 g\n{item} w g 5\n" for item in (0, 1)) + "end\n"],
+                             {"places": places})
+        self.assertEqual({it.message for it in launch.findings}, {GLOBAL})
+
     def test_the_first_lines_of_a_report(self):
         lines = [f"race global {number}" for number in range(5)]
         self.assertEqual(first_of(lines[:1]), "race global 0")

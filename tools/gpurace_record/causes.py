@@ -8,6 +8,7 @@ NAMES = {"load": "load", "store": "store", "rmw": "read-modify-write"}  # of ato
 COPY = "nothing orders the two; wait_group_events behind the copy would, or, if the copy comes last, a barrier before it"
 GROUPS = ("nothing orders the two, and a barrier never orders two groups; a second kernel, a word for each group, or a release that an acquire takes, "
           "at memory_scope_device, would mend it")
+ATOMIC = "use an atomic, such as atomic_inc, atomic_add or atomic_fetch_add: each item reads the word and writes it at this line"
 FLAGS = {"global": (1, "CLK_GLOBAL_MEM_FENCE"), "local": (2, "CLK_LOCAL_MEM_FENCE")}
 
 
@@ -37,6 +38,7 @@ class Pair(NamedTuple):
     release: Optional[At]  # behind the first access
     acquire: Optional[At]  # before the second one
     are_updates: bool = False  # both items read the word and write it next, as `++` does
+    is_one_line: bool = False  # both items read the word and write it at one line, the same
     store: Optional[At] = None  # an atomic of a word behind the one access, and one of the same word before the other
     load: Optional[At] = None
 
@@ -81,6 +83,8 @@ def of_nothing(said: str, pair: Pair) -> str:
     weak = of_orders(pair.store, pair.load) if not pair.is_one_group and pair.store and pair.load else ""
     if weak:
         said += f": {weak}"
+    elif pair.is_one_line:
+        return f"{ATOMIC}; without it {said if pair.is_one_group else GROUPS}"
     if pair.are_updates:
         return f"{said}; or make each item's read and write of the word one atomic operation"
     return said if weak else ""

@@ -17,7 +17,7 @@ from . import causes
 from .elements import Elements
 from .folders import Info
 from .records import Step, Wanted, groups_of
-from .sides import CALLED, Places, Run, Shape, Texts, buffers_of, by_group, equal_of, joined, name_of, parts
+from .sides import CALLED, PLACE, Places, Run, Shape, Texts, buffers_of, by_group, equal_of, joined, name_of, parts
 
 WHAT = {"load": "atomic load", "store": "atomic store", "rmw": "atomic read-modify-write"}
 ORDERS = {"rlx": "relaxed", "acq": "acquire", "rel": "release", "both": "acquire and release"}
@@ -159,6 +159,12 @@ def races_said(program: str, folder: str, most_seconds: int) -> Tuple[List[Dict[
     return kinds, ""
 
 
+def line_of(place: str) -> str:
+    """The file and the line of a place; empty where it is none."""
+    at = PLACE.fullmatch(place)
+    return f"{at[1]}:{at[2]}" if at else ""
+
+
 def runs_of(kind: Dict[str, Any]) -> List[Run]:
     return [Run(run["first"].get("group"), run["first"]["number"], run["last"]) for run in kind["runs"]]
 
@@ -293,7 +299,7 @@ class Reader:
         release, acquire = next((both for both in hands if all(both)), hands[0])
         store, load = self.meeting(first, second) or self.meeting(second, first) or (None, None)
         return causes.Pair(said["space"], said["one_group"], one, other, self.barriers_between(first, second) if said["one_group"] else [],
-                           release, acquire, self.is_update(first) and self.is_update(second), store, load)
+                           release, acquire, self.is_update(first) and self.is_update(second), self.is_line_of_updates(first, second), store, load)
 
     def is_update(self, event: Dict[str, Any]) -> bool:
         """Whether the event is one of a plain read of a word and the write to it that the item does next."""
@@ -302,6 +308,24 @@ class Reader:
         other = {"read": (1, "write"), "write": (-1, "read")}.get(own.kind)
         return other is not None and any((step.at - own.at, step.kind) == other and (step.space, step.word) == (own.space, own.word)
                                          for step in group.steps[item])
+
+    def is_line_of_updates(self, first: Dict[str, Any], second: Dict[str, Any]) -> bool:
+        line = self.line_of_update(first)
+        return line != "" and line == self.line_of_update(second)
+
+    def line_of_update(self, event: Dict[str, Any]) -> str:
+        """The line at which an item reads the word of the event and writes it next, both plainly and with no barrier between; empty where it does
+        not, or the line is not known."""
+        number, item = event["group"], event["item"]
+        group = self.groups[number]
+        own = group.step(item, event["index"])
+        steps = [step for step in group.steps[item] if step.kind != "barrier" and (step.space, step.word) == (own.space, own.word)]
+        at = steps.index(own) - (own.kind == "write")
+        update = steps[at:at + 2] if at >= 0 else []
+        if [step.kind for step in update] != ["read", "write"] or len({group.phase(item, step.at) for step in update}) > 1:
+            return ""
+        lines = {line_of(self.places.event(number, item, step.at).split(CALLED)[0]) for step in update}
+        return lines.pop() if len(lines) == 1 else ""
 
     def hand_over(self, one: Dict[str, Any], other: Dict[str, Any]) -> Tuple[Optional[causes.At], Optional[causes.At]]:
         """The release of an event's item behind it, and the acquire of another event's item before that one, where there are such."""
