@@ -6,9 +6,10 @@ import tempfile
 import time
 import unittest
 
-from testing.launches import info, put_launch
+from testing.launches import info, put_launch, put_right
 
 from gpurace_record.judges import Judge
+from gpurace_record.judging import Reason
 from gpurace_record.report import Report
 
 
@@ -107,6 +108,28 @@ class Judges(unittest.TestCase):
         self.judge.finish()
         self.assertEqual(([(it.text, it.kernels) for it in self.report.unrecorded], self.report.status()),
                          ([(f"not recorded: {self.folder} could not be written: Is a directory", ["sums"])], 2))
+
+    def test_a_judging_that_is_stopped(self):
+        """One launch is judged, one is not, and one has not ended: no more is told."""
+        put_right(self.room / "kept", 1, "first")
+        self.judge.start()
+        self.wait(lambda: self.report.launches)
+        started = self.room / "started"
+        self.judge.program = str(self.room / "waits")
+        (self.room / "waits").write_text(f'#!/bin/sh\ntouch "{started}"\nsleep 1\nexec "{os.environ["GPURACE"]}" "$@"\n')
+        (self.room / "waits").chmod(0o755)
+        put_right(self.room / "kept", 2, "second")
+        self.wait(started.exists)
+        put_launch(self.folder, [], {"begun.txt": info("sums", 0)})
+        self.assertEqual(self.judge.stop(), ["sums", "second"])
+        self.judge.finish()
+        self.assertEqual(([launch.kernel for launch in self.report.launches], self.report.run_reasons, self.report.unrecorded), (["first"], [], []))
+
+    def test_launches_that_are_not_judged_were_launched(self):
+        self.report.run_reasons.append(Reason("stopped", "the judging was stopped", ["sums", "sums"]))
+        self.assertEqual(list(self.report.summary()), [
+            "nothing found, which is no answer:", "    the judging was stopped (2 launches of sums)",
+            "2 launches: 0 with findings, 0 without, 2 not judged whole; --keep DIR keeps them"])
 
     def test_no_process_can_be_started(self):
         """The pipe goes, so that the recorder does not wait for it; what stands in the file is judged, as cut, and the run is no answer."""

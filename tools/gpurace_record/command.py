@@ -13,7 +13,7 @@ from typing import Callable, List, NoReturn, Optional
 
 from . import native, outputs, page, recording, simulator
 from .judges import Judge
-from .judging import INCOMPLETE, Reason
+from .judging import INCOMPLETE, Reason, count
 from .known import Baseline, Suppressions, Wrong
 from .recording import Missing, Run, Stopped
 from .report import NAME, Filter, Report, say, unrecorded
@@ -249,14 +249,25 @@ class Recorder:
         self.report.run_reasons += run.reasons(options.timeout, options.ignore_program_status)
         if options.simulator and run.stopped_by:
             self.report.run_reasons.append(Reason("stopped", simulator.NEVER_ENDS))
-        try:
-            if judge:
-                judge.finish()
-        except (KeyboardInterrupt, Stopped):
-            self.report.run_reasons.append(Reason("stopped", "the judging was stopped"))
+        if judge:
+            self.finish(judge)
         self.report.unrecorded += unrecorded(folder) + recording.end(folder)
-        if options.simulator and run.status != 0 and not self.report.launches and not options.opencl20:
+        if options.simulator and run.status != 0 and not (self.report.launches or self.report.not_judged()) and not options.opencl20:
             self.report.run_reasons.append(Reason("no-launch", simulator.NOT_BUILT))
+
+    def finish(self, judge: Judge) -> None:
+        """Waits for the judging, which may be stopped, and says what it has left."""
+        is_stopped = False
+        try:
+            judge.finish()
+        except (KeyboardInterrupt, Stopped):
+            is_stopped = True
+        kernels = judge.stop()
+        if is_stopped or kernels:
+            how = "was stopped" if is_stopped else "failed"
+            where = f"gpurace-judge {judge.folder} judges them" if judge.is_kept else "they are gone: --keep DIR keeps them"
+            left = f" with {count(len(kernels), 'launch')} recorded and not judged; {where}" if kernels else ""
+            self.report.run_reasons.append(Reason("stopped" if is_stopped else "fault", f"the judging {how}{left}", kernels))
 
     def only_recorded(self) -> int:
         kept = self.options.keep

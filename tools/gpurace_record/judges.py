@@ -10,7 +10,7 @@ import time
 import traceback
 from typing import Dict, List, Optional, Set
 
-from .folders import end_streams
+from .folders import end_streams, info_of
 from .judging import Launch, Reason, judged
 from .pipes import Piped, start
 from .progress import Progress
@@ -32,7 +32,7 @@ class Judge(threading.Thread):
         self.seen: Set[str] = set()
         self.piped: Dict[str, Optional[Piped]] = {}  # None where it can't be judged so
         self.waiting = 0  # launches that are being judged, or are next
-        self.is_over, self.lock, self.starter = False, threading.Lock(), start
+        self.is_over, self.is_stopped, self.lock, self.starter = False, False, threading.Lock(), start
         self.pool = concurrent.futures.ThreadPoolExecutor(jobs)
 
     def run(self) -> None:
@@ -43,6 +43,8 @@ class Judge(threading.Thread):
                 self.judge_until_over()
                 break
             except Exception as fault:
+                if self.is_stopped:  # its folder may be gone
+                    break
                 if str(fault) not in faults:
                     if not isinstance(fault, OSError):  # whose message says it all
                         traceback.print_exc()
@@ -92,10 +94,14 @@ class Judge(threading.Thread):
 
     def judge(self, name: str) -> None:
         path, piped = os.path.join(self.folder, name), self.piped.pop(name, None)
+        if self.is_stopped:
+            return
         launch = judged(self.program, path, piped)
         launch.seed = self.seed
         with self.lock:
             self.waiting -= 1
+            if self.is_stopped:
+                return
             self.report.add(launch)
             if launch.label:
                 self.tell_test(launch)
@@ -114,6 +120,15 @@ class Judge(threading.Thread):
     def left(self) -> int:
         """How many launches have ended and are not judged."""
         return self.waiting + len(self.having("info.txt"))
+
+    def stop(self) -> List[str]:
+        """Nothing more is told. Answers the kernels of the launches that were recorded and not judged."""
+        with self.lock:
+            self.is_stopped = True
+            judged_paths = {launch.folder for launch in self.report.launches}
+            names = [name for name in os.listdir(self.folder) if name.partition("-")[0].isdigit() and os.path.join(self.folder, name) not in judged_paths]
+        infos = [info_of(os.path.join(self.folder, name), file) for name in sorted(names) for file in ("info.txt", "begun.txt")]
+        return [info["kernel"][0] for info in infos if info["kernel"]]
 
     def finish(self) -> None:
         """The program is over: waits until what is left is judged, the launches that it did not end too."""

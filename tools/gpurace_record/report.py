@@ -55,7 +55,7 @@ class Report:
     def __init__(self, kept: Optional[str] = None, tell: Callable[[str], None] = say):
         self.kept, self.tell = kept, tell
         self.launches: List[Launch] = []
-        self.run_reasons: List[Reason] = []
+        self.run_reasons: List[Reason] = []  # with the kernels of launches that were not judged
         self.unrecorded: List[Reason] = []  # launches that the driver ran, by their reason
         self.filters: List[Filter] = []     # of what is known or suppressed
         self.sources: Optional[Sources] = None
@@ -109,9 +109,12 @@ class Report:
                     own.append(Reason("doubtful", f"doubtful: {finding.title}{self.lines_told(finding)}"))
             for reason in own:
                 found.setdefault((reason.name, reason.text), Reason(reason.name, reason.text)).kernels.append(launch.kernel)
-        launched = bool(self.launches or self.unrecorded)
-        none = [] if launched else [Reason("no-launch", NO_LAUNCH[NAME])]
+        none = [] if self.launches or self.unrecorded or self.not_judged() else [Reason("no-launch", NO_LAUNCH[NAME])]
         return [*self.run_reasons, *none, *self.unrecorded, *found.values()]
+
+    def not_judged(self) -> int:
+        """How many launches were made that are not among those of the report."""
+        return sum(len(reason.kernels) for reason in [*self.run_reasons, *self.unrecorded])
 
     @staticmethod
     def lines_told(finding: Finding) -> str:
@@ -174,7 +177,7 @@ class Report:
                 yield f"    and {number - MOST_ALIKE} more ({name})"
         for it in self.filters:
             yield from it.told(self)
-        verdicts, more = [launch.verdict for launch in self.launches], sum(len(reason.kernels) for reason in self.unrecorded)
+        verdicts, more = [launch.verdict for launch in self.launches], self.not_judged()
         found = verdicts.count("found") + verdicts.count("doubtful")
         known = f"{verdicts.count('known')} with known ones, " if "known" in verdicts else ""
         yield (f"{count(len(verdicts) + more, 'launch')}: {found} with findings, {known}{verdicts.count('nothing')} without, "
