@@ -246,7 +246,8 @@ class Recorder:
                      native.environment(self.out, options, folder, seed, is_judged=not options.keep))
         run = Run(self.command, {**variables, **recording.of_tests(tests, judge is not None)}, lock)
         sys.stdout.flush()
-        self.report.run_reasons += run.reasons(options.timeout, options.ignore_program_status)
+        reasons = run.reasons(options.timeout, options.ignore_program_status)
+        self.report.run_reasons += reasons + (recording.under_way(folder) if reasons else [])
         if options.simulator and run.stopped_by:
             self.report.run_reasons.append(Reason("stopped", simulator.NEVER_ENDS))
         if judge:

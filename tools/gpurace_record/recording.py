@@ -5,6 +5,7 @@ import contextlib
 import fcntl
 import glob
 import os
+import re
 import shutil
 import signal
 import subprocess
@@ -12,7 +13,8 @@ import tempfile
 import time
 from typing import Callable, Dict, Iterator, List, Optional, Tuple
 
-from .judging import Reason
+from .folders import Info, info_of, kept_of, mapped, streams_in, streams_of
+from .judging import Reason, count
 
 CLOSES = 10.0   # seconds that a program has to end after Ctrl-C or SIGTERM
 SHARED_MEMORY, LEAST_ROOM = "/dev/shm", 1 << 30
@@ -62,6 +64,28 @@ class Run:
         if self.status > 0:
             return [Reason("program-status", f"the program ended with status {self.status}")]
         return [Reason("program-signal", f"the program ended with signal {-self.status} ({signal_name(-self.status)})")]
+
+
+def under_way(folder: str) -> List[Reason]:
+    """The launches that had not ended when the program did, and what there is of them."""
+    infos = ((path, info_of(path, "begun.txt")) for path in sorted(glob.glob(os.path.join(glob.escape(folder), "*"))))
+    return [Reason("cut", told_of_begun(path, info)) for path, info in infos if info["groups"]]
+
+
+def told_of_begun(path: str, info: Info) -> str:
+    sizes = ", ".join(f"{which} size {size_told(info[which][0])}" for which in ("global", "local"))
+    told = f"launch {info['launch'][0]}, {info['kernel'][0]}, was under way ({sizes})"
+    if os.path.exists(os.path.join(path, "piped.txt")):  # files have only the first records
+        return told
+    files = streams_of(path) + glob.glob(os.path.join(glob.escape(path), "*.part"))
+    streams = [stream for file in files for stream in streams_in(mapped(file))]
+    ended, records = sum(stream.end is not None for stream in streams), sum(stream.records for stream in streams)
+    return f"{told}: it left {count(records, 'record')}, and {ended} of {count(kept_of(info), 'work-group')} were recorded to their end"
+
+
+def size_told(sizes: str) -> str:
+    """Three sizes, without the last ones that are 1."""
+    return re.sub("(?: 1){1,2}$", "", sizes).replace(" ", " x ")
 
 
 def signal_name(number: int) -> str:
