@@ -147,6 +147,7 @@ bool Group::sweep() {
     }
     if (ended == items.size()) return true;
     if (ended + standing == items.size()) {
+        if (launch->request.kernel->has_copies) pass_barrier(*this);
         for (Item &item : items)
             if (item.state == STANDS) item.state = RUNS;
     }

@@ -5,6 +5,7 @@
 #include "launch.h"
 
 #include <optional>
+#include <unordered_map>
 
 namespace gpurace {
 
@@ -57,12 +58,45 @@ struct Item {
 };
 static_assert(offsetof(Item, numbers) == 0 && offsetof(Item, locals) == LOCALS_OFFSET, "instrumented code knows them");
 
-// An asynchronous copy for which nobody has waited.
+// An asynchronous copy under way.
 struct Copy {
     uint64_t event;
     uint32_t reads, writes; // its sites
     uint8_t *to, *from;
     uint64_t count, to_stride, from_stride; // elements, and bytes from one to the next
+    bool is_waited = false;                 // it is done behind the barrier to which item 0 has come
+    bool is_behind_barrier = false;         // it has begun before one that its group has passed
+};
+
+// What copies do to words, by the word and its space: of each site how many copies, and the phase in which that was recorded last.
+class CopiedWords {
+public:
+    struct Use {
+        uint32_t site, copies, phase;
+    };
+    bool is_empty() const { return uses_.empty(); }
+    void add(int space, uint32_t word, uint32_t site, uint32_t phase) {
+        std::vector<Use> &uses = uses_[key(space, word)];
+        for (Use &use : uses)
+            if (use.site == site) return void(use.copies++);
+        uses.push_back({site, 1, phase});
+    }
+    void remove(int space, uint32_t word, uint32_t site) {
+        const auto found = uses_.find(key(space, word));
+        if (found == uses_.end()) return;
+        std::vector<Use> &uses = found->second;
+        for (size_t at = 0; at < uses.size(); at++)
+            if (uses[at].site == site && --uses[at].copies == 0) uses.erase(uses.begin() + long(at--));
+        if (uses.empty()) uses_.erase(found);
+    }
+    std::vector<Use> *find(int space, uint32_t word) {
+        const auto found = uses_.find(key(space, word));
+        return found == uses_.end() ? nullptr : &found->second;
+    }
+
+private:
+    std::unordered_map<uint64_t, std::vector<Use>> uses_;
+    static uint64_t key(int space, uint32_t word) { return uint64_t(space) << 32 | word; }
 };
 
 struct Group {
@@ -83,9 +117,12 @@ struct Group {
     uint8_t *memory = nullptr, *stacks = nullptr;
     std::optional<Stream> stream;             // of a group that is recorded
     std::optional<StoredValues> stored;       // in local memory
-    uint32_t copier_records = 0;
+    uint32_t copier_records = 0, copier_phase = 0; // how many barriers it has passed
+    uint32_t last_barrier = 0;                // the site of item 0's
+    uint8_t last_flags = 0;
     uint64_t events = 0;                      // of copies
     std::vector<Copy> copies;                 // under way
+    CopiedWords copied;                       // by those that have begun before a barrier
 
     // Null where there is no room.
     static std::unique_ptr<Group> begin(Launch &launch, uint64_t number, Pool &pool, Random &random);
@@ -114,6 +151,9 @@ private:
 inline uint64_t head_of(uint32_t item, uint8_t kind, uint8_t space, uint8_t scope = 0, uint8_t order = 0) {
     return kind | uint64_t(space) << 8 | uint64_t(scope) << 16 | uint64_t(order) << 24 | uint64_t(item) << 32;
 }
+
+// What copies under way need where all items of a group have come to barriers or their ends.
+void pass_barrier(Group &group);
 
 // Does the pending store of an item, if it has one.
 void settle(Item &item);

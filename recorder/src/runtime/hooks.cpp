@@ -87,6 +87,22 @@ __attribute__((noinline)) void note_stored(Group &group, uint32_t item, int spac
     }
 }
 
+// An item accesses words that copies under way may access as well, behind the barriers that these have passed: what a copy does to such a
+// word is recorded once more, once in a phase. Within others this would slow accesses down.
+__attribute__((noinline)) void meet_copies(Group &group, int kind, int space, const Part &part) {
+    for (uint64_t word = part.first_word(), last = part.last_word(); word <= last; word++) {
+        std::vector<CopiedWords::Use> *uses = group.copied.find(space, uint32_t(word));
+        if (!uses) continue;
+        for (CopiedWords::Use &use : *uses) {
+            const Site &site = group.launch->sites[use.site];
+            if (use.phase == group.copier_phase || (kind == READ && site.kind == READ)) continue;
+            use.phase = group.copier_phase;
+            const uint64_t head = head_of(uint32_t(group.items.size()), uint8_t(site.kind), uint8_t(space));
+            group.put(group.copier_records, site, head, uint32_t(word));
+        }
+    }
+}
+
 // What the record of an access of an item needs.
 struct Accessor {
     Group &group;
@@ -95,6 +111,7 @@ struct Accessor {
 
     void put(const Site &site, int space, const Part &part) const {
         if (!group.records_now()) return;
+        if (!group.copied.is_empty() && item < group.items.size()) meet_copies(group, site.kind, space, part);
         const uint64_t head = head_of(item, uint8_t(site.kind), uint8_t(space));
         for (uint64_t word = part.first_word(), last = part.last_word(); word <= last; word++)
             group.put(records, site, head, uint32_t(word));
@@ -183,32 +200,55 @@ void rest_if_idle(Item &item, uint32_t most) {
     return is_deferred ? defer_store(item, address, site.bytes) : pointer;
 }
 
-// A copy for which nobody has waited may access its memory behind a barrier as well: its records are put there once more.
-void put_again(Group &group, const Accessor &copier, const Copy &copy) {
-    const auto put = [&](uint32_t number, const uint8_t *pointer) {
+// Calls `use` with the site, the space and the part of a span of each access of a copy.
+template <class Use> void for_each_access(const Group &group, const Copy &copy, Use use) {
+    const auto access_at = [&](uint32_t number, const uint8_t *pointer) {
         const Site &site = group.launch->sites[number];
         int space;
         const uint64_t address = reinterpret_cast<uint64_t>(pointer);
-        if (const Span *span = span_of(group, site, address, site.bytes, space)) copier.put(site, space, {span, address, site.bytes});
+        if (const Span *span = span_of(group, site, address, site.bytes, space)) use(number, space, Part{span, address, site.bytes});
     };
     for (uint64_t at = 0; at < copy.count; at++) {
-        put(copy.reads, copy.from + at * copy.from_stride);
-        put(copy.writes, copy.to + at * copy.to_stride);
+        access_at(copy.reads, copy.from + at * copy.from_stride);
+        access_at(copy.writes, copy.to + at * copy.to_stride);
     }
+}
+
+void put_again(Group &group, const Copy &copy) {
+    const Accessor copier{group, uint32_t(group.items.size()), group.copier_records};
+    for_each_access(group, copy, [&](uint32_t number, int space, const Part &part) { copier.put(group.launch->sites[number], space, part); });
+}
+
+// Calls `use` with the space, the number and the site of each word of a copy.
+template <class Use> void for_each_word(const Group &group, const Copy &copy, Use use) {
+    for_each_access(group, copy, [&](uint32_t number, int space, const Part &part) {
+        for (uint64_t word = part.first_word(), last = part.last_word(); word <= last; word++) use(space, uint32_t(word), number);
+    });
+}
+
+// A copy for which nobody has waited may access its memory behind the barrier as well.
+void go_on_behind_barrier(Group &group, Copy &copy) {
+    if (group.launch->has_names) { // other groups' hand-overs may be ordered with some phases and not with others
+        if (group.records_now()) put_again(group, copy);
+    } else if (!copy.is_behind_barrier) {
+        for_each_word(group, copy, [&](int space, uint32_t word, uint32_t site) { group.copied.add(space, word, site, group.copier_phase - 1); });
+    }
+    copy.is_behind_barrier = true;
+}
+
+void forget_waited(Group &group) {
+    for (const Copy &copy : group.copies)
+        if (copy.is_waited && copy.is_behind_barrier && !group.launch->has_names)
+            for_each_word(group, copy, [&](int space, uint32_t word, uint32_t site) { group.copied.remove(space, word, site); });
+    const auto is_waited = [](const Copy &copy) { return copy.is_waited; };
+    group.copies.erase(std::remove_if(group.copies.begin(), group.copies.end(), is_waited), group.copies.end());
 }
 
 void come_to_barrier(Item &item, uint32_t number, uint8_t flags) {
     Group &group = *item.group;
     settle(item);
-    if (group.records_now()) {
-        const Site &site = group.launch->sites[number];
-        group.put(item.records, site, head_of(item.number, BARRIER, flags), number);
-        if (item.number == 0 && group.launch->request.kernel->has_copies) {
-            const Accessor copier{group, uint32_t(group.items.size()), group.copier_records};
-            group.put(copier.records, site, head_of(copier.item, BARRIER, flags), number);
-            for (const Copy &copy : group.copies) put_again(group, copier, copy);
-        }
-    }
+    if (group.records_now()) group.put(item.records, group.launch->sites[number], head_of(item.number, BARRIER, flags), number);
+    if (item.number == 0) group.last_barrier = number, group.last_flags = flags;
     item.last_site = UINT32_MAX;
     item.state = STANDS;
     item.rest();
@@ -234,9 +274,8 @@ HOOK void gr_barrier(void *state, uint32_t number, uint32_t flags) {
 // A barrier behind which the copies of these events are done.
 HOOK void gr_wait(void *state, uint32_t number, uint32_t count, const uint64_t *events) {
     Item &item = item_of(state);
-    std::vector<Copy> &copies = item.group->copies;
-    const auto is_done = [&](const Copy &copy) { return std::find(events, events + count, copy.event) != events + count; };
-    if (item.number == 0) copies.erase(std::remove_if(copies.begin(), copies.end(), is_done), copies.end());
+    if (item.number == 0)
+        for (Copy &copy : item.group->copies) copy.is_waited = std::find(events, events + count, copy.event) != events + count;
     come_to_barrier(item, number, 3);
 }
 
@@ -273,6 +312,21 @@ HOOK void *gr_print(void *state) {
     return printed;
 }
 HOOK void gr_printed(void *) { printing.unlock(); }
+}
+
+// The item that does copies passes the barriers of item 0, when the others have come: until then they may meet its copies. A wait that not
+// all items come to orders nothing, so that what it ends is recorded in front of it once more.
+void pass_barrier(Group &group) {
+    if (group.items[0].state != STANDS) return;
+    if (group.records_now()) {
+        for (const Copy &copy : group.copies)
+            if (copy.is_waited && copy.is_behind_barrier && !group.launch->has_names) put_again(group, copy);
+        const uint64_t head = head_of(uint32_t(group.items.size()), BARRIER, group.last_flags);
+        group.put(group.copier_records, group.launch->sites[group.last_barrier], head, group.last_barrier);
+    }
+    group.copier_phase++;
+    forget_waited(group);
+    for (Copy &copy : group.copies) go_on_behind_barrier(group, copy);
 }
 
 void write_prints() {
@@ -346,6 +400,7 @@ void put_atomic(Item &item, const Site &site, const Span &span, uint64_t address
     Names &names = record.names;
     std::sort(names.begin(), names.end());
     const Part part{&span, address, site.bytes};
+    if (!group.copied.is_empty()) meet_copies(group, record.kind, record.space, part);
     const uint64_t first = part.first_word(), last = part.last_word();
     const uint64_t head = head_of(item.number, uint8_t(record.kind), uint8_t(record.space), record.scope, record.order);
     const uint64_t load = head_of(item.number, LOAD, uint8_t(record.space), record.scope, GPURACE_ACQUIRE);
