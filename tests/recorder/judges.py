@@ -108,6 +108,7 @@ class Judges(unittest.TestCase):
         self.judge.finish()
         self.assertEqual(([(it.text, it.kernels) for it in self.report.unrecorded], self.report.status()),
                          ([(f"not recorded: {self.folder} could not be written: Is a directory", ["sums"])], 2))
+        self.assertEqual(self.judge.stop(), [])
 
     def test_a_judging_that_is_stopped(self):
         """One launch is judged, one is not, and one has not ended: no more is told."""

@@ -122,13 +122,15 @@ class Judge(threading.Thread):
         return self.waiting + len(self.having("info.txt"))
 
     def stop(self) -> List[str]:
-        """Nothing more is told. Answers the kernels of the launches that were recorded and not judged."""
+        """Nothing more is told. Answers the kernels of the launches that were recorded and not judged; what kept one from being judged at the
+        end is told already."""
+        files = ("info.txt", "begun.txt") if self.is_alive() else ("info.txt",)
         with self.lock:
             self.is_stopped = True
             judged_paths = {launch.folder for launch in self.report.launches}
-            names = [name for name in os.listdir(self.folder) if name.partition("-")[0].isdigit() and os.path.join(self.folder, name) not in judged_paths]
-        infos = [info_of(os.path.join(self.folder, name), file) for name in sorted(names) for file in ("info.txt", "begun.txt")]
-        return [info["kernel"][0] for info in infos if info["kernel"]]
+            paths = [os.path.join(self.folder, name) for name in sorted(os.listdir(self.folder)) if name.partition("-")[0].isdigit()]
+        infos = [[info_of(path, file)["kernel"] for file in files] for path in paths if path not in judged_paths]
+        return [next(filter(None, kernels))[0] for kernels in infos if any(kernels)]
 
     def finish(self) -> None:
         """The program is over: waits until what is left is judged, the launches that it did not end too."""
