@@ -356,7 +356,7 @@ def cases():
     yield Case("tree_right", [numbers(), [0] * GROUPS, Local(4 * ITEMS)], 0, {})
     yield Case("tree_wrong", [numbers(), [0] * GROUPS, Local(4 * ITEMS)], 7 * GROUPS)  # words 1 to 7: the last four steps
     yield Case("histogram_right", [numbers(), [0] * 16], 0, {1: [sum(n & 15 == b for n in numbers()) for b in range(16)]})
-    yield Case("histogram_wrong", [numbers(), [0] * 16], 16 * GROUPS)  # each group counts in each bin more than once
+    yield Case("histogram_wrong", [numbers(), [0] * 16], 16 * GROUPS, say=("use an atomic, such as atomic_inc",))  # each group counts in each bin more than once
     for name, races in (("right", 0), ("relaxed", GROUPS - 1), ("scope", GROUPS)):  # others' parts, and the count itself
         yield Case("last_block_" + name, [numbers(), [0] * GROUPS, [0], [0]], races, {3: [whole]})
     for name, races in (("right", 0), ("relaxed", 1), ("scope", 2)):  # the counter, and the lock itself
