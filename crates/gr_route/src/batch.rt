@@ -272,13 +272,11 @@ impl<T: Drop, A: Allocator + Copy> Outbox<T, A> {
     {
         match &mut self.waiting {
             Some(values) => {
-                if values.len() >= MOST_WAITING {
+                if values.len() >= MOST_WAITING || values.reserve(1).is_err() {
                     return Err(value);
                 }
-                match values.push(value) {
-                    Ok(()) => Ok(()),
-                    Err(failed) => Err(failed.value),
-                }
+                values.push_reserved(value);
+                Ok(())
             }
             None => {
                 self.waiting = Some(begun(alloc, value)?);
@@ -299,9 +297,9 @@ fn begun<T: Drop, A: Allocator>(alloc: A, value: T) -> Result<Vec<T, A>, T>
 {
     match Vec::with_capacity(alloc, MOST_WAITING) {
         Err(_) => Err(value),
-        Ok(mut values) => match values.push(value) {
-            Ok(()) => Ok(values),
-            Err(failed) => Err(failed.value),
-        },
+        Ok(mut values) => {
+            values.push_reserved(value);
+            Ok(values)
+        }
     }
 }
