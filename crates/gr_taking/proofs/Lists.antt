@@ -1,11 +1,13 @@
 -- The lists of a launch, of which all records are to come, and then none is.
-use Rattle.std.proofs.Common.{[], ◌≡◌, ◌<◌, ℕ, List, length, get_or, sym, ap, ◌∙◌, append-nil, arith}
+use Rattle.std.proofs.Common.{[], ◌≡◌, ◌<◌, ◌∷◌, ℕ, List, length, get_or, map, map-id, refl, sym, ap, ◌∙◌, append-nil, arith}
 use Rattle.std.specs.Prelude.{All}
 use Rattle.std.proofs.lemmas.List.{ext_get_or, get_or-map, length-map}
+use Rattle.std.proofs.Math.ListN.{get_or-map as map_at}
 use Rattle.gr_model.specs.declared.event.Event.{Event}
 use Rattle.gr_model.specs.Streams.{Streams, AreAccepted, list_of}
 use Rattle.gr_lanes.specs.Takes.{nothing_taken}
 use Rattle.gr_taking.specs.Sources.{AreListsOf, ListedRecords, MayCome, come_from, come_of}
+use Rattle.gr_taking.specs.Taken.{read_by}
 use Rattle.gr_taking.proofs.TakenLemmas.{empty_at}
 
 abbrev own : ListedRecords → ℕ
@@ -49,3 +51,17 @@ module _ (s : Streams) (accepted : AreAccepted s) (xs : List ListedRecords) (are
       grind (arith, get_or-map, empty g none, append-nil) in
       let lists : t.lists ≡ s.lists = ext_get_or [] t.lists s.lists (count ∙ (ap length sizes ∙ sym accepted.count)) (λ g lt. at g (omega (arith, lt, count, ap length sizes, are.count))) in
       λ k. record { sizes = sizes k; lists = lists k }
+
+-- ---- how records are read
+
+-- the list of a group that is read so
+pub read_list : (read : Event → Event) (s : Streams) (g : ℕ) → list_of (read_by read s) g ≡ map read (list_of s g)
+read_list read s g = map_at (map read) s.lists g []
+
+same_lists : (lists : List (List Event)) → map (map (λ event. event)) lists ≡ lists
+same_lists [] = refl
+same_lists (x ∷ xs) = grind (arith, map-id x, same_lists xs)
+
+-- records that are read as they are
+pub read_unchanged : (s : Streams) → read_by (λ event. event) s ≡ s
+read_unchanged s = λ k. record { sizes = s.sizes; lists = same_lists s.lists k }

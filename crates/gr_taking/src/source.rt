@@ -1,6 +1,6 @@
 //! The records that are to come of one work-group's stream.
 
-ghost use Rattle.std.specs.Prelude.{◌≡◌, ◌∷◌, [], ℕ, List, MatchOption};
+ghost use Rattle.std.specs.Prelude.{◌≡◌, ◌∷◌, [], ℕ, List, MatchOption, map};
 ghost use Rattle.gr_model.specs.declared.event.Event.{Event as AnyEvent};
 ghost use Rattle.gr_taking.specs.Sources.{ListedRecords};
 
@@ -32,36 +32,63 @@ pub trait Source {
         ensures next { MatchOption result ((coming self.old ≡ []) × (coming self.new ≡ [])) (λ e. coming self.old ≡ e ∷ coming self.new) };
 }
 
-/// The records of a list that are to come.
+/// How the records of a launch are read: as they are, or changed.
+pub trait Reading: Copy {
+    // what is read where this record is
+    ghost read_as: { Self → AnyEvent → AnyEvent };
+
+    /// What is read where a list has this record.
+    fn read(&self, event: &Event) -> Event
+        ensures { result ≡ read_as self.now event.now };
+}
+
+/// Each record is read as it is.
+#[derive(Clone, Copy, Debug)]
+pub(crate) struct Unchanged;
+
+impl Reading for Unchanged {
+    ghost read_as = { λ r event. event };
+
+    fn read(&self, event: &Event) -> Event
+        ensures { result ≡ event.now }
+    {
+        *event
+    }
+}
+
+/// The records of a list that are to come, each as it is read.
 #[derive(Debug, Drop)]
-pub(crate) struct ListSource<'l> {
+pub(crate) struct ListSource<'l, R: Reading> {
     group: u16,
     items: u16,
     rest: &'l [Event],
+    reading: R,
 }
 
-impl<'l> Model for ListSource<'l> {
+impl<'l, R: Reading> Model for ListSource<'l, R> {
+    ghost use Rattle.std.specs.Prelude.{map};
     ghost use Rattle.gr_taking.specs.Sources.{ListedRecords};
 
     ghost Value = { ListedRecords };
 
-    ghost view = { λ s. record { group = s.group; records = s.rest.now } };
+    ghost view = { λ s. record { group = s.group; records = map (R.read_as s.reading) s.rest.now } };
 }
 
-impl<'l> ListSource<'l> {
+impl<'l, R: Reading> ListSource<'l, R> {
     /// All records of a group's list, which are to come.
-    pub(crate) fn new(group: u16, items: u16, list: &'l [Event]) -> ListSource<'l>
-        ensures { result ≡ record { group = group; records = list.now } }
+    pub(crate) fn new(group: u16, items: u16, list: &'l [Event], reading: R) -> ListSource<'l, R>
+        ensures { result ≡ record { group = group; records = map (R.read_as reading) list.now } }
     {
         ListSource {
             group,
             items,
             rest: list,
+            reading,
         }
     }
 }
 
-impl<'l> Source for ListSource<'l> {
+impl<'l, R: Reading> Source for ListSource<'l, R> {
     type Header = u16;
 
     ghost header = { λ s. s.group };
@@ -86,7 +113,7 @@ impl<'l> Source for ListSource<'l> {
     {
         match self.rest.split_off_first() {
             None => None,
-            Some(event) => Some(*event),
+            Some(event) => Some(self.reading.read(event)),
         }
     }
 }
