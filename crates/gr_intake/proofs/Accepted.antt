@@ -62,7 +62,7 @@ module _ (items : ℕ) where
       good zero y at = let same : e ≡ y = let h : Some e ≡ Some y = at in cc in (subst (λ z. IsEventOk z items) same ok, λ end. absurd (true≢false (sym end ∙ (ap is_end (sym same) ∙ on))))
       good (suc p) y at = let g = rest.good p y at in (g.0, λ end. let l : p + 1 ≡ suc (length xs) = g.1 end in omega arith)
 
-  -- what is read behind an event is read without it
+  -- what is read after an event is read without it
   behind_parts : (e : Event) (r : Records) (events : List Event) (rest : List ℕ) → up_to r.stop (e ∷ r.events) r.rest ≡ Ok (events, rest) → (events ≡ e ∷ r.events) × (whole r ≡ Ok (r.events, rest))
   behind_parts e r events rest h = grind arith
 
@@ -115,7 +115,7 @@ with_one seen f are accepted other same = record {
   launch = all_pairs_push (λ a b. a.header.launch ≡ b.header.launch) seen f are.launch (λ k d lt. eqb-true _ _ (not-false _ (none_at (λ s. not (s.header.launch == f.header.launch)) seen k d lt same)));
 }
 
--- the stream behind these
+-- the stream after these
 module _ (seen : List Flat) (bytes : List ℕ) (are : AreStreams seen) where
   abbrev Next : Result (Flat × List ℕ) Fault → Type 0
   Next r = (f : Flat) (rest : List ℕ) → r ≡ Ok (f, rest) → AreStreams (seen ++ f ∷ [])

@@ -40,7 +40,7 @@ module _ (ss : List Short) (ns : List (List Name)) (are : AreNamed ss ns) (e : E
   unfolding listed
   listed_naming = listed-append ss (short_of e true ∷ []) ns (e.names ∷ []) are
 
--- the same, of what is left behind those that were read
+-- the same, of what is left after those that were read
 module _ (shorts : List Short) (read : ℕ) (names : List (List Name)) (names_read : ℕ) (are : AreNamed (drop read shorts) (drop names_read names)) (within : read ≤ length shorts) {old : List Event} (view : listed (drop read shorts) (drop names_read names) ≡ old) (e : Event) (s : Short) (shorts' : List Short) (grown : shorts' ≡ shorts ++ s ∷ []) where
   left : drop read shorts' ≡ drop read shorts ++ s ∷ []
   left = ap (drop read) grown ∙ drop-append-le read shorts (s ∷ []) within
@@ -107,7 +107,7 @@ nothing_in (p ∷ pieces) zero le read = absurd (omega (arith, le))
 nothing_in (p ∷ pieces) (suc k) le read =
     ap (λ (w : List Event). w ++ waiting_in pieces) (read 0 (omega arith)) ∙ nothing_in pieces k (omega (arith, le)) (λ j below. read (suc j) (omega (arith, below)))
 
--- the pieces of a backlog, where one without records may have been added behind them
+-- the pieces of a backlog, where one without records may have been added after them
 pub pieces_grow : (old new : List (List Event)) (first : ℕ) → ArePieces old first → (new ≡ old) ⊎ (new ≡ old ++ [] ∷ []) → ArePieces new first
 pieces_grow old new first are grown = grind (arith, get_or_append_left, length-append)
 
@@ -115,6 +115,6 @@ pieces_grow old new first are grown = grind (arith, get_or_append_left, length-a
 pub waiting_grows : (old new : List (List Event)) → (new ≡ old) ⊎ (new ≡ old ++ [] ∷ []) → waiting_in new ≡ waiting_in old
 waiting_grows old new grown = grind (arith, empty_piece)
 
--- the pieces, where one is written that is read next or behind it
+-- the pieces, where one is written that is read next or after it
 pub piece_written : (ps : List (List Event)) (first k next : ℕ) (q : List Event) → ArePieces ps first → k < length ps → next ≤ first → next ≤ k → ArePieces (set ps k q) next
 piece_written ps first k next q are lt less le = grind (arith, length-set, get_or-set_other)

@@ -1,4 +1,4 @@
--- What the bytes behind those that were read add: a header, a record, and bytes that are no whole one.
+-- What the bytes after those that were read add: a header, a record, and bytes that are no whole one.
 use Rattle.std.proofs.Common.{◌≡◌, ℕ, zero, suc, ◌+◌, ◌-◌, ◌<◌, ◌≤◌, true, false, List, [], ◌∷◌, ◌++◌, length, take, drop, Option, Some, None, Result, Ok, Err, refl, sym, ap, ◌∙◌, subst, arith, inl, inr, append-nil, append_assoc, eqb-true, ◌≢◌}
 use Rattle.std.specs.Prelude.{IfOk, not, ◌==◌}
 use Rattle.std.specs.List.{list_any}
@@ -27,7 +27,7 @@ use Rattle.gr_intake.specs.Intakes.{behind_events, next_event_at, read_behind, w
 use Rattle.gr_intake.specs.Joined as joined_spec
 use Rattle.gr_intake.specs.Joined.{Flat, at_place, joined_at, stream_at}
 
--- ---- a header is told by its own bytes
+-- ---- a header depends on its own bytes only
 
 module _ (rest : List ℕ) where
   same_behind : (v : Option Version) (prefix : List ℕ) → length prefix ≡ 12 → reading_spec.header_behind v (prefix ++ rest) ≡ reading_spec.header_behind v prefix
@@ -103,7 +103,7 @@ same_bound (suc n) zero seen (b ∷ bytes) le lt = absurd (omega (arith, lt))
 same_bound (suc n) (suc m) seen [] le lt = refl
 same_bound (suc n) (suc m) seen (b ∷ bytes) le lt = grind (arith, stream_shorter seen (b ∷ bytes), same_bound n m)
 
--- the records behind a header are those of a stream of which none has come
+-- the records after a header are those of a stream where none has come
 whole_is : (h : Header) (rest : List ℕ) → front_records_at h rest ≡ whole (behind_events [] (records_of h (MOST_RECORDS - 0) rest))
 unfolding front_records_at
 whole_is h rest = refl

@@ -125,7 +125,7 @@ pub open_left : (items : ℕ) (es more : List Event) → AreOpen items (es ++ mo
 open_left items [] more goes = tt
 open_left items (x ∷ es) more goes = (goes.0, open_left items es more goes.1)
 
--- a record may be taken behind records without an end
+-- a record may be taken after records without an end
 pub can_take_open : (s : Streams) (g items : ℕ) (more : List Event) (e : Event) → g < length s.sizes → size_of s g ≡ items → AreOpen items (list_of s g ++ more) → IsEventOk e items → CanTake s g e
 can_take_open s g items more e there size goes ok = grind (arith, open_left, open_not_complete)
 
@@ -165,7 +165,7 @@ nothing_is_read q kept cs is stands none =
       next = tt;
     }))
 
--- ---- a stream begins behind others
+-- ---- a stream begins after others
 
 -- where no stream goes on, the groups are those of the whole ones
 pub groups_are : (s : Streams) (cs : List Coming) → AreGroupsOf s.sizes (headers_of (cs ++ [])) → AreGroupsOf s.sizes (headers_of cs)
@@ -245,11 +245,11 @@ module _ (q new : Sequence) (kept after : LaunchKept) (cs : List Coming) (c d : 
   groups_stay : AreGroupsOf new.taken.sizes (headers_of (cs ++ d ∷ []))
   groups_stay = grind (arith, headers_push, same_header)
 
-  -- it goes on behind another record than an end
+  -- it goes on after another record than an end
   pub goes_further : is_end e ≡ false → IsRead new after cs (Some d)
   goes_further on = grind (arith, whole_stay_so, groups_stay, next_goes_on (come q.taken cs) (come_of q.taken c) e read.next room ok on)
 
-  -- the streams that came whole behind an end
+  -- the streams that came whole after an end
   pub whole_closes : come new.taken (cs ++ d ∷ []) ≡ come q.taken cs ++ with_event (come_of q.taken c) e ∷ []
   whole_closes = map-append (come_of new.taken) cs (d ∷ []) ∙ (ap (λ (fs : List Flat). fs ++ come_of new.taken d ∷ []) whole_stay_so ∙ ap (λ (f : Flat). come q.taken cs ++ f ∷ []) came)
 
@@ -257,7 +257,7 @@ module _ (q new : Sequence) (kept after : LaunchKept) (cs : List Coming) (c d : 
   closes end =
       grind (arith, whole_closes, stream_closes (come q.taken cs) (come_of q.taken c) e read.streams read.next room ok end, append-nil (cs ++ d ∷ []), groups_stay)
 
--- ---- one reading behind another
+-- ---- one reading after another
 
 pub moves_on : {Z : Type 0} (i j k : Intake Z) (a b c : List ℕ) → Moves i a j b → Moves j b k c → Moves i a k c
 moves_on i j k a b c first then = grind (arith, append_assoc first.left.0 then.left.0 c)

@@ -1,4 +1,4 @@
--- Whether a group has come, and of which launch the streams are, without a look at each stream.
+-- Whether a group has come, and which launch the streams are of, without a look at each stream.
 use Rattle.std.proofs.Common.{◌≡◌, ℕ, suc, ◌<◌, true, false, None, Some, slice_get, List, [], ◌∷◌, ◌++◌, append-nil, All, AllPairs, Contains, length, sym, ap, ◌∙◌, subst, refl, arith, inl, inr}
 use Rattle.std.specs.Prelude.{not, ◌==◌}
 use Rattle.std.specs.List.{list_any}

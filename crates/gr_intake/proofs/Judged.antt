@@ -1,4 +1,4 @@
--- The launch whose streams have come, or why there is none: the sizes of its groups tell.
+-- The launch whose streams have come, or why there is none, which the sizes of its groups show.
 use Rattle.std.proofs.Common.{◌≡◌, ◌≢◌, ◌⊎◌, ℕ, zero, suc, ◌<◌, List, [], ◌∷◌, ◌++◌, length, map, slice_index, All, Contains, Option, Some, None, refl, sym, ap, ◌∙◌, subst, arith, inl, inr, ⊎_elim, true≢false, append-nil}
 use Rattle.std.proofs.lemmas.Bool.{cases_eq}
 use Rattle.std.proofs.lemmas.List.Elements.{All-contains}
@@ -122,7 +122,7 @@ module _ (s : Streams) (cs : List Coming) (count : length s.lists ≡ length s.s
 
 -- ---- the launch
 
--- a stream of which nothing waits has come as its group's list
+-- a stream without records that wait has come as its group's list
 all_taken : (s : Streams) (cs : List Coming) → All (λ c. c.waiting ≡ []) cs → (f : Flat) → Contains (come s cs) f → list_of s f.header.group ≡ f.events
 all_taken s [] none f (k, lt, is) = absurd (omega (arith, lt))
 all_taken s (c ∷ cs) none f (zero, lt, is) =

@@ -1,4 +1,4 @@
--- The streams that have come are sources of which what waits is to come.
+-- The streams that have come are sources, whose records that wait are still to come.
 use Rattle.std.proofs.Common.{◌≡◌, ◌<◌, ℕ, List, [], ◌∷◌, length, map, get_or, Contains, refl, sym, ap, ◌∙◌, subst, arith}
 use Rattle.std.proofs.lemmas.List.{get_or-map, length-map}
 use Rattle.gr_model.specs.declared.event.Event.{Event}

@@ -1,4 +1,4 @@
--- What was read of streams that stand one after another, and what the bytes behind it add.
+-- What was read of streams that follow one another, and what the bytes after it add.
 -- Source: docs/FORMATS.md, "Several streams".
 use Rattle.std.specs.Prelude.{◌≡◌, ◌≢◌, ℕ, ◌-◌, ◌<◌, ◌≤◌, Bool, true, false, not, ◌==◌, List, [], ◌∷◌, ◌++◌, length, map, slice_index, Contains, Option, Some, None, IfSome, option_map, Result, Err, if◌then◌else◌}
 use Rattle.std.specs.List.{list_any}
@@ -40,7 +40,7 @@ come taken cs = map (come_of taken) cs
 abbrev pub with_event : Flat → Event → Flat
 with_event f e = record { header = f.header; events = f.events ++ e ∷ [] }
 
--- what the next record of a stream says, of which so many have come
+-- the next record of a stream, where so many have come
 abbrev pub next_event_at : Header → ℕ → List ℕ → Result Event RecordError
 next_event_at h count bytes = if count == MOST_RECORDS then Err TooManyRecords else event_at h bytes
 
@@ -80,7 +80,7 @@ pub record IsRead (q : Sequence) (kept : LaunchKept) (whole : List Coming) (curr
   pub groups : AreGroupsOf q.taken.sizes (headers_of (whole ++ list_in current))
   pub next : IfSome current (λ c. IsNext (come q.taken whole) (come_of q.taken c))
 
--- how a stream that goes on is kept: records wait only behind the first that was told to
+-- how a stream that goes on is kept: once one record has to wait, all later ones wait
 pub record IsKeptOpen {Z : Type 0} (taken : Streams) (o : Open Z) : Type 0 where
   pub count : o.count ≡ length (come_of taken o.backlog).events
   pub waits : o.waits ≡ false → o.backlog.waiting ≡ []
@@ -103,7 +103,7 @@ IsBetween i = i.current ≡ None
 abbrev pub streams_in : {Z : Type 0} → Intake Z → List Flat
 streams_in i = come i.sequencer.taken i.streams.items
 
--- an intake whose open stream stands apart
+-- an intake with this stream as the one that goes on
 abbrev pub goes_on : {Z : Type 0} → Intake Z → Open Z → Intake Z
 goes_on i o = record { sequencer = i.sequencer; shadows = i.shadows; streams = i.streams; current = Some o }
 
@@ -141,7 +141,7 @@ unit_at (Some c) = record_length c.header.version
 abbrev pub unit_of : {Z : Type 0} → Intake Z → ℕ
 unit_of i = unit_at (coming_in i.current)
 
--- bytes were read, and these are left, behind which more may come
+-- bytes were read, and these are left, after which more may come
 pub record Moves {Z : Type 0} (old : Intake Z) (bytes : List ℕ) (new : Intake Z) (rest : List ℕ) : Type 0 where
   pub intake : IsIntake new
   pub goes : (more : List ℕ) → behind old (bytes ++ more) ≡ behind new (rest ++ more)

@@ -1,4 +1,4 @@
--- Streams that stand one after another, or the first fault among them.
+-- Streams that follow one another, or the first fault among them.
 -- Source: docs/FORMATS.md, "Several streams".
 use Rattle.std.specs.Prelude.{ℕ, zero, suc, not, ◌==◌, if◌then◌else◌, List, [], ◌∷◌, ◌++◌, length, Result, Ok, Err}
 use Rattle.std.specs.List.{list_any}
@@ -24,7 +24,7 @@ abbrev pub at_place : {X : Type 0} → ℕ → Result X RecordError → Result X
 at_place place (Ok x) = Ok x
 at_place place (Err e) = Err (faults.Stream place e)
 
--- the stream at the front of the bytes, behind these streams, and the bytes after it
+-- the stream at the front of the bytes, after these streams, and the bytes after it
 unfoldable pub stream_at : List Flat → List ℕ → Result (Flat × List ℕ) Fault
 stream_at seen bytes =
     at_place (length seen) (front_header_at bytes) >>= λ h.

@@ -1,4 +1,4 @@
--- What follows of the streams that stand in bytes.
+-- Laws on the streams in bytes.
 use Rattle.std.specs.Prelude.{◌≡◌, ◌≢◌, ℕ, List, All, AllPairs, Ok}
 use Rattle.gr_model.specs.Streams.{IsAccepted}
 use Rattle.gr_intake.specs.Joined.{Flat, joined_of}

@@ -6,7 +6,7 @@ use Rattle.gr_model.specs.declared.event.Name.{Name}
 use Rattle.gr_record.specs.declared.header.Header.{Header}
 use Rattle.gr_intake.specs.declared.short.Short.{Short}
 
--- a stream of which some records wait
+-- a stream with the records of it that wait
 pub record Coming : Type 0 where
   pub header : Header
   pub waiting : List Event
@@ -29,7 +29,7 @@ with_names s names = record { item = s.item; kind = s.kind; space = s.space; wor
 abbrev pub first_names : Bool → List (List Name) → List Name
 first_names has_names lists = if has_names then slice_index_or lists 0 [] else []
 
--- and those that are left behind it
+-- and those that are left then
 abbrev pub behind_names : Bool → List (List Name) → List (List Name)
 behind_names has_names lists = if has_names then drop 1 lists else lists
 
@@ -42,7 +42,7 @@ listed (s ∷ shorts) lists = with_names s (first_names s.has_names lists) ∷ l
 abbrev pub AreNamed : List Short → List (List Name) → Type 0
 AreNamed shorts lists = length lists ≡ length (filter (λ s. s.has_names) shorts)
 
--- the pieces of what waits, of which nothing waits in those below a place
+-- pieces, where nothing waits in those below a place
 pub record ArePieces (pieces : List (List Event)) (first : ℕ) : Type 0 where
   pub below : first ≤ length pieces
   pub read : (k : ℕ) → k < first → slice_index_or pieces k [] ≡ []

@@ -67,7 +67,7 @@ fn last_with_room<A: Allocator + Copy>(
 }
 
 impl<A: Allocator + Copy> Backlog<A> {
-    /// What waits of a stream with this header, of which no record has come. It takes no memory.
+    /// A stream with this header, where no record has come. It takes no memory.
     pub fn new(alloc: A, header: Header) -> Backlog<A>
         ensures { result ≡ record { header = header; waiting = [] } }
     {
@@ -79,7 +79,7 @@ impl<A: Allocator + Copy> Backlog<A> {
         }
     }
 
-    /// Adds the stream's next record behind those that wait.
+    /// Adds the stream's next record after those that wait.
     ///
     /// # Errors
     /// `Memory`: out of memory. The backlog is then as it was.

@@ -1,4 +1,4 @@
-//! What was read of a joined input, one header or record after the other, and what was taken of it at once.
+//! What was read of a joined input, header by header and record by record, and which of the records were taken at once.
 
 ghost use Rattle.std.specs.Prelude.{◌≡◌, ◌↔◌, ◌++◌, ◌∷◌, [], ◌<◌, ℕ, List, AllPairs, false, IfErr, IfOk, None, Some, Ok, Err, OnOk, IsTrue, IsFalse, length};
 ghost use Rattle.std.specs.List.{list_any};
@@ -55,7 +55,7 @@ fn has_other_launch<A: Allocator>(streams: &[Backlog<A>], launch: u32) -> bool
 }
 
 impl<A: Allocator + Copy> Intake<A> {
-    /// What was read of an input of which nothing was.
+    /// An intake that has read nothing.
     ///
     /// # Errors
     /// `Memory`: out of memory.
@@ -71,7 +71,7 @@ impl<A: Allocator + Copy> Intake<A> {
         })
     }
 
-    /// Refuses the header of a stream whose group has come, or that is of another launch than those that have come.
+    /// Refuses the header of a stream if its group has come, or if the streams that have come are of another launch.
     ///
     /// # Errors
     /// `SameGroup`, and else `OtherLaunch`.
@@ -93,7 +93,7 @@ impl<A: Allocator + Copy> Intake<A> {
         Ok(())
     }
 
-    /// The header that the bytes are, where no stream goes on.
+    /// The header in these bytes, where no stream goes on.
     ///
     /// # Errors
     /// The header's fault, `SameGroup`, and else `OtherLaunch`.
@@ -140,7 +140,7 @@ impl<A: Allocator + Copy> Intake<A> {
         Ok(())
     }
 
-    /// Takes the header at the front of the bytes, where no stream goes on, and answers the bytes behind it; all of them where
+    /// Takes the header at the front of the bytes, where no stream goes on, and returns the bytes after it; all of them where
     /// they are no whole header.
     ///
     /// # Errors
@@ -163,8 +163,8 @@ impl<A: Allocator + Copy> Intake<A> {
     }
 }
 
-/// Takes the records at the front of the bytes, up to the end of the stream that goes on. Tells whether the end came, and the
-/// bytes behind it; else those that are no whole record.
+/// Takes the records at the front of the bytes, up to the end of the stream that goes on. Returns whether the end came, and
+/// the bytes that are left: those after the end, or those that are no whole record.
 ///
 /// # Errors
 /// The fault of the first record that has one; `Memory`: out of memory.
@@ -214,8 +214,8 @@ fn keep<A: Allocator>(streams: &mut Vec<Backlog<A>, A>, stream: Backlog<A>) -> R
 }
 
 impl<A: Allocator + Copy> Intake<A> {
-    /// Takes the records at the front of the bytes, up to the end of the stream that goes on, which stands apart, and answers the
-    /// bytes behind them.
+    /// Takes the records at the front of the bytes, up to the end of `current`, the stream that goes on, and returns the bytes
+    /// after them.
     ///
     /// # Errors
     /// The fault of the first record that has one; `Memory`: out of memory.
@@ -248,8 +248,8 @@ impl<A: Allocator + Copy> Intake<A> {
 }
 
 impl<A: Allocator + Copy> Intake<A> {
-    /// Takes the header at the front of the bytes, or the records up to the end of the stream that goes on, and answers the
-    /// bytes behind them; all of them where they are no whole header or record.
+    /// Takes the header at the front of the bytes, or the records up to the end of the stream that goes on, and returns the
+    /// bytes after them; all of them where they are no whole header or record.
     ///
     /// # Errors
     /// The first fault from the left; `Memory`: out of memory. What was read is then lost.
@@ -266,7 +266,7 @@ impl<A: Allocator + Copy> Intake<A> {
         }
     }
 
-    /// Takes all headers and records that lie whole in the bytes, and answers those that are left.
+    /// Takes all headers and records that lie whole in the bytes, and returns those that are left.
     ///
     /// # Errors
     /// The first fault from the left; `Memory`: out of memory. What was read is then lost.
@@ -287,8 +287,8 @@ impl<A: Allocator + Copy> Intake<A> {
         }
     }
 
-    /// Whether the input may end here, where these bytes are left, no whole header or record: no stream goes on, and no bytes
-    /// are left.
+    /// Checks that the input may end here: no stream goes on, and no bytes are left. These bytes, which are left, are no whole
+    /// header or record.
     ///
     /// # Errors
     /// `Truncated`, where a stream goes on or bytes are left.

@@ -19,8 +19,7 @@ use gr_taking::keeper::ShadowKeeper;
 use gr_taking::rounds::take_all;
 use std::alloc::Allocator;
 
-/// Why groups of these sizes are those of no launch, where no two have the same number: there is none, or else one is missing
-/// below another.
+/// Why no launch has these groups, which have different numbers: there is none, or else one is missing below another.
 fn gap_of<A: Allocator>(shape: &GrowingShape<A>) -> Option<Fault>
     ensures { MatchOption result (IsShape shape.now) (λ f. IsGap shape.now f) }
 {
@@ -36,7 +35,7 @@ fn gap_of<A: Allocator>(shape: &GrowingShape<A>) -> Option<Fault>
 }
 
 impl<A: Allocator + Copy> Intake<A> {
-    /// The report of the launch whose streams have come, of which what waits is taken.
+    /// The report of the launch whose streams have come. The records that wait are taken first.
     ///
     /// # Errors
     /// `Shape` with `NoGroups` where no stream came; else `MissingGroup` with the least group below the greatest that no

@@ -1,4 +1,4 @@
-//! The stream whose records come.
+//! The stream that goes on.
 
 ghost use Rattle.std.specs.Prelude.{◌≡◌, ◌≢◌, ◌<◌, ◌++◌, ◌∷◌, [], ℕ, false, OnOk, length};
 ghost use Rattle.gr_model.specs.declared.limits.TheConstants.{MOST_RECORDS};
@@ -32,12 +32,12 @@ pub(crate) struct Open<A: Allocator = Global> {
     /// How many records have come.
     pub(crate) count: u32,
     pub(crate) turn: Turn,
-    /// Whether records wait until all streams have come: so many of the group wait for those of other groups.
+    /// Whether records wait until all streams have come, because too many of the group wait for other groups.
     pub(crate) waits: bool,
 }
 
 impl<A: Allocator + Copy> Open<A> {
-    /// A stream of which nothing has come, before which so many events of all groups are held.
+    /// A stream where nothing has come. `held` is how many events of all groups are held before it.
     pub(crate) fn new(alloc: A, header: Header, held: u64) -> Open<A>
         ensures backlog { result.backlog ≡ record { header = header; waiting = [] } }
         ensures count { result.count ≡ 0 }
@@ -57,7 +57,7 @@ impl<A: Allocator + Copy> Open<A> {
         self.backlog.header()
     }
 
-    /// What the stream's next record says, of which these are the bytes.
+    /// The stream's next record, from its bytes.
     ///
     /// # Errors
     /// `TooManyRecords`, and else the fault of the record.

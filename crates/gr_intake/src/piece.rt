@@ -1,6 +1,6 @@
 //! A piece of what waits of a stream: some of its records, one after the other.
 //!
-//! Invariant: behind the records that were read, there is a list of names for each that has some.
+//! Invariant: after the records that were read, there is a list of names for each that has some.
 
 ghost use Rattle.std.specs.Prelude.{◌≡◌, ◌∷◌, ◌++◌, [], IfOk, MatchOption, OnErr, OnOk};
 
@@ -21,7 +21,7 @@ pub(crate) struct Piece<A: Allocator = Global> {
     shorts: Vec<Short, A>,
     /// How many of them were read.
     read: usize,
-    /// The releases that those which name some do.
+    /// The releases that the records name, a list for each record that has some.
     names: Vec<Names, A>,
     /// How many lists of these were read.
     names_read: usize,
@@ -95,7 +95,7 @@ impl<A: Allocator> Piece<A> {
         Ok(())
     }
 
-    /// The first record that was not read yet. Behind the last one the piece takes no memory.
+    /// The first record that was not read yet. After the last one the piece takes no memory.
     #[inline(always)]
     pub(crate) fn next(&mut self) -> Option<Event>
         ensures { MatchOption result ((self.old ≡ []) × (self.new ≡ self.old)) (λ e. self.old ≡ e ∷ self.new) }
@@ -112,7 +112,7 @@ impl<A: Allocator> Piece<A> {
         Some(short.with_names(Names::none()))
     }
 
-    /// The same, of a record that may name releases.
+    /// Like `next`, for a record that may name releases.
     #[inline(never)]
     fn next_naming(&mut self) -> Option<Event>
         ensures { MatchOption result ((self.old ≡ []) × (self.new ≡ self.old)) (λ e. self.old ≡ e ∷ self.new) }

@@ -1,4 +1,4 @@
-//! The report of a launch of which all was taken.
+//! The report of a launch whose events were all taken.
 
 ghost use Rattle.std.specs.Prelude.{◌≡◌, IfOk, length};
 ghost use Rattle.std.specs.List.{sum_by};
@@ -15,7 +15,7 @@ use gr_sequencer::sequencer::Sequencer;
 use gr_shadow::launch::LaunchShadows;
 use std::alloc::Allocator;
 
-/// How many records were taken of so many groups, which are all; ends are among them.
+/// How many records were taken of all groups, ends included.
 fn records_of<A: Allocator>(sequencer: &Sequencer<A>, groups: u16) -> u64
     requires groups { groups ≡ length sequencer.now.taken.lists }
     requires prefixes { ArePrefixes sequencer.now.taken }
@@ -28,7 +28,7 @@ fn records_of<A: Allocator>(sequencer: &Sequencer<A>, groups: u16) -> u64
     records
 }
 
-/// The report of a launch of which all was taken, and all was handled that can be.
+/// The report of a launch whose events were all taken, and handled as far as they can be.
 ///
 /// # Errors
 /// `Memory`: out of memory.

@@ -1,4 +1,4 @@
-//! Records that wait, in few bytes: without the places for the releases that they name, which most have none of.
+//! Records that wait, in few bytes: without room for the releases that they name, since most name none.
 
 ghost use Rattle.std.specs.Prelude.{◌≡◌, ◌<◌, ◌≤◌, Bool, drop, length, true};
 ghost use Rattle.gr_intake.specs.Waiting as waiting;
@@ -18,7 +18,7 @@ pub(crate) struct Short {
 }
 
 impl Short {
-    /// What a record says beside the releases that it names, and whether there are some.
+    /// The record without the releases that it names, and whether there are some.
     pub(crate) fn of(event: &Event, has_names: bool) -> Short
         ensures { result ≡ waiting.short_of event.now has_names }
     {
@@ -45,7 +45,7 @@ impl Short {
     }
 }
 
-/// The releases that the next record names, which has some if so told, and how many lists of them were read with it.
+/// The releases that the next record names, if it has some, and how many lists of them were then read.
 pub(crate) fn next_names(lists: &[Names], read: usize, has_names: bool) -> (Names, usize)
     requires there { has_names ≡ true → read < length lists.now }
     requires within { read ≤ length lists.now }

@@ -45,7 +45,7 @@ unfolding kind_of space_at
 kind_found v (suc (suc (suc (suc (suc (suc zero)))))) b1 b2 b3 rest k p q r = grind (arith, nat_tests)
 kind_found v b0 b1 b2 b3 rest k p q r = grind (arith, nat_tests)
 
--- the bytes behind the first twelve
+-- the bytes after the first twelve
 names_taken : (v : Version) (bytes : List ℕ) → AreBytes bytes → record_length v ≤ length bytes → take (record_length v) bytes ≡ take 12 bytes ++ names_bytes (places v) (names_at v bytes)
 names_taken v bytes fits long =
     let n = names_prefix (places v) (drop 12 bytes) (bytes_drop 12 bytes fits) (omega (arith, length-drop 12 bytes, fields_and_names v)) in

@@ -17,7 +17,7 @@ pub passed : (kind : Bool) (field : Option ℕ) (order naming : Bool) (names : L
     → (kind ≡ false) × (field ≡ None) × (order ≡ false) × (naming ≡ true) × (item ≡ false) × (made names ≡ e)
 passed kind field order naming names item made e is = grind arith
 
--- ---- that memory ran out is no answer of reading
+-- ---- reading never runs out of memory
 
 pub event_apart : (h : Header) (bytes : List ℕ) → event_at h bytes ≢ Err errors.Memory
 unfolding event_at

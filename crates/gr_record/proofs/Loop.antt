@@ -16,7 +16,7 @@ with_prefix prefix r = record { events = prefix ++ r.events; rest = r.rest; stop
 pub regroup : (prefix : List Event) (e : Event) (r : Records) → with_prefix prefix (behind e r) ≡ with_prefix (prefix ++ e ∷ []) r
 regroup prefix e r = ap (λ (es : List Event). record { events = es; rest = r.rest; stop = r.stop }) (sym (append_assoc prefix (e ∷ []) r.events))
 
--- what a call that reads one record answered for the whole
+-- what reading one record gives for the whole
 pub fails : {Y : Type 0} (e : RecordError) (total : Result Y RecordError) → total ≡ Err e → Fails e total
 fails e total h = grind arith
 

@@ -1,4 +1,4 @@
--- Numbers of two, four and eight bytes, and the numbers that stand for spaces, scopes, orders and flags.
+-- Numbers of two, four and eight bytes, and the numbers of spaces, scopes, orders and flags.
 use Rattle.std.proofs.Common.{◌≡◌, ℕ, ◌+◌, ◌*◌, ◌/◌, ◌%◌, ◌<◌, true, arith}
 use Rattle.std.specs.Prelude.{nat_lt, nat_le, ◌==◌, ◌||◌, ◌&&◌}
 use Rattle.gr_model.specs.declared.event.Space.{Space}

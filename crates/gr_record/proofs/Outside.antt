@@ -16,6 +16,6 @@ at_any (Some xs) P p = p xs
 pub fails_through : {X Y : Type 0} (f : Fault) (part : Result X Fault) (total : Result Y Fault) → Fails f part → (part ≡ Err f → total ≡ Err f) → Fails f total
 fails_through f part total h go = grind arith
 
--- what an input means, faults of memory and of the reader aside, is a fault that was answered
+-- what an input means, faults of memory and of the reader aside, is a fault that was returned
 pub fails : {Y : Type 0} (f : Fault) (meaning : Result Y Fault) → meaning ≡ Err f → Fails f meaning
 fails f meaning h = grind arith

@@ -164,7 +164,7 @@ few_names kind names ok = grind arith
 made : {X : Type 0} (b : Bool) (o : Option X) (x : X) (P : Type 0) → Decides b P → (IsSome o ↔ P) → IfSome o (λ y. y ≡ x) → o ≡ cond b (Some x) None
 made b o x P test some is = grind arith
 
--- names that stand at an acquire
+-- names of an acquire
 pub named_some : (v : Version) (kind : Kind) (names : List Name) (o : Option (List Name)) (groups items : ℕ) → groups ≡ most_groups v → items ≡ most_items v → (length names == 0) ≡ false → is_acquire_kind kind ≡ true → (IsSome o ↔ AreNamesWithin groups items names) → IfSome o (λ x. x ≡ names) → o ≡ naming v kind names
 named_some v kind [] o groups items g i some acquire are is = absurd cc
 named_some v kind (n ∷ names) o groups items g i some acquire are is =

@@ -49,7 +49,7 @@ module _ (limit : ℕ) (piece : List ℕ) where
             rw (le-ltb (length fed) HEADER_LENGTH long, le-ltb (length (fed ++ piece)) HEADER_LENGTH longer, take-append-le HEADER_LENGTH fed piece long) (under_goes_on fed long (header_at (take HEADER_LENGTH fed)))
       ]
 
--- behind a fault nothing is read
+-- after a fault nothing is read
 pub fault_stays : FaultStays
 fault_stays limit bytes more e is =
     let g = reading_goes_on limit more bytes in

@@ -34,7 +34,7 @@ site_read v site (b0 ∷ b1 ∷ b2 ∷ b3 ∷ []) word names rest b4 b5 len ok =
 site_read v site _ word names rest b4 b5 len ok = absurd (omega arith)
 
 module _ (h : Header) (most : h.items ≤ 1024) (rest : List ℕ) (site : ℕ) (ok_site : IsSite h.version site) where
-  -- the names that are read behind the fields
+  -- the names that are read after the fields
   names_read : (kind : Kind) (names : List Name) → length names ≤ places h.version → IsNamingOk kind names → All (IsNameOf h.version) names → naming h.version kind (names_in (places h.version) (names_bytes (places h.version) names ++ rest)) ≡ Some names
   names_read kind names few ok range = rw (names_again (places h.version) names rest few (each_in_range kind names ok), naming_back h.version kind names ok range) refl
 

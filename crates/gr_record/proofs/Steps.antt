@@ -34,7 +34,7 @@ pub fails_standing : {limit count : ℕ} {header : Option Header} {held : List �
     → IsStanding (record { limit = limit; header = header; count = count; held = held; stop = AtFault e })
 fails_standing ok none apart = record { some = ok.some; limit = ok.limit; count = ok.count; held = (none, apart) }
 
--- what is read behind a header
+-- what is read after a header
 from_records : (h : Header) (most : ℕ) (bytes : List ℕ) → read_from (Some h) most bytes ≡ closed None (records_of h most bytes)
 unfolding read_from
 from_records h most bytes = refl

@@ -24,7 +24,7 @@ pub record Reading : Type 0 where
   pub rest : List ℕ
   pub stop : Stop
 
--- a byte behind the end is a fault
+-- a byte after the end is a fault
 abbrev pub close : Stop → List ℕ → Stop
 close Inside rest = Inside
 close AtEnd [] = AtEnd
@@ -34,7 +34,7 @@ close (AtFault e) rest = AtFault e
 abbrev pub closed : Option Header → Records → Reading
 closed header r = record { header = header; events = r.events; rest = r.rest; stop = close r.stop r.rest }
 
--- behind a whole header: at most so many records
+-- after a whole header: at most so many records
 abbrev pub under : Result Header RecordError → ℕ → List ℕ → Reading
 under (Err e) most bytes = record { header = None; events = []; rest = bytes; stop = AtFault e }
 under (Ok h) most bytes = closed (Some h) (records_of h most (drop HEADER_LENGTH bytes))
@@ -83,7 +83,7 @@ held_at (AtFault e) rest = []
 abbrev pub standing : ℕ → Reading → Standing
 standing limit r = record { limit = limit; header = either_header r.header None; count = length r.events; held = held_at r.stop r.rest; stop = r.stop }
 
--- a decoder that has been fed these bytes
+-- the state of a decoder that was fed these bytes
 abbrev pub StandsFor : Standing → List ℕ → Type 0
 StandsFor d fed = d ≡ standing d.limit (reading d.limit fed)
 
@@ -92,7 +92,7 @@ abbrev pub unit_length : Option Header → ℕ
 unit_length None = HEADER_LENGTH
 unit_length (Some h) = record_length h.version
 
--- what a decoder that stands so reads of further bytes, and how it stands then
+-- what a decoder in this state reads of further bytes, and its state then
 abbrev pub still_at : Stop → Standing → List ℕ → Reading
 still_at Inside d more = read_from d.header (d.limit - d.count) (d.held ++ more)
 still_at AtEnd d more = record { header = None; events = []; rest = more; stop = close AtEnd more }
@@ -108,7 +108,7 @@ standing_after d r = record { limit = d.limit; header = either_header r.header d
 abbrev pub fresh : ℕ → Standing
 fresh limit = record { limit = limit; header = None; count = 0; held = []; stop = Inside }
 
--- fewer bytes are kept than a header or a record has, and none behind an end or a fault
+-- fewer bytes are kept than a header or a record has, and none after an end or a fault
 abbrev pub IsHeldOk : Stop → Option Header → List ℕ → Type 0
 IsHeldOk Inside header held = length held < unit_length header
 IsHeldOk AtEnd header held = held ≡ []
@@ -118,7 +118,7 @@ abbrev pub IsCountOk : Option Header → ℕ → ℕ → Type 0
 IsCountOk None count limit = count ≡ 0
 IsCountOk (Some h) count limit = count ≤ limit
 
--- how a decoder may stand
+-- the states that a decoder may have
 pub record IsStanding (d : Standing) : Type 0 where
   pub some : 1 ≤ d.limit
   pub limit : d.limit ≤ MOST_RECORDS
@@ -136,7 +136,7 @@ missing d = missing_at d.stop d.header d.held
 
 -- ---- a piece, part by part
 
--- two ways to stand, before bytes that are still to come and with parts that are listed, lead to the same
+-- two states, each with bytes that are still to come and parts that are listed, lead to the same
 pub record Continues (d : Standing) (more : List ℕ) (listed : List Part) (e : Standing) (rest : List ℕ) (longer : List Part) : Type 0 where
   pub stands : standing_after d (still d more) ≡ standing_after e (still e rest)
   pub parts : listed ++ parts_of (still d more) ≡ longer ++ parts_of (still e rest)
@@ -153,12 +153,12 @@ abbrev pub units_in : Option Header → ℕ → ℕ
 units_in None bytes = if nat_lt bytes HEADER_LENGTH then 0 else 1 + (bytes - HEADER_LENGTH) / RECORD_LENGTH
 units_in (Some h) bytes = records_in h.version bytes
 
--- how a decoder stands directly behind a record
+-- why reading stops after a record, or that it goes on
 abbrev pub stop_behind : Bool → Stop
 stop_behind true = AtEnd
 stop_behind false = Inside
 
--- ---- what a decoder answers
+-- ---- what a decoder returns
 
 abbrev pub answer : Stop → Result (Unit {0}) RecordError
 answer Inside = Ok tt

@@ -1,4 +1,4 @@
--- How a refused stream is told of an input of several, and which faults a call can have.
+-- The fault of a stream in an input of several, and which faults a call can have.
 -- Source: docs/FORMATS.md, "Faults".
 use Rattle.std.specs.Prelude.{◌≢◌, ℕ}
 use Rattle.gr_record.specs.declared.error.RecordError.{RecordError}
@@ -6,7 +6,7 @@ use Rattle.gr_record.specs.declared.error.RecordError.TheVariants as errors
 use Rattle.gr_record.specs.declared.fault.Fault.{Fault}
 use Rattle.gr_record.specs.declared.fault.Fault.TheVariants.{Stream, Read, Write, Memory, Threads}
 
--- the fault of the stream at a place; that memory ran out is no stream's
+-- the fault of the stream at a place; out of memory is no stream's fault
 abbrev pub stream_fault : ℕ → RecordError → Fault
 stream_fault place errors.Memory = Memory
 stream_fault place error = Stream place error

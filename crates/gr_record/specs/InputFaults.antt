@@ -1,4 +1,4 @@
--- What a call answers beside what its input means.
+-- What a call returns besides what its input means.
 -- Source: docs/FORMATS.md, "Faults".
 use Rattle.std.specs.Prelude.{◌≡◌, Result, Ok, Err}
 use Rattle.gr_record.specs.declared.fault.Fault.{Fault}

@@ -38,7 +38,7 @@ abbrev pub records_in : Option Header → List Event → List ℕ → List Sited
 records_in None events bytes = []
 records_in (Some h) events bytes = all_sited h.version events (drop HEADER_LENGTH bytes)
 
--- what is read is a prefix, the bytes are its spelling with the sites that it has and the rest, and reading stops behind an end, before bytes that are no whole header or record, or at a fault
+-- what is read is a prefix, the bytes are its spelling with the sites that it has and the rest, and reading stops after an end, before bytes that are no whole header or record, or at a fault
 pub record IsReadingOf (limit : ℕ) (bytes : List ℕ) (r : Reading) : Type 0 where
   pub events : events_of (records_in r.header r.events bytes) ≡ r.events
   pub parts : bytes ≡ prefix_spelling r.header (records_in r.header r.events bytes) ++ r.rest
@@ -50,7 +50,7 @@ pub record IsReadingOf (limit : ℕ) (bytes : List ℕ) (r : Reading) : Type 0 w
 abbrev pub ReadPrefixIsSpelled : Type 0
 ReadPrefixIsSpelled = (limit : ℕ) (bytes : List ℕ) → AreBytes bytes → IsReadingOf limit bytes (reading limit bytes)
 
--- reading stops behind records of which the last is an end, and waits for more behind others
+-- reading stops after records of which the last is an end, and waits for more after others
 abbrev pub stop_after : List Event → Stop
 stop_after events = if is_complete events then AtEnd else Inside
 
@@ -60,6 +60,6 @@ SpelledPrefixIsRead = (limit : ℕ) (h : Header) (records : List Sited) → IsPr
     → (reading limit (prefix_spelling (Some h) records) ≡ record { header = Some h; events = events_of records; rest = []; stop = stop_after (events_of records) })
     × (records_in (Some h) (events_of records) (prefix_spelling (Some h) records) ≡ records)
 
--- a fault stays the fault, and no part comes behind it
+-- a fault stays the fault, and no part comes after it
 abbrev pub FaultStays : Type 0
 FaultStays = (limit : ℕ) (bytes more : List ℕ) (e : RecordError) → (reading limit bytes).stop ≡ AtFault e → ((reading limit (bytes ++ more)).stop ≡ AtFault e) × (parts_of (reading limit (bytes ++ more)) ≡ parts_of (reading limit bytes))

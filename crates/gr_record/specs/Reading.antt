@@ -49,7 +49,7 @@ header_at bytes = header_behind (version_of (field 0 4 bytes)) bytes
 abbrev pub is_atomic : ℕ → Bool
 is_atomic kind = (kind == 2) || (kind == 3) || (kind == 4)
 
--- whether a byte may stand at a place from 1 to 11 of a record whose byte 0 is kind: the space, the flags of a barrier or the cut mark of an end; the scope; the order; two bytes that are 0 where a record says no site; and an end has no item and no word
+-- whether a record whose byte 0 is kind may have this byte at a place from 1 to 11: the space, the flags of a barrier or the cut mark of an end; the scope; the order; two bytes that are 0 where a record says no site; and an end has no item and no word
 abbrev pub is_field_ok : Version → ℕ → ℕ → ℕ → Bool
 is_field_ok version kind place byte =
     if place == 1 then (if kind == 5 then nat_lt byte 4 else nat_lt byte 2)
@@ -58,7 +58,7 @@ is_field_ok version kind place byte =
     else if (place == 6) || (place == 7) then (byte == 0) || has_sites version
     else not (kind == 6) || (byte == 0)
 
--- the least of n places from this one on whose byte may not stand there
+-- the first of n places, from this one on, that has a bad byte
 unfoldable pub bad_field_from : Version → List ℕ → ℕ → ℕ → Option ℕ
 bad_field_from version bytes place n = find (λ p. not (is_field_ok version (slice_index bytes 0) p (slice_index bytes p))) (range_with_len place n)
 
@@ -145,7 +145,7 @@ abbrev pub are_in_order : Version → List Name → Bool
 are_in_order v [] = true
 are_in_order v (n ∷ names) = is_in_range v n && is_below_first n names && are_in_order v names
 
--- names stand only at an acquire, and are names that one acquire may have
+-- only an acquire has names, and they are names that one acquire may have
 abbrev pub is_naming_ok : Version → Kind → List Name → Bool
 is_naming_ok v kind [] = true
 is_naming_ok v kind (n ∷ names) = is_acquire_kind kind && nat_le (length (n ∷ names)) MOST_NAMES && are_in_order v (n ∷ names)

@@ -1,4 +1,4 @@
--- Records with the sites at which they stand in the source.
+-- Records with their sites in the source.
 -- Source: docs/FORMATS.md, "Stream".
 use Rattle.std.specs.Prelude.{◌≡◌, ℕ, ◌<◌, ◌^◌, List, [], ◌∷◌, map, take, drop, IsFalse}
 use Rattle.gr_model.specs.declared.event.Event.{Event}

@@ -58,7 +58,7 @@ abbrev pub place_bytes : Option Name → List ℕ
 place_bytes None = replicate 8 255
 place_bytes (Some name) = name_bytes name
 
--- so many places: the names stand in the first ones
+-- so many places: the names are in the first ones
 abbrev pub names_bytes : ℕ → List Name → List ℕ
 names_bytes zero names = []
 names_bytes (suc n) [] = place_bytes None ++ names_bytes n []

@@ -1,4 +1,4 @@
--- What stands at the front of a list of bytes: a header, or the records of a stream up to its end; and the bytes after it.
+-- What is at the front of a list of bytes: a header, or the records of a stream up to its end; and the bytes after it.
 -- Source: docs/FORMATS.md, "Stream".
 use Rattle.std.specs.Prelude.{◌≡◌, ℕ, List, ◌++◌, length, drop, nat_lt, Result, Ok, Err, if◌then◌else◌}
 use Rattle.gr_model.specs.declared.event.Event.{Event}

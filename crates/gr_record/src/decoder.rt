@@ -1,7 +1,7 @@
 //! Decoding one stream that comes in pieces.
 //!
-//! A decoder stands for the bytes that were fed to it. It keeps only those that are no whole header or record yet, so
-//! its size does not depend on the stream's; a record that lies within one piece is read where it lies.
+//! A decoder keeps only those of the bytes fed to it that are no whole header or record yet. So its size does not depend
+//! on the stream's. A record that lies within one piece is read in place.
 
 ghost use Rattle.std.specs.Prelude.{◌≡◌, ◌≢◌, ◌+◌, ◌<◌, ◌≤◌, ℕ, List, [], ◌∷◌, ◌++◌, length, Err, Some, None, IsSome, IsTrue, IsFalse, ◌↔◌, ◌^◌};
 ghost use Rattle.std.specs.Vec.{vec_len, vec_capacity};
@@ -68,7 +68,7 @@ fn records_in(version: Version, bytes: usize) -> usize
     }
 }
 
-/// Why reading stops directly behind a record, if it does.
+/// Why reading stops after this record, or that it goes on.
 fn stop_behind(event: &Event) -> Stop
     ensures { result ≡ stop_behind (is_end event.now) }
 {
@@ -233,7 +233,7 @@ impl Decoder {
         let _ = self.held.try_extend_from_slice(bytes);
     }
 
-    /// Takes the headers and records that lie whole in a piece, and answers the bytes behind them.
+    /// Takes the headers and records that lie whole in a piece, and returns the bytes after them.
     /// Requires: no bytes are kept; if the stream is to go on, there is room for the parts.
     fn take_whole<'p, A: Allocator>(
         &mut self,
@@ -270,7 +270,7 @@ impl Decoder {
         }
     }
 
-    /// Completes the header or record at hand from a piece, and answers the bytes behind it.
+    /// Completes the header or record at hand from a piece, and returns the bytes after it.
     /// Requires: the stream is to go on; the piece has the bytes that are missing to it; there is room for the parts.
     fn complete<'p, A: Allocator>(&mut self, piece: &'p [u8], parts: &mut Vec<Part, A>) -> &'p [u8]
         requires inside { self.old.stop ≡ Inside }
@@ -310,7 +310,7 @@ impl Decoder {
     ///
     /// # Errors
     /// The first fault of the stream, at the piece that has it and at each later one; the parts before it are added.
-    /// `Memory` if an allocation is refused, which is answered before any fault of the piece; the decoder and `parts`
+    /// `Memory` if an allocation is refused, which comes before any fault of the piece; the decoder and `parts`
     /// are then unchanged.
     ///
     /// # Example
@@ -329,7 +329,7 @@ impl Decoder {
         piece: &[u8],
         parts: &mut Vec<Part, A>,
     ) -> Result<(), RecordError>
-        // It stands for the bytes that were fed to it, however they were cut.
+        // It is the decoder of all bytes that were fed to it, however they were cut into pieces.
         ensures stands { HasMemory result → (fed : List ℕ) → StandsFor self.old fed → StandsFor self.new (fed ++ piece.now) }
         // The parts of what is read with the piece and was not read without it are added.
         ensures parts { HasMemory result → (fed : List ℕ) → StandsFor self.old fed

@@ -13,7 +13,7 @@ use byteorder::{ByteOrder, LittleEndian};
 use gr_model::event::{Event, Kind, Name, Order, Scope, Space};
 use gr_model::limits::MOST_ITEMS_OF_A_GROUP;
 
-/// The fourth byte of a header, which tells the version.
+/// The fourth byte of a header, which gives the version.
 fn byte_of_version(version: Version) -> u8
     ensures { result ≡ version_byte version }
 {
@@ -118,7 +118,7 @@ fn encode_name(name: Option<Name>, bytes: &mut [u8])
 }
 
 /// Writes the 20 bytes of a record of a stream of version 1 or 3 (docs/FORMATS.md, "Stream").
-/// Requires: the record is in range: some group may have it, as `event_ok` with `MOST_ITEMS_OF_A_GROUP` tells. It has
+/// Requires: the record is in range: some group may have it, by `event_ok` with `MOST_ITEMS_OF_A_GROUP`. It has
 /// at most one name.
 ///
 /// # Example
@@ -138,8 +138,7 @@ pub fn encode_event(event: &Event, bytes: &mut [u8; RECORD_LENGTH])
     encode_sited(event, 0, bytes);
 }
 
-/// Writes the 20 bytes of a record that stands at this site: of a stream of version 3, or of version 1 where the site
-/// is 0 (docs/FORMATS.md, "Stream").
+/// Writes the 20 bytes of a record of this site: of a stream of version 3, or of version 1 where the site is 0 (docs/FORMATS.md, "Stream").
 /// Requires: the record is in range, as for `encode_event`.
 pub fn encode_sited(event: &Event, site: u16, bytes: &mut [u8; RECORD_LENGTH])
     requires range { IsEventOk event.now MOST_ITEMS_OF_A_GROUP }
@@ -151,7 +150,7 @@ pub fn encode_sited(event: &Event, site: u16, bytes: &mut [u8; RECORD_LENGTH])
 }
 
 /// Writes the 44 bytes of a record of a stream of version 2 or 4 (docs/FORMATS.md, "Stream").
-/// Requires: the record is in range: some group may have it, as `event_ok` with `MOST_ITEMS_OF_A_GROUP` tells.
+/// Requires: the record is in range: some group may have it, by `event_ok` with `MOST_ITEMS_OF_A_GROUP`.
 pub fn encode_event2(event: &Event, bytes: &mut [u8; LONG_RECORD_LENGTH])
     requires { IsEventOk event.now MOST_ITEMS_OF_A_GROUP }
     ensures { bytes.new ≡ event_spelling Two (unsited event.now) }
@@ -159,8 +158,7 @@ pub fn encode_event2(event: &Event, bytes: &mut [u8; LONG_RECORD_LENGTH])
     encode_sited2(event, 0, bytes);
 }
 
-/// Writes the 44 bytes of a record that stands at this site: of a stream of version 4, or of version 2 where the site
-/// is 0 (docs/FORMATS.md, "Stream").
+/// Writes the 44 bytes of a record of this site: of a stream of version 4, or of version 2 where the site is 0 (docs/FORMATS.md, "Stream").
 /// Requires: the record is in range, as for `encode_event2`.
 pub fn encode_sited2(event: &Event, site: u16, bytes: &mut [u8; LONG_RECORD_LENGTH])
     requires { IsEventOk event.now MOST_ITEMS_OF_A_GROUP }

@@ -26,14 +26,14 @@ pub enum RecordError {
     /// The record is a load that releases, or a store that acquires.
     #[error("bad order")]
     BadOrder,
-    /// The record has a name that is out of range, names that are not in strictly ascending order, a name behind a place
+    /// The record has a name that is out of range, names that are not in strictly ascending order, a name after a place
     /// that is not used, or a name though it is no acquire.
     #[error("bad name")]
     BadName,
     /// The record's item is not below the number of items of the header.
     #[error("unknown item")]
     UnknownItem,
-    /// There are bytes behind the end.
+    /// There are bytes after the end.
     #[error("after end")]
     AfterEnd,
     /// The bytes are over before the end of the stream.

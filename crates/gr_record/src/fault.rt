@@ -38,8 +38,8 @@ pub enum Fault {
 }
 
 impl Fault {
-    /// The fault of an input whose stream at this place has this fault. Out of memory is the fault of no stream: it is
-    /// `Memory`: out of memory.
+    /// The fault of an input whose stream at this place has this fault. Out of memory is no stream's fault: it is
+    /// `Memory`.
     pub fn of_stream(place: u64, error: RecordError) -> Fault
         ensures exact { result ≡ stream_fault place error }
         ensures values { IsOfValues result }

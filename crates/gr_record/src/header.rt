@@ -1,4 +1,4 @@
-//! What stands before the records of a stream (docs/FORMATS.md, "Stream").
+//! What comes before the records of a stream (docs/FORMATS.md, "Stream").
 
 ghost use Rattle.std.specs.Prelude.{◌≡◌, ◌<◌, ◌≤◌};
 ghost use Rattle.gr_record.specs.Versions.{places, has_sites, record_length, most_groups, most_items};
@@ -23,7 +23,7 @@ pub enum Version {
     Four,
 }
 
-/// The header of a stream: its version, its work-group, how many work-items that has, and the launch that it is of.
+/// The header of a stream: its version, its work-group, how many work-items the group has, and its launch.
 #[derive(Clone, Copy, Debug, PartialEq, Eq)]
 pub struct Header {
     /// The version of the stream.
@@ -47,7 +47,7 @@ impl Version {
         }
     }
 
-    /// Whether a record says at which site it stands.
+    /// Whether a record has the number of its site.
     pub fn has_sites(self) -> bool
         ensures { result ≡ has_sites self }
     {

@@ -1,7 +1,7 @@
 //! Reading one header and one record.
 //!
-//! A record's fields are judged from the left, so that the first fault is the one that is answered (docs/FORMATS.md,
-//! "Faults of a whole record").
+//! A record's fields are judged from the left, so that the first fault is returned (docs/FORMATS.md, "Faults of a whole
+//! record").
 
 ghost use Rattle.std.specs.Prelude.{◌≡◌, ◌≤◌, ◌*◌, ◌||◌, ◌==◌, IsTrue, None, Some, if◌then◌else◌, [], length, nat_le, nat_lt, take};
 ghost use Rattle.gr_record.specs.Versions.{has_sites, record_length, most_groups, most_items};
@@ -41,13 +41,13 @@ const BARRIER: u8 = 5;
 
 const END: u8 = 6;
 
-/// What stands in the places of an array of names that are not used.
+/// The name in the unused places of an array.
 const UNUSED: Name = Name {
     at: ItemId { group: 0, item: 0 },
     release: 0,
 };
 
-/// The version that the first four bytes of a stream say.
+/// The version of a stream that begins with these four bytes.
 fn read_version(magic: u32) -> Option<Version>
     ensures { result ≡ version_of magic }
 {
@@ -60,7 +60,7 @@ fn read_version(magic: u32) -> Option<Version>
     }
 }
 
-/// What a whole header says, or its first fault.
+/// The header in these bytes, or its first fault.
 /// Requires: there are at least `HEADER_LENGTH` bytes.
 #[tactic(auto, unfolding(crate::specs::Reading::header_at))]
 pub(crate) fn read_header(bytes: &[u8]) -> Result<Header, RecordError>
@@ -80,7 +80,7 @@ fn is_out_of_range(version: Version, group: u16, items: u16) -> bool
     usize::from(group) >= version.most_groups() || items == 0 || items > version.most_items()
 }
 
-/// What a whole header of this version says of group, items and launch, or its fault.
+/// The header of this version in these bytes, or its fault.
 /// Requires: there are at least `HEADER_LENGTH` bytes.
 fn read_launch(version: Version, bytes: &[u8]) -> Result<Header, RecordError>
     requires { HEADER_LENGTH ≤ length bytes.now }
@@ -100,7 +100,7 @@ fn read_launch(version: Version, bytes: &[u8]) -> Result<Header, RecordError>
     })
 }
 
-/// Whether a byte may stand at a place from 1 to 11 of a record of this version and kind.
+/// Whether a record of this version and kind may have this byte at a place from 1 to 11.
 fn may_stand(version: Version, kind: u8, place: usize, byte: u8) -> bool
     ensures { result ≡ is_field_ok version kind place byte }
 {
@@ -115,8 +115,7 @@ fn may_stand(version: Version, kind: u8, place: usize, byte: u8) -> bool
     }
 }
 
-/// Whether the bytes 6 and 7 of a record of this version may stand there: nearly all have no site, so these are looked at
-/// first.
+/// Whether a record of this version may have its bytes 6 and 7. Nearly all records have no site, so this is tested first.
 /// Requires: there are at least `RECORD_LENGTH` bytes.
 #[inline(always)]
 fn has_good_site(version: Version, bytes: &[u8]) -> bool
@@ -126,7 +125,7 @@ fn has_good_site(version: Version, bytes: &[u8]) -> bool
     LittleEndian::read_u16(&bytes[6..]) == 0 || version.has_sites()
 }
 
-/// Whether this is no end, and each byte from 1 to 11 may stand where it does, as in nearly all records.
+/// Whether this is no end and each byte from 1 to 11 is good, as in nearly all records.
 /// Requires: there are at least `RECORD_LENGTH` bytes.
 fn has_good_fields(version: Version, bytes: &[u8]) -> bool
     requires { RECORD_LENGTH ≤ length bytes.now }
@@ -140,7 +139,7 @@ fn has_good_fields(version: Version, bytes: &[u8]) -> bool
         && has_good_site(version, bytes)
 }
 
-/// The least place of a byte that may not stand there, found place by place.
+/// The place of the first bad byte, found place by place.
 /// Requires: there are at least `RECORD_LENGTH` bytes.
 #[cold]
 fn find_bad_field(version: Version, bytes: &[u8]) -> Option<u8>
@@ -156,7 +155,7 @@ fn find_bad_field(version: Version, bytes: &[u8]) -> Option<u8>
     None
 }
 
-/// The least place of a byte that may not stand there.
+/// The place of the first bad byte.
 /// Requires: there are at least `RECORD_LENGTH` bytes.
 #[inline(always)]
 fn first_bad_field(version: Version, bytes: &[u8]) -> Option<u8>
@@ -305,8 +304,8 @@ pub fn order_fits(kind: Kind) -> bool
     }
 }
 
-/// The names as those of a record of this kind, or `None` if it may not have them: names stand only at an acquire, and
-/// are at most `MOST_NAMES`, in strictly ascending order, and each in the range of a launch of this version.
+/// The names of a record of this kind, or `None` if it may not have them. Only an acquire has names: at most `MOST_NAMES`,
+/// in strictly ascending order, and each in the range of a launch of this version.
 pub fn naming(version: Version, kind: Kind, names: &[Name]) -> Option<Names>
     ensures { result ≡ naming version kind names.now }
 {
@@ -330,8 +329,8 @@ fn read_used(version: Version, bytes: &[u8]) -> Option<Names>
     naming(version, read_kind(bytes), &names[..used])
 }
 
-/// Whether the kind of a whole record may have its names, which then stand in `names`. It stands apart from `put_names`,
-/// which would else clear room for what `read_used` answers at every record.
+/// Whether a whole record may have its names, which are then in `names`. It is apart from `put_names`, which would else
+/// clear room for the result of `read_used` at every record.
 /// Requires: there are the bytes of a record.
 #[inline(always)]
 fn put_used(version: Version, bytes: &[u8], names: &mut Names) -> bool
@@ -345,7 +344,7 @@ fn put_used(version: Version, bytes: &[u8], names: &mut Names) -> bool
     true
 }
 
-/// Whether a whole record may have its names, which then stand in `names`: nearly all have none, and nothing is moved.
+/// Whether a whole record may have its names, which are then in `names`. Nearly all records have none, and nothing is moved.
 /// Requires: there are the bytes of a record, and `names` has none.
 #[inline(always)]
 fn put_names(version: Version, bytes: &[u8], names: &mut Names) -> bool
@@ -356,7 +355,7 @@ fn put_names(version: Version, bytes: &[u8], names: &mut Names) -> bool
     are_unused(&bytes[FIELDS_LENGTH..], version.places()) || put_used(version, bytes, names)
 }
 
-/// The number of the site that a whole record of a stream of this version says, 0 where it says none.
+/// The number of the site of a whole record of this version, 0 where it has none.
 /// Requires: there are at least `RECORD_LENGTH` bytes.
 #[tactic(auto, unfolding(crate::specs::Reading::site_at))]
 pub fn site_of(version: Version, bytes: &[u8]) -> u16
@@ -370,7 +369,7 @@ pub fn site_of(version: Version, bytes: &[u8]) -> u16
     }
 }
 
-/// What a whole record says in the stream of this header, or its first fault.
+/// The event of a whole record in the stream of this header, or the record's first fault.
 /// Requires: there are the bytes of a record.
 #[inline(always)]
 #[tactic(auto, unfolding(crate::specs::Reading::event_at))]

@@ -13,7 +13,7 @@ use gr_model::event::Event;
 use gr_model::limits::MOST_RECORDS;
 use std::alloc::Allocator;
 
-/// The header at the start of the bytes, and the bytes behind it.
+/// The header at the start of the bytes, and the bytes after it.
 ///
 /// # Errors
 /// The first of these that is there: `Truncated` if there are fewer bytes than a header has; `BadMagic`; `BadHeader`.
@@ -30,7 +30,7 @@ pub fn read_front_header(bytes: &[u8]) -> Result<(Header, &[u8]), RecordError>
     Ok((header, &bytes[HEADER_LENGTH..]))
 }
 
-/// The records at the start of the bytes up to the end of their stream, which has this header, and the bytes behind it.
+/// The records of the stream of this header, which are at the start of the bytes, and the bytes after its end.
 ///
 /// # Errors
 /// The fault of the first record that has one (see `RecordError`); `Truncated` if the bytes are over before that and
@@ -65,8 +65,8 @@ pub fn read_front_records<A: Allocator>(
     Err(RecordError::TooManyRecords)
 }
 
-/// The bytes behind the records at the start of the bytes, which go up to the end of their stream, which has this header.
-/// The records are judged and not kept.
+/// The bytes after the records of the stream of this header, which are at the start of the bytes. The records are checked
+/// and not kept.
 ///
 /// # Errors
 /// The fault of the first record that has one (see `RecordError`); `Truncated` if the bytes are over before that and

@@ -17,7 +17,7 @@ use Rattle.gr_intake.proofs.Accepted.{found, same_found}
 use Rattle.gr_intake.proofs.Behind.{front_of_unit}
 use Rattle.gr_replay.specs.Each.{only_stream_at}
 
--- the bytes begin with this stream, and these are left behind it
+-- the bytes begin with this stream, and these are left after it
 pub record BeginsWith (bytes : List ℕ) (f : Flat) (rest : List ℕ) : Type 0 where
   pub behind : List ℕ
   pub header : front_header_at bytes ≡ Ok (f.header, behind)
@@ -61,7 +61,7 @@ alone bytes more f g is whole =
     let list : f.events ≡ g.events = ap (λ (y : List Event × List ℕ). y.0) same in
     ((λ i. record { header = head i; events = list i }), ap (λ (y : List Event × List ℕ). y.1) same)
 
--- ---- behind other streams
+-- ---- after other streams
 
 module _ (seen : List Flat) where
   -- a stream of another group, and of the same launch; or why it is none

@@ -20,7 +20,7 @@ AreStreamsOf (bytes ∷ inputs) (f ∷ fs) = IsStreamOf bytes f × AreStreamsOf 
 AreStreamsOf [] (f ∷ fs) = ⊥
 AreStreamsOf (bytes ∷ inputs) [] = ⊥
 
--- these streams, and others behind them, of different groups and of one launch; or why they are none
+-- these streams, and others after them, of different groups and of one launch; or why they are none
 abbrev pub all_checked : List Flat → List Flat → Result (List Flat) Fault
 all_checked seen [] = Ok seen
 all_checked seen (f ∷ fs) = checked seen f >>= λ g. all_checked (seen ++ g ∷ []) fs

@@ -19,7 +19,7 @@ use Rattle.gr_replay.proofs.JoinedInputs.{AreStreamsOf, same_of}
 use Rattle.gr_replay.proofs.OneLaunch.{read}
 use Rattle.gr_replay.proofs.Upgrades.{spelled, whole_is}
 
--- the bytes of a stream, and those behind it
+-- the bytes of a stream, and those after it
 record IsPart (bytes : List ℕ) (f : Flat) (rest : List ℕ) : Type 0 where
   front : List ℕ
   parts : bytes ≡ front ++ rest

@@ -19,14 +19,14 @@ all_known [] = Some []
 all_known (None ∷ known) = None
 all_known (Some bytes ∷ known) = option_map (λ inputs. bytes ∷ inputs) (all_known known)
 
--- the inputs are what the readers had left, of each whose bytes are known
+-- each input is what its reader had left, where those bytes are known
 abbrev pub AreRead : List (Option (List ℕ)) → List (List ℕ) → Type 0
 AreRead [] [] = ⊤
 AreRead (o ∷ known) (bytes ∷ inputs) = IfSome o (λ xs. bytes ≡ xs) × AreRead known inputs
 AreRead [] (bytes ∷ inputs) = ⊥
 AreRead (o ∷ known) [] = ⊥
 
--- the stream that the bytes are, behind these streams
+-- the stream that the bytes are, after these streams
 unfoldable pub only_stream_at : List Flat → List ℕ → Result Flat Fault
 only_stream_at seen bytes = stream_at seen bytes >>= λ s. if length s.1 == 0 then Ok s.0 else Err (faults.Stream (length seen) AfterEnd)
 

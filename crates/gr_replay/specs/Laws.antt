@@ -89,7 +89,7 @@ AreUpgraded (bytes ∷ inputs) (out ∷ outs) = ((out ≡ bytes) ⊎ (AreBytes b
 AreUpgraded [] (out ∷ outs) = ⊥
 AreUpgraded (bytes ∷ inputs) [] = ⊥
 
--- bytes and what they are upgraded to are the streams of the same launch, and so are inputs of which some are upgraded
+-- bytes and their upgrade are the streams of the same launch, and so are inputs where some are upgraded
 abbrev pub UpgradedAreOneLaunch : Type 0
 UpgradedAreOneLaunch = (bytes out : List ℕ) (s : Streams) → AreBytes bytes → upgraded bytes ≡ Ok out → Reads bytes s ↔ Reads out s
 

@@ -19,7 +19,7 @@ use gr_taking::keeper::ShadowKeeper;
 use gr_taking::traces::follow;
 use std::alloc::{Allocator, Global};
 
-/// What is found of a launch: its report, and of each racy word two events that race on it.
+/// The findings on a launch: its report, and for each racy word two events that race on it.
 #[derive(Drop)]
 #[derive_where(Debug)]
 pub struct Detection<A: Allocator = Global> {
@@ -29,7 +29,7 @@ pub struct Detection<A: Allocator = Global> {
     pub races: Vec<Race, A>,
 }
 
-/// What is found of a launch of which all was taken, and all was handled that can be.
+/// The findings on a launch whose events were all taken, and handled as far as they can be.
 ///
 /// # Errors
 /// `Memory`: out of memory.
@@ -49,7 +49,7 @@ fn detection_of<A: Allocator + Copy>(
     Ok(Detection { report, races })
 }
 
-/// The report of a launch, and of each racy word two events that race on it.
+/// The report of a launch, and for each racy word two events that race on it.
 ///
 /// # Errors
 /// `Memory` where a list can't be made.

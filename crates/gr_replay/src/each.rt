@@ -48,7 +48,7 @@ pub fn read_inputs<A: Allocator + Copy, T: Read + Drop>(
     Ok(inputs)
 }
 
-/// The stream that the bytes are, behind these streams.
+/// The stream that the bytes are, after these streams.
 fn read_only_stream<'a>(streams: &[Stream<'a>], bytes: &'a [u8]) -> Result<Stream<'a>, Fault>
     ensures exact { Gives flat result (only_stream_at (flats streams.now) bytes.now) }
     ensures good { AreStreams (flats streams.now) → IfOk result (λ s. AreStreams (flats streams.now ++ flat s ∷ [])) }
@@ -65,7 +65,7 @@ fn read_only_stream<'a>(streams: &[Stream<'a>], bytes: &'a [u8]) -> Result<Strea
 /// The streams of these inputs, one in each, in their order.
 ///
 /// # Errors
-/// The first fault of the streams from the left, `AfterEnd` where bytes stand behind a stream's end; `Memory` where the streams
+/// The first fault of the streams from the left, `AfterEnd` where bytes follow a stream's end; `Memory` where the streams
 /// can't be kept.
 pub fn read_only_streams<'a, A: Allocator + Copy>(
     alloc: A,
@@ -83,10 +83,10 @@ pub fn read_only_streams<'a, A: Allocator + Copy>(
     Ok(streams)
 }
 
-/// Reads each reader to its end, and gives the traces of the launch whose streams they have, one each.
+/// Reads each reader to its end, one stream each, and gives the traces of their launch.
 ///
 /// # Errors
-/// The first fault of the streams from the left, `AfterEnd` where bytes stand behind a stream's end; then
+/// The first fault of the streams from the left, `AfterEnd` where bytes follow a stream's end; then
 /// `MissingGroup`, then `Shape`. `Read` where a reader fails, or gives no end within 4,294,967,296 calls; `Memory` where a
 /// list can't be made. These two can come before a fault of the streams.
 pub fn read_each<A: Allocator + Copy, T: Read + Drop>(

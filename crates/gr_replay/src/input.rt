@@ -19,7 +19,7 @@ const MOST_READS: u64 = 4_294_967_296;
 /// How many bytes are asked for at once.
 const PIECE_LENGTH: usize = 65_536;
 
-/// Keeps more bytes behind those that are held.
+/// Adds bytes to those that are held.
 fn keep<A: Allocator>(held: &mut Vec<u8, A>, piece: &[u8]) -> Result<(), Memory>
     ensures { OnOk result (held.new.items ≡ held.old.items ++ piece.now) }
 {
@@ -35,7 +35,7 @@ fn copy_of<A: Allocator>(alloc: A, left: &[u8]) -> Result<Vec<u8, A>, Memory>
     Ok(copy)
 }
 
-/// Reads a piece, keeps it behind the bytes that are held, and tells how long it is.
+/// Reads a piece, adds it to the bytes that are held, and returns its length.
 ///
 /// # Errors
 /// `Read`: the reader failed. `Memory`: out of memory.
@@ -76,7 +76,7 @@ fn take_held<A: Allocator + Copy>(
     Ok(())
 }
 
-/// Reads streams to their end, and takes their records as they come. Of the input no more is held than a piece, and what waits.
+/// Reads streams to their end, and takes their records as they come. It holds at most a piece of the input, and what waits.
 ///
 /// # Errors
 /// The first fault of the streams from the left, as soon as it is met; `Read` where the reader fails before, or gives no end

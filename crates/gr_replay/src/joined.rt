@@ -1,4 +1,4 @@
-//! Streams that stand one after another in a list of bytes.
+//! Streams that follow one another in a list of bytes.
 
 ghost use Rattle.std.specs.Prelude.{◌≡◌, ◌==◌, ◌++◌, ◌∷◌, [], not, length, IfErr, IfOk, OnOk, Ok};
 ghost use Rattle.std.specs.List.{list_any};
@@ -14,7 +14,7 @@ use gr_record::header::Header;
 use gr_record::stream::read_front_header;
 use std::alloc::Allocator;
 
-/// One stream: whose it is, and its records up to the end.
+/// One stream: its header, and its records up to the end.
 #[derive(Debug, Drop)]
 pub struct Stream<'a> {
     pub header: Header,
@@ -35,7 +35,7 @@ fn has_other_launch(streams: &[Stream<'_>], launch: u32) -> bool
     streams.iter().any(|stream| stream.header.launch != launch)
 }
 
-/// The stream at the front of the bytes, behind these streams, and the bytes after it.
+/// The stream at the front of the bytes, after these streams, and the bytes after it.
 pub(crate) fn read_stream<'a>(
     streams: &[Stream<'a>],
     bytes: &'a [u8],

@@ -1,4 +1,4 @@
-//! The launch that streams are of.
+//! The launch of streams.
 
 ghost use Rattle.std.specs.Prelude.{◌≡◌, IfOk, IfErr, IfSome, MatchOption, IsPermutation, map};
 ghost use Rattle.gr_record.specs.Faults.{IsOfReading, IsOfValues};
@@ -34,7 +34,7 @@ fn order_by_group<A: Allocator>(streams: &mut Vec<Stream<'_>, A>)
     streams.sort_unstable_by_key(|stream| stream.header.group);
 }
 
-/// The first place of streams in order whose stream is of another group.
+/// The first place, of streams in the order of their groups, where the stream is of another group.
 fn first_gap(streams: &[Stream<'_>]) -> Option<u16>
     requires { AreRising (flats streams.now) }
     ensures { MatchOption result (ArePlaced (flats streams.now)) (λ g. IsLeastMissing (flats streams.now) g) }
@@ -72,7 +72,7 @@ fn lists_of<A: Allocator + Copy>(
     Ok(lists)
 }
 
-/// The launch that streams are of, in whatever order they came.
+/// The launch of these streams, in whatever order they came.
 ///
 /// # Errors
 /// `MissingGroup` with the least group below the greatest that no stream is of; else `Shape`; `Memory` where a list
@@ -99,7 +99,7 @@ pub(crate) fn launch_of<'a, A: Allocator + Copy>(
     Ok(Launch { shape, streams })
 }
 
-/// The traces of the launch that streams are of, in whatever order they came.
+/// The traces of the launch of these streams, in whatever order they came.
 ///
 /// # Errors
 /// `MissingGroup` with the least group below the greatest that no stream is of; else `Shape`; `Memory` where a list
@@ -120,7 +120,7 @@ pub fn traces_of<A: Allocator + Copy>(
     }
 }
 
-/// Reads to the end, and gives the traces of the streams that stand there one after another.
+/// Reads streams to the end, one after another, and gives their traces.
 ///
 /// # Errors
 /// The first fault of the streams from the left, then `MissingGroup`, then `Shape`; `Read` where the reader fails, or

@@ -1,7 +1,7 @@
-//! The records of one stream, where they stand among bytes.
+//! The records of one stream, in the bytes that have them.
 //!
-//! Invariant: the bytes begin with records of which the last is an end. They are read anew each time, so that nothing but the
-//! bytes is kept of them.
+//! Invariant: the bytes begin with records, and the last of these is an end. Each use reads them again, so only the bytes are
+//! kept.
 
 ghost use Rattle.std.specs.Prelude.{◌≡◌, IfOk};
 ghost use Rattle.gr_record.specs.WholeStreams.{Gives, front_records_at};

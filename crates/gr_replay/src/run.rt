@@ -53,12 +53,12 @@ pub fn read_report<A: Allocator + Copy, T: Read>(
     report_by(alloc, reader, &mut intake)
 }
 
-/// Reads streams to their end, and writes the text of the report on them and nothing else. Records are taken as they come; of
-/// the input no more is kept than what waits.
+/// Reads streams to their end, and writes the text of the report on them and nothing else. Records are taken as they come; only
+/// those that wait are kept.
 ///
 /// # Errors
-/// Those of `read_joined`, the first fault of the streams as soon as it is met; `Write` where the writer fails, which then has a prefix of the text. In every other case of an
-/// error nothing is written.
+/// Those of `read_joined`, the first fault of the streams as soon as it is met; `Write` where the writer fails, which then
+/// has a prefix of the text. At every other error nothing is written.
 ///
 /// # Example
 /// ```rust

@@ -1,4 +1,4 @@
-//! What the contracts alone give for some values, each of which a wrong body would answer otherwise.
+//! What the contracts alone give for some values. For each value some wrong body would return something else.
 
 ghost use Rattle.std.specs.Prelude.{◌≡◌};
 

@@ -9,7 +9,7 @@ use refusing::failing::FailingReader;
 use std::alloc::Global;
 use std::test::Fail;
 
-/// The fault of a reader that fails after so many calls, if it is told of one, and what is written.
+/// The fault where a reader fails after so many calls, if one is returned, and what is written.
 fn after_calls(alloc: Global, bytes: &[u8], calls: usize) -> (Option<Fault>, Vec<u8>) {
     let mut reader = FailingReader { bytes, calls };
     let mut text = Vec::new(alloc);

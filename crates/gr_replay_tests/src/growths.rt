@@ -1,4 +1,4 @@
-//! Each growth is refused in turn: the answer is then want of memory, with nothing written, or the report.
+//! Each growth is refused in turn: the result is then out of memory, with nothing written, or the report.
 
 use crate::launches::{HAND_OVERS, LINES, Launch, RACE, packed, report};
 use gr_model::memory::Memory;
@@ -29,7 +29,7 @@ pub(crate) fn replay_refused(alloc: Global, bytes: &[u8], due: &[u8]) -> Result<
     refuse_each(alloc, 5, |heap| is_replayed(heap, alloc, bytes, due))
 }
 
-/// The same of a launch.
+/// The same for the streams of a launch.
 fn launch_refused(alloc: Global, launch: Launch) -> Result<Result<Growths, u64>, Fail> {
     let bytes = packed(alloc, launch.0)?;
     let due = report(alloc, launch.1)?;

@@ -1,4 +1,4 @@
-//! Tests alone, of what reads streams and writes reports: growths that are refused, readers and writers that fail, and what is read of streams.
+//! Tests alone: refused growths, failing readers and writers, and what is read of streams.
 #![tactic(auto)]
 
 #[cfg(test)]

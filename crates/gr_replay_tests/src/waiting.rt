@@ -1,4 +1,4 @@
-//! Streams whose records wait for those of a later stream, so many that they are kept aside.
+//! Streams with so many records that wait for a later stream that they are kept aside.
 
 use crate::growths::replay_refused;
 use crate::launches::{packed, report};
@@ -16,7 +16,7 @@ fn waits(alloc: Global) -> Result<String, AllocError> {
     Ok(text)
 }
 
-/// Group 1 writes global word 16 before its first release, word 24 before its second, and word 28 behind it.
+/// Group 1 writes global word 16 before its first release, word 24 before its second, and word 28 after it.
 const RELEASES: &str =
     "group 1 items 1 launch 7\n0 w g 16\n0 st g 20 dev rel\n0 w g 24\n0 st g 20 dev rel\n0 w g 28\nend\n";
 

@@ -1,4 +1,4 @@
--- The line that tells why a run failed.
+-- The line that says why a run failed.
 -- Source: docs/OUTPUT.md, "Lines of faults".
 use Rattle.std.specs.Prelude.{ℕ, List, ◌++◌, codes, decimal}
 use Rattle.gr_model.specs.declared.shape.ShapeError.{ShapeError}

@@ -1,4 +1,4 @@
-//! The line that tells why a run failed.
+//! The line that says why a run failed.
 
 ghost use Rattle.std.specs.Prelude.{◌++◌, OnOk, OnErr, codes};
 ghost use Rattle.std.specs.Io.KnownBytes.{Appends};

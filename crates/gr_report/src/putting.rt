@@ -1,6 +1,6 @@
 //! Text to a writer, in pieces, with no memory taken.
 //!
-//! Whatever happens, what was written is a prefix of the text that was due, and all of it if no fault is answered.
+//! What was written is always a prefix of the text, and all of it where no fault is returned.
 
 ghost use Rattle.std.specs.Prelude.{◌≢◌, [], OnErr};
 ghost use Rattle.std.specs.Io.KnownBytes.{Keeps};
@@ -10,7 +10,7 @@ use itoa::{Buffer, Integer};
 use std::io::Write;
 use thiserror::Error;
 
-/// The writer failed: it answered an error, or took none of the bytes that it was given.
+/// The writer failed: it returned an error, or took none of the bytes that it was given.
 #[derive(Clone, Copy, Debug, PartialEq, Eq, Error)]
 #[error("write fault")]
 pub struct WriteFault;
@@ -18,7 +18,7 @@ pub struct WriteFault;
 /// Writes the bytes.
 ///
 /// # Errors
-/// `WriteFault` if the writer fails, which has then taken a prefix of the bytes. It is not answered if there are no
+/// `WriteFault` if the writer fails, which has then taken a prefix of the bytes. It is not returned if there are no
 /// bytes.
 pub fn put<W: Write>(writer: &mut W, bytes: &[u8]) -> Result<(), WriteFault>
     ensures puts { Puts (W.contents writer.old) (W.contents writer.new) result bytes.now }
@@ -59,10 +59,10 @@ pub(crate) fn put_line<W: Write, N: Integer>(
     put(writer, b"\n")
 }
 
-/// Flushes behind a text that was written.
+/// Flushes after a text that was written.
 ///
 /// # Errors
-/// `WriteFault` if the writer answers an error.
+/// `WriteFault` if the writer returns an error.
 pub fn finish<W: Write>(writer: &mut W) -> Result<(), WriteFault>
     ensures { Keeps (W.contents writer.old) (W.contents writer.new) }
 {

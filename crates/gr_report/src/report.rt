@@ -19,7 +19,7 @@ pub struct Report<A: Allocator = Global> {
     pub divergences: Rows<Divergence, A>,
     /// The unmatched acquires, by group, item and index.
     pub unmatched: Rows<Unmatched, A>,
-    /// The groups whose stream says that it was cut.
+    /// The groups whose stream was cut.
     pub cut: Rows<u16, A>,
     /// How many events are held (docs/MODEL.md, "What waits for what"). Races are looked for among the other events
     /// alone.

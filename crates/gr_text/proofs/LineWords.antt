@@ -1,4 +1,4 @@
--- Words of a line: what stands before the first byte of a kind, and numbers and keywords.
+-- Words of a line: what comes before the first byte of a kind, and numbers and keywords.
 use Rattle.std.proofs.Common.{◌≡◌, ℕ, zero, suc, ◌+◌, List, [], ◌∷◌, ◌++◌, take, drop, Option, Some, None, refl, ap, arith, ◌%◌, ◌^◌, ◌<◌, Bool, true, false, ◌∙◌}
 use Rattle.std.specs.Prelude.{◌==◌, nat_lt, nat_le, ◌&&◌, not, decimal}
 use Rattle.std.proofs.lemmas.Bool.{eq-eqb, ne_eqb, lt-ltb, le-leb, and_parts, and_from, both_ways}
@@ -22,7 +22,7 @@ module _ (mark : ℕ) where
       rw (ne_eqb b mark (f.before 0 (omega arith)), ih, k) refl
   first_cut at [] f = absurd (omega (arith, f.there))
 
-  -- what stands before, and what stands behind
+  -- what comes before, and what comes after
   pub first_back : (word : List ℕ) (rest : Option (List ℕ)) → IsWithout mark word → cut_at mark (word ++ behind_mark mark rest) ≡ (word, rest)
   unfolding cut_at
   first_back [] None word = refl

@@ -28,7 +28,7 @@ unfolding same
 version_again One word is = rw (first_of_last word is) (refl, refl)
 version_again v word is = rw (first_of_space word _ is) (refl, refl)
 
--- what stands behind a word, where other words follow
+-- what comes after a word, where other words follow
 abbrev tail_text : List (List ℕ) → Option (List ℕ)
 tail_text [] = None
 tail_text (w ∷ ws) = Some (w ++ later_text ws)

@@ -61,17 +61,17 @@ space_told word = (refl, each_some (space_said word) _ (space_found word))
 first_told : (bytes : List ℕ) → (cut_at 32 bytes ≡ cut_at 32 bytes) × (bytes ≡ (cut_at 32 bytes).0 ++ behind_space (cut_at 32 bytes).1)
 first_told bytes = (refl, first_found 32 bytes)
 
--- a word, and what stands behind its space
+-- a word, and what comes after its space
 word_found : {X : Type 0} (bytes : List ℕ) (f : List ℕ → Option X) (x : X) → ((first_of bytes).1 >>= f) ≡ Some x → (rest : List ℕ) × (bytes ≡ (first_of bytes).0 ++ 32 ∷ rest) × (f rest ≡ Some x)
 word_found bytes f x e =
     let b = bind_some _ f x e in
     (b.0, first_found 32 bytes ∙ ap (λ (rest : Option (List ℕ)). (first_of bytes).0 ++ behind_space rest) b.1, b.2)
 
--- bytes that begin with a word, from the word and what stands behind it
+-- bytes that begin with a word, from the word and what comes after it
 joined : {bytes word behind key tail : List ℕ} → bytes ≡ word ++ behind → word ≡ key → behind ≡ tail → bytes ≡ key ++ tail
 joined e w b = e ∙ ap₂ (λ (x y : List ℕ). x ++ y) w b
 
--- and where a space stands behind it
+-- and where a space comes after it
 spaced : {bytes word rest key tail : List ℕ} → bytes ≡ word ++ 32 ∷ rest → word ≡ key → rest ≡ tail → bytes ≡ key ++ 32 ∷ tail
 spaced e w r = joined e w (ap (λ (x : List ℕ). 32 ∷ x) r)
 
@@ -116,7 +116,7 @@ naming_told v kind names = (refl, naming_found v kind names)
 
 -- ---- events
 
--- what stands behind an item
+-- what comes after an item
 Said : ℕ → List ℕ → Event → Type 0
 Said item bytes e = (decimal item ++ 32 ∷ bytes ≡ line_text (lines.Event e)) × (e.word < 2 ^ 32) × IsNamingOk e.kind e.names × (is_order_ok e.kind ≡ true → IsKindOk e.kind e.item e.space e.word)
 

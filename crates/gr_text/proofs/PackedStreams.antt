@@ -52,7 +52,7 @@ joins_lines (b ∷ bytes) = let ih = joins_lines bytes in grind (arith, nat_test
 
 -- ---- what may follow a place
 
--- the rest of a stream of so many items that may have so many records more, and whole streams behind it
+-- the rest of a stream of so many items that may have so many records more, and whole streams after it
 record Rest (h : Header) (left : ℕ) (xs : List SitedLine) : Type 0 where
   records : List Sited
   streams : List WholeStream
@@ -76,7 +76,7 @@ Follow (Inside h left) xs = Rest h left xs
 is_record : (h : Header) (r : Sited) → r.event.item < h.items → length r.event.names ≤ places h.version → IsSitedSaid h.version (record_line r) → IsRecord h r
 is_record h r lt room said = record { event = record { ok = (lt, said.0.0.ok.1, said.0.0.ok.2); word = said.0.0.word }; names = room; range = said.0.1; site = said.1 }
 
--- what follows the place behind a line follows the place, behind that line
+-- what follows the place after a line follows the place, after that line
 follows : (n : ℕ) (place : Place) (said : Option SitedLine) (x : SitedLine × Place) → line_at n place said ≡ Ok x → IsSitedSaid (version_at place) x.0 → (xs : List SitedLine) → Follow x.1 xs → Follow place (x.0 ∷ xs)
 follows n place None x k = absurd cc
 follows n place (Some l) x k = by_place place l.line l.site k
@@ -134,7 +134,7 @@ said_found (l ∷ ls) n place xs k =
 
 -- ---- bytes
 
--- the records of a whole stream, and lines behind it
+-- the records of a whole stream, and lines after it
 records_bytes : (h : Header) (rs : List Sited) (xs : List SitedLine) → Runs h rs → IsTrue (is_complete (events_of rs)) → lines_bytes h.version (map record_line rs ++ xs) ≡ events_spelling h.version rs ++ lines_bytes One xs
 records_bytes h [] xs runs complete = absurd (true≢false (sym complete))
 records_bytes h (r ∷ rs) xs runs complete =

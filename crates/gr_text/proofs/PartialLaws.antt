@@ -1,4 +1,4 @@
--- What stands in bytes before their first fault, as loops find it, and that what is told of bytes is that.
+-- What bytes have before their first fault, as loops find it, and that their text is the text of that.
 use Rattle.std.proofs.Common.{◌≡◌, ℕ, suc, ◌+◌, List, [], ◌++◌, length, map, Option, Some, None, Result, Ok, Err, refl, sym, ap, ◌∙◌, append_assoc, arith, inl, inr, ◌⊎◌, zero, ◌∷◌, subst, IfSome, IsOk}
 use Rattle.std.specs.List.{flat_map}
 use Rattle.std.proofs.lemmas.Bool.{cases_Bool}
@@ -31,14 +31,14 @@ use Rattle.gr_text.proofs.Steps.{at_place_err, at_place_ok, bind_err, map_err, m
 abbrev Found : Type 0
 Found = WholeStream × List ℕ
 
--- ---- what stands before the fault of one stream
+-- ---- what comes before the fault of one stream
 
--- a whole stream stands whole before its fault, and the bytes behind its end are left
+-- a stream without a fault is whole, and the bytes after its end are left
 stands_whole : (most place : ℕ) (bytes : List ℕ) (x : Found) → stream_at place bytes ≡ Ok x → lines_before (suc most) bytes ≡ parts_in x.0 ++ lines_before most x.1
 unfolding lines_before stream_at front_records_at
 stands_whole most place bytes x e = grind arith
 
--- of a refused stream nothing is left behind
+-- of a refused stream nothing is left after
 nothing_behind : (most place : ℕ) (bytes : List ℕ) (p : ℕ) (e : RecordError) → stream_at place bytes ≡ Err (faults.Stream p e) → (place ≡ p) × (lines_before (suc most) bytes ≡ (front_at bytes).lines)
 unfolding lines_before stream_at front_records_at
 nothing_behind most place bytes p e k = grind (arith, append-nil)
@@ -84,7 +84,7 @@ unfolding streams_at lines_before front_header_at stream_at front_records_at
 all_stand zero place bytes xs e = grind arith
 all_stand (suc most) place bytes xs e = let ih = all_stand most (place + 1) in grind (arith, nil_from_length, ih)
 
--- what is told of bytes of which the first stream is the one of this place
+-- the text of bytes whose first stream has this place
 abbrev StandsFrom : ℕ → ℕ → RecordError → ℕ → List ℕ → Type 0
 StandsFrom place p e most bytes = (k : ℕ) × (place + k ≡ p) × StandsBefore k e bytes (flat_map whole_line (lines_before most bytes))
 
@@ -147,7 +147,7 @@ refused_is_told bytes place e fits k =
     let same : s.0 ≡ place = omega (arith, s.1) in
     subst (λ (k : ℕ). StandsBefore k e bytes (text_before_fault bytes)) same s.2
 
--- where known bytes have no fault, what stands before it is their text
+-- the text before the fault is all, where known bytes have no fault
 pub all_written : (known : Option (List ℕ)) (bytes text : List ℕ) (old new : Option (List ℕ)) → IfSome known (λ b. bytes ≡ b) → IsOk (dumped bytes) → text ≡ text_before_fault bytes → Appends old new text → IfSome known (λ b. Writes (dumped b) old new)
 all_written None bytes text old new read good is written = tt
 all_written (Some b) bytes text old new read good is written = by_meaning (dumped b) refl (rw read at good)

@@ -66,6 +66,6 @@ pub record_at_ok : (n : ℕ) (h : Header) (left : ℕ) (r : Sited) (x : SitedLin
     → (r.event.item < h.items) × (length r.event.names ≤ places h.version) × (1 ≤ left) × (x ≡ (record_line r, cond (is_end r.event) Outside (Inside h (left - 1))))
 record_at_ok n h left r x k = grind (arith, nat_tests)
 
--- what a place takes was said, has room in its stream, and leads to a place in a stream of the version behind it
+-- what a place takes was said, has room in its stream, and leads to a place in a stream of the version after it
 pub line_at_ok : (n : ℕ) (place : Place) (said : Option SitedLine) (x : SitedLine × Place) → line_at n place said ≡ Ok x → (said ≡ Some x.0) × HasRoom (version_at place) x.0.line × (version_behind (version_at place) x.0.line ≡ version_at x.1)
 line_at_ok n place said x k = grind (arith, nat_tests)

@@ -21,7 +21,7 @@ abbrev pub at_place : {X : Type 0} → ℕ → Result X RecordError → Result X
 at_place place (Ok x) = Ok x
 at_place place (Err e) = Err (faults.Stream place e)
 
--- a header, and the records behind it, with their sites
+-- a header, and the records after it, with their sites
 pub record WholeStream : Type 0 where
   pub header : Header
   pub records : List Sited

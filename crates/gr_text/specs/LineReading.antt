@@ -28,13 +28,13 @@ use Rattle.gr_model.specs.declared.event.Order.TheVariants.{Relaxed, Acquire, Re
 unfoldable pub same : List ℕ → List ℕ → Bool
 same a b = pointwise nat_eq a b
 
--- the number of which a word is the text
+-- the number that a word spells
 unfoldable pub number_of : List ℕ → Option ℕ
 number_of word = if nat_lt (digits_value 10 word) (2 ^ 32) && same word (decimal (digits_value 10 word)) then Some (digits_value 10 word) else None
 
 -- ---- words
 
--- bytes of which none is this one
+-- bytes, none of which is this one
 abbrev pub IsWithout : ℕ → List ℕ → Type 0
 IsWithout mark bytes = All (λ b. b ≢ mark) bytes
 
@@ -48,21 +48,21 @@ pub record IsFirst (mark : ℕ) (bytes : List ℕ) (at : ℕ) : Type 0 where
   pub before : (k : ℕ) → k < at → slice_index bytes k ≢ mark
   pub mark_there : slice_index bytes at ≡ mark
 
--- a byte and what stands behind it, if it is there
+-- a byte and what comes after it, if it is there
 abbrev pub behind_mark : ℕ → Option (List ℕ) → List ℕ
 behind_mark mark None = []
 behind_mark mark (Some rest) = mark ∷ rest
 
--- what stands behind a word
+-- what comes after a word
 abbrev pub behind_space : Option (List ℕ) → List ℕ
 behind_space rest = behind_mark 32 rest
 
--- what stands before the first byte that is this one, and what stands behind it, if there is one
+-- what comes before the first byte that is this one, and what comes after it, if there is one
 unfoldable pub cut_at : ℕ → List ℕ → List ℕ × Option (List ℕ)
 cut_at mark [] = ([], None)
 cut_at mark (b ∷ bytes) = if b == mark then ([], Some bytes) else (b ∷ (cut_at mark bytes).0, (cut_at mark bytes).1)
 
--- the first word, and what stands behind its space, if there is one
+-- the first word, and what comes after its space, if there is one
 abbrev pub first_of : List ℕ → List ℕ × Option (List ℕ)
 first_of bytes = cut_at 32 bytes
 
@@ -97,7 +97,7 @@ abbrev pub ◌>>=◌ : {X Y : Type 0} → Option X → (X → Option Y) → Opti
 None >>= f = None
 (Some x) >>= f = f x
 
--- a value, if nothing stands behind it
+-- a value, if nothing comes after it
 abbrev pub at_end : {X : Type 0} → Option (List ℕ) → Option X → Option X
 at_end None o = o
 at_end (Some rest) o = None
@@ -111,12 +111,12 @@ header_made version group items launch =
     if nat_lt group (most_groups version) && nat_le 1 items && nat_le items (most_items version) then Some (record { version = version; group = group; items = items; launch = launch })
     else None
 
--- what stands behind the launch: the version, but for the first
+-- what comes after the launch: the version, but for the first
 abbrev pub version_said : Option (List ℕ) → Option Version
 version_said None = Some One
 version_said (Some bytes) = if same bytes (codes "v2") then Some Two else if same bytes (codes "v3") then Some Three else if same bytes (codes "v4") then Some Four else None
 
--- what stands behind `group`
+-- what comes after `group`
 unfoldable pub header_said : List ℕ → Option Header
 header_said bytes =
     let group = first_of bytes in group.1 >>= λ b.
@@ -129,7 +129,7 @@ header_said bytes =
     (short_of group.0 >>= λ g. short_of items.0 >>= λ i. number_of launch.0 >>= λ l. header_made v g i l)
     else None)
 
--- a name, and what stands behind it
+-- a name, and what comes after it
 unfoldable pub name_said : List ℕ → Option (Name × Option (List ℕ))
 name_said bytes =
     let sign = first_of bytes in sign.1 >>= λ b.
@@ -140,7 +140,7 @@ name_said bytes =
     (short_of group.0 >>= λ g. short_of item.0 >>= λ i. number_of release.0 >>= λ r. Some (record { at = record { group = g; item = i }; release = r }, release.1))
     else None
 
--- what stands behind an acquire's order: at most so many names
+-- what comes after an acquire's order: at most so many names
 unfoldable pub names_said : Option (List ℕ) → ℕ → Option (List Name)
 names_said None n = Some []
 names_said (Some bytes) zero = None
@@ -153,7 +153,7 @@ kind_said word scope order =
     else if same word (codes "rmw") then Some (Rmw scope order)
     else None
 
--- what stands behind the word of an atomic access
+-- what comes after the word of an atomic access
 unfoldable pub atomic_said : List ℕ → ℕ → Space → ℕ → List ℕ → Option Event
 atomic_said kind item space word bytes =
     let scope = first_of bytes in scope.1 >>= λ b.
@@ -166,7 +166,7 @@ barrier_said item site flags =
     number_of site >>= λ w. flags_said flags >>= λ f.
     Some (record { item = item; kind = Barrier f.0 f.1; space = Global; word = w; names = [] })
 
--- what stands behind the item
+-- what comes after the item
 unfoldable pub event_said : ℕ → List ℕ → Option Event
 event_said item bytes =
     let kind = first_of bytes in kind.1 >>= λ b.
@@ -182,7 +182,7 @@ event_said item bytes =
 abbrev pub checked : Version → Event → Option Event
 checked v e = if nat_lt e.item (most_items v) && is_order_ok e.kind && is_naming_ok v e.kind e.names then Some e else None
 
--- what stands behind `end`
+-- what comes after `end`
 abbrev pub end_said : Option (List ℕ) → Option Event
 end_said None = Some (end_of false)
 end_said (Some bytes) = if same bytes (codes "cut") then Some (end_of true) else None
@@ -208,13 +208,13 @@ abbrev pub event_in : Line → Option Event
 event_in (lines.Header h) = None
 event_in (lines.Event e) = Some e
 
--- what stands before and behind the first `@`
+-- what comes before and after the first `@`
 abbrev pub sited_by : Version → List ℕ → Option (List ℕ) → Option SitedLine
 sited_by v before None = line_said v before >>= λ l. Some (record { line = l; site = 0 })
 sited_by v before (Some behind) =
     if has_sites v then (site_said behind >>= λ s. unspaced before >>= λ front. line_said v front >>= λ l. event_in l >>= λ e. Some (record { line = lines.Event e; site = s }))
     else None
 
--- a line with the site at its end, behind ` @`
+-- a line with the site at its end, after ` @`
 unfoldable pub sited_said : Version → List ℕ → Option SitedLine
 sited_said v bytes = sited_by v (cut_at 64 bytes).0 (cut_at 64 bytes).1

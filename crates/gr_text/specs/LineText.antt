@@ -62,7 +62,7 @@ first_word (Rmw scope order) item = decimal item
 first_word (Barrier global local) item = decimal item
 first_word (End cut) item = codes "end"
 
--- the words behind it
+-- the words after it
 abbrev pub later_words : Kind → Event → List (List ℕ)
 later_words Read e = codes "r" ∷ space_word e.space ∷ decimal e.word ∷ []
 later_words Write e = codes "w" ∷ space_word e.space ∷ decimal e.word ∷ []
@@ -73,7 +73,7 @@ later_words (Barrier global local) e = codes "bar" ∷ decimal e.word ∷ flags_
 later_words (End true) e = codes "cut" ∷ []
 later_words (End false) e = []
 
--- a word behind a space
+-- a word after a space
 abbrev pub spaced : List ℕ → List ℕ
 spaced word = 32 ∷ word
 

@@ -1,4 +1,4 @@
--- The headers and records that stand in bytes before their first fault, and their text.
+-- The headers and records in bytes before their first fault, and their text.
 -- Source: docs/FORMATS.md, "Text form".
 use Rattle.std.specs.Prelude.{◌≡◌, ◌⊎◌, ℕ, zero, suc, List, [], ◌∷◌, ◌++◌, length, map, All, Option, None, Some, Result, Ok, Err, IsFalse}
 use Rattle.std.specs.Option.{option_map_or}
@@ -23,12 +23,12 @@ use Rattle.gr_text.specs.Wholes.{IsWhole, bytes_of, text_of}
 
 -- ---- one stream
 
--- the header and the records before a fault, and the bytes behind the end where there is one
+-- the header and the records before a fault, and the bytes after the end where there is one
 pub record Front : Type 0 where
   pub lines : List SitedLine
   pub behind : Option (List ℕ)
 
--- the bytes that are left behind an end
+-- the bytes that are left after an end
 abbrev pub behind_end : Stop → List ℕ → Option (List ℕ)
 behind_end Inside rest = None
 behind_end AtEnd rest = Some rest
@@ -52,17 +52,17 @@ unfoldable pub lines_before : ℕ → List ℕ → List SitedLine
 lines_before zero bytes = []
 lines_before (suc most) bytes = (front_at bytes).lines ++ option_map_or (λ rest. lines_before most rest) (front_at bytes).behind []
 
--- the text of what stands before the first fault; each stream has a byte at least
+-- the text of the headers and records before the first fault; each stream has a byte at least
 abbrev pub text_before_fault : List ℕ → List ℕ
 text_before_fault bytes = flat_map whole_line (lines_before (length bytes) bytes)
 
 -- ---- laws
 
--- before a fault that bytes do not have stands all that they are
+-- bytes without a fault have all of their text before it
 abbrev pub WholeStreamsStandWhole : Type 0
 WholeStreamsStandWhole = (bytes text : List ℕ) → dumped bytes ≡ Ok text → text_before_fault bytes ≡ text
 
--- a header that is no header, and nothing before it; or a header and records that no end follows, and behind them what is refused
+-- a header that is no header, and nothing before it; or a header and records that no end follows, and after them what is refused
 abbrev pub IsRefusedAtHeader : RecordError → List ℕ → List SitedLine → Type 0
 IsRefusedAtHeader e bytes xs = (front_header_at bytes ≡ Err e) × (xs ≡ [])
 
@@ -75,7 +75,7 @@ pub record IsRefusedBehind (e : RecordError) (bytes : List ℕ) (xs : List Sited
   pub refused : front_records_at stream.header (events_spelling stream.header.version stream.records ++ left) ≡ Err e
   pub lines : xs ≡ parts_in stream
 
--- whole streams, and behind them the bytes of the stream at fault, of which this stands before the fault
+-- whole streams, then the bytes of the stream at fault, and what that stream has before its fault
 pub record StandsBefore (place : ℕ) (e : RecordError) (bytes text : List ℕ) : Type 0 where
   pub streams : List WholeStream
   pub whole : All IsWhole streams
@@ -86,6 +86,6 @@ pub record StandsBefore (place : ℕ) (e : RecordError) (bytes text : List ℕ) 
   pub front : IsRefusedAtHeader e rest lines ⊎ IsRefusedBehind e rest lines
   pub is : text ≡ text_of streams ++ flat_map whole_line lines
 
--- what is told of refused bytes stands before their fault
+-- the text of refused bytes is that of what comes before their fault
 abbrev pub RefusedIsToldUpToItsFault : Type 0
 RefusedIsToldUpToItsFault = (bytes : List ℕ) (place : ℕ) (e : RecordError) → AreBytes bytes → dumped bytes ≡ Err (faults.Stream place e) → StandsBefore place e bytes (text_before_fault bytes)

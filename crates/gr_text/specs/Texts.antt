@@ -52,14 +52,14 @@ whole_line l = sited_text l ++ 10 ∷ []
 
 -- ---- the line at a place
 
--- a record at line n of the stream of this header, which may have so many more, and the place behind it
+-- a record at line n of the stream of this header, which may have so many more, and the place after it
 abbrev pub record_at : ℕ → Header → ℕ → Sited → Result (SitedLine × Place) Fault
 record_at n h left r =
     if nat_le h.items r.event.item || nat_lt (places h.version) (length r.event.names) then Err (faults.BadLine n)
     else if left == 0 then Err (faults.LongStream n)
     else Ok (record_line r, if is_end r.event then Outside else Inside h (left - 1))
 
--- what line n says at a place, and the place behind it: outside of streams a header is due, and in one a record
+-- what line n says at a place, and the place after it: outside of streams a header is due, and in one a record
 abbrev pub said_at : ℕ → Place → Line → ℕ → Result (SitedLine × Place) Fault
 said_at n Outside (lines.Header h) site = Ok (record { line = lines.Header h; site = site }, Inside h MOST_RECORDS)
 said_at n Outside (lines.Event e) site = Err (faults.BadLine n)
@@ -77,7 +77,7 @@ abbrev pub version_at : Place → Version
 version_at Outside = One
 version_at (Inside h left) = h.version
 
--- behind the last line, which no stream may need to be followed
+-- after the last line, which no stream may need to be followed
 abbrev pub over_at : Place → Result (List SitedLine) Fault
 over_at Outside = Ok []
 over_at (Inside h left) = Err faults.NoEnd
@@ -91,12 +91,12 @@ said_from n place (l ∷ ls) = line_at n place (sited_said (version_at place) l)
 abbrev pub said_in : List ℕ → Result (List SitedLine) Fault
 said_in text = said_from 1 Outside (lines_of text)
 
--- the version of the stream behind a line in one of this version
+-- the version of the stream after a line in one of this version
 abbrev pub version_behind : Version → Line → Version
 version_behind v (lines.Header h) = h.version
 version_behind v (lines.Event e) = if is_end e then One else v
 
--- the bytes of lines, the first of which stands in a stream of this version
+-- the bytes of lines, the first of which is in a stream of this version
 abbrev pub lines_bytes : Version → List SitedLine → List ℕ
 lines_bytes v [] = []
 lines_bytes v (x ∷ xs) = line_bytes v x ++ lines_bytes (version_behind v x.line) xs

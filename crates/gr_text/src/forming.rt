@@ -104,7 +104,7 @@ fn push_first<A: Allocator + Copy>(
     }
 }
 
-/// Adds a record of a stream of this version, which stands at this site, in a form.
+/// Adds a record of this site, of a stream of this version, in a form.
 /// Requires: the record is in range, and the stream has room for its names.
 fn push_event<A: Allocator + Copy>(
     alloc: A,
@@ -137,8 +137,8 @@ fn read_in_range(header: Header, bytes: &[u8]) -> Result<Event, RecordError>
     read_event(header, bytes)
 }
 
-/// Adds in a form the records at the start of the bytes, which stand in a stream of this header, up to its end or to the
-/// first that is refused. Answers the bytes behind the end, if there is one.
+/// Adds in a form the records at the start of the bytes, in the stream of this header, up to its end or to the first that is
+/// refused. Returns the bytes after the end, if there is one.
 /// Requires: the header is in range.
 pub(crate) fn push_records<'a, A: Allocator + Copy>(
     alloc: A,
@@ -172,8 +172,7 @@ pub(crate) fn push_records<'a, A: Allocator + Copy>(
     Ok(None)
 }
 
-/// Adds in a form the stream at the start of the bytes, which is the one at this place of the input, and answers the
-/// bytes behind it.
+/// Adds in a form the stream at the start of the bytes, whose place in the input is this, and returns the bytes after it.
 fn push_stream<'a, A: Allocator + Copy>(
     alloc: A,
     form: Form,
@@ -198,7 +197,7 @@ fn push_stream<'a, A: Allocator + Copy>(
     }
 }
 
-/// The streams that stand in the bytes one after another, in a form. The groups and launch numbers of different streams
+/// The streams in the bytes, one after another, in a form. The groups and launch numbers of different streams
 /// are not compared.
 ///
 /// # Errors

@@ -1,5 +1,5 @@
-//! Which texts and bytes are accepted. Each law is the contract of a function that does nothing, told in words in
-//! docs/FORMATS.md, "Stream" and "Text form".
+//! Which texts and bytes are accepted. Each law is the contract of a function that does nothing; docs/FORMATS.md,
+//! "Stream" and "Text form", has them in words.
 
 ghost use Rattle.gr_text.specs.Partial.{RefusedIsToldUpToItsFault, WholeStreamsStandWhole};
 ghost use Rattle.gr_text.specs.Wholes.{DumpedAreStreams, DumpedIsPackedAgain, PackedAreStreams, PackedIsDumpedAgain, UpgradedAreStreams, UpgradedStays, WholeStreamsAreDumped, WholeStreamsArePacked, WholeStreamsAreUpgraded};
@@ -10,8 +10,8 @@ pub fn dumped_are_streams()
     ensures { DumpedAreStreams }
 {}
 
-/// A text that is packed is that of whole streams, one after another, of which the last line feed may be missing. What
-/// is written is the bytes of these streams.
+/// A text that is packed is that of whole streams, one after another; its last line feed may be missing. What is written is
+/// the bytes of these streams.
 pub fn packed_are_streams()
     ensures { PackedAreStreams }
 {}
@@ -41,9 +41,9 @@ pub fn streams_are_upgraded()
     ensures again { UpgradedStays }
 {}
 
-/// Before the fault of refused bytes stand whole streams, as many as the fault's place says, and of the stream at fault
-/// either nothing, where its header is refused, or its header and the records behind which the next is refused. Of
-/// bytes without a fault all stands there.
+/// The text of refused bytes is that of the whole streams before the fault, as many as the fault's place says, and of the
+/// start of the stream at fault: nothing, where its header is refused; else its header and the records before the refused
+/// one. Bytes without a fault have all of their text.
 pub fn refused_is_told_up_to_its_fault()
     ensures refused { RefusedIsToldUpToItsFault }
     ensures whole { WholeStreamsStandWhole }

@@ -1,4 +1,4 @@
-//! The text form of streams: their records as lines, text to bytes and back; and streams of version 1 as those of version 2.
+//! The text form of streams: their records as lines, text to bytes and back. Also streams of version 1 as those of version 2.
 #![tactic(auto)]
 
 pub use run::{dump, dump_partial, pack, upgrade};

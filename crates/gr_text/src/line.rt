@@ -15,7 +15,7 @@ pub enum Line {
 /// A line with the site at its end.
 #[derive(Clone, Copy, Debug, PartialEq, Eq)]
 pub struct SitedLine {
-    /// What stands before the site.
+    /// What comes before the site.
     pub line: Line,
     /// The number of the site; 0 where the line has none.
     pub site: u16,

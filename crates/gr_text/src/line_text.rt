@@ -69,7 +69,7 @@ fn push_number<A: Allocator>(text: &mut String<A>, number: u32) -> Result<(), Me
     push_word(text, buffer.format(number))
 }
 
-/// Adds a name behind a space.
+/// Adds a name after a space.
 fn push_name<A: Allocator>(text: &mut String<A>, name: &Name) -> Result<(), Memory>
     ensures { OnOk result (string_bytes text.new ≡ string_bytes text.old ++ later_text (name_words name.now)) }
 {
@@ -79,7 +79,7 @@ fn push_name<A: Allocator>(text: &mut String<A>, name: &Name) -> Result<(), Memo
     push_number(text, name.release)
 }
 
-/// Adds names, each behind a space.
+/// Adds names, each after a space.
 fn push_names<A: Allocator>(text: &mut String<A>, names: &[Name]) -> Result<(), Memory>
     ensures { OnOk result (string_bytes text.new ≡ string_bytes text.old ++ later_text (names_words names.now)) }
 {
@@ -127,7 +127,7 @@ fn push_first<A: Allocator>(text: &mut String<A>, event: &Event) -> Result<(), M
     Ok(())
 }
 
-/// Adds the words behind the first one of a record's line.
+/// Adds the words after the first one of a record's line.
 fn push_later<A: Allocator>(text: &mut String<A>, event: &Event) -> Result<(), Memory>
     ensures { OnOk result (string_bytes text.new ≡ string_bytes text.old ++ later_text (later_words event.now.kind event.now)) }
 {
@@ -147,7 +147,7 @@ fn push_later<A: Allocator>(text: &mut String<A>, event: &Event) -> Result<(), M
     }
 }
 
-/// Adds the words behind the first one of a header's line.
+/// Adds the words after the first one of a header's line.
 fn push_header<A: Allocator>(text: &mut String<A>, header: &Header) -> Result<(), Memory>
     ensures { OnOk result (string_bytes text.new ≡ string_bytes text.old ++ later_text (header_words header.now)) }
 {

@@ -10,7 +10,7 @@ fn first_feed(text: &[u8]) -> Option<usize>
     text.iter().position(|byte| *byte == b'\n')
 }
 
-/// The first line of a text without its line feed, and the text behind it.
+/// The first line of a text without its line feed, and the text after it.
 /// Requires: the text is not empty.
 pub fn split_line(text: &[u8]) -> (&[u8], &[u8])
     requires { 0 < length text.now }

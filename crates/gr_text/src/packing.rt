@@ -21,7 +21,7 @@ use gr_record::header::{Header, Version};
 use gr_record::layout::{HEADER_LENGTH, LONG_RECORD_LENGTH, RECORD_LENGTH};
 use std::alloc::Allocator;
 
-/// Adds the bytes of a record that stands at this site, in a stream of this version.
+/// Adds the bytes of a record of this site, in a stream of this version.
 /// Requires: the record is in range, and the stream has room for its names.
 pub(crate) fn push_record<A: Allocator>(
     bytes: &mut Vec<u8, A>,

@@ -17,7 +17,7 @@ use gr_model::names::Names;
 use gr_record::header::{Header, Version};
 use gr_record::reading::{naming, order_fits};
 
-/// What stands in the places of an array of names that are not used.
+/// The name in the unused places of an array.
 const UNUSED: Name = Name {
     at: ItemId { group: 0, item: 0 },
     release: 0,
@@ -100,7 +100,7 @@ fn make_header(version: Version, group: u16, items: u16, launch: u32) -> Option<
     }
 }
 
-/// The version, of which this stands behind the launch in the line of a header.
+/// The version that the words after the launch of a header's line give.
 fn parse_version(bytes: Option<&[u8]>) -> Option<Version>
     ensures { result ≡ version_said (option_map (λ rest. rest.now) bytes.entry) }
 {
@@ -113,7 +113,7 @@ fn parse_version(bytes: Option<&[u8]>) -> Option<Version>
     }
 }
 
-/// What stands behind `group` in the line of a header.
+/// The header of a line, from the words after `group`.
 #[tactic(auto, unfolding(crate::specs::LineReading::header_said))]
 fn parse_header(bytes: &[u8]) -> Option<Header>
     ensures { result ≡ header_said bytes.now }
@@ -135,7 +135,7 @@ fn parse_header(bytes: &[u8]) -> Option<Header>
     )
 }
 
-/// The name at the start of the bytes, and what stands behind it.
+/// The name at the start of the bytes, and what comes after it.
 #[tactic(auto, unfolding(crate::specs::LineReading::name_said))]
 fn parse_name(bytes: &[u8]) -> Option<(Name, Option<&[u8]>)>
     ensures { option_map (λ x. (x.0, option_map (λ rest. rest.now) x.1)) result ≡ name_said bytes.now }
@@ -155,7 +155,7 @@ fn parse_name(bytes: &[u8]) -> Option<(Name, Option<&[u8]>)>
     Some((Name { at, release }, rest))
 }
 
-/// The names that stand behind an acquire's order, if anything stands there, and how many places of the array they are.
+/// The names after an acquire's order, if there are some, and how many places of the array they take.
 fn parse_names(bytes: Option<&[u8]>) -> Option<([Name; MOST_NAMES], usize)>
     ensures few { IfSome result (λ x. x.1 ≤ MOST_NAMES) }
     ensures names { option_map (λ x. take x.1 x.0) result ≡ names_said (option_map (λ rest. rest.now) bytes.entry) MOST_NAMES }
@@ -191,7 +191,7 @@ fn parse_kind(word: &[u8], scope: Scope, order: Order) -> Option<Kind>
     }
 }
 
-/// An atomic access, of which these bytes stand behind the word.
+/// An atomic access, from the bytes after its word.
 #[tactic(auto, unfolding(crate::specs::LineReading::atomic_said))]
 fn parse_atomic(kind: &[u8], item: u16, space: Space, word: u32, bytes: &[u8]) -> Option<Event>
     ensures { result ≡ atomic_said kind.now item space word bytes.now }
@@ -240,7 +240,7 @@ fn plain(item: u16, kind: Kind, space: Space, word: u32) -> Event
     }
 }
 
-/// What stands behind the item in the line of a record.
+/// The record of a line, from the words after the item.
 #[tactic(auto, unfolding(crate::specs::LineReading::event_said))]
 fn parse_event(item: u16, bytes: &[u8]) -> Option<Event>
     ensures { result ≡ event_said item bytes.now }

@@ -1,4 +1,4 @@
-//! From bytes that may be refused to the text of what stands before their first fault.
+//! From bytes that may have a fault to the text of the headers and records before it.
 
 ghost use Rattle.std.specs.Prelude.{◌≡◌, ◌≢◌, ◌++◌, IfOk, IfSome, IsOk, MatchOption, OnOk, Err, option_map};
 ghost use Rattle.std.specs.List.{flat_map};
@@ -14,8 +14,8 @@ use gr_record::fault::Fault;
 use gr_record::stream::read_front_header;
 use std::alloc::Allocator;
 
-/// Adds the lines of the header and the records of the stream at the start of the bytes, as far as they stand before a
-/// fault. Answers the bytes behind the end, if there is one.
+/// Adds the lines of the stream at the start of the bytes, header and records, up to its first fault. Returns the bytes after
+/// the stream's end, if there is one.
 fn push_front<'a, A: Allocator + Copy>(
     alloc: A,
     text: &mut Vec<u8, A>,
@@ -31,7 +31,7 @@ fn push_front<'a, A: Allocator + Copy>(
     push_records(alloc, Form::Text, text, header, records)
 }
 
-/// The text of the headers and records that stand in the bytes before their first fault; of streams that have none all.
+/// The text of the headers and records in the bytes before the first fault, or of all where there is none.
 ///
 /// # Errors
 /// `Memory` if an allocation is refused.
@@ -49,7 +49,7 @@ pub fn text_before_fault<A: Allocator + Copy>(alloc: A, bytes: &[u8]) -> Result<
     Ok(text)
 }
 
-/// The text of what stands in the bytes before their first fault, and that fault; of streams that have none their text.
+/// The text of the headers and records before the first fault, and that fault, if there is one.
 pub(crate) fn partial_text<A: Allocator + Copy>(
     alloc: A,
     bytes: &[u8],

@@ -12,10 +12,10 @@ use gr_model::limits::MOST_RECORDS;
 use gr_record::fault::Fault;
 use gr_record::header::{Header, Version};
 
-/// Where a line of a text stands.
+/// The place of a line in a text.
 #[derive(Clone, Copy, Debug, PartialEq, Eq)]
 pub enum Place {
-    /// Before a header: at the start of the text, or behind an end.
+    /// Before a header: at the start of the text, or after an end.
     Outside,
     /// In the stream of this header, with room for `left` more records.
     Inside { header: Header, left: u32 },
@@ -33,7 +33,7 @@ impl Place {
     }
 }
 
-/// The record at this line of a stream, with its site, and the place after it.
+/// The line of a record in a stream, with its site, and the place after it.
 fn take_event(
     number: u64,
     header: Header,
@@ -61,7 +61,7 @@ fn take_event(
     Ok((SitedLine { line, site }, behind))
 }
 
-/// What a line says at this place, if it may stand there, and the place after it.
+/// The line, if this place may have it, and the place after it.
 fn take_said(
     number: u64,
     place: Place,
@@ -88,8 +88,8 @@ fn take_said(
     }
 }
 
-/// What a line says at this place of a text, and the place after it. The line comes without its line feed, and has this
-/// number.
+/// What a line of a text says at this place, and the place after it. The line is given without its line feed; its number
+/// is this.
 ///
 /// # Errors
 /// `BadLine` with the number if the place needs another line; else `LongStream` with the number if the line is one

@@ -97,7 +97,7 @@ pub fn dump<A: Allocator + Copy, T: Read, W: Write>(
 /// headers and records before the first fault.
 ///
 /// # Errors
-/// Those of `dump`. At `Stream` the text of what stands before the fault has been written. `Write` if the writer fails,
+/// Those of `dump`. At `Stream` the text before the fault has been written. `Write` if the writer fails,
 /// which has then taken a prefix of the text. At `Read` and `Memory` nothing is written.
 pub fn dump_partial<A: Allocator + Copy, T: Read, W: Write>(
     alloc: A,

@@ -14,7 +14,7 @@ pub fn is_word(word: &[u8], expected: &str) -> bool
     word == expected.as_bytes()
 }
 
-/// The number below 2^32 of which the word is the text.
+/// The number below 2^32 that this word spells.
 pub fn parse_number(word: &[u8]) -> Option<u32>
     ensures { result ≡ number_of word.now }
 {
@@ -27,7 +27,7 @@ pub fn parse_number(word: &[u8]) -> Option<u32>
     }
 }
 
-/// The number below 2^16 of which the word is the text.
+/// The number below 2^16 that this word spells.
 #[tactic(auto, unfolding(crate::specs::LineReading::short_of))]
 pub fn parse_short(word: &[u8]) -> Option<u16>
     ensures { result ≡ short_of word.now }
@@ -47,7 +47,7 @@ fn first_place(bytes: &[u8], mark: u8) -> Option<usize>
     bytes.iter().position(|byte| *byte == mark)
 }
 
-/// What stands before the first byte that is this one, and what stands behind it, if there is one.
+/// What comes before the first byte that is this one, and what comes after it, if there is one.
 pub(crate) fn split_at_mark(bytes: &[u8], mark: u8) -> (&[u8], Option<&[u8]>)
     ensures { (result.0.now, option_map (λ rest. rest.now) result.1) ≡ cut_at mark bytes.now }
 {
@@ -57,7 +57,7 @@ pub(crate) fn split_at_mark(bytes: &[u8], mark: u8) -> (&[u8], Option<&[u8]>)
     }
 }
 
-/// The first word, and what stands behind its space, if there is one.
+/// The first word, and what comes after its space, if there is one.
 pub fn split_word(bytes: &[u8]) -> (&[u8], Option<&[u8]>)
     ensures { (result.0.now, option_map (λ rest. rest.now) result.1) ≡ first_of bytes.now }
 {

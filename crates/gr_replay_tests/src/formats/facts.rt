@@ -1,4 +1,4 @@
-//! What the contracts alone say of some values, of which some wrong body would say otherwise.
+//! What the contracts alone give for some values. For each value some wrong body would return something else.
 
 ghost use Rattle.std.specs.Prelude.{Some, ◌∷◌, []};
 ghost use Rattle.gr_model.specs.Events.{IsEventOk};
@@ -66,7 +66,7 @@ fn site_of_a_record() {
     prove!(site_of(Version::Three, &write) == 258);
 }
 
-/// A name of group 64 is none of version 1, and one of version 3.
+/// Version 1 does not allow a name of group 64; version 3 does.
 #[test]
 fn naming_of_group_64() {
     let far = Name {
@@ -78,7 +78,7 @@ fn naming_of_group_64() {
     prove!(naming(Version::Three, acquire, &[far]).is_some());
 }
 
-/// Of group 300 all bits are written.
+/// All bits of group 300 are written.
 #[test]
 fn header_of_group_300() {
     let header = Header {
@@ -122,7 +122,7 @@ fn naming_of_names_out_of_order() {
     .is_none());
 }
 
-/// The first line of a site tells its place.
+/// The first line of a site gives its place.
 #[test]
 fn place_of_a_site_with_two_lines() {
     let first = PlaceLine {

@@ -44,7 +44,7 @@ impl FailingWriter {
         self.taken.as_slice() == text && self.is_flushed && self.flushes == 1
     }
 
-    /// Whether it took as much of a text as there was room, and the answer tells of a failure where there was one.
+    /// Whether it took as much of a text as it had room for, and the result is a failure exactly where it failed.
     fn has_front(&self, is_told: bool, text: &[u8], room: usize) -> bool {
         if room < text.len() {
             is_told && self.taken.len() == room && text.starts_with(&self.taken)
@@ -76,8 +76,8 @@ impl Write for FailingWriter {
     }
 }
 
-/// Writes a text to writers that fail in each way, with room for each front of it. `write` says whether it was told of a failure.
-/// The error is the first way and room that were not told, or left another front.
+/// Writes a text to writers that fail in each way, with room for each prefix of it. `write` returns whether a failure was
+/// returned to it. The error is the first way and room where no failure was returned, or another prefix was written.
 pub(crate) fn fail_each<F: Fn(&mut FailingWriter) -> bool>(
     alloc: Global,
     text: &[u8],
@@ -97,7 +97,7 @@ pub(crate) fn fail_each<F: Fn(&mut FailingWriter) -> bool>(
     Ok(())
 }
 
-/// Whether the work tells of a writer that fails.
+/// Whether the work returns the fault of a writer that fails.
 fn tells_of(alloc: Global, case: &Case, writer: &mut FailingWriter) -> bool {
     let mut reader = case.input.as_slice();
     do_work(alloc, case.work, &mut reader, writer) == Err(Fault::Write)
@@ -113,7 +113,7 @@ fn a_writer_that_fails_has_a_prefix(rt: HostRuntime) -> Result<(), Fail> {
     Ok(())
 }
 
-/// What the work answers behind so many calls of a reader that gives a byte at each, and what it writes.
+/// The result of the work and what it writes, with a reader that gives a byte at each call and fails after so many.
 fn after_calls(alloc: Global, case: &Case, calls: usize) -> (Result<(), Fault>, Vec<u8>) {
     let mut written = Vec::new(alloc);
     let mut reader = FailingReader {

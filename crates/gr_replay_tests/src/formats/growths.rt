@@ -1,4 +1,4 @@
-//! Each growth is refused in turn: the answer is then out of memory, with nothing written, or what is due.
+//! Each growth is refused in turn: the result is then out of memory, with nothing written, or what is expected.
 
 use crate::formats::works::{Case, TEXTS, cases, do_work};
 use gr_model::event::{Event, event_ok};
@@ -16,7 +16,7 @@ use refusing::growths::refuse_each;
 use std::alloc::{Allocator, Global};
 use std::test::Fail;
 
-/// Whether the work gives what is due, or memory ran out with nothing written.
+/// Whether the work gives what is expected, or memory ran out with nothing written.
 fn is_done<A: Allocator + Copy>(alloc: A, ample: Global, case: &Case) -> Result<bool, Memory> {
     let mut written = Vec::new(ample);
     let mut reader = case.input.as_slice();
@@ -51,7 +51,7 @@ static LINES: [&str; 8] = [
 /// `group 0 items 256 launch 7`
 static HEADER: [u8; 12] = [0x47, 0x52, 0x54, 0x31, 0, 0, 0, 1, 7, 0, 0, 0];
 
-/// The event that a line says, if it is one that has a record.
+/// The event of a line, if it is the line of a record.
 fn event_of(line: &str) -> Option<Event> {
     match parse_line(line.as_bytes()) {
         Some(Line::Event(event)) if event_ok(&event, MOST_ITEMS_OF_A_GROUP) => Some(event),

@@ -1,4 +1,4 @@
-//! Texts of streams, what is done with them, and what then is due.
+//! Texts of streams, what is done with them, and the expected result.
 
 use gr_record::error::RecordError;
 use gr_record::fault::Fault;
@@ -31,7 +31,7 @@ pub(crate) fn do_work<A: Allocator + Copy, R: Read, W: Write>(
     }
 }
 
-/// Work on an input, its answer, and what it writes.
+/// Work on an input, its result, and what it writes.
 #[derive(Drop)]
 pub(crate) struct Case {
     pub(crate) work: Work,
@@ -84,7 +84,7 @@ fn done(alloc: Global, work: Work, input: &[u8], output: &[u8]) -> Result<Case, 
     })
 }
 
-/// Bytes that break off behind the second record, dumped in part.
+/// Bytes that break off after the second record, dumped in part.
 fn broken(alloc: Global) -> Result<Case, Fail> {
     let text = "group 0 items 2 launch 7\n0 w g 16\n1 r g 16\n";
     let whole = format!(in alloc; "{text}end\n")?;

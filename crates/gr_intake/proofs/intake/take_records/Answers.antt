@@ -18,7 +18,7 @@ use Rattle.gr_intake.proofs.Comings.{closes, goes_further, headers_push, whole_c
 use Rattle.gr_intake.proofs.Faults.{fault_at-fails}
 use Rattle.gr_intake.proofs.intake.take_records.Goals as goal
 
--- the bytes behind others are bytes
+-- the bytes after others are bytes
 behind_are_bytes : (bytes front rest : List ℕ) → AreBytes bytes → bytes ≡ front ++ rest → AreBytes rest
 behind_are_bytes bytes front rest fits is =
     subst AreBytes (ap (drop (length front)) is ∙ drop_at front rest (length front) refl) (bytes_drop (length front) bytes fits)

@@ -1,6 +1,6 @@
 use Rattle.std.specs.Io.KnownBytes.{Consumes}
 use Rattle.gr_record.proofs.input.read_all.Given as goal
 
--- what was read so far stood at the front
+-- what was read so far was at the front
 abbrev pub invariant-loop : goal.invariant-loop
 invariant-loop g l = Consumes (g.T.Read.remaining l.initial.reader) (g.T.Read.remaining l.reader) l.bytes.items

@@ -9,7 +9,7 @@ use Rattle.gr_record.proofs.Judging.{event_apart}
 use Rattle.gr_record.proofs.Loop.{fails, stops_short, none_left, refused, ended, goes_on}
 use Rattle.gr_record.proofs.stream.skip_front_records.Goals as goal
 
--- what the whole says of the bytes behind it
+-- what the whole says of the bytes after it
 behind : {x y : Result (List Event × List ℕ) RecordError} → x ≡ y → (x >>= λ r. Ok r.1) ≡ (y >>= λ r. Ok r.1)
 behind e = ap (λ (x : Result (List Event × List ℕ) RecordError). x >>= λ r. Ok r.1) e
 
