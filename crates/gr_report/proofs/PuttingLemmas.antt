@@ -43,18 +43,18 @@ Prefix-more old mid new text rest n f h =
 
 -- ---- a list of lines
 
-flat_map-drop : {X : Type 0} (f : X → List ℕ) (xs : List X) (i : ℕ) (d : X) → i < length xs → flat_map f (drop i xs) ≡ f (get_or xs i d) ++ flat_map f (drop (i + 1) xs)
-flat_map-drop f xs i d lt = at_drop_more (flat_map f) xs i d lt ∙ flat_map-cons f (get_or xs i d) (drop (i + 1) xs)
+flat_map-drop : {X : Type 0} (f : X → List ℕ) (xs : List X) (i : ℕ) (x : X) → i < length xs → x ≡ get_or xs i x → flat_map f (drop i xs) ≡ f x ++ flat_map f (drop (i + 1) xs)
+flat_map-drop {X = X} f xs i x lt is =
+    at_drop_more (flat_map f) xs i x lt ∙ flat_map-cons f (get_or xs i x) (drop (i + 1) xs) ∙ ap (λ (y : X). f y ++ flat_map f (drop (i + 1) xs)) (sym is)
 
-module _ {X : Type 0} (f : X → List ℕ) (xs : List X) (i : ℕ) (d : X) (old mid new : Option (List ℕ)) (text : List ℕ) (so_far : Prefix old mid text (flat_map f (drop i xs))) where
-  pub lines_next : (x : Unit {0}) → i < length xs → Puts mid new (Ok x) (f (get_or xs i d)) → Prefix old new text (flat_map f (drop (i + 1) xs))
-  lines_next x lt h =
-      let a = f (get_or xs i d) in
+module _ {X : Type 0} (f : X → List ℕ) (xs : List X) (i : ℕ) (x : X) (old mid new : Option (List ℕ)) (text : List ℕ) (so_far : Prefix old mid text (flat_map f (drop i xs))) (lt : i < length xs) (is : x ≡ get_or xs i x) where
+  pub lines_next : (u : Unit {0}) → Puts mid new (Ok u) (f x) → Prefix old new text (flat_map f (drop (i + 1) xs))
+  lines_next u h =
       let rest = flat_map f (drop (i + 1) xs) in
-      (so_far.0 ++ a, so_far.1 ∙ ap (λ (v : List ℕ). so_far.0 ++ v) (flat_map-drop f xs i d lt) ∙ sym (append_assoc so_far.0 a rest), Appends-trans old mid new so_far.0 a so_far.2 h.whole)
+      (so_far.0 ++ f x, so_far.1 ∙ ap (λ (v : List ℕ). so_far.0 ++ v) (flat_map-drop f xs i x lt is) ∙ sym (append_assoc so_far.0 (f x) rest), Appends-trans old mid new so_far.0 (f x) so_far.2 h.whole)
 
-  pub lines_fail : (e : WriteFault) → i < length xs → Puts mid new (Err e) (f (get_or xs i d)) → Puts old new (Err e) text
-  lines_fail e lt h =
+  pub lines_fail : (e : WriteFault) → Puts mid new (Err e) (f x) → Puts old new (Err e) text
+  lines_fail e h =
       let rest = flat_map f (drop (i + 1) xs) in
-      let due : Puts old new (Err e) (so_far.0 ++ (f (get_or xs i d) ++ rest)) = puts_then {x = tt} (record { whole = so_far.2; prefix = tt }) (puts_more rest h) in
-      rw (so_far.1, flat_map-drop f xs i d lt) due
+      let due : Puts old new (Err e) (so_far.0 ++ (f x ++ rest)) = puts_then {x = tt} (record { whole = so_far.2; prefix = tt }) (puts_more rest h) in
+      rw (so_far.1, flat_map-drop f xs i x lt is) due

@@ -1,6 +1,6 @@
 //! The text of a report, line by line.
 
-ghost use Rattle.std.specs.Prelude.{◌≡◌, OnOk, OnErr};
+ghost use Rattle.std.specs.Prelude.{◌≡◌, ℕ, List, OnOk, OnErr};
 ghost use Rattle.std.specs.List.{flat_map};
 ghost use Rattle.std.specs.Io.KnownBytes.{Appends};
 ghost use Rattle.gr_report.specs.Putting.{Puts, AppendsPrefix};
@@ -22,34 +22,37 @@ fn put_head<A: Allocator, W: Write>(writer: &mut W, report: &Report<A>) -> Resul
     put_line(writer, b" records ", report.records)
 }
 
-fn put_cuts<W: Write>(writer: &mut W, groups: &[u16]) -> Result<(), WriteFault>
-    ensures { Puts (W.contents writer.old) (W.contents writer.new) result (flat_map cut_line groups.now) }
-{
-    for group in groups {
-        put_line(writer, b"cut ", *group)?;
-    }
-    Ok(())
+/// What has a line in a report.
+trait Row {
+    // the text of the line
+    ghost line: { Self → List ℕ };
+
+    /// Writes the line.
+    fn put<W: Write>(&self, writer: &mut W) -> Result<(), WriteFault>
+        ensures { Puts (W.contents writer.old) (W.contents writer.new) result (line self.now) };
 }
 
-fn put_race<W: Write>(writer: &mut W, word: Word) -> Result<(), WriteFault>
-    ensures { Puts (W.contents writer.old) (W.contents writer.new) result (race_line word) }
-{
-    match word {
-        Word::Global(number) => put_line(writer, b"race global ", number),
-        Word::Local(group, number) => {
-            put_field(writer, b"race local ", group)?;
-            put_line(writer, b" ", number)
+/// A group whose stream was cut.
+impl Row for u16 {
+    ghost line = { cut_line };
+
+    fn put<W: Write>(&self, writer: &mut W) -> Result<(), WriteFault> {
+        put_line(writer, b"cut ", *self)
+    }
+}
+
+impl Row for Word {
+    ghost line = { race_line };
+
+    fn put<W: Write>(&self, writer: &mut W) -> Result<(), WriteFault> {
+        match *self {
+            Word::Global(number) => put_line(writer, b"race global ", number),
+            Word::Local(group, number) => {
+                put_field(writer, b"race local ", group)?;
+                put_line(writer, b" ", number)
+            }
         }
     }
-}
-
-fn put_races<W: Write>(writer: &mut W, words: &[Word]) -> Result<(), WriteFault>
-    ensures { Puts (W.contents writer.old) (W.contents writer.new) result (flat_map race_line words.now) }
-{
-    for word in words {
-        put_race(writer, *word)?;
-    }
-    Ok(())
 }
 
 /// The end of a divergence's line: its cause.
@@ -63,21 +66,14 @@ fn end_of_divergence(cause: DivergenceCause) -> &'static [u8]
     }
 }
 
-fn put_divergence<W: Write>(writer: &mut W, divergence: Divergence) -> Result<(), WriteFault>
-    ensures { Puts (W.contents writer.old) (W.contents writer.new) result (divergence_line divergence) }
-{
-    put_field(writer, b"diverge ", divergence.group)?;
-    put_field(writer, b" ", divergence.instance)?;
-    put(writer, end_of_divergence(divergence.cause))
-}
+impl Row for Divergence {
+    ghost line = { divergence_line };
 
-fn put_divergences<W: Write>(writer: &mut W, divergences: &[Divergence]) -> Result<(), WriteFault>
-    ensures { Puts (W.contents writer.old) (W.contents writer.new) result (flat_map divergence_line divergences.now) }
-{
-    for divergence in divergences {
-        put_divergence(writer, *divergence)?;
+    fn put<W: Write>(&self, writer: &mut W) -> Result<(), WriteFault> {
+        put_field(writer, b"diverge ", self.group)?;
+        put_field(writer, b" ", self.instance)?;
+        put(writer, end_of_divergence(self.cause))
     }
-    Ok(())
 }
 
 /// The end of an unmatched acquire's line: its cause.
@@ -91,20 +87,23 @@ fn end_of_unmatched(cause: AcquireCause) -> &'static [u8]
     }
 }
 
-fn put_acquire<W: Write>(writer: &mut W, acquire: Unmatched) -> Result<(), WriteFault>
-    ensures { Puts (W.contents writer.old) (W.contents writer.new) result (unmatched_line acquire) }
-{
-    put_field(writer, b"unmatched ", acquire.event.at.group)?;
-    put_field(writer, b" ", acquire.event.at.item)?;
-    put_field(writer, b" ", acquire.event.index)?;
-    put(writer, end_of_unmatched(acquire.cause))
+impl Row for Unmatched {
+    ghost line = { unmatched_line };
+
+    fn put<W: Write>(&self, writer: &mut W) -> Result<(), WriteFault> {
+        put_field(writer, b"unmatched ", self.event.at.group)?;
+        put_field(writer, b" ", self.event.at.item)?;
+        put_field(writer, b" ", self.event.index)?;
+        put(writer, end_of_unmatched(self.cause))
+    }
 }
 
-fn put_unmatched<W: Write>(writer: &mut W, acquires: &[Unmatched]) -> Result<(), WriteFault>
-    ensures { Puts (W.contents writer.old) (W.contents writer.new) result (flat_map unmatched_line acquires.now) }
+/// Writes the line of each row.
+fn put_rows<T: Row, W: Write>(writer: &mut W, rows: &[T]) -> Result<(), WriteFault>
+    ensures { Puts (W.contents writer.old) (W.contents writer.new) result (flat_map T.line rows.now) }
 {
-    for acquire in acquires {
-        put_acquire(writer, *acquire)?;
+    for row in rows {
+        row.put(writer)?;
     }
     Ok(())
 }
@@ -123,10 +122,10 @@ fn put_all<A: Allocator, W: Write>(writer: &mut W, report: &Report<A>) -> Result
     ensures { Puts (W.contents writer.old) (W.contents writer.new) result (report_text (whole_of report.now)) }
 {
     put_head(writer, report)?;
-    put_cuts(writer, report.cut.as_slice())?;
-    put_races(writer, report.races.as_slice())?;
-    put_divergences(writer, report.divergences.as_slice())?;
-    put_unmatched(writer, report.unmatched.as_slice())?;
+    put_rows(writer, report.cut.as_slice())?;
+    put_rows(writer, report.races.as_slice())?;
+    put_rows(writer, report.divergences.as_slice())?;
+    put_rows(writer, report.unmatched.as_slice())?;
     put_end(writer, report)
 }
 

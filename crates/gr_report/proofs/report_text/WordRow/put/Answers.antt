@@ -1,5 +1,5 @@
 use Rattle.gr_report.proofs.PuttingLemmas.{puts_then, puts_more, puts_err}
-use Rattle.gr_report.proofs.report_text.put_race.Goals as goal
+use Rattle.gr_report.proofs.report_text.WordRow.put.Goals as goal
 
 pub returns-in_err-put_field-in-Local : goal.returns-in_err-put_field-in-Local
 returns-in_err-put_field-in-Local g c = rw c.in-Local.is (puts_err _ c.from_residual.ensures.0 (puts_more _ c.in_err-put_field-in-Local.ensures))

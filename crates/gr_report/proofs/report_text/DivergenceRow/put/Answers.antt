@@ -1,5 +1,5 @@
 use Rattle.gr_report.proofs.PuttingLemmas.{puts_then, puts_more, puts_err}
-use Rattle.gr_report.proofs.report_text.put_divergence.Goals as goal
+use Rattle.gr_report.proofs.report_text.DivergenceRow.put.Goals as goal
 
 pub returns-in_err-put_field : goal.returns-in_err-put_field
 returns-in_err-put_field g c = puts_err _ c.from_residual.ensures.0 (puts_more _ (puts_more _ c.in_err-put_field.ensures))
