@@ -1,7 +1,9 @@
 -- The first line of a text.
-use Rattle.std.proofs.Common.{◌≡◌, ℕ, zero, suc, ◌+◌, ◌<◌, List, [], ◌∷◌, length, take, drop, refl, arith}
-use Rattle.std.proofs.lemmas.Bool.{eq-eqb, ne_eqb}
-use Rattle.gr_text.specs.Lines.{lines_of, IsFeedless, IsFirstFeed}
+use Rattle.std.proofs.Common.{◌≡◌, ℕ, ◌<◌, List, [], ◌∷◌, length, Option, Some, None, refl, sym, subst, arith, inl, inr}
+use Rattle.std.specs.Prelude.{◌==◌}
+use Rattle.std.proofs.lemmas.Bool.{cases_Bool}
+use Rattle.gr_text.specs.Lines.{lines_of}
+use Rattle.gr_text.specs.LineReading.{cut_at}
 
 -- a text that is over has no line
 pub no_line : (text : List ℕ) → length text ≡ 0 → lines_of text ≡ []
@@ -9,21 +11,28 @@ unfolding lines_of
 no_line [] none = refl
 no_line (b ∷ bytes) none = absurd (omega arith)
 
--- a text without a line feed is one line
-pub feedless_line : (text : List ℕ) → IsFeedless text → 0 < length text → lines_of text ≡ text ∷ lines_of []
-unfolding lines_of
-feedless_line [] bare some = absurd (omega arith)
-feedless_line (b ∷ []) bare some = rw (ne_eqb b 10 (bare 0 0 (omega arith))) refl
-feedless_line (b ∷ c ∷ bytes) bare some =
-    let ih = feedless_line (c ∷ bytes) (λ k d lt. bare (suc k) d (omega arith)) (omega arith) in
-    rw (ne_eqb b 10 (bare 0 0 (omega arith)), ih) refl
+-- what is left after the first line
+abbrev pub left : Option (List ℕ) → List ℕ
+left None = []
+left (Some rest) = rest
+
+abbrev IsCut : List ℕ → List ℕ × Option (List ℕ) → Type 0
+IsCut text x = (lines_of text ≡ x.0 ∷ lines_of (left x.1)) × (length (left x.1) < length text)
+
+first_line : (b : ℕ) (text : List ℕ) → IsCut (b ∷ text) (cut_at 10 (b ∷ text))
+unfolding lines_of cut_at
+first_line b [] =
+    elim (cases_Bool (b == 10)) [
+      | inl feed ↦ rw feed (refl, omega arith)
+      | inr other ↦ rw other (refl, omega arith)
+    ]
+first_line b (c ∷ text) =
+    elim (cases_Bool (b == 10)) [
+      | inl feed ↦ rw feed (refl, omega arith)
+      | inr other ↦ let ih = first_line c text in rw (other, ih.0) (refl, omega (arith, ih.1))
+    ]
 
 -- the first line ends at the first line feed
-pub first_line : (at : ℕ) (text : List ℕ) → IsFirstFeed text at → lines_of text ≡ take at text ∷ lines_of (drop (at + 1) text)
-unfolding lines_of
-first_line zero (b ∷ bytes) f = rw (eq-eqb b 10 f.feed) refl
-first_line (suc at) (b ∷ bytes) f =
-    let ih = first_line at bytes (record { there = omega (arith, f.there); before = λ k lt. f.before (suc k) (omega arith); feed = f.feed }) in
-    let k : suc at + 1 ≡ suc (at + 1) = omega arith in
-    rw (ne_eqb b 10 (f.before 0 (omega arith)), ih, k) refl
-first_line at [] f = absurd (omega (arith, f.there))
+pub line_cut : (text : List ℕ) (x : List ℕ × Option (List ℕ)) → 0 < length text → x ≡ cut_at 10 text → IsCut text x
+line_cut [] x some is = absurd (omega arith)
+line_cut (b ∷ text) x some is = subst (IsCut (b ∷ text)) (sym is) (first_line b text)

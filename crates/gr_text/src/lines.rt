@@ -1,14 +1,9 @@
 //! A text as its lines.
 
-ghost use Rattle.std.specs.Prelude.{◌≡◌, ◌<◌, ◌∷◌, length, MatchOption};
-ghost use Rattle.gr_text.specs.Lines.{lines_of, IsFeedless, IsFirstFeed};
+ghost use Rattle.std.specs.Prelude.{◌≡◌, ◌<◌, ◌∷◌, length};
+ghost use Rattle.gr_text.specs.Lines.{lines_of};
 
-/// The place of the first line feed.
-fn first_feed(text: &[u8]) -> Option<usize>
-    ensures { MatchOption result (IsFeedless text.now) (λ at. IsFirstFeed text.now at) }
-{
-    text.iter().position(|byte| *byte == b'\n')
-}
+use crate::words::split_at_mark;
 
 /// The first line of a text without its line feed, and the text after it.
 /// Requires: the text is not empty.
@@ -17,8 +12,9 @@ pub fn split_line(text: &[u8]) -> (&[u8], &[u8])
     ensures lines { lines_of text.now ≡ result.0.now ∷ lines_of result.1.now }
     ensures shorter { length result.1.now < length text.now }
 {
-    match first_feed(text) {
-        None => (text, &text[text.len()..]),
-        Some(at) => (&text[..at], &text[at + 1..]),
+    let (line, rest) = split_at_mark(text, b'\n');
+    match rest {
+        None => (line, &text[text.len()..]),
+        Some(rest) => (line, rest),
     }
 }
