@@ -1,6 +1,5 @@
 -- Whether a group has come, and which launch the streams are of, without a look at each stream.
-use Rattle.std.proofs.Common.{◌≡◌, ℕ, suc, ◌<◌, true, false, None, Some, slice_get, List, [], ◌∷◌, ◌++◌, append-nil, All, AllPairs, Contains, length, sym, ap, ◌∙◌, subst, refl, arith, inl, inr}
-use Rattle.std.specs.Prelude.{not, ◌==◌}
+use Rattle.std.proofs.Common.{◌≡◌, ℕ, suc, ◌<◌, true, false, None, Some, slice_get, List, [], ◌∷◌, ◌++◌, append-nil, All, AllPairs, Contains, length, sym, ap, ◌∙◌, subst, refl, arith, inl, inr, not, ◌==◌}
 use Rattle.std.specs.List.{list_any}
 use Rattle.std.proofs.lemmas.Bool.{cases_Bool, eq-eqb, eqb-true, ne_eqb}
 use Rattle.std.proofs.lemmas.List.{get_or-map, length-map}

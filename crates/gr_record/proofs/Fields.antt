@@ -1,7 +1,5 @@
 -- The fields of a record, place by place.
-use Rattle.std.proofs.Common.{◌≡◌, ℕ, zero, suc, ◌+◌, ◌<◌, ◌≤◌, Bool, true, false, List, None, arith}
-use Rattle.std.specs.Prelude.{slice_index, not, ◌==◌, ◌||◌}
-use Rattle.std.proofs.lemmas.List.{get_or-drop}
+use Rattle.std.proofs.Common.{◌≡◌, ℕ, zero, suc, ◌+◌, ◌<◌, ◌≤◌, Bool, true, false, List, None, arith, slice_index, not, ◌==◌, ◌||◌, get_or-drop}
 use Rattle.std.proofs.lemmas.Bool.Decides.{nat_tests}
 use Rattle.std.specs.List.{find, range_with_len}
 use Rattle.gr_record.specs.declared.header.Version.{Version}

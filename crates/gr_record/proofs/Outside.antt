@@ -1,6 +1,5 @@
 -- What is known of bytes that were read, from what was known of the reader.
-use Rattle.std.proofs.Common.{arith, ◌≡◌, ℕ, List, Option, None, Some, Result, Err, subst}
-use Rattle.std.specs.Prelude.{IfSome}
+use Rattle.std.proofs.Common.{arith, ◌≡◌, ℕ, List, Option, None, Some, Result, Err, subst, IfSome}
 use Rattle.gr_record.specs.declared.fault.Fault.{Fault}
 use Rattle.gr_record.specs.InputFaults.{Fails}
 

@@ -1,5 +1,5 @@
 -- A line has no line feed, and no `@` but that of its site; with its site it is read from its text, and what is read has that text.
-use Rattle.std.proofs.Common.{◌≡◌, ℕ, suc, ◌^◌, ◌<◌, Bool, true, false, List, [], ◌∷◌, ◌++◌, All, refl, ap, arith, inl, inr, ◌+◌, ◌-◌, length, take, Some, None, append_assoc}
+use Rattle.std.proofs.Common.{◌≡◌, ℕ, suc, ◌^◌, ◌<◌, Bool, true, false, List, [], ◌∷◌, ◌++◌, All, refl, ap, arith, inl, inr, ◌+◌, ◌-◌, length, take, Some, None, append_assoc, append-nil, length-append, take_at, get_or-append-add}
 use Rattle.std.specs.Prelude.{IfSome, nat_lt, not, ◌==◌, ◌&&◌, codes, decimal, ⊤, slice_index}
 use Rattle.std.proofs.lemmas.Bool.{and_parts, cases_Bool, eqb-true, eqb-false}
 use Rattle.std.proofs.lemmas.Bool.Decides.{nat_tests}
@@ -20,7 +20,6 @@ use Rattle.gr_text.specs.LineLaws.{IsSaid, IsSiteOf, SitedTextIsRead, SitedReadI
 use Rattle.gr_text.specs.LineReading.{line_said, IsWithout, behind_mark, cut_at, unspaced, site_said, sited_said}
 use Rattle.gr_text.specs.LineText.{line_text, sited_text, site_text, name_words, names_words, atomic_words, first_word, later_words, later_text, header_words}
 use Rattle.gr_text.proofs.LineWords.{are, are-append, are_weaker, are_without, is_digit, decimal_digits, first_back, first_found, short_again}
-use Rattle.std.proofs.lemmas.List.{append-nil, length-append, take_at, get_or-append-add}
 use Rattle.gr_record.specs.Versions.{has_sites}
 use Rattle.gr_text.proofs.LinesFound.{short_told, read_is_text}
 use Rattle.gr_text.proofs.LineNumbers.{each_some}

@@ -1,6 +1,5 @@
 -- What bytes have before their first fault, as loops find it, and that their text is the text of that.
-use Rattle.std.proofs.Common.{◌≡◌, ℕ, suc, ◌+◌, List, [], ◌++◌, length, map, Option, Some, None, Result, Ok, Err, refl, sym, ap, ◌∙◌, append_assoc, arith, inl, inr, ◌⊎◌, zero, ◌∷◌, subst, IfSome, IsOk}
-use Rattle.std.specs.List.{flat_map}
+use Rattle.std.proofs.Common.{◌≡◌, ℕ, suc, ◌+◌, List, [], ◌++◌, length, map, Option, Some, None, Result, Ok, Err, refl, sym, ap, ◌∙◌, append_assoc, arith, inl, inr, ◌⊎◌, zero, ◌∷◌, subst, IfSome, IsOk, flat_map, ◌==◌}
 use Rattle.std.proofs.lemmas.Bool.{cases_Bool}
 use Rattle.std.proofs.lemmas.List.{append-nil, nil_from_length}
 use Rattle.std.proofs.lemmas.List.Concat.{flat_map-append}
@@ -16,7 +15,6 @@ use Rattle.gr_record.specs.WholeStreams.{front_header_at, front_records_at, stre
 use Rattle.gr_text.specs.Dumps.{WholeStream, parts_in, dumped, stream_at, streams_at, streams_in}
 use Rattle.gr_text.specs.Texts.{header_line, record_line, whole_line, ◌>>=◌}
 use Rattle.gr_text.specs.Partial.{front_at, lines_before, text_before_fault, WholeStreamsStandWhole, IsRefusedAtHeader, IsRefusedBehind, StandsBefore, RefusedIsToldUpToItsFault}
-use Rattle.std.specs.Prelude.{◌==◌}
 use Rattle.std.proofs.lemmas.List.Elements.{All-cons, All-nil}
 use Rattle.std.specs.Io.KnownBytes.{Appends}
 use Rattle.gr_record.specs.declared.fault.Fault.{Fault}

@@ -1,6 +1,5 @@
 -- What a text says, line by line, as a loop reads it.
-use Rattle.std.proofs.Common.{◌≡◌, arith, ℕ, List, ◌∷◌, ◌++◌, Option, Some, None, Result, Ok, sym, ap, ◌∙◌, append_assoc}
-use Rattle.std.specs.Prelude.{IfSome}
+use Rattle.std.proofs.Common.{◌≡◌, arith, ℕ, List, ◌∷◌, ◌++◌, Option, Some, None, Result, Ok, sym, ap, ◌∙◌, append_assoc, IfSome}
 use Rattle.gr_record.specs.declared.header.Version.{Version}
 use Rattle.gr_record.specs.declared.fault.Fault.{Fault}
 use Rattle.gr_text.specs.declared.line.SitedLine.{SitedLine}

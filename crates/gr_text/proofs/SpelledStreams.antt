@@ -1,9 +1,8 @@
 -- The bytes of whole streams are dumped and their text is packed; and what is packed is dumped again, what is dumped packed again.
-use Rattle.std.proofs.Common.{◌≡◌, ℕ, zero, suc, ◌+◌, ◌≤◌, false, List, [], ◌∷◌, ◌++◌, length, All, Ok, refl, sym, ap, ◌∙◌, append_assoc, arith, inl, inr, IsTrue, true≢false, ◌-◌, ◌^◌, ◌<◌, map}
+use Rattle.std.proofs.Common.{◌≡◌, ℕ, zero, suc, ◌+◌, ◌≤◌, false, List, [], ◌∷◌, ◌++◌, length, All, Ok, refl, sym, ap, ◌∙◌, append_assoc, arith, inl, inr, IsTrue, true≢false, ◌-◌, ◌^◌, ◌<◌, map, take_at, drop_at, length-append, append-nil, flat_map}
 use Rattle.std.specs.Prelude.{◌==◌, ⊤}
 use Rattle.std.proofs.lemmas.Bool.{le-ltb, ne_eqb, cases_Bool, and_parts, ltb-true, lt-leb}
 use Rattle.std.proofs.lemmas.List.Elements.{All-head, All-tail}
-use Rattle.std.proofs.lemmas.List.{take_at, drop_at, length-append, append-nil}
 use Rattle.gr_model.specs.declared.event.Event.{Event}
 use Rattle.gr_model.specs.declared.limits.TheConstants.{MOST_ITEMS_OF_A_GROUP, MOST_RECORDS}
 use Rattle.gr_model.specs.Events.{is_end}
@@ -27,7 +26,6 @@ use Rattle.gr_text.specs.Dumps.{WholeStream, stream_at, streams_at, dumped, part
 use Rattle.gr_text.specs.Wholes.{IsWhole, bytes_of, text_of, WholeStreamsAreDumped, PackedIsDumpedAgain, WholeStreamsArePacked, DumpedIsPackedAgain}
 use Rattle.gr_text.proofs.PackedStreams.{packed_are_streams, streams_bytes}
 use Rattle.gr_text.proofs.Streaming.{streams_text, nothing_left, dumped_are_streams}
-use Rattle.std.specs.List.{flat_map}
 use Rattle.gr_record.specs.declared.header.Version.TheVariants.{One, Four}
 use Rattle.gr_text.specs.declared.line.SitedLine.{SitedLine}
 use Rattle.gr_text.specs.LineLaws.{IsSaid}

@@ -1,9 +1,7 @@
 -- The streams in a list of bytes, one after another, as a loop reads them.
-use Rattle.std.proofs.Common.{◌≡◌, ℕ, zero, suc, ◌+◌, ◌<◌, ◌≤◌, true, false, List, [], ◌∷◌, ◌++◌, length, drop, Result, Ok, Err, refl, sym, ap, ap₂, subst, ◌∙◌, append_assoc, arith, inl, inr, IsTrue, All}
-use Rattle.std.specs.Prelude.{nat_lt, ◌==◌}
+use Rattle.std.proofs.Common.{◌≡◌, ℕ, zero, suc, ◌+◌, ◌<◌, ◌≤◌, true, false, List, [], ◌∷◌, ◌++◌, length, drop, Result, Ok, Err, refl, sym, ap, ap₂, subst, ◌∙◌, append_assoc, arith, inl, inr, IsTrue, All, nat_lt, ◌==◌, flat_map}
 use Rattle.std.proofs.lemmas.Bool.{ltb-false, cases_Bool, eqb-true}
 use Rattle.std.proofs.lemmas.List.{get_or-append-add, take-append-drop, length-append, nil_from_length}
-use Rattle.std.specs.List.{flat_map}
 use Rattle.gr_record.specs.InputFaults.{Fails}
 use Rattle.gr_model.specs.declared.event.Event.{Event}
 use Rattle.gr_model.specs.declared.limits.TheConstants.{MOST_RECORDS}

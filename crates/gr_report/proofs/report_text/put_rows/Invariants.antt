@@ -1,5 +1,4 @@
-use Rattle.std.proofs.Common.{drop}
-use Rattle.std.specs.List.{flat_map}
+use Rattle.std.proofs.Common.{drop, flat_map}
 use Rattle.gr_report.proofs.PuttingLemmas.{Prefix}
 use Rattle.gr_report.proofs.report_text.put_rows.Given as goal
 

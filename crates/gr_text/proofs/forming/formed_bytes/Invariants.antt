@@ -1,5 +1,4 @@
-use Rattle.std.proofs.Common.{◌≡◌, ◌-◌, ◌++◌, length, Ok}
-use Rattle.std.specs.List.{flat_map}
+use Rattle.std.proofs.Common.{◌≡◌, ◌-◌, ◌++◌, length, Ok, flat_map}
 use Rattle.gr_text.specs.Dumps.{formed, streams_at, formed_of}
 use Rattle.gr_text.specs.Texts.{◌>>=◌}
 use Rattle.gr_text.proofs.forming.formed_bytes.Given as goal

@@ -1,8 +1,7 @@
 use Rattle.gr_model.specs.declared.event.Event.{Event}
 use Rattle.gr_record.specs.declared.error.RecordError.{RecordError}
 use Rattle.gr_record.specs.Fronts.{records_at}
-use Rattle.std.proofs.Common.{ℕ, List, [], None, Result, ◌≡◌, ◌+◌, ◌-◌, suc, append_assoc, arith}
-use Rattle.std.proofs.lemmas.List.{append-nil}
+use Rattle.std.proofs.Common.{ℕ, List, [], None, Result, ◌≡◌, ◌+◌, ◌-◌, suc, append_assoc, arith, append-nil}
 use Rattle.gr_model.specs.declared.limits.TheConstants.{MOST_RECORDS}
 use Rattle.gr_record.specs.Reading.{event_at}
 use Rattle.gr_record.specs.Versions.{record_length}

@@ -1,5 +1,4 @@
-use Rattle.std.proofs.Common.{◌≡◌, ◌++◌, [], false, List, Some, ap, sym, subst, ◌∙◌, length}
-use Rattle.std.specs.Prelude.{not, ◌==◌}
+use Rattle.std.proofs.Common.{◌≡◌, ◌++◌, [], false, List, Some, ap, sym, subst, ◌∙◌, length, not, ◌==◌}
 use Rattle.std.specs.List.{list_any}
 use Rattle.gr_model.specs.Groups.{CanAdd}
 use Rattle.gr_order.specs.Sequences.{Sequence, with_group}

@@ -1,5 +1,4 @@
-use Rattle.std.proofs.Common.{◌≡◌, ℕ, ◌++◌, false, true, true≢false, List, subst, Err, ap, sym, ◌∙◌, length, arith}
-use Rattle.std.specs.Prelude.{not, ◌==◌}
+use Rattle.std.proofs.Common.{◌≡◌, ℕ, ◌++◌, false, true, true≢false, List, subst, Err, ap, sym, ◌∙◌, length, arith, not, ◌==◌}
 use Rattle.std.specs.List.{list_any}
 use Rattle.std.proofs.lemmas.List.{length-map}
 use Rattle.gr_record.specs.declared.fault.Fault.TheVariants.{OtherLaunch, SameGroup}

@@ -1,5 +1,4 @@
-use Rattle.std.proofs.Common.{◌≡◌, false, true≢false, Option, None, Some, refl, arith, eqb-true}
-use Rattle.std.specs.Option.{is_some}
+use Rattle.std.proofs.Common.{◌≡◌, false, true≢false, Option, None, Some, refl, arith, eqb-true, is_some}
 use Rattle.std.proofs.lemmas.Bool.{eqb-false}
 use Rattle.std.proofs.lemmas.List.{length-map, nil_from_length}
 use Rattle.gr_intake.proofs.Comings.{ends_early, ends_whole}

@@ -1,5 +1,4 @@
-use Rattle.std.proofs.Common.{arith}
-use Rattle.std.proofs.lemmas.List.{length-append}
+use Rattle.std.proofs.Common.{arith, length-append}
 use Rattle.gr_intake.proofs.intake.Intake.go_on.Goals as goal
 
 pub returns-then-not-ended-clause-moves : goal.returns-then-not-ended-clause-moves

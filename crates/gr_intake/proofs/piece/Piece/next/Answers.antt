@@ -1,5 +1,4 @@
-use Rattle.std.proofs.Common.{arith}
-use Rattle.std.proofs.lemmas.Bool.{ltb-false, ltb-true}
+use Rattle.std.proofs.Common.{arith, ltb-false, ltb-true}
 use Rattle.gr_intake.proofs.Backlogs.{first_plain, none_listed}
 use Rattle.gr_intake.proofs.piece.Piece.next.Goals as goal
 

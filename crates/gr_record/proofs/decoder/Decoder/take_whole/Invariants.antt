@@ -1,5 +1,4 @@
-use Rattle.std.proofs.Common.{◌≡◌, ◌+◌, ◌≤◌, [], length}
-use Rattle.std.specs.Vec.{vec_len, vec_capacity}
+use Rattle.std.proofs.Common.{◌≡◌, ◌+◌, ◌≤◌, [], length, vec_len, vec_capacity}
 use Rattle.gr_record.specs.declared.stop.Stop.TheVariants.{Inside}
 use Rattle.gr_record.specs.Decoding.{units_in, Continues}
 use Rattle.gr_record.proofs.decoder.Decoder.take_whole.Given as goal
