@@ -1,4 +1,4 @@
--- The words that are hit in what some worker was given, and that they are the races.
+-- The words that are hit in what some worker got are the races.
 use Rattle.std.proofs.Common.{◌≡◌, ◌⊎◌, ◌↔◌, ◌==◌, ℕ, ◌<◌, ◌≤◌, true, List, [], ◌∷◌, ◌++◌, length, get_or, refl, sym, ◌∙◌, subst, inl, inr, ⊎_elim, arith, append-nil, eq-eqb}
 use Rattle.std.specs.Prelude.{Contains}
 use Rattle.std.proofs.lemmas.Bool.{cases_lt}
@@ -48,7 +48,7 @@ hit_goes : (workers k : ℕ) (v : Word) (accesses : List ClockedAccess) → IsHi
 hit_goes workers k v accesses (p, q, x, y, before, first, second, clash) = grind (arith, filter-there)
 
 module _ {A : Type 0} (config : Settings) (is : IsConfig config) (seq : Sequence) (takers : List Taker) (givers : List (Giver A)) (worker_count : length givers ≡ config.workers) (whole : IsWhole config seq takers givers) where
-  -- what a worker was given are the accesses to its words
+  -- a worker got all accesses to its words
   given_is : (k : ℕ) → k < config.workers → get_or (given_of givers) k [] ≡ accesses_for config.workers k whole.passed.0
   given_is k lt = sym (whole.passed.2 k lt ∙ append-nil (get_or (given_of givers) k []))
 

@@ -1,4 +1,4 @@
--- What was taken is what was sent, where all ends were popped.
+-- What was taken is what was sent, if all ends were popped.
 use Rattle.std.proofs.Common.{◌≡◌, ◌==◌, ℕ, suc, ◌<◌, ◌%◌, IsTrue, List, [], ◌∷◌, length, map, get_or, sym, ap, ◌∙◌, arith}
 use Rattle.std.specs.Prelude.{All, filter}
 use Rattle.std.specs.List.{range_with_len}
@@ -17,7 +17,7 @@ use Rattle.gr_sequencer_thread.specs.Feeds.{AreTaken}
 use Rattle.gr_detector.specs.Runs.{IsEachOnce, IsOfRun, Run, sent_by, sent_of}
 use Rattle.gr_detector.specs.Settling.{AreHere, ArePopped, popped_at, pops_of}
 
--- of a group that is there once, what was popped is what its receipt has
+-- if a group has one receipt, what was popped of it is what the receipt has
 sent_is : (pops : List (List Sent)) (g : ℕ) (receipts : List Seat) → IsTrue (is_complete (popped_at pops g)) → ArePopped pops receipts → length (filter (λ (r : Seat). r.group == g) receipts) ≡ 1 → popped_at pops g ≡ sent_of g receipts
 sent_is pops g [] whole told once = absurd (omega (arith, once))
 sent_is pops g (r ∷ receipts) whole told once = grind (arith, nat_tests, told.0.whole, sent_is pops g receipts whole told.1)
@@ -45,7 +45,7 @@ module _ (config : Settings) (is : IsConfig config) (seq : Sequence) (sequence :
       ∙ sym (get_or-map-range_with_len (λ h. sent_of h receipts) 0 n g g [] there (omega arith)))) in
       λ k. record { sizes = seq.taken.sizes; lists = lists k }
 
--- receipts of a run are each of the queue of its group
+-- each receipt of a run is of the queue of its group
 pub are_here : (run : Run) (intakes : List TableId) (receipts : List Seat) → run.intakes ≡ intakes → length intakes ≡ run.config.queues → All (λ r. IsOfRun run r.group r.queue) receipts → AreHere intakes receipts
 are_here run intakes [] same count all = tt
 are_here run intakes (r ∷ receipts) same count all = (

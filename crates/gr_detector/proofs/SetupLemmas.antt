@@ -1,4 +1,4 @@
--- What a run is set up of, one queue, one sender and one worker after another.
+-- The parts of a run: one queue, one sender and one worker after another.
 use Rattle.std.proofs.Common.{refl, ◌⊎◌, ◌≡◌, ◌≢◌, ℕ, ◌+◌, ◌<◌, ◌%◌, List, [], ◌∷◌, ◌++◌, length, get_or, set, Some, slice_get, arith}
 use Rattle.std.proofs.Math.ListN.{get_or-eq_default}
 use Rattle.std.proofs.Math.Nat.{mod-lt}
@@ -15,7 +15,7 @@ use Rattle.gr_sequencer_thread.specs.Feeds.{AreSeated, intakes_of}
 use Rattle.gr_detector.specs.Runs.{AreSendersOf, Run}
 use Rattle.gr_detector.specs.Setups.{AreOpenBelow, AreSeatedBelow, IsOpenSender}
 
--- one sender more
+-- one more sender
 pub open_more : (n : ℕ) (sizes : List ℕ) (intakes : List TableId) (senders : List Sending) (s : Sending) → length senders ≡ n → AreOpenBelow n sizes intakes senders → IsOpenSender sizes intakes n s → AreOpenBelow (n + 1) sizes intakes (senders ++ s ∷ [])
 open_more n sizes intakes senders s count each here g d lt = rows.each_push (IsOpenSender sizes intakes) d senders (senders ++ s ∷ []) s n count (λ k. each k d) here refl g lt
 
@@ -60,7 +60,7 @@ module _ (n : ℕ) (sizes : List ℕ) (takers : List Taker) (was : AreSeatedBelo
   pub first : get_or t.sizes n 0 ≡ 0
   first = grind (arith, at, was.later q n t, mod-lt n some)
 
--- all groups have had theirs
+-- all groups have had their seats
 pub all_seated : (config : Settings) (sizes : List ℕ) (takers : List Taker) → length takers ≡ config.queues → AreSeatedBelow (length sizes) sizes takers → AreSeated config sizes takers
 all_seated config sizes takers count below q g d lt = grind (arith, nat_tests, count, below.seated q g d, below.later q g d, below.others q g d, get_or-eq_default sizes 0)
 

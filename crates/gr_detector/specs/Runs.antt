@@ -13,13 +13,13 @@ use Rattle.gr_threads.specs.Senders.{Sending}
 use Rattle.gr_sequencer_thread.specs.Ends.{Begin}
 use Rattle.gr_sequencer_thread.specs.Feeds.{intakes_of, works_of}
 
--- how it is set up, the items of each work-group, and its intake queues
+-- its configuration, the items of each work-group, and its intake queues
 pub record Run : Type 0 where
   pub config : Settings
   pub sizes : List ℕ
   pub intakes : List TableId
 
--- a group's seat is of the queue that the group's events go to
+-- the group is one of the run, and this is the queue that its events go to
 pub record IsOfRun (run : Run) (group : ℕ) (queue : TableId) : Type 0 where
   pub there : group < length run.sizes
   pub here : slice_get run.intakes (group % run.config.queues) ≡ Some queue
@@ -45,7 +45,7 @@ worker_queues workers = map (λ w. w.queue) workers
 abbrev pub AreReceiptsOf : Run → List Seat → Type 0
 AreReceiptsOf run receipts = All (λ r. IsOfRun run r.group r.queue) receipts
 
--- each of so many groups has exactly one receipt among these
+-- each of this many groups has exactly one receipt among these
 abbrev pub IsEachOnce : ℕ → List Seat → Type 0
 IsEachOnce groups receipts = (g : ℕ) → g < groups → length (filter (λ r. r.group == g) receipts) ≡ 1
 
@@ -58,7 +58,7 @@ sent_of g (r ∷ receipts) = if r.group == g then r.pushed else sent_of g receip
 abbrev pub sent_by : List ℕ → List Seat → Streams
 sent_by sizes receipts = record { sizes = sizes; lists = map (λ g. sent_of g receipts) (range_with_len 0 (length sizes)) }
 
--- what a run knows of its threads: the sequencer's pushes to the queues that the workers pop from
+-- the sequencer pushes to the queues that the workers pop from
 abbrev pub IsRunning : {A : Type 0} → Begin A → List (Worker A) → Type 0
 IsRunning begin workers = worker_queues workers ≡ works_of begin.givers
 

@@ -1,4 +1,4 @@
--- What is found as the threads and the seats of a run are joined.
+-- What is known after the threads and the seats of a run are joined.
 -- Source: docs/QUEUES.md, "The intake queue" and "The work queue".
 use Rattle.std.specs.Prelude.{◌≡◌, ℕ, ◌<◌, ◌%◌, List, [], ◌∷◌, length, map, slice_get, slice_index_or, Some, IsTrue, ⊤}
 use Rattle.atomic_table.specs.Seated.{TableId}
@@ -14,7 +14,7 @@ use Rattle.gr_shadow.specs.Clashes.{ClockedAccess, IsHitIn}
 abbrev pub pops_of : List Taker → List (List Sent)
 pops_of takers = map (λ (t : Taker). t.popped) takers
 
--- what was popped of a group, whose queue is told by its number
+-- what was popped of a group, whose queue follows from its number
 abbrev pub popped_at : List (List Sent) → ℕ → List Event
 popped_at pops g = events_of g (slice_index_or pops (g % length pops) [])
 
@@ -23,7 +23,7 @@ abbrev pub AreHere : List TableId → List Seat → Type 0
 AreHere intakes [] = ⊤
 AreHere intakes (r ∷ receipts) = (slice_get intakes (r.group % length intakes) ≡ Some r.queue) × AreHere intakes receipts
 
--- of each receipt's group, what was popped is a prefix of what was pushed, and all of it where it is complete
+-- what was popped of the receipt's group is a prefix of what was pushed, and is all of it if it has its end
 pub record IsPopped (pops : List (List Sent)) (r : Seat) : Type 0 where
   pub prefix : StartsWith r.pushed (popped_at pops r.group)
   pub whole : IsTrue (is_complete (popped_at pops r.group)) → popped_at pops r.group ≡ r.pushed
@@ -32,6 +32,6 @@ abbrev pub ArePopped : List (List Sent) → List Seat → Type 0
 ArePopped pops [] = ⊤
 ArePopped pops (r ∷ receipts) = IsPopped pops r × ArePopped pops receipts
 
--- a word is hit in the accesses that some worker was given
+-- a word is hit in the accesses that some worker got
 abbrev pub IsHitAmong : List (List ClockedAccess) → Word → Type 0
 IsHitAmong given w = (k : ℕ) × (k < length given) × IsHitIn (slice_index_or given k []) w

@@ -1,17 +1,17 @@
-//! Why a run doesn't start, and why it has no report.
+//! Why a run doesn't start, and why it gives no report.
 
 use crate::running::Running;
 use gr_threads::receipt::Receipt;
 use std::alloc::{Allocator, Global};
 use thiserror::Error;
 
-/// Why a run was not started. No thread of it is left.
+/// Why a run was not started. All its threads have then ended.
 #[derive(Clone, Copy, Debug, PartialEq, Eq, Error)]
 pub enum StartError {
     /// An allocation was refused before any thread was started.
     #[error("out of memory")]
     Memory,
-    /// A thread could not be started, for whatever cause.
+    /// A thread could not be started, for any cause.
     #[error("a thread could not be started")]
     Threads,
 }
@@ -19,8 +19,8 @@ pub enum StartError {
 /// Why a run has no report.
 #[derive(Drop)]
 pub enum FinishError<A: Allocator = Global> {
-    /// Not every work-group has one receipt. The run goes on, and it and the receipts are here.
+    /// Some work-group has no receipt, or more than one. The run goes on; these are the run and the receipts.
     Receipts(Running<A>, Vec<Receipt<A>, A>),
-    /// Memory ran out, in whichever thread. The run is over: all its threads have ended, and the receipts are gone.
+    /// Memory ran out in some thread. The run is over: all its threads have ended, and the receipts are used up.
     Memory,
 }

@@ -1,4 +1,4 @@
-//! The end of a run: receipts are counted, and all seats are joined back.
+//! The end of a run: the receipts are counted, and all seats are joined back.
 
 ghost use Rattle.std.specs.Prelude.{◌≡◌, ◌↔◌, ◌<◌, ◌++◌, ◌∷◌, ◌==◌, [], List, IfOk, IsTrue, filter, length};
 ghost use Rattle.gr_model.specs.Reports.{Lists, WordBelow};
@@ -20,7 +20,7 @@ use gr_threads::worker_thread::WorkerThread;
 use std::alloc::Allocator;
 use std::thread::Threads;
 
-/// How many of the receipts are a group's.
+/// The number of receipts of a group.
 fn count_of<A: Allocator>(receipts: &[Receipt<A>], group: u16) -> usize
     ensures { result ≡ length (filter (λ r. r.group == group) receipts.now) }
 {
@@ -30,7 +30,7 @@ fn count_of<A: Allocator>(receipts: &[Receipt<A>], group: u16) -> usize
         .count()
 }
 
-/// Whether the receipts are those of so many groups in their order, one for each.
+/// Whether there is one receipt of each group, in the order of the groups.
 fn are_in_order<A: Allocator>(receipts: &[Receipt<A>], groups: u16) -> bool
     ensures { IsTrue result → IsEachOnce groups receipts.now }
 {
@@ -45,7 +45,7 @@ fn are_in_order<A: Allocator>(receipts: &[Receipt<A>], groups: u16) -> bool
     true
 }
 
-/// Whether each of so many groups has one receipt. Receipts in the order of the groups, as they mostly come, are looked at once.
+/// Whether each group has one receipt. Receipts mostly come in the order of the groups; they are then looked at only once.
 pub(crate) fn has_each_once<A: Allocator>(receipts: &[Receipt<A>], groups: u16) -> bool
     ensures { IsTrue result ↔ IsEachOnce groups receipts.now }
 {
@@ -60,8 +60,8 @@ pub(crate) fn has_each_once<A: Allocator>(receipts: &[Receipt<A>], groups: u16) 
     true
 }
 
-/// Joins back the seats of all receipts, each to the seat that popped its events. Of each receipt's group, what was popped is
-/// a prefix of what was sent, whether memory ran out or not.
+/// Joins the seat of each receipt back to the seat that popped its events. What was popped of a receipt's group is then a
+/// prefix of what was sent, even if memory ran out.
 pub(crate) fn join_intakes<A: Allocator>(
     inlets: &mut Vec<Inlet<A>, A>,
     receipts: Vec<Receipt<A>, A>,
@@ -76,7 +76,7 @@ pub(crate) fn join_intakes<A: Allocator>(
     }
 }
 
-/// The words of two lists, where memory sufficed for both.
+/// The words of both lists, or `Memory` if one of them is.
 fn merge_all<A: Allocator + Copy>(
     alloc: A,
     words: Result<Vec<Word, A>, Memory>,
@@ -89,11 +89,11 @@ fn merge_all<A: Allocator + Copy>(
     merge(alloc, &words, &more)
 }
 
-/// Joins all workers, and then their queues' seats, and tells the words that are hit in the accesses that some worker was
-/// given, in ascending order, each once.
+/// Joins all workers, and the seats of their queues. Returns all words that are hit in the accesses that some worker got, in
+/// ascending order, each once.
 ///
 /// # Errors
-/// `Memory`, where it ran out in whichever worker, too. All workers are joined all the same.
+/// `Memory`, also if it ran out in some worker. All workers are joined even so.
 pub(crate) fn settle_all<R: Threads, A: Allocator + Copy>(
     rt: &R,
     alloc: A,

@@ -1,5 +1,5 @@
-//! A run in threads: one sequencer and some workers, each on a thread of its own, from the start, which gives a sender for
-//! each work-group, to the report.
+//! A run in threads. One sequencer and some workers have a thread each. The start gives a sender for each work-group; the end
+//! gives the report.
 #![tactic(auto)]
 
 pub mod error;

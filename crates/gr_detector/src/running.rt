@@ -1,6 +1,6 @@
-//! A run whose threads run.
+//! A run whose threads were started.
 //!
-//! Invariant: the queues that the workers pop from are those that the sequencer pushes to, in order.
+//! Invariant: the workers pop from the queues to which the sequencer pushes, in order.
 
 ghost use Rattle.std.specs.Prelude.{◌≡◌, IfErr, IfOk, length};
 ghost use Rattle.gr_model.specs.Reports.{IsReportOf};
@@ -19,7 +19,7 @@ use std::alloc::{Allocator, Global};
 use std::marker::Model;
 use std::thread::Threads;
 
-/// A run whose threads run. Contracts see how it is set up, the items of each work-group, and its intake queues.
+/// A run whose threads were started. Contracts see its configuration, the items of each work-group, and its intake queues.
 #[derive(Drop)]
 pub struct Running<A: Allocator = Global> {
     alloc: A,
@@ -61,13 +61,13 @@ impl<A: Allocator> Running<A> {
 }
 
 impl<A: Allocator + Copy> Running<A> {
-    /// Joins all threads and then all seats, and gives the report of what was sent, which the receipts have. It waits until
-    /// all streams have their ends and all of them was handled.
+    /// Joins all threads and all seats, and gives the report of the events that were sent; the receipts say which these are.
+    /// It waits until all streams have ended and all that can be handled was handled.
     /// Requires: each receipt is of a work-group of this run, from the sender that `start` gave for it.
     ///
     /// # Errors
-    /// `Receipts` where not every work-group has one receipt, with the run and the receipts: nothing has then happened.
-    /// Else `Memory`, where it ran out in whichever thread; the run is then over.
+    /// `Receipts` if some work-group has no receipt or more than one. It gives the run and the receipts back, unchanged.
+    /// Else `Memory` if memory ran out in some thread. The run is then over.
     pub fn finish<R: Threads>(
         self,
         rt: &R,

@@ -1,4 +1,4 @@
-//! What a run is set up of: its queues, the seats at both ends of each, and the senders.
+//! The parts of a run: its queues, the seats at both ends of each, and the senders.
 
 ghost use Rattle.std.specs.Prelude.{◌≡◌, ◌<◌, ◌≤◌, [], IfOk, length};
 ghost use Rattle.gr_sequencer_thread.specs.Feeds.{intakes_of, works_of};
@@ -17,7 +17,7 @@ use gr_threads::worker::Worker;
 use std::alloc::Allocator;
 use std::sync::Arc;
 
-/// The ends of the intake queues, which are new.
+/// New intake queues: the ends that the sequencer pops from.
 pub(crate) fn inlets_of<A: Allocator + Copy>(
     alloc: A,
     config: Config,
@@ -33,8 +33,8 @@ pub(crate) fn inlets_of<A: Allocator + Copy>(
     Ok(inlets)
 }
 
-/// The senders of all work-groups of a launch of this shape, in order. The events of each go to the queue whose number is
-/// the group's modulo the number of queues.
+/// The senders of all work-groups of a launch of this shape, in order. The events of a group go to the queue whose number is
+/// the group's number modulo the number of queues.
 pub(crate) fn senders_of<A: Allocator + Copy>(
     alloc: A,
     shape: &Shape<A>,
@@ -57,7 +57,7 @@ pub(crate) fn senders_of<A: Allocator + Copy>(
     Ok(senders)
 }
 
-/// A new queue's end for the sequencer, and the worker with a number that pops from it.
+/// A new queue: the end that the sequencer pushes to, and the worker with this number, which pops from it.
 fn line_of<A: Allocator + Copy>(
     alloc: A,
     number: u16,
@@ -76,7 +76,7 @@ fn line_of<A: Allocator + Copy>(
     Ok((Outlet::new(queue, giver), Worker::new(number, theirs, seat)))
 }
 
-/// The ends of the workers' queues, which are new, and the workers, in order.
+/// New work queues: the ends that the sequencer pushes to, and the workers, in order.
 pub(crate) fn workers_of<A: Allocator + Copy>(
     alloc: A,
     config: Config,

@@ -23,7 +23,7 @@ use std::sync::{Arc, Wait};
 use std::thread::Threads;
 use std::time::Clock;
 
-/// The workers of a run, with room for all their threads and for what these leave.
+/// The workers of a run, with room for their threads and for what these leave.
 #[derive(Drop)]
 struct Crew<A: Allocator> {
     workers: Vec<Worker<A>, A>,
@@ -31,14 +31,14 @@ struct Crew<A: Allocator> {
     ends: Vec<WorkerEnd<A>, A>,
 }
 
-/// What a run is set up of.
+/// All parts of a run.
 struct Setup<A: Allocator> {
     senders: Vec<Sender<A>, A>,
     begin: Begin<A>,
     crew: Crew<A>,
 }
 
-/// Makes all that a run needs, before any thread is started.
+/// Makes all parts of a run, before any thread is started.
 fn set_up<A: Allocator + Copy>(
     alloc: A,
     shape: Shape<A>,
@@ -68,7 +68,7 @@ fn set_up<A: Allocator + Copy>(
     })
 }
 
-/// Starts the threads of all workers, in order. Where one can't be started, the threads of those before it come back.
+/// Starts the threads of all workers, in order. If one can't be started, returns the threads before it.
 fn start_all<
     R: Threads + Wait + Clock + Copy + Send + 'static,
     A: Allocator + Copy + Send + Sync + Drop + 'static,
@@ -108,15 +108,15 @@ fn start_one<
     WorkerThread::start(rt, alloc, worker, watch)
 }
 
-/// What the threads of a run are, once all of them were started: the sequencer's and the workers', with the senders.
+/// The threads of a run, once all are started, and the senders.
 struct Started<A: Allocator> {
     senders: Vec<Sender<A>, A>,
     sequencer: SequencerThread<A>,
     threads: Vec<WorkerThread<A>, A>,
 }
 
-/// Starts the threads of all workers, where that of the sequencer was started. Where one can't be started, the run is
-/// stopped: what its threads leave comes back, that of the sequencer and those of the workers before it.
+/// Starts the threads of all workers, after that of the sequencer. If one can't be started, the run is stopped. Returns then
+/// what the threads leave: that of the sequencer and those of the workers before it.
 fn start_workers<
     R: Threads + Wait + Clock + Copy + Send + 'static,
     A: Allocator + Copy + Send + Sync + Drop + 'static,
@@ -153,10 +153,10 @@ fn start_workers<
 }
 
 /// Starts a run of a launch of this shape: a thread for the sequencer, and one for each worker. Gives a sender for each
-/// work-group, in order, which has sent nothing and may send a stream of any length. `watch` is shared by all threads.
+/// work-group, in order. Each has sent nothing and may send a stream of any length. All threads share `watch`.
 ///
 /// # Errors
-/// `Memory`, and else `Threads` where a thread could not be started, for whatever cause. No thread of the run is then left.
+/// `Memory`, or `Threads` if a thread could not be started, for any cause. All threads of the run have then ended.
 ///
 /// # Example
 /// ```rust

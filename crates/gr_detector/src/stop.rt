@@ -1,6 +1,6 @@
-//! The end of a run of which not all threads could be started.
+//! The end of a run that could not start all its threads.
 //!
-//! What a thread leaves is a value that only its join gives. So whoever has those of all queues has joined all threads.
+//! Only the join of a thread gives the value that it leaves. So a caller that has the values of all threads has joined them all.
 
 ghost use Rattle.std.specs.Prelude.{◌≡◌, ◌≤◌, [], vec_capacity, vec_len};
 ghost use Rattle.gr_sequencer_thread.specs.Ends.{begin_line, end_line};
@@ -16,23 +16,23 @@ use std::sync::Wait;
 use std::thread::Threads;
 use std::time::Clock;
 
-/// What the threads of a run leave that was stopped.
+/// What the threads of a stopped run leave.
 #[derive(Drop)]
 pub(crate) struct Stopped<A: Allocator> {
     pub(crate) sequencer: SequencerEnd<A>,
     pub(crate) workers: Vec<WorkerEnd<A>, A>,
 }
 
-/// Gives all streams their ends.
+/// Ends all streams.
 fn close_all<R: Wait + Clock, A: Allocator>(rt: &R, senders: Vec<Sender<A>, A>) {
     for sender in senders {
         let mut sender = sender;
-        // It refuses nothing: the sender is open, and waits until there is room.
+        // This does not fail: the sender is open, and waits until there is room.
         let _ = sender.close_wait(rt, true);
     }
 }
 
-/// Joins the threads of workers, and gives what they leave, in order.
+/// Joins the threads of workers. Returns what they leave, in order.
 /// Requires: there is room for it.
 fn join_workers<R: Threads, A: Allocator>(
     rt: &R,
@@ -51,7 +51,7 @@ fn join_workers<R: Threads, A: Allocator>(
     ends
 }
 
-/// Ends the threads of a run in which a worker's is missing, and gives what they leave.
+/// Ends the threads of a run that lacks the thread of a worker. Returns what they leave.
 /// Requires: there is room for it.
 pub(crate) fn stop<R: Threads + Wait + Clock, A: Allocator>(
     rt: &R,

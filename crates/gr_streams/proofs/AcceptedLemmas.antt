@@ -1,4 +1,4 @@
--- Of a list that its group may have, each event is sent, and as it is.
+-- If a group may have a list of events, each of them is sent, and as it is.
 use Rattle.std.proofs.Common.{◌≡◌, ℕ, zero, suc, ◌+◌, ◌≤◌, Bool, List, [], ◌∷◌, ◌++◌, length, map, refl, sym, subst, arith, inl, inr, true≢false}
 use Rattle.std.specs.Prelude.{IsFalse}
 use Rattle.std.proofs.lemmas.Bool.{cases_Bool}

@@ -1,4 +1,4 @@
--- Inputs whose headers and records are read apart are read as streams.
+-- Inputs are the same streams if their headers and their records are read separately.
 use Rattle.std.proofs.Common.{◌≡◌, ℕ, Bool, List, [], ◌∷◌, ◌++◌, length, Result, Ok, Err, refl, ap, arith}
 use Rattle.std.specs.Prelude.{not, ◌==◌, ◌||◌}
 use Rattle.std.specs.List.{list_any}

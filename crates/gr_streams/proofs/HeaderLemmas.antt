@@ -1,4 +1,4 @@
--- A header at the front of bytes, behind other headers.
+-- A header at the front of bytes, after other headers.
 use Rattle.std.proofs.Common.{◌≡◌, ℕ, ◌<◌, ◌≤◌, List, [], ◌++◌, length, Option, None, Some, Result, Ok, refl, sym, ap, ◌∙◌, subst, arith, inl, inr, append-nil}
 use Rattle.std.specs.Prelude.{IfSome}
 use Rattle.std.specs.Io.KnownBytes.{Consumes, IsAtEnd}
@@ -12,7 +12,7 @@ use Rattle.gr_replay.proofs.Alone.{header_long}
 use Rattle.gr_streams.specs.Headers.{header_behind}
 use Rattle.gr_streams.specs.Sources.{IsHeaded}
 
--- bytes that are a header's and no more
+-- the bytes of a header, and no more
 pub is_headed : (prefix : List ℕ) (h : Header) (rest : List ℕ) → length prefix ≤ HEADER_LENGTH → front_header_at prefix ≡ Ok (h, rest) → IsHeaded h prefix
 is_headed prefix h rest le found =
     let long = header_long prefix (h, rest) found in

@@ -24,7 +24,7 @@ pub if_any : {X : Type 0} (o : Option X) (P : X → Type 0) → ((x : X) → o �
 if_any None P p = tt
 if_any (Some x) P p = p x refl
 
--- of readers of which some were read, and then one more
+-- some readers were read, and then one more
 pub known_so_far : (ks ms : List (Option (List ℕ))) (o : Option (List ℕ)) (P : List (List ℕ) → Type 0) (B : List ℕ → Type 0) (Q : List (List ℕ) → Type 0)
     → IfSome (all_known ks) P → IfSome o B → ((xs : List (List ℕ)) (b : List ℕ) (ys : List (List ℕ)) → all_known ms ≡ Some ys → P xs → B b → Q (xs ++ b ∷ ys)) → IfSome (all_known (ks ++ o ∷ ms)) Q
 known_so_far [] ms None P B Q p b go = tt

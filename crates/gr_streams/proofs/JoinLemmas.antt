@@ -14,7 +14,7 @@ use Rattle.gr_streams.specs.Records.{and_one, events_at, lists_behind}
 use Rattle.gr_streams.specs.Sources.{AreBegun, AreEndsOf, ArePlaced, AreServed, Begun, HasSender, IsEndOf}
 use Rattle.gr_streams.specs.declared.forward.Ended.{Ended}
 
--- ---- nothing is left
+-- ---- before the first stream
 
 pub all_yielded : {X : Type 0} (ys left all : List X) → ys ++ left ≡ all → length left ≡ 0 → ys ≡ all
 all_yielded ys left all is none = sym (append-nil ys) ∙ (ap (λ (l : List _). ys ++ l) (sym (nil_from_length left none)) ∙ is)
@@ -27,12 +27,12 @@ all_joined ys left all is none = all_yielded ys (all_of left) all is (ap (λ (l 
 pub has_place : (senders : List (Option Sending)) (g : ℕ) → HasSender senders g → g < length senders
 has_place senders g (s, at) = grind (arith, cases_lt g (length senders), get_or_past senders g None)
 
--- those that are left were there
+-- the senders that remain were there
 pub was_there : (senders : List (Option Sending)) (group : ℕ) → group < length senders → (g : ℕ) (s : Sending)
     → get_or (set senders group None) g None ≡ Some s → get_or senders g None ≡ Some s
 was_there senders group lt g s at = grind (arith, cases_eq g group, get_or-set_same senders group None None lt, get_or-set_other senders group g None None)
 
--- ---- the headers that are left
+-- ---- the headers that remain
 
 pub apart_head : (h : Header) (hs : List Header) → AreApart (h ∷ hs) → (x : Header) → Contains hs x → x.group ≢ h.group
 apart_head h hs apart x (k, lt, is) same = apart 0 (suc k) x (omega arith) (omega arith) (sym same ∙ ap (λ (y : Header). y.group) (sym is))
@@ -97,7 +97,7 @@ pub placed_prefix : (bs : List Begun) (b : Begun) → ArePlaced 0 (bs ++ b ∷ [
 placed_prefix bs b placed =
     (λ k d lt. grind (arith, places, placed k d), grind (arith, places, placed (length bs) b))
 
--- the streams that the last of some ends are of
+-- the ends are those of some streams, and of one more
 pub one_end : {A : Type 0} (bs : List Begun) (es : List (Ended A)) (e : Ended A) → AreEndsOf bs (es ++ e ∷ []) → (cs : List Begun) × (b : Begun) × (bs ≡ cs ++ b ∷ []) × AreEndsOf cs es × IsEndOf b e.receipt e.fault
 one_end [] [] e are = absurd are
 one_end [] (x ∷ es) e are = absurd are

@@ -1,4 +1,4 @@
--- What a stream is told by, read piece by piece, and read as a whole.
+-- The outcome of a stream is the same, read piece by piece or as a whole.
 use Rattle.std.proofs.Common.{◌≡◌, ℕ, ◌≤◌, List, [], length, take, drop, Some, Result, Ok, Err, refl, sym, ap, ◌∙◌, arith}
 use Rattle.std.proofs.lemmas.Bool.{le-ltb}
 use Rattle.std.proofs.lemmas.List.{length-take, take-append-drop}
@@ -30,7 +30,7 @@ its_header bytes long =
     let len : length (take HEADER_LENGTH bytes) ≡ HEADER_LENGTH = omega (arith, length-take HEADER_LENGTH bytes, long) in
     ap header_at (sym (take-append-drop HEADER_LENGTH bytes)) ∙ same_header (drop HEADER_LENGTH bytes) (take HEADER_LENGTH bytes) len
 
--- a stream that is read piece by piece is told as one that is read as a whole
+-- the events of a stream that is read piece by piece
 pub events_told : (place : ℕ) (bytes : List ℕ) → events_at place bytes ≡ at_place place (told_by (reading MOST_RECORDS bytes).stop (reading MOST_RECORDS bytes).events)
 unfolding events_at front_header_at front_records_at read_from
 events_told place bytes = grind (arith, its_header bytes)

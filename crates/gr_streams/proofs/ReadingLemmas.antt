@@ -1,4 +1,4 @@
--- What reading a stream leaves tells what its bytes are.
+-- What a stream leaves after it is read agrees with its bytes.
 use Rattle.std.proofs.Common.{◌≡◌, ℕ, ◌≤◌, Bool, true, false, List, [], ◌++◌, length, take, Option, None, Some, Result, Err, refl, sym, ap, ◌∙◌, subst, arith, append_assoc}
 use Rattle.std.specs.Prelude.{IfErr, IfOk, IfSome, IsTrue}
 use Rattle.std.specs.Io.KnownBytes.{Consumes, prepend_known}
@@ -28,11 +28,11 @@ fault_tells : (place : ℕ) (bytes : List ℕ) (pushed : List Event) (e : Record
 fault_tells place bytes pushed errors.Memory is = ((λ e. absurd cc), tt)
 fault_tells place bytes pushed e is = ((λ k. absurd cc), rw (events_told place bytes, is) refl)
 
--- where a decoder stops, reading stops
+-- reading stops where the decoder stops
 stops : (fed : List ℕ) (d : Standing) (s : Sending) (refused : Bool) → IsFed fed d s refused → d.stop ≡ (reading MOST_RECORDS fed).stop
 stops fed d s refused f = ap (λ (x : Standing). x.stop) f.stands ∙ ap (λ n. (reading n fed).stop) f.limit
 
--- a piece at fault, whatever follows it
+-- a piece with a fault, whatever follows it
 pub refused_tells : (place : ℕ) (fed rest : List ℕ) (pushed : List Event) (d : Standing) (s : Sending) (refused : Bool) (result : Result (Unit {0}) RecordError) (e : RecordError) → result ≡ Err e → (HasMemory result → result ≡ answer d.stop) → (HasMemory result → IsFed fed d s refused)
     → Tells (events_at place (fed ++ rest)) pushed (Some (stream_fault place e))
 refused_tells place fed rest pushed d s refused result errors.Memory is fault f = ((λ e. absurd cc), tt)
@@ -75,7 +75,7 @@ still_headed h fed read headed =
 pub regroup : (fed read piece rest : List ℕ) → ((fed ++ read) ++ piece) ++ rest ≡ fed ++ ((read ++ piece) ++ rest)
 regroup fed read piece rest = simp append_assoc
 
--- what is so of what was read and whatever follows it, is so of what the reader had
+-- what holds for the bytes that were read and any bytes after them, holds for the bytes that the reader had
 pub of_known : (old new : Option (List ℕ)) (read : List ℕ) (P : List ℕ → Type 0) → Consumes old new read → ((rest : List ℕ) → P (read ++ rest)) → IfSome old P
 of_known None new read P h p = tt
 of_known (Some xs) None read P h p = absurd h

@@ -1,4 +1,4 @@
--- Whether a group was seen, and of which launch the headers are, without a look at each header.
+-- Whether a group was seen, and which launch the headers are of, without a look at each header.
 use Rattle.std.proofs.Common.{Decides, ◌≡◌, ◌≢◌, ℕ, zero, suc, ◌<◌, List, [], ◌∷◌, ◌++◌, length, map, slice_get, get_or, Some, refl, sym, ap, ◌∙◌, subst, arith, inl, inr}
 use Rattle.std.specs.Prelude.{not, ◌==◌, All}
 use Rattle.std.specs.List.{list_any}
@@ -38,7 +38,7 @@ module _ (sizes : List ℕ) (hs : List Header) (seen : AreSeen sizes hs) where
         absurd (omega (arith, has.1, empty))),
   )
 
-  -- the first header tells of which launch all are
+  -- all headers are of the launch of the first
   pub first_tells : (launch : ℕ) (h : Header) → slice_get hs 0 ≡ Some h
       → list_any (λ s. not (s.launch == launch)) hs ≡ not (h.launch == launch)
   first_tells launch h at =
@@ -61,7 +61,7 @@ module _ (sizes : List ℕ) (hs : List Header) (seen : AreSeen sizes hs) where
 
 -- ---- one more header
 
--- streams of these headers, of which no records wait
+-- streams of these headers whose records do not wait
 abbrev come : List Header → List Coming
 come hs = map (λ h. record { header = h; waiting = [] }) hs
 

@@ -16,17 +16,17 @@ use Rattle.gr_threads.specs.Refusals.{IsRefusalOfEnd, is_full}
 use Rattle.gr_threads.specs.Senders.{Sending}
 use Rattle.gr_streams.specs.Sending.{IsStuck, events_in}
 
--- a list with an end behind it is complete
+-- a list with an end after it is complete
 ended : (xs : List Event) (e : Event) → IsTrue (is_end e) → IsTrue (is_complete (xs ++ e ∷ []))
 ended [] e end = end
 ended (x ∷ []) e end = end
 ended (x ∷ y ∷ xs) e end = ended (y ∷ xs) e end
 
--- a sender that was asked to close is closed
+-- a sender is closed after it was asked to close
 pub is_closed : (old new : Sending) (r : Result (Unit {0}) SendError) → OnOk r (new ≡ record old { sent = old.sent ++ end_of true ∷ [] }) → OnErr r (new ≡ old) → IfErr r (λ e. IsRefusalOfEnd old true e) → IfErr r (λ e. IsFalse (is_full e)) → IsTrue (is_complete new.sent)
 is_closed old new r ok err refused full = grind (arith, ended old.sent (end_of true) refl)
 
--- events that follow do not help
+-- a refused event stays refused, whatever events follow
 pub stuck_more : (items : ℕ) (events more : List Event) → IsStuck items events → IsStuck items (events ++ more)
 stuck_more items events more h = record {
   before = h.before;
@@ -45,12 +45,12 @@ pub events_mapped : (es : List Event) → events_in (map parts.Event es) ≡ es
 events_mapped [] = refl
 events_mapped (e ∷ es) = ap (λ (l : List Event). e ∷ l) (events_mapped es)
 
--- one more of the parts
+-- one more part
 pub next_part : (xs : List Part) (i : ℕ) (p : Part) → i < length xs → get_or xs i p ≡ p → events_in (take (i + 1) xs) ≡ events_in (take i xs) ++ events_in (p ∷ [])
 next_part xs i p lt is =
     grind (arith, take_more xs i p lt, events_append (take i xs) (p ∷ []))
 
--- ---- a piece more
+-- ---- one more piece
 
 read_events : (h : Option Header) (es : List Event) → events_in (header_part h ++ map parts.Event es) ≡ es
 read_events None es = events_mapped es

@@ -1,4 +1,4 @@
--- The headers of streams that come from an input each, before any record is read, and the launch that headers are of.
+-- The headers of streams with an input each, before any record is read, and the launch that the headers are of.
 -- Source: docs/FORMATS.md, "Several streams".
 use Rattle.std.specs.Prelude.{◌≡◌, ◌≢◌, ℕ, not, ◌==◌, if◌then◌else◌, List, [], ◌∷◌, ◌++◌, length, map, All, AllPairs, Result, Ok, Err}
 use Rattle.std.specs.List.{list_any}
@@ -13,14 +13,14 @@ use Rattle.gr_intake.specs.Joined.{Flat, ◌>>=◌, at_place}
 use Rattle.gr_model.specs.declared.event.Event.{Event}
 use Rattle.gr_model.specs.Streams.{Streams}
 
--- a header, unless it is of the group of one of these, or of another launch
+-- a header, unless its group is one of these headers', or its launch is another
 abbrev pub unless_seen : List Header → Header → Result Header Fault
 unless_seen seen h =
     if list_any (λ s. s.group == h.group) seen then Err (faults.SameGroup (length seen))
     else if list_any (λ s. not (s.launch == h.launch)) seen then Err (faults.OtherLaunch (length seen))
     else Ok h
 
--- the header at the front of the bytes, behind these headers
+-- the header at the front of the bytes, which comes after these headers
 unfoldable pub header_behind : List Header → List ℕ → Result Header Fault
 header_behind seen bytes = at_place (length seen) (front_header_at bytes) >>= λ h. unless_seen seen h.0
 
@@ -43,7 +43,7 @@ bares hs = map bare hs
 abbrev pub AreApart : List Header → Type 0
 AreApart hs = AllPairs (λ g h. g.group ≢ h.group) hs
 
--- the headers are those of a launch whose groups have these sizes
+-- the headers are of a launch whose groups have these sizes
 abbrev pub AreHeadersOf : List Header → List ℕ → Type 0
 AreHeadersOf hs sizes = (s : Streams) × IsLaunchOf (bares hs) s × (s.sizes ≡ sizes)
 

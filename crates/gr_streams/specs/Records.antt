@@ -1,4 +1,4 @@
--- The records of streams that come from an input each.
+-- The records of streams with an input each.
 -- Source: docs/FORMATS.md, "Several streams" and "Faults".
 use Rattle.std.specs.Prelude.{ℕ, ◌==◌, if◌then◌else◌, List, [], ◌∷◌, ◌++◌, length, Result, Ok, Err}
 use Rattle.gr_model.specs.declared.event.Event.{Event}
@@ -8,7 +8,7 @@ use Rattle.gr_record.specs.declared.fault.Fault.TheVariants as faults
 use Rattle.gr_record.specs.WholeStreams.{front_header_at, front_records_at}
 use Rattle.gr_intake.specs.Joined.{◌>>=◌, at_place}
 
--- the records of the one stream that the input at a place is
+-- the records of the input at a place, which is one stream
 unfoldable pub events_at : ℕ → List ℕ → Result (List Event) Fault
 events_at place bytes =
     at_place place (front_header_at bytes) >>= λ h.

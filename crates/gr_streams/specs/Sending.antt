@@ -29,7 +29,7 @@ sent_by_kind (End cut) e = end_of cut
 abbrev pub sent_as : Event → Event
 sent_as e = sent_by_kind e.kind e
 
--- a sender of a group of so many items, which has sent these, can send the event
+-- the event can be sent after these, in a group with this many items
 pub record MayFollow (items : ℕ) (sent : List Event) (e : Event) : Type 0 where
   pub unended : IsFalse (is_complete sent)
   pub sendable : IsTrue (is_end e) ⊎ (IsSendable e items × (length sent + 1 < MOST_RECORDS))
@@ -42,7 +42,7 @@ pub record IsStuck (items : ℕ) (events : List Event) : Type 0 where
   pub split : events ≡ before ++ event ∷ after
   pub refused : ¬ MayFollow items (map sent_as before) event
 
--- the events were sent, or else one of them was refused
+-- the events were sent, or one of them was refused
 abbrev pub AreSent : ℕ → List Event → List Event → Bool → Type 0
 AreSent items events sent false = sent ≡ map sent_as events
 AreSent items events sent true = IsStuck items events
@@ -68,14 +68,14 @@ pub record IsFed (fed : List ℕ) (decoder : Standing) (sender : Sending) (refus
   pub records : sender.records ≡ MOST_RECORDS
   pub sent : AreSent sender.items (reading MOST_RECORDS fed).events sender.sent refused
 
--- a fault is what the input means, unless it comes from outside, or a thread is missing
+-- the fault is the meaning of the input, unless it has an outside cause or a thread is missing
 abbrev pub FailsHere : {Y : Type 0} → Fault → Result Y Fault → Type 0
 FailsHere faults.Memory meaning = Unit {0}
 FailsHere faults.Read meaning = Unit {0}
 FailsHere faults.Threads meaning = Unit {0}
 FailsHere f meaning = meaning ≡ Err f
 
--- what was sent is what the input means, or else the fault is
+-- without a fault, what was sent is the meaning of the input; else the fault is
 abbrev pub Tells : {Y : Type 0} → Result Y Fault → Y → Option Fault → Type 0
 Tells meaning sent None = meaning ≡ Ok sent
 Tells meaning sent (Some f) = (f ≢ faults.Write) × FailsHere f meaning

@@ -1,4 +1,4 @@
--- Readers whose headers were read, and what reading them leaves.
+-- Readers whose headers were read, and what they leave after they are read.
 -- Source: docs/QUEUES.md, "Streams that are read while they are sent".
 use Rattle.std.specs.Prelude.{◌≡◌, ◌≢◌, ℕ, ◌+◌, ◌<◌, ◌≤◌, List, [], ◌∷◌, length, map, slice_index_or, All, Contains}
 use Rattle.std.specs.Prelude.{Option, Some, None, IfSome, Ok, ⊤, Vec, vec_capacity, vec_len}
@@ -23,36 +23,36 @@ use Rattle.gr_streams.specs.declared.thread.ReaderState.TheVariants.{Started, Ov
 use Rattle.gr_streams.specs.declared.source.Source.{Source}
 use Rattle.gr_streams.specs.declared.source.Unread.{Unread}
 
--- the bytes of the stream, its header included, where they are known
+-- the bytes of the stream with its header, if they are known
 abbrev pub known_of : {T : Type 0} → (T → Option (List ℕ)) → Source T → Option (List ℕ)
 known_of remaining s = prepend_known s.prefix.items (remaining s.reader)
 
--- the bytes of the streams are those that the readers had, of each whose bytes are known
+-- the bytes of each stream are those that its reader had, if they are known
 abbrev pub AreKnown : List (Option (List ℕ)) → List (Option (List ℕ)) → Type 0
 AreKnown [] [] = ⊤
 AreKnown (o ∷ known) (p ∷ sources) = IfSome o (λ bytes. p ≡ Some bytes) × AreKnown known sources
 AreKnown [] (p ∷ sources) = ⊥
 AreKnown (o ∷ known) [] = ⊥
 
--- the bytes are those of this header, and no more
+-- these are the bytes of this header, and no more
 abbrev pub IsHeaded : Header → List ℕ → Type 0
 IsHeaded h prefix = (front_header_at prefix ≡ Ok (h, [])) × (length prefix ≡ HEADER_LENGTH)
 
--- a stream that is read: its place, its header, its bytes where they are known, and its sender
+-- a stream that is read: its place, its header, its bytes if they are known, and its sender
 pub record Begun : Type 0 where
   pub place : ℕ
   pub header : Header
   pub bytes : Option (List ℕ)
   pub sender : Sending
 
--- what reading it leaves
+-- what it leaves after it is read
 pub record IsEndOf (begun : Begun) (receipt : Seat) (fault : Option Fault) : Type 0 where
   pub group : receipt.group ≡ begun.sender.group
   pub queue : receipt.queue ≡ begun.sender.queue.queue
   pub write : IfSome fault (λ f. f ≢ faults.Write)
   pub tells : IfSome begun.bytes (λ bytes. Tells (events_at begun.place bytes) receipt.pushed fault)
 
--- what reading streams leaves, in their order
+-- what streams leave, in order
 abbrev pub AreEndsOf : {A : Type 0} → List Begun → List (Ended A) → Type 0
 AreEndsOf begun ended = AllZip (λ b e. IsEndOf b e.receipt e.fault) begun ended
 
@@ -64,13 +64,13 @@ begun_of remaining u = record { place = u.place; header = u.source.header; bytes
 abbrev pub begun_by : {T A : Type 0} → (T → Option (List ℕ)) → OfReader T A → List Begun
 begun_by remaining p = map (begun_of remaining) p.streams.value.items
 
--- a thread reads them, or else reading them has left this; none is being joined while others look
+-- a thread reads them, or their reading is over and they left this; the third state is never seen from outside
 abbrev pub IsStateOf : {T A : Type 0} → (T → Option (List ℕ)) → OfReader T A → ReaderState T A → Type 0
 IsStateOf remaining p (Started handle) = handle.promise ≡ p
 IsStateOf remaining p (Over ended) = AreEndsOf (begun_by remaining p) ended.items
 IsStateOf remaining p Joining = ⊥
 
--- a list without elements, with room for so many
+-- an empty list with room for this many
 pub record IsRoomFor {X Z : Type 0} (count : ℕ) (room : Vec X Z) : Type 0 where
   pub none : room.items ≡ []
   pub empty : vec_len room ≡ 0
@@ -82,14 +82,14 @@ pub record IsRoomFor {X Z : Type 0} (count : ℕ) (room : Vec X Z) : Type 0 wher
 abbrev pub HasSender : List (Option Sending) → ℕ → Type 0
 HasSender senders g = (s : Sending) × (slice_index_or senders g None ≡ Some s)
 
--- an open sender for the stream of this header, which has sent nothing, and may send a stream of any length
+-- an open sender for the stream of this header; it has sent nothing, and may send a stream of any length
 pub record IsReady (h : Header) (s : Sending) : Type 0 where
   pub group : s.group ≡ h.group
   pub items : s.items ≡ h.items
   pub records : s.records ≡ MOST_RECORDS
   pub sent : s.sent ≡ []
 
--- a stream of which only the header was read, and nothing was sent
+-- a stream of which only the header was read and nothing was sent
 pub record IsUnread {T A : Type 0} (u : Unread T A) : Type 0 where
   pub headed : IsHeaded u.source.header u.source.prefix.items
   pub ready : IsReady u.source.header u.sender
@@ -108,11 +108,11 @@ AreSenders run senders = (g : ℕ) (s : Sending) → slice_index_or senders g No
 abbrev pub AreOfRun : Run → List Begun → Type 0
 AreOfRun run begun = All (λ b. IsOfRun run b.sender.group b.sender.queue.queue) begun
 
--- each stream is at its place, of which the first is this
+-- the streams are at consecutive places from this one on
 abbrev pub ArePlaced : ℕ → List Begun → Type 0
 ArePlaced first begun = (k : ℕ) (d : Begun) → k < length begun → (slice_index_or begun k d).place ≡ first + k
 
--- the streams that are read from a place on are these
+-- the streams from a place on have these headers and bytes
 pub record AreBegun (first : ℕ) (hs : List Header) (known : List (Option (List ℕ))) (begun : List Begun) : Type 0 where
   pub placed : ArePlaced first begun
   pub groups : map (λ b. b.sender.group) begun ≡ map (λ h. h.group) hs
@@ -127,7 +127,7 @@ pub record AreReceiptsFor (begun : List Begun) (receipts : List Seat) : Type 0 w
 abbrev pub AreReadOf : List (List ℕ) → List Begun → Type 0
 AreReadOf inputs begun = ArePlaced 0 begun × (map (λ b. b.bytes) begun ≡ map Some inputs)
 
--- reading the streams has left these receipts, and this is the first fault
+-- the streams left these receipts, and this is the first fault
 pub record AreLeft (begun : List Begun) (seats : List Seat) (fault : Option Fault) : Type 0 where
   pub receipts : AreReceiptsFor begun seats
   pub write : IfSome fault (λ f. f ≢ faults.Write)

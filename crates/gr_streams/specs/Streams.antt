@@ -1,4 +1,4 @@
--- What a run reports of streams that come from an input each, and why it refuses them.
+-- What a run reports of streams with an input each, and why it refuses them.
 -- Source: docs/FORMATS.md, "Faults", and docs/MODEL.md, "The report".
 use Rattle.std.specs.Prelude.{◌≡◌, ◌⊎◌, ℕ, List, Option, Ok, ⊤}
 use Rattle.gr_detector.specs.declared.error.FinishError.{FinishError}
@@ -18,21 +18,21 @@ use Rattle.gr_intake.specs.Launch.{IsLaunchFault, IsLaunchOf}
 use Rattle.gr_streams.specs.Headers.{AreHeadersOf, bares, headers_of, streams_with}
 use Rattle.gr_streams.specs.Records.{lists_of}
 
--- the headers are those of a launch
+-- the headers are of a launch
 abbrev pub AreOfLaunch : List Header → Type 0
 AreOfLaunch hs = (sizes : List ℕ) × AreHeadersOf hs sizes × IsShape sizes
 
--- the first fault of the headers, or else why they are those of no launch, or else the first fault of the records
+-- the first fault of the headers, or else why they are of no launch, or else the first fault of the records
 abbrev pub IsInputFault : List (List ℕ) → Fault → Type 0
 IsInputFault inputs f =
     Fails f (headers_of inputs)
     ⊎ ((hs : List Header) × (headers_of inputs ≡ Ok hs) × (IsLaunchFault (bares hs) f ⊎ (AreOfLaunch hs × Fails f (lists_of inputs))))
 
--- why inputs are not run: they are no launch, or else a thread could not be started, or the writer failed
+-- why a run fails: the inputs are no launch, or a thread could not be started, or the writer failed
 abbrev pub IsRunFault : List (List ℕ) → Fault → Type 0
 IsRunFault inputs f = IsInputFault inputs f ⊎ ((f ≡ faults.Threads) ⊎ (f ≡ faults.Write))
 
--- a run that was finished with a receipt of each group has failed by want of memory alone
+-- a run that was finished with one receipt of each group can fail only because memory ran out
 abbrev pub IsWantOfMemory : {A : Type 0} → FinishError A → Type 0
 IsWantOfMemory (Receipts r v) = ⊥
 IsWantOfMemory NoMemory = ⊤

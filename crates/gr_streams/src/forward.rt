@@ -1,4 +1,4 @@
-//! A stream on its way from its bytes, as they come, to its sender.
+//! A stream on its way: its bytes are decoded as they come, and its events are sent.
 
 ghost use Rattle.std.specs.Prelude.{◌≡◌, ◌≢◌, ◌++◌, ◌∷◌, [], ℕ, List, Some, None, IfOk, IfErr, IfSome, IsFalse, IsTrue, take};
 ghost use Rattle.gr_model.specs.declared.event.Event.{Event as AnyEvent};
@@ -21,7 +21,7 @@ use std::alloc::{Allocator, Global};
 use std::sync::Wait;
 use std::time::Clock;
 
-/// A stream on its way: what decodes it, and what sends its events.
+/// A stream on its way: the decoder of its bytes, and the sender of its events.
 #[derive(Drop)]
 pub(crate) struct Forward<A: Allocator = Global> {
     alloc: A,
@@ -29,20 +29,20 @@ pub(crate) struct Forward<A: Allocator = Global> {
     pub(crate) sender: BatchSender<A>,
     // The parts of the piece at hand.
     pub(crate) parts: Vec<Part, A>,
-    // Whether the sender refused an event: the stream is then too long, and the sender is closed.
+    // Whether the sender refused an event. The stream is then too long, and the sender is closed.
     pub(crate) refused: bool,
 }
 
-/// What is left of a stream whose reading has ended.
+/// What a stream leaves after its reading has ended.
 #[derive(Drop)]
 pub(crate) struct Ended<A: Allocator = Global> {
     /// The receipt of what was sent.
     pub(crate) receipt: Receipt<A>,
-    /// Why reading has ended before the stream did, if so.
+    /// Why the reading ended before the end of the stream, if it did.
     pub(crate) fault: Option<Fault>,
 }
 
-/// Sends an event, or the end that it is, and waits until there is room. Tells whether it was sent.
+/// Waits until there is room, and sends an event; an end closes the sender. Returns whether it was sent.
 fn send<R: Wait + Clock, A: Allocator + Copy>(
     rt: &R,
     alloc: A,
@@ -58,8 +58,8 @@ fn send<R: Wait + Clock, A: Allocator + Copy>(
     }
 }
 
-/// Sends an event, unless one was refused before. Tells whether this one or one before it was refused; the sender is then
-/// closed.
+/// Sends an event, unless an earlier one was refused. Returns whether this one or an earlier one was refused; the sender is
+/// then closed.
 fn forward_one<R: Wait + Clock, A: Allocator + Copy>(
     rt: &R,
     alloc: A,
@@ -80,7 +80,7 @@ fn forward_one<R: Wait + Clock, A: Allocator + Copy>(
     true
 }
 
-/// Sends the event that a part is, if it is one. Tells whether this one or one before it was refused.
+/// Sends a part if it is an event. Returns whether this one or an earlier one was refused.
 fn forward_part<R: Wait + Clock, A: Allocator + Copy>(
     rt: &R,
     alloc: A,
@@ -97,7 +97,7 @@ fn forward_part<R: Wait + Clock, A: Allocator + Copy>(
     }
 }
 
-/// Sends the events among parts, in their order, up to one that is refused. Tells whether one was refused.
+/// Sends the events among the parts, in order, up to one that is refused. Returns whether one was refused.
 fn forward_all<R: Wait + Clock, A: Allocator + Copy>(
     rt: &R,
     alloc: A,
@@ -121,11 +121,11 @@ fn close_cut<R: Wait + Clock, A: Allocator>(rt: &R, sender: &mut BatchSender<A>)
     ensures closed { IsTrue (is_complete sender.new.sent) }
     ensures whole { IsTrue (is_complete sender.old.sent) → sender.new ≡ sender.old }
 {
-    // A sender that is closed refuses this, and is left as it was.
+    // A sender that is closed refuses this, and stays as it was.
     let _ = sender.close_wait(rt, true);
 }
 
-/// The receipt of a sender, which is closed with the cut mark if it is open.
+/// The receipt of a sender. If it is open, it is closed with the cut mark first.
 fn cut<R: Wait + Clock, A: Allocator>(rt: &R, sender: BatchSender<A>) -> Receipt<A>
     ensures group { result.group ≡ sender.group }
     ensures queue { result.queue ≡ sender.queue.queue }
@@ -140,7 +140,7 @@ fn cut<R: Wait + Clock, A: Allocator>(rt: &R, sender: BatchSender<A>) -> Receipt
 }
 
 impl<A: Allocator + Copy> Forward<A> {
-    /// Of a stream of which nothing was read, to a sender that has sent nothing.
+    /// A stream of which nothing was read, with a sender that has sent nothing.
     pub(crate) fn new(alloc: A, sender: Sender<A>) -> Forward<A>
         requires records { sender.records ≡ MOST_RECORDS }
         requires sent { sender.sent ≡ [] }
@@ -156,10 +156,10 @@ impl<A: Allocator + Copy> Forward<A> {
         }
     }
 
-    /// Decodes the next piece of the stream, and sends its events. None of them is kept back.
+    /// Decodes the next piece of the stream, and sends all its events at once.
     ///
     /// # Errors
-    /// The first fault of the stream, at the piece that has it; `Memory` where the piece can't be decoded.
+    /// The first fault of the stream, if this piece has it; `Memory` if there is no memory to decode the piece.
     pub(crate) fn take<R: Wait + Clock>(&mut self, rt: &R, piece: &[u8]) -> Result<(), RecordError>
         ensures same { IsSameSender self.old.sender self.new.sender }
         ensures fed { HasMemory result → (fed : List ℕ) → IsFed fed self.old.decoder self.old.sender self.old.refused → IsFed (fed ++ piece.now) self.new.decoder self.new.sender self.new.refused }
@@ -178,7 +178,7 @@ impl<A: Allocator + Copy> Forward<A> {
         outcome
     }
 
-    /// Ends the reading at a fault: what was sent is cut, unless the stream's end was sent.
+    /// Ends the reading at a fault. What was sent is cut, unless the end of the stream was sent.
     pub(crate) fn fail<R: Wait + Clock>(self, rt: &R, fault: Fault) -> Ended<A>
         ensures group { result.receipt.group ≡ self.sender.group }
         ensures queue { result.receipt.queue ≡ self.sender.queue.queue }
@@ -190,7 +190,7 @@ impl<A: Allocator + Copy> Forward<A> {
         }
     }
 
-    /// Ends the reading at the end of the stream at this place.
+    /// Ends the reading at the end of the bytes. The stream has this place.
     pub(crate) fn finish<R: Wait + Clock>(self, rt: &R, place: u64) -> Ended<A>
         ensures group { result.receipt.group ≡ self.sender.group }
         ensures queue { result.receipt.queue ≡ self.sender.queue.queue }

@@ -1,4 +1,4 @@
-//! The headers of all streams, which are read before any record is.
+//! The headers of all streams. All of them are read before any record is.
 
 ghost use Rattle.std.specs.Prelude.{◌≡◌, ◌++◌, ◌∷◌, [], All, IfErr, IfOk, IfSome, Ok, OnOk, map};
 ghost use Rattle.gr_record.specs.InputFaults.{Fails};
@@ -15,17 +15,17 @@ use gr_record::header::Header;
 use std::alloc::Allocator;
 use std::io::Read;
 
-/// The headers of the streams, and the readers behind them, in the order of the readers.
+/// The headers of the streams, and the readers after their headers, in order.
 #[derive(Drop)]
 pub(crate) struct Headed<T, A: Allocator> {
     pub(crate) headers: Vec<Header, A>,
     pub(crate) sources: Vec<Source<T>, A>,
 }
 
-/// Reads the header of each reader's stream, in their order.
+/// Reads the header of each stream, in order.
 ///
 /// # Errors
-/// Of the first reader that has one: its header's fault, `SameGroup`, `OtherLaunch`. `Read` and `Memory`, as they are met.
+/// The first that is met: a header's fault, `SameGroup`, `OtherLaunch`, `Read` or `Memory`.
 pub(crate) fn read_headers<A: Allocator + Copy, T: Read + Drop>(
     alloc: A,
     readers: Vec<T, A>,

@@ -1,4 +1,4 @@
-//! The readers' threads, from their start to their join.
+//! The threads of the readers, from their start to their end.
 
 ghost use Rattle.std.specs.Prelude.{◌≡◌, ◌≢◌, ◌<◌, ◌≤◌, ◌+◌, ◌^◌, ◌++◌, ◌∷◌, [], List, All, Some};
 ghost use Rattle.std.specs.Prelude.{IfOk, IfSome, Result, length, map, vec_capacity, vec_len};
@@ -27,7 +27,7 @@ use std::sync::{Arc, Wait};
 use std::thread::{self, Threads};
 use std::time::Clock;
 
-/// The shares of the threads, and room for what is kept once the run has started, when no memory can be asked for any more.
+/// The shares of the threads, and room for what is kept later: once the run has started, nothing may be allocated any more.
 #[derive(Drop)]
 pub(crate) struct Room<T: Read, A: Allocator> {
     pub(crate) shares: Vec<Share<T, A>, A>,
@@ -36,7 +36,7 @@ pub(crate) struct Room<T: Read, A: Allocator> {
     pub(crate) receipts: Vec<Receipt<A>, A>,
 }
 
-/// The shares of these streams, with room for them and for the senders of so many groups.
+/// The shares of these streams, with room for them and for the senders of this many groups.
 pub(crate) fn room_for<A: Allocator + Copy, T: Read + Drop>(
     alloc: A,
     sources: Vec<Source<T>, A>,
@@ -59,7 +59,7 @@ pub(crate) fn room_for<A: Allocator + Copy, T: Read + Drop>(
     })
 }
 
-/// The senders of a run in the order of its groups, each of which may be taken from its place.
+/// The senders of a run, in the order of its groups. Each can be taken from its place.
 /// Requires: there is room.
 pub(crate) fn at_places<A: Allocator>(
     senders: Vec<Sender<A>, A>,
@@ -75,8 +75,8 @@ pub(crate) fn at_places<A: Allocator>(
     places
 }
 
-/// How many of so many threads read side by side: all of a few, since a stream may wait for another's producer, and of more as many as
-/// there are processors.
+/// How many threads may read at the same time. If there are only a few threads, all may, since a stream may wait for the producer
+/// of another; else as many as there are processors.
 fn most_readers<R: Threads>(rt: &R, threads: usize) -> usize
     ensures { 0 < result }
 {
@@ -89,7 +89,7 @@ fn most_readers<R: Threads>(rt: &R, threads: usize) -> usize
     }
 }
 
-/// Waits until fewer than so many threads read, so that a further one may start.
+/// Waits until fewer than `most` threads read, so that one more may start.
 fn make_way<R: Threads, A: Allocator, T: Read>(
     rt: &R,
     threads: &mut Vec<ReaderThread<T, A>, A>,
@@ -105,8 +105,8 @@ fn make_way<R: Threads, A: Allocator, T: Read>(
     }
 }
 
-/// Starts a thread for each share, with the senders of its streams' groups, once enough of those before it have ended.
-/// Requires: the streams are of different groups, and each has a sender, which has sent nothing; there is room.
+/// Starts a thread for each share, with the senders for its streams, as soon as enough threads before it have ended.
+/// Requires: the streams are of different groups; each has a sender, which has sent nothing; there is room.
 pub(crate) fn start_all<R, A, T>(
     rt: R,
     alloc: A,
@@ -139,7 +139,7 @@ where
     threads
 }
 
-/// The first of two faults, of which the second is of a later stream; but that a thread is missing comes first of all.
+/// The first of two faults; `next` is of a later stream. But `Threads` comes before all others.
 fn first_of(first: Option<Fault>, next: Option<Fault>) -> Option<Fault>
     ensures write { IfSome first (λ f. f ≢ faults.Write) → IfSome next (λ f. f ≢ faults.Write) → IfSome result (λ f. f ≢ faults.Write) }
     ensures tells { (lists : Result (List (List AnyEvent)) AnyFault) (list : Result (List AnyEvent) AnyFault) (pushed : List (List AnyEvent)) (more : List AnyEvent) → Tells lists pushed first → Tells list more next → Tells (and_one lists list) (pushed ++ more ∷ []) result }
@@ -151,7 +151,7 @@ fn first_of(first: Option<Fault>, next: Option<Fault>) -> Option<Fault>
     }
 }
 
-/// Keeps the receipts of further streams. Tells the first fault, where this was the first of the streams before.
+/// Keeps the receipts of further streams. `fault` is the first of the streams before; returns the first of all.
 /// Requires: there is room.
 fn keep_each<A: Allocator>(
     receipts: &mut Vec<Receipt<A>, A>,

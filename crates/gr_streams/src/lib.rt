@@ -1,4 +1,4 @@
-//! A launch whose streams come from a reader each, and are sent into a run in threads while they are read.
+//! A launch with one reader for each stream. The streams are sent into a run in threads while they are read.
 #![tactic(auto)]
 
 mod forward;

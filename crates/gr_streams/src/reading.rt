@@ -1,4 +1,4 @@
-//! The reading of streams, which are sent while they are read.
+//! Streams are read, and sent while they are read.
 
 ghost use Rattle.std.specs.Prelude.{◌≡◌, ◌≢◌, ◌++◌, ℕ, List, All, IfSome, map, take, vec_len};
 ghost use Rattle.gr_record.specs.declared.header.Header.{Header as AnyHeader};
@@ -17,14 +17,14 @@ use std::sync::atomic::{AtomicBool, Ordering};
 use std::sync::{Arc, Wait};
 use std::time::Clock;
 
-/// How often a reader is asked for bytes, at most.
+/// How often a reader is asked for bytes at most.
 const MOST_READS: u64 = 4_294_967_296;
 
 /// How many bytes are asked for at once.
 const PIECE_LENGTH: usize = 65_536;
 
-/// Reads the rest of a stream at a place, of which what was read before is on its way, and sends its events as they come. It
-/// ends at the reader's end, or at the first fault, or once the run was abandoned.
+/// Reads the rest of the stream at a place, and sends its events as they come. What was read before is already on its way.
+/// This ends at the end of the reader, or at the first fault, or as soon as the run was abandoned.
 fn read_rest<R: Wait + Clock, A: Allocator + Copy, T: Read>(
     rt: &R,
     place: u64,
@@ -58,7 +58,7 @@ fn read_rest<R: Wait + Clock, A: Allocator + Copy, T: Read>(
 }
 
 /// Reads a stream of which only the header was read, and sends its events as they come.
-/// Requires: nothing was sent of it yet.
+/// Requires: nothing of it was sent.
 pub(crate) fn read_on<R: Wait + Clock, A: Allocator + Copy, T: Read + Drop>(
     rt: &R,
     alloc: A,
@@ -88,8 +88,8 @@ pub(crate) fn read_on<R: Wait + Clock, A: Allocator + Copy, T: Read + Drop>(
     read_rest(rt, place, &mut reader, forward, abandoned)
 }
 
-/// Reads streams of which only the headers were read, one after the other. Gives what is left of each, in their order.
-/// Requires: nothing was sent of them yet; there is room for what is left.
+/// Reads streams of which only the headers were read, one after the other. Returns what each leaves, in order.
+/// Requires: nothing of them was sent; there is room for what they leave.
 pub(crate) fn read_each<R: Wait + Clock, A: Allocator + Copy, T: Read + Drop>(
     rt: &R,
     alloc: A,

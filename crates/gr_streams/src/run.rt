@@ -1,4 +1,4 @@
-//! From the readers of a launch's streams to the report, by a run in threads.
+//! From the readers of a launch's streams to the report, in threads.
 
 ghost use Rattle.std.specs.Prelude.{◌≡◌, ◌≢◌, ◌⊎◌, ℕ, List, All, IfErr, IfOk, IfSome, None, Ok, Some, map};
 ghost use Rattle.std.specs.Io.KnownBytes.{Appends, Keeps};
@@ -33,7 +33,7 @@ use std::sync::{Arc, Wait};
 use std::thread::Threads;
 use std::time::Clock;
 
-/// The fault of a run that was not started.
+/// The fault if a run was not started.
 fn fault_of_start(error: StartError) -> Fault
     ensures { (result ≡ Fault.Memory) ⊎ (result ≡ Fault.Threads) }
 {
@@ -44,7 +44,7 @@ fn fault_of_start(error: StartError) -> Fault
 }
 
 /// The report of a run, unless a stream has a fault.
-/// Requires: each work-group had its receipt.
+/// Requires: no receipt was missing.
 fn judge<A: Allocator>(
     fault: Option<Fault>,
     finished: Result<Report<A>, FinishError<A>>,
@@ -61,11 +61,11 @@ fn judge<A: Allocator>(
     }
 }
 
-/// Runs a detector in threads on the streams of a launch of this shape, whose headers were read, and gives its report.
-/// Requires: the streams are of different groups, and their headers are those of the shape.
+/// Runs a detector in threads on the streams of a launch of this shape, and gives its report. The headers were read before.
+/// Requires: the streams are of different groups, and their headers fit the shape.
 ///
 /// # Errors
-/// `Threads` where a thread can't be started; else the fault of the first stream that has one; else `Memory`.
+/// `Threads` if a thread can't be started; else the fault of the first stream that has one; else `Memory`.
 fn run_sources<R, A, T, W>(
     rt: R,
     alloc: A,
@@ -106,8 +106,7 @@ where
     judge(fault, running.finish(&rt, receipts))
 }
 
-/// Reads the streams of a launch, one from each reader, on threads of their own, and sends them into a run in threads while
-/// they come. Gives the report and writes nothing. `watch` is shared by all threads of the run.
+/// Does what `run_streams` does, but gives only the report and writes nothing.
 ///
 /// # Errors
 /// Those of `run_streams` but `Write`.
@@ -132,14 +131,14 @@ where
     run_sources(rt, alloc, shape, sources, config, watch)
 }
 
-/// Reads the streams of a launch, one from each reader, on threads of their own, and sends them into a run in threads while
-/// they come. Writes the text of the report and nothing else. `watch` is shared by all threads of the run.
+/// Reads the streams of a launch, one from each reader, in threads. Sends them into a run in threads while they come, and
+/// writes the text of the report and nothing else. All threads of the run share `watch`.
 ///
 /// # Errors
-/// Of the first reader that has one, its header's fault, `SameGroup` or `OtherLaunch`; then `MissingGroup`, then `Shape`;
-/// then `Threads` where a thread can't be started; then the records' fault of the first stream that has one. `Read` where a
-/// reader fails, or gives no end within 4,294,967,296 calls; `Memory` where memory runs out. `Write` where the writer fails,
-/// which then has a prefix of the text. In every other case of an error nothing is written.
+/// In this order: the fault of the first header that has one, or `SameGroup` or `OtherLaunch`; `MissingGroup`; `Shape`;
+/// `Threads` if a thread can't be started; the fault of the first stream whose records have one. `Read` if a reader fails, or
+/// has no end after 4,294,967,296 calls; `Memory` if memory runs out. `Write` if the writer fails: it then has a prefix of the
+/// text. After any other error nothing is written.
 pub fn run_streams<R, A, T, W, O>(
     rt: R,
     alloc: A,
@@ -158,7 +157,7 @@ where
     ensures text { IfOk result (λ r. Appends (O.contents writer.old) (O.contents writer.new) (report_text (whole_of r))) }
     ensures fault { IfErr result (λ f. IfSome (all_known (map T.remaining readers.items)) (λ inputs. IsRunFault inputs f)) }
 
-    // What a refusal leaves with the writer.
+    // What the writer has after an error.
     ensures untouched { IfErr result (λ f. f ≢ faults.Write → Keeps (O.contents writer.old) (O.contents writer.new)) }
     ensures prefix { IfErr result (λ f. f ≡ faults.Write → IfSome (all_known (map T.remaining readers.items)) (λ inputs. WritesPrefixOfEach inputs (O.contents writer.old) (O.contents writer.new))) }
 {

@@ -1,4 +1,4 @@
-//! The headers that were read, and what a further one is compared with, without a look at each of them.
+//! The headers that were read. A further one is compared with them, without a look at each.
 
 ghost use Rattle.std.specs.Prelude.{◌≡◌, ◌≢◌, ◌==◌, ◌++◌, ◌∷◌, [], not, length, All, IfOk};
 ghost use Rattle.std.specs.List.{list_any};
@@ -11,7 +11,7 @@ use gr_record::header::Header;
 use std::alloc::{Allocator, Global};
 use std::marker::Model;
 
-/// Headers of one launch and of different groups, and the sizes of these. Contracts see the headers.
+/// Headers of one launch and of different groups, and the sizes of these groups. Contracts see the headers.
 #[derive(Drop)]
 pub(crate) struct Seen<A: Allocator = Global> {
     headers: Vec<Header, A>,
@@ -31,7 +31,7 @@ impl<A: Allocator> Model for Seen<A> {
 }
 
 impl<A: Allocator> Seen<A> {
-    /// Before any header was read. It takes no memory.
+    /// No header. This allocates nothing.
     pub(crate) fn new(alloc: A) -> Seen<A>
     where
         A: Copy,
@@ -43,7 +43,7 @@ impl<A: Allocator> Seen<A> {
         }
     }
 
-    /// How many headers were read.
+    /// The number of headers.
     pub(crate) fn count(&self) -> u64
         ensures { result ≡ length self.now }
     {
@@ -68,10 +68,10 @@ impl<A: Allocator> Seen<A> {
     }
 
     /// These headers, and one more.
-    /// Requires: it is of another group than each of them, and of the same launch.
+    /// Requires: it is of the same launch, and of a group that none of them has.
     ///
     /// # Errors
-    /// `Memory`: out of memory.
+    /// `Memory` if an allocation is refused.
     pub(crate) fn with_header(self, header: Header) -> Result<Seen<A>, Memory>
         requires header { IsHeader header }
         requires group { All (λ s. s.group ≢ header.group) self }

@@ -11,7 +11,7 @@ use gr_record::fault::Fault;
 use gr_record::header::Header;
 use std::alloc::Allocator;
 
-/// Puts headers of different groups in the order of their groups.
+/// Sorts headers of different groups by group.
 fn order_by_group<A: Allocator>(headers: &mut Vec<Header, A>)
     requires { AreApart headers.old.items }
     ensures same { IsPermutation (bares headers.old.items) (bares headers.new.items) }
@@ -20,7 +20,7 @@ fn order_by_group<A: Allocator>(headers: &mut Vec<Header, A>)
     headers.sort_unstable_by_key(|header| header.group);
 }
 
-/// The first place of headers in order whose header is of another group.
+/// The first place whose header is of another group. The headers are sorted.
 fn first_gap(headers: &[Header]) -> Option<u16>
     requires { AreRising (bares headers.now) }
     ensures { MatchOption result (ArePlaced (bares headers.now)) (λ g. IsLeastMissing (bares headers.now) g) }
@@ -41,11 +41,11 @@ fn sizes_of<A: Allocator>(alloc: A, headers: &[Header]) -> Result<Vec<u16, A>, M
     Ok(sizes)
 }
 
-/// The shape of the launch that headers are of, in whatever order they came.
+/// The shape of the launch that the headers are of, which come in any order.
 ///
 /// # Errors
-/// `MissingGroup` with the least group below the greatest that no header is of; else `Shape`; `Memory` where a list can't
-/// be made.
+/// `MissingGroup` with the least group that has no header, if a greater one has; else `Shape`; `Memory` if an allocation is
+/// refused.
 pub(crate) fn shape_of<A: Allocator>(alloc: A, headers: Vec<Header, A>) -> Result<Shape<A>, Fault>
     requires { AreApart headers.items }
     ensures launch { IfOk result (λ shape. AreHeadersOf headers.items shape) }

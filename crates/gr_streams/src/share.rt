@@ -1,4 +1,4 @@
-//! The shares of the readers' threads: which streams each of them reads, one after the other.
+//! The shares of the readers' threads. A thread reads the streams of its share one after the other.
 
 ghost use Rattle.std.specs.Prelude.{◌≡◌, ◌<◌, ◌+◌, ◌^◌, ◌++◌, ◌∷◌, [], ℕ, List, All, IfOk, None, OnOk, Some, length, map, slice_index_or, slice_set, vec_len};
 ghost use Rattle.gr_detector.specs.Runs.{Run};
@@ -17,10 +17,10 @@ use std::io::Read;
 use std::marker::Model;
 use std::mem;
 
-/// How many streams of a great launch a thread reads.
+/// How many streams of a large launch a thread reads.
 const STREAMS_OF_A_SHARE: usize = 16;
 
-/// The streams that a thread reads, with room for them and their senders, and for what is left of them. Contracts see the streams.
+/// The streams that a thread reads, with room for them and their senders, and for what they leave. Contracts see the streams.
 #[derive(Drop)]
 pub(crate) struct Share<T, A: Allocator = Global> {
     sources: Vec<Source<T>, A>,
@@ -41,10 +41,10 @@ impl<T, A: Allocator> Model for Share<T, A> {
 }
 
 impl<T: Drop, A: Allocator + Copy> Share<T, A> {
-    /// These streams.
+    /// The share of these streams.
     ///
     /// # Errors
-    /// `Memory`: out of memory.
+    /// `Memory` if an allocation is refused.
     fn of(alloc: A, sources: Vec<Source<T>, A>) -> Result<Share<T, A>, Memory>
         ensures { IfOk result (λ s. s ≡ sources.items) }
     {
@@ -58,7 +58,7 @@ impl<T: Drop, A: Allocator + Copy> Share<T, A> {
     }
 }
 
-/// The sender of a group, which is taken from its place.
+/// Takes the sender of a group from its place.
 /// Requires: it is there.
 fn take_sender<A: Allocator>(senders: &mut Vec<Option<Sender<A>>, A>, group: u16) -> Sender<A>
     requires { HasSender senders.old.items group }
@@ -72,9 +72,9 @@ fn take_sender<A: Allocator>(senders: &mut Vec<Option<Sender<A>>, A>, group: u16
 }
 
 impl<T: Read + Drop, A: Allocator> Share<T, A> {
-    /// The streams, of which the first is at this place, with the senders of their groups, which are taken from their places; and
-    /// room for what is left of them.
-    /// Requires: the streams are of different groups, and each has a sender, which has sent nothing.
+    /// The streams with the senders of their groups, which are taken from their places, and room for what the streams leave. The
+    /// first stream has this place.
+    /// Requires: the streams are of different groups; each has a sender, which has sent nothing.
     pub(crate) fn with_senders(
         self,
         senders: &mut Vec<Option<Sender<A>>, A>,
@@ -113,7 +113,7 @@ impl<T: Read + Drop, A: Allocator> Share<T, A> {
 /// Adds the share of these streams.
 ///
 /// # Errors
-/// `Memory`: out of memory.
+/// `Memory` if an allocation is refused.
 fn add<T: Drop, A: Allocator + Copy>(
     alloc: A,
     shares: &mut Vec<Share<T, A>, A>,
@@ -125,10 +125,10 @@ fn add<T: Drop, A: Allocator + Copy>(
     Ok(())
 }
 
-/// The shares of a launch's streams: of a small launch one for each stream, since each may wait for another's producer.
+/// The shares of a launch's streams. In a small launch each stream has its own, since it may wait for the producer of another.
 ///
 /// # Errors
-/// `Memory`: out of memory.
+/// `Memory` if an allocation is refused.
 pub(crate) fn shares_of<T: Drop, A: Allocator + Copy>(
     alloc: A,
     sources: Vec<Source<T>, A>,

@@ -1,4 +1,4 @@
-//! A reader, once the header of its stream was read.
+//! A reader after the header of its stream was read.
 
 ghost use Rattle.std.specs.Prelude.{◌≡◌, ◌≢◌, ◌<◌, ◌≤◌, length, All, IfErr, IfOk, IfSome, Ok, Some};
 ghost use Rattle.std.specs.Io.KnownBytes.{Consumes, IsAtEnd};
@@ -20,17 +20,17 @@ use gr_threads::sender::Sender;
 use std::alloc::{Allocator, Global};
 use std::io::Read;
 
-/// A reader, once the header of its stream was read.
+/// A reader after the header of its stream was read.
 #[derive(Drop)]
 pub(crate) struct Source<T> {
     pub(crate) header: Header,
     /// The bytes of the header.
     pub(crate) prefix: ArrayVec<u8, HEADER_LENGTH>,
-    /// It has the bytes behind the header.
+    /// It has the bytes after the header.
     pub(crate) reader: T,
 }
 
-/// A stream of which only the header was read: its place among the streams, its source, and the sender for its events.
+/// A stream of which only the header was read: its place among the streams, its reader, and the sender for its events.
 #[derive(Drop)]
 pub(crate) struct Unread<T, A: Allocator = Global> {
     pub(crate) place: u64,
@@ -38,10 +38,10 @@ pub(crate) struct Unread<T, A: Allocator = Global> {
     pub(crate) sender: Sender<A>,
 }
 
-/// The bytes up to the end of a header, or fewer where the reader's end comes before.
+/// The bytes up to the end of a header, or fewer if the reader ends before.
 ///
 /// # Errors
-/// `Read`, where the reader fails.
+/// `Read` if the reader fails.
 fn read_prefix<T: Read>(reader: &mut T) -> Result<ArrayVec<u8, HEADER_LENGTH>, Fault>
     ensures bytes { IfOk result (λ prefix. Consumes (T.remaining reader.old) (T.remaining reader.new) prefix.items) }
     ensures short { IfOk result (λ prefix. length prefix.items < HEADER_LENGTH → IsAtEnd (T.remaining reader.new)) }
@@ -62,8 +62,8 @@ fn read_prefix<T: Read>(reader: &mut T) -> Result<ArrayVec<u8, HEADER_LENGTH>, F
     Ok(prefix)
 }
 
-/// The header at the front of the bytes, behind these headers.
-/// Requires: there are no more bytes than a header has.
+/// The header at the front of the bytes, which comes after these headers.
+/// Requires: there are at most as many bytes as a header has.
 ///
 /// # Errors
 /// The header's fault; `SameGroup`; `OtherLaunch`.
@@ -90,10 +90,10 @@ fn header_behind<A: Allocator>(seen: &Seen<A>, prefix: &[u8]) -> Result<Header, 
     Ok(header)
 }
 
-/// Reads the header of a reader's stream, behind these headers.
+/// Reads the header of a reader's stream, which comes after these headers.
 ///
 /// # Errors
-/// The header's fault; `SameGroup`; `OtherLaunch`; `Read`, where the reader fails.
+/// The header's fault; `SameGroup`; `OtherLaunch`; `Read` if the reader fails.
 pub(crate) fn open<T: Read + Drop, A: Allocator>(
     reader: T,
     seen: &Seen<A>,

@@ -1,4 +1,4 @@
-//! A reader's thread, from its start to its join.
+//! A reader's thread, from its start to its end.
 
 ghost use Rattle.std.specs.Prelude.{◌≡◌, All, map, vec_len};
 ghost use Rattle.gr_streams.specs.Sources.{AreEndsOf, IsRoomFor, IsUnread, begun_of};
@@ -16,7 +16,7 @@ use std::thread::{Promise, PromisedHandle, Threads};
 use std::time::Clock;
 use std::{mem, thread};
 
-/// What a reader's thread promises of its end: what reading these streams leaves.
+/// The promise of a reader's thread: its result is what these streams leave.
 #[derive(Drop)]
 pub(crate) struct OfReader<T, A: Allocator = Global> {
     pub(crate) streams: Snapshot<Vec<Unread<T, A>, A>>,
@@ -33,13 +33,13 @@ impl<T: Read, A: Allocator> Promise<Vec<Ended<A>, A>> for OfReader<T, A> {
 pub(crate) enum ReaderState<T: Read, A: Allocator = Global> {
     /// By a thread.
     Started(PromisedHandle<Vec<Ended<A>, A>, OfReader<T, A>>),
-    /// No more. This is what is left of them.
+    /// Their reading is over. This is what they leave.
     Over(Vec<Ended<A>, A>),
     /// Their thread is being joined.
     Joining,
 }
 
-/// A reader's thread. Contracts see the streams that are read.
+/// A reader's thread. Contracts see the streams that it reads.
 #[derive(Drop)]
 pub(crate) struct ReaderThread<T: Read, A: Allocator = Global> {
     begun: Snapshot<OfReader<T, A>>,
@@ -62,9 +62,9 @@ where
     T: Read + Send + Drop + 'static,
     A: Allocator + Copy + Send + Sync + Drop + 'static,
 {
-    /// Starts a thread that reads streams of which only the headers were read. Where it can't be started, the run is abandoned:
-    /// these streams are cut, and the others end.
-    /// Requires: nothing was sent of them yet; there is room for what is left.
+    /// Starts a thread that reads streams of which only the headers were read. If it can't be started, the run is abandoned:
+    /// these streams are cut, and the reading of the others ends.
+    /// Requires: nothing of them was sent; there is room for what they leave.
     pub(crate) fn start<R: Threads + Wait + Clock + Copy + Send + 'static>(
         rt: R,
         alloc: A,
@@ -101,7 +101,7 @@ where
 }
 
 impl<T: Read, A: Allocator> ReaderThread<T, A> {
-    /// Waits until the streams' reading has ended. Its thread has then ended too.
+    /// Waits until the streams are read. Their thread has then ended too.
     pub(crate) fn settle<R: Threads>(&mut self, rt: &R)
         ensures { self.new ≡ self.old }
     {
@@ -111,7 +111,7 @@ impl<T: Read, A: Allocator> ReaderThread<T, A> {
         };
     }
 
-    /// Waits until the streams' reading has ended.
+    /// Waits until the streams are read. Returns what they leave.
     pub(crate) fn join<R: Threads>(self, rt: &R) -> Vec<Ended<A>, A>
         ensures { AreEndsOf self result.items }
     {

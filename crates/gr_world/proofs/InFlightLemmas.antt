@@ -40,7 +40,7 @@ accesses_after : (old new : Sequence) (e : EventId) (in_flight : Option ClockedA
 accesses_after old new e (Some x) accesses h is are = rw (h.taken) (handled_adds old.taken old.handled new.handled e accesses x h.handles are (rw (h.taken) at is))
 accesses_after old new e None accesses h is are = rw (h.taken, append-nil) (others_add_none old.taken old.handled new.handled e accesses h.handles are (rw (h.taken) at is))
 
--- what stays of a world whose sequence goes on with the same taken lists
+-- a world whose sequence goes on with the same taken lists
 going_is_world : (w : World) → IsWorld w → (sequence : Sequence) (in_flight : Option ClockedAccess) → IsSequence sequence → sequence.taken ≡ w.sequence.taken → (accesses : List ClockedAccess) → AreAccesses sequence.taken sequence.handled accesses → ((k : ℕ) → k < w.config.workers → IsPassedOn (going_on w sequence in_flight) accesses k) → IsWorld (going_on w sequence in_flight)
 going_is_world w world sequence in_flight lawful same accesses along each =
     let sizes = ap (λ (s : Streams). s.sizes) same ∙ world.sizes in
@@ -100,7 +100,7 @@ refuses : {R : Type 0} (w : World) (step : Step) (result : Result R StepError) (
 refuses w step (Ok x) error is refusal = absurd is
 refuses w step (Err f) error is refusal = subst (IsStepRefusal w step) (sym is) refusal
 
--- ---- a worker whose work is told by an equation
+-- ---- a worker, where an equation says what it has
 
 -- an access goes on to its worker's queue
 module _ (w v : World) (world : IsWorld w) (view : w ≡ v) (x : ClockedAccess) (k : ℕ) (b : Work) (in_flight : w.in_flight ≡ Some x) (same : k ≡ worker_of w x) (at : b ≡ get_or w.workers k b) where
@@ -156,7 +156,7 @@ module _ (w v : World) (world : IsWorld w) (view : w ≡ v) (k n : ℕ) (from : 
 pub unreceived : {b : Work} (work : Work) (f : Bool) → Receives b f work → f ≡ false → work ≡ b
 unreceived {b = b} work f receives none = (subst (λ t. Receives b t work) none receives).1
 
--- where it does not change, the world does not
+-- if the worker does not change, the world does not
 pub worker_back : (w v : World) → IsWorld w → w ≡ v → (k : ℕ) (b old : Work) → b ≡ old → old ≡ get_or w.workers k old → (record w { workers = set w.workers k b } ≡ v) × IsWorld (record w { workers = set w.workers k b })
 worker_back w v world view k b old is at =
     let same : record w { workers = set w.workers k b } ≡ w = λ i. record w { workers = (ap (set w.workers k) (is ∙ at) ∙ set-get_or w.workers k old) i } in

@@ -1,4 +1,4 @@
--- A word that is hit in what a worker received is racy, and stays so where lists grow.
+-- A word that is hit in what a worker received is racy, and stays racy if lists grow.
 use Rattle.std.proofs.Common.{◌≡◌, ℕ, ◌<◌, ◌==◌, true, List, ◌++◌, sym, ap, ◌∙◌, subst}
 use Rattle.gr_model.specs.declared.event.Word.{Word}
 use Rattle.gr_model.specs.Configs.{worker_number}
@@ -14,7 +14,7 @@ use Rattle.gr_closure.specs.AccessesAlong.{in_flight_list}
 use Rattle.gr_closure.proofs.Clashing.{lawful_hits_are_races}
 use Rattle.gr_world.specs.Worlds.{IsPassedOn, IsWorld, World, accesses_for, work_at, worker_of}
 
--- a word that is hit in the front of a list is hit in the list
+-- a word that is hit in a prefix of a list is hit in the list
 hit_in_prefix : (xs ys : List ClockedAccess) (v : Word) → IsHitIn xs v → IsHitIn (xs ++ ys) v
 hit_in_prefix xs ys v (p, q, x, y, before, first, second, clash) =
     (p, q, x, y, before, slice_get-append xs ys p x first, slice_get-append xs ys q y second, clash)

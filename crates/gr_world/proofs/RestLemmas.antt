@@ -1,4 +1,4 @@
--- A world at rest: everything that was sent was taken, and everything that was passed on was received; and the hits of all workers.
+-- A world at rest: all that was sent was taken, and all that was passed on was received. And the hits of all workers.
 use Rattle.std.proofs.Common.{◌≡◌, ◌⊎◌, ◌↔◌, ℕ, ◌+◌, ◌<◌, ◌≤◌, ◌==◌, List, [], length, get_or, None, refl, sym, ap, ◌∙◌, subst, inl, inr, ⊎_elim, arith, append-nil, eq-eqb, eq-or-lt_of_le}
 use Rattle.std.proofs.Math.ListN.{get_or-eq_default}
 use Rattle.std.proofs.lemmas.Bool.{cases_lt, eqb-true}
@@ -20,7 +20,7 @@ use Rattle.gr_world.specs.Queues.{Bounded, Work, no_work}
 use Rattle.gr_world.specs.Resting.{AreEmpty, AreIdle, IsHitAtWork}
 use Rattle.gr_world.specs.Worlds.{IsWorld, IsWorldAtRest, World, accesses_for, intake_at, no_queue, queue_of, work_at}
 
--- ---- queues that hold nothing
+-- ---- empty queues
 
 pub empty_at : (w : World) → AreEmpty w.intakes → (q : ℕ) → (intake_at w q).items ≡ []
 empty_at w empty q = ⊎_elim (λ lt. empty q no_queue lt)
@@ -86,7 +86,7 @@ all_below workers n words all lists = lists_as words lists (λ v. (
 -- ---- the races of a world at rest
 
 module _ (w : World) (world : IsWorld w) (rest : IsWorldAtRest w) where
-  -- what a worker received are the accesses to its words
+  -- a worker received all accesses to its words
   pub received_is : (k : ℕ) → k < w.config.workers → (work_at w k).received ≡ accesses_for w k world.passed.accesses
   received_is k lt = sym (world.passed.each k lt ∙ simp (rest.work k, rest.in_flight, append-nil))
 

@@ -44,7 +44,7 @@ module _ (w : World) (world : IsWorld w) (g : ℕ) (x : Event) (there : g < leng
   list_there : g < length w.sent.lists
   list_there = omega (arith, world.sent.count, there)
 
-  -- the records of a group that are queued: the new one more, if it is of the group
+  -- the records of a group in its queue: the new one is added if it is of this group
   queued : (h : ℕ) → events_of h (intake_at new (queue_of w h)).items ≡ events_of h (intake_at w (queue_of w h)).items ++ events_of h (sent ∷ [])
   queued h = where_set (λ q b. q ≡ queue_of w h → events_of h b.items ≡ events_of h (intake_at w q).items ++ events_of h (sent ∷ [])) w.intakes (queue_of w g) queue no_queue (queue_there w world g)
       (λ _. events_append h (intake_at w (queue_of w g)).items (sent ∷ []))
@@ -77,7 +77,7 @@ module _ (w : World) (world : IsWorld w) (g : ℕ) (x : Event) (there : g < leng
       let passed : ArePassedOn new = record { accesses = world.passed.accesses; along = world.passed.along; each = world.passed.each } in
       assumption (prefixes, room_left, queues, places, delivered, passed, world)
 
--- the same, where the stream and the queue are told by equations
+-- the same, where equations say what the stream and the queue are
 module _ (w v : World) (world : IsWorld w) (view : w ≡ v) (g q : ℕ) (same : q ≡ queue_of w g) (b : Bounded Sent) (at : b ≡ get_or w.intakes q b) where
   pub may_put : ¬ IsTrue (is_complete (list_of w.sent g)) → HasRoom b → MayPut v g
   may_put unclosed room = rw (← view) (record { unclosed = unclosed; room = subst HasRoom (at_queue w world g q b same at) room })

@@ -1,4 +1,4 @@
--- What stands at the front of a queue may be taken, and a world in which it was is a world.
+-- The record at the front of a queue may be taken, and the result is a world.
 use Rattle.std.proofs.Common.{◌≡◌, ◌≢◌, ℕ, ◌<◌, ◌≤◌, List, [], ◌∷◌, ◌++◌, length, get_or, set, Option, Some, None, refl, sym, ap, ◌∙◌, subst, ⊎_elim, arith, append_assoc, true≢false}
 use Rattle.std.proofs.Math.ListN.{get_or-eq_default}
 use Rattle.std.proofs.lemmas.Bool.{cases_lt}
@@ -23,7 +23,7 @@ use Rattle.gr_world.specs.Steps.{IsAllowed, IsStepRefusal, IsWorldStep}
 use Rattle.gr_world.specs.Worlds.{AreDelivered, ArePassedOn, IsWorld, World, intake_at, no_queue, queue_of, taking_front}
 use Rattle.gr_world.proofs.Changes.{where_set}
 
--- what is left of a queue whose front was taken off
+-- what remains of a queue after its front was taken off
 popped_is : {T : Type 0} (old new : Bounded T) (result : Option T) (x : T) (rest : List T) → old.items ≡ x ∷ rest → MatchOption result ((old.items ≡ []) × (new ≡ old)) (λ y. (old.items ≡ y ∷ new.items) × (new ≡ leaving old new.items)) → new ≡ leaving old rest
 popped_is old new None x rest front h = absurd (let e : x ∷ rest ≡ [] = sym front ∙ h.0 in cc)
 popped_is old new (Some y) x rest front h = let e : y ∷ new.items ≡ x ∷ rest = sym h.0 ∙ front in h.1 ∙ ap (leaving old) (cc)
@@ -41,11 +41,11 @@ module _ (w v : World) (world : IsWorld w) (view : w ≡ v) (q n : ℕ) (from : 
   pub queue_is : queue_of w s.group ≡ q
   queue_is = world.delivered.own q s (subst (λ (l : List Sent). Contains l s) (sym front) (0, omega arith, refl))
 
-  -- what is queued of a group: the front, if it is of the group, and what is queued behind it
+  -- what is queued of a group: the front, if it is of the group, and what is queued after it
   front_is : (h : ℕ) → events_of h (intake_at w q).items ≡ events_of h (s ∷ []) ++ events_of h rest
   front_is h = ap (events_of h) front ∙ events_append h (s ∷ []) rest
 
-  -- what was sent of the group: what was taken, the front, and what is queued behind it
+  -- what was sent of the group: what was taken, the front, and what is queued after it
   sent_is : list_of w.sent s.group ≡ list_of w.sequence.taken s.group ++ s.event ∷ events_of s.group rest
   sent_is = rw (world.delivered.whole s.group, queue_is, front_is s.group, events_here s)
 
@@ -75,7 +75,7 @@ module _ (w v : World) (world : IsWorld w) (view : w ≡ v) (q n : ℕ) (from : 
   abbrev queue : Bounded Sent
   queue = leaving (intake_at w q) rest
 
-  -- what was queued of a group: what of the front is of the group, and what is queued now
+  -- what was queued of a group: the front, if it is of the group, and what is queued now
   queued : (h : ℕ) → events_of h (intake_at w (queue_of w h)).items ≡ events_of h (s ∷ []) ++ events_of h (intake_at new (queue_of w h)).items
   queued h = where_set (λ p b. p ≡ queue_of w h → events_of h (intake_at w p).items ≡ events_of h (s ∷ []) ++ events_of h b.items) w.intakes q queue no_queue there
       (λ _. front_is h)
@@ -114,7 +114,7 @@ module _ (w v : World) (world : IsWorld w) (view : w ≡ v) (q n : ℕ) (from : 
       let some : (intake_at w q).items ≢ [] = λ empty. let e : s ∷ rest ≡ [] = sym front ∙ empty in absurd (cc) in
       rw (← view, ← from) (search)
 
-  -- the same, where the sequence and the queue are told by equations
+  -- the same, where equations say what the sequence and the queue are
   module _ (sequence : Sequence) (left : Bounded Sent) (is : sequence ≡ taking w.sequence s.group s.event) (result : Option Sent) (popped : MatchOption result ((b.items ≡ []) × (left ≡ b)) (λ y. (b.items ≡ y ∷ left.items) × (left ≡ leaving b left.items))) where
     taken_is : record w { intakes = set w.intakes q left; sequence = sequence } ≡ new
     taken_is =
@@ -127,7 +127,7 @@ module _ (w v : World) (world : IsWorld w) (view : w ≡ v) (q n : ℕ) (from : 
     pub taken_is_step : IsWorldStep v (Take n) (record w { intakes = set w.intakes q left; sequence = sequence })
     taken_is_step = record { allowed = take_allowed; leads = rw (← view, ← from) (s, rest, front, taken_is) }
 
--- where a queue is empty nothing changes
+-- if a queue is empty nothing changes
 
 pub intake_back : (w : World) → IsWorld w → (q : ℕ) (b : Bounded Sent) → b ≡ get_or w.intakes q b → IsWorld (record w { intakes = set w.intakes q b })
 intake_back w world q b at = subst IsWorld (λ k. record w { intakes = sym (ap (set w.intakes q) at ∙ set-get_or w.intakes q b) k }) world

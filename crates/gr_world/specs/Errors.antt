@@ -1,4 +1,4 @@
--- What a refusal of the sequencer is to a world.
+-- Which error of a world comes from an error of the sequencer.
 use Rattle.std.specs.Prelude.{◌≡◌}
 use Rattle.gr_order.specs.declared.go_error.GoError.{GoError}
 use Rattle.gr_order.specs.declared.go_error.GoError.TheVariants.{NotReady as OrderNotReady, Memory as OrderMemory}

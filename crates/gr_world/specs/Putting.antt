@@ -1,4 +1,4 @@
--- What is done where a record is sent.
+-- The sending of a record.
 use Rattle.std.specs.Prelude.{◌≡◌, ℕ, IsTrue}
 use Rattle.gr_model.specs.declared.event.Event.{Event}
 use Rattle.gr_model.specs.Streams.{is_complete, list_of}
@@ -17,7 +17,7 @@ pub record Queues (old : World) (g : ℕ) (x : Event) (new : World) : Type 0 whe
   pub may : MayPut old g
   pub sends : new ≡ sending old g x
 
--- why it was not
+-- why it was not sent
 abbrev pub IsPutFault : World → ℕ → StepError → Type 0
 IsPutFault w g NotOpen = IsTrue (is_complete (list_of w.sent g))
 IsPutFault w g Full = (¬ IsTrue (is_complete (list_of w.sent g))) × ¬ HasRoom (intake_at w (queue_of w g))

@@ -3,7 +3,7 @@
 use Rattle.std.specs.Prelude.{ℕ, ◌<◌, List, [], ◌∷◌, ◌++◌, length}
 use Rattle.gr_shadow.specs.Clashes.{ClockedAccess}
 
--- a queue: for how many values it has room, and those that it holds, the front first
+-- a queue: the number of its places, and the values that it holds, the front first
 pub record Bounded (T : Type 0) : Type 0 where
   pub places : ℕ
   pub items : List T
@@ -21,7 +21,7 @@ pushed q x = record { places = q.places; items = q.items ++ x ∷ [] }
 abbrev pub leaving : {T : Type 0} → Bounded T → List T → Bounded T
 leaving q rest = record { places = q.places; items = rest }
 
--- what a worker has: the accesses that are queued for it, and those that it received, in their order
+-- what a worker has: the accesses in its queue, and those that it received, in order
 pub record Work : Type 0 where
   pub queue : Bounded ClockedAccess
   pub received : List ClockedAccess
@@ -29,7 +29,7 @@ pub record Work : Type 0 where
 abbrev pub no_work : ℕ → Work
 no_work places = record { queue = empty_queue places; received = [] }
 
--- one access more is queued
+-- one more access is queued
 abbrev pub queueing : Work → ClockedAccess → Work
 queueing k x = record { queue = pushed k.queue x; received = k.received }
 

@@ -1,15 +1,15 @@
--- What is looked at to tell whether a world is at rest, and what its report is read off.
+-- What decides whether a world is at rest, and what the races of its report come from.
 use Rattle.std.specs.Prelude.{◌≡◌, List, [], Contains, All}
 use Rattle.gr_model.specs.declared.event.Sent.{Sent}
 use Rattle.gr_model.specs.declared.event.Word.{Word}
 use Rattle.gr_shadow.specs.Clashes.{IsHitIn}
 use Rattle.gr_world.specs.Queues.{Bounded, Work}
 
--- each queue is empty
+-- all intake queues are empty
 abbrev pub AreEmpty : List (Bounded Sent) → Type 0
 AreEmpty intakes = All (λ q. q.items ≡ []) intakes
 
--- so is each worker's
+-- the queues of all workers are empty
 abbrev pub AreIdle : List Work → Type 0
 AreIdle workers = All (λ k. k.queue.items ≡ []) workers
 

@@ -1,4 +1,4 @@
--- The steps of a world: what each does where it is allowed, and why it is refused where it is not.
+-- The steps of a world: what each does if it is allowed, and why it is refused if it is not.
 -- Source: docs/MODEL.md, "The world".
 use Rattle.std.specs.Prelude.{◌≡◌, ◌⊎◌, ℕ, suc, ◌+◌, ◌≤◌, List, [], ◌∷◌, ◌++◌, length, Option, None, Some, IsTrue, is_some}
 use Rattle.gr_model.specs.declared.event.Event.{Event}
@@ -22,11 +22,11 @@ use Rattle.gr_world.specs.Worlds.{World, going_on, intake_at, passing, queue_of,
 
 -- ---- why a step is refused
 
--- the event is an end, or no record that the group may have, or leaves no room for the stream's end
+-- the event is an end, or is not allowed in the group, or leaves no room for the end of the stream
 abbrev pub IsBadEvent : World → ℕ → Event → Type 0
 IsBadEvent w g x = IsTrue (is_end x) ⊎ ¬ IsEventOk x (size_of w.sent g) ⊎ (MOST_RECORDS ≤ length (list_of w.sent g) + 1)
 
--- there is no such group, item, queue or worker, or the event can't be sent
+-- there is no such group, item, queue or worker, or the event must not be sent
 abbrev pub IsBad : World → Step → Type 0
 IsBad w (Send g x) = (length w.sent.sizes ≤ g) ⊎ IsBadEvent w g x
 IsBad w (Close g cut) = length w.sent.sizes ≤ g
@@ -36,13 +36,13 @@ IsBad w (Meet g) = length w.sent.sizes ≤ g
 IsBad w Pass = ⊥
 IsBad w (WorkTake k) = w.config.workers ≤ k
 
--- the group's stream has its end
+-- the group's stream has ended
 abbrev pub IsClosed : World → Step → Type 0
 IsClosed w (Send g x) = IsTrue (is_complete (list_of w.sent g))
 IsClosed w (Close g cut) = IsTrue (is_complete (list_of w.sent g))
 IsClosed w _ = ⊥
 
--- the queue that is pushed into has no room
+-- the queue that the step pushes into has no room
 abbrev pub IsInFlightFull : World → Option ClockedAccess → Type 0
 IsInFlightFull w None = ⊥
 IsInFlightFull w (Some x) = ¬ HasRoom (work_at w (worker_of w x)).queue
@@ -65,13 +65,13 @@ abbrev pub IsBusy : World → Step → Type 0
 IsBusy w (Handle i) = IsTrue (is_some w.in_flight)
 IsBusy w _ = ⊥
 
--- nothing of the item may be handled, or no instance of the group may meet
+-- no event of the item can be handled, or no instance of the group can meet
 abbrev pub IsNotReady : World → Step → Type 0
 IsNotReady w (Handle i) = ¬ CanHandle w.sequence.taken w.sequence.handled i
 IsNotReady w (Meet g) = ¬ CanMeet w.sequence.taken w.sequence.handled g
 IsNotReady w _ = ⊥
 
--- none of the causes is there
+-- none of the causes holds
 pub record IsAllowed (w : World) (step : Step) : Type 0 where
   pub good : ¬ IsBad w step
   pub unclosed : ¬ IsClosed w step
@@ -80,7 +80,7 @@ pub record IsAllowed (w : World) (step : Step) : Type 0 where
   pub free : ¬ IsBusy w step
   pub ready : ¬ IsNotReady w step
 
--- each cause stands where none before it does; memory can run out at a step that is allowed
+-- a cause is given only if no earlier one holds; memory can run out only at a step that is allowed
 abbrev pub IsStepRefusal : World → Step → StepError → Type 0
 IsStepRefusal w step BadStep = IsBad w step
 IsStepRefusal w step NotOpen = ¬ IsBad w step × IsClosed w step
@@ -92,7 +92,7 @@ IsStepRefusal w step Memory = IsAllowed w step
 
 -- ---- what a step does
 
--- an event has this access, or none where it has no word
+-- the access of an event, or none if the event has no word
 abbrev pub IsInFlightOf : Streams → EventId → Option ClockedAccess → Type 0
 IsInFlightOf s e None = word_at s e ≡ None
 IsInFlightOf s e (Some x) = IsAccess s e (bare x)
@@ -122,7 +122,7 @@ pub record IsWorldStep (old : World) (step : Step) (new : World) : Type 0 where
 
 -- ---- lists of steps
 
--- the steps were tried one after another, and so many of them were refused
+-- the steps were tried one after another, and this number of them was refused
 pub data Runs (old : World) : List Step → World → ℕ → Type 0 where
   nothing_tried : Runs old [] old 0
   made : {steps : List Step} {w new : World} {refused : ℕ} (step : Step) → Runs old steps w refused → IsWorldStep w step new → Runs old (steps ++ step ∷ []) new refused

@@ -1,4 +1,4 @@
--- A world as contracts see it, from what it is made of.
+-- A world as contracts see it, made from the fields of the type.
 use Rattle.std.specs.Prelude.{List, Option}
 use Rattle.std.specs.Option.{option_map}
 use Rattle.gr_model.specs.declared.event.Sent.{Sent}

@@ -8,7 +8,7 @@ use Rattle.gr_world.specs.Queues.{Bounded, Work, receiving}
 abbrev pub all_clocked : {Z : Type 0} → List (Access Z) → List ClockedAccess
 all_clocked accesses = map clocked accesses
 
--- the work of this queue and of what was received
+-- what a worker with this queue has that received these
 abbrev pub work_of : {Z : Type 0} → Bounded (Access Z) → List (Access Z) → Work
 work_of queue received = record { queue = record { places = queue.places; items = all_clocked queue.items }; received = all_clocked received }
 

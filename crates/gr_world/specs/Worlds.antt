@@ -1,4 +1,4 @@
--- The world of a run: what was sent, taken, handled, passed on and received; and what is so of every world.
+-- The world of a run: what was sent, taken, handled, passed on and received; and what holds in every world.
 -- Source: docs/MODEL.md, "The world".
 use Rattle.std.specs.Prelude.{◌≡◌, ◌==◌, ℕ, ◌<◌, ◌%◌, List, [], ◌++◌, length, filter, replicate, slice_index_or, slice_set, Option, None, Contains, IsTrue}
 use Rattle.gr_model.specs.declared.event.Event.{Event}
@@ -22,7 +22,7 @@ pub record World : Type 0 where
   pub intakes : List (Bounded Sent)
   -- what was taken, and what of it was handled, in which order
   pub sequence : Sequence
-  -- the access that was handled and is in no queue yet
+  -- the access that was handled and is not yet in a queue
   pub in_flight : Option ClockedAccess
   pub workers : List Work
 
@@ -42,7 +42,7 @@ queue_of w g = g % w.config.queues
 abbrev pub worker_of : World → ClockedAccess → ℕ
 worker_of w x = worker_number x.word w.config.workers
 
--- of groups of these sizes nothing was sent
+-- groups of these sizes have sent nothing
 abbrev pub new_world : List ℕ → Settings → World
 new_world sizes config =
     record {
@@ -56,7 +56,7 @@ new_world sizes config =
 
 -- ---- what a step changes
 
--- one record more of a group was sent
+-- a group sent one more record
 abbrev pub sending : World → ℕ → Event → World
 sending w g x =
     record {
@@ -68,7 +68,7 @@ sending w g x =
       workers = w.workers;
     }
 
--- the record at the front of a queue was taken, and these are left in it
+-- the record at the front of a queue was taken, and these remain in it
 abbrev pub taking_front : World → ℕ → Sent → List Sent → World
 taking_front w q s rest =
     record {
@@ -104,7 +104,7 @@ passing w x =
       workers = slice_set w.workers (worker_of w x) (queueing (work_at w (worker_of w x)) x);
     }
 
--- a worker received the access at the front of its queue, and these are left in it
+-- a worker received the access at the front of its queue, and these remain in it
 abbrev pub working : World → ℕ → ClockedAccess → List ClockedAccess → World
 working w k x rest =
     record {
@@ -116,18 +116,18 @@ working w k x rest =
       workers = slice_set w.workers k (receiving (work_at w k) x rest);
     }
 
--- ---- what is so of every world
+-- ---- what holds in every world
 
--- of these accesses those that go to a worker
+-- those of the accesses that go to a worker
 abbrev pub accesses_for : World → ℕ → List ClockedAccess → List ClockedAccess
 accesses_for w k accesses = filter (λ x. worker_of w x == k) accesses
 
--- what was taken of a group, followed by what is queued of it, is what was sent; and each queue has records of its groups alone
+-- the records of a group that were taken, followed by those in its queue, are the records that it sent; a queue has only its own groups' records
 pub record AreDelivered (w : World) : Type 0 where
   pub whole : (g : ℕ) → list_of w.sent g ≡ list_of w.sequence.taken g ++ events_of g (intake_at w (queue_of w g)).items
   pub own : (q : ℕ) (s : Sent) → Contains (intake_at w q).items s → queue_of w s.group ≡ q
 
--- what a worker received, what is queued for it and what is on its way to it are, in this order, the accesses along the handled order that go to it
+-- what a worker received, then what is in its queue, then what is on its way to it: these are all handled accesses that go to this worker
 abbrev pub IsPassedOn : World → List ClockedAccess → ℕ → Type 0
 IsPassedOn w accesses k = accesses_for w k accesses ≡ (work_at w k).received ++ (work_at w k).queue.items ++ accesses_for w k (in_flight_list w.in_flight)
 
@@ -138,13 +138,13 @@ pub record ArePassedOn (w : World) : Type 0 where
 
 pub record IsWorld (w : World) : Type 0 where
   pub config : IsConfig w.config
-  -- all groups are there
+  -- the shape is one of a launch
   pub shape : IsShape w.sent.sizes
-  -- each list that was sent is a front of one that its group may have: an end stands last and nowhere else
+  -- each list that was sent is a prefix of one that its group may have: an end comes last and nowhere else
   pub sent : ArePrefixes w.sent
-  -- and one that has no end has room for it
+  -- a list that has no end has room for it
   pub room : (g : ℕ) → ¬ IsTrue (is_complete (list_of w.sent g)) → length (list_of w.sent g) < MOST_RECORDS
-  -- so is each list that was taken, and the order of the handled events is lawful
+  -- the lists that were taken are such prefixes too, and the order of the handled events is lawful
   pub sequence : IsSequence w.sequence
   pub sizes : w.sequence.taken.sizes ≡ w.sent.sizes
   pub queues : length w.intakes ≡ w.config.queues
@@ -154,9 +154,9 @@ pub record IsWorld (w : World) : Type 0 where
   pub delivered : AreDelivered w
   pub passed : ArePassedOn w
 
--- ---- when nothing is left to do
+-- ---- when nothing remains to do
 
--- all streams have their ends, all queues are empty, no access is on its way, and no step of the sequencer is left
+-- all streams have ended, all queues are empty, no access is on its way, and the sequencer can make no step
 pub record IsWorldAtRest (w : World) : Type 0 where
   pub closed : AreComplete w.sent
   pub intakes : (q : ℕ) → (intake_at w q).items ≡ []

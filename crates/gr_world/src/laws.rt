@@ -1,9 +1,9 @@
-//! A law of worlds. It is the contract of a function that does nothing, told in words in docs/MODEL.md, "The world".
+//! A law of worlds: the contract of a function that does nothing. docs/MODEL.md, "The world", says it in words.
 
 ghost use Rattle.gr_world.specs.Laws.{ReceivedHitsStay};
 
-/// In every world, a word that is hit in what a worker received is racy among the grounded events of all lists to which
-/// the lists that were taken grow.
+/// A word that is hit in what a worker of some world received is racy. It stays racy among the grounded events, however the
+/// lists that were taken grow.
 pub fn nothing_is_taken_back()
     ensures { ReceivedHitsStay }
 {}

@@ -1,5 +1,5 @@
 //! The world of a run: what senders, the sequencer and workers do, one atomic step at a time, in whatever order.
-//! Between them stand bounded queues. Told in words in docs/MODEL.md, "The world".
+//! Bounded queues connect them. docs/MODEL.md, "The world", says it in words.
 #![tactic(auto)]
 
 pub mod laws;

@@ -1,6 +1,6 @@
 //! Bounded queues.
 //!
-//! Invariant: a queue holds at most as many values as it has places, and there is room for that many.
+//! Invariant: a queue holds at most as many values as it has places, and has memory for that many.
 
 ghost use Rattle.std.specs.Prelude.{◌≡◌, ◌↔◌, ◌∷◌, [], List, IsTrue, IfOk, MatchOption, length};
 ghost use Rattle.gr_world.specs.Queues.{HasRoom, empty_queue, leaving, pushed};
@@ -10,8 +10,8 @@ use std::alloc::{Allocator, Global};
 use std::collections::VecDeque;
 use std::marker::Model;
 
-/// A bounded queue. Its room is allocated when it is made. Contracts see for how many values it has room, and the
-/// values that it holds, the front first.
+/// A bounded queue. All its memory is allocated when it is made. Contracts see the number of its places, and the values that
+/// it holds, the front first.
 #[derive(Drop)]
 #[derive_where(Debug; T)]
 pub struct Queue<T, A: Allocator = Global> {
@@ -43,14 +43,14 @@ impl<T, A: Allocator> Queue<T, A> {
         Ok(Queue { places, items })
     }
 
-    /// Whether it holds nothing.
+    /// Whether it is empty.
     pub fn is_empty(&self) -> bool
         ensures { IsTrue result ↔ (self.now.items ≡ []) }
     {
         self.items.is_empty()
     }
 
-    /// Whether there is room for one value more.
+    /// Whether there is room for one more value.
     pub fn has_room(&self) -> bool
         ensures { IsTrue result ↔ HasRoom self.now }
     {

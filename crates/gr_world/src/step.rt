@@ -1,4 +1,4 @@
-//! The steps of a world, and why one is refused.
+//! The steps of a world, and the causes for which a step is refused.
 
 ghost use Rattle.std.specs.Prelude.{◌≡◌};
 ghost use Rattle.gr_world.specs.Errors.{Becomes};
@@ -12,9 +12,9 @@ use thiserror::Error;
 /// One atomic action of a sender, of the sequencer or of a worker.
 #[derive(Clone, Copy, Debug, PartialEq, Eq)]
 pub enum Step {
-    /// A group's sender sends an event, which is no end.
+    /// A group's sender sends an event that is not an end.
     Send(u16, Event),
-    /// A group's sender sends the end of its stream, with whether the stream was cut.
+    /// A group's sender sends the end of its stream, and says whether the stream was cut.
     Close(u16, bool),
     /// The sequencer takes the record at the front of this intake queue.
     Take(u16),
@@ -28,26 +28,26 @@ pub enum Step {
     WorkTake(u16),
 }
 
-/// Why a step is refused: the first of these causes that is there. Nothing is then changed.
+/// Why a step is refused: the first of these causes that holds. The world is then unchanged.
 #[derive(Clone, Copy, Debug, PartialEq, Eq, Error)]
 pub enum StepError {
-    /// There is no such group, item, queue or worker; or what is sent is an end, is no record that the group may have,
-    /// or would leave no room for the stream's end.
+    /// There is no such group, item, queue or worker. Or the event that is sent is an end, is not allowed in the group, or
+    /// leaves no room for the end of the stream.
     #[error("bad step")]
     BadStep,
-    /// The group's stream has its end.
+    /// The group's stream has ended.
     #[error("the stream has its end")]
     NotOpen,
     /// The queue has no room.
     #[error("the queue is full")]
     Full,
-    /// The queue holds nothing, or no access is on its way.
+    /// The queue is empty, or no access is on its way.
     #[error("nothing is there")]
     Empty,
-    /// An access is on its way, and so no event can be handled.
+    /// An access is on its way, so no event can be handled.
     #[error("an access is on its way")]
     Busy,
-    /// The item's next event waits for something, or no instance of the group may meet.
+    /// The item's next event waits for something, or no barrier instance of the group can meet.
     #[error("not ready")]
     NotReady,
     /// An allocation was refused.

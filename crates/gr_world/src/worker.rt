@@ -1,6 +1,6 @@
-//! A worker: the accesses that are queued for it, and those that it received, which exist in proofs alone.
+//! A worker: the accesses in its queue, and the accesses that it received. The latter exist only in proofs.
 //!
-//! Invariant: its shadows stand for the accesses that it received.
+//! Invariant: its shadows represent the accesses that it received.
 
 ghost use Rattle.std.specs.Prelude.{◌≡◌, ◌↔◌, [], IsTrue, IfOk, OnErr};
 ghost use Rattle.gr_model.specs.Reports.{Lists, WordBelow};
@@ -17,7 +17,7 @@ use gr_shadow::shadows::Shadows;
 use std::alloc::{Allocator, Global};
 use std::marker::Model;
 
-/// A worker of a run. Contracts see the queue of its accesses, and those that it received.
+/// A worker of a run. Contracts see its queue, and the accesses that it received.
 #[derive(Drop)]
 #[derive_where(Debug)]
 pub struct Worker<A: Allocator = Global> {
@@ -39,7 +39,7 @@ impl<A: Allocator> Model for Worker<A> {
 }
 
 impl<A: Allocator + Copy> Worker<A> {
-    /// A worker that received nothing, and whose queue has room for `places` accesses.
+    /// A worker that received nothing. Its queue has room for `places` accesses.
     ///
     /// # Errors
     /// `Memory` if an allocation is refused.
@@ -55,7 +55,7 @@ impl<A: Allocator + Copy> Worker<A> {
         })
     }
 
-    /// Receives the access at the front of its queue. Returns whether there was one.
+    /// Receives the access at the front of its queue, if there is one. Returns whether there was one.
     ///
     /// # Errors
     /// `Memory` if an allocation is refused. The worker is then unchanged.
@@ -89,7 +89,7 @@ impl<A: Allocator + Copy> Worker<A> {
 }
 
 impl<A: Allocator> Worker<A> {
-    /// Whether nothing is queued for it.
+    /// Whether its queue is empty.
     pub fn is_idle(&self) -> bool
         ensures { IsTrue result ↔ (self.now.queue.items ≡ []) }
     {
@@ -103,7 +103,7 @@ impl<A: Allocator> Worker<A> {
         self.queue.has_room()
     }
 
-    /// Queues an access for it.
+    /// Puts an access at the end of its queue.
     /// Requires: `has_room`.
     pub fn push(&mut self, access: Access<A>)
         requires { HasRoom self.old.queue }

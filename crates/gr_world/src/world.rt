@@ -1,8 +1,8 @@
 //! The world.
 //!
-//! Invariant: what was taken of each group, followed by what is queued of it, is what was sent, and the handled order
-//! is lawful; what each worker received, followed by what is queued for it and what is on its way to it, are the
-//! accesses along the handled order that go to it.
+//! Invariant: the order of the handled events is lawful. Of each group, the records that were taken, followed by those in its
+//! queue, are the records that were sent. Of each worker, the accesses that it received, followed by those in its queue and by
+//! the one on its way to it, are all accesses of the handled events that go to this worker.
 
 ghost use Rattle.std.specs.Prelude.{◌≡◌, ◌≢◌, ◌↔◌, ◌<◌, ◌+◌, IsTrue, IsFalse, IfOk, IfErr, OnOk, OnErr, None, length, replicate};
 ghost use Rattle.gr_model.specs.declared.limits.TheConstants.{MOST_RECORDS};
@@ -39,8 +39,8 @@ use gr_shadow::merge::merge;
 use std::alloc::{Allocator, Global};
 use std::marker::Model;
 
-/// The world of a run. Contracts see what was sent, what is queued for the sequencer, what was taken and in which order
-/// it was handled, what is on its way, and what each worker has.
+/// The world of a run. Contracts see what was sent, the intake queues, what was taken and in which order it was handled, the
+/// access on its way, and what each worker has.
 #[derive(Drop)]
 #[derive_where(Debug)]
 pub struct World<A: Allocator = Global> {
@@ -96,7 +96,7 @@ fn workers_of<A: Allocator + Copy>(
 }
 
 impl<A: Allocator + Copy> World<A> {
-    /// The world of a launch of this shape, in which nothing was sent.
+    /// The world of a launch of this shape, before anything is sent.
     ///
     /// # Errors
     /// `Memory` if an allocation is refused.
@@ -126,8 +126,8 @@ impl<A: Allocator + Copy> World<A> {
     /// Makes a step.
     ///
     /// # Errors
-    /// The first of the causes of `StepError` that is there. `Memory` is answered only to a step that is allowed, and
-    /// never to a `Pass`. Nothing is then changed.
+    /// The first cause of `StepError` that holds; the world is then unchanged. Only a step that is allowed can fail with
+    /// `Memory`, and a `Pass` never does.
     pub fn step(&mut self, step: Step) -> Result<(), StepError>
     where
         A: Copy,
@@ -147,7 +147,7 @@ impl<A: Allocator + Copy> World<A> {
         }
     }
 
-    /// The words that are hit in what some worker received, in ascending order, each once.
+    /// All words that are hit in what some worker received, in ascending order, each once.
     fn races(&self) -> Result<Vec<Word, A>, Memory>
         ensures { IfOk result (λ words. Lists WordBelow (IsHitAtWork self.now.workers) words.items) }
     {
@@ -184,7 +184,7 @@ impl<A: Allocator + Copy> World<A> {
         })
     }
 
-    /// Handles an item's next event; its access, if it has one, is then on its way.
+    /// Handles an item's next event. If the event has an access, it is then on its way.
     fn handle(&mut self, item: ItemId) -> Result<(), StepError>
     where
         A: Copy,
@@ -201,7 +201,7 @@ impl<A: Allocator + Copy> World<A> {
         self.handle_next(item)
     }
 
-    /// Handles the next event of an item that is there, where no access is on its way; its access, if it has one, is then.
+    /// Does the same, once it is known that the item exists and that no access is on its way.
     fn handle_next(&mut self, item: ItemId) -> Result<(), StepError>
     where
         A: Copy,
@@ -221,7 +221,7 @@ impl<A: Allocator + Copy> World<A> {
         Ok(())
     }
 
-    /// Handles the barriers of a group's next convergent instance.
+    /// Handles all barriers of a group's next convergent instance.
     fn meet(&mut self, group: u16) -> Result<(), StepError>
     where
         A: Copy,
@@ -252,7 +252,7 @@ impl<A: Allocator + Copy> World<A> {
         Ok(())
     }
 
-    /// Tries the steps in order. Returns how many were refused.
+    /// Tries the steps in order. Returns the number of refused steps.
     pub fn run(&mut self, steps: &[Step]) -> u64
     where
         A: Copy,
@@ -270,14 +270,14 @@ impl<A: Allocator + Copy> World<A> {
 }
 
 impl<A: Allocator> World<A> {
-    /// Whether no intake queue holds anything.
+    /// Whether all intake queues are empty.
     fn is_drained(&self) -> bool
         ensures { IsTrue result ↔ AreEmpty self.now.intakes }
     {
         self.intakes.iter().all(|intake| intake.is_empty())
     }
 
-    /// Whether no worker's queue holds anything.
+    /// Whether the queues of all workers are empty.
     fn is_idle(&self) -> bool
         ensures { IsTrue result ↔ AreIdle self.now.workers }
     {
@@ -289,8 +289,8 @@ impl<A: Allocator> World<A> {
         true
     }
 
-    /// Whether the world is at rest: all streams have their ends, the queues are empty, nothing is on its way, and no
-    /// step of the sequencer is left. The handled events are then the grounded ones.
+    /// Whether the world is at rest: all streams have ended, the queues are empty, no access is on its way, and the sequencer
+    /// can make no step. The handled events are then exactly the grounded ones.
     pub fn at_rest(&self) -> bool
         ensures rest { IsTrue result ↔ IsWorldAtRest self.now }
         ensures done { IsTrue result → AreGrounded self.now.sent self.now.sequence.handled }
@@ -320,8 +320,7 @@ impl<A: Allocator> World<A> {
         records
     }
 
-    /// Whether a group may not send this event: it is an end, is none that the group may have, or leaves no room for
-    /// the end.
+    /// Whether a group must not send this event: it is an end, is not allowed in the group, or leaves no room for the end.
     /// Requires: there is such a group.
     fn is_bad(&self, group: u16, event: &Event) -> bool
         requires { group < length self.now.sent.sizes }
@@ -360,9 +359,8 @@ impl<A: Allocator> World<A> {
         self.put(group, Event::end(cut))
     }
 
-    /// Queues a record at the end of what the group sent and of its queue.
-    /// Requires: there is such a group, and it may have the record; if that is no end, there is room for the end behind
-    /// it.
+    /// Adds a record to what the group sent, and to its queue.
+    /// Requires: the group exists and may have the record. If the record is not an end, there is room for an end after it.
     fn put(&mut self, group: u16, event: Event) -> Result<(), StepError>
     where
         A: Copy,
@@ -415,7 +413,7 @@ impl<A: Allocator> World<A> {
         Ok(())
     }
 
-    /// The access on its way goes to the queue of its word's worker. It takes no memory.
+    /// The access on its way goes to the queue of its word's worker. This allocates nothing.
     fn pass(&mut self) -> Result<(), StepError>
         ensures step { OnOk result (IsWorldStep self.old steps.Pass self.new) }
         ensures err { IfErr result (IsStepRefusal self.old steps.Pass) }

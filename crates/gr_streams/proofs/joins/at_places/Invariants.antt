@@ -2,7 +2,7 @@ use Rattle.std.proofs.Common.{◌≡◌, ◌≤◌, ◌+◌, ◌++◌, Some, map
 use Rattle.std.specs.Vec.Iter.{into_iter_items, into_iter_len}
 use Rattle.gr_streams.proofs.joins.at_places.Given as goal
 
--- the senders so far stand at their places
+-- the senders so far are at their places
 abbrev pub invariant-loop-sender : goal.invariant-loop-sender
 invariant-loop-sender g l = record {
   left : l.yielded ++ into_iter_items l.sender-iterator ≡ l.fn.senders.items;

@@ -12,7 +12,7 @@ use Rattle.gr_streams.specs.Sources.{AreLeft, Begun, IsEndOf}
 use Rattle.gr_streams.proofs.JoinLemmas.{lists_more, one_end, one_input, placed_prefix}
 use Rattle.gr_streams.proofs.joins.keep_each.Goals as goal
 
--- what was left, and what one more stream has left, whose fault is the next
+-- what the streams left so far, and what one more leaves, whose fault is `next`
 module _ (bs : List Begun) (b : Begun) (rs : List Seat) (r : Seat) (first next both : Option Fault) (left : AreLeft bs rs first) (end : IsEndOf b r next) where
   module _ (tells : (lists : Result (List (List Event)) Fault) (list : Result (List Event) Fault) (pushed : List (List Event)) (more : List Event) → Tells lists pushed first → Tells list more next → Tells (and_one lists list) (pushed ++ more ∷ []) both) where
     left_next : IfSome both (λ f. f ≢ faults.Write) → AreLeft (bs ++ b ∷ []) (rs ++ r ∷ []) both

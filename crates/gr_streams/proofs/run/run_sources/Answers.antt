@@ -86,7 +86,7 @@ at_places-senders-requires g c =
       fits = omega (arith, room.fits, c.groups.ensures.count, groups, senders.count, c.in-Ok-start.started.0.ok.0);
     }
 
--- what a thread tells of its input is why the run fails, unless a thread is missing
+-- the fault of a thread's input is why the run fails, unless a thread is missing
 why : {Y : Type 0} (meaning : Result Y Fault) (f : Fault) → FailsHere f meaning → (f ≡ faults.Threads) ⊎ Fails f meaning
 why meaning f here = grind arith
 

@@ -3,7 +3,7 @@ use Rattle.std.specs.Io.KnownBytes.{Consumes}
 use Rattle.gr_record.specs.declared.layout.TheConstants.{HEADER_LENGTH}
 use Rattle.gr_streams.proofs.source.read_prefix.Given as goal
 
--- what was read so far stood at the front
+-- what was read so far is the front of the bytes
 abbrev pub invariant-loop-piece : goal.invariant-loop-piece
 invariant-loop-piece g l = Consumes (g.T.Read.remaining l.initial.reader) (g.T.Read.remaining l.reader) l.prefix.items
 

@@ -9,7 +9,7 @@ use Rattle.gr_world.proofs.world.World.run.Goals.{in-Ok, in-Err}
 pub loop-step-init : goal.loop-step-init
 loop-step-init g c = record { runs = nothing_tried; few = omega arith }
 
--- one step more was tried
+-- one more step was tried
 more_made : (old new : World) (steps : List Step) (i refused now : ℕ) (step : Step) → i < length steps → step ≡ slice_index_or steps i step → Runs old (take i steps ++ step ∷ []) new refused → now ≡ refused → Runs old (take (i + 1) steps) new now
 more_made old new steps i refused now step lt at runs is = rw (is, take_more steps i step lt, ← at) runs
 
