@@ -1,5 +1,5 @@
-//! The calls of a sequencer, each tried twice: where memory ran out, nothing is to have changed, and the second try is
-//! judged. A `None` is a call that changed something though memory ran out, or that was out of memory twice.
+//! The calls of a sequencer, each tried twice: a try without memory must change nothing, and then the second try
+//! counts. `None`: the first try changed something, or both had no memory.
 
 ghost use Rattle.std.specs.Prelude.{IsTrue};
 ghost use Rattle.gr_lanes.specs.Takes.{IsEventButItem};
@@ -45,7 +45,7 @@ pub(crate) fn new<A: Allocator + Copy>(alloc: A, sizes: &[u16]) -> Option<Sequen
     }
 }
 
-/// What a sequencer tells of itself: how many records it took of each of three groups, how many events it holds, and
+/// What a sequencer says of itself: how many records it took of each of three groups, how many events it holds, and
 /// whether it is at its end.
 fn state<A: Allocator>(sequencer: &Sequencer<A>) -> ([u32; 3], u64, bool) {
     (
@@ -98,7 +98,7 @@ fn take_and_handle_once<A: Allocator + Copy>(
     }
 }
 
-/// The step, or `None` where the event waits.
+/// The step, or `None` if the event waits.
 pub(crate) fn take_and_handle<A: Allocator + Copy>(
     sequencer: &mut Sequencer<A>,
     group: u16,
@@ -128,7 +128,7 @@ pub(crate) fn step<A: Allocator + Copy>(
     }
 }
 
-/// The step, or `None` where it is not ready.
+/// The step, or `None` if it is not ready.
 pub(crate) fn handle<A: Allocator + Copy>(
     sequencer: &mut Sequencer<A>,
     item: ItemId,
@@ -140,7 +140,7 @@ pub(crate) fn handle<A: Allocator + Copy>(
     }
 }
 
-/// The step, or `None` where it is not ready.
+/// The step, or `None` if it is not ready.
 pub(crate) fn meet<A: Allocator + Copy>(
     sequencer: &mut Sequencer<A>,
     group: u16,

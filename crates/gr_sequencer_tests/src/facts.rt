@@ -1,4 +1,4 @@
-//! What the contracts alone say, each of which a wrong body would answer otherwise. A fact tells whether it was reached.
+//! Facts that follow from the contracts alone, and that a wrong body would break. Each returns whether it was reached.
 
 ghost use Rattle.std.specs.Prelude.{IfOk, OnOk, length, map};
 ghost use Rattle.gr_model.specs.Shapes.{HasItem};
@@ -60,7 +60,7 @@ const WAIT: [Record; 2] = [
     (2, 0, ACQUIRE, Space::Global, 4, FIRST_0_0),
 ];
 
-/// The first event of an item goes, and so the second is its first.
+/// The first event of an item goes, and so the second becomes its first.
 fn pop_first_of_two<A: Allocator>(windows: &mut Windows<A>, item: ItemId) -> bool
     requires { HasItem (map length windows.old) item }
 {
@@ -76,7 +76,7 @@ fn pop_first_of_two<A: Allocator>(windows: &mut Windows<A>, item: ItemId) -> boo
     false
 }
 
-/// Behind a group's end no record is taken.
+/// No record is taken after the end of its group.
 fn refusal_behind_the_end<A: Allocator>(lanes: &Lanes<A>, event: &Event) -> bool {
     if !lanes.is_complete(0) {
         return false;
@@ -120,7 +120,7 @@ fn decide_of_one<A: Allocator>(lanes: &mut Lanes<A>) -> bool
     false
 }
 
-/// Two who came with two marks make their instance divergent.
+/// Two items that came with two marks make their instance divergent.
 fn is_divergent_of_two_marks<A: Allocator>(lanes: &Lanes<A>) -> bool {
     if lanes.shape().groups() != 1 || lanes.shape().items(0) != 2 || lanes.forgotten(0) != 0 {
         return false;
@@ -135,7 +135,7 @@ fn is_divergent_of_two_marks<A: Allocator>(lanes: &Lanes<A>) -> bool {
     false
 }
 
-/// While a group goes on nobody is missing.
+/// No item is missing while the group goes on.
 fn cause_while_the_group_goes_on<A: Allocator>(lanes: &Lanes<A>) -> bool {
     if lanes.shape().groups() == 0 || lanes.forgotten(0) != 0 || lanes.is_complete(0) {
         return false;
@@ -155,7 +155,7 @@ fn next_behind_the_last_release<A: Allocator>(order: &Schedule<A>, item: ItemId)
     }
 }
 
-/// Where a step is ready the order is not at its end.
+/// The order is not at its end if a step is ready.
 fn is_at_end_before_a_step<A: Allocator>(order: &Schedule<A>) -> bool {
     if let Some(Ready::Item(_)) = order.ready() {
         prove!(!order.is_at_end());
@@ -164,7 +164,7 @@ fn is_at_end_before_a_step<A: Allocator>(order: &Schedule<A>) -> bool {
     false
 }
 
-/// Where an instance meets, as many events are handled as the group has items.
+/// If an instance meets, as many events are handled as the group has items.
 fn meet_of_all<A: Allocator>(order: &mut Schedule<A>) -> bool {
     if order.lanes().shape().groups() == 0 {
         return false;
@@ -255,7 +255,7 @@ fn take_both<A: Allocator + Copy>(
     lanes.take(0, second)
 }
 
-/// Lanes of one group of so many items, of which two records were taken.
+/// Lanes of one group with this many items, of which two records were taken.
 fn lanes_of(alloc: Global, items: u16, first: &Record, second: &Record) -> Result<Lanes, SeqError>
     ensures { IfOk result (λ l. IsWhole l) }
 {
@@ -300,13 +300,13 @@ fn nobody_is_missing_while_a_group_goes_on(rt: HostRuntime) -> Result<(), SeqErr
     Ok(())
 }
 
-/// Has an order take a record.
+/// Takes a record into an order.
 fn order_takes<A: Allocator + Copy>(order: &mut Schedule<A>, record: &Record) -> bool {
     let event = event_of(record);
     is_lawful(&event) && order.taken(record.0) < 16_777_216 && order.take(record.0, event).is_ok()
 }
 
-/// Whether a fact is reached with an order of one group of so many items, which takes these records first.
+/// Whether a fact is reached with an order of one group with this many items that first takes these records.
 fn is_reached_by_order<F: Fn(&mut Schedule) -> bool>(
     alloc: Global,
     items: u16,
@@ -321,7 +321,7 @@ fn is_reached_by_order<F: Fn(&mut Schedule) -> bool>(
     Ok(are_taken && fact(&mut order))
 }
 
-/// Handles the releases of the first item, while the acquire of the second waits for both.
+/// Handles a release of the first item, while the acquire of the second waits for two.
 fn waits_for_both<A: Allocator>(order: &mut Schedule<A>) -> bool {
     next_behind_the_last_release(order, SECOND);
     let is_handled = order.handle(FIRST).is_ok();
@@ -357,7 +357,7 @@ fn all_of_a_group_meet(rt: HostRuntime) -> Result<(), Memory> {
     Ok(())
 }
 
-/// Has an agenda take a record.
+/// Takes a record into an agenda.
 fn agenda_takes<A: Allocator + Copy>(agenda: &mut Agenda<A>, record: &Record) -> bool {
     let event = event_of(record);
     is_lawful(&event)
@@ -365,7 +365,7 @@ fn agenda_takes<A: Allocator + Copy>(agenda: &mut Agenda<A>, record: &Record) ->
         && agenda.take(record.0, event).is_ok()
 }
 
-/// Whether an agenda finds the one step that there is, or `None` where memory was too short for the agenda.
+/// Whether an agenda finds the only step; `None` if there was no memory for the agenda.
 fn finds_its_step<A: Allocator + Copy>(alloc: A) -> Option<bool> {
     let shape = shape_of(alloc, &[1]).ok()?;
     let mut agenda = Agenda::new(alloc, shape).ok()?;
@@ -415,7 +415,7 @@ fn a_sequencer_is_not_at_its_end_before_its_groups(rt: HostRuntime) {
     assert!(rt; holds_always(rt.alloc(), &[1], &AtEndOfNothing));
 }
 
-/// The step of a release has a clock that counts it. Where memory is short it is made at the second try.
+/// The step of a release has a clock that counts it. If memory is short it is made at the second try.
 struct StepOfRelease;
 
 impl Trial for StepOfRelease {

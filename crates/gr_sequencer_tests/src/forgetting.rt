@@ -1,5 +1,5 @@
-//! An instance of barriers that all items have passed takes no memory: many take no more growths than a few do, also behind one
-//! that was divergent.
+//! A barrier instance that all items have passed takes no memory: many take no more growths than a few do, also after a divergent
+//! one.
 
 use crate::calls::{is_lawful, shape_of};
 use crate::rows::{BARRIER, GLOBAL, event_of};
@@ -37,7 +37,7 @@ fn part<A: Allocator + Copy>(order: &mut Schedule<A>) -> Option<()> {
     Some(())
 }
 
-/// Both items part once, or not, and meet so many times.
+/// Both items part once, or not, and then meet a number of times.
 fn go<A: Allocator + Copy>(order: &mut Schedule<A>, is_parted: bool, times: u32) -> Option<()> {
     if is_parted {
         part(order)?;
@@ -48,21 +48,21 @@ fn go<A: Allocator + Copy>(order: &mut Schedule<A>, is_parted: bool, times: u32)
     Some(())
 }
 
-/// The same of two items of which nothing was taken.
+/// The same by a new schedule of two items.
 fn go_anew<A: Allocator + Copy>(alloc: A, is_parted: bool, times: u32) -> Option<()> {
     let shape = shape_of(alloc, &[2]).ok()?;
     let mut order = Schedule::new(alloc, shape).ok()?;
     go(&mut order, is_parted, times)
 }
 
-/// Whether they do with no more growths than these.
+/// Whether they do so with at most this many growths.
 fn goes_within(alloc: Global, growths: u64, is_parted: bool, times: u32) -> bool {
     let memory = Refusing::new(alloc, growths);
     let done = go_anew(&memory, is_parted, times).is_some();
     done && !memory.refused()
 }
 
-/// Whether they do a thousand times with the fewest growths with which they do so a few times.
+/// Whether the fewest growths that suffice for a few meetings also suffice for a thousand.
 fn takes_no_more(alloc: Global, is_parted: bool) -> bool {
     for growths in 0..64 {
         if goes_within(alloc, growths, is_parted, 9) {

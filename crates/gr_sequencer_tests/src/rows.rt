@@ -1,4 +1,4 @@
-//! The worked rows: the records of a launch, and what is told of it once all of them were taken and no step is left.
+//! The worked rows: the records of a launch, and its summary after all of them were taken and no step is left.
 
 use gr_model::event::{Event, EventId, ItemId, Kind, Name, Order, Scope, Space, Word};
 use gr_model::names::Names;
@@ -7,7 +7,7 @@ use gr_model::report::{AcquireCause, Divergence, DivergenceCause, Unmatched};
 /// A record: its group, its item, its kind, its memory, its word or site, and the releases that it names.
 pub(crate) type Record = (u16, u16, Kind, Space, u32, &'static [Name]);
 
-/// What is told at the end: the first two of each list, and the numbers.
+/// The summary at the end: the first two of each list, and the numbers.
 #[derive(Clone, Copy, Debug, PartialEq, Eq)]
 pub(crate) struct Told {
     pub(crate) races: (Option<Word>, Option<Word>),
@@ -20,7 +20,7 @@ pub(crate) struct Told {
     pub(crate) records: u64,
 }
 
-/// What is told of a group with one item and no records but its end.
+/// The summary of a group with one item and no records but its end.
 pub(crate) const NOTHING: Told = Told {
     races: (None, None),
     divergences: (None, None),
@@ -32,7 +32,7 @@ pub(crate) const NOTHING: Told = Told {
     records: 1,
 };
 
-/// A row: its name, the sizes of its groups, its records, and what is told at its end.
+/// A row: its name, the sizes of its groups, its records, and its summary at the end.
 pub(crate) type Row = (&'static str, &'static [u16], &'static [Record], Told);
 
 /// The record as an event.
@@ -269,7 +269,7 @@ const TWO_NAMES: Row = (
 );
 
 /// All rows. They meet each growth: of barriers that meet and that diverge, of releases to one and to several, of names, of what
-/// waits, and of each list that is told.
+/// waits, and of each list of a summary.
 pub(crate) static ROWS: [Row; 6] = [
     MISSING_ITEM,
     TWO_SITES,

@@ -1,5 +1,5 @@
-//! The worked rows by the sequencer, each with each growth refused in turn: the steps are made once all records were taken,
-//! or behind each record, or in one call with it where that can be, by `step` or by the calls that it stands for.
+//! The worked rows by the sequencer, each with each growth refused in turn. The steps are made after all records were taken, or
+//! after each record, or in one call with it if that is possible; by `step`, or by `handle` and `meet`.
 
 use crate::calls::{handle, meet, step, take, take_and_handle};
 use crate::rows::{ROWS, Record, Row, Told, event_of};
@@ -13,13 +13,13 @@ use std::test::Fail;
 /// How the steps are made.
 #[derive(Clone, Copy, Debug, PartialEq, Eq)]
 enum Way {
-    /// By `step`, once all records were taken.
+    /// By `step`, after all records were taken.
     Last,
-    /// By `step`, behind each record.
+    /// By `step`, after each record.
     Behind,
-    /// By `take_and_handle` where it makes one, and else by `step`, once all records were taken.
+    /// By `take_and_handle` if it makes one, and else by `step`, after all records were taken.
     Together,
-    /// By `handle` and `meet`, once all records were taken.
+    /// By `handle` and `meet`, after all records were taken.
     ByCalls,
 }
 
@@ -71,7 +71,7 @@ fn go_round<A: Allocator + Copy>(sequencer: &mut Sequencer<A>, group: u16) -> Op
     Some(())
 }
 
-/// So many rounds over both groups: more than any row has records.
+/// Rounds over both groups: more than any row has records.
 fn go_rounds<A: Allocator + Copy>(sequencer: &mut Sequencer<A>) -> Option<()> {
     for _time in 0..11_u32 {
         go_round(sequencer, 1)?;
@@ -89,13 +89,13 @@ fn follow<A: Allocator + Copy>(sequencer: &mut Sequencer<A>, row: &Row, way: Way
     }
 }
 
-/// What a sequencer that has taken nothing tells at a row's end.
+/// The summary of a row by a new sequencer.
 fn told_of<A: Allocator + Copy>(sequencer: &mut Sequencer<A>, row: &Row, way: Way) -> Option<Told> {
     follow(sequencer, row, way)?;
     told(sequencer)
 }
 
-/// A row, told by a new sequencer.
+/// A row, by a new sequencer.
 #[derive(Clone, Copy)]
 struct Telling<'a> {
     row: &'a Row,
@@ -112,7 +112,7 @@ impl Trial for Telling<'_> {
     }
 }
 
-/// Whether a row is told whichever growth is refused.
+/// Whether a row comes out whichever growth is refused.
 fn is_told_always(alloc: Global, row: &Row, way: Way) -> bool {
     holds_always(alloc, row.1, &Telling { row, way })
 }

@@ -1,4 +1,4 @@
-//! What a sequencer tells at its end.
+//! The summary of a sequencer at its end.
 
 use crate::rows::{NOTHING, Told};
 use gr_model::report::{Divergence, Unmatched};
@@ -44,7 +44,7 @@ fn cut<A: Allocator + Copy>(sequencer: &Sequencer<A>) -> Option<(Option<u16>, Op
     Some(two(&list))
 }
 
-/// What is told at the end, without races; `None` before it.
+/// The summary of a sequencer, without races; `None` before its end.
 pub(crate) fn told<A: Allocator + Copy>(sequencer: &Sequencer<A>) -> Option<Told> {
     Some(Told {
         divergences: divergences(sequencer)?,

@@ -1,13 +1,13 @@
-//! What is tried with a new sequencer, and tried again with each growth refused in turn.
+//! A trial of a new sequencer, repeated with each growth refused in turn.
 
 use crate::calls::new;
 use gr_sequencer::sequencer::Sequencer;
 use refusing::growths::refuse_each;
 use std::alloc::{Allocator, Global};
 
-/// What is done with a sequencer that has taken nothing, and how it is to answer.
+/// What a new sequencer does, and the answer that it must give.
 pub(crate) trait Trial {
-    /// Whether it answers so.
+    /// Whether it gives this answer.
     fn holds<A: Allocator + Copy>(&self, sequencer: &mut Sequencer<A>) -> bool;
 }
 

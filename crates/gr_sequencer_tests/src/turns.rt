@@ -1,4 +1,4 @@
-//! Barriers that are taken one by one, with all steps made behind each.
+//! Barriers that are taken one by one, with all steps made after each.
 
 use crate::calls::{step, take};
 use crate::rows::{BARRIER, event_of};
@@ -11,10 +11,10 @@ use std::alloc::Allocator;
 /// Barriers of one group: their items and sites, in the order in which they are taken.
 type Barriers = [(u16, u32); 4];
 
-/// What is done behind a barrier: how many barriers are handled one by one, and whether an instance meets.
+/// What is done after a barrier: how many barriers are handled one by one, and whether an instance meets.
 type Done = (u32, bool);
 
-/// A row: its name, its barriers, and what is done behind each.
+/// A row: its name, its barriers, and what is done after each.
 type Row = (&'static str, Barriers, [Done; 4]);
 
 static ROWS: [Row; 5] = [
@@ -45,7 +45,7 @@ static ROWS: [Row; 5] = [
     ),
 ];
 
-/// What is done until no step is left, which is after few.
+/// Makes steps until none is left, which is after few.
 fn steps<A: Allocator + Copy>(sequencer: &mut Sequencer<A>) -> Option<Done> {
     let mut done: Done = (0, false);
     for _ in 0..8 {
@@ -68,7 +68,7 @@ fn steps<A: Allocator + Copy>(sequencer: &mut Sequencer<A>) -> Option<Done> {
     None
 }
 
-/// What is done behind each of the barriers by a sequencer that has taken nothing.
+/// What a new sequencer does after each of the barriers.
 fn seen<A: Allocator + Copy>(
     sequencer: &mut Sequencer<A>,
     barriers: &Barriers,

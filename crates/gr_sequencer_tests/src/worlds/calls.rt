@@ -1,5 +1,5 @@
-//! The calls of a world, each tried twice: where memory ran out, nothing is to have changed, and the second try is
-//! judged. A `None` is a call that changed something though memory ran out, or that was out of memory twice.
+//! The calls of a world, each tried twice: a try without memory must change nothing, and then the second try
+//! counts. `None`: the first try changed something, or both had no memory.
 
 use crate::calls::shape_of;
 use gr_model::config::Config;
@@ -8,7 +8,7 @@ use gr_world::step::{Step, StepError};
 use gr_world::world::World;
 use std::alloc::Allocator;
 
-/// How many workers and intake queues a world has, and for how many values a queue has room.
+/// The numbers of workers, of intake queues, and of places in each queue.
 pub(crate) type Numbers = (u16, u16, u32);
 
 fn new_once<A: Allocator + Copy>(
@@ -34,7 +34,7 @@ pub(crate) fn new<A: Allocator + Copy>(
     }
 }
 
-/// What is answered to a step.
+/// The answer to a step.
 pub(crate) fn step<A: Allocator + Copy>(
     world: &mut World<A>,
     step: Step,

@@ -1,4 +1,4 @@
-//! What the contracts alone say, each of which a wrong body would answer otherwise. A fact tells whether it was reached.
+//! Facts that follow from the contracts alone, and that a wrong body would break. Each returns whether it was reached.
 
 use crate::rows::{GLOBAL, WRITE, event_of};
 use crate::worlds::calls::new;

@@ -45,7 +45,7 @@ fn schedule_of(
     })
 }
 
-/// Tries a step, and tells whether it was made. `None` where no later try could do better.
+/// Tries a step. Returns whether it was made; `None` if no later try could do better.
 fn is_made(world: &mut World, tried: Step) -> Option<bool> {
     match step(world, tried)? {
         Ok(()) => Some(true),

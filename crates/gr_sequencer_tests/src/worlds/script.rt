@@ -1,4 +1,4 @@
-//! Scripts: steps, each with what is answered to it.
+//! Scripts: steps, each with the answer to it.
 
 use crate::rows::{Record, Told, event_of};
 use crate::worlds::calls::{Numbers, new, step};
@@ -35,7 +35,7 @@ impl Tried {
     }
 }
 
-/// A step, and what is answered to it.
+/// A step, and the answer to it.
 pub(crate) type Line = (Tried, Result<(), StepError>);
 
 /// A script of steps, which begins with a new world.
@@ -61,8 +61,7 @@ pub(crate) fn steps_of<A: Allocator>(alloc: A, script: &Script) -> Option<Vec<St
     Some(steps)
 }
 
-/// The place of the first line whose step is answered otherwise, if there is one, or behind which a world is at rest or not
-/// where it is not to be: it is at rest behind the last line alone, if something is reported.
+/// The place of the first line with a wrong answer, or after which the world is at rest too early or not at the end.
 fn first_wrong_line<A: Allocator + Copy>(world: &mut World<A>, script: &Script) -> Option<usize> {
     let last = script.lines.len().saturating_sub(1);
     for (place, (tried, answer)) in script.lines.iter().enumerate() {

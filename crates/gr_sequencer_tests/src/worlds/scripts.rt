@@ -1,4 +1,4 @@
-//! What is answered to each step of a script, and what is reported at its end.
+//! The answer to each step of a script, and the report at its end.
 
 use crate::rows::{BARRIER, END, FIRST_0_0, GLOBAL, LOCAL, NOTHING, READ, Told, WRITE};
 use crate::worlds::calls::new;
@@ -91,7 +91,7 @@ const NEW_WORLD: Script = Script {
     told: None,
 };
 
-/// What is not there, and records that a group may not have: told before all else.
+/// Groups and items that are not there, and records that a group must not have, come before all other causes.
 const BAD_STEPS: Script = Script {
     name: "bad steps, before and behind each other cause",
     sizes: &[1, 1],
@@ -243,7 +243,7 @@ const TWO_QUEUES: Script = Script {
     }),
 };
 
-/// An event that was not handled, an access on its way, and one that is queued, each keep a world from its rest.
+/// A world is not at rest before each event is handled, and each access is passed on and received.
 const LEFT_OVER: Script = Script {
     name: "an event that is left over up to the last step",
     sizes: &[1],
@@ -264,7 +264,7 @@ const LEFT_OVER: Script = Script {
     }),
 };
 
-/// So do a stream without its end, and an end that was not taken.
+/// A world is not at rest before each stream has its end, and each end is taken.
 const ENDS: Script = Script {
     name: "an end that is left over up to the last step",
     sizes: &[1, 1],
