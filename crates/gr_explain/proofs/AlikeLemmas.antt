@@ -20,7 +20,7 @@ use Rattle.gr_explain.specs.Alike.{AlikeEvents, AreOfOnly, IsChosen, IsInPlaceOf
 
 -- ---- exempt in whatever groups
 
--- two classes whose accesses are exempt though they are of two groups are exempt in any
+-- where accesses of two classes are exempt in two groups, they are exempt in any
 pub none_clashes : (two : Bool) (c : Class) (y : ClockedAccess) (events : List EventId) → exempt c 0 y.class 1 ≡ true → find (is_sought two c y) events ≡ None
 none_clashes two c y [] is = refl
 none_clashes two c y (e ∷ events) is = grind (arith, none_clashes two c y events is)
@@ -94,7 +94,7 @@ greatest_is : (o : Option ℕ) (n : ℕ) → IsGreatest o n (greatest o n)
 greatest_is None n = record { new = omega arith; old = λ m is. cc; either = inl refl }
 greatest_is (Some k) n = record { new = grind (arith, nat_tests); old = λ m is. grind (arith, nat_tests); either = grind (arith, nat_tests) }
 
--- events behind the same one
+-- events after the same first one
 keeps_cons : (x : EventId) (kept all : List EventId) → KeepsEvents kept all → KeepsEvents (x ∷ kept) (x ∷ all)
 keeps_cons x kept all keeps = record {
   each = λ e there. ⊎_elim (λ is. rw (← is) (Contains-first x all)) (λ rest. Contains-rest x all e (keeps.each e rest)) (first_or_rest x kept e there);
@@ -104,7 +104,7 @@ keeps_cons x kept all keeps = record {
       (first_or_rest x all e there);
 }
 
--- one of two events that stands for both
+-- one of two events that represents both
 keeps_one : (d e n : EventId) (events : List EventId) → IsInPlaceOf d e → IsInPlaceOf d n → (d ≡ n) ⊎ (d ≡ e) → KeepsEvents (d ∷ events) ((e ∷ events) ++ n ∷ [])
 keeps_one d e n events for_old for_new either = record {
   each = λ f there. ⊎_elim
@@ -140,6 +140,6 @@ inserted entries after i n v value is = rw (is, value) (kept_in i n (greatest (l
 
 -- ---- clashes
 
--- where an access clashes with an event, it does with one that stands for it
+-- where an access clashes with an event, it clashes with an event that represents it
 pub later_clashes : (c : Class) (y : ClockedAccess) (d e : EventId) → IsInPlaceOf d e → event_clashes c y e ≡ true → event_clashes c y d ≡ true
 later_clashes c y d e p h = grind (arith, nat_tests, p.item, p.index)

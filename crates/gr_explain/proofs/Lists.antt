@@ -36,7 +36,7 @@ mapped_there f xs x (k, lt, is) = (k, grind (arith, common_steps), grind (arith,
 pub any_there : {X : Type 0} (f : X → Bool) (xs : List X) → list_any f xs ≡ true → (x : X) × Contains xs x × (f x ≡ true)
 any_there f xs h = let found = Any-from_list_any f xs h in (found.1, (found.0, found.2, found.3), found.4)
 
--- what holds of each two holds where one is changed for one of which it holds, too
+-- what holds of each two holds after one is replaced by one for which it holds, too
 module _ {X : Type 0} (R : X → X → Type 0) (xs : List X) (p : ℕ) (x d : X) (lt : p < length xs) (first : (z : X) → R (get_or xs p d) z → R x z) (second : (z : X) → R z (get_or xs p d) → R z x) where
   pub pairs_set : AllPairs R xs → AllPairs R (slice_set xs p x)
   pairs_set pairs i j e below within =

@@ -1,4 +1,4 @@
--- The accesses to a word that a search stands for, where one more comes.
+-- What a search keeps of the accesses to a word, after one more.
 use Rattle.std.proofs.Common.{arith, ◌≡◌, ◌≢◌, ◌⊎◌, ◌↔◌, true, false, Contains, ℕ, ◌<◌, List, [], ◌∷◌, ◌++◌, length, get_or, slice_set, Some, refl, sym, ap, ◌∙◌, inl, inr, ⊎_elim}
 use Rattle.std.proofs.lemmas.List.Elements.{Contains-append_left, Contains-push, Contains-push_cases}
 use Rattle.gr_model.specs.declared.event.EventId.{EventId}
@@ -17,7 +17,7 @@ use Rattle.gr_explain.proofs.PairOrder.{least_same, least_then}
 
 -- ---- the lists of the classes
 
--- an event that is put into a list, with what was in it: the other lists stay
+-- where an event is put into a list, the other lists stay
 put_in : (old new : List SeenList) (before : List EventId) (after : SeenList) (event : EventId) (class : Class) → after.class ≡ class → ((e : EventId) → IsAmong after.events e ↔ ((e ≡ event) ⊎ IsAmong before e)) → Contains new after → ((e : EventId) → IsAmong before e → IsSeen old e class) → ((l : SeenList) → Contains new l → (after ≡ l) ⊎ Contains old l) → ((l : SeenList) → Contains old l → ((l.class ≡ class) × (before ≡ l.events)) ⊎ Contains new l) → IsSeenMore old event class new
 put_in old new before after event class is among has seen_before was still e c = (
   λ (seen : IsSeen new e c). ⊎_elim
@@ -100,7 +100,7 @@ module _ (accesses : List ClockedAccess) (y : ClockedAccess) {Z : Type 0} (old :
         (least_then (IsClashPair y.word accesses) (IsPairOf old.classes.items y) old.least new.least stands.least least);
   }
 
--- an access that comes stands, whether it is of the word or of another one
+-- the search keeps the accesses after one more, whether that is to the word or not
 pub access_added : {Z : Type 0} (w : Word) (y : ClockedAccess) (old new : Search Z) → ((y.word ≡ w) × IsAdded y old new) ⊎ ((y.word ≢ w) × (new ≡ old)) → (accesses : List ClockedAccess) → StandsFor w accesses old → StandsFor w (accesses ++ y ∷ []) new
 access_added w y old new (inl (same, added)) accesses stands = rw (← same) (added accesses (rw same stands))
 access_added w y old new (inr (other, is)) accesses stands = rw is (other_stands w accesses y other old stands)

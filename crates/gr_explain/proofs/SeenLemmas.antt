@@ -66,7 +66,7 @@ module _ (seen : SeenList) (y : ClockedAccess) (items : List ItemId) (i : ItemId
       pub first_on : IsPairOn seen y (items ++ i ∷ []) least
       first_on = record { pair_with = record { earlier = d; clashing = first.1; turned = turned; below = up }; item = (items_more items i d.at).1 (inr first.0) }
 
-      -- a pair is one of before, or none that is below the first one's
+      -- a pair was there before, or is not below that of the first event
       pub on_or_not_below : (pair : Pair) → IsPairOn seen y (items ++ i ∷ []) pair → IsPairOn seen y items pair ⊎ ¬ PairBelow pair least
       on_or_not_below pair on = ⊎_elim
           (λ was. inl (record { pair_with = on.pair_with; item = was }))

@@ -30,7 +30,7 @@ none_at f (x ∷ xs) none = grind (arith, none_at f xs)
 -- ---- the races of a later access
 
 module _ (y : ClockedAccess) (tag : ℕ) where
-  -- what holds of one list holds of each in its list
+  -- what holds of one list holds of each list in the list of it alone
   of_one : (l m : AlikeEvents) → Contains (l ∷ []) m → (P : AlikeEvents → Type 0) → P l → P m
   of_one l m (zero, lt, is) P holds = subst P is holds
   of_one l m (suc k, lt, is) P holds = absurd (omega (arith, lt))
@@ -119,7 +119,7 @@ module _ (y : ClockedAccess) (tag : ℕ) where
 
 -- ---- the lists
 
--- an access with its tag, kept in a list of its tag and class: the other lists stay
+-- where an access with its tag is kept in a list of its tag and class, the other lists stay
 keeps_in : (old new : List AlikeEvents) (before : List EventId) (after : AlikeEvents) (tag : ℕ) (y : ClockedAccess) → after.tag ≡ tag → after.class ≡ y.class → KeepsEvents after.events (before ++ event_of y ∷ []) → Contains new after → ((e : EventId) → Contains before e → IsKeptIn old tag y.class e) → ((l : AlikeEvents) → Contains new l → (after ≡ l) ⊎ Contains old l) → ((l : AlikeEvents) → Contains old l → ((l.tag ≡ tag) × (l.class ≡ y.class) × (before ≡ l.events)) ⊎ Contains new l) → KeepsMore old tag y new
 keeps_in old new before after tag y tag_is class_is keeps has kept_before was still = record {
   each = λ t c e kept. ⊎_elim

@@ -1,4 +1,4 @@
--- The races of words, one for each two tags, where what stands for the accesses along a lawful order of all grounded events is known.
+-- The races of words, one for each two tags, from what is kept of the accesses along a lawful order of all grounded events.
 use Rattle.std.proofs.Common.{◌<◌, length, ◌≡◌, ◌⊎◌, ℕ, suc, Bool, true, false, All, AllPairs, Contains, List, [], ◌∷◌, ◌++◌, arith, get_or, map, sym, ◌∙◌, subst, inl, inr, ⊎_elim}
 use Rattle.std.proofs.lemmas.Bool.Decides.{nat_tests}
 use Rattle.std.proofs.lemmas.List.{get_or-map, length-map}

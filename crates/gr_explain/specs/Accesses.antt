@@ -21,7 +21,7 @@ pub record AreWanted (wanted : List EventId) (r : Race) : Type 0 where
 abbrev pub access_at : {Z : Type 0} → List (EventId × Access Z) → EventId → Option (Access Z)
 access_at kept e = lookup (same_event e) kept
 
--- what is kept of an event is the access among these that it has, or nothing where it has none
+-- what is kept of an event is its access among these, or nothing where it has none
 abbrev pub IsThatOf : {Z : Type 0} → List ClockedAccess → EventId → Option (Access Z) → Type 0
 IsThatOf accesses e None = (x : ClockedAccess) → Contains accesses x → event_of x ≢ e
 IsThatOf accesses e (Some a) = Contains accesses (clocked a) × (event_of (clocked a) ≡ e)

@@ -12,7 +12,7 @@ pub record AlikeEvents : Type 0 where
   pub class : Class
   pub events : List EventId
 
--- events are of this group, if one is known of which all are
+-- if a group is known, all events are of it
 abbrev pub AreOfOnly : Option ℕ → List EventId → Type 0
 AreOfOnly only events = IfSome only (λ g. (e : EventId) → Contains events e → e.at.group ≡ g)
 
@@ -31,7 +31,7 @@ pub record IsOfKind (tag : ℕ) (class : Class) (l : AlikeEvents) : Type 0 where
 abbrev pub entry_event : ItemId × ℕ → EventId
 entry_event e = record { at = e.0; index = e.1 }
 
--- a later access clashes with that of an event, which is of the class
+-- a later access clashes with the access of an event, which is of the class
 abbrev pub event_clashes : Class → ClockedAccess → EventId → Bool
 event_clashes class y e = clashes_with e.at e.index class y
 
@@ -39,11 +39,11 @@ event_clashes class y e = clashes_with e.at e.index class y
 abbrev pub are_of_groups : Bool → EventId → EventId → Bool
 are_of_groups two e f = not two || not (e.at.group == f.at.group)
 
--- a later access clashes with that of an event, which is of the class, and of another group where that is asked for
+-- a later access clashes with the access of an event, which is of the class, and is of another group where that is asked for
 abbrev pub is_sought : Bool → Class → ClockedAccess → EventId → Bool
 is_sought two class y e = are_of_groups two e (event_of y) && event_clashes class y e
 
--- the event of one of these with which a later access clashes, if there is one: one of another group, if there is such a one
+-- an event of these with which a later access clashes, if there is one: one of another group, if there is such a one
 pub record IsChosen (l : AlikeEvents) (y : ClockedAccess) (chosen : Option EventId) : Type 0 where
   pub one : IfSome chosen (λ e. Contains l.events e × IsTrue (event_clashes l.class y e))
   pub whole : (two : Bool) (e : EventId) → Contains l.events e → IsTrue (is_sought two l.class y e) → MatchOption chosen ⊥ (λ d. IsTrue (are_of_groups two d (event_of y)))
@@ -52,12 +52,12 @@ abbrev pub greatest : Option ℕ → ℕ → ℕ
 greatest None index = index
 greatest (Some kept) index = if nat_lt kept index then index else kept
 
--- an event stands for another: it is of its item, and its index is not smaller
+-- an event represents another: it is of the same item, and its index is not smaller
 pub record IsInPlaceOf (d e : EventId) : Type 0 where
   pub item : d.at ≡ e.at
   pub index : e.index ≤ d.index
 
--- what is kept is of the events, and each of these has one that stands for it
+-- each event that is kept is one of these, and each of these is represented by one that is kept
 pub record KeepsEvents (kept all : List EventId) : Type 0 where
   pub each : (e : EventId) → Contains kept e → Contains all e
   pub some : (e : EventId) → Contains all e → (d : EventId) × Contains kept d × IsInPlaceOf d e

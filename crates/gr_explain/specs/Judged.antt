@@ -24,7 +24,7 @@ pub record AreAccesses (s : Streams) (r : Race) : Type 0 where
 abbrev pub ClashOn : Word → ClockedAccess → ClockedAccess → Type 0
 ClashOn w x y = ClashesAt (λ z. z.word) clashes w x y
 
--- what the two events of a pair are to each other on its word
+-- whether the two events of a pair race on its word
 abbrev pub IsJudged : Streams → Race → Judgement → Type 0
 IsJudged s r j = IsJudgement s r.word r.first r.second j
 

@@ -1,4 +1,4 @@
--- What two events are to each other on a word: a race or none, where both are judged.
+-- Whether two events race on a word, where both are judged.
 -- Source: docs/MODEL.md, "Races" and "What waits for what".
 use Rattle.gr_model.specs.declared.event.EventId.{EventId}
 use Rattle.gr_model.specs.declared.event.Word.{Word}

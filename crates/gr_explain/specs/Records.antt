@@ -4,7 +4,7 @@ use Rattle.std.specs.Prelude.{◌≡◌, ℕ, ◌<◌, List, [], length, slice_i
 use Rattle.gr_model.specs.declared.event.Event.{Event}
 use Rattle.gr_model.specs.Streams.{AreAccepted, Streams, is_of, list_of, places_from, size_of}
 
--- of each of so many items the places of its records, ascending
+-- for each of so many items, the places of its records, ascending
 pub record IsIndexOf (items : ℕ) (list : List Event) (index : List (List ℕ)) : Type 0 where
   pub count : length index ≡ items
   pub each : (i : ℕ) → i < items → slice_index_or index i [] ≡ places_from (is_of i) 0 list

@@ -1,4 +1,4 @@
--- The accesses to a word that stand for a list of accesses, and the least pair of them that clashes.
+-- What a search keeps of the accesses to a word: their events by classes, and the least pair of them that clashes.
 -- Source: docs/MODEL.md, "Hits".
 use Rattle.std.specs.Prelude.{◌≡◌, ◌⊎◌, ◌↔◌, Contains, List, [], ◌∷◌, ◌++◌}
 use Rattle.gr_model.specs.declared.event.EventId.{EventId}
@@ -28,7 +28,7 @@ pub record IsPairOf (classes : List SeenList) (y : ClockedAccess) (pair : Pair) 
   pub there : Contains classes list
   pub pair_with : IsPairWith list y pair
 
--- what came of these accesses is known, and the least pair of them that clashes
+-- the search keeps each of these accesses to the word, and the least pair of them that clashes
 pub record StandsFor {Z : Type 0} (w : Word) (accesses : List ClockedAccess) (search : Search Z) : Type 0 where
   pub seen : (e : EventId) (c : Class) → IsSeen search.classes.items e c ↔ IsOfList w accesses e c
   pub least : IsLeastOf (IsClashPair w accesses) search.least

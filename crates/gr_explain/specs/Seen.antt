@@ -47,7 +47,8 @@ pub record IsPairWith (seen : SeenList) (y : ClockedAccess) (pair : Pair) : Type
 abbrev pub IsItemBelow : ItemId → ItemId → Type 0
 IsItemBelow i j = (i.group < j.group) ⊎ ((i.group ≡ j.group) × (i.item < j.item))
 
--- the first event of the least pair so far is of an item below this one, and below this event: so none of this item's pairs with the event is below that pair
+-- the first event of the least pair so far is of an item below this one, and is below this event: so no pair of this event with one of this
+-- item is below that pair
 pub record IsPassed (least : Option Pair) (item : ItemId) (event : EventId) : Type 0 where
   pub pair : Pair
   pub least_is : least ≡ Some pair

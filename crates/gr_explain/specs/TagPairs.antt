@@ -48,14 +48,15 @@ pub record IsFoundAmong (lists : List AlikeEvents) (y : ClockedAccess) (tag : �
   pub clash : IsTrue (event_clashes list.class y earlier)
   pub found : IsFound earlier list.tag y tag t
 
--- a race of a later access with one of these takes the place of another one of the two tags, if then there is one of two groups
+-- a race stays, or a race of a later access with one of these, of the same two tags, takes its place; there is one of two groups then, if
+-- there was or if the later access clashes with one of another group
 pub record IsPreferred (l : AlikeEvents) (y : ClockedAccess) (tag : ℕ) (old new : TaggedRace) : Type 0 where
   pub one : (old ≡ new) ⊎ IsFoundAmong (l ∷ []) y tag new
   pub tags : IsTrue (is_of_tags l.tag tag new)
   pub kept : (two : Bool) → IsTrue (are_of_groups two old.race.first old.race.second) → IsTrue (are_of_groups two new.race.first new.race.second)
   pub whole : (two : Bool) (e : EventId) → Contains l.events e → IsTrue (is_sought two l.class y e) → IsTrue (are_of_groups two new.race.first new.race.second)
 
--- the races of a later access with these were added, one for each two tags that had none, or none of two groups
+-- the races of a later access with these were added: one for each two tags that had none, or none of two groups
 pub record Finds (y : ClockedAccess) (tag : ℕ) (lists : List AlikeEvents) (old new : List TaggedRace) : Type 0 where
   pub kept : (two : Bool) (a b : ℕ) → IsTrue (has_tags two old a b) → IsTrue (has_tags two new a b)
   pub each : (t : TaggedRace) → Contains new t → Contains old t ⊎ IsFoundAmong lists y tag t
@@ -83,7 +84,7 @@ pub record IsThat (y : ClockedAccess) (tag : ℕ) (t : ℕ) (c : Class) (e : Eve
   pub class_is : c ≡ y.class
   pub event_is : e ≡ event_of y
 
--- one more access is kept: what is kept is that or was kept, and each of these has one that stands for it
+-- one more access is kept: what is kept is that one or was kept, and each of these is represented by one that is kept
 pub record KeepsMore (old : List AlikeEvents) (tag : ℕ) (y : ClockedAccess) (new : List AlikeEvents) : Type 0 where
   pub each : (t : ℕ) (c : Class) (e : EventId) → IsKeptIn new t c e → IsThat y tag t c e ⊎ IsKeptIn old t c e
   pub some : (t : ℕ) (c : Class) (e : EventId) → IsThat y tag t c e ⊎ IsKeptIn old t c e → (d : EventId) × IsKeptIn new t c d × IsInPlaceOf d e
@@ -101,8 +102,8 @@ pub record IsTaggedClash (tag_of : EventId → ℕ) (w : Word) (accesses : List 
   pub clash : IsClashPair w accesses (t.race.first, t.race.second)
   pub tags : HasTags tag_of (t.race.first, t.race.second) t.tag t.other
 
--- of these accesses to a word each is kept, or a later one of its item, tag and class; and there is one race for each two tags of which
--- some two accesses clash, one of two groups if some of two groups clash
+-- each of these accesses to a word is kept, or a later one of its item, tag and class; and there is one race for each two tags that have
+-- accesses that clash: one of two groups, if accesses of two groups clash
 pub record StandsForTags {Z : Type 0} (tag_of : EventId → ℕ) (w : Word) (accesses : List ClockedAccess) (pairs : TagPairs Z) : Type 0 where
   pub each : (t : ℕ) (c : Class) (e : EventId) → IsKeptIn pairs.lists.items t c e → IsOfTag tag_of w accesses t c e
   pub some : (t : ℕ) (c : Class) (e : EventId) → IsOfTag tag_of w accesses t c e → (d : EventId) × IsKeptIn pairs.lists.items t c d × IsInPlaceOf d e

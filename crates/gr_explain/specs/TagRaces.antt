@@ -24,8 +24,8 @@ pub record HasRaceOfTags (tag_of : EventId → ℕ) (races : List Race) (two : B
 abbrev pub IsApart : (EventId → ℕ) → Race → Race → Type 0
 IsApart tag_of r q = WordBelow r.word q.word ⊎ ((r.word ≡ q.word) × ¬ HasTags tag_of (r.first, r.second) (tag_of q.first) (tag_of q.second))
 
--- of each of these words a race for each two tags that race on it, one of two groups if there is such a one, by the words ascending; and
--- no two tags of a word twice
+-- for each of these words, a race for each two tags that race on it: one of two groups, if there is such a race; by the words ascending,
+-- and no two tags of a word twice
 pub record AreTagRaces (s : Streams) (tag_of : EventId → ℕ) (words : List Word) (races : List Race) : Type 0 where
   pub pairs : All (λ r. IsRacePair s r.word (r.first, r.second)) races
   pub within : All (λ r. Contains words r.word) races

@@ -9,17 +9,17 @@ use Rattle.gr_shadow.specs.Kept.{same_word}
 use Rattle.gr_explain.specs.TagPairs.{StandsForTags}
 use Rattle.gr_explain.specs.declared.tag_pairs.TagPairs.{TagPairs}
 
--- what stands for the accesses to a word is there
+-- the pairs of a word are kept, and they are those of the accesses to it
 pub record HasPairs {Z : Type 0} (tag_of : EventId → ℕ) (accesses : List ClockedAccess) (entries : List (Word × TagPairs Z)) (w : Word) : Type 0 where
   pub pairs : TagPairs Z
   pub at : lookup (same_word w) entries ≡ Some pairs
   pub stands : StandsForTags tag_of w accesses pairs
 
--- that of each of these words
+-- so it is for each of these words
 abbrev pub StandForWords : {Z : Type 0} → (EventId → ℕ) → List Word → List ClockedAccess → List (Word × TagPairs Z) → Type 0
 StandForWords tag_of words accesses entries = (w : Word) → Contains words w → HasPairs tag_of accesses entries w
 
--- the races that were found of a word, if anything stands for its accesses
+-- the races that were found on a word, if its pairs are kept
 abbrev pub races_of : {Z : Type 0} → Option (TagPairs Z) → List Race
 races_of None = []
 races_of (Some pairs) = map (λ t. t.race) pairs.found.items

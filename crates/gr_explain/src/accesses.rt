@@ -81,7 +81,7 @@ impl<A: Allocator + Copy> Keeper<A> for WantedKeeper<'_, A> {
     {}
 }
 
-/// The accesses of the wanted events of a launch that are grounded.
+/// The accesses of those wanted events of a launch that are grounded.
 ///
 /// # Errors
 /// `Memory`: out of memory.
@@ -97,7 +97,7 @@ fn accesses_of<A: Allocator + Copy>(
     Ok(accesses)
 }
 
-/// The accesses of the events of pairs of a launch that are grounded.
+/// The accesses of those events of these pairs that are grounded.
 ///
 /// # Errors
 /// `Memory`: out of memory.

@@ -49,7 +49,7 @@ fn greatest(kept: Option<u32>, index: u32) -> u32
     }
 }
 
-/// The group of all events, if they are of one, where one of a group comes.
+/// The group of all events, if they are of one, after one more event of this group.
 fn only_with(only: Option<u16>, group: u16) -> Option<u16>
     ensures { result ≡ spec.only_with only group }
 {
@@ -88,7 +88,7 @@ impl<A: Allocator> Alike<A> {
         self.tag == tag && self.class == access.class
     }
 
-    /// The event of one of these with which a later access to the word clashes, and of another group if `two`.
+    /// An event of these with which a later access to the word clashes: one of another group, if `two`.
     fn find_clashing(&self, access: &Access<A>, two: bool) -> Option<EventId>
         ensures { result ≡ find (is_sought two self.now.class (clocked access.now)) self.now.events }
     {
@@ -103,8 +103,8 @@ impl<A: Allocator> Alike<A> {
             })
     }
 
-    /// The event of one of these with which a later access to the word clashes, and of another group if `two`. Where two accesses of
-    /// these classes are exempt though they are of two groups, none clashes.
+    /// An event of these with which a later access to the word clashes: one of another group, if `two`. Where accesses of the two classes
+    /// are exempt in any two groups, none clashes.
     pub(crate) fn clashing(&self, access: &Access<A>, two: bool) -> Option<EventId>
         ensures { result ≡ find (is_sought two self.now.class (clocked access.now)) self.now.events }
     {
@@ -117,7 +117,7 @@ impl<A: Allocator> Alike<A> {
         self.find_clashing(access, two)
     }
 
-    /// The event of one of these with which a later access to the word clashes, of another group if there is such a one.
+    /// An event of these with which a later access to the word clashes: one of another group, if there is such a one.
     pub(crate) fn chosen(&self, access: &Access<A>) -> Option<EventId>
         ensures { IsChosen self.now (clocked access.now) result }
     {

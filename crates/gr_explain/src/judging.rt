@@ -17,7 +17,7 @@ use gr_model::race::Race;
 use gr_model::traces::Traces;
 use std::alloc::Allocator;
 
-/// What two events are to each other on a word.
+/// Whether two events race on a word.
 #[derive(Clone, Copy, Debug, PartialEq, Eq)]
 pub enum Judgement {
     /// One of them is held, or is not there.
@@ -28,7 +28,8 @@ pub enum Judgement {
     NoRace,
 }
 
-/// Whether an access is of another item than another one, not exempt with it, and does not count it.
+/// Whether a later access clashes with an earlier one: they are of two items, they are not exempt, and the later one's clock does not count
+/// the earlier one.
 fn clashes<A: Allocator>(earlier: &Access<A>, later: &Access<A>) -> bool
     ensures { result ≡ shadow.clashes (clocked earlier.now) (clocked later.now) }
 {
@@ -42,7 +43,7 @@ fn are_race<A: Allocator>(word: Word, first: &Access<A>, second: &Access<A>) -> 
     first.word == word && second.word == word && clashes(first, second) && clashes(second, first)
 }
 
-/// What the two events of a pair are to each other on its word, where the accesses of those that are grounded were kept.
+/// Whether the two events of a pair race on its word, by the accesses of those events that are grounded.
 fn judgement_of<A: Allocator>(accesses: &Accesses<A>, race: &Race) -> Judgement
     ensures { (s : Streams) → AreAccesses s race.now → AreBothKept s accesses.now.entries race.now → IsJudged s race.now result }
 {
@@ -58,7 +59,7 @@ fn judgement_of<A: Allocator>(accesses: &Accesses<A>, race: &Race) -> Judgement
     }
 }
 
-/// What the two accesses of each pair are to each other on its word, where the accesses of those that are grounded were kept.
+/// Whether the two accesses of each pair race on its word, by the accesses of those events that are grounded.
 ///
 /// # Errors
 /// `Memory`: out of memory.
@@ -76,8 +77,7 @@ fn judgements_of<A: Allocator + Copy>(
     Ok(judgements)
 }
 
-/// What the two accesses of each pair are to each other on its word: a race, no race, or one of them is held. The answers
-/// stand in the order of the pairs.
+/// Whether the two accesses of each pair race on its word, or one of them is held. The answers are in the order of the pairs.
 ///
 /// It handles the events of the launch once for all pairs. Time and memory grow with the events, and with the pairs.
 ///

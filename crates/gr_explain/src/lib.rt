@@ -1,5 +1,5 @@
-//! Which accesses of a launch race: the least racing pair of a word, of words a race for each two tags that race on it, and of pairs that
-//! are given each one.
+//! Which accesses of a launch race: the least racing pair of a word, one race for each two tags that race on a word, and which of some
+//! given pairs race.
 //!
 //! Semantics: the contracts speak of happens-before itself. The code handles the launch once, in a lawful order, and compares the
 //! accesses by their clocks.

@@ -1,4 +1,4 @@
-//! The records of a launch, by the events that they are.
+//! The records of a launch, found by their events.
 
 ghost use Rattle.std.specs.Prelude.{◌≡◌, ◌∷◌, ◌++◌, ◌<◌, [], ℕ, IfOk, OnOk, if◌then◌else◌, length, slice_get, slice_index_or};
 ghost use Rattle.gr_model.specs.declared.limits.TheConstants.{MOST_RECORDS};
@@ -12,7 +12,7 @@ use gr_model::traces::Traces;
 use std::alloc::{Allocator, Global};
 use std::marker::Model;
 
-/// Of each item of a group the places of its records in the group's list, ascending.
+/// For each item of a group, the places of its records in the group's list, ascending.
 #[derive(Drop)]
 #[derive_where(Debug)]
 struct Index<A: Allocator = Global> {
@@ -88,7 +88,7 @@ impl<A: Allocator + Copy> Index<A> {
 
 /// All records of a launch. Contracts see its streams.
 ///
-/// It takes four bytes a record beside the launch.
+/// It takes four bytes for each record, beside the launch itself.
 #[derive(Drop)]
 #[derive_where(Debug)]
 pub struct Records<'a, A: Allocator = Global> {

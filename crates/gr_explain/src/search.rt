@@ -41,7 +41,7 @@ fn put<A: Allocator + Copy>(classes: &mut Vec<Seen<A>, A>, access: &Access<A>) -
     }
 }
 
-/// The least of a pair, if there is one, and those of a later access with the accesses with which it clashes.
+/// The least of these pairs: the least one so far, if there is one, and those of a later access with the accesses with which it clashes.
 fn least_with<A: Allocator>(
     classes: &[Seen<A>],
     access: &Access<A>,

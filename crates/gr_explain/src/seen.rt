@@ -48,8 +48,8 @@ pub(crate) fn event_of<A: Allocator>(access: &Access<A>) -> EventId
     }
 }
 
-/// Whether the least pair so far is below each pair of an event with one of an item, or of a greater item: its first event is of an item
-/// before this one, and before the event.
+/// Whether the least pair so far is below each pair of this event with an event of this item, or of a later item: its first event is of an
+/// earlier item, and comes before this event.
 fn is_passed(least: Option<(EventId, EventId)>, item: ItemId, event: EventId) -> bool
     ensures { IsTrue result → IsPassed least item event }
 {
@@ -107,7 +107,8 @@ impl<A: Allocator> Seen<A> {
         }
     }
 
-    /// Whether a later access clashes with none for its class, be it that all are of its work-group. A look at each item finds the same.
+    /// Whether the classes alone show that a later access clashes with none of these: such accesses are exempt in any two work-groups, or
+    /// they are exempt in one work-group and all of these are of the access's own. A look at each item finds the same.
     fn is_exempt(&self, access: &Access<A>) -> bool
         ensures { IsTrue result → (e : EventId) → ¬ IsClashing self.now (clocked access.now) e }
     {
@@ -133,7 +134,7 @@ impl<A: Allocator> Seen<A> {
         }
     }
 
-    /// The least of a pair, if there is one, and those of a later access with the accesses with which it clashes.
+    /// The least of these pairs: the least one so far, if there is one, and those of a later access with the ones with which it clashes.
     pub(crate) fn with_pairs(
         &self,
         access: &Access<A>,

@@ -15,7 +15,7 @@ use gr_model::memory::Memory;
 use gr_model::race::{Race, turned};
 use std::alloc::{Allocator, Global};
 
-/// A race, and the tags of its two accesses, in whatever order.
+/// A race, and the tags of its two accesses, in any order.
 #[derive(Clone, Copy, Debug)]
 pub(crate) struct TaggedRace {
     /// The race.
@@ -35,7 +35,7 @@ impl TaggedRace {
     }
 }
 
-/// The accesses to a word that came so far, and a race for each two tags that race on it, one of two groups if there is such a one.
+/// The accesses to a word that came so far, and one race for each two tags that race on it: of two groups, if there is such a race.
 #[derive(Drop)]
 #[derive_where(Debug)]
 pub(crate) struct TagPairs<A: Allocator = Global> {
@@ -73,8 +73,8 @@ fn race_with<A: Allocator>(
     }
 }
 
-/// Adds the race of a later access, which has this tag, with one of earlier ones that are alike, if it clashes with one.
-/// Requires: there is no race of the two tags.
+/// Adds the race of a later access, which has this tag, with one of the accesses `alike`, if it clashes with one of them.
+/// Requires: `found` has no race of the two tags.
 ///
 /// # Errors
 /// `Memory`: out of memory.
@@ -93,8 +93,8 @@ fn add_race<A: Allocator>(
     Ok(())
 }
 
-/// Puts the race of a later access, which has this tag, with one of earlier ones that are alike in the place of one of the two tags that is
-/// of one group, if it clashes with one of another group.
+/// Puts another race of the same two tags in the place of a race of one group, if there is one of two groups: that of a later access, which
+/// has this tag, with one of the accesses `alike`.
 fn prefer<A: Allocator>(race: &mut TaggedRace, alike: &Alike<A>, access: &Access<A>, tag: u128)
     requires { IsTrue (is_of_tags alike.now.tag tag race.old) }
     ensures { IsPreferred alike.now (clocked access.now) tag race.old race.new }
@@ -107,8 +107,8 @@ fn prefer<A: Allocator>(race: &mut TaggedRace, alike: &Alike<A>, access: &Access
     }
 }
 
-/// Sees to the race of a later access, which has this tag, with one of earlier ones that are alike: adds it if there is none of the two
-/// tags, and prefers it if that is of one group.
+/// Adds the race of a later access, which has this tag, with one of the accesses `alike`, if there is no race of the two tags yet; where
+/// there is one of one group, prefers one of two groups.
 ///
 /// # Errors
 /// `Memory`: out of memory.
@@ -129,7 +129,8 @@ fn find_among<A: Allocator>(
     }
 }
 
-/// Adds the races of a later access, which has this tag, with earlier ones, where there is none of the two tags, or none of two groups.
+/// Adds the races of a later access, which has this tag, with the earlier ones, where there is no race of the two tags yet, or none of two
+/// groups.
 ///
 /// # Errors
 /// `Memory`: out of memory.
@@ -147,7 +148,7 @@ fn find_races<A: Allocator>(
     Ok(())
 }
 
-/// The place of those that are alike to which an access belongs, which has this tag.
+/// The place of the list to which an access with this tag belongs, if there is one.
 fn place_of<A: Allocator>(lists: &[Alike<A>], access: &Access<A>, tag: u128) -> Option<usize>
     ensures { IfSome result (λ place. IsOfKindAt tag access.now.class lists.now place) }
 {
@@ -159,7 +160,7 @@ fn place_of<A: Allocator>(lists: &[Alike<A>], access: &Access<A>, tag: u128) -> 
     None
 }
 
-/// Adds an access, which has this tag, to those that are alike.
+/// Adds an access with this tag to the list to which it belongs, or to a new one.
 ///
 /// # Errors
 /// `Memory`: out of memory.

@@ -24,7 +24,7 @@ use gr_taking::keeper::Keeper;
 use gr_taking::traces::follow;
 use std::alloc::Allocator;
 
-/// Keeps of a word the least pair that races, and the pairs of tags that race.
+/// Keeps the least pair that races on a word, and a race for each two tags that race on it.
 #[derive(Drop)]
 struct TaggedKeeper<'a, T> {
     word: Word,

@@ -1,11 +1,11 @@
-//! What gives each event a tag: that of its place in a program, say.
+//! Tags of events. A tag is a number, made from the event's place in a program, say.
 
 ghost use Rattle.std.specs.Prelude.{◌≡◌, ℕ};
 ghost use Rattle.gr_model.specs.declared.event.EventId.{EventId as AnyEvent};
 
 use gr_model::event::EventId;
 
-/// What gives each event a tag, which is a number.
+/// Gives each event its tag.
 pub trait Tags {
     // the tag of each event
     ghost tag_of: { Self → AnyEvent → ℕ };

@@ -26,7 +26,7 @@ use indexmap::IndexMap;
 use std::alloc::Allocator;
 use std::hash::{BuildHasherDefault, FoldHasher};
 
-/// Of each of some words the pairs of tags that race on it.
+/// For each of some words, a race for each two tags that race on it.
 pub(crate) type WordPairs<A> = IndexMap<Word, TagPairs<A>, BuildHasherDefault<FoldHasher>, A>;
 
 /// No accesses to these words.
@@ -63,7 +63,7 @@ pub(crate) fn add_access<A: Allocator + Copy, T: Tags>(
     }
 }
 
-/// Keeps of each of some words the pairs of tags that race on it.
+/// Keeps, for each of some words, a race for each two tags that race on it.
 #[derive(Drop)]
 struct WordsKeeper<'a, T> {
     words: &'a [Word],
@@ -127,11 +127,11 @@ pub(crate) fn list_words<A: Allocator + Copy>(
     Ok(races)
 }
 
-/// Of each of these words, which ascend, a race for each two tags that race on it, of accesses that have the two: the first one that is
-/// found along the order in which the events are handled.
+/// For each of these words, which ascend, one race for each two tags that race on it, of two accesses that have these tags: the first one
+/// that is found in the order in which the events are handled, but one of two groups rather than one of one.
 ///
 /// It handles the events of the launch once, with clocks. Its time grows with the events, and with the accesses to the words times the
-/// work-items that accessed them with tags of which no race was found; its memory with the work-items, tags and classes of the accesses
+/// work-items that accessed them with tags that have no race yet; its memory with the work-items, tags and classes of the accesses
 /// to each word, and with the events that wait for others.
 ///
 /// # Errors

@@ -1,4 +1,4 @@
--- Where an event stands behind its item's barrier of an instance.
+-- Where an event comes after its item's barrier of an instance.
 use Rattle.std.proofs.Common.{inl, inr, ◌≡◌, ℕ, zero, suc, ◌+◌, ◌<◌, ◌≤◌, Bool, get_or, List, [], ◌∷◌, Some, slice_get, arith, subst, ⊎_elim, ◌↔◌}
 use Rattle.std.proofs.lemmas.Bool.{cases_lt}
 use Rattle.std.proofs.lemmas.Option.{slice_get-get_or, slice_get_within}
@@ -18,7 +18,7 @@ place_at_least test i (x ∷ xs) (suc k) p at = grind (arith, place_at_least tes
 pub number_below : (s : Streams) (e : EventId) (k : ℕ) → IsBehind s e k → k < e.index
 number_below s e k behind = let far = place_at_least is_barrier 0 (trace_of s e.at) k behind.0 behind.1 in omega (arith, far, behind.2)
 
--- who stands behind an instance stands behind each before it
+-- an event after an instance is after each earlier one
 pub behind_before : (s : Streams) (e : EventId) (k m : ℕ) → k ≤ m → IsBehind s e m → IsBehind s e k
 behind_before s e k m le behind = elim (cases_lt k m) [
   | inl lt ↦
@@ -29,7 +29,7 @@ behind_before s e k m le behind = elim (cases_lt k m) [
   | inr ge ↦ let same : m ≡ k = omega (arith, ge, le) in subst (IsBehind s e) same behind
 ]
 
--- a divergent instance between two events is one between the counts of the barriers behind which they stand
+-- a divergent instance between two events is one between the counts of the barriers before them
 module _ (s : Streams) (e f : EventId) (m n : ℕ) (of_e : (k : ℕ) → k < m ↔ IsBehind s e k) (of_f : (k : ℕ) → k < n ↔ IsBehind s f k) where
   pub is_parting : HasDivergent s e.at.group n m → (k : ℕ) × IsParting s k e f
   is_parting h = (h.0, record { behind = (of_e h.0).0 h.2; not_behind = λ is. let below = (of_f h.0).1 is in omega (arith, below, h.1); divergent = h.3 })

@@ -1,4 +1,4 @@
--- The least racing pair of a word, what its accesses are, what stands between them, the cause of their race, and the word's other races.
+-- The least racing pair of a word, what its accesses are, what lies between them, the cause of their race, and the word's other races.
 -- Source: docs/OUTPUT.md, "explain --long".
 use Rattle.std.specs.Prelude.{◌≡◌, ◌∷◌, ◌==◌, ◌&&◌, ◌||◌, [], ℕ, Bool, List, MatchOption, Option, Some, filter, not}
 use Rattle.gr_model.specs.declared.event.EventId.{EventId}

@@ -1,4 +1,4 @@
--- What stands between the two accesses of a racing pair.
+-- What lies between the two accesses of a racing pair.
 -- Source: docs/OUTPUT.md, "explain --long".
 use Rattle.std.specs.Prelude.{ℕ, Bool, List, [], Option, None, drop, filter, filter_map, find, if◌then◌else◌, nat_lt, option_and_then, option_map, take, ◌==◌}
 use Rattle.std.specs.List.{enumerate_from, last_or}
@@ -28,7 +28,7 @@ crossing_of x = option_map (crossing x.0) (mark_of x.1)
 abbrev pub passed_from : Streams → EventId → ℕ → List Crossing
 passed_from s e n = filter_map crossing_of (drop n (enumerate_from 0 (filter is_barrier (take e.index (trace_of s e.at)))))
 
--- of two events of one group the barriers that the one with more of them before it is behind, and the other not
+-- of two events of one group, the barriers before the one that has more of them before it, without those before the other
 abbrev pub crossings : Streams → EventId → EventId → List Crossing
 crossings s e f =
     if e.at.group == f.at.group
@@ -43,21 +43,21 @@ is_acquire e = is_acquire_kind e.kind
 abbrev pub with_details : EventId → Details → DetailedEvent
 with_details e d = record { event = e; details = d }
 
--- what is told of an item's event of this index, where there is one
+-- an item's event of this index with its details, where there is one
 abbrev pub told_at : Streams → ItemId → ℕ → Option DetailedEvent
 told_at s i k = let e : EventId = record { at = i; index = k } in option_map (with_details e) (details_of s e)
 
--- of the releases of its item's trace the first that stands behind an event
+-- the first release of its item's trace after an event
 abbrev pub release_behind : Streams → EventId → Option DetailedEvent
 release_behind s e = option_and_then (told_at s e.at) (find (nat_lt e.index) (places_from is_release 0 (trace_of s e.at)))
 
--- of the acquires of its item's trace the last that stands before an event
+-- the last acquire of its item's trace before an event
 abbrev pub acquire_before : Streams → EventId → Option DetailedEvent
 acquire_before s e = option_and_then (told_at s e.at) (last_or None (filter (λ k. nat_lt k e.index) (places_from is_acquire 0 (trace_of s e.at))))
 
 -- ---- both
 
--- what is said to stand between two accesses
+-- what is said to lie between two accesses
 pub record BetweenSaid : Type 0 where
   pub crossings : List Crossing
   pub release : Option DetailedEvent
@@ -66,6 +66,6 @@ pub record BetweenSaid : Type 0 where
 abbrev pub between_said : {Z : Type 0} → Between Z → BetweenSaid
 between_said b = record { crossings = b.crossings.items; release = b.release; acquire = b.acquire }
 
--- what stands between two accesses
+-- what lies between two accesses
 abbrev pub between_of : Streams → EventId → EventId → BetweenSaid
 between_of s e f = record { crossings = crossings s e f; release = release_behind s e; acquire = acquire_before s f }

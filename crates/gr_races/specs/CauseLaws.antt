@@ -1,4 +1,4 @@
--- What follows of a launch with one of its rules relaxed, and of causes.
+-- Laws of a launch with one of its rules relaxed, and of causes.
 -- Source: docs/OUTPUT.md, "explain --long".
 use Rattle.std.specs.Prelude.{◌≡◌}
 use Rattle.gr_model.specs.declared.event.EventId.{EventId}

@@ -87,7 +87,7 @@ abbrev pub with_operations : Race → Option Cause → PlacedOperation → Place
 with_operations r cause a b = if nat_lt (tag_of b) (tag_of a) then kind_of (turned r) cause b a else kind_of r cause a b
 
 -- a race with its kind, where places have these numbers: the memory of its word, what its two events do and where, whether they are of
--- one group, and the cause, if it is told
+-- one group, and the cause, if it was found
 abbrev pub kinded : Streams → (Placed → Option ℕ) → Race × Option Cause → Option KindedRace
 kinded s numbers (r, cause) = option_and_then (λ a. option_map (λ b. with_operations r cause a b) (placed_at s numbers r.second)) (placed_at s numbers r.first)
 
@@ -95,7 +95,7 @@ kinded s numbers (r, cause) = option_and_then (λ a. option_map (λ b. with_oper
 abbrev pub by_tags : (EventId → ℕ) → Race → Race
 by_tags tag r = if nat_lt (tag r.second) (tag r.first) then turned r else r
 
--- races, each with the cause that is told of it, with their kinds
+-- races with their kinds, each with its cause if that was found
 abbrev pub all_kinded : Streams → (Placed → Option ℕ) → List (Race × Option Cause) → List KindedRace
 all_kinded s numbers races = filter_map (kinded s numbers) races
 

@@ -10,7 +10,7 @@ use Rattle.gr_races.specs.declared.runs.Run.{Run}
 use Rattle.gr_races.specs.Kinds.{is_alike, same_kind}
 use Rattle.gr_races.specs.Runs.{runs_of}
 
--- rows, and one behind them if there is one
+-- rows, and one after them if there is one
 abbrev pub with_row : List KindedRace → Option KindedRace → List KindedRace
 with_row rows None = rows
 with_row rows (Some row) = rows ++ row ∷ []
@@ -19,11 +19,11 @@ with_row rows (Some row) = rows ++ row ∷ []
 abbrev pub in_order : List KindedRace → List KindedRace
 in_order rows = filter (λ row. not (is_alike row.kind)) rows ++ filter (λ row. is_alike row.kind) rows
 
--- kinds, and one behind them unless it is one of them
+-- kinds, and one after them unless it is one of them
 abbrev pub with_kind : List RaceKind → RaceKind → List RaceKind
 with_kind kinds k = if list_any (λ l. same_kind l k) kinds then kinds else kinds ++ k ∷ []
 
--- kinds that have come, and those of the rows behind them
+-- kinds that have come, and those of the rows after them
 abbrev pub kinds_after : List RaceKind → List KindedRace → List RaceKind
 kinds_after kinds [] = kinds
 kinds_after kinds (row ∷ rows) = kinds_after (with_kind kinds row.kind) rows

@@ -38,7 +38,7 @@ abbrev pub relaxed_kind : Relaxation → Kind → Kind
 relaxed_kind BothFlags kind = with_both_flags kind
 relaxed_kind DeviceScope kind = with_device_scope kind
 
--- what a record says where the rule is relaxed it says already
+-- relaxing the rule leaves what a record says
 abbrev pub is_relaxed : Relaxation → Kind → Bool
 is_relaxed BothFlags (Barrier global local) = global && local
 is_relaxed DeviceScope (Load scope order) = is_device scope

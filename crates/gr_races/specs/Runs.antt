@@ -10,7 +10,7 @@ abbrev pub number_of : Word → ℕ
 number_of (Global n) = n
 number_of (Local g n) = n
 
--- a word comes directly behind a last one: it is of the same memory, and its number is the next
+-- a word comes directly after a last one: it is of the same memory, and its number is the next
 abbrev pub comes_next : Word → ℕ → Word → Bool
 comes_next (Global m) last (Global n) = last + 1 == n
 comes_next (Local g m) last (Local h n) = (g == h) && (last + 1 == n)
@@ -26,7 +26,7 @@ with_word r w = record { first = r.first; last = number_of w }
 abbrev pub goes_on : Run → Word → Bool
 goes_on r w = comes_next r.first r.last w
 
--- a run that has begun, and the runs of the words behind it
+-- a run that has begun, and the runs of the words after it
 abbrev pub runs_after : Run → List Word → List Run
 runs_after r [] = r ∷ []
 runs_after r (w ∷ words) = if goes_on r w then runs_after (with_word r w) words else r ∷ runs_after (run_of w) words

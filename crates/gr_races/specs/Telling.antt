@@ -1,4 +1,4 @@
--- The causes that are told of races.
+-- The causes of races, where they are asked for.
 -- Source: docs/OUTPUT.md, "races".
 use Rattle.std.specs.Prelude.{◌≡◌, Bool, true, false, List, [], ◌∷◌, Option, None, Some}
 use Rattle.gr_model.specs.declared.race.Race.{Race}
@@ -11,7 +11,7 @@ abbrev pub AreTold : Streams → Bool → List Race → List Cause → Type 0
 AreTold s false races told = told ≡ []
 AreTold s true races told = AreCauses s races told
 
--- races, each with the cause that is told of it, if there is one
+-- races, each with its cause, if causes were found
 abbrev pub with_causes : List Race → List Cause → List (Race × Option Cause)
 with_causes [] causes = []
 with_causes (r ∷ races) [] = (r, None) ∷ with_causes races []

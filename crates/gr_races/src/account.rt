@@ -1,5 +1,4 @@
-//! The least racing pair of a word, what its accesses are, what stands between them, the cause of their race, and the word's other
-//! races.
+//! The least racing pair of a word, what its accesses are, what lies between them, the cause of their race, and the word's other races.
 
 ghost use Rattle.std.specs.Prelude.{◌≡◌, ◌∷◌, [], ℕ, IfOk, Option, option_map};
 ghost use Rattle.gr_model.specs.declared.event.Word.{Word as AnyWord};
@@ -44,7 +43,7 @@ pub struct Account<A: Allocator = Global> {
     pub first_details: Details,
     /// What the greater event is.
     pub second_details: Details,
-    /// What stands between the two.
+    /// What lies between the two.
     pub between: Between<A>,
     /// The cause.
     pub cause: Cause,
@@ -52,7 +51,7 @@ pub struct Account<A: Allocator = Global> {
     pub others: Vec<KindedRace, A>,
 }
 
-/// Of these races those that are not of two events' tags, or that are of two groups while the two events are of one.
+/// Those of these races that are not of two events' tags, or that are of two groups while the two events are of one.
 fn others_of<A: Allocator>(
     alloc: A,
     rows: &[KindedRace],
@@ -70,8 +69,8 @@ fn others_of<A: Allocator>(
     Ok(others)
 }
 
-/// Of races for each two tags that race on a word those that are not of two events' tags, or that are of two groups while the two events
-/// are of one, with their kinds.
+/// Those races of a word, one for each two tags, that are not of two events' tags, or that are of two groups while the two events are of
+/// one, with their kinds.
 fn other_races<A: Allocator + Copy>(
     alloc: A,
     tags: &PlaceTags<'_, A>,
@@ -86,7 +85,7 @@ fn other_races<A: Allocator + Copy>(
     others_of(alloc, &rows, tags.tag(first), tags.tag(second), one_group)
 }
 
-/// What is told of the least racing pair of a word, of this cause, with all records of the launch and the word's other races.
+/// The account of the least racing pair of a word, of this cause, with these other races of the word.
 fn account_with<A: Allocator + Copy>(
     alloc: A,
     traces: &Traces<A>,
@@ -113,7 +112,7 @@ fn account_with<A: Allocator + Copy>(
     })
 }
 
-/// What is told of the least racing pair of a word, on which these race for each two tags.
+/// The account of the least racing pair of a word, which has these races, one for each two tags.
 fn account_of_pair<A: Allocator + Copy>(
     alloc: A,
     traces: &Traces<A>,
@@ -133,7 +132,7 @@ fn account_of_pair<A: Allocator + Copy>(
     account_with(alloc, traces, tags.records, first, second, cause, others)
 }
 
-/// What is told of the least racing pair of a word, where this index has the places, or `None` where the word is not racy.
+/// The account of the least racing pair of a word, where this index has the places, or `None` where the word is not racy.
 fn account_by<A: Allocator + Copy>(
     alloc: A,
     traces: &Traces<A>,
@@ -157,8 +156,8 @@ fn account_by<A: Allocator + Copy>(
     }
 }
 
-/// The least racing pair of a word with what stands between its accesses, the cause of the race, and the word's other races, by what
-/// side files say, or `None` where the word is not racy.
+/// The least racing pair of a word with what lies between its accesses, the cause of the race, and the word's other races, by what side
+/// files say, or `None` where the word is not racy.
 ///
 /// # Errors
 /// `Memory`: out of memory.

@@ -1,5 +1,5 @@
-//! What stands between the two accesses of a racing pair: barriers that one of them is behind, a release behind the first
-//! and an acquire before the second.
+//! What lies between the two accesses of a racing pair: barriers that one of them comes after and the other does not, a release after the
+//! first and an acquire before the second.
 
 ghost use Rattle.std.specs.Prelude.{◌≡◌, ◌≤◌, ◌<◌, ◌&&◌, IfOk, None, Some, drop, filter, filter_map, find, if◌then◌else◌, length, nat_lt, option_and_then, take};
 ghost use Rattle.std.specs.List.{enumerate_from, last_or};
@@ -17,7 +17,7 @@ use gr_model::traces::Traces;
 use gr_timeline::details::{Details, barriers_before, details_at, is_of};
 use std::alloc::{AllocError, Allocator, Global};
 
-/// A barrier instance that one of two accesses of a work-group is behind, and the other not.
+/// A barrier instance that one of two accesses of a work-group comes after, and the other does not.
 #[derive(Clone, Copy, Debug, PartialEq, Eq)]
 pub struct Crossing {
     /// The number of the instance in its group, from 0.
@@ -30,7 +30,7 @@ pub struct Crossing {
     pub local: bool,
 }
 
-/// An event of a launch, and what is told of it.
+/// An event of a launch, with its details.
 #[derive(Clone, Copy, Debug, PartialEq, Eq)]
 pub struct DetailedEvent {
     /// The event.
@@ -39,19 +39,19 @@ pub struct DetailedEvent {
     pub details: Details,
 }
 
-/// What stands between the two accesses of a racing pair.
+/// What lies between the two accesses of a racing pair.
 #[derive(Drop)]
 #[derive_where(Debug)]
 pub struct Between<A: Allocator = Global> {
-    /// Of two accesses of one group the barrier instances that one is behind and the other not, ascending.
+    /// Of two accesses of one group, the barrier instances that one comes after and the other does not, ascending.
     pub crossings: Vec<Crossing, A>,
-    /// The first release of its item behind the first access.
+    /// The first release of its item after the first access.
     pub release: Option<DetailedEvent>,
     /// The last acquire of its item before the second access.
     pub acquire: Option<DetailedEvent>,
 }
 
-/// The instance of a barrier that is the one of this number of its item.
+/// The instance of a barrier, which has this number among its item's barriers.
 fn crossing_of(instance: usize, event: &Event) -> Option<Crossing>
     ensures { result ≡ spec.crossing_of (instance, event.now) }
 {
@@ -91,7 +91,7 @@ fn passed<A: Allocator>(
         .collect(alloc)
 }
 
-/// The barrier instances that one of two accesses of a group is behind and the other not; none of two groups.
+/// The barrier instances that one of two accesses of a group comes after and the other does not; none for accesses of two groups.
 fn crossings<A: Allocator>(
     alloc: A,
     traces: &Traces<A>,
@@ -158,7 +158,7 @@ fn acquire_below(list: &[Event], item: u16, index: u32) -> Option<u32>
     found
 }
 
-/// What is told of an item's event of this index, where there is one.
+/// An item's event of this index with its details, where there is one.
 fn told_at<A: Allocator>(
     traces: &Traces<A>,
     records: &Records<'_, A>,
@@ -174,7 +174,7 @@ fn told_at<A: Allocator>(
     Some(DetailedEvent { event, details })
 }
 
-/// The first release of its item behind an access.
+/// The first release of its item after an access.
 fn release_behind<A: Allocator>(
     traces: &Traces<A>,
     records: &Records<'_, A>,
@@ -204,7 +204,7 @@ fn acquire_before<A: Allocator>(
     told_at(traces, records, access.at, index)
 }
 
-/// What stands between two accesses of a launch. It takes time that grows with the records of their groups.
+/// What lies between two accesses of a launch. It takes time that grows with the records of their groups.
 ///
 /// # Errors
 /// `Memory`: out of memory.

@@ -21,7 +21,7 @@ use gr_replay::detect::detect;
 use gr_report::report::Report;
 use std::alloc::{Allocator, Global};
 
-/// What is found of a launch, its races kind by kind.
+/// The races of a launch kind by kind, and its report.
 #[derive(Drop)]
 #[derive_where(Debug)]
 pub struct RacesByKind<A: Allocator = Global> {
@@ -43,7 +43,7 @@ impl<A: Allocator> RacesByKind<A> {
     }
 }
 
-/// What is found of a launch, of which this is the report, its races kind by kind, where this index has the places.
+/// The races of a launch kind by kind, and its report, which is this one, where this index has the places.
 fn list_found<A: Allocator + Copy>(
     alloc: A,
     traces: &Traces<A>,
@@ -67,7 +67,7 @@ fn list_found<A: Allocator + Copy>(
     })
 }
 
-/// What is found of a launch, its races kind by kind, where this index has the places.
+/// The races of a launch kind by kind, and its report, where this index has the places.
 fn list_races<A: Allocator + Copy>(
     alloc: A,
     traces: &Traces<A>,
@@ -82,7 +82,7 @@ fn list_races<A: Allocator + Copy>(
     list_found(alloc, traces, &records, index, causes, report)
 }
 
-/// What is found of a launch, its races kind by kind.
+/// The races of a launch kind by kind, and its report.
 ///
 /// # Errors
 /// `Memory`: out of memory.

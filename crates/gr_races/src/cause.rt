@@ -32,7 +32,7 @@ pub enum Cause {
     Flags,
     /// They would be no race if each atomic access had device scope.
     Scope,
-    /// They are of one work-group, and a divergent instance of its barriers stands between them.
+    /// They are of one work-group, and a divergent instance of its barriers lies between them.
     Divergence,
     /// They are of one work-group, and nothing of this is so.
     NoBarrier,
@@ -40,7 +40,7 @@ pub enum Cause {
     NoHandOver,
 }
 
-/// Each of some races is one.
+/// The judgement that each of some races is a race.
 fn all_race<A: Allocator>(alloc: A, races: &[Race]) -> Result<Vec<Judgement, A>, Memory>
     ensures { IfOk result (λ judgements. judgements.items ≡ map (λ race. AsRace) races.now) }
 {
@@ -48,7 +48,7 @@ fn all_race<A: Allocator>(alloc: A, races: &[Race]) -> Result<Vec<Judgement, A>,
     Ok(judgements)
 }
 
-/// What the two accesses of each race are to each other where a rule is relaxed.
+/// Whether the two accesses of each race still race where a rule is relaxed.
 fn judged_where<A: Allocator + Copy>(
     alloc: A,
     traces: &Traces<A>,
@@ -65,7 +65,7 @@ fn judged_where<A: Allocator + Copy>(
     judge_races(alloc, &relaxed, races)
 }
 
-/// Whether two events that are judged so where a rule is relaxed are judged there and no race.
+/// Whether two events, with this judgement where a rule is relaxed, are both judged there and no race.
 fn is_mended(judgement: Judgement) -> bool
     ensures { (s : Streams) (r : AnyRelaxation) (w : AnyWord) (e f : AnyEvent) → IsJudgement (spec.relaxed r s) w e f judgement → IsTrue result ↔ IsMended s r w e f }
 {
@@ -75,7 +75,7 @@ fn is_mended(judgement: Judgement) -> bool
     }
 }
 
-/// The cause of a race in a launch whose records these are, where it is known which relaxed rules make it none.
+/// The cause of a race in a launch with these records, where it is known which relaxed rules make it no race.
 fn cause_from<A: Allocator>(lanes: &Lanes<A>, race: &Race, by_flags: bool, by_scope: bool) -> Cause
     requires pair { IsPairOf lanes.now.streams race.now }
     requires prefixes { ArePrefixes lanes.now.streams }
@@ -100,8 +100,7 @@ fn cause_from<A: Allocator>(lanes: &Lanes<A>, race: &Race, by_flags: bool, by_sc
     }
 }
 
-/// The causes of races in a launch whose records these are, where they are judged so with flags relaxed, and so with
-/// scopes.
+/// The causes of races in a launch with these records, by the judgements with the flags relaxed, and those with the scopes relaxed.
 fn causes_from<A: Allocator + Copy>(
     alloc: A,
     lanes: &Lanes<A>,
@@ -127,8 +126,7 @@ fn causes_from<A: Allocator + Copy>(
 
 /// The causes of races of two events on a word, the smaller event first; one for each race, in their order.
 ///
-/// It judges all of them once for each rule, and so takes time and memory that grow with the events of the launch, and
-/// with the races.
+/// It judges all of them once for each rule, and so takes time and memory that grow with the events of the launch, and with the races.
 ///
 /// # Errors
 /// `Memory`: out of memory.

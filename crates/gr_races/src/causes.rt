@@ -10,7 +10,7 @@ use gr_model::race::Race;
 use gr_model::traces::Traces;
 use std::alloc::Allocator;
 
-/// The causes that are told of races, where causes are asked for: that of each. All are judged at once.
+/// The cause of each race if causes are asked for, and else none. All races are judged at once.
 ///
 /// # Errors
 /// `Memory`: out of memory.
@@ -21,7 +21,7 @@ pub fn causes_told<A: Allocator + Copy>(
     races: &[Race],
 ) -> Result<Vec<Cause, A>, Memory>
     requires pairs { All (IsPairOf traces.now) races.now }
-    ensures { IfOk result (λ told. AreTold traces.now causes races.now told.items) }
+    ensures { IfOk result (λ found. AreTold traces.now causes races.now found.items) }
 {
     if causes {
         causes_of(alloc, traces, races)

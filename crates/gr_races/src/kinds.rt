@@ -28,7 +28,7 @@ pub enum Operation {
     Rmw,
 }
 
-/// What an access does, and where it stands in the source.
+/// What an access does, and its place in the source.
 #[derive(Clone, Copy, Debug, PartialEq, Eq)]
 pub struct PlacedOperation {
     /// What it does.
@@ -42,7 +42,7 @@ pub struct PlacedOperation {
 pub struct RaceKind {
     /// The memory of the word.
     pub space: Space,
-    /// What one access does, and where: of both that with the lesser tag.
+    /// What one access does, and where: the one with the lesser tag.
     pub first: PlacedOperation,
     /// What the other access does, and where.
     pub second: PlacedOperation,
@@ -152,7 +152,7 @@ pub(crate) fn tag_of(placed: PlacedOperation) -> u128
     place * 5 + operation_number(placed.operation)
 }
 
-/// The kind of a race whose first event does the one and whose second event does the other, where this is the cause that is told of it.
+/// A race with its kind, where its first event does the one, its second event does the other, and this is its cause if causes were found.
 fn kind_of(
     race: &Race,
     first: PlacedOperation,
@@ -173,8 +173,7 @@ fn kind_of(
     }
 }
 
-/// A race with its kind, where this is the cause that is told of it, or `None` where its events are not two accesses of
-/// the launch.
+/// A race with its kind and this cause, or `None` where its events are not two accesses of the launch.
 pub(crate) fn kinded<A: Allocator>(
     records: &Records<'_, A>,
     index: &PlaceIndex<'_, A>,

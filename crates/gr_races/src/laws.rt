@@ -9,7 +9,7 @@ pub fn the_same_kinds_are_one()
     ensures tags { SameTagsAreOne }
 {}
 
-/// Each race of a launch has a kind, and stands among the races of just that kind.
+/// Each race of a launch has a kind, and is among the races of just that kind.
 pub fn races_are_listed()
     ensures kinds { EveryRaceHasAKind }
     ensures order { EachRaceIsInOrder }

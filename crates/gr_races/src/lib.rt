@@ -1,8 +1,8 @@
-//! The races of a launch as data: the races by their kinds, the cause of each, and of the least racing pair of a word what its accesses
-//! are and what stands between them.
+//! The races of a launch as data: the races by their kinds, the cause of each, and for the least racing pair of a word what its accesses
+//! are and what lies between them.
 //!
-//! Semantics of causes: a rule is relaxed by other records, and the definition of a race is asked again. No happens-before of its
-//! own stands here.
+//! Semantics of causes: records are changed as if a rule were relaxed, and the definition of a race is asked again. This crate has no
+//! happens-before of its own.
 #![tactic(auto)]
 
 pub mod account;

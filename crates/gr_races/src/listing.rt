@@ -28,7 +28,7 @@ pub struct KindEntry<A: Allocator = Global> {
     pub runs: Vec<Run, A>,
 }
 
-/// The cause that is told of the race at a place, if there is one.
+/// The cause of the race at a place, if causes were found.
 fn cause_at(causes: &[Cause], place: usize) -> Option<Cause>
     ensures { result ≡ slice_get causes.now place }
 {
@@ -48,7 +48,7 @@ fn keep_row<A: Allocator>(
     Ok(())
 }
 
-/// The races with their kinds, where these are the causes that are told of them, the first of the first race.
+/// The races with their kinds and these causes, the first of the first race.
 fn all_kinded<A: Allocator + Copy>(
     alloc: A,
     records: &Records<'_, A>,
@@ -159,7 +159,7 @@ fn list_kinds<A: Allocator + Copy>(
     Ok(entries)
 }
 
-/// The races with their kinds, those of two tags before those of one, where these are the causes that are told of them.
+/// The races with their kinds and these causes, those of two tags before those of one.
 pub(crate) fn ordered_rows<A: Allocator + Copy>(
     alloc: A,
     records: &Records<'_, A>,
@@ -173,8 +173,7 @@ pub(crate) fn ordered_rows<A: Allocator + Copy>(
     in_order(alloc, &rows)
 }
 
-/// The races kind by kind, those of two tags before those of one, where these are the causes that are told of them, the first of the
-/// first race.
+/// The races kind by kind, those of two tags before those of one, with these causes, the first of the first race.
 pub(crate) fn entries_of<A: Allocator + Copy>(
     alloc: A,
     records: &Records<'_, A>,

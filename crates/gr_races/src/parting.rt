@@ -1,4 +1,4 @@
-//! Divergent instances of barriers that stand between two events of one work-group.
+//! Divergent instances of barriers that lie between two events of one work-group.
 
 ghost use Rattle.std.specs.Prelude.{◌≡◌, ◌↔◌, ◌<◌, ◌≤◌, ℕ, IsTrue, length};
 ghost use Rattle.gr_model.specs.Shapes.{HasItem};
@@ -10,7 +10,7 @@ use gr_lanes::lanes::Lanes;
 use gr_model::event::EventId;
 use std::alloc::Allocator;
 
-/// Whether an event stands behind its item's barrier of this number.
+/// Whether an event comes after its item's barrier of this number.
 fn is_behind<A: Allocator>(lanes: &Lanes<A>, event: EventId, number: u32) -> bool
     requires { IsRemembered lanes.now event.at number }
     ensures { IsTrue result ↔ IsBehind lanes.now.streams event number }
@@ -21,7 +21,7 @@ fn is_behind<A: Allocator>(lanes: &Lanes<A>, event: EventId, number: u32) -> boo
     }
 }
 
-/// How many of its item's barriers an event stands behind: so many first ones.
+/// How many of its item's barriers come before an event.
 fn barriers_above<A: Allocator>(lanes: &Lanes<A>, event: EventId) -> u32
     requires item { HasItem lanes.now.streams.sizes event.at }
     requires whole { IsAllRemembered lanes.now }
@@ -54,7 +54,7 @@ fn has_divergent<A: Allocator>(lanes: &Lanes<A>, group: u16, from: u32, to: u32)
     false
 }
 
-/// Whether a divergent instance stands between two events. It looks at no other instances.
+/// Whether a divergent instance lies between two events. It looks at no other instances.
 pub(crate) fn are_parted<A: Allocator>(lanes: &Lanes<A>, first: EventId, second: EventId) -> bool
     requires first { HasItem lanes.now.streams.sizes first.at }
     requires second { HasItem lanes.now.streams.sizes second.at }

@@ -37,7 +37,7 @@ impl<A: Allocator> Tags for PlaceTags<'_, A> {
     }
 }
 
-/// Of each of these words, which ascend, a race for each two tags that race on it.
+/// For each of these words, which ascend, a race for each two tags that race on it.
 pub(crate) fn tag_races<A: Allocator + Copy>(
     alloc: A,
     traces: &Traces<A>,

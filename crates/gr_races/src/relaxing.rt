@@ -69,7 +69,7 @@ fn relaxed_event(relaxation: Relaxation, event: &Event) -> Event
     Event { kind, ..*event }
 }
 
-/// Whether a record says already what it says where a rule is relaxed.
+/// Whether relaxing a rule leaves a record as it is.
 fn is_relaxed(relaxation: Relaxation, event: &Event) -> bool
     ensures { result ≡ spec.is_relaxed relaxation event.now.kind }
 {
@@ -83,14 +83,14 @@ fn is_relaxed(relaxation: Relaxation, event: &Event) -> bool
     }
 }
 
-/// Whether all records of a list do.
+/// Whether relaxing a rule leaves all records of a list as they are.
 fn are_relaxed(relaxation: Relaxation, list: &[Event]) -> bool
     ensures { result ≡ list_all (λ x. spec.is_relaxed relaxation x.kind) list.now }
 {
     list.iter().all(|event| is_relaxed(relaxation, event))
 }
 
-/// Whether a launch is the same where a rule is relaxed.
+/// Whether relaxing a rule leaves a launch as it is.
 pub(crate) fn changes_nothing<A: Allocator>(traces: &Traces<A>, relaxation: Relaxation) -> bool
     ensures { IsTrue result → spec.relaxed relaxation traces.now ≡ traces.now }
 {
@@ -132,7 +132,7 @@ fn relaxed_lists<A: Allocator + Copy>(
     Ok(lists)
 }
 
-/// The traces of a launch where a rule is relaxed. Each event stands where it stood, and the names are the same.
+/// The traces of a launch where a rule is relaxed. Each event keeps its place, and the names are the same.
 ///
 /// # Errors
 /// `Memory`: out of memory.

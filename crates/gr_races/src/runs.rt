@@ -8,7 +8,7 @@ use gr_model::memory::Memory;
 use gr_model::race::Race;
 use std::alloc::Allocator;
 
-/// Words of one memory, and if it is local of one work-group, with consecutive numbers.
+/// Words of one memory with consecutive numbers; if the memory is local, of one work-group.
 #[derive(Clone, Copy, Debug)]
 pub struct Run {
     /// The first word.
@@ -38,7 +38,7 @@ impl Run {
         }
     }
 
-    /// The run with one word more behind it.
+    /// The run with one more word at its end.
     fn with(self, word: Word) -> Run
         ensures { result ≡ spec.with_word self word }
     {
@@ -48,7 +48,7 @@ impl Run {
         }
     }
 
-    /// Whether a word comes directly behind the run.
+    /// Whether a word comes directly after the run.
     fn goes_on(self, word: Word) -> bool
         ensures { result ≡ spec.goes_on self word }
     {

@@ -11,7 +11,7 @@ use gr_model::memory::Memory;
 use gr_model::traces::Traces;
 use std::alloc::Allocator;
 
-/// Takes the whole list of a group of which nothing was taken.
+/// Takes the whole list of a group. Nothing of the group was taken before.
 fn take_list<A: Allocator + Copy>(
     lanes: &mut Lanes<A>,
     group: u16,

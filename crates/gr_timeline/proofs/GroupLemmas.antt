@@ -72,7 +72,7 @@ counted_small list i few =
 access_is_of : (k : Kind) (w v : Word) → word_if_access k w ≡ Some v → is_end_kind k ≡ false
 access_is_of k w v is = grind arith
 
--- what a longer list tells of an event is what a shorter one does
+-- what is known of an event by a longer list is what is known by a shorter one
 still_known : (list longer : List Event) (w : Word) (e : EventId) (o : Option Details) → event_in longer e ≡ event_in list e → told_in longer e ≡ told_in list e → IsKnownIn list w e o → IsKnownIn longer w e o
 still_known list longer w e None event told known = rw event known
 still_known list longer w e (Some d) event told known = (rw event known.0, told ∙ known.1)
@@ -117,7 +117,7 @@ module _ (list : List Event) (x : Event) (w : Word) (g : ℕ) (old new : List (E
       kept_apart : e.index ≢ length trace → details_at new e ≡ details_at old e
       kept_apart apart = kept_other e (λ on same. apart (sym (ap (λ (d : EventId). d.index) same) ∙ ap (λ i. length (filter (is_of i) list)) item)) keeps
 
-      -- it stands before the record
+      -- it is before the record
       known_before : e.index < length trace → IsKnownIn longer w e (details_at new e)
       known_before lt =
           let numbered : e.index < length places = omega (arith, lt, length-places (is_of e.at.item) 0 list) in
@@ -128,7 +128,7 @@ module _ (list : List Event) (x : Event) (w : Word) (g : ℕ) (old new : List (E
           (rw (trace_here list x e.at.item mine, places_here list x e.at.item mine, slice_front trace (x ∷ []) e.index lt, slice_front places (length list ∷ []) e.index numbered, take-append-le e.index trace (x ∷ []) within))
           known)
 
-      -- it would stand behind the record
+      -- it would be after the record
       known_behind : length trace < e.index → IsKnownIn longer w e (details_at new e)
       known_behind gt =
           let past : length trace ≤ e.index = omega (arith, gt) in

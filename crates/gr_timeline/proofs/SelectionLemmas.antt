@@ -36,7 +36,7 @@ module _ {X : Type 0} (P : X → Type 0) where
   those_have _ _ zero x (of_other {x = y} is_not rest) at holds = let h : Some x ≡ Some y = sym at in let same : x ≡ y = cc in absurd (is_not (subst P same holds))
   those_have _ _ (suc i) x (of_other {xs = xs} {those = those} is_not rest) at holds = those_have xs those i x rest at holds
 
-  -- where each element stands once, so does each of those
+  -- where each element is there once, so is each of those
   pub those_once : (xs those : List X) → AreThose P xs those → ((p q : ℕ) (x : X) → slice_get xs p ≡ Some x → slice_get xs q ≡ Some x → p ≡ q) → (p q : ℕ) (x : X) → slice_get those p ≡ Some x → slice_get those q ≡ Some x → p ≡ q
   those_once _ _ of_none once p q x first second = let no : None ≡ Some x = first in cc
   those_once _ _ (of_one is rest) once zero zero x first second = refl

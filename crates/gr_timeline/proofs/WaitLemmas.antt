@@ -59,7 +59,7 @@ module _ (s : Streams) (complete : AreComplete s) (order : List EventId) (whole 
         let all = reached s complete in
         held.held (all.0, all.2.stage e (all.2.closed e held.event (record { release = λ n named. let there = names n named in (there.0, there.1); instance = settled s complete e }) (λ d w. let g = waits arrival d w in stage_in s all.0 all.1 all.2 g.0 d g.1)))
 
-    -- the instance in which it stands is convergent
+    -- its instance is convergent
     convergent : (g k : ℕ) → StandsIn s e g k → (a : Mark) × IsConvergent s g k a
     convergent g k stands = ⊎_elim (λ c. c) (λ (d : IsDivergent s g k). absurd (stuck (λ x arrival.
         let met = arrival.together in
@@ -84,7 +84,7 @@ late_held s g k d late =
     let there = barrier_there s late.barrier g k late.stands in
     record { event = earlier_there s d late.barrier (there.0, there.1) late.previous.item (omega (arith, late.previous.next)); held = late.held }
 
--- ---- what calls answer
+-- ---- what calls return
 
 pub if_none : {X : Type 0} (P : Type 0) (Q : X → Type 0) (o : Option X) → is_some o ≡ false → MatchOption o P Q → P
 if_none P Q None e p = p
@@ -99,7 +99,7 @@ module _ (s : Streams) where
       (λ (less : b.at.item < i). before b d less stands p)
       (eq-or-lt_of_le (let le : b.at.item ≤ i = omega arith in le))
 
-  -- an event stands in one instance alone
+  -- an event belongs to one instance alone
   pub late_by : (e : EventId) (n : ℕ) (o : Option EventId) → StandsIn s e e.at.group n → MatchOption o (HaveArrived s e.at.group n) (λ d. IsLate s e.at.group n d) → MatchOption o ((g k : ℕ) → StandsIn s e g k → HaveArrived s g k) (λ d. (g k : ℕ) × StandsIn s e g k × IsLate s g k d)
   late_by e n None here arrived = λ g k stands b d other p.
       let same = same_instance s e g k e.at.group n stands here in

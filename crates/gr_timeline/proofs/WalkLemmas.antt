@@ -33,7 +33,7 @@ event_stays links more k e at = grind (arith, gets, slice_get-append)
 pub event_within : (links : List Link) (k : ℕ) (e : EventId) → event_of links k ≡ Some e → k < length links
 event_within links k e at = grind (arith, gets)
 
--- what is so of each link of a list and of one behind it
+-- what is so of each link of a list and of one after them
 pushed_each : {X : Type 0} (P : ℕ → X → Type 0) (xs : List X) (x : X) → ((p : ℕ) (l : X) → slice_get xs p ≡ Some l → P p l) → P (length xs) x → (p : ℕ) (l : X) → slice_get (xs ++ x ∷ []) p ≡ Some l → P p l
 pushed_each P [] x each last zero l at = let h : Some x ≡ Some l = at in let same : x ≡ l = cc in subst (P 0) same last
 pushed_each P [] x each last (suc p) l at = cc
@@ -65,7 +65,7 @@ module _ (s : Streams) where
   one_first : (d e : EventId) → IsFirstHeld s d → IsFirstHeld s e → d.at ≡ e.at → d ≡ e
   one_first d e a b at = grind (arith, same_event d e at, a.held, b.held, a.passed e, b.passed d)
 
-  -- the event at which the walk was before stands in a link
+  -- an event at which the walk was before has a link
   pub linked : (links : List Link) (e : EventId) → IsFirstHeld s e → IsLinked s links e.at → (k : ℕ) × (event_of links k ≡ Some e)
   linked links e first is = (is.place, is.linked ∙ ap Some (one_first is.event e is.first first is.item))
 

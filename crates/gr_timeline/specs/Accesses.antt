@@ -1,4 +1,4 @@
--- All accesses of a launch to one word, with what is told of each.
+-- All accesses of a launch to one word, with the details of each.
 use Rattle.std.specs.Prelude.{◌≡◌, List, None, Option, Some}
 use Rattle.std.specs.Map.{lookup}
 use Rattle.gr_model.specs.declared.event.EventId.{EventId}
@@ -16,7 +16,7 @@ IsOn s w e = word_at s e ≡ Some w
 abbrev pub details_at : List (EventId × Details) → EventId → Option Details
 details_at known e = lookup (same_event e) known
 
--- of an access to the word what is told of it, and of any other event nothing
+-- of an access to the word its details, and of any other event nothing
 abbrev pub IsKnown : Streams → Word → EventId → Option Details → Type 0
 IsKnown s w e None = ¬ IsOn s w e
 IsKnown s w e (Some d) = IsOn s w e × (details_of s e ≡ Some d)

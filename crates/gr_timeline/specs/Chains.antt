@@ -28,7 +28,7 @@ pub record IsBehind (s : Streams) (e d : EventId) : Type 0 where
   pub before : d.index < e.index
   pub first : IsFirstHeld s d
 
--- why e is held, which is the event of the link at place p
+-- why e is held, where e is the event of the link at place p
 abbrev pub IsReason : Streams → List Link → ℕ → EventId → Reason → Type 0
 IsReason s links p e (Behind d) = IsBehind s e d
 IsReason s links p e (Release d) = Matches s e d

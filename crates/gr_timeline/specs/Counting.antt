@@ -1,4 +1,4 @@
--- How many records of each item, and how many barriers among them, stand in the part of a list that was gone over.
+-- How many records of each item, and how many barriers among them, a part of a list has.
 use Rattle.std.specs.Prelude.{◌≡◌, ℕ, ◌+◌, ◌<◌, List, Some, filter, if◌then◌else◌, length, slice_get}
 use Rattle.gr_model.specs.declared.event.Event.{Event}
 use Rattle.gr_model.specs.declared.limits.TheConstants.{MOST_RECORDS}
@@ -23,6 +23,6 @@ IsSmall c = (c.records < MOST_RECORDS) × (c.barriers < MOST_RECORDS)
 abbrev pub with_record : Count → Event → Count
 with_record c x = record { records = c.records + 1; barriers = c.barriers + (if is_barrier x then 1 else 0) }
 
--- those of item i behind a record
+-- those of item i after one more record
 abbrev pub after_record : ℕ → Event → Count → Count
 after_record i x c = if is_of i x then with_record c x else c

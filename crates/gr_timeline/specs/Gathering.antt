@@ -1,4 +1,4 @@
--- What the records of one group's list tell of its events.
+-- The details of a group's events, by the records of its list.
 use Rattle.std.specs.Prelude.{◌≡◌, ◌≢◌, ◌⊎◌, ℕ, List, None, Option, Some, filter, if◌then◌else◌, length, option_and_then, option_map, slice_get, take}
 use Rattle.gr_model.specs.declared.event.Event.{Event}
 use Rattle.gr_model.specs.declared.event.EventId.{EventId}
@@ -11,7 +11,7 @@ use Rattle.gr_timeline.specs.declared.details.Details.{Details}
 use Rattle.gr_timeline.specs.Accesses.{details_at}
 use Rattle.gr_explain.specs.Events.{same_event}
 
--- the record of an event in the list of its group, its number there, and how many barriers of its item stand before it
+-- the record of an event in the list of its group, its number there, and how many barriers of its item come before it
 abbrev pub event_in : List Event → EventId → Option Event
 event_in list e = slice_get (filter (is_of e.at.item) list) e.index
 
@@ -24,14 +24,14 @@ phase_in list e = length (filter is_barrier (take e.index (filter (is_of e.at.it
 abbrev pub word_in : List Event → EventId → Option Word
 word_in list e = option_and_then (event_word e.at.group) (event_in list e)
 
--- what is told of an event, if it is there
+-- the details of an event, if it is there
 abbrev pub told_from : Option Event → Option ℕ → ℕ → Option Details
 told_from event number phase = option_and_then (λ x. option_map (λ n. record { kind = x.kind; number = n; phase = phase }) number) event
 
 abbrev pub told_in : List Event → EventId → Option Details
 told_in list e = told_from (event_in list e) (number_in list e) (phase_in list e)
 
--- of an access to the word what the list tells of it, and of any other event nothing
+-- of an access to the word its details by the list, and of any other event nothing
 abbrev pub IsKnownIn : List Event → Word → EventId → Option Details → Type 0
 IsKnownIn list w e None = word_in list e ≢ Some w
 IsKnownIn list w e (Some d) = (word_in list e ≡ Some w) × (told_in list e ≡ Some d)
@@ -46,14 +46,14 @@ AreOthersKept g old new = (e : EventId) → e.at.group ≢ g → details_at new 
 
 -- ---- one record more
 
--- the event of a record, of whose item so many records stand before it, and what is told of it
+-- the event of a record, whose item has so many records before it, and its details
 abbrev pub event_of : ℕ → Event → Count → EventId
 event_of g x c = record { at = record { group = g; item = x.item }; index = c.records }
 
 abbrev pub word_history_of : ℕ → Event → Count → Details
 word_history_of number x c = record { kind = x.kind; number = number; phase = c.barriers }
 
--- what is told of a record is kept if it accesses the word, and else nothing changes
+-- the details of a record are kept if it accesses the word, and else nothing changes
 abbrev pub KeepsRecord : Word → ℕ → ℕ → Event → Count → List (EventId × Details) → List (EventId × Details) → Type 0
 KeepsRecord w g number x c old new =
     ((event_word g x ≡ Some w) × ((e : EventId) → details_at new e ≡ (if same_event (event_of g x c) e then Some (word_history_of number x c) else details_at old e)))

@@ -16,7 +16,7 @@ use Rattle.gr_shadow.specs.StandsFor.{StandsFor, accesses_to}
 use Rattle.gr_timeline.specs.declared.entry.Entry.{Entry}
 use Rattle.gr_timeline.specs.Selections.{AreThose}
 
--- an access, how many stand above it, and some of those, whatever memory holds them
+-- an access, how many are above it, and some of those, whatever memory holds them
 pub record Line : Type 0 where
   pub event : EventId
   pub above : ℕ
@@ -69,6 +69,6 @@ access_pair x = (event_of x, x.clock)
 abbrev pub AreEntriesOf : {Z : Type 0} → Word → List ClockedAccess → List (Entry Z) → Type 0
 AreEntriesOf w accesses entries = map entry_pair entries ≡ map access_pair (filter (λ x. same_word x.word w) accesses)
 
--- they are, and shadows stand for these accesses
+-- they are, and the shadows represent these accesses
 abbrev pub IsKeptOf : {Z : Type 0} → Word → List ClockedAccess → List (Entry Z) → Kept → Type 0
 IsKeptOf w accesses entries shadows = AreEntriesOf w accesses entries × StandsFor (accesses_to w accesses) shadows

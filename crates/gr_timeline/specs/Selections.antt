@@ -5,7 +5,7 @@ use Rattle.std.specs.Prelude.{List, [], ◌∷◌}
 pub data AreThose {X : Type 0} (P : X → Type 0) : List X → List X → Type 0 where
   -- of no elements there are none
   of_none : AreThose P [] []
-  -- an element of which P holds stands at the front of both
+  -- an element of which P holds is the first of both
   of_one : {x : X} {xs those : List X} → P x → AreThose P xs those → AreThose P (x ∷ xs) (x ∷ those)
   -- any other is left out
   of_other : {x : X} {xs those : List X} → ¬ P x → AreThose P xs those → AreThose P (x ∷ xs) those

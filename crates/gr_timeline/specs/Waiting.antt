@@ -24,7 +24,7 @@ pub record IsFirstHeld (s : Streams) (e : EventId) : Type 0 where
   pub held : ¬ IsGrounded s e
   pub passed : IsPassed s e
 
--- d is the event before a barrier with which e, a barrier too, stands in one convergent instance: e waits for its arrival
+-- d is the event before a barrier of the convergent instance to which e, a barrier too, belongs: e waits for its arrival
 pub record IsArrival (s : Streams) (e d : EventId) : Type 0 where
   pub mark : Mark
   pub barrier : EventId
@@ -50,6 +50,6 @@ HaveArrived s g k = (b d : EventId) → StandsIn s b g k → IsPrevious d b → 
 abbrev pub ForgetsGrounded : Remembered → Type 0
 ForgetsGrounded r = (e : EventId) (k : ℕ) → place_of r.streams is_barrier e.at k ≡ Some e.index → k < forgotten_of r e.at.group → IsGrounded r.streams e
 
--- some event that stands in an instance is held
+-- some event that belongs to an instance is held
 abbrev pub IsStuck : Streams → ℕ → ℕ → Type 0
 IsStuck s g k = (e : EventId) × StandsIn s e g k × ¬ IsGrounded s e

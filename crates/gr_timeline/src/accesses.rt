@@ -16,7 +16,7 @@ use indexmap::IndexMap;
 use std::alloc::Allocator;
 use std::hash::{BuildHasherDefault, FoldHasher};
 
-/// Accesses, with what is told of each, in the order of their groups and of their records.
+/// Accesses, with the details of each, in the order of their groups and of their records.
 pub type Accesses<A> = IndexMap<EventId, Details, BuildHasherDefault<FoldHasher>, A>;
 
 /// Whether a record of a group accesses a word.
@@ -29,7 +29,7 @@ fn is_on(word: Word, group: u16, event: &Event) -> bool
     }
 }
 
-/// Keeps what is told of the record of this number in its group's list, if it accesses the word.
+/// Keeps the details of a record of a group, of this number in the group's list, if it accesses the word.
 ///
 /// # Errors
 /// `Memory`: out of memory.
@@ -89,7 +89,7 @@ fn add_group<A: Allocator + Copy>(
     Ok(())
 }
 
-/// All accesses of a launch to a word, with what is told of each.
+/// All accesses of a launch to a word, with the details of each.
 ///
 /// It goes over the records of the launch once. Its memory grows with the accesses to the word, and with the items of
 /// the largest group.

@@ -11,7 +11,7 @@ use crate::judged::Judged;
 use gr_model::event::{EventId, ItemId};
 use std::alloc::Allocator;
 
-/// The event before an item's barrier of this number, if it is held.
+/// The event right before an item's barrier of this number, if that event is held.
 fn held_before<A: Allocator>(judged: &Judged<A>, item: ItemId, number: u32) -> Option<EventId>
     requires item { item.item < size_of judged.now item.group }
     requires stuck { IsStuck judged.now item.group number }
@@ -32,7 +32,7 @@ fn held_before<A: Allocator>(judged: &Judged<A>, item: ItemId, number: u32) -> O
     }
 }
 
-/// The event before a barrier of an instance of a group that is held: that of the first such item, if there is one.
+/// The first item's event that is held and comes right before its barrier of an instance of a group, if there is one.
 fn late_in<A: Allocator>(judged: &Judged<A>, group: u16, number: u32) -> Option<EventId>
     requires group { group < length judged.now.sizes }
     requires stuck { IsStuck judged.now group number }
@@ -47,7 +47,8 @@ fn late_in<A: Allocator>(judged: &Judged<A>, group: u16, number: u32) -> Option<
     None
 }
 
-/// The event before a barrier of the instance in which a held event stands, if it stands in one and such an event is held.
+/// A held event right before a barrier of the instance to which a held barrier belongs; `None` where the event is no barrier, or where no
+/// such event is held.
 pub(crate) fn late_arrival<A: Allocator>(judged: &Judged<A>, event: EventId) -> Option<EventId>
     requires { IsHeldEvent judged.now event }
     ensures { MatchOption result ((g k : ℕ) → StandsIn judged.now event g k → HaveArrived judged.now g k) (λ d. (g k : ℕ) × StandsIn judged.now event g k × IsLate judged.now g k d) }

@@ -1,4 +1,4 @@
-//! How many records of each item of a group, and how many barriers among them, were gone over.
+//! How many records of each item of a group, and how many barriers among them, the pass over the group's list has seen.
 
 ghost use Rattle.std.specs.Prelude.{◌≡◌, ◌<◌, [], ℕ, IfOk, Some, length, option_map, slice_get};
 ghost use Rattle.gr_timeline.specs.declared.counting.Count.{Count as AnyCount};
@@ -9,7 +9,7 @@ use gr_model::event::Event;
 use gr_model::memory::Memory;
 use std::alloc::Allocator;
 
-/// What was gone over of one item.
+/// What the pass has seen of one item.
 #[derive(Clone, Copy, Debug, PartialEq, Eq)]
 pub(crate) struct Count {
     /// How many of its records.
@@ -19,7 +19,7 @@ pub(crate) struct Count {
 }
 
 impl Count {
-    /// With one record more.
+    /// The count after one more record.
     fn with_record(self, event: &Event) -> Count
         requires { IsSmall self }
         ensures { result ≡ with_record self event.now }
@@ -31,7 +31,7 @@ impl Count {
     }
 }
 
-/// The counts of so many items of which nothing was gone over.
+/// The counts of so many items at the start.
 ///
 /// # Errors
 /// `Memory`: out of memory.

@@ -1,4 +1,4 @@
-//! What is told of one access of a racing pair.
+//! The details of an event: what a report says of an access.
 
 ghost use Rattle.std.specs.Prelude.{◌≡◌, ◌<◌, Some, filter, length, slice_get, take};
 ghost use Rattle.gr_model.specs.Barriers as barriers;
@@ -18,7 +18,7 @@ pub struct Details {
     pub kind: Kind,
     /// The number of its record in its group's stream, from 0.
     pub number: usize,
-    /// How many barriers of its item stand before it.
+    /// How many barriers of its item come before it.
     pub phase: usize,
 }
 
@@ -56,7 +56,7 @@ pub fn barriers_before(list: &[Event], item: u16, index: u32) -> usize
         .count()
 }
 
-/// What is told of an event of a group, or `None` where its item has no event of this index.
+/// The details of an event of a group, or `None` where its item has no event of this index.
 pub fn details_at<A: Allocator>(
     traces: &Traces<A>,
     records: &Records<'_, A>,
@@ -76,7 +76,7 @@ pub fn details_at<A: Allocator>(
     })
 }
 
-/// What is told of an event of a launch. It takes time that grows with the records of the event's group.
+/// The details of an event of a launch. It takes time that grows with the records of the event's group.
 pub fn details_of<A: Allocator>(
     traces: &Traces<A>,
     records: &Records<'_, A>,

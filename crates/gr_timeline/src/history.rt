@@ -70,7 +70,7 @@ fn has(words: &[Word], word: Word) -> bool
     words.contains(&word)
 }
 
-/// Whether a word is hit in the accesses that shadows stand for.
+/// Whether a word is hit in the accesses that the shadows represent.
 ///
 /// # Errors
 /// `Memory`: out of memory.

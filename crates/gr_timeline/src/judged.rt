@@ -1,7 +1,6 @@
-//! A launch of which it is known which events are grounded.
+//! A launch whose grounded events are known.
 //!
-//! Invariant: all records were taken, every list is complete, and just the grounded events were handled. These are the first
-//! ones of their items.
+//! Invariant: all records were taken, every list is complete, and just the grounded events were handled: of each item the first ones.
 
 ghost use Rattle.std.specs.Prelude.{◌≡◌, ◌↔◌, ◌<◌, IfOk, IsTrue, List};
 ghost use Rattle.gr_model.specs.declared.event.EventId.{EventId as AnyEvent};
@@ -20,7 +19,7 @@ use gr_taking::traces::follow;
 use std::alloc::{Allocator, Global};
 use std::marker::Model;
 
-/// A launch of which it is known which events are grounded. Contracts see its streams.
+/// A launch whose grounded events are known. Contracts see its streams.
 #[derive(Drop)]
 #[derive_where(Debug)]
 pub(crate) struct Judged<A: Allocator = Global> {

@@ -24,7 +24,7 @@ fn release_word<A: Allocator>(judged: &Judged<A>, name: Name, index: u32) -> Opt
     judged.lanes().release_word(name)
 }
 
-/// Why the name of an event of this word holds it for ever, if it does.
+/// Why a name of an event on this word holds the event for ever, if it does.
 fn root_by_name<A: Allocator>(
     judged: &Judged<A>,
     event: EventId,
@@ -47,7 +47,7 @@ fn root_by_name<A: Allocator>(
     }
 }
 
-/// Why one of the names of an event of this word holds it for ever, if one does: by the first that does.
+/// Why one of the names of an event on this word holds the event for ever, if one does: by the first that does.
 fn root_by_names<A: Allocator>(
     judged: &Judged<A>,
     event: EventId,

@@ -8,11 +8,11 @@ use gr_model::event::{EventId, Name};
 /// Why an event is held.
 #[derive(Clone, Copy, Debug, PartialEq, Eq)]
 pub enum Reason {
-    /// It stands behind this event, the first of its item that is held.
+    /// It comes after this event, the first of its item that is held.
     Behind(EventId),
     /// It is an acquire that names this release, which is held.
     Release(EventId),
-    /// It is a barrier that is met with another one, and this is the event before that one, which is held.
+    /// It is a barrier that waits for another one of its instance, and the event right before that one is this one, which is held.
     Barrier(EventId),
     /// It is an acquire, and there is no release of this name.
     Absent(Name),

@@ -1,6 +1,6 @@
-//! How the accesses of a history stand to those above them: what text and JSON show of their clocks. No clause speaks of it.
+//! How each access of a history relates to those above it: what text and JSON show of the clocks. No clause speaks of it.
 //!
-//! Of each work-group it is kept how many of its accesses the clock of the last access counts. The next clock is compared group by group.
+//! For each work-group, it is kept how many of its accesses the clock of the last access counts. The next clock is compared group by group.
 //! It is compared item by item only where the group's counts may differ: not where both clocks count none of its accesses, nor where the
 //! later one comes after the earlier and that counts them all.
 
@@ -13,7 +13,7 @@ use indexmap::IndexMap;
 use std::alloc::{Allocator, Global};
 use std::hash::{BuildHasherDefault, FoldHasher};
 
-/// How many of some events are named at most.
+/// At most so many events are named.
 const MOST_NAMED: usize = 8;
 
 /// Some events: the first few by name, and how many there are.
@@ -26,7 +26,7 @@ pub struct Named<A: Allocator = Global> {
     pub others: usize,
 }
 
-/// How an access stands to those above it.
+/// How an access relates to those above it.
 #[derive(Drop)]
 #[derive_where(Debug)]
 pub struct Standing<A: Allocator = Global> {
@@ -65,14 +65,14 @@ struct Tallies<A: Allocator> {
 /// A map that keeps the order in which its keys came.
 type Map<K, V, A> = IndexMap<K, V, BuildHasherDefault<FoldHasher>, A>;
 
-/// The accesses of a group: those of each item by their classes.
+/// The accesses of a group, by items and by classes.
 #[derive(Drop)]
 struct GroupAbove<A: Allocator> {
     items: Map<u16, Vec<Trail<A>, A>, A>,
     tallies: Tallies<A>,
 }
 
-/// The accesses of a history that stand above the next one.
+/// The accesses of a history that are above the next one.
 #[derive(Drop)]
 pub struct Above<A: Allocator = Global> {
     groups: Map<u16, GroupAbove<A>, A>,
@@ -144,7 +144,7 @@ impl<A: Allocator + Copy> Tallies<A> {
         Ok(())
     }
 
-    /// Puts how many accesses of a class the last clock counts in place of how many of them the one before it did.
+    /// Takes it that the last clock counts `after` accesses of some of a class, of which the one before it counted `before`.
     fn recount(&mut self, class: Class, before: usize, after: usize) {
         self.counted = self.counted.saturating_sub(before).saturating_add(after);
         for tally in self.classes.iter_mut() {
@@ -154,8 +154,8 @@ impl<A: Allocator + Copy> Tallies<A> {
         }
     }
 
-    /// How many accesses the last clock does not count, of those that never race, or of those that can race, with an access of this
-    /// class and group if they are of the group `at`.
+    /// How many accesses the last clock does not count: of those that never race with an access of this class and group where they are of
+    /// the group `at`, or of those that can.
     fn uncounted(&self, at: u16, class: Class, group: u16, is_exempt: bool) -> usize {
         let mut sum: usize = 0;
         for tally in &self.classes {
@@ -213,7 +213,7 @@ impl<A: Allocator + Copy> GroupAbove<A> {
         count
     }
 
-    /// Names the accesses that the last clock does not count: where they can race with an access of this class and group, and where not.
+    /// Names accesses that the last clock does not count, those that can race with an access of this class and group apart from the others.
     fn name(
         &self,
         number: u16,
@@ -329,8 +329,8 @@ impl<A: Allocator + Copy> Above<A> {
         }
     }
 
-    /// How many accesses the last clock does not count, of those that never race, or of those that can race, with an access of this
-    /// class and group.
+    /// How many accesses the last clock does not count: of those that never race with an access of this class and group, or of those that
+    /// can.
     fn uncounted(&self, class: Class, group: u16, is_exempt: bool) -> usize {
         let another = u16::from(group == 0);
         let as_others = self.tallies.uncounted(another, class, group, is_exempt);
@@ -358,7 +358,7 @@ impl<A: Allocator + Copy> Above<A> {
         Ok(())
     }
 
-    /// Adds an access of a class, and says how it stands to those above it.
+    /// Adds an access of a class, and says how it relates to those above it.
     ///
     /// # Errors
     /// `Memory`: out of memory.

@@ -1,7 +1,7 @@
 //! The walk from a held event along its chain.
 //!
 //! The chain goes from an event to the first held one of its item, from there to an event for which that waits, and so on.
-//! Where it comes to an item for the second time, it has come to the same event, and ends in a circle.
+//! Where it comes to an item for the second time, it comes to the same event, and the chain ends in a circle.
 
 ghost use Rattle.std.specs.Prelude.{◌≡◌, ◌<◌, ◌++◌, ◌∷◌, [], ℕ, IfOk, IfSome, MatchOption, OnOk, Some, length};
 ghost use Rattle.gr_model.specs.declared.event.EventId.{EventId as AnyEvent};
@@ -18,7 +18,7 @@ use gr_model::event::EventId;
 use gr_model::memory::Memory;
 use std::alloc::Allocator;
 
-/// The first held event of an event's item, if it stands before it.
+/// The first held event of an event's item, if it comes before the event.
 fn first_before<A: Allocator>(judged: &Judged<A>, event: EventId) -> Option<EventId>
     ensures { MatchOption result (IsPassed judged.now event) (λ d. IsBehind judged.now event d) }
 {

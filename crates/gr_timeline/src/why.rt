@@ -36,7 +36,7 @@ impl<A: Allocator> WhyHeld<A> {
     }
 }
 
-/// Why an event of a launch is held, where it is known which events are grounded.
+/// Why an event of a launch is held, where the grounded events are known.
 ///
 /// # Errors
 /// `Memory`: out of memory.

@@ -1,4 +1,4 @@
-//! What is told of one word of a launch.
+//! The answer about one word of a launch: its accesses, its history, and whether it is racy.
 
 ghost use Rattle.std.specs.Prelude.{◌↔◌, IfOk, IsTrue};
 ghost use Rattle.gr_timeline.specs.Accesses.{AreAccesses};
@@ -14,10 +14,10 @@ use gr_model::memory::Memory;
 use gr_model::traces::Traces;
 use std::alloc::{Allocator, Global};
 
-/// What is told of a word.
+/// What is known of a word.
 #[derive(Drop)]
 pub struct HistoryAnswer<A: Allocator = Global> {
-    /// All accesses to it, with what is told of each.
+    /// All accesses to it, with the details of each.
     pub known: Accesses<A>,
     /// Its history.
     pub entries: Vec<Entry<A>, A>,
@@ -27,7 +27,7 @@ pub struct HistoryAnswer<A: Allocator = Global> {
     pub racy: bool,
 }
 
-/// What is told of a word of a launch.
+/// All accesses to a word of a launch, its history, how many accesses are held, and whether the word is racy.
 ///
 /// # Errors
 /// `Memory`: out of memory.
@@ -36,10 +36,10 @@ pub fn word_history_of<A: Allocator + Copy>(
     traces: &Traces<A>,
     word: Word,
 ) -> Result<HistoryAnswer<A>, Memory>
-    ensures known { IfOk result (λ told. AreAccesses traces.now word told.known.entries) }
-    ensures history { IfOk result (λ told. IsHistory traces.now word (lines_of told.entries.items)) }
-    ensures held { IfOk result (λ told. IsHeldCount traces.now word told.held) }
-    ensures racy { IfOk result (λ told. IsTrue told.racy ↔ IsRacyIn word traces.now) }
+    ensures known { IfOk result (λ answer. AreAccesses traces.now word answer.known.entries) }
+    ensures history { IfOk result (λ answer. IsHistory traces.now word (lines_of answer.entries.items)) }
+    ensures held { IfOk result (λ answer. IsHeldCount traces.now word answer.held) }
+    ensures racy { IfOk result (λ answer. IsTrue answer.racy ↔ IsRacyIn word traces.now) }
 {
     let known = accesses_of(alloc, traces, word)?;
     let (entries, racy) = history_of(alloc, traces, word)?;

@@ -7,7 +7,7 @@ use Rattle.gr_timeline.proofs.GroupLemmas.{length-places}
 use Rattle.gr_timeline.specs.Details.{details_of, with_number}
 use Rattle.gr_timeline.proofs.details.details_of.Goals as goal
 
--- something is told of each event
+-- each event has details
 event_is_told : (s : Streams) (e : EventId) → IsEvent s e → (d : Details) × (details_of s e ≡ Some d)
 event_is_told s e there =
     let at = slice_get-get_or (places_from (is_of e.at.item) 0 (list_of s e.at.group)) e.index 0 (omega (arith, length-places (is_of e.at.item) 0 (list_of s e.at.group), slice_get_within (filter (is_of e.at.item) (list_of s e.at.group)) e.index there.0 there.1)) in
