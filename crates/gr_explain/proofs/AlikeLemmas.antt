@@ -18,7 +18,7 @@ use Rattle.gr_shadow.proofs.KeepsLemmas.{Contains-first, Contains-rest, find_is,
 use Rattle.gr_explain.proofs.Lists.{first_or_rest}
 use Rattle.gr_explain.specs.Alike.{AlikeEvents, AreOfOnly, IsChosen, IsInPlaceOf, KeepsEvents, are_of_groups, entry_event, event_clashes, greatest, is_sought, only_with}
 
--- ---- exempt in whatever groups
+-- ---- exempt in any groups
 
 -- where accesses of two classes are exempt in two groups, they are exempt in any
 pub none_clashes : (two : Bool) (c : Class) (y : ClockedAccess) (events : List EventId) → exempt c 0 y.class 1 ≡ true → find (is_sought two c y) events ≡ None

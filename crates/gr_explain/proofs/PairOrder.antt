@@ -1,4 +1,4 @@
--- The order of events and of pairs, and the least of the pairs of which something holds.
+-- The order of events and of pairs, and the least of the pairs for which something holds.
 use Rattle.std.proofs.Common.{◌≡◌, ◌⊎◌, Option, Some, None, MatchOption, refl, inl, arith}
 use Rattle.gr_model.specs.declared.event.EventId.{EventId}
 use Rattle.gr_model.specs.Reports.{EventBelow}

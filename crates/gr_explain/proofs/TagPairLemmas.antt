@@ -192,7 +192,7 @@ module _ {Z : Type 0} (tag_of : EventId → ℕ) (accesses : List ClockedAccess)
         tags = grind (arith, of.tag_is, among.found.first_tag, among.found.second_tag, tag_is, turned);
       }
 
-  -- two tags of which it clashes have a race now
+  -- where the access clashes with an earlier one, their two tags have a race now
   clash_found : (two : Bool) (e f : EventId) → IsNewClash y.word accesses y e f → are_of_groups two e f ≡ true → has_tags two new.found.items (tag_of e) (tag_of f) ≡ true
   clash_found two e f clash groups =
       let d = stands.some (tag_of e) clash.class e (record { access = clash.of; tag_is = refl }) in

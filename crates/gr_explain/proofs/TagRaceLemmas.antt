@@ -22,7 +22,7 @@ use Rattle.gr_explain.specs.declared.tag_pairs.TagPairs.{TagPairs}
 use Rattle.gr_explain.proofs.Lists.{any_there, first_or_rest, mapped_there}
 use Rattle.gr_explain.proofs.RacePairs.{clash_is_race, race_is_clash}
 
--- ---- two tags, in whatever order
+-- ---- two tags, in any order
 
 abbrev pub AreSameTwo : ℕ → ℕ → ℕ → ℕ → Type 0
 AreSameTwo a b c d = (a ≡ c × b ≡ d) ⊎ (a ≡ d × b ≡ c)

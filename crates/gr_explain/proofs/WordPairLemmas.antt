@@ -23,7 +23,7 @@ module _ {Z : Type 0} where
   abbrev pub HasUpdate : List (Word × TagPairs Z) → Word → TagPairs Z → List (Word × TagPairs Z) → Type 0
   HasUpdate old v p new = (w : Word) → lookup (same_word w) new ≡ cond (same_word v w) (Some p) (lookup (same_word w) old)
 
-  -- one word more, of which no access came
+  -- one word more, where no access to it came
   pub word_more : (tag_of : EventId → ℕ) (words : List Word) (k : ℕ) (v : Word) (old new : List (Word × TagPairs Z)) (p : TagPairs Z) → k < length words → HasUpdate old (get_or words k v) p new → ((w : Word) → StandsForTags tag_of w [] p) → StandForWords tag_of (take k words) [] old → StandForWords tag_of (take (k + 1) words) [] new
   word_more tag_of words k v old new p lt update none stand w in_more = ⊎_elim
       (λ (is : same_word (get_or words k v) w ≡ true). record { pairs = p; at = grind (arith, update w, is); stands = none w })

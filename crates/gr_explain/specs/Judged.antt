@@ -15,7 +15,7 @@ use Rattle.gr_explain.specs.Answering.{AreAnswers}
 abbrev pub IsAccessing : Streams → EventId → Type 0
 IsAccessing s e = (w : Word) × (word_at s e ≡ Some w)
 
--- both events of a pair are accesses, of whatever words
+-- both events of a pair are accesses, of any words
 pub record AreAccesses (s : Streams) (r : Race) : Type 0 where
   pub first : IsAccessing s r.first
   pub second : IsAccessing s r.second

@@ -10,7 +10,7 @@ use Rattle.gr_model.specs.Streams.{Streams}
 abbrev pub PairBelow : Pair → Pair → Type 0
 PairBelow p q = EventBelow p.0 q.0 ⊎ ((p.0 ≡ q.0) × EventBelow p.1 q.1)
 
--- the least of the pairs of which P holds
+-- the least pair for which P holds
 abbrev pub IsLeast : (Pair → Type 0) → Pair → Type 0
 IsLeast P pair = P pair × ((other : Pair) → P other → ¬ PairBelow other pair)
 

@@ -6,7 +6,7 @@ use Rattle.gr_model.specs.declared.event.Event.{Event}
 use Rattle.gr_model.specs.Streams.{is_of, places_from}
 use Rattle.gr_races.specs.Between.{is_acquire}
 
--- the last acquire below an index among records of which the first of the item is its record `at`, or else what was found before them
+-- the last acquire below an index in a list whose first record of the item is the item's record `at`, or else what was found before
 abbrev pub last_below : ℕ → ℕ → ℕ → Option ℕ → List Event → Option ℕ
 last_below item index at found xs = last_or found (filter (λ k. nat_lt k index) (places_from is_acquire at (filter (is_of item) xs)))
 

@@ -63,7 +63,7 @@ tag_at s numbers e = option_map_or tag_of (placed_at s numbers e) 0
 abbrev pub is_alike : RaceKind → Bool
 is_alike k = tag_of k.first == tag_of k.second
 
--- the accesses have these tags, in whatever order
+-- the accesses have these tags, in any order
 abbrev pub is_of_tags : RaceKind → ℕ → ℕ → Bool
 is_of_tags k a b = ((tag_of k.first == a) && (tag_of k.second == b)) || ((tag_of k.first == b) && (tag_of k.second == a))
 

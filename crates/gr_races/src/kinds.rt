@@ -60,7 +60,7 @@ impl RaceKind {
         tag_of(self.first) == tag_of(self.second)
     }
 
-    /// Whether the accesses have these tags, in whatever order.
+    /// Whether the accesses have these tags, in any order.
     pub(crate) fn is_of(&self, tag: u128, other: u128) -> bool
         ensures { result ≡ spec.is_of_tags self.now tag other }
     {

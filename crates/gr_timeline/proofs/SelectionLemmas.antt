@@ -1,4 +1,4 @@
--- The elements of a list of which something is so, and the lines of entries, where the list grows.
+-- The elements of a list for which something holds, and the lines of entries, where the list grows.
 use Rattle.std.proofs.Common.{◌≡◌, ◌↔◌, ℕ, zero, suc, List, Some, None, ap, arith, refl, slice_get, subst, sym, Bool, true, false, cond, [], ◌∷◌, ◌++◌, filter, length, map, true≢false, ◌∙◌}
 use Rattle.gr_timeline.specs.Selections.{AreThose, of_none, of_one, of_other}
 use Rattle.std.proofs.lemmas.Bool.{lt-ltb, ltb-true}
@@ -28,7 +28,7 @@ module _ {X : Type 0} (P : X → Type 0) where
   those_hold _ _ (suc i) x (of_one {xs = xs} {those = those} is rest) at = those_hold xs those i x rest at
   those_hold _ _ i x (of_other {xs = xs} {those = those} is_not rest) at = those_hold xs those i x rest at
 
-  -- each element of which it is so is one of those
+  -- each element for which it holds is one of those
   pub those_have : (xs those : List X) (i : ℕ) (x : X) → AreThose P xs those → slice_get xs i ≡ Some x → P x → (p : ℕ) × (slice_get those p ≡ Some x)
   those_have _ _ i x of_none at holds = let no : None ≡ Some x = at in cc
   those_have _ _ zero x (of_one is rest) at holds = (0, at)

@@ -16,7 +16,7 @@ use Rattle.gr_shadow.specs.StandsFor.{StandsFor, accesses_to}
 use Rattle.gr_timeline.specs.declared.entry.Entry.{Entry}
 use Rattle.gr_timeline.specs.Selections.{AreThose}
 
--- an access, how many are above it, and some of those, whatever memory holds them
+-- an access, how many are above it, and some of those, without the allocator
 pub record Line : Type 0 where
   pub event : EventId
   pub above : ℕ

@@ -10,7 +10,7 @@ use Rattle.gr_timeline.specs.declared.why.WhyHeld.TheVariants as answers
 use Rattle.gr_timeline.specs.Chains.{IsChain}
 use Rattle.gr_timeline.specs.Waiting.{IsHeldEvent}
 
--- what is answered about an event, whatever memory holds it
+-- the answer about an event, without the allocator
 pub data Answer : Type 0 where
   no_record : Answer
   judged : Answer

@@ -144,7 +144,7 @@ impl<A: Allocator + Copy> Tallies<A> {
         Ok(())
     }
 
-    /// Takes it that the last clock counts `after` accesses of some of a class, of which the one before it counted `before`.
+    /// Corrects the counts: of some accesses of a class, the last clock counts `after`, and the one before it counted `before`.
     fn recount(&mut self, class: Class, before: usize, after: usize) {
         self.counted = self.counted.saturating_sub(before).saturating_add(after);
         for tally in self.classes.iter_mut() {

@@ -128,7 +128,7 @@ fn go_on<A: Allocator, B: Allocator>(
     Ok(reason.leads_to())
 }
 
-/// A tally of the items of a launch, none of which is counted.
+/// A tally of the items of a launch that counts none.
 ///
 /// # Errors
 /// `Memory`: out of memory.
