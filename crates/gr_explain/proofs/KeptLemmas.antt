@@ -3,6 +3,7 @@ use Rattle.std.proofs.Common.{◌≡◌, ◌≢◌, ◌⊎◌, true, false, cond
 use Rattle.std.proofs.lemmas.Bool.{cases_Bool}
 use Rattle.std.proofs.lemmas.List.Elements.{Contains-append_left, Contains-push, Contains-push_cases}
 use Rattle.gr_model.specs.declared.event.EventId.{EventId}
+use Rattle.gr_model.specs.declared.race.Race.{Race}
 use Rattle.gr_model.specs.LawfulOrders.{IsIn, IsWholeOrder}
 use Rattle.gr_model.specs.Streams.{Streams, word_at}
 use Rattle.gr_model.proofs.Cuts.{same_event as from_parts}
@@ -13,7 +14,7 @@ use Rattle.gr_closure.specs.Accesses.{IsAccess}
 use Rattle.gr_closure.specs.AccessesAlong.{AreAccesses, of_none, of_access, of_other}
 use Rattle.gr_shadow.proofs.KeepsLemmas.{Contains-first, Contains-rest}
 use Rattle.gr_shadow.specs.Clashes.{event_of}
-use Rattle.gr_explain.specs.Accesses.{AreKept, AreThoseOf, IsKept, IsThatOf, access_at}
+use Rattle.gr_explain.specs.Accesses.{AreBothKept, AreThoseOf, AreWanted, IsKept, IsThatOf, access_at}
 use Rattle.gr_explain.specs.Events.{Has, same_event}
 use Rattle.gr_explain.proofs.Lists.{first_or_rest}
 use Rattle.gr_explain.proofs.Sets.{event_from_equal, event_itself}
@@ -62,7 +63,7 @@ module _ (s : Streams) where
   access_there _ _ zero d (of_other {e = e} {order = order} {accesses = accesses} none rest) at = let same : e ≡ d = cc in inl (rw (← same) none)
   access_there _ _ (suc p) d (of_other {e = e} {order = order} {accesses = accesses} none rest) at = access_there order accesses p d rest at
 
--- along all grounded events, what is kept of a wanted event is its access
+-- along all grounded events, what is kept of a wanted event is its access, and so of both events of a pair
 module _ {Z : Type 0} (s : Streams) (wanted : List EventId) (kept : List (EventId × Access Z)) (order : List EventId) (whole : IsWholeOrder s order) (accesses : List ClockedAccess) (are : AreAccesses s order accesses) where
   kept_of : (d : EventId) (o : Option (Access Z)) → IsThatOf accesses d o → IsKept s d o
   kept_of d None none = λ grounded.
@@ -75,5 +76,5 @@ module _ {Z : Type 0} (s : Streams) (wanted : List EventId) (kept : List (EventI
         record { word = of.word; item = of.item; index = of.index; event = of.event; at_event = of.at_event; class = of.class; counts = of.counts },
       )
 
-  pub kept_of_whole : AreThoseOf wanted accesses kept → AreKept s wanted kept
-  kept_of_whole those d has = kept_of d (access_at kept d) (those d has)
+  pub both_kept : AreThoseOf wanted accesses kept → (r : Race) → AreWanted wanted r → AreBothKept s kept r
+  both_kept those r both = record { first = kept_of r.first (access_at kept r.first) (those r.first both.first); second = kept_of r.second (access_at kept r.second) (those r.second both.second) }

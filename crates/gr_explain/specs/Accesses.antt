@@ -35,11 +35,7 @@ abbrev pub IsKept : {Z : Type 0} → Streams → EventId → Option (Access Z) �
 IsKept s e None = IsGrounded s e → word_at s e ≡ None
 IsKept s e (Some a) = IsGrounded s e × IsAccess s e a
 
--- this is so of each wanted event
-abbrev pub AreKept : {Z : Type 0} → Streams → List EventId → List (EventId × Access Z) → Type 0
-AreKept s wanted kept = (e : EventId) → Has wanted e → IsKept s e (access_at kept e)
-
--- and of both events of a pair
+-- this is so of both events of a pair
 pub record AreBothKept {Z : Type 0} (s : Streams) (kept : List (EventId × Access Z)) (r : Race) : Type 0 where
   pub first : IsKept s r.first (access_at kept r.first)
   pub second : IsKept s r.second (access_at kept r.second)

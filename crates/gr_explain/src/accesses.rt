@@ -1,11 +1,8 @@
 //! The accesses of some events of a launch, kept as they are handled.
 
-ghost use Rattle.std.specs.Prelude.{◌≡◌, ◌∷◌, ◌++◌, [], All, IfOk, List, OnOk};
+ghost use Rattle.std.specs.Prelude.{All, IfOk, OnOk};
 ghost use Rattle.gr_model.specs.declared.race.Race.{Race as AnyRace};
-ghost use Rattle.gr_clocks.specs.ClockedAccess.{ClockedAccess, clocked};
-ghost use Rattle.gr_explain.specs.Accesses.{AreBothKept, AreKept, AreThoseOf, AreWanted};
-ghost use Rattle.std.specs.Option.{option_map};
-ghost use Rattle.gr_closure.specs.AccessesAlong.{in_flight_list};
+ghost use Rattle.gr_explain.specs.Accesses.{AreBothKept, AreThoseOf, AreWanted};
 
 use crate::seen::event_of;
 use gr_clocks::access::Access;
@@ -63,9 +60,7 @@ impl<A: Allocator + Copy> Keeper<A> for WantedKeeper<'_, A> {
 
     ghost stands = { λ keeper accesses kept. AreThoseOf keeper.wanted.now.keys accesses kept.entries };
 
-    fn add(&self, kept: &mut Accesses<A>, access: &mut Option<Access<A>>) -> Result<(), Memory>
-        ensures { OnOk result ((accesses : List ClockedAccess) → AreThoseOf self.now.wanted.now.keys accesses kept.old.entries → AreThoseOf self.now.wanted.now.keys (accesses ++ in_flight_list (option_map clocked access.old)) kept.new.entries) }
-    {
+    fn add(&self, kept: &mut Accesses<A>, access: &mut Option<Access<A>>) -> Result<(), Memory> {
         let Some(access) = access.take() else {
             return Ok(());
         };
@@ -76,25 +71,7 @@ impl<A: Allocator + Copy> Keeper<A> for WantedKeeper<'_, A> {
         Ok(())
     }
 
-    fn close(&self, _kept: &mut Accesses<A>, _group: u16)
-        ensures { (accesses : List ClockedAccess) → AreThoseOf self.now.wanted.now.keys accesses _kept.old.entries → AreThoseOf self.now.wanted.now.keys accesses _kept.new.entries }
-    {}
-}
-
-/// The accesses of those wanted events of a launch that are grounded.
-///
-/// # Errors
-/// `Memory`: out of memory.
-fn accesses_of<A: Allocator + Copy>(
-    alloc: A,
-    traces: &Traces<A>,
-    wanted: &Events<A>,
-) -> Result<Accesses<A>, Memory>
-    ensures { IfOk result (λ accesses. AreKept traces.now wanted.now.keys accesses.entries) }
-{
-    let mut accesses = IndexMap::new(alloc);
-    follow(alloc, traces, &WantedKeeper { wanted }, &mut accesses)?;
-    Ok(accesses)
+    fn close(&self, kept: &mut Accesses<A>, group: u16) {}
 }
 
 /// The accesses of those events of these pairs that are grounded.
@@ -109,5 +86,12 @@ pub(crate) fn accesses_of_pairs<A: Allocator + Copy>(
     ensures { IfOk result (λ accesses. All (AreBothKept traces.now accesses.entries) races.now) }
 {
     let wanted = events_of(alloc, races)?;
-    accesses_of(alloc, traces, &wanted)
+    let mut accesses = IndexMap::new(alloc);
+    follow(
+        alloc,
+        traces,
+        &WantedKeeper { wanted: &wanted },
+        &mut accesses,
+    )?;
+    Ok(accesses)
 }

@@ -88,21 +88,6 @@ impl<A: Allocator> Alike<A> {
         self.tag == tag && self.class == access.class
     }
 
-    /// An event of these with which a later access to the word clashes: one of another group, if `two`.
-    fn find_clashing(&self, access: &Access<A>, two: bool) -> Option<EventId>
-        ensures { result ≡ find (is_sought two self.now.class (clocked access.now)) self.now.events }
-    {
-        self.indexes
-            .iter()
-            .map(|entry| EventId {
-                at: *entry.0,
-                index: *entry.1,
-            })
-            .find(|event| {
-                (!two || event.at.group != access.item.group) && clashes(self.class, *event, access)
-            })
-    }
-
     /// An event of these with which a later access to the word clashes: one of another group, if `two`. Where accesses of the two classes
     /// are exempt in any two groups, none clashes.
     pub(crate) fn clashing(&self, access: &Access<A>, two: bool) -> Option<EventId>
@@ -114,7 +99,15 @@ impl<A: Allocator> Alike<A> {
         if two && self.only == Some(access.item.group) {
             return None;
         }
-        self.find_clashing(access, two)
+        self.indexes
+            .iter()
+            .map(|entry| EventId {
+                at: *entry.0,
+                index: *entry.1,
+            })
+            .find(|event| {
+                (!two || event.at.group != access.item.group) && clashes(self.class, *event, access)
+            })
     }
 
     /// An event of these with which a later access to the word clashes: one of another group, if there is such a one.

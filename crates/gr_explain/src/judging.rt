@@ -59,24 +59,6 @@ fn judgement_of<A: Allocator>(accesses: &Accesses<A>, race: &Race) -> Judgement
     }
 }
 
-/// Whether the two accesses of each pair race on its word, by the accesses of those events that are grounded.
-///
-/// # Errors
-/// `Memory`: out of memory.
-fn judgements_of<A: Allocator + Copy>(
-    alloc: A,
-    accesses: &Accesses<A>,
-    races: &[Race],
-) -> Result<Vec<Judgement, A>, Memory>
-    ensures { IfOk result (λ judgements. (s : Streams) → All (AreAccesses s) races.now → All (AreBothKept s accesses.now.entries) races.now → AreJudgements s races.now judgements.items) }
-{
-    let mut judgements = Vec::new(alloc);
-    for race in races {
-        judgements.push(judgement_of(accesses, race))?;
-    }
-    Ok(judgements)
-}
-
 /// Whether the two accesses of each pair race on its word, or one of them is held. The answers are in the order of the pairs.
 ///
 /// It handles the events of the launch once for all pairs. Time and memory grow with the events, and with the pairs.
@@ -92,5 +74,9 @@ pub fn judge_races<A: Allocator + Copy>(
     ensures { IfOk result (λ judgements. AreJudgements traces.now races.now judgements.items) }
 {
     let accesses = accesses_of_pairs(alloc, traces, races)?;
-    judgements_of(alloc, &accesses, races)
+    let mut judgements = Vec::new(alloc);
+    for race in races {
+        judgements.push(judgement_of(&accesses, race))?;
+    }
+    Ok(judgements)
 }

@@ -21,13 +21,7 @@ pub(crate) fn lesser(
     ensures { MatchOption least (result ≡ pair) (λ l. ((result ≡ pair) × PairBelow pair l) ⊎ ((result ≡ l) × ¬ PairBelow pair l)) }
 {
     match least {
-        Some(least) => {
-            if is_pair_below(pair, least) {
-                pair
-            } else {
-                least
-            }
-        }
-        None => pair,
+        Some(least) if !is_pair_below(pair, least) => least,
+        _ => pair,
     }
 }
