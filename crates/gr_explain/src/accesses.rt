@@ -2,6 +2,8 @@
 
 ghost use Rattle.std.specs.Prelude.{All, IfOk, OnOk};
 ghost use Rattle.gr_model.specs.declared.race.Race.{Race as AnyRace};
+ghost use Rattle.gr_model.specs.Streams.{AreAccepted};
+ghost use Rattle.gr_taking.specs.Taken.{read_by};
 ghost use Rattle.gr_explain.specs.Accesses.{AreBothKept, AreThoseOf, AreWanted};
 
 use crate::seen::event_of;
@@ -11,7 +13,8 @@ use gr_model::memory::Memory;
 use gr_model::race::Race;
 use gr_model::traces::Traces;
 use gr_taking::keeper::Keeper;
-use gr_taking::traces::follow;
+use gr_taking::source::Reading;
+use gr_taking::traces::follow_read;
 use indexmap::{IndexMap, IndexSet};
 use std::alloc::Allocator;
 use std::hash::{BuildHasherDefault, FoldHasher};
@@ -74,22 +77,25 @@ impl<A: Allocator + Copy> Keeper<A> for WantedKeeper<'_, A> {
     fn close(&self, kept: &mut Accesses<A>, group: u16) {}
 }
 
-/// The accesses of those events of these pairs that are grounded.
+/// The accesses of those events of these pairs that are grounded, in a launch whose records are read so.
 ///
 /// # Errors
 /// `Memory`: out of memory.
-pub(crate) fn accesses_of_pairs<A: Allocator + Copy>(
+pub(crate) fn accesses_of_pairs<A: Allocator + Copy, R: Reading>(
     alloc: A,
     traces: &Traces<A>,
+    reading: R,
     races: &[Race],
 ) -> Result<Accesses<A>, Memory>
-    ensures { IfOk result (λ accesses. All (AreBothKept traces.now accesses.entries) races.now) }
+    requires accepted { AreAccepted traces.now → AreAccepted (read_by (R.read_as reading) traces.now) }
+    ensures { IfOk result (λ accesses. All (AreBothKept (read_by (R.read_as reading) traces.now) accesses.entries) races.now) }
 {
     let wanted = events_of(alloc, races)?;
     let mut accesses = IndexMap::new(alloc);
-    follow(
+    follow_read(
         alloc,
         traces,
+        reading,
         &WantedKeeper { wanted: &wanted },
         &mut accesses,
     )?;

@@ -1,9 +1,10 @@
 //! Whether pairs of accesses of a launch race.
 
 ghost use Rattle.std.specs.Prelude.{◌≡◌, ◌↔◌, All, IfOk, IsTrue};
-ghost use Rattle.gr_model.specs.Streams.{Streams};
+ghost use Rattle.gr_model.specs.Streams.{AreAccepted, Streams};
 ghost use Rattle.gr_clocks.specs.ClockedAccess.{clocked};
 ghost use Rattle.gr_shadow.specs.Clashes as shadow;
+ghost use Rattle.gr_taking.specs.Taken.{read_by};
 ghost use Rattle.gr_explain.specs.Accesses.{AreBothKept};
 ghost use Rattle.gr_explain.specs.Judged.{AreAccesses, AreJudgements, ClashOn, IsJudged};
 
@@ -15,6 +16,7 @@ use gr_model::event::Word;
 use gr_model::memory::Memory;
 use gr_model::race::Race;
 use gr_model::traces::Traces;
+use gr_taking::source::Reading;
 use std::alloc::Allocator;
 
 /// Whether two events race on a word.
@@ -59,21 +61,24 @@ fn judgement_of<A: Allocator>(accesses: &Accesses<A>, race: &Race) -> Judgement
     }
 }
 
-/// Whether the two accesses of each pair race on its word, or one of them is held. The answers are in the order of the pairs.
+/// Whether the two accesses of each pair race on its word, or one of them is held, in a launch whose records are read so. The answers
+/// are in the order of the pairs.
 ///
 /// It handles the events of the launch once for all pairs. Time and memory grow with the events, and with the pairs.
 ///
 /// # Errors
 /// `Memory`: out of memory.
-pub fn judge_races<A: Allocator + Copy>(
+pub fn judge_races<A: Allocator + Copy, R: Reading>(
     alloc: A,
     traces: &Traces<A>,
+    reading: R,
     races: &[Race],
 ) -> Result<Vec<Judgement, A>, Memory>
-    requires accesses { All (AreAccesses traces.now) races.now }
-    ensures { IfOk result (λ judgements. AreJudgements traces.now races.now judgements.items) }
+    requires accepted { AreAccepted traces.now → AreAccepted (read_by (R.read_as reading) traces.now) }
+    requires accesses { All (AreAccesses (read_by (R.read_as reading) traces.now)) races.now }
+    ensures { IfOk result (λ judgements. AreJudgements (read_by (R.read_as reading) traces.now) races.now judgements.items) }
 {
-    let accesses = accesses_of_pairs(alloc, traces, races)?;
+    let accesses = accesses_of_pairs(alloc, traces, reading, races)?;
     let mut judgements = Vec::new(alloc);
     for race in races {
         judgements.push(judgement_of(&accesses, race))?;

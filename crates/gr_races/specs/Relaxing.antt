@@ -1,12 +1,13 @@
 -- A launch with one of its rules relaxed: the same records, but for the flags of its barriers or the scopes of its atomics.
 -- Source: docs/OUTPUT.md, "explain --long". What is relaxed is this project's own.
-use Rattle.std.specs.Prelude.{Bool, map, true, false, ◌&&◌}
+use Rattle.std.specs.Prelude.{Bool, true, false, ◌&&◌}
 use Rattle.gr_model.specs.declared.event.Event.{Event}
 use Rattle.gr_model.specs.declared.event.Kind.{Kind}
 use Rattle.gr_model.specs.declared.event.Kind.TheVariants.{Read, Write, Load, Store, Rmw, Barrier, End}
 use Rattle.gr_model.specs.declared.event.Scope.{Scope}
 use Rattle.gr_model.specs.declared.event.Scope.TheVariants.{Device, Group}
 use Rattle.gr_model.specs.Streams.{Streams}
+use Rattle.gr_taking.specs.Taken.{read_by}
 use Rattle.gr_races.specs.declared.relaxing.Relaxation.{Relaxation}
 use Rattle.gr_races.specs.declared.relaxing.Relaxation.TheVariants.{BothFlags, DeviceScope}
 
@@ -52,4 +53,4 @@ relaxed_event r x = record { item = x.item; kind = relaxed_kind r x.kind; space 
 
 -- the same streams but for the kinds of their records
 abbrev pub relaxed : Relaxation → Streams → Streams
-relaxed r s = record { sizes = s.sizes; lists = map (map (relaxed_event r)) s.lists }
+relaxed r s = read_by (relaxed_event r) s

@@ -15,7 +15,7 @@ ghost use Rattle.gr_races.specs.Causes.{AreCauses, IsCause, IsCauseOf, IsMended,
 ghost use Rattle.gr_races.specs.Relaxing as spec;
 
 use crate::parting::are_parted;
-use crate::relaxing::{Relaxation, changes_nothing, relaxed};
+use crate::relaxing::{Relaxation, changes_nothing};
 use crate::taken::take_all;
 use gr_explain::judging::{Judgement, judge_races};
 use gr_lanes::lanes::Lanes;
@@ -61,8 +61,7 @@ fn judged_where<A: Allocator + Copy>(
     if changes_nothing(traces, relaxation) {
         return all_race(alloc, races);
     }
-    let relaxed = relaxed(alloc, traces, relaxation)?;
-    judge_races(alloc, &relaxed, races)
+    judge_races(alloc, traces, relaxation, races)
 }
 
 /// Whether two events, with this judgement where a rule is relaxed, are both judged there and no race.

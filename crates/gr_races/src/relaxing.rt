@@ -1,13 +1,13 @@
 //! A launch with one of its rules relaxed: the same records, but for the flags of its barriers or the scopes of its
 //! atomics.
 
-ghost use Rattle.std.specs.Prelude.{◌≡◌, IfOk, IsTrue, map};
+ghost use Rattle.std.specs.Prelude.{◌≡◌, IsTrue};
 ghost use Rattle.std.specs.List.{list_all};
 ghost use Rattle.gr_races.specs.Relaxing as spec;
 
 use gr_model::event::{Event, Kind, Scope};
-use gr_model::memory::Memory;
 use gr_model::traces::Traces;
+use gr_taking::source::Reading;
 use std::alloc::Allocator;
 
 /// A rule that can be relaxed.
@@ -58,15 +58,19 @@ fn with_device_scope(kind: Kind) -> Kind
     }
 }
 
-/// A record where a rule is relaxed: the same but for its kind.
-fn relaxed_event(relaxation: Relaxation, event: &Event) -> Event
-    ensures { result ≡ spec.relaxed_event relaxation event.now }
-{
-    let kind = match relaxation {
-        Relaxation::BothFlags => with_both_flags(event.kind),
-        Relaxation::DeviceScope => with_device_scope(event.kind),
-    };
-    Event { kind, ..*event }
+impl Reading for Relaxation {
+    ghost read_as = { spec.relaxed_event };
+
+    /// A record where the rule is relaxed: the same but for its kind.
+    fn read(&self, event: &Event) -> Event
+        ensures { result ≡ spec.relaxed_event self.now event.now }
+    {
+        let kind = match self {
+            Relaxation::BothFlags => with_both_flags(event.kind),
+            Relaxation::DeviceScope => with_device_scope(event.kind),
+        };
+        Event { kind, ..*event }
+    }
 }
 
 /// Whether relaxing a rule leaves a record as it is.
@@ -100,53 +104,4 @@ pub(crate) fn changes_nothing<A: Allocator>(traces: &Traces<A>, relaxation: Rela
         }
     }
     true
-}
-
-/// The list of a group where a rule is relaxed.
-fn relaxed_list<A: Allocator>(
-    alloc: A,
-    relaxation: Relaxation,
-    list: &[Event],
-) -> Result<Vec<Event, A>, Memory>
-    ensures { IfOk result (λ events. events.items ≡ map (spec.relaxed_event relaxation) list.now) }
-{
-    let events = list
-        .iter()
-        .map(|event| relaxed_event(relaxation, event))
-        .collect(alloc)?;
-    Ok(events)
-}
-
-/// The lists of a launch where a rule is relaxed.
-fn relaxed_lists<A: Allocator + Copy>(
-    alloc: A,
-    traces: &Traces<A>,
-    relaxation: Relaxation,
-) -> Result<Vec<Vec<Event, A>, A>, Memory>
-    ensures { IfOk result (λ lists. map (λ v. v.items) lists.items ≡ map (map (spec.relaxed_event relaxation)) traces.now.lists) }
-{
-    let mut lists = Vec::new(alloc);
-    for group in 0..traces.shape().groups() {
-        lists.push(relaxed_list(alloc, relaxation, traces.list(group))?)?;
-    }
-    Ok(lists)
-}
-
-/// The traces of a launch where a rule is relaxed. Each event keeps its place, and the names are the same.
-///
-/// # Errors
-/// `Memory`: out of memory.
-pub fn relaxed<A: Allocator + Copy>(
-    alloc: A,
-    traces: &Traces<A>,
-    relaxation: Relaxation,
-) -> Result<Traces<A>, Memory>
-    ensures { IfOk result (λ t. t ≡ spec.relaxed relaxation traces.now) }
-{
-    let lists = relaxed_lists(alloc, traces, relaxation)?;
-    let shape = traces.shape().copy()?;
-    match Traces::new(shape, lists) {
-        Ok(relaxed) => Ok(relaxed),
-        Err(_) => unreachable!(),
-    }
 }

@@ -1,5 +1,6 @@
 use Rattle.std.proofs.lemmas.List.{take_all}
 use Rattle.std.proofs.lemmas.List.Elements.{All-get_or}
+use Rattle.gr_taking.specs.Taken.{read_by}
 use Rattle.gr_explain.specs.Accesses.{AreBothKept}
 use Rattle.gr_explain.specs.Judged.{AreAccesses, IsJudged}
 use Rattle.gr_explain.proofs.AnswerLemmas.{answers_next}
@@ -7,7 +8,7 @@ use Rattle.gr_explain.proofs.judging.judge_races.Goals as goal
 
 pub loop-race-preserved : goal.loop-race-preserved
 loop-race-preserved g c =
-    let s = c.args.traces.now in
+    let s = read_by (g.R.Reading.read_as c.args.reading) c.args.traces.now in
     let races = c.args.races.now in
     let i = c.loop-race.race-index in
     let lt = c.loop-race-test.true in
