@@ -1,4 +1,4 @@
--- Each kind of step keeps the rule of an intake queue, and what the steps tell a seat.
+-- Each kind of step keeps the rule of an intake queue, and what a seat learns by the steps.
 use Rattle.std.proofs.Common.{cond, eqb, eq-eqb, ne_eqb, ◌≡◌, ◌≢◌, ℕ, ◌<◌, List, [], ◌∷◌, ◌++◌, length, set, sym, refl, ap, ◌∙◌, subst, append_assoc, append-nil, arith}
 use Rattle.std.specs.Prelude.{slice_index}
 use Rattle.std.specs.List.{All}
@@ -268,7 +268,7 @@ pub turned : (p q n : TakerPass) (s t u : List ℕ) (js : List Joined) (r : List
     → (batches : List (List Sent)) × AgreesWith BatchesAgree (view q) batches → IsTakerPass n t r
 turned p q n s t u js r is places first now same then told = grind (arith, then.1, then.0.2, first.2, is.idle, is.places)
 
--- events are handed out of what was left, or of a batch where nothing was left: the seat before it, the pass and what was left after it, and the events
+-- events are handed out of what was left, or of a batch if nothing was left: the seat before it, the pass and what was left after it, and the events
 pub record Hands (t : Taker) (q : TakerPass) (s : List ℕ) (r b : List Sent) : Type 0 where
   pub is : IsTakerPass q s r
   pub some : seen q s r ≡ record t { popped = t.popped ++ b }

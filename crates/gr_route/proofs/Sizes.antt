@@ -1,4 +1,4 @@
--- The sizes where no group has had a seat.
+-- The sizes when no group has had a seat.
 use Rattle.std.proofs.Common.{◌≡◌, ℕ, get_or, length, replicate, arith}
 use Rattle.std.proofs.Math.ListN.{get_or-eq_default}
 use Rattle.std.proofs.lemmas.List.{get_or-replicate, length-replicate}

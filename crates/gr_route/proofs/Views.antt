@@ -1,4 +1,4 @@
--- What holds of each seat's view, where one view changes or one is added.
+-- What holds of each seat's view, after one view changes or one is added.
 use Rattle.std.proofs.Common.{arith, ◌≡◌, ◌≢◌, ℕ, zero, suc, false, true, true≢false, List, [], ◌∷◌, ◌++◌, length, set, sym, refl, subst}
 use mathlib.Core.Option.{some, some-injective, some-ne-none}
 use lib.ListN.{get_elem?}
@@ -13,7 +13,7 @@ module _ {V : Type 0} where
   pub each_set : (F : ℕ → V → Type 0) (views : List V) (pass : ℕ) (w : V) → F pass w → ((j : ℕ) (u : V) → j ≢ pass → get_elem? views j ≡ some u → F j u) → Each F (set views pass w)
   each_set F views pass w mine others j u at = grind (arith, others j u, at_set views pass j w u)
 
-  -- where one view takes in another
+  -- one view takes in another
   pub each_merged : (F : ℕ → V → Type 0) (views : List V) (pass other : ℕ) (both spent : V) → F pass both → F other spent → ((j : ℕ) (u : V) → j ≢ pass → j ≢ other → get_elem? views j ≡ some u → F j u)
       → Each F (set (set views pass both) other spent)
   each_merged F views pass other both spent mine gone others j u at = grind (arith, others j u, at_set (set views pass both) other j spent u, at_set views pass j both u)
@@ -27,7 +27,7 @@ module _ {V : Type 0} where
   each_snoc F (x ∷ xs) w old new zero u at = old zero u at
   each_snoc F (x ∷ xs) w old new (suc j) u at = each_snoc (λ k. F (suc k)) xs w (λ k. old (suc k)) new j u at
 
--- what is so of a view that was replaced
+-- a view that was replaced, and the others
 pub set_there : {V : Type 0} (views : List V) (pass : ℕ) (v w : V) → get_elem? views pass ≡ some v → get_elem? (set views pass w) pass ≡ some w
 set_there [] pass v w at = absurd (some-ne-none v (sym at))
 set_there (x ∷ xs) zero v w at = refl
@@ -36,7 +36,7 @@ set_there (x ∷ xs) (suc pass) v w at = set_there xs pass v w at
 pub there_before : {V : Type 0} (views : List V) (pass other : ℕ) (v w : V) → other ≢ pass → get_elem? (set views pass v) other ≡ some w → get_elem? views other ≡ some w
 there_before views pass other v w apart at = grind (arith, at_set views pass other v w at)
 
--- a seat learns of what the queue holds that it agrees with what the seat knows
+-- a seat learns that what the queue holds agrees with what the seat knows
 pub agrees : {T V : Type 0} (holds : List T → List V → Type 0) (pass : ℕ) (v : V) → Learns holds pass v (AgreesWith holds v)
 agrees holds pass v items views h at = (views, pass, at, h)
 

@@ -1,4 +1,4 @@
--- Each kind of step keeps the rule of a work queue, and what the steps tell a seat.
+-- Each kind of step keeps the rule of a work queue, and what a seat learns by the steps.
 use Rattle.std.proofs.Common.{arith, ◌≡◌, ℕ, Bool, false, List, [], ◌∷◌, ◌++◌, Option, Some, length, set, sym, refl, ap, ◌∙◌, subst, append_assoc, append-nil, IsTrue, IsFalse}
 use Rattle.std.specs.Prelude.{IfSome}
 use Rattle.std.proofs.lemmas.Option.{IfSome_then}
@@ -21,7 +21,7 @@ abbrev pub WorkerPass : Type 0 → Type 0
 WorkerPass A = Pass (List (Work A)) (WorkView A)
 
 module _ {A : Type 0} where
-  -- ---- the word that there are no more
+  -- ---- `Stop`
 
   pub stops_push : (xs : List (Work A)) (x : Work A) → IsFalse (is_stopped xs) → StopsLast (xs ++ x ∷ [])
   stops_push [] x unstopped = ((λ _. refl), tt)
@@ -197,7 +197,7 @@ module _ {A : Type 0} where
       → (batches : List (List (Work A))) × AgreesWith BatchesAgree (view q) batches → IsWorkerPass n t r
   turned p q n s t u g r is first now same then told = grind (arith, then.1, then.0.2, first.2, is.idle)
 
-  -- work is handed out of what was left, or of a batch where nothing was left: the seat before it, the pass and what was left after it, and the work
+  -- work is handed out of what was left, or of a batch if nothing was left: the seat before it, the pass and what was left after it, and the work
   pub record Hands (w : Worker A) (q : WorkerPass A) (s : Bool) (r b : List (Work A)) : Type 0 where
     pub is : IsWorkerPass q s r
     pub some : seen q s r ≡ record w { popped = w.popped ++ b }

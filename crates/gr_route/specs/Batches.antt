@@ -1,6 +1,6 @@
--- What goes through a queue in one step, and what of it waits before the queue or after it.
+-- What goes through a queue in one step, and what waits before the queue or is left after it.
 -- Source: docs/QUEUES.md, "Batches".
-use Rattle.std.specs.Prelude.{◌≡◌, ◌-◌, ℕ, List, [], ◌∷◌, ◌++◌, length, map, take, Option, None, Some, Vec}
+use Rattle.std.specs.Prelude.{◌-◌, ℕ, List, [], ◌∷◌, ◌++◌, length, map, take, Option, None, Some, Vec}
 use Rattle.gr_model.specs.declared.event.Event.{Event}
 use Rattle.gr_model.specs.declared.event.Sent.{Sent}
 use Rattle.gr_route.specs.declared.batch.Content.{Content}
@@ -11,11 +11,11 @@ abbrev pub all_of : {T : Type 0} → List (List T) → List T
 all_of [] = []
 all_of (b ∷ bs) = b ++ all_of bs
 
--- what was handed out of values that were popped, where this is left of them
+-- what was handed out of the values that were popped, if these are left
 abbrev pub front : {T : Type 0} → List T → List T → List T
 front popped rest = take (length popped - length rest) popped
 
--- events of a group, each with it
+-- events of a group, each with the group
 abbrev pub sent_by : ℕ → List Event → List Sent
 sent_by group events = map (λ e. record { group = group; event = e }) events
 

@@ -19,11 +19,11 @@ use Rattle.gr_route.specs.Rooms.{AgreesWith}
 abbrev pub seat_of : ℕ → ℕ → List Event → IntakeView
 seat_of group items pushed = record { pushes = true; group = group; items = items; pushed = pushed; pops = false; popped = []; sizes = []; joined = [] }
 
--- the taker's seat: what it popped, the items of each group that has had a seat (0 of another), and the lists of the seats that were joined back
+-- the taker's seat: what it popped, the items of each group that has had a seat (0 for the others), and the lists of the seats that were joined back
 abbrev pub taker_of : List Sent → List ℕ → List Joined → IntakeView
 taker_of popped sizes joined = record { pushes = false; group = 0; items = 0; pushed = []; pops = true; popped = popped; sizes = sizes; joined = joined }
 
--- where no group has had a seat
+-- no group has had a seat
 unfoldable pub no_sizes : List ℕ
 no_sizes = replicate MOST_GROUPS 0
 
@@ -34,14 +34,14 @@ first_view = taker_of [] no_sizes []
 abbrev pub spent_view : IntakeView
 spent_view = record { pushes = false; group = 0; items = 0; pushed = []; pops = false; popped = []; sizes = []; joined = [] }
 
--- the taker's view after it split off the seat of a group
+-- the taker's view, after the seat of a group was split off
 abbrev pub after_split : ℕ → ℕ → IntakeView → IntakeView
 after_split group items v = taker_of v.popped (slice_set v.sizes group items) v.joined
 
 abbrev pub joined_from : IntakeView → Joined
 joined_from w = record { group = w.group; items = w.items; pushed = w.pushed }
 
--- the taker's view after it took back a group's seat
+-- the taker's view, after a group's seat was joined back
 abbrev pub after_join : IntakeView → IntakeView → IntakeView
 after_join v w = taker_of v.popped v.sizes (v.joined ++ joined_from w ∷ [])
 
@@ -60,7 +60,7 @@ module _ (holder : ℕ → seat.Option ℕ) (sent : ℕ → List Event) (size : 
   abbrev pub FitsTaker : ℕ → List Sent → ℕ → IntakeView → Type 0
   FitsTaker taker popped pass v = v.pops ≡ true → (pass ≡ taker) × (v.popped ≡ popped) × ((g : ℕ) → slice_index v.sizes g ≡ size g) × All FitsJoined v.joined
 
--- of each group, what was popped, followed by what is queued, is what was sent, and that is the prefix of a stream; of a group that has had no seat nothing was sent
+-- of each group, what was popped, followed by what is queued, is what was sent, and that is the prefix of a stream; nothing was sent of a group that has had no seat
 pub record SeatsAgree (items : List Sent) (views : List IntakeView) : Type 0 where
   pub taker : ℕ
   pub holder : ℕ → seat.Option ℕ
@@ -76,7 +76,7 @@ pub record SeatsAgree (items : List Sent) (views : List IntakeView) : Type 0 whe
 abbrev pub BatchesAgree : List (List Sent) → List IntakeView → Type 0
 BatchesAgree batches views = SeatsAgree (all_of batches) views
 
--- ---- what a step tells its seat
+-- ---- what a seat learns by a step
 
 abbrev pub events_in : List Sent → List Event
 events_in batch = map (λ s. s.event) batch

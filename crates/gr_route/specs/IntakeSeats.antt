@@ -16,14 +16,14 @@ use Rattle.gr_route.specs.Prefixes.{EndsWith, StartsWith}
 use Rattle.gr_route.specs.Rooms.{AgreesWith}
 use Rattle.gr_route.specs.IntakeRule.{SeatsAgree, seat_of, taker_of}
 
--- the queue that the seat is of, its group, the group's number of items, and the events that it pushed
+-- the seat's queue, its group, the group's number of items, and the events that it pushed
 pub record Seat : Type 0 where
   pub queue : TableId
   pub group : ℕ
   pub items : ℕ
   pub pushed : List Event
 
--- the queue that the seat is of, what it popped, the number of items of each group that has had a seat (0 of another), and the lists of the seats that were joined back
+-- the seat's queue, what it popped, the number of items of each group that has had a seat (0 for the others), and the lists of the seats that were joined back
 pub record Taker : Type 0 where
   pub queue : TableId
   pub popped : List Sent
@@ -40,13 +40,13 @@ pub record IsDelivered (t : Taker) (j : Joined) : Type 0 where
   pub stream : IsPrefix j.items j.pushed
   pub prefix : StartsWith j.pushed (popped_of t j.group)
 
--- what was popped of a group is the prefix of a stream, and of a group that has had no seat nothing was popped
+-- what was popped of a group is the prefix of a stream, and nothing was popped of a group that has had no seat
 pub record IsDelivery (t : Taker) : Type 0 where
   pub streams : (g : ℕ) → IsPrefix (slice_index t.sizes g) (popped_of t g)
   pub unseated : (g : ℕ) → slice_index t.sizes g ≡ 0 → popped_of t g ≡ []
   pub joined : All (IsDelivered t) t.joined
 
--- the next event to be popped is one of a group that has had a seat, and may follow what was popped of the group
+-- the next event to be popped is of a group that has had a seat, and may follow what was popped of the group
 pub record IsNextPopped (t : Taker) (s : Sent) : Type 0 where
   pub seated : slice_index t.sizes s.group ≢ 0
   pub good : IsEventOk s.event (slice_index t.sizes s.group)
@@ -62,25 +62,25 @@ AgreesWithSeat s = AgreesWith SeatsAgree (seat_of s.group s.items s.pushed)
 abbrev pub AgreesWithTaker : Taker → List Sent → Type 0
 AgreesWithTaker t = AgreesWith SeatsAgree (taker_of t.popped t.sizes t.joined)
 
--- of the seat's group the queue holds the end of what the seat pushed, and of each group the end of the prefix of a stream
+-- the queue holds the last events of what the seat pushed, and of each group the last events of the prefix of a stream
 pub record IsBehindSeat (s : Seat) (items : List Sent) : Type 0 where
   pub mine : EndsWith s.pushed (events_of s.group items)
   pub streams : (g : ℕ) → (size : ℕ) × (sent : List Event) × IsPrefix size sent × EndsWith sent (events_of g items)
 
--- what was popped, followed by what the queue holds, is of each group the prefix of a stream, of one that has had no seat nothing, and of one whose seat was joined back all that it pushed
+-- what was popped, followed by what the queue holds, is the prefix of a stream for each group; it is nothing for a group that has had no seat, and all that was pushed for one whose seat was joined back
 pub record IsBeforeTaker (t : Taker) (items : List Sent) : Type 0 where
   pub streams : (g : ℕ) → IsPrefix (slice_index t.sizes g) (events_of g (t.popped ++ items))
   pub unseated : (g : ℕ) → slice_index t.sizes g ≡ 0 → events_of g (t.popped ++ items) ≡ []
   pub joined : All (λ j. (j.pushed ≡ events_of j.group (t.popped ++ items)) × (j.items ≡ slice_index t.sizes j.group)) t.joined
 
--- ---- what the seats keep: no place of the queue is taken and not given back, and the pass knows what the fields say
+-- ---- what the seats keep: every place of the queue that was taken was given back, and the pass knows what the fields say
 
 pub record IsSeatPass (pass : Pass (List Sent) IntakeView) (group items : ℕ) : Type 0 where
   pub idle : pass.me.1 ≡ []
   pub known : view pass ≡ seat_of group items (view pass).pushed
   pub some : 0 < items
 
--- and this is left of the batch that was popped last
+-- the same, and this is left of the batch that was popped last
 pub record IsTakerPass (pass : Pass (List Sent) IntakeView) (sizes : List ℕ) (rest : List Sent) : Type 0 where
   pub idle : pass.me.1 ≡ []
   pub known : view pass ≡ taker_of (view pass).popped sizes (view pass).joined

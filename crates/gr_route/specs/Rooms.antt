@@ -1,4 +1,4 @@
--- A bounded queue, as contracts see it, and what a seat can tell of what the queue holds.
+-- A bounded queue, as contracts see it, and what a seat knows of what the queue holds.
 -- Source: docs/QUEUES.md, "Full and empty".
 use Rattle.std.specs.Prelude.{◌≡◌, ℕ, List}
 use mathlib.Core.Option.{some}

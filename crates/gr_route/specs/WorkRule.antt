@@ -11,17 +11,17 @@ use Rattle.gr_route.specs.Prefixes.{StartsWith}
 use Rattle.gr_route.specs.Rooms.{AgreesWith}
 
 module _ {A : Type 0} where
-  -- whether it is the word that there are no more
+  -- whether it is `Stop`
   abbrev pub is_stop : Work A → Bool
   is_stop (Access access) = false
   is_stop Stop = true
 
-  -- whether that word stands in a list
+  -- whether `Stop` is in a list
   abbrev pub is_stopped : List (Work A) → Bool
   is_stopped [] = false
   is_stopped (x ∷ xs) = is_stop x || is_stopped xs
 
-  -- it stands last and nowhere else, and may be missing
+  -- `Stop` comes last if at all
   abbrev pub StopsLast : List (Work A) → Type 0
   StopsLast [] = ⊤
   StopsLast (x ∷ xs) = (IsTrue (is_stop x) → xs ≡ []) × StopsLast xs
@@ -32,7 +32,7 @@ module _ {A : Type 0} where
   abbrev pub giver_of : List (Work A) → WorkView A
   giver_of pushed = record { pushes = true; pushed = pushed; pops = false; popped = []; split = false; given = None }
 
-  -- the worker's seat: what it popped, whether the giver's seat was split off, and what that had pushed, where it was joined back
+  -- the worker's seat: what it popped, whether the giver's seat was split off, and, if that was joined back, what it had pushed
   abbrev pub worker_of : List (Work A) → Bool → Option (List (Work A)) → WorkView A
   worker_of popped split given = record { pushes = false; pushed = []; pops = true; popped = popped; split = split; given = given }
 
@@ -43,7 +43,7 @@ module _ {A : Type 0} where
   abbrev pub spent_view : WorkView A
   spent_view = record { pushes = false; pushed = []; pops = false; popped = []; split = false; given = None }
 
-  -- the worker's view after it split off the giver's seat, and after it took that back
+  -- the worker's view, after the giver's seat was split off, and after it was joined back
   abbrev pub after_split : WorkView A → WorkView A
   after_split v = worker_of v.popped true v.given
 
@@ -64,7 +64,7 @@ module _ {A : Type 0} where
       × (v.split ≡ false → (holder ≡ seat.none) × (sent ≡ []) × (v.given ≡ None))
       × IfSome v.given (λ all. (holder ≡ seat.none) × (all ≡ sent))
 
-  -- what was popped, followed by what is queued, is what was given, and the word that there are no more stands last in it
+  -- what was popped, followed by what is queued, is what was given, and `Stop` comes last in it if at all
   pub record SeatsAgree (items : List (Work A)) (views : List (WorkView A)) : Type 0 where
     pub worker : ℕ
     pub holder : seat.Option ℕ
@@ -78,7 +78,7 @@ module _ {A : Type 0} where
   abbrev pub BatchesAgree : List (List (Work A)) → List (WorkView A) → Type 0
   BatchesAgree batches views = SeatsAgree (all_of batches) views
 
-  -- ---- what a step tells its seat
+  -- ---- what a seat learns by a step
 
   -- a push adds to what the giver pushed
   abbrev pub Pushes : WorkView A → List (Work A) → WorkView A → Type 0
@@ -90,6 +90,6 @@ module _ {A : Type 0} where
 
 -- ---- laws
 
--- a prefix that has the word that there are no more is the whole
+-- a prefix that has `Stop` is the whole
 abbrev pub StopMakesWhole : Type 0 → Type 0
 StopMakesWhole A = (list prefix : List (Work A)) → StopsLast list → StartsWith list prefix → IsTrue (is_stopped prefix) → prefix ≡ list

@@ -10,12 +10,12 @@ use Rattle.gr_route.specs.Prefixes.{EndsWith, StartsWith}
 use Rattle.gr_route.specs.Rooms.{AgreesWith}
 use Rattle.gr_route.specs.WorkRule.{SeatsAgree, StopsLast, giver_of, worker_of}
 
--- the queue that the seat is of, and what it pushed
+-- the seat's queue, and what it pushed
 pub record Giver (A : Type 0) : Type 0 where
   pub queue : TableId
   pub pushed : List (Work A)
 
--- the queue that the seat is of, what it popped, whether the giver's seat was split off, and what that had pushed, where it was joined back
+-- the seat's queue, what it popped, whether the giver's seat was split off, and, if that was joined back, what it had pushed
 pub record Worker (A : Type 0) : Type 0 where
   pub queue : TableId
   pub popped : List (Work A)
@@ -23,7 +23,7 @@ pub record Worker (A : Type 0) : Type 0 where
   pub given : Option (List (Work A))
 
 module _ {A : Type 0} where
-  -- what was popped has the word that there are no more last, and nothing was popped where there was no giver; what the giver pushed begins with it, where its seat was joined back
+  -- in what was popped `Stop` comes last if at all; nothing was popped if there was no giver; if the giver's seat was joined back, what it pushed begins with what was popped
   pub record IsDelivery (w : Worker A) : Type 0 where
     pub stops : StopsLast w.popped
     pub unsplit : w.split ≡ false → w.popped ≡ []
@@ -38,19 +38,19 @@ module _ {A : Type 0} where
   abbrev pub AgreesWithWorker : Worker A → List (Work A) → Type 0
   AgreesWithWorker w = AgreesWith SeatsAgree (worker_of w.popped w.split w.given)
 
-  -- what was popped, followed by what the queue holds, has the word that there are no more last; it is nothing where there was no giver, and all that the giver pushed, where its seat was joined back
+  -- in what was popped, followed by what the queue holds, `Stop` comes last if at all; it is nothing if there was no giver, and all that the giver pushed if its seat was joined back
   pub record IsBeforeWorker (w : Worker A) (items : List (Work A)) : Type 0 where
     pub stops : StopsLast (w.popped ++ items)
     pub unsplit : w.split ≡ false → w.popped ++ items ≡ []
     pub given : IfSome w.given (λ all. all ≡ w.popped ++ items)
 
-  -- ---- what the seats keep: no place of the queue is taken and not given back, and the pass knows what the fields say
+  -- ---- what the seats keep: every place of the queue that was taken was given back, and the pass knows what the fields say
 
   pub record IsGiverPass (pass : Pass (List (Work A)) (WorkView A)) : Type 0 where
     pub idle : pass.me.1 ≡ []
     pub known : view pass ≡ giver_of (view pass).pushed
 
-  -- and this is left of the batch that was popped last
+  -- the same, and this is left of the batch that was popped last
   pub record IsWorkerPass (pass : Pass (List (Work A)) (WorkView A)) (split : Bool) (rest : List (Work A)) : Type 0 where
     pub idle : pass.me.1 ≡ []
     pub known : view pass ≡ worker_of (view pass).popped split (view pass).given

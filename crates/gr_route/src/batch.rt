@@ -1,8 +1,8 @@
 //! What goes through a queue in one step: one value, or several.
 //!
-//! Each push costs the threads on both sides of a queue the same, whatever it brings. So a thread that has several values at
-//! hand pushes them together: they wait in an `Outbox`, go through the queue as one `Batch`, and are looked at there, or handed
-//! out one by one of a `Rest`. The list that held them can hold others then (`Spares`).
+//! A push costs the threads on both sides of a queue the same for one value as for several. So a thread that has several values
+//! pushes them in one step: they wait in an `Outbox` and go through the queue as one `Batch`. On the other side they are read in
+//! the batch, or taken one by one from a `Rest`. The list that held them is then used again (`Spares`).
 
 ghost use Rattle.std.specs.Prelude.{◌≡◌, ◌<◌, ◌+◌, ◌≤◌, List, [], ◌∷◌, ◌++◌, drop, length, IfErr, IfNone, IfOk, IfSome, IsTrue, MatchOption, OnErr, OnOk};
 ghost use Rattle.gr_route.specs.Batches as spec;
@@ -11,10 +11,9 @@ use std::alloc::{Allocator, Global};
 use std::marker::Model;
 use std::vec::IntoIter;
 
-/// How many values wait at most before they are pushed.
+/// How many values wait at most until they are pushed.
 const MOST_WAITING: usize = 256;
 
-/// What a batch holds.
 #[derive(Drop)]
 enum Content<T, A: Allocator> {
     One(T),
@@ -51,7 +50,7 @@ impl<T: Drop, A: Allocator> Batch<T, A> {
         }
     }
 
-    /// The values of a list, or `None` where it has none. It takes no memory.
+    /// The values of a list, or `None` if it is empty. It takes no memory.
     pub fn of(values: Vec<T, A>) -> Option<Batch<T, A>>
         ensures some { IfSome result (λ batch. batch ≡ values.items) }
         ensures none { IfNone result (values.items ≡ []) }
@@ -65,7 +64,7 @@ impl<T: Drop, A: Allocator> Batch<T, A> {
         })
     }
 
-    /// The batch, with the hint that these work-groups have ended: of none of them a value comes after this batch.
+    /// The batch, with the hint that these work-groups have ended: none of their values comes after this batch.
     pub fn with_ended(self, ended: Option<Vec<u16, A>>) -> Batch<T, A>
         ensures { result ≡ self }
     {
@@ -118,7 +117,7 @@ impl<T: Drop, A: Allocator> Batch<T, A> {
         }
     }
 
-    /// The list that held the values, where there were several. They are let go.
+    /// The list that held the values, if there is one. The values are dropped.
     pub fn into_list(self) -> Option<Vec<T, A>> {
         let Batch { content, ended: _ } = self;
         match content {
@@ -130,7 +129,7 @@ impl<T: Drop, A: Allocator> Batch<T, A> {
         }
     }
 
-    /// The first value. The others are let go.
+    /// The first value. The others are dropped.
     pub fn into_first(self) -> T
         ensures { (others : List T) × (self ≡ result ∷ others) }
     {
@@ -147,8 +146,8 @@ impl<T: Drop, A: Allocator> Batch<T, A> {
         }
     }
 
-    /// The first value. The others are what is left.
-    /// Requires: nothing was left.
+    /// The first value. The others are left in `rest`.
+    /// Requires: nothing was left there.
     pub fn open(self, rest: &mut Rest<T, A>) -> T
         requires { rest.old ≡ [] }
         ensures { self ≡ result ∷ rest.new }
@@ -247,7 +246,7 @@ impl<T: Drop, A: Allocator> Outbox<T, A> {
         }
     }
 
-    /// Has the values that come wait in this list, if none waits. What it holds is let go.
+    /// Lets the next values wait in this list, unless there is a list. What it holds is dropped.
     pub fn lend(&mut self, list: Vec<T, A>)
         ensures { self.new ≡ self.old }
     {
@@ -263,7 +262,7 @@ impl<T: Drop, A: Allocator + Copy> Outbox<T, A> {
     /// Adds a value to those that wait.
     ///
     /// # Errors
-    /// The value, where as many wait as may, or there is no memory for one more: it can be pushed after those that wait.
+    /// The value, if as many wait as may, or there is no memory for one more. It can be pushed after those that wait.
     #[inline(always)]
     pub fn add(&mut self, alloc: A, value: T) -> Result<(), T>
         ensures ok { OnOk result (self.new ≡ self.old ++ value ∷ []) }
@@ -289,7 +288,7 @@ impl<T: Drop, A: Allocator + Copy> Outbox<T, A> {
 /// A list with a first value, and with room for all that may wait.
 ///
 /// # Errors
-/// The value, where there is no memory for the list.
+/// The value, if there is no memory for the list.
 #[cold]
 fn begun<T: Drop, A: Allocator>(alloc: A, value: T) -> Result<Vec<T, A>, T>
     ensures ok { IfOk result (λ values. values.items ≡ value ∷ []) }

@@ -41,15 +41,15 @@ impl<A: Allocator> GroupBatch<A> {
         (self.group, self.events)
     }
 
-    /// The first event. The others are let go.
+    /// The first event. The others are dropped.
     pub(crate) fn into_first(self) -> Event
         ensures { (group : ℕ) × (others : List AnySent) × (self ≡ record { group = group; event = result } ∷ others) }
     {
         self.events.into_first()
     }
 
-    /// The first event. The others are what is left.
-    /// Requires: nothing was left.
+    /// The first event. The others are left in `rest`.
+    /// Requires: nothing was left there.
     pub(crate) fn open(self, rest: &mut GroupRest<A>) -> Sent
         requires { rest.old ≡ [] }
         ensures { self ≡ result ∷ rest.new }

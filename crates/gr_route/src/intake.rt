@@ -1,10 +1,10 @@
-//! The queue from the senders to the sequencer. Each work-group has one seat, which pushes its events, and one seat
-//! pops the events of all groups. (An "event" here is any record, the end too.)
+//! The queue from the senders to the sequencer. Each work-group has one seat, which pushes its events. One seat pops the
+//! events of all groups. (An "event" here is any record, the end too.)
 //!
 //! Invariant: of each group, what was popped, followed by what is queued, is what its seat pushed (docs/QUEUES.md, "The
-//! intake queue"). What a seat knows is in its pass, a value without bytes, which the queue's rule keeps true. Contracts
-//! don't see what the queue holds: docs/QUEUES.md, "Full and empty", has what `Full` and `None` say of it. The queue's
-//! elements are batches: the seat that pops keeps the rest of the one that it popped last.
+//! intake queue"). What a seat knows is in its pass, a value without bytes, and the queue's rule keeps it true. Contracts
+//! don't see what the queue holds: docs/QUEUES.md, "Full and empty", says what `Full` and `None` mean. The elements of the
+//! queue are batches. The seat that pops keeps the rest of the batch that it popped last.
 
 ghost use Rattle.std.specs.Prelude.{◌≡◌, ◌≢◌, ◌<◌, ◌≤◌, All, [], ◌∷◌, ◌++◌, length, replicate, slice_index, slice_set, IfOk, IfErr, OnOk, IfSome, IfNone, IsTrue, IsFalse};
 ghost use Rattle.crossbeam_queue.specs.Fifo.{Forks, Held};
@@ -91,8 +91,8 @@ impl<A: Allocator> IntakeSeat<A> {
 #[derive(Drop)]
 pub struct TakerSeat<A: Allocator = Global> {
     pass: Pass<GroupBatch<A>, IntakeView>,
-    // The number of items of each group that has had a seat, and 0 of another; with a place for each group that may be, so that
-    // a split takes no memory.
+    // The number of items of each group that has had a seat, and 0 for the others. There is a place for every group, so a split
+    // takes no memory.
     sizes: Vec<u16, A>,
     // What is left of the batch that was popped last.
     rest: GroupRest<A>,
@@ -118,7 +118,7 @@ fn zeros<A: Allocator>(alloc: A, count: usize) -> Result<Vec<u16, A>, Memory>
     Ok(zeros)
 }
 
-/// The sizes where no group has had a seat.
+/// The sizes when no group has had a seat.
 fn none_seated<A: Allocator>(alloc: A) -> Result<Vec<u16, A>, Memory>
     ensures sizes { IfOk result (λ v. v.items ≡ no_sizes) }
     ensures places { IfOk result (λ v. length v.items ≡ MOST_GROUPS) }
@@ -235,7 +235,7 @@ impl<A: Allocator> Intake<A> {
     }
 
     /// Pushes events of the seat's work-group in one step.
-    /// Requires: the seat is of this queue; what it pushed, and these after it, are the beginning of a stream.
+    /// Requires: the seat is of this queue; what it pushed, followed by these, is the prefix of a stream.
     ///
     /// # Errors
     /// `Full` with the events, only if the queue was full at some moment of the call. The seat is then unchanged.
@@ -260,8 +260,8 @@ impl<A: Allocator> Intake<A> {
         Ok(())
     }
 
-    /// Pops an event: of its work-group, the first that was not popped yet. Answers `None` only if the queue was empty
-    /// at some moment of the call.
+    /// Pops an event: of its work-group, the first that was not popped yet. Gives `None` only if the queue was empty at some
+    /// moment of the call.
     /// Requires: the seat is of this queue.
     pub fn pop<R: Wait>(&self, rt: &R, taker: &mut TakerSeat<A>) -> Option<Sent>
         requires { taker.old.queue ≡ self.now.queue }
@@ -283,8 +283,8 @@ impl<A: Allocator> Intake<A> {
         }
     }
 
-    /// Pops events that were pushed together; of a batch whose first event `pop` handed out, one of those that are left.
-    /// Answers `None` only if the queue was empty at some moment of the call.
+    /// Pops a batch of events, or one event if `pop` has left some of the last batch. Gives `None` only if the queue was empty
+    /// at some moment of the call.
     /// Requires: the seat is of this queue.
     pub fn pop_all<R: Wait>(&self, rt: &R, taker: &mut TakerSeat<A>) -> Option<GroupBatch<A>>
         requires { taker.old.queue ≡ self.now.queue }

@@ -1,7 +1,7 @@
 //! The rule of an intake queue, over what the queue holds and what each of its seats knows.
 //!
-//! Of each work-group, what was popped, followed by what is queued, is what its seat pushed. Told in words in
-//! docs/QUEUES.md, "The intake queue".
+//! Of each work-group, what was popped, followed by what is queued, is what its seat pushed. docs/QUEUES.md, "The intake
+//! queue", explains this in words.
 
 use crate::group_batch::GroupBatch;
 use crossbeam_queue::protocol::{Join, Lesson, Outcome, Protocol, Split};
@@ -10,7 +10,7 @@ use std::alloc::Allocator;
 use std::collections::LinkedList;
 use std::marker::{Brand, PhantomData};
 
-/// A work-group's seat that was joined back. Contracts alone speak of it.
+/// A work-group's seat that was joined back. Only contracts use it.
 pub struct Joined {
     /// The number of the work-group.
     pub group: u16,
@@ -20,23 +20,23 @@ pub struct Joined {
     pub pushed: LinkedList<Event>,
 }
 
-/// What a seat knows. Contracts alone speak of it: no value of it is made.
+/// What a seat knows. Only contracts use it: no value of it is made.
 pub struct IntakeView {
     /// Whether it is a work-group's seat, which may push.
     pub pushes: bool,
-    /// Of a work-group's seat: the number of the group. Of others 0.
+    /// Of a work-group's seat: the number of the group. Else 0.
     pub group: u16,
-    /// Of a work-group's seat: how many work-items the group has. Of others 0.
+    /// Of a work-group's seat: how many work-items the group has. Else 0.
     pub items: u16,
-    /// Of a work-group's seat: what it pushed. Of others nothing.
+    /// Of a work-group's seat: what it pushed. Else nothing.
     pub pushed: LinkedList<Event>,
     /// Whether it is the taker's seat, which may pop.
     pub pops: bool,
-    /// Of the taker's seat: what it popped. Of others nothing.
+    /// Of the taker's seat: what it popped. Else nothing.
     pub popped: LinkedList<Sent>,
-    /// Of the taker's seat: for each group how many work-items it has, 0 if it has had no seat. Of others nothing.
+    /// Of the taker's seat: for each group, how many work-items it has, or 0 if it has had no seat. Else nothing.
     pub sizes: LinkedList<u16>,
-    /// Of the taker's seat: the seats that were joined back. Of others nothing.
+    /// Of the taker's seat: the seats that were joined back. Else nothing.
     pub joined: LinkedList<Joined>,
 }
 
@@ -51,7 +51,7 @@ impl<A: Allocator> Protocol<GroupBatch<A>, IntakeView> for IntakeRule {
     ghost first = { first_view };
 }
 
-/// The group and size for which a seat is split off, as a type, since step types take no values; read only by proofs.
+/// The group and the number of items for which a seat is split off. It is a type, since step types take no values. Only proofs read it.
 pub trait NamesGroup {
     ghost use Rattle.std.specs.Prelude.{ℕ};
 
@@ -66,7 +66,7 @@ impl NamesGroup for Brand {
     ghost items = { 0 };
 }
 
-/// A step of the rule, for proofs alone: a work-group's seat is split off the taker's.
+/// A step of the rule, for proofs only: a work-group's seat is split off the taker's.
 pub struct SplitStep<G>(PhantomData<G>);
 
 impl<G: NamesGroup> Split<IntakeView> for SplitStep<G> {
@@ -78,7 +78,7 @@ impl<G: NamesGroup> Split<IntakeView> for SplitStep<G> {
     ghost right = { λ _. seat_of G.group G.items [] };
 }
 
-/// A step of the rule, for proofs alone: a work-group's seat is joined back into the taker's.
+/// A step of the rule, for proofs only: a work-group's seat is joined back into the taker's.
 pub struct JoinStep;
 
 impl Join<IntakeView> for JoinStep {
@@ -89,7 +89,7 @@ impl Join<IntakeView> for JoinStep {
     ghost spent = { spent_view };
 }
 
-/// A step of the rule, for proofs alone: a batch is pushed, or refused.
+/// A step of the rule, for proofs only: a batch is pushed, or refused.
 pub struct PushStep;
 
 impl<A: Allocator> Outcome<GroupBatch<A>, IntakeView> for PushStep {
@@ -105,7 +105,7 @@ impl<A: Allocator> Lesson<GroupBatch<A>, IntakeView> for PushStep {
     ghost fact = { AgreesWith BatchesAgree };
 }
 
-/// A step of the rule, for proofs alone: a batch is popped, or there is none.
+/// A step of the rule, for proofs only: a batch is popped, or there is none.
 pub struct PopStep;
 
 impl<A: Allocator> Outcome<GroupBatch<A>, IntakeView> for PopStep {

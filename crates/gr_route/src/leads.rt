@@ -1,12 +1,12 @@
-//! How far the senders of a queue are ahead of the sequencer, so that they need not fill the memory: a sender's thread may sleep
-//! where much of its stream is to be taken. It is a hint: no contract speaks of it.
+//! How far the senders of a queue are ahead of the sequencer. A sender's thread may sleep if many of its events are still to be
+//! taken, so that they don't fill the memory. It is a hint: no contract mentions it.
 
 use gr_model::limits::FEW_GROUPS;
 use gr_model::memory::Memory;
 use std::alloc::{Allocator, Global};
 use std::sync::atomic::{AtomicU32, Ordering};
 
-/// Of each of the first groups, how many events were popped and are to be taken.
+/// For each of the first groups, how many events were popped and are still to be taken.
 #[derive(Drop)]
 pub struct Leads<A: Allocator = Global> {
     events: Vec<AtomicU32, A>,
@@ -25,14 +25,14 @@ impl<A: Allocator> Leads<A> {
         Ok(Leads { events })
     }
 
-    /// So many events of the group are to be taken.
+    /// Notes that so many events of the group are still to be taken.
     pub fn note(&self, group: usize, events: usize) {
         if let Some(lead) = self.events.get(group) {
             lead.store(events.min(u32::MAX as usize) as u32, Ordering::Relaxed);
         }
     }
 
-    /// How many events of the group are to be taken: 0 if it is none of the first.
+    /// How many events of the group are still to be taken: 0 if it is not one of the first groups.
     pub fn of(&self, group: u16) -> u32 {
         match self.events.get(usize::from(group)) {
             Some(lead) => lead.load(Ordering::Relaxed),

@@ -1,6 +1,6 @@
 //! The queues between the threads of a run: from the senders to the sequencer, and from the sequencer to each worker.
-//! Each stands under a rule over what it holds and what its seats pushed and popped, which every step of every thread
-//! keeps. Told in words in docs/QUEUES.md.
+//! Each has a rule over what it holds and what its seats pushed and popped. Every step of every thread keeps the rule.
+//! docs/QUEUES.md explains this in words.
 #![tactic(auto)]
 
 pub mod batch;

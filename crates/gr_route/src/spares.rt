@@ -1,4 +1,4 @@
-//! Lists that held what went through a queue, for those who push: memory that has just been used is at hand faster than new one.
+//! Lists that held what went through a queue, for those who push: memory that was just used is faster than new memory.
 
 use crossbeam_queue::ArrayQueue;
 use gr_model::memory::Memory;
@@ -8,14 +8,14 @@ use std::sync::Wait;
 /// How many lists are kept at most.
 const MOST_SPARES: usize = 64;
 
-/// Lists that are to be filled again.
+/// Lists to be filled again.
 #[derive(Drop)]
 pub struct Spares<T, A: Allocator = Global> {
     lists: ArrayQueue<Vec<T, A>, A>,
 }
 
 impl<T: Drop, A: Allocator + Copy> Spares<T, A> {
-    /// None yet.
+    /// No list is kept yet.
     ///
     /// # Errors
     /// `Memory` if an allocation is refused.
@@ -26,7 +26,7 @@ impl<T: Drop, A: Allocator + Copy> Spares<T, A> {
 }
 
 impl<T: Drop, A: Allocator> Spares<T, A> {
-    /// Keeps a list whose values were handed out, unless enough are kept.
+    /// Keeps a list, unless enough are kept.
     pub fn put<R: Wait>(&self, rt: &R, list: Vec<T, A>) {
         let _ = self.lists.push(rt, list);
     }

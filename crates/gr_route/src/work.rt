@@ -1,9 +1,9 @@
 //! The queue from the sequencer to one worker. One seat pushes accesses, and at last `Stop`; one seat pops them.
 //!
 //! Invariant: what was popped, followed by what is queued, is what the giver pushed (docs/QUEUES.md, "The work queue").
-//! What a seat knows is in its pass, a value without bytes, which the queue's rule keeps true. Contracts don't see what
-//! the queue holds: docs/QUEUES.md, "Full and empty", has what `Full` and `None` say of it. The queue's elements are
-//! batches: the seat that pops keeps the rest of the one that it popped last.
+//! What a seat knows is in its pass, a value without bytes, and the queue's rule keeps it true. Contracts don't see what
+//! the queue holds: docs/QUEUES.md, "Full and empty", says what `Full` and `None` mean. The elements of the queue are
+//! batches. The seat that pops keeps the rest of the batch that it popped last.
 
 ghost use Rattle.std.specs.Prelude.{◌≡◌, ◌<◌, ◌≤◌, true, false, [], ◌∷◌, ◌++◌, None, Some, IfOk, IfErr, OnOk, IfSome, IfNone, IsTrue, IsFalse};
 ghost use Rattle.crossbeam_queue.specs.Fifo.{Held};
@@ -34,7 +34,7 @@ pub enum Work<A: Allocator = Global> {
     Stop,
 }
 
-/// A bounded queue of work. Contracts see which queue it is, and for how many batches of it it has room.
+/// A bounded queue of work. Contracts see which queue it is, and for how many batches of work it has room.
 #[derive(Drop)]
 pub struct WorkQueue<A: Allocator = Global> {
     queue: RuledArrayQueue<Batch<Work<A>, A>, WorkView<A>, WorkRule, A>,
@@ -68,8 +68,8 @@ impl<A: Allocator> Model for GiverSeat<A> {
     ghost invariant = { λ s. IsGiverPass s.pass };
 }
 
-/// The seat that pops. Contracts see its queue, what it popped, whether the giver's seat was split off, and what that
-/// had pushed, if it was joined back.
+/// The seat that pops. Contracts see its queue, what it popped, whether the giver's seat was split off, and, if that was
+/// joined back, what it had pushed.
 #[derive(Drop)]
 pub struct WorkerSeat<A: Allocator = Global> {
     pass: Pass<Batch<Work<A>, A>, WorkView<A>>,
@@ -164,7 +164,7 @@ impl<A: Allocator> WorkQueue<A> {
     }
 
     /// Pushes work in one step.
-    /// Requires: the seat is of this queue; in what it pushed, and this after it, `Stop` is the last if it is there.
+    /// Requires: the seat is of this queue; in what it pushed, followed by this, `Stop` comes last if at all.
     ///
     /// # Errors
     /// `Full` with the work, only if the queue was full at some moment of the call. The seat is then unchanged.
@@ -191,8 +191,7 @@ impl<A: Allocator> WorkQueue<A> {
         }
     }
 
-    /// Pops the first work that was not popped yet. Answers `None` only if the queue was empty at some moment of the
-    /// call.
+    /// Pops the first work that was not popped yet. Gives `None` only if the queue was empty at some moment of the call.
     /// Requires: the seat is of this queue.
     pub fn pop<R: Wait>(&self, rt: &R, worker: &mut WorkerSeat<A>) -> Option<Work<A>>
         requires { worker.old.queue ≡ self.now.queue }
@@ -214,8 +213,8 @@ impl<A: Allocator> WorkQueue<A> {
         }
     }
 
-    /// Pops work that was pushed together; of a batch whose first work `pop` handed out, one of those that are left. Answers
-    /// `None` only if the queue was empty at some moment of the call.
+    /// Pops a batch of work, or one piece of work if `pop` has left some of the last batch. Gives `None` only if the queue was
+    /// empty at some moment of the call.
     /// Requires: the seat is of this queue.
     pub fn pop_all<R: Wait>(&self, rt: &R, worker: &mut WorkerSeat<A>) -> Option<Batch<Work<A>, A>>
         requires { worker.old.queue ≡ self.now.queue }

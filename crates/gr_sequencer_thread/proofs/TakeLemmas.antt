@@ -1,4 +1,4 @@
--- What was popped may come, and what was taken of it is in the end all that was popped.
+-- What was popped may come, and in the end all that was popped was taken.
 use Rattle.std.proofs.Common.{◌≡◌, ◌≢◌, ◌==◌, Bool, false, ℕ, ◌<◌, ◌≤◌, ◌%◌, List, [], ◌∷◌, ◌++◌, length, get_or, set, cond, refl, sym, ap, ◌∙◌, subst, ⊎_elim, arith, append_assoc, append-nil, length-append, eq-eqb, ne_eqb}
 use Rattle.std.proofs.Math.ListN.{get_or-eq_default}
 use Rattle.std.proofs.lemmas.Bool.{cases_eq, cases_lt}
@@ -21,9 +21,9 @@ use Rattle.gr_sequencer_thread.proofs.Changes.{where_set}
 abbrev pub popping : Taker → ℕ → List Event → Taker
 popping t n es = record { queue = t.queue; popped = t.popped ++ sent_by n es; sizes = t.sizes; joined = t.joined }
 
--- the backlog with these events more
-abbrev pub behind : ListedRecords → List Event → ListedRecords
-behind b es = record { group = b.group; records = b.records ++ es }
+-- the backlog, once it has these events more
+abbrev pub with_more : ListedRecords → List Event → ListedRecords
+with_more b es = record { group = b.group; records = b.records ++ es }
 
 sent_here : (n : ℕ) (es : List Event) → events_of n (sent_by n es) ≡ es
 sent_here n [] = refl
@@ -82,13 +82,13 @@ module _ (config : Settings) (sizes : List ℕ) (takers : List Taker) (seated : 
     there_now : n < length coming
     there_now = omega (arith, are.count, ap length same, group_there)
 
-    pub still_popped : ArePopped config taken (set coming n (behind b es)) (set takers q (popping t n es))
+    pub still_popped : ArePopped config taken (set coming n (with_more b es)) (set takers q (popping t n es))
     still_popped = record {
-      count = length-set coming n (behind b es) ∙ are.count;
+      count = length-set coming n (with_more b es) ∙ are.count;
       each = λ g f d lt.
           let came = ap (come_one taken) mine ∙ (sym (get_or-map (come_one taken) coming n b f there_now) ∙ are.each n f d (omega (arith, there_now, are.count))) in
-          get_or-map (come_one taken) (set coming n (behind b es)) g b f (omega (arith, lt, are.count, length-set coming n (behind b es)))
-          ∙ where_set (λ h c. h < length taken.sizes → come_one taken c ≡ (h, popped_of (get_or (set takers q (popping t n es)) (h % config.queues) d) h)) coming n (behind b es) b there_now
+          get_or-map (come_one taken) (set coming n (with_more b es)) g b f (omega (arith, lt, are.count, length-set coming n (with_more b es)))
+          ∙ where_set (λ h c. h < length taken.sizes → come_one taken c ≡ (h, popped_of (get_or (set takers q (popping t n es)) (h % config.queues) d) h)) coming n (with_more b es) b there_now
           (λ _. ap (λ (l : List Event). (b.group, l)) (sym (append_assoc (list_of taken b.group) b.records es)) ∙ (ap (λ (x : ℕ × List Event). (x.0, x.1 ++ es)) came ∙ ap (λ (l : List Event). (n, l)) (sym (own_now d))))
           (λ h apart below. sym (get_or-map (come_one taken) coming h b f (omega (arith, below, are.count))) ∙ (are.each h f d below ∙ ap (λ (l : List Event). (h, l)) (others h d apart)))
           g lt;
@@ -105,10 +105,10 @@ module _ (config : Settings) (sizes : List ℕ) (takers : List Taker) (seated : 
   still_seated p g d = where_set (λ p u. p < config.queues → get_or u.sizes g 0 ≡ cond (g % config.queues == p) (get_or sizes g 0) 0) takers q (popping t n es) d within
       (λ lt. ap (λ (u : Taker). get_or u.sizes g 0) at ∙ seated q g t lt) (λ p _. seated p g d) p
 
--- a feed for which they were popped
+-- the state after they were popped
 pub popped_feed : {A : Type 0} (f : Feed A) → IsFeed f → (q : ℕ) (t u : Taker) (n : ℕ) (es : List Event) (coming : List ListedRecords) (failed : Bool)
     → t ≡ get_or f.takers q t → q < length f.takers → 0 < length es → u ≡ popping t n es → IsDelivery u → length coming ≡ length f.coming
-    → (failed ≡ false → (f.failed ≡ false) × ((b : ListedRecords) → b ≡ get_or f.coming n b → coming ≡ set f.coming n (behind b es)))
+    → (failed ≡ false → (f.failed ≡ false) × ((b : ListedRecords) → b ≡ get_or f.coming n b → coming ≡ set f.coming n (with_more b es)))
     → IsFeed (record f { takers = set f.takers q u; coming = coming; failed = failed })
 popped_feed f is q t u n es coming failed at lt some now delivered count noted =
     let delivery = subst IsDelivery now delivered in
@@ -125,10 +125,10 @@ popped_feed f is q t u n es coming failed at lt some now delivered count noted =
       seated = seated;
       unstopped = is.unstopped;
       good = λ still.
-          let told = noted still in
-          let was = is.good told.0 in
+          let now_noted = noted still in
+          let was = is.good now_noted.0 in
           let popped = still_popped f.config f.sizes f.takers is.seated q t at there is.queues n es some delivery f.sequence.taken was.same f.coming was.popped b mine in
-          let moved = subst (λ (y : List ListedRecords × Taker). ArePopped f.config f.sequence.taken y.0 (set f.takers q y.1)) (λ i. (sym (told.1 b mine) i, sym now i)) popped in
+          let moved = subst (λ (y : List ListedRecords × Taker). ArePopped f.config f.sequence.taken y.0 (set f.takers q y.1)) (λ i. (sym (now_noted.1 b mine) i, sym now i)) popped in
           record { same = was.same; sequence = was.sequence; popped = moved; passed = was.passed };
     }
 
@@ -179,7 +179,7 @@ module _ (config : Settings) (taken : Streams) (coming : List ListedRecords) (ta
           ∙ (sym (ap (λ (l : List Event). list_of taken b.group ++ l) empty ∙ append-nil (list_of taken b.group))
           ∙ ap (λ (x : ℕ × List Event). x.1) is)
 
--- a feed of whose groups some of what was popped was taken
+-- the state after some of what was popped was taken
 pub taken_feed : {A : Type 0} (f : Feed A) → IsFeed f → (sequence : Sequence) (coming : List ListedRecords) (on_way : List (List ClockedAccess)) (failed : Bool) → length coming ≡ length f.coming → (failed ≡ false → IsGood (record f { sequence = sequence; coming = coming; on_way = on_way; failed = failed }))
     → IsFeed (record f { sequence = sequence; coming = coming; on_way = on_way; failed = failed })
 taken_feed f is sequence coming on_way failed count good = assumption (count ∙ is.backlogs)

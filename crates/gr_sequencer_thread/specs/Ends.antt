@@ -9,7 +9,7 @@ use Rattle.gr_route.specs.IntakeSeats.{Taker}
 use Rattle.gr_route.specs.WorkSeats.{Giver}
 use Rattle.gr_sequencer_thread.specs.Feeds.{AreStopped, Feed, IsWhole, intakes_of, works_of}
 
--- how a run is set up, the items of each work-group, its intake queues and its workers' queues
+-- the configuration of a run, the items of each work-group, its intake queues and its workers' queues
 pub record Line : Type 0 where
   pub config : Settings
   pub sizes : List ℕ
@@ -40,7 +40,7 @@ feed_line f = record { config = f.config; sizes = f.sizes; intakes = intakes_of 
 abbrev pub end_line : {A : Type 0} → End A → Line
 end_line e = record { config = e.config; sizes = e.sizes; intakes = intakes_of e.takers; works = works_of e.givers }
 
--- all of these streams was taken, handled and passed on, and the report is theirs but for its races
+-- all of these streams was taken, handled and passed on, and the report is theirs, without its races
 pub record IsFound {A : Type 0} (config : Settings) (sizes : List ℕ) (takers : List Taker) (givers : List (Giver A)) (report : WholeReport) : Type 0 where
   pub sequence : Sequence
   pub sizes_are : sequence.taken.sizes ≡ sizes

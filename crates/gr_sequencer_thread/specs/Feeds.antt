@@ -1,4 +1,4 @@
--- What the sequencer's thread has, and what is so of it at every moment and at its end.
+-- The state of the sequencer's thread, and what holds of it at every moment and at its end.
 -- Source: docs/QUEUES.md, "The work queue", and docs/MODEL.md, "The world".
 use Rattle.std.specs.Prelude.{◌≡◌, ◌==◌, ◌<◌, ◌%◌, ℕ, All, Bool, false, List, [], ◌++◌, drop, length, map, filter, slice_index, slice_index_or, Option, None, Some, IsFalse, IsTrue, if◌then◌else◌}
 use Rattle.atomic_table.specs.Seated.{TableId}
@@ -16,7 +16,7 @@ use Rattle.gr_taking.specs.Along.{IsAlong}
 use Rattle.gr_taking.specs.Sources.{ListedRecords, come_from}
 use Rattle.gr_threads.specs.Given.{accesses_in}
 
--- how the run is set up, and the items of each work-group; what was taken, and what of it was handled, in which order; the seats that pop, by queue; the seats that push, by worker; the events that were popped and are to be taken, by group; the accesses that were handled and pushed to no worker yet, by worker; whether memory ran out
+-- the configuration, and the items of each work-group; what was taken, and what of it was handled, in which order; the seats that pop, by queue; the seats that push, by worker; the events that were popped and are still to be taken, by group; the accesses that were handled and not pushed yet, by worker; whether memory ran out
 pub record Feed (A : Type 0) : Type 0 where
   pub config : Settings
   pub sizes : List ℕ
@@ -32,7 +32,7 @@ pub record AreNoBacklogs (sizes : List ℕ) (coming : List ListedRecords) : Type
   pub count : length coming ≡ length sizes
   pub each : (g : ℕ) (d : ListedRecords) → g < length coming → slice_index_or coming g d ≡ record { group = g; records = [] }
 
--- the events that are left of a batch of which so many were taken
+-- the events that are left of a batch, after so many were taken
 abbrev pub left_of : Option (List Event) → ℕ → List Event
 left_of None taken = []
 left_of (Some events) taken = drop taken events
@@ -61,21 +61,21 @@ given_of givers = map (λ g. accesses_in g.pushed) givers
 abbrev pub towards : {A : Type 0} → List (Giver A) → List (List (Work A)) → ℕ → List ClockedAccess
 towards givers ways k = slice_index_or (given_of givers) k [] ++ slice_index_or (accesses_on_way ways) k []
 
--- of these accesses those that go to a worker, of so many
+-- those of these accesses that go to this one of so many workers
 abbrev pub accesses_for : ℕ → ℕ → List ClockedAccess → List ClockedAccess
 accesses_for workers k accesses = filter (λ x. worker_number x.word workers == k) accesses
 
--- ---- what is so at every moment
+-- ---- what holds at every moment
 
--- the groups that have had a seat of a queue are those whose events go to it, each with its items
+-- a queue has had a seat for exactly the groups whose events go to it, each with its items
 abbrev pub AreSeated : Settings → List ℕ → List Taker → Type 0
 AreSeated config sizes takers = (q g : ℕ) (d : Taker) → q < config.queues → slice_index (slice_index_or takers q d).sizes g ≡ (if g % config.queues == q then slice_index sizes g else 0)
 
--- nothing was pushed behind which nothing may be pushed
+-- no worker was given `Stop`
 abbrev pub AreOpen : {A : Type 0} → List (Giver A) → Type 0
 AreOpen {A} givers = (k : ℕ) (d : Giver A) → k < length givers → IsFalse (is_stopped (slice_index_or givers k d).pushed)
 
--- to each worker the word that there are no more was pushed
+-- each worker was given `Stop`
 abbrev pub AreStopped : {A : Type 0} → List (Giver A) → Type 0
 AreStopped {A} givers = (k : ℕ) (d : Giver A) → k < length givers → IsTrue (is_stopped (slice_index_or givers k d).pushed)
 
@@ -83,21 +83,21 @@ AreStopped {A} givers = (k : ℕ) (d : Giver A) → k < length givers → IsTrue
 abbrev pub AreTaken : Settings → Streams → List Taker → Type 0
 AreTaken config taken takers = (g : ℕ) (d : Taker) → g < length taken.sizes → list_of taken g ≡ popped_of (slice_index_or takers (g % config.queues) d) g
 
--- of each group, what was taken of it with what is to be taken
+-- of each group, what was taken of it, followed by what is still to be taken
 abbrev pub come_in : Streams → List ListedRecords → List (ℕ × List Event)
 come_in taken coming = come_from (λ b. b.group) (λ g. g) (λ b. b.records) taken coming
 
--- this is what was popped of it, which may have come of it
+-- this is what was popped of the group, and it is the prefix of a stream
 pub record ArePopped (config : Settings) (taken : Streams) (coming : List ListedRecords) (takers : List Taker) : Type 0 where
   pub count : length coming ≡ length taken.sizes
   pub each : (g : ℕ) (f : ℕ × List Event) (d : Taker) → g < length taken.sizes → slice_index_or (come_in taken coming) g f ≡ (g, popped_of (slice_index_or takers (g % config.queues) d) g)
   pub prefixes : (g : ℕ) (d : Taker) → g < length taken.sizes → IsPrefix (size_of taken g) (popped_of (slice_index_or takers (g % config.queues) d) g)
 
--- of these accesses each of so many workers was given those that go to it, but for those that are on their way to it
+-- each of so many workers was given those of these accesses that go to it, except those that are on their way to it
 abbrev pub AreSplit : ℕ → List (List ClockedAccess) → List ClockedAccess → List (List ClockedAccess) → Type 0
 AreSplit workers given accesses on_way = (k : ℕ) → k < workers → accesses_for workers k accesses ≡ slice_index_or given k [] ++ slice_index_or on_way k []
 
--- what the workers were given, and what is on its way to them, are the accesses along the handled order
+-- what the workers were given, followed by what is on its way to them, are the accesses along the handled order
 abbrev pub ArePassedOn : Settings → Sequence → List (List ClockedAccess) → List (List ClockedAccess) → Type 0
 ArePassedOn config sequence given on_way = IsAlong (AreSplit config.workers given) sequence on_way
 
@@ -119,7 +119,7 @@ pub record IsFeed {A : Type 0} (f : Feed A) : Type 0 where
 
 -- ---- where it begins
 
--- of groups of these sizes nothing was popped, and nothing was pushed
+-- there are groups of these sizes, nothing was popped, and nothing was pushed
 pub record IsFresh {A : Type 0} (config : Settings) (sizes : List ℕ) (takers : List Taker) (givers : List (Giver A)) : Type 0 where
   pub queues : length takers ≡ config.queues
   pub worker_count : length givers ≡ config.workers
@@ -129,7 +129,7 @@ pub record IsFresh {A : Type 0} (config : Settings) (sizes : List ℕ) (takers :
 
 -- ---- how it goes on
 
--- the seats are of the same queues, and the run is set up as before
+-- the seats are of the same queues, and the configuration is as before
 pub record IsSameRun {A : Type 0} (old new : Feed A) : Type 0 where
   pub config : new.config ≡ old.config
   pub sizes : new.sizes ≡ old.sizes

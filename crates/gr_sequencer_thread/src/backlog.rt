@@ -1,4 +1,4 @@
-//! The events of a work-group that were popped, and are to be taken.
+//! The events of a work-group that were popped, and are still to be taken.
 
 ghost use Rattle.std.specs.Prelude.{◌≡◌, ◌<◌, ◌∷◌, ◌++◌, [], All, false, IfNone, IfOk, IfSome, IsTrue, MatchOption, OnErr, OnOk, length, slice_index_or, slice_set};
 ghost use Rattle.gr_taking.specs.Sources.{ListedRecords};
@@ -16,18 +16,18 @@ use std::marker::Model;
 use std::mem;
 use std::sync::Wait;
 
-/// The events of a work-group that were popped, and are to be taken. Contracts see the group and these events.
+/// The events of a work-group that were popped, and are still to be taken. Contracts see the group and these events.
 #[derive(Drop)]
 pub(crate) struct Backlog<A: Allocator = Global> {
     group: u16,
     items: u16,
-    /// The batch that is being taken, and how many of its events were.
+    /// The batch that is being taken, and how many of its events were taken.
     batch: Option<Batch<Event, A>>,
     taken: usize,
     /// The batches after it, and how many events they have.
     later: VecDeque<Batch<Event, A>, A>,
     count: usize,
-    /// Lists that held events that were taken.
+    /// Lists whose events were taken.
     emptied: VecDeque<Vec<Event, A>, A>,
 }
 
@@ -42,7 +42,7 @@ impl<A: Allocator> Model for Backlog<A> {
     ghost view = { λ b. record { group = b.group; records = left_of b.batch b.taken ++ all_of b.later.items } };
 }
 
-/// How many events a batch has, if it is there: at least one.
+/// How many events a batch has, or 0 if there is no batch.
 fn count_of<A: Allocator>(batch: &Option<Batch<Event, A>>) -> usize
     ensures { MatchOption batch.now (result ≡ 0) (λ events. (result ≡ length events) × (0 < result)) }
 {
@@ -86,20 +86,20 @@ impl<A: Allocator> Backlog<A> {
         Ok(())
     }
 
-    /// Whether no event is to be taken.
+    /// Whether no event is still to be taken.
     pub(crate) fn is_empty(&self) -> bool
         ensures { IsTrue result → self.now.records ≡ [] }
     {
         self.taken >= count_of(&self.batch) && self.later.is_empty()
     }
 
-    /// How many events are to be taken.
+    /// How many events are still to be taken.
     pub(crate) fn len(&self) -> usize {
         self.count
             .saturating_add(count_of(&self.batch).saturating_sub(self.taken))
     }
 
-    /// Gives the lists back that held events that were taken, to be filled again.
+    /// Gives back the lists whose events were taken, to be filled again.
     pub(crate) fn give_back<R: Wait>(&mut self, rt: &R, inlet: &Inlet<A>)
         ensures { self.new ≡ self.old }
     {
@@ -154,7 +154,7 @@ impl<A: Allocator> Source for Backlog<A> {
     }
 }
 
-/// Whether no event is to be taken of any group.
+/// Whether no event of any group is still to be taken.
 pub(crate) fn are_empty<A: Allocator>(backlogs: &[Backlog<A>]) -> bool
     ensures { IsTrue result → All (λ b. b.records ≡ []) backlogs.now }
 {
@@ -166,7 +166,7 @@ pub(crate) fn are_empty<A: Allocator>(backlogs: &[Backlog<A>]) -> bool
     true
 }
 
-/// Adds events that were popped to those of their group, unless memory ran out before. Tells whether it ran out, before or now.
+/// Adds popped events to their group's backlog, unless memory ran out before. Gives whether it ran out, before or now.
 pub(crate) fn note<A: Allocator>(
     backlogs: &mut Vec<Backlog<A>, A>,
     failed: bool,

@@ -32,8 +32,8 @@ impl<A: Allocator> Model for Begin<A> {
 }
 
 impl<A: Allocator> Begin<A> {
-    /// A launch of this shape, with the ends of all intake queues and those of all workers' queues, in order, through which
-    /// nothing went.
+    /// A launch of this shape, with the ends of all intake queues and of all workers' queues, in order.
+    /// Requires: nothing went through the queues.
     pub fn new(
         config: Config,
         shape: Shape<A>,

@@ -19,8 +19,8 @@ use gr_sequencer::sequencer::Sequencer;
 use std::alloc::{Allocator, Global};
 use std::marker::Model;
 
-/// What the sequencer's thread leaves. Contracts see how the run is set up, the items of each work-group, the seats of all
-/// queues, and the report but for its races, which is there unless memory ran out.
+/// What the sequencer's thread leaves. Contracts see the configuration, the items of each work-group, the seats of all queues,
+/// and the report without its races, which is there unless memory ran out.
 #[derive(Drop)]
 pub struct SequencerEnd<A: Allocator = Global> {
     config: Config,
@@ -42,8 +42,8 @@ impl<A: Allocator> Model for SequencerEnd<A> {
     ghost invariant = { λ e. spec.IsEnd {A = A} (record { config = e.config; sizes = e.shape; takers = e.inlets.items; givers = e.outlets.items; report = option_map whole_of e.report }) };
 }
 
-/// What the sequencer's thread leaves, taken apart: the ends of all intake queues and those of all workers' queues, in order,
-/// and the report but for its races, which is there unless memory ran out.
+/// What the sequencer's thread leaves, taken apart: the ends of all intake queues and of all workers' queues, in order, and the
+/// report without its races, which is there unless memory ran out.
 #[derive(Drop)]
 pub struct Parts<A: Allocator = Global> {
     pub inlets: Vec<Inlet<A>, A>,
@@ -52,7 +52,7 @@ pub struct Parts<A: Allocator = Global> {
 }
 
 impl<A: Allocator> SequencerEnd<A> {
-    /// The end of a thread in which memory ran out, or else all was taken, handled and passed on.
+    /// The end of a thread. Requires: memory ran out in it, or all was taken, handled and passed on.
     pub(crate) fn of(
         config: Config,
         shape: Shape<A>,
@@ -92,8 +92,8 @@ impl<A: Allocator> SequencerEnd<A> {
     }
 }
 
-/// The report but for its races of a launch of this shape, of which a sequencer has taken all and has no step left, unless
-/// memory ran out before, or does now.
+/// The report of a launch of this shape, without its races, unless memory ran out before, or does now.
+/// Requires: unless memory ran out before, the sequencer has taken all of the launch, and has no step left.
 pub(crate) fn findings<A: Allocator + Copy>(
     alloc: A,
     shape: &Shape<A>,
@@ -111,7 +111,8 @@ pub(crate) fn findings<A: Allocator + Copy>(
     report_of(alloc, shape, sequencer).ok()
 }
 
-/// The report but for its races of a launch of this shape, of which a sequencer has taken all and has no step left.
+/// The report of a launch of this shape, without its races.
+/// Requires: the sequencer has taken all of the launch, and has no step left.
 ///
 /// # Errors
 /// `Memory`: out of memory.
@@ -144,7 +145,7 @@ fn records_of<A: Allocator>(shape: &Shape<A>, sequencer: &Sequencer<A>) -> u64
     requires { sequencer.now.taken.sizes ≡ shape.now }
     ensures { result ≡ sum_by length sequencer.now.taken.lists }
 {
-    // No list that a sequencer took is longer than a stream may be.
+    // For the proof: no list that a sequencer took is longer than a stream may be.
     let _ = sequencer.at_end();
     let mut records: u64 = 0;
     for group in 0..shape.groups() {

@@ -1,8 +1,8 @@
-//! What the sequencer's thread has, and its steps.
+//! The state of the sequencer's thread, and its steps.
 //!
-//! Invariant, unless memory ran out: what was taken of each group, with what is to be taken of it, is what was popped of it; the
-//! handled order is lawful, and what each worker was given, with what is on its way to it, are the accesses along that order that
-//! go to it. Where memory ran out, events are popped and go nowhere.
+//! Invariant, unless memory ran out: of each group, what was taken, followed by what is still to be taken, is what was popped. The
+//! handled order is lawful. For each worker, what it was given, followed by what is on its way to it, are its accesses along that
+//! order. If memory ran out, events are popped and dropped.
 
 ghost use Rattle.std.specs.Prelude.{◌≡◌, ◌<◌, [], All, false, IsTrue, length};
 ghost use Rattle.gr_order.specs.Sequences.{nothing};
@@ -29,17 +29,17 @@ use std::snapshot::Snapshot;
 use std::sync::{Arc, Wait};
 use std::time::Clock;
 
-/// How many events are popped of a queue, with those of their batch, before the next queue.
+/// How many events are popped of a queue before the next queue is tried; the last batch is popped whole.
 const BURST: u32 = 4096;
 
-/// Of how many groups the turns take about as long as a wait.
+/// The turns of so many groups take about as long as a wait.
 const GROUPS_FOR_A_WAIT: usize = 1024;
 
-/// How many accesses may be on their way before no more events are handled.
+/// If so many accesses are on their way, no more events are handled.
 const MOST_ON_WAY: usize = 4096;
 
-/// What the sequencer's thread has. Contracts see how the run is set up, the items of each work-group, what was taken and handled,
-/// the seats of all queues, the events that are to be taken, the accesses on their way, and whether memory ran out.
+/// The state of the sequencer's thread. Contracts see the configuration, the items of each work-group, what was taken and handled,
+/// the seats of all queues, the events that are still to be taken, the accesses on their way, and whether memory ran out.
 #[derive(Drop)]
 pub struct Feed<A: Allocator = Global> {
     config: Config,
@@ -49,11 +49,11 @@ pub struct Feed<A: Allocator = Global> {
     outlets: Vec<Outlet<A>, A>,
     backlogs: Vec<Backlog<A>, A>,
     on_way: OnWay<A>,
-    // Of how many groups the end was not popped.
+    // For how many groups the end was not popped yet.
     open: u16,
     failed: bool,
-    // How many events were popped since the groups had their turns, and how many are to be before they have the next: as many as there
-    // are groups, and half of those that were left, since a group that waits for others should not take what comes after.
+    // How many events were popped since the groups had their turns, and how many must be before the next turns: at least as many as
+    // there are groups, and as half of the events that were left, since a group that waits for others should not take its later events yet.
     fresh: usize,
     due: usize,
 }
@@ -68,7 +68,7 @@ impl<A: Allocator> Model for Feed<A> {
     ghost invariant = { λ f. spec.IsFeed {A = A} (record { config = f.config; sizes = f.shape; sequence = f.sequencer; takers = f.inlets.items; givers = f.outlets.items; coming = f.backlogs.items; on_way = f.on_way; failed = f.failed }) };
 }
 
-/// Of how many groups the end was not popped, after events that were.
+/// For how many groups the end was not popped yet, after these events of one group were popped.
 pub(crate) fn left_open<A: Allocator>(open: u16, events: &Batch<Event, A>) -> u16 {
     if events.last().kind.is_end() {
         open.saturating_sub(1)
@@ -77,7 +77,7 @@ pub(crate) fn left_open<A: Allocator>(open: u16, events: &Batch<Event, A>) -> u1
     }
 }
 
-/// Looks at what is left of each group. Notes how far its sender is ahead, and gives the lists back that held what was taken. Tells
+/// Looks at what is left of each group: notes how far its sender is ahead, and gives back the lists whose events were taken. Gives
 /// how many events are left in all.
 fn look_at<R: Wait, A: Allocator>(
     rt: &R,
@@ -87,7 +87,7 @@ fn look_at<R: Wait, A: Allocator>(
     requires { 0 < length inlets.now.items }
     ensures { backlogs.new.items ≡ backlogs.old.items }
 {
-    // Else not all streams are read side by side, and one may wait for another that is not begun.
+    // With more groups, not all streams are read at once. A group may then wait for a stream that is not begun: its sender must go on.
     let are_side_by_side = backlogs.len() <= FEW_GROUPS;
     let mut left: usize = 0;
     for group in 0..backlogs.len() {
@@ -102,7 +102,7 @@ fn look_at<R: Wait, A: Allocator>(
     left
 }
 
-/// Has a watcher see that so many events of a group were popped.
+/// Shows a watcher that so many events of a group were popped.
 pub(crate) fn show<W: Watch, A: Allocator>(watch: &Arc<W, A>, group: u16, count: usize) {
     for _ in 0..count {
         watch.at_take(group);
@@ -110,8 +110,8 @@ pub(crate) fn show<W: Watch, A: Allocator>(watch: &Arc<W, A>, group: u16, count:
 }
 
 impl<A: Allocator> Feed<A> {
-    /// What the thread begins with: the shape of the launch, a sequencer that has taken nothing of it, backlogs without events, the
-    /// ends of all intake queues and those of all workers' queues, in order.
+    /// The state at the start: the shape of the launch, a sequencer that has taken nothing of it, backlogs without events, and the
+    /// ends of all intake queues and of all workers' queues, in order.
     pub fn new(
         config: Config,
         shape: Shape<A>,
@@ -127,7 +127,7 @@ impl<A: Allocator> Feed<A> {
         requires on_way { All (λ l. l ≡ []) on_way }
         ensures { feed_line result ≡ record { config = config; sizes = shape; intakes = intakes_of inlets.items; works = works_of outlets.items } }
     {
-        // The order of a sequencer's handled events is lawful, and the numbers of a configuration are in range.
+        // For the proof: the sequencer's handled order is lawful, and the numbers of the configuration are in range.
         let _ = (sequencer.at_end(), config.queues());
         let open = shape.groups();
         Feed {
@@ -145,7 +145,7 @@ impl<A: Allocator> Feed<A> {
         }
     }
 
-    /// Whether every group's end was popped, and all of it was taken, handled and passed on, as far as there was memory.
+    /// Whether every group's end was popped, and, unless memory ran out, all was taken, handled and passed on.
     pub(crate) fn is_over(&self) -> bool
         ensures { IsTrue result → self.now.failed ≡ false → IsOver self.now }
     {
@@ -156,7 +156,7 @@ impl<A: Allocator> Feed<A> {
 }
 
 impl<A: Allocator + Copy> Feed<A> {
-    /// Pops events of an intake queue that were pushed together. Tells how many: none where there are none.
+    /// Pops a batch of an intake queue. Gives how many events it has: 0 if there is no batch.
     fn pop<R: Wait, W: Watch>(&mut self, rt: &R, queue: usize, watch: &Arc<W, A>) -> usize
         requires { queue < length self.old.takers }
         ensures { IsSameRun self.old self.new }
@@ -172,7 +172,7 @@ impl<A: Allocator + Copy> Feed<A> {
         count
     }
 
-    /// Pops events of an intake queue, as many as are in a burst. Tells whether there was one.
+    /// Pops events of an intake queue, up to a burst. Gives whether there was one.
     fn drain<R: Wait, W: Watch>(&mut self, rt: &R, queue: usize, watch: &Arc<W, A>) -> bool
         requires { queue < length self.old.takers }
         ensures { IsSameRun self.old self.new }
@@ -188,7 +188,7 @@ impl<A: Allocator + Copy> Feed<A> {
         count > 0
     }
 
-    /// Pops events of each intake queue. Tells whether there was one.
+    /// Pops events of each intake queue. Gives whether there was one.
     pub(crate) fn drain_all<R: Wait, W: Watch>(&mut self, rt: &R, watch: &Arc<W, A>) -> bool
         ensures { IsSameRun self.old self.new }
     {
@@ -199,13 +199,13 @@ impl<A: Allocator + Copy> Feed<A> {
         some
     }
 
-    /// Whether few events came since the groups had their turns, and more may come soon, after so many waits.
+    /// Whether few events came since the groups had their turns, and more may come soon: the thread has waited only so often.
     fn is_early(&self, waits: usize) -> bool {
         self.fresh < self.due && waits <= self.backlogs.len() / GROUPS_FOR_A_WAIT
     }
 
-    /// Has each group take its turn, unless too many accesses are on their way, or few events came since and more may come soon: nothing
-    /// came when the thread waited so often. Tells whether an event was taken.
+    /// Lets each group take its turn, unless it is too early after so many waits, or too many accesses are on their way. Gives whether
+    /// an event was taken.
     pub(crate) fn take_turns<R: Wait>(&mut self, rt: &R, waits: usize) -> bool
         ensures { IsSameRun self.old self.new }
     {
@@ -238,15 +238,14 @@ impl<A: Allocator + Copy> Feed<A> {
         }
     }
 
-    /// Passes the accesses on that are on their way, as far as there is room for them, but for those that wait for more where
-    /// `all` is false. Tells whether there was one.
+    /// Passes the accesses on, as `OnWay::pass` does.
     pub(crate) fn pass<R: Wait>(&mut self, rt: &R, all: bool) -> bool
         ensures { IsSameRun self.old self.new }
     {
         self.on_way.pass(rt, self.config, &mut self.outlets, all)
     }
 
-    /// Tells each worker that there are no more accesses, which ends the thread.
+    /// Pushes `Stop` to each worker. This ends the thread.
     pub(crate) fn stop<R: Wait + Clock>(self, rt: &R, alloc: A) -> SequencerEnd<A>
         requires { self.failed ≡ false → IsOver self }
         ensures { end_line result ≡ feed_line self }

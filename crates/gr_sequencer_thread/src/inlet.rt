@@ -38,7 +38,7 @@ impl<A: Allocator> Model for Inlet<A> {
 }
 
 impl<A: Allocator + Copy> Inlet<A> {
-    /// The end of a new queue with room for so many batches of events.
+    /// The end of a new queue with room for `capacity` batches of events.
     ///
     /// # Errors
     /// `Memory`: out of memory.
@@ -51,7 +51,8 @@ impl<A: Allocator + Copy> Inlet<A> {
         Ok(Inlet { queue, seat })
     }
 
-    /// The sender of a work-group with so many items, which has had none.
+    /// The sender of a work-group with so many items.
+    /// Requires: the group has had no sender.
     ///
     /// # Errors
     /// `Memory`: out of memory. Nothing is then changed.
@@ -73,7 +74,7 @@ impl<A: Allocator + Copy> Inlet<A> {
 }
 
 impl<A: Allocator> Inlet<A> {
-    /// Pops events of a work-group that were pushed together, if there are any.
+    /// Pops a batch of a work-group's events, if there is one.
     pub fn pop<R: Wait>(&mut self, rt: &R) -> Option<(u16, Batch<Event, A>)>
         ensures some { IfSome result (λ sent. self.new ≡ record self.old { popped = self.old.popped ++ sent_by sent.0 sent.1 }) }
         ensures unchanged { IfNone result (self.new ≡ self.old) }
@@ -83,18 +84,18 @@ impl<A: Allocator> Inlet<A> {
         Some(batch.into_events())
     }
 
-    /// Gives a list back that held events, to be filled again.
+    /// Gives a used list back, to be filled again.
     pub(crate) fn give_back<R: Wait>(&self, rt: &R, list: Vec<Event, A>) {
         self.queue.spares.put(rt, list);
     }
 
-    /// So many events of the group are to be taken.
+    /// Notes that so many events of the group are still to be taken.
     pub(crate) fn note_lead(&self, group: usize, events: usize) {
         self.queue.leads.note(group, events);
     }
 
-    /// Takes a work-group's seat back. What was popped of the group is a prefix of what the seat pushed, and all of it where
-    /// its end was popped.
+    /// Takes a work-group's seat back. What was popped of the group is a prefix of what the seat pushed, and all of it if its
+    /// end was popped.
     pub fn join_back(&mut self, seat: IntakeSeat<A>)
         requires { seat.queue ≡ self.old.queue }
         ensures same { (self.new.queue ≡ self.old.queue) × (self.new.popped ≡ self.old.popped) }

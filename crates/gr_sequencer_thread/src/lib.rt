@@ -1,5 +1,4 @@
-//! The sequencer's thread: it takes the events of all intake queues, handles them, and passes their accesses to the
-//! workers.
+//! The sequencer's thread: it takes the events of all intake queues, handles them, and passes their accesses to the workers.
 #![tactic(auto)]
 
 mod backlog;

@@ -1,4 +1,4 @@
-//! The accesses on their way to the workers: what the sequencer's steps give waits here until its worker's queue has room.
+//! The accesses on their way to the workers: those that the sequencer's steps give wait here until their worker's queue has room.
 //!
 //! Invariant: there is a way to each worker that a run may have.
 
@@ -80,8 +80,8 @@ impl<A: Allocator> OnWay<A> {
         true
     }
 
-    /// Passes the accesses on that are on their way, as far as there is room for them, but for those that wait for more where
-    /// `all` is false. Tells whether there was one.
+    /// Passes the accesses on, as far as there is room for them. Those that wait for more are passed on only if `all` is true.
+    /// Gives whether one was passed on.
     pub(crate) fn pass<R: Wait>(
         &mut self,
         rt: &R,
@@ -101,7 +101,7 @@ impl<A: Allocator> OnWay<A> {
     }
 }
 
-/// Passes the accesses on that are on these ways, each to its outlet, as `Way::pass_all` does. Tells how many it passed on.
+/// Passes the accesses of each way on to its outlet, as `Way::pass_all` does. Gives how many it passed on.
 fn pass_each<R: Wait, A: Allocator>(
     rt: &R,
     ways: &mut Vec<Way<A>, A>,
@@ -123,7 +123,7 @@ fn pass_each<R: Wait, A: Allocator>(
     count
 }
 
-/// Has the first so many workers know that a group has ended.
+/// Notes for each of so many workers that a group has ended.
 fn note_end<A: Allocator + Copy>(alloc: A, ways: &mut Vec<Way<A>, A>, workers: u16, group: u16)
     ensures { ways.new.items ≡ ways.old.items }
 {
@@ -132,7 +132,7 @@ fn note_end<A: Allocator + Copy>(alloc: A, ways: &mut Vec<Way<A>, A>, workers: u
     }
 }
 
-/// Has each access be on its way, of a run that is set up so, and of which these have been passed on.
+/// Puts each access on its way. It knows the configuration, and what was pushed to the outlets so far.
 #[derive(Drop)]
 pub(crate) struct Passing<A: Allocator = Global> {
     pub(crate) config: Config,

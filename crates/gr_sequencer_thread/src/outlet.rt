@@ -35,7 +35,7 @@ impl<A: Allocator> Model for Outlet<A> {
     ghost invariant = { λ o. o.seat.queue ≡ (arc_value o.queue).queue };
 }
 
-/// Pushes the word that there are no more accesses, as soon as there is room.
+/// Pushes `Stop` as soon as there is room.
 fn push_stop<R: Wait + Clock, A: Allocator>(
     rt: &R,
     queue: &Arc<WorkQueue<A>, A>,
@@ -56,7 +56,7 @@ fn push_stop<R: Wait + Clock, A: Allocator>(
 }
 
 impl<A: Allocator> Outlet<A> {
-    /// The end of the queue that the seat is of.
+    /// The end of the queue of the seat.
     pub fn new(queue: Arc<WorkQueue<A>, A>, seat: GiverSeat<A>) -> Outlet<A>
         requires { seat.queue ≡ (arc_value queue).queue }
         ensures { result ≡ seat }
@@ -64,7 +64,7 @@ impl<A: Allocator> Outlet<A> {
         Outlet { queue, seat }
     }
 
-    /// Pushes accesses, all at once, or hands them back where there is no room.
+    /// Pushes accesses in one step, or gives them back if there is no room.
     pub(crate) fn push_all<R: Wait>(
         &mut self,
         rt: &R,
@@ -78,12 +78,12 @@ impl<A: Allocator> Outlet<A> {
         self.queue.push_all(rt, &mut self.seat, batch)
     }
 
-    /// A list that held work, if there is one.
+    /// A list that held work before, if there is one.
     pub(crate) fn spare<R: Wait>(&self, rt: &R) -> Option<Vec<Work<A>, A>> {
         self.queue.spares.take(rt)
     }
 
-    /// Pushes the word that there are no more accesses, once there is room.
+    /// Pushes `Stop` as soon as there is room.
     fn stop<R: Wait + Clock>(&mut self, rt: &R)
         requires { IsFalse (is_stopped self.old.pushed) }
         ensures same { (self.new.queue ≡ self.old.queue) × (accesses_in self.new.pushed ≡ accesses_in self.old.pushed) }
@@ -100,7 +100,7 @@ impl<A: Allocator> Outlet<A> {
     }
 }
 
-/// Tells each worker that there are no more accesses.
+/// Pushes `Stop` to each worker.
 pub(crate) fn stop_all<R: Wait + Clock, A: Allocator>(rt: &R, outlets: &mut [Outlet<A>])
     requires { AreOpen outlets.old }
     ensures queues { works_of outlets.new ≡ works_of outlets.old }

@@ -28,8 +28,8 @@ use std::thread::{Promise, PromisedHandle, Threads};
 use std::time::Clock;
 
 /// Takes the events of all intake queues, handles them, and passes their accesses to the workers, until the end of every
-/// group was taken and nothing is left to do; then it tells the workers to stop. Where memory runs out it goes on popping,
-/// and passes nothing more.
+/// group was taken and nothing is left to do. Then it pushes `Stop` to the workers. If memory runs out, it goes on popping,
+/// and takes nothing more.
 fn run<R: Wait + Clock, A: Allocator + Copy, W: Watch>(
     rt: &R,
     alloc: A,
@@ -62,7 +62,7 @@ fn run<R: Wait + Clock, A: Allocator + Copy, W: Watch>(
     unreachable!()
 }
 
-/// Pops events of some intake queue that were pushed together, if there are any.
+/// Pops a batch of some intake queue, if there is one.
 fn pop_any<R: Wait, A: Allocator>(rt: &R, inlets: &mut [Inlet<A>]) -> Option<(u16, Batch<Event, A>)>
     ensures { intakes_of inlets.new ≡ intakes_of inlets.old }
 {
@@ -74,7 +74,7 @@ fn pop_any<R: Wait, A: Allocator>(rt: &R, inlets: &mut [Inlet<A>]) -> Option<(u1
     None
 }
 
-/// Pops the events of so many groups until the end of every one was popped, where memory had run out from the beginning.
+/// Pops the events of so many groups until all their ends were popped. It is for a thread without memory from the start.
 fn pop_all<R: Wait + Clock, A: Allocator, W: Watch>(
     rt: &R,
     inlets: &mut [Inlet<A>],
@@ -101,7 +101,7 @@ fn pop_all<R: Wait + Clock, A: Allocator, W: Watch>(
     unreachable!()
 }
 
-/// What the thread works with, for a launch of which nothing has come.
+/// What the thread works with, before any event has come.
 #[derive(Drop)]
 struct Empty<A: Allocator = Global> {
     sequencer: Sequencer<A>,
@@ -109,7 +109,7 @@ struct Empty<A: Allocator = Global> {
     on_way: OnWay<A>,
 }
 
-/// What the thread works with, for a launch of this shape, of which nothing has come.
+/// What the thread works with, for a launch of this shape, before any event has come.
 ///
 /// # Errors
 /// `Memory`: out of memory.
@@ -152,7 +152,7 @@ fn sequence<R: Wait + Clock, A: Allocator + Copy, W: Watch>(
             run(rt, alloc, feed, watch)
         }
         Err(Memory) => {
-            // The numbers of a configuration are in range.
+            // For the proof: the numbers of the configuration are in range.
             let _ = config.queues();
             pop_all(rt, &mut inlets, shape.groups(), watch);
             stop_all(rt, &mut outlets);
@@ -161,7 +161,7 @@ fn sequence<R: Wait + Clock, A: Allocator + Copy, W: Watch>(
     }
 }
 
-/// What the sequencer's thread promises of its end: its seats stay of their queues.
+/// What the sequencer's thread promises of its end: its seats are still of the same queues.
 #[derive(Drop)]
 struct OfSequencer<A: Allocator = Global>(Snapshot<Begin<A>>);
 
@@ -187,7 +187,7 @@ impl<A: Allocator> Model for SequencerThread<A> {
 }
 
 impl<A: Allocator + Copy + Send + Sync + Drop + 'static> SequencerThread<A> {
-    /// Starts the thread, or `None` where it can't be started.
+    /// Starts the thread, or gives `None` if it can't be started.
     pub fn start<
         R: Threads + Wait + Clock + Copy + Send + 'static,
         W: Watch + Send + Sync + Drop + 'static,

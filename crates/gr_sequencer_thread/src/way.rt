@@ -1,6 +1,6 @@
 //! The accesses on their way to one worker.
 //!
-//! Invariant: what is on its way are accesses alone.
+//! Invariant: no `Stop` is on its way.
 
 ghost use Rattle.std.specs.Prelude.{◌≡◌, ◌++◌, ◌+◌, ◌∷◌, [], IfNone, IfSome, IsFalse, IsTrue, List, OnErr, OnOk, Option, None, Some, length};
 ghost use Rattle.gr_clocks.specs.declared.access.Access.{Access as AnyAccess};
@@ -20,13 +20,13 @@ use std::collections::VecDeque;
 use std::marker::Model;
 use std::sync::Wait;
 
-/// How many lists are kept to be filled.
+/// How many lists are kept at most, to be filled.
 const MOST_LISTS: usize = 16;
 
-/// The accesses on their way to one worker: some are in batches, and the others wait for more. Contracts see the list of them.
+/// The accesses on their way to one worker: some are in batches, and the others wait for more of them. Contracts see the list of all.
 #[derive(Drop)]
 pub(crate) struct Way<A: Allocator = Global> {
-    /// The first batch, where the worker's queue had no room.
+    /// The first batch, if the worker's queue had no room for it.
     refused: Option<Batch<Work<A>, A>>,
     /// The batches after it.
     batches: VecDeque<Batch<Work<A>, A>, A>,
@@ -59,8 +59,8 @@ impl<A: Allocator> Way<A> {
         self.refused.is_none() && self.batches.is_empty() && self.waiting.is_empty()
     }
 
-    /// Passes the first batch on, or those that wait for more where there is no batch and `all` is true. Tells how many accesses it
-    /// passed on: none where there are none, or no room.
+    /// Passes the first batch on; if there is none and `all` is true, the accesses that wait for more. Gives how many accesses it
+    /// passed on: 0 if there are none, or no room.
     fn pass<R: Wait>(&mut self, rt: &R, outlet: &mut Outlet<A>, all: bool) -> usize
         requires open { IsFalse (is_stopped outlet.old.pushed) }
         ensures moved { outlet.new.pushed ++ self.new ≡ outlet.old.pushed ++ self.old }
@@ -87,7 +87,7 @@ impl<A: Allocator> Way<A> {
         }
     }
 
-    /// Passes the batches on, as far as there is room for them, and those that wait for more where `all` is true. Tells how many
+    /// Passes the batches on, as far as there is room for them, and if `all` is true, the accesses that wait for more. Gives how many
     /// accesses it passed on.
     pub(crate) fn pass_all<R: Wait>(&mut self, rt: &R, outlet: &mut Outlet<A>, all: bool) -> usize
         requires open { IsFalse (is_stopped outlet.old.pushed) }
@@ -105,7 +105,7 @@ impl<A: Allocator> Way<A> {
         count
     }
 
-    /// Looks for lists to be filled.
+    /// Takes used lists from the queue, to be filled again.
     fn find_lists<R: Wait>(&mut self, rt: &R, outlet: &Outlet<A>)
         ensures { self.new ≡ self.old }
     {
@@ -117,7 +117,7 @@ impl<A: Allocator> Way<A> {
     }
 }
 
-/// Takes out the first batch, or where there is none those that wait for more, if `all` is true.
+/// Takes out the first batch; if there is none and `all` is true, the accesses that wait for more.
 fn take_first<A: Allocator>(
     refused: &mut Option<Batch<Work<A>, A>>,
     batches: &mut VecDeque<Batch<Work<A>, A>, A>,
@@ -139,7 +139,7 @@ fn take_first<A: Allocator>(
     }
 }
 
-/// Takes out those that wait for more as a batch, with the hint which groups have ended.
+/// Takes out the accesses that wait for more, as a batch with the hint which groups have ended.
 fn take_waiting<A: Allocator>(
     waiting: &mut Outbox<Work<A>, A>,
     ended: &mut Option<Vec<u16, A>>,
@@ -152,10 +152,10 @@ fn take_waiting<A: Allocator>(
     Some(batch.with_ended(ended.take()))
 }
 
-/// Makes a batch of those that wait for more.
+/// Makes a batch of the accesses that wait for more.
 ///
 /// # Errors
-/// `Memory`: out of memory. They are then let go.
+/// `Memory`: out of memory. They are then dropped.
 fn close<A: Allocator>(
     batches: &mut VecDeque<Batch<Work<A>, A>, A>,
     waiting: &mut Outbox<Work<A>, A>,
@@ -171,7 +171,7 @@ fn close<A: Allocator>(
     Ok(())
 }
 
-/// Has those that wait for more be kept in one of these lists, if there is one, and none waits.
+/// Lends one of these lists, if there is one, to the outbox, unless it has a list.
 fn lend<A: Allocator>(lists: &mut VecDeque<Vec<Work<A>, A>, A>, waiting: &mut Outbox<Work<A>, A>)
     ensures { waiting.new ≡ waiting.old }
 {
@@ -194,7 +194,7 @@ impl<A: Allocator + Copy> Way<A> {
         }
     }
 
-    /// Has the worker know, with the next batch, that a group has ended. It is a hint: where there is no memory it is left out.
+    /// Notes that a group has ended, for the worker's next batch. It is a hint: without memory it is left out.
     pub(crate) fn note_end(&mut self, alloc: A, group: u16)
         ensures { self.new ≡ self.old }
     {
@@ -210,7 +210,7 @@ impl<A: Allocator + Copy> Way<A> {
         }
     }
 
-    /// Adds an access after those that are on their way.
+    /// Adds an access after the others.
     ///
     /// # Errors
     /// `Memory`: out of memory.
@@ -224,7 +224,7 @@ impl<A: Allocator + Copy> Way<A> {
         }
     }
 
-    /// Adds an access, where no more fit to those that wait: these are a batch now.
+    /// Adds an access when the waiting ones are full: they become a batch.
     ///
     /// # Errors
     /// `Memory`: out of memory.

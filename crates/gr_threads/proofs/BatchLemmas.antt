@@ -1,4 +1,4 @@
--- What a sender keeps that lets events wait.
+-- What a sender keeps whose events wait.
 use Rattle.std.proofs.Common.{◌≡◌, ℕ, ◌+◌, ◌<◌, ◌≤◌, Bool, true, false, true≢false, List, [], ◌∷◌, ◌++◌, length, Result, Ok, Err, refl, sym, ap, ◌∙◌, subst, arith, append_assoc, append-nil, length-append, IsFalse}
 use Rattle.std.specs.Prelude.{IfErr, OnOk}
 use Rattle.gr_model.specs.declared.event.Event.{Event}
@@ -20,7 +20,7 @@ same_end s w n is = by_cases (is_complete s.sent) refl
     by_cases true ended = ap is_complete (sym (ap (λ (l : List Event). s.sent ++ l) (is.ended ended) ∙ append-nil s.sent))
     by_cases false unended = unended ∙ sym (is.unended unended).after
 
--- an end that may be pushed is pushed
+-- an end that may be pushed, and does not find the queue full, is pushed
 pub ends : {P : Type 0} (r : Result (Unit {0}) SendError) (s : Sending) (cut : Bool) → IsFalse (is_complete s.sent) → IfErr r (λ e. IsRefusalOfEnd s cut e) → IfErr r (λ e. IsFalse (is_full e)) → OnOk r P → P
 ends (Ok x) s cut unended refused never p = p
 ends (Err Closed) s cut unended refused never p = absurd (true≢false (sym refused ∙ unended))

@@ -15,7 +15,7 @@ use Rattle.gr_threads.specs.Senders.{Sending}
 abbrev pub IsSendable : Event → ℕ → Type 0
 IsSendable e items = IsFalse (is_end e) × IsEventOk e items
 
--- the sender is not closed, the event is one of its group, and behind it there is room for the end
+-- the sender is not closed, its group may have the event, and there is room for the end after it
 pub record MaySend (s : Sending) (e : Event) : Type 0 where
   pub unended : IsFalse (is_complete s.sent)
   pub sendable : IsSendable e s.items
@@ -25,7 +25,7 @@ pub record MaySend (s : Sending) (e : Event) : Type 0 where
 abbrev pub WasFull : Sending → Type 0
 WasFull s = Held s.queue.places (λ batches. AgreesWithSeat record { queue = s.queue.queue; group = s.group; items = s.items; pushed = s.sent } (all_of batches))
 
--- why an event was refused: each cause stands where none before it does
+-- why an event was refused: the first cause that applies
 abbrev pub IsSendRefusal : Sending → Event → SendError → Type 0
 IsSendRefusal s e Closed = IsTrue (is_complete s.sent)
 IsSendRefusal s e UnknownItem = IsFalse (is_complete s.sent) × (s.items ≤ e.item)
@@ -52,6 +52,6 @@ is_full (Full x) = true
 abbrev pub IsFull : Sending → Event → SendError → Type 0
 IsFull s e error = (error ≡ Full e) × WasFull s
 
--- why an event is refused, where these are known of a sender: whether it has sent the end, the items of its group, how many records it has sent, and how many the stream may have
-abbrev pub TellsRefusal : Bool → ℕ → ℕ → ℕ → Event → Option SendError → Type 0
-TellsRefusal closed items sent records e refusal = (s : Sending) → closed ≡ is_complete s.sent → items ≡ s.items → sent ≡ length s.sent → records ≡ s.records → MatchOption refusal (MaySend s e) (IsSendRefusal s e)
+-- why an event is refused by a sender of which this is known: whether it has sent the end, the items of its group, how many records it has sent, and how many the stream may have
+abbrev pub IsFirstCause : Bool → ℕ → ℕ → ℕ → Event → Option SendError → Type 0
+IsFirstCause closed items sent records e refusal = (s : Sending) → closed ≡ is_complete s.sent → items ≡ s.items → sent ≡ length s.sent → records ≡ s.records → MatchOption refusal (MaySend s e) (IsSendRefusal s e)

@@ -15,7 +15,7 @@ pub record Sending : Type 0 where
   pub records : ℕ
   pub sent : List Event
 
--- the seat is the group's in the queue, and the group has items; the count and the mark tell of what it pushed, and while the mark is not set there is room for an end
+-- the seat is the group's in the queue, and the group has items; the count and the mark fit what the seat pushed; while the mark is not set, there is room for an end
 pub record IsSender (queue : Room) (seat : Seat) (group items records sent : ℕ) (closed : Bool) : Type 0 where
   pub same_queue : seat.queue ≡ queue.queue
   pub same_group : seat.group ≡ group
@@ -28,14 +28,14 @@ pub record IsSender (queue : Room) (seat : Seat) (group items records sent : ℕ
 
 -- ---- events that are pushed together
 
--- these may be pushed after what was sent: no end is among them, and after them there is room for it
+-- these may be pushed after what was sent: no end is among them, and there is room for it after them
 pub record MayPush (s : Sending) (events : List Event) : Type 0 where
   pub before : IsFalse (is_complete s.sent)
   pub stream : IsPrefix s.items (s.sent ++ events)
   pub after : IsFalse (is_complete (s.sent ++ events))
   pub room : length (s.sent ++ events) < s.records
 
--- what was sent, where these wait
+-- the sender, once these that wait are sent too
 abbrev pub with_waiting : Sending → List Event → Sending
 with_waiting s waiting = record { queue = s.queue; group = s.group; items = s.items; records = s.records; sent = s.sent ++ waiting }
 

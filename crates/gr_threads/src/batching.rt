@@ -1,6 +1,6 @@
-//! A sender that pushes its events together.
+//! A sender that pushes several events in one step.
 //!
-//! Invariant: the events that wait may be pushed after what the sender has sent; none waits once the end was sent.
+//! Invariant: the events that wait may be pushed after what the sender has sent. No event waits once the end was sent.
 
 ghost use Rattle.std.specs.Prelude.{◌≡◌, ◌+◌, [], ◌∷◌, ◌++◌, IfErr, IfOk, OnErr, OnOk, IsTrue, IsFalse};
 ghost use Rattle.gr_model.specs.Events.{end_of};
@@ -19,21 +19,21 @@ use std::sync::Wait;
 use std::thread;
 use std::time::{Clock, Duration};
 
-/// How many events of a sender are to be taken before it lets others catch up.
+/// How many events of a sender may wait to be taken before it lets other threads catch up.
 const GREAT_LEAD: u32 = 16384;
 
-/// For how many microseconds it sleeps before it looks again.
+/// For how many microseconds it then sleeps before it looks again.
 const NAP: u64 = 256;
 
-/// How often it sleeps at most before it goes on.
+/// How often it then sleeps at most.
 const MOST_NAPS: u32 = 64;
 
-/// A sender that lets events wait, and pushes them together. Contracts see it as the sender that has sent all of them.
+/// A sender whose events wait until several are pushed in one step. Contracts see it as a sender that has sent all of them.
 #[derive(Drop)]
 pub struct BatchSender<A: Allocator = Global> {
     sender: Sender<A>,
     waiting: Outbox<Event, A>,
-    // How many records it has sent, with those that wait.
+    // How many records it has sent, counting those that wait.
     sent: u32,
 }
 
@@ -73,7 +73,7 @@ fn push_waiting<R: Wait + Clock, A: Allocator>(
     unreachable!()
 }
 
-/// Has the events that come next wait in a list that was filled before, if there is one.
+/// Lets the next events wait in a list that was used before, if there is one.
 fn find_list<R: Wait, A: Allocator>(rt: &R, sender: &Sender<A>, waiting: &mut Outbox<Event, A>)
     ensures { waiting.new ≡ waiting.old }
 {
@@ -83,7 +83,7 @@ fn find_list<R: Wait, A: Allocator>(rt: &R, sender: &Sender<A>, waiting: &mut Ou
 }
 
 impl<A: Allocator> BatchSender<A> {
-    /// Of a sender that has sent nothing.
+    /// Over a sender that has sent nothing.
     pub fn new(sender: Sender<A>) -> BatchSender<A>
         requires { sender.sent ≡ [] }
         ensures { result ≡ sender }
@@ -104,7 +104,7 @@ impl<A: Allocator> BatchSender<A> {
         }
     }
 
-    /// Sleeps a while, where much of what it sent is to be taken.
+    /// Sleeps a while if many of its events wait to be taken.
     pub fn let_others_catch_up<R: Clock>(&self, rt: &R) {
         let group = self.sender.group();
         let leads = &self.sender.queue().leads;
@@ -162,10 +162,10 @@ impl<A: Allocator> BatchSender<A> {
 }
 
 impl<A: Allocator + Copy> BatchSender<A> {
-    /// Sends an event: it waits until there are some more, or `flush` pushes those that wait.
+    /// Sends an event. It waits until there are more of them, or `flush` is called.
     ///
     /// # Errors
-    /// Those of `Sender::send` but `Full`. The sender is then unchanged.
+    /// Those of `Sender::send` except `Full`. The sender is then unchanged.
     pub fn send_wait<R: Wait + Clock>(
         &mut self,
         rt: &R,

@@ -1,28 +1,28 @@
-//! How a thread that finds nothing to do waits: never in a busy loop for long.
+//! How an idle thread waits: never in a busy loop for long.
 
 use crossbeam_utils::Backoff;
 use std::cell::Cell;
 use std::thread;
 use std::time::{Clock, Duration};
 
-/// For how many microseconds a thread sleeps first that has found nothing to do several times. Each further sleep is twice as
-/// long: one that waits for a thread that is at work sleeps little, and one that waits for somebody outside wakes seldom.
+/// The first sleep of an idle thread, in microseconds. Each further sleep is twice as long. So a thread that waits for a busy
+/// thread sleeps little, and a thread that waits for somebody outside wakes seldom.
 const SHORTEST_NAP: u64 = 16;
 
-/// The longest sleep, in microseconds. A run that is given nothing wakes each of its threads so often, and uses less than a
-/// twentieth of a processor for it.
+/// The longest sleep, in microseconds. Each thread of a run that is given nothing wakes so often. That costs less than a
+/// twentieth of a processor.
 const LONGEST_NAP: u64 = 1024;
 
-/// How long a thread has found nothing to do.
+/// How long a thread has been idle.
 #[derive(Drop)]
 pub struct Idle {
     backoff: Backoff,
-    // For how many microseconds the thread sleeps next.
+    // The next sleep, in microseconds.
     nap: Cell<u64>,
 }
 
 impl Idle {
-    /// Of a thread that has just begun.
+    /// Of a thread that has just started.
     pub fn new() -> Idle {
         Idle {
             backoff: Backoff::new(),
@@ -36,8 +36,7 @@ impl Idle {
         self.nap.set(SHORTEST_NAP);
     }
 
-    /// The thread found nothing to do: it waits, at first for some turns of the processor, then by yielding it, and then
-    /// asleep.
+    /// The thread found nothing to do. It waits: at first it spins, then it yields the processor, then it sleeps.
     pub fn wait<R: Clock>(&self, rt: &R) {
         if self.backoff.is_completed() {
             self.sleep(rt);

@@ -7,7 +7,7 @@ use gr_route::intake::IntakeSeat;
 use std::alloc::{Allocator, Global};
 use std::marker::Model;
 
-/// What is left of a sender that was closed: its seat. Contracts see the seat, whose list is all that was sent, its end
+/// What is left of a sender that was closed: its seat. Contracts see the seat. Its list is all that was sent, with the end
 /// last.
 #[derive(Drop)]
 pub struct Receipt<A: Allocator = Global> {

@@ -1,15 +1,15 @@
 //! The sending end of one work-group's stream.
 //!
-//! Invariant: the seat is the group's, in the sender's queue; the count is the length of what it pushed, and the sender
-//! is closed exactly where that ends in an end; one of the records that the stream may have is kept for the end.
+//! Invariant: the seat is the group's, in the sender's queue. The count is the length of what it pushed. The sender is
+//! closed exactly if that ends in an end. One of the records that the stream may have is kept for the end.
 //!
-//! Contracts don't see what the queue holds: docs/QUEUES.md, "Full and empty", has what `Full` says of it.
+//! Contracts don't see what the queue holds: docs/QUEUES.md, "Full and empty", says what `Full` means.
 
 ghost use Rattle.std.specs.Prelude.{◌≡◌, ◌+◌, ◌<◌, ◌≤◌, [], ◌∷◌, ◌++◌, length, IfOk, IfErr, IfSome, OnOk, OnErr, MatchOption, IsTrue, IsFalse};
 ghost use Rattle.std.specs.Arc.{arc_value};
 ghost use Rattle.gr_model.specs.Events.{IsEventOk, end_of, is_end};
 ghost use Rattle.gr_model.specs.Streams.{is_complete};
-ghost use Rattle.gr_threads.specs.Refusals.{IsFull, IsSendRefusal, IsRefusalOfEnd, MaySend, TellsRefusal, WasFull, is_full};
+ghost use Rattle.gr_threads.specs.Refusals.{IsFull, IsSendRefusal, IsRefusalOfEnd, MaySend, IsFirstCause, WasFull, is_full};
 ghost use Rattle.gr_threads.specs.Senders.{MayPush, with_waiting};
 
 use crate::idle::Idle;
@@ -24,7 +24,7 @@ use std::sync::{Arc, Wait};
 use std::time::Clock;
 use thiserror::Error;
 
-/// Why an event or an end was not sent: the first cause that is there.
+/// Why an event or an end was not sent: the first cause that applies.
 #[derive(Clone, Copy, Debug, PartialEq, Eq, Error)]
 pub enum SendError {
     /// The sender has sent the end.
@@ -33,7 +33,7 @@ pub enum SendError {
     /// The work-group has no such work-item.
     #[error("the work-group has no such work-item")]
     UnknownItem,
-    /// The event is an end, or none that the work-group may have.
+    /// The event is an end, or the work-group may not have it.
     #[error("the work-group may not have this event")]
     BadEvent,
     /// The stream has room for its end alone.
@@ -44,7 +44,7 @@ pub enum SendError {
     Full(Event),
 }
 
-/// Why an event is refused before the queue is asked: the first cause that is there.
+/// Why an event is refused before any push: the first cause that applies.
 pub(crate) fn refusal(
     closed: bool,
     items: u16,
@@ -53,7 +53,7 @@ pub(crate) fn refusal(
     event: &Event,
 ) -> Option<SendError>
     requires { IsFalse closed → sent < records }
-    ensures tells { TellsRefusal closed items sent records event.now result }
+    ensures cause { IsFirstCause closed items sent records event.now result }
     ensures never_full { IfSome result (λ error. IsFalse (is_full error)) }
 {
     if closed {
@@ -111,7 +111,7 @@ impl<A: Allocator> Sender<A> {
         requires records { (0 < records) × (records ≤ MOST_RECORDS) }
         ensures { result ≡ record { queue = arc_value queue; group = group; items = items; records = records; sent = [] } }
     {
-        // A seat's group has work-items, so an end may stand at the first.
+        // For the proof: the group has a work-item, which an end needs.
         let _ = seat.items();
         Sender {
             queue,
@@ -146,8 +146,7 @@ impl<A: Allocator> Sender<A> {
     }
 
     /// Pushes the record that comes next.
-    /// Requires: the end was not sent; the group may have the record; if it is no end, there is room for the end behind
-    /// it.
+    /// Requires: the end was not sent; the group may have the record; if it is no end, there is room for the end after it.
     fn push<R: Wait>(&mut self, rt: &R, event: Event) -> Result<(), SendError>
         requires unended { IsFalse (is_complete self.old.sent) }
         requires good { IsEventOk event self.old.items }
@@ -183,7 +182,8 @@ impl<A: Allocator> Sender<A> {
         self.records
     }
 
-    /// Pushes events together, which may come next.
+    /// Pushes events in one step.
+    /// Requires: they may come next.
     ///
     /// # Errors
     /// The events, only if the queue was full at some moment of the call. The sender is then unchanged.
@@ -215,10 +215,9 @@ impl<A: Allocator> Sender<A> {
     /// Sends an event.
     ///
     /// # Errors
-    /// The first of these that is there: `Closed` if the end was sent; `UnknownItem` if the group has no such item;
-    /// `BadEvent` if the event is an end, or none that the group may have; `StreamFull` if the stream has room for its
-    /// end alone; `Full` with the event, only if the queue was full at some moment of the call. The sender is then
-    /// unchanged.
+    /// The first of these that applies: `Closed` if the end was sent; `UnknownItem` if the group has no such item;
+    /// `BadEvent` if the event is an end, or the group may not have it; `StreamFull` if the stream has room for its end
+    /// alone; `Full` with the event, only if the queue was full at some moment of the call. The sender is then unchanged.
     ///
     /// # Example
     /// ```rust
@@ -263,7 +262,7 @@ impl<A: Allocator> Sender<A> {
     /// Sends an event. While the queue is full, it backs off and tries again.
     ///
     /// # Errors
-    /// Those of `send` but `Full`. The sender is then unchanged.
+    /// Those of `send` except `Full`. The sender is then unchanged.
     pub fn send_wait<R: Wait + Clock>(&mut self, rt: &R, event: Event) -> Result<(), SendError>
         ensures ok { OnOk result (self.new ≡ record self.old { sent = self.old.sent ++ event ∷ [] }) }
         ensures accepted { OnOk result (MaySend self.old event) }

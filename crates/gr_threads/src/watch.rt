@@ -2,10 +2,9 @@
 
 use gr_model::event::Word;
 
-/// Called by the threads of a run, which share it, at the moments that the names say. A call that takes long holds up its
-/// thread.
+/// Called by the threads of a run, which share it, at the moments that the names say. A slow call delays its thread.
 pub trait Watch {
-    /// The sequencer's thread popped a record of the work-group, which the sequencer takes now or later.
+    /// The sequencer's thread popped a record of the work-group. The sequencer takes it now or later.
     fn at_take(&self, group: u16);
 
     /// The worker has an access and is about to apply it.

@@ -1,7 +1,6 @@
 //! A worker, at its start and at its end.
 //!
-//! Invariant of its end: it popped the word that there are no more accesses, and its shadows, where memory never
-//! ran out, stand for all accesses that it popped.
+//! Invariant of its end: it popped `Stop`, and unless memory ran out, its shadows are those of all accesses that it popped.
 
 ghost use Rattle.std.specs.Prelude.{◌≡◌, ◌<◌, ◌++◌, ◌∷◌, [], true, false, IfOk, IfSome, List, MatchOption};
 ghost use Rattle.std.specs.Arc.{arc_value};
@@ -50,7 +49,7 @@ impl<A: Allocator> Model for Worker<A> {
 pub struct WorkerEnd<A: Allocator = Global> {
     queue: Arc<WorkQueue<A>, A>,
     seat: WorkerSeat<A>,
-    // None where memory ran out.
+    // `None` if memory ran out.
     shadows: Option<LaunchShadows<A>>,
 }
 
@@ -70,7 +69,8 @@ impl<A: Allocator> Model for WorkerEnd<A> {
 }
 
 impl<A: Allocator> Worker<A> {
-    /// The worker with a number, over the popping seat of its queue, which has popped nothing.
+    /// The worker with a number, over the popping seat of its queue.
+    /// Requires: the seat has popped nothing.
     pub fn new(number: u16, queue: Arc<WorkQueue<A>, A>, seat: WorkerSeat<A>) -> Worker<A>
         requires queue { seat.queue ≡ (arc_value queue).queue }
         requires fresh { seat.popped ≡ [] }
@@ -84,7 +84,7 @@ impl<A: Allocator> Worker<A> {
     }
 }
 
-/// Gives shadows an access, if memory never ran out before. They are gone where it runs out now.
+/// Applies an access to the shadows, unless memory ran out before. They are lost if it runs out now.
 fn shade<A: Allocator + Copy, W: Watch>(
     shadows: Option<LaunchShadows<A>>,
     number: u16,
@@ -105,7 +105,7 @@ fn shade<A: Allocator + Copy, W: Watch>(
     }
 }
 
-/// The same of work, which may be no access.
+/// Applies work, which may be `Stop`.
 fn shade_work<A: Allocator + Copy, W: Watch>(
     shadows: Option<LaunchShadows<A>>,
     number: u16,
@@ -120,7 +120,7 @@ fn shade_work<A: Allocator + Copy, W: Watch>(
     }
 }
 
-/// The same of the work of a batch.
+/// Applies all work of a batch.
 fn shade_all<A: Allocator + Copy, W: Watch>(
     shadows: Option<LaunchShadows<A>>,
     number: u16,
@@ -139,7 +139,7 @@ fn shade_all<A: Allocator + Copy, W: Watch>(
     shadows
 }
 
-/// Gives up the shadows of the local words of groups that have ended.
+/// Drops the shadows of the local words of groups that have ended.
 fn close_all<A: Allocator + Copy>(shadows: &mut LaunchShadows<A>, ended: &[u16])
     ensures { (accesses : List ClockedAccess) → StandsForLaunch accesses shadows.old → StandsForLaunch accesses shadows.new }
 {
@@ -148,7 +148,7 @@ fn close_all<A: Allocator + Copy>(shadows: &mut LaunchShadows<A>, ended: &[u16])
     }
 }
 
-/// The same of a batch, after which the groups that it says have ended are given up.
+/// Applies all work of a batch, and then drops the shadows of the groups that it reports as ended.
 fn shade_batch<A: Allocator + Copy, W: Watch>(
     shadows: Option<LaunchShadows<A>>,
     number: u16,
@@ -166,7 +166,7 @@ fn shade_batch<A: Allocator + Copy, W: Watch>(
     }
 }
 
-/// Gives the list of a batch back, to be filled again. Its accesses are let go.
+/// Gives the list of a batch back, to be filled again. Its accesses are dropped.
 fn give_back<R: Wait, A: Allocator>(
     rt: &R,
     queue: &Arc<WorkQueue<A>, A>,
@@ -177,8 +177,8 @@ fn give_back<R: Wait, A: Allocator>(
     }
 }
 
-/// Applies the accesses that come through the worker's queue, until it is told to stop. Where memory runs out it goes on
-/// popping, and applies nothing more.
+/// Applies the accesses that come through the worker's queue, until `Stop` comes. If memory runs out, it goes on popping,
+/// and applies nothing more.
 pub fn work<R: Wait + Clock, A: Allocator + Copy, W: Watch>(
     rt: &R,
     alloc: A,
@@ -214,11 +214,10 @@ pub fn work<R: Wait + Clock, A: Allocator + Copy, W: Watch>(
 }
 
 impl<A: Allocator + Copy> WorkerEnd<A> {
-    /// Takes the giver's seat back, and tells the words that are hit in the accesses that it gave, in ascending order, each
-    /// once.
+    /// Takes the giver's seat back. Gives the words that are hit in the accesses that it gave: in ascending order, each once.
     ///
     /// # Errors
-    /// `Memory`, also where memory ran out while the worker worked.
+    /// `Memory`, also if memory ran out while the worker worked.
     pub fn settle(self, giver: GiverSeat<A>) -> Result<Vec<Word, A>, Memory>
         requires { giver.queue ≡ self.queue }
         ensures { IfOk result (λ words. Lists WordBelow (IsHitIn (accesses_in giver.pushed)) words.items) }

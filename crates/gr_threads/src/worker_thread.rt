@@ -12,7 +12,7 @@ use std::thread;
 use std::thread::{Promise, PromisedHandle, Threads};
 use std::time::Clock;
 
-/// What a worker's thread promises of its end: its seat stays of its queue.
+/// What a worker's thread promises of its end: its seat is still of the same queue.
 #[derive(Drop)]
 struct OfWorker<A: Allocator = Global>(Snapshot<Worker<A>>);
 
@@ -37,7 +37,7 @@ impl<A: Allocator> Model for WorkerThread<A> {
 }
 
 impl<A: Allocator + Copy + Send + Sync + Drop + 'static> WorkerThread<A> {
-    /// Starts the worker, or `None` where a thread can't be started.
+    /// Starts the worker, or gives `None` if the thread can't be started.
     pub fn start<
         R: Threads + Wait + Clock + Copy + Send + 'static,
         W: Watch + Send + Sync + Drop + 'static,

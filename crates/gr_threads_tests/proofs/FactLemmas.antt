@@ -1,4 +1,4 @@
--- Words that are hit in what a worker is given.
+-- Words that are hit in the work of a worker.
 use Rattle.std.proofs.Common.{◌≡◌, ◌<◌, List, [], ◌∷◌, length, refl, subst, arith}
 use Rattle.gr_model.specs.declared.event.Word.{Word}
 use Rattle.gr_model.specs.Hits.{ClashesAt}
@@ -9,7 +9,7 @@ use Rattle.gr_route.specs.declared.work.Work.TheVariants.{Access, Stop}
 use Rattle.gr_shadow.specs.Clashes.{ClockedAccess, IsHitIn, clashes, clocked}
 use Rattle.gr_threads.specs.Given.{accesses_in}
 
--- where two accesses are given of which the later one clashes with the earlier one, some word is
+-- if two accesses are given, and the later clashes with the earlier, some word is hit
 pub some_hit : {A : Type 0} (first second : AnyAccess A) (w : Word) (pushed : List (Work A)) (words : List Word) → pushed ≡ Access first ∷ Access second ∷ Stop ∷ [] → ClashesAt (λ (x : ClockedAccess). x.word) clashes w (clocked first) (clocked second) → Lists WordBelow (IsHitIn (accesses_in pushed)) words → 0 < length words
 some_hit first second w pushed words are clash lists =
     let given = subst (λ p. Lists WordBelow (IsHitIn (accesses_in p)) words) are lists in

@@ -1,10 +1,10 @@
--- What of a sender stays as it sends, and is found in its receipt.
+-- What stays the same of a sender while it sends, and in its receipt.
 use Rattle.std.specs.Prelude.{◌≡◌, ◌<◌, List, length}
 use Rattle.gr_route.specs.IntakeSeats.{Seat}
 use Rattle.gr_threads.specs.Senders.{Sending}
 use Rattle.gr_detector.specs.Runs.{AreReceiptsOf, IsOfRun, Run}
 
--- it is of the same group and queue
+-- the sender is of the same group and queue
 pub record IsSameSender (old new : Sending) : Type 0 where
   pub group : new.group ≡ old.group
   pub queue : new.queue ≡ old.queue

@@ -1,4 +1,4 @@
-//! Runs in threads, from their start to their reports, with what a watch sees of them.
+//! Runs in threads, from their start to their reports, and what a watch sees of them.
 
 mod counts;
 mod gates;

@@ -1,4 +1,4 @@
-//! What the contracts alone give for some values, each of which a wrong body would answer otherwise.
+//! Facts that the contracts alone give for some values. A wrong body would give other values.
 
 mod route;
 mod sender;

@@ -1,4 +1,4 @@
-//! Tests alone: queues and senders, runs in threads from their start to their reports, and launches whose streams come from a reader each.
+//! Tests only: queues and senders, runs in threads from their start to their reports, and launches with a reader for each stream.
 #![tactic(auto)]
 
 #[cfg(test)]

@@ -1,4 +1,4 @@
-//! Launches whose streams come from a reader each.
+//! Launches with a reader for each stream.
 
 mod growths;
 mod inputs;

@@ -4,8 +4,8 @@ use gr_detector::Watch;
 use gr_model::event::Word;
 use std::sync::atomic::{AtomicU64, Ordering};
 
-/// Counts what it sees: of groups 0 and 1, of workers 0 and 1, the races, with the sum of their words, and what it should
-/// not see: other groups and workers, local words, and a race of a word that is another worker's of two.
+/// Counts what it sees of groups 0 and 1 and of workers 0 and 1, and the races, with the sum of their words. It also counts what it
+/// should not see: other groups and workers, local words, and a race of a word of the other worker.
 #[derive(Drop)]
 pub struct Counts {
     pub first_takes: AtomicU64,
@@ -18,7 +18,7 @@ pub struct Counts {
 }
 
 impl Counts {
-    /// That has seen nothing.
+    /// Nothing was seen.
     pub fn new() -> Counts {
         Counts {
             first_takes: AtomicU64::new(0),
@@ -45,7 +45,7 @@ impl Counts {
     }
 }
 
-/// The sum of bits that stand for the words 50 to 99, one bit each: a word that came twice or is another makes it differ.
+/// The bit of one of the words 50 to 99. The sum of all bits shows if a word came twice, or another word came.
 fn mark(number: u32) -> Option<u64> {
     if (50..100).contains(&number) {
         Some(1 << (number - 50))

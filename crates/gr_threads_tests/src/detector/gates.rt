@@ -1,14 +1,14 @@
-//! Watches that wait inside a call until something else has happened.
+//! Watches that wait in a call until something else happens.
 
 use gr_detector::Watch;
 use gr_model::event::Word;
 use std::sync::atomic::{AtomicU64, Ordering};
 use std::thread::yield_now;
 
-/// How many turns a test waits at most, each of which yields.
+/// How often a test yields at most while it waits.
 const TURNS: u32 = 10_000_000;
 
-/// Waits until a counter is at least so great. Tells whether it came to that.
+/// Waits until a counter is at least so great. Gives whether it became so great.
 pub fn came(counter: &AtomicU64, least: u64) -> bool {
     for _ in 0..TURNS {
         if counter.load(Ordering::SeqCst) >= least {
@@ -35,7 +35,7 @@ impl Watch for Races {
     }
 }
 
-/// Holds worker 0 at its accesses until worker 1 came to one.
+/// Holds worker 0 at its accesses until worker 1 comes to one.
 #[derive(Drop)]
 pub struct Apart {
     pub seconds: AtomicU64,
@@ -67,7 +67,7 @@ pub struct Turns {
 }
 
 impl Turns {
-    /// Waits until a counter is at least so great, and notes where it does not come to that.
+    /// Waits until a counter is at least so great, and notes if it does not become so great.
     fn wait(&self, counter: &AtomicU64, least: u64) {
         if !came(counter, least) {
             self.missed.fetch_add(1, Ordering::SeqCst);

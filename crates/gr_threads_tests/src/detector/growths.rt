@@ -31,11 +31,11 @@ pub enum Ended {
     NotStarted,
     /// Memory ran out in it.
     Memory,
-    /// A thread was missing, a sender was refused, or `finish` handed all back.
+    /// A thread was missing, a sender was refused, or `finish` gave all back.
     Wrongly,
 }
 
-/// How a run of two work-groups of an item each is set up, with 2 workers and one queue of one place.
+/// The set-up of a run of two work-groups of one item each, with 2 workers and one queue of one place.
 fn plan_two(heap: Heap) -> Result<(Shape<Heap>, Config), Ended> {
     let config = Config::new(2, 1, 1).map_err(|_| Ended::Wrongly)?;
     let sizes = Vec::from_slice(heap, &[1, 1]).map_err(|_| Ended::NotStarted)?;
@@ -78,7 +78,7 @@ fn ended_of<A: Allocator>(error: &FinishError<A>) -> Ended {
     }
 }
 
-/// The report of a run, of which these are the receipts.
+/// The report of a run with these receipts.
 fn finish_two<R: Threads, A: Allocator + Copy>(
     rt: &R,
     running: Running<A>,
@@ -92,7 +92,7 @@ fn finish_two<R: Threads, A: Allocator + Copy>(
     }
 }
 
-/// The report of a run, which has these receipts if its senders were not refused. There is room for the receipts.
+/// The report of a run with these receipts, which are there unless a sender was refused. There is room for them.
 fn report_two<R: Threads, A: Allocator + Copy>(
     rt: &R,
     running: Running<A>,
@@ -111,7 +111,7 @@ fn report_two<R: Threads, A: Allocator + Copy>(
     }
 }
 
-/// Sends with the two senders of a run, on threads of their own. Gives their receipts, where they were not refused.
+/// Sends with the two senders of a run, on threads of their own. Gives their receipts, unless a sender was refused.
 fn send_two<R: Threads + Wait + Clock + Sync>(
     rt: &R,
     running: &Running<Heap>,

@@ -1,11 +1,11 @@
-//! A watch whose end is noted.
+//! A watch that notes its own drop.
 
 use gr_detector::Watch;
 use gr_model::event::Word;
 use std::sync::Arc;
 use std::sync::atomic::{AtomicU64, Ordering};
 
-/// What was seen of a watch: how many records were taken, and how often it was dropped.
+/// How many records a watch saw taken, and how often it was dropped.
 #[derive(Drop)]
 pub struct Notes {
     pub takes: AtomicU64,
@@ -13,7 +13,7 @@ pub struct Notes {
 }
 
 impl Notes {
-    /// Of a watch that has seen nothing.
+    /// Nothing was seen.
     pub fn new() -> Notes {
         Notes {
             takes: AtomicU64::new(0),

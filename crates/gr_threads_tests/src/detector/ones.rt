@@ -1,8 +1,8 @@
-//! Runs of one work-group, by what is sent under a watch.
+//! Runs of one work-group under a watch that says what is sent.
 
 ghost use Rattle.gr_threads_tests.specs.Senders.{IsSender, IsSameSender};
 
-use crate::detector::runs::{Plan, Told, begin_one, told_of_one};
+use crate::detector::runs::{Plan, Summary, begin_one, summary_of_one};
 use crate::detector::senders::close;
 use gr_detector::Watch;
 use gr_detector::running::Running;
@@ -13,17 +13,17 @@ use std::test::Fail;
 use std::thread::Threads;
 use std::time::Clock;
 
-/// A watch, with what is sent under it.
+/// A watch that also says what is sent under it.
 pub trait Sends {
-    /// Sends all but the end. Tells whether all was sent, and what is to be seen meanwhile was seen.
+    /// Sends all but the end. Gives whether all was sent, and the watch saw meanwhile what it should.
     fn send_under<R: Wait + Clock>(&self, rt: &R, sender: &mut Sender) -> bool
         ensures { IsSameSender sender.old sender.new };
 }
 
-/// How a run went: whether all was sent, and seen, and what the report tells.
-pub type Went = (bool, Option<Told>);
+/// How a run went: whether all was sent and seen, and a summary of the report.
+pub type Went = (bool, Option<Summary>);
 
-/// Sends with the sender of a run, closes it, and tells of the report.
+/// Sends with the sender of a run, closes it, and sums up the report.
 fn went<R: Threads + Wait + Clock, W: Sends>(
     rt: &R,
     alloc: Global,
@@ -37,7 +37,7 @@ fn went<R: Threads + Wait + Clock, W: Sends>(
     let mut sender = sender;
     let is_sent = watch.send_under(rt, &mut sender);
     let receipt = close(rt, sender, cut);
-    (is_sent, told_of_one(rt, alloc, running, receipt))
+    (is_sent, summary_of_one(rt, alloc, running, receipt))
 }
 
 /// Runs one sender under a watch, and closes it, as cut or not.

@@ -1,4 +1,4 @@
-//! Runs that are started, and whose reports are taken.
+//! Runs from their start to their report.
 
 ghost use Rattle.std.specs.Prelude.{◌≡◌, All, IfOk, IfSome, OnOk};
 ghost use Rattle.gr_detector.specs.Runs.{AreReceiptsOf};
@@ -19,7 +19,7 @@ use std::test::Fail;
 use std::thread::Threads;
 use std::time::Clock;
 
-/// How a run is set up: the items of each group, the workers, the queues, and the places of each queue.
+/// The set-up of a run: the items of each group, the workers, the queues, and the places of each queue.
 pub type Plan<'a> = (&'a [u16], u16, u16, u32);
 
 /// The shape and the configuration of a plan.
@@ -75,7 +75,7 @@ fn with_one(running: Running, senders: Vec<Sender>) -> Result<(Sender, Running),
     }
 }
 
-/// The last of the senders of a run, or `None` where there is none left.
+/// The last of the senders of a run, or `None` if none is left.
 pub fn pop_last<A: Allocator>(
     running: &Running<A>,
     senders: &mut Vec<Sender<A>, A>,
@@ -87,7 +87,7 @@ pub fn pop_last<A: Allocator>(
     senders.pop()
 }
 
-/// The two senders of a run, or `None` where there are fewer.
+/// The two senders of a run, or `None` if there are fewer.
 pub fn two_of<A: Allocator>(
     running: &Running<A>,
     senders: Vec<Sender<A>, A>,
@@ -142,49 +142,49 @@ pub fn add_both<A: Allocator>(
     add(running, receipts, first)
 }
 
-/// The report of a run, of which these are the receipts, or `None` where there is none.
+/// The report of a run with these receipts, or `None` if there is none.
 pub fn report_of<R: Threads>(rt: &R, running: Running, receipts: Vec<Receipt>) -> Option<Report>
     requires { AreReceiptsOf running receipts.items }
 {
     running.finish(rt, receipts).ok()
 }
 
-/// What the report of a run of one work-group tells: how many records and races there are, and whether the group was cut.
-pub type Told = (u64, usize, bool);
+/// A summary of the report of a run of one work-group: how many records and races there are, and whether the group was cut.
+pub type Summary = (u64, usize, bool);
 
-/// What a report of one work-group tells.
-fn told(report: &Report) -> Told {
+/// The summary of a report of one work-group.
+fn summary(report: &Report) -> Summary {
     let cut = report.cut.as_slice() == [0].as_slice();
     (report.records, report.races.as_slice().len(), cut)
 }
 
-/// What the report of a run of one sender tells, which has this receipt if it was not refused.
-pub fn told_of_one<R: Threads>(
+/// The summary of the report of a run of one sender with this receipt, which is there unless the sender was refused.
+pub fn summary_of_one<R: Threads>(
     rt: &R,
     alloc: Global,
     running: Running,
     receipt: Option<Receipt>,
-) -> Option<Told>
+) -> Option<Summary>
     requires { IfSome receipt (IsReceipt running) }
 {
     let mut receipts = Vec::new(alloc);
     match add(&running, &mut receipts, receipt) {
-        Ok(()) => told_of(rt, running, receipts),
+        Ok(()) => summary_of(rt, running, receipts),
         Err(NotKept) => None,
     }
 }
 
-/// What the report of a run of one sender tells, of which these are the receipts.
-fn told_of<R: Threads>(rt: &R, running: Running, receipts: Vec<Receipt>) -> Option<Told>
+/// The summary of the report of a run of one sender with these receipts.
+fn summary_of<R: Threads>(rt: &R, running: Running, receipts: Vec<Receipt>) -> Option<Summary>
     requires { AreReceiptsOf running receipts.items }
 {
     match report_of(rt, running, receipts) {
-        Some(report) => Some(told(&report)),
+        Some(report) => Some(summary(&report)),
         None => None,
     }
 }
 
-/// The report of a run of two senders, which have these receipts if they were not refused.
+/// The report of a run of two senders with these receipts, which are there unless a sender was refused.
 pub fn report_of_two<R: Threads>(
     rt: &R,
     alloc: Global,
@@ -202,7 +202,7 @@ pub fn report_of_two<R: Threads>(
     }
 }
 
-/// Hands in receipts that are not all. The run and the receipts come back, or `None` where they don't.
+/// Hands in some of the receipts. Gives the run and the receipts that come back, or `None` if they don't.
 pub fn hand_in<R: Threads>(
     rt: &R,
     running: Running,

@@ -23,14 +23,14 @@ pub fn plain(item: u16, kind: Kind, word: u32) -> Event {
     }
 }
 
-/// Sends an event, and waits until there is room. Tells whether it was sent.
+/// Sends an event, and waits until there is room. Gives whether it was sent.
 pub fn sends<R: Wait + Clock, A: Allocator>(rt: &R, sender: &mut Sender<A>, event: Event) -> bool
     ensures { IsSameSender sender.old sender.new }
 {
     sender.send_wait(rt, event).is_ok()
 }
 
-/// Closes a sender that may be open, and gives its receipt.
+/// Closes a sender, and gives its receipt. `None` if it was closed before.
 pub fn close<R: Wait + Clock, A: Allocator>(
     rt: &R,
     sender: Sender<A>,
@@ -43,7 +43,7 @@ pub fn close<R: Wait + Clock, A: Allocator>(
     sender.into_receipt().ok()
 }
 
-/// Sends plain accesses of so many global words by item 0, and the end. `None` where the sender refused one of them.
+/// Sends plain accesses of so many global words by item 0, and the end. `None` if the sender refused one of them.
 pub fn send_all<R: Wait + Clock, A: Allocator>(
     rt: &R,
     sender: Sender<A>,

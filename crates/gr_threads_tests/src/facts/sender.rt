@@ -9,7 +9,7 @@ use gr_threads::sender::{SendError, Sender};
 use std::sync::Wait;
 use std::test::*;
 
-/// An event that a sender takes counts.
+/// A sender counts the event that it takes.
 fn send_of_a_write<R: Wait>(rt: &R, sender: &mut Sender) -> Option<()> {
     let before = sender.sent();
     sender.send(rt, write(16)).ok()?;

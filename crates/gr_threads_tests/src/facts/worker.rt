@@ -46,7 +46,7 @@ fn two_writes(alloc: Global) -> Result<(Access, Access), Fail>
     Ok((write_by(alloc, &shape, 0)?, write_by(alloc, &shape, 1)?))
 }
 
-/// Gives two accesses, and the word that there are no more.
+/// Pushes two accesses and `Stop`.
 fn give<R: Wait>(
     rt: &R,
     queue: &WorkQueue,
@@ -65,7 +65,7 @@ fn give<R: Wait>(
     Some(giver)
 }
 
-/// Two writes of a word of which neither counts the other are a hit.
+/// Two writes of a word are a hit if neither counts the other.
 fn settle_of_two_writes<R: Wait + Clock>(
     rt: &R,
     alloc: Global,
@@ -91,7 +91,7 @@ fn settle_of_two_writes<R: Wait + Clock>(
     }
 }
 
-/// A worker with a queue of its own that is given two writes.
+/// Gives two writes to a worker with a queue of its own.
 fn settle_of_a_worker<R: Wait + Clock>(rt: &R, alloc: Global) -> Result<Option<()>, Fail> {
     let (first, second) = two_writes(alloc)?;
     let (queue, seat) = WorkQueue::new(alloc, 3)?;

@@ -1,5 +1,4 @@
-//! Three senders and a taker, each on a thread of its own, over one queue: of each work-group, what was popped is what
-//! was sent.
+//! Three senders and a taker, each on a thread of its own, over one queue. Of each work-group, what was popped is what was sent.
 
 ghost use Rattle.std.specs.Prelude.{◌≡◌, ◌<◌, ◌≤◌, ◌==◌, ℕ, false, [], slice_index, slice_index_or, slice_set, if◌then◌else◌, IfOk, IfSome, OnOk};
 ghost use Rattle.std.specs.Arc.{arc_value};
@@ -44,8 +43,7 @@ fn send_stream<R: Wait + Clock>(rt: &R, sender: &mut Sender, count: u32) -> Resu
     sender.close_wait(rt, false)
 }
 
-/// Sends writes of the words below a count, and then the end. What is left is the seat, or `None` where the sender refused
-/// one of them.
+/// Sends writes of the words below a count, and then the end. Gives the seat, or `None` if the sender refused one of them.
 fn send_all<R: Wait + Clock>(rt: &R, sender: Sender, count: u32) -> Option<IntakeSeat>
     requires { sender.sent ≡ [] }
     ensures { IfSome result (IsSeatOf sender count) }
@@ -98,7 +96,8 @@ fn take_all<R: Wait>(
     (taker, Ok(all))
 }
 
-/// Joins back the seats of the groups 0 to 2, all of whose events were popped.
+/// Joins back the seats of the groups 0 to 2.
+/// Requires: the end of each group was popped.
 fn join_all(queue: &Intake, taker: &mut TakerSeat, a: IntakeSeat, b: IntakeSeat, c: IntakeSeat)
     requires queue { (taker.old.queue ≡ queue.now.queue) × (a.queue ≡ queue.now.queue) × (b.queue ≡ queue.now.queue) × (c.queue ≡ queue.now.queue) }
     requires groups { (a.group ≡ 0) × (b.group ≡ 1) × (c.group ≡ 2) }
@@ -112,7 +111,8 @@ fn join_all(queue: &Intake, taker: &mut TakerSeat, a: IntakeSeat, b: IntakeSeat,
     queue.join_back(taker, c);
 }
 
-/// An open sender of a group of one item, which has had no seat.
+/// An open sender of a group of one item.
+/// Requires: the group has had no seat.
 fn sender_of(
     queue: &Arc<Intake, Global>,
     taker: &mut TakerSeat,
@@ -131,7 +131,8 @@ fn sender_of(
     Ok(Sender::new(group, 1, MOST_RECORDS as u32, queue, seat))
 }
 
-/// An open sender of each of the groups 0 to 2, each of one item, where no group has had a seat.
+/// An open sender of each of the groups 0 to 2, each of one item.
+/// Requires: no group has had a seat.
 fn senders_of(
     queue: &Arc<Intake, Global>,
     taker: &mut TakerSeat,
@@ -191,8 +192,7 @@ fn run<R: Threads + Wait + Clock + Sync>(
     )
 }
 
-/// Runs three senders of groups 0 to 2 and a taker, joins back the seats, and lists what was popped. `None` where a sender
-/// refused.
+/// Runs three senders of groups 0 to 2 and a taker, joins back the seats, and lists what was popped. `None` if a sender refused.
 fn run_to_end<R: Threads + Wait + Clock + Sync>(
     rt: &R,
     alloc: Global,
@@ -215,7 +215,7 @@ fn run_to_end<R: Threads + Wait + Clock + Sync>(
     Ok(Some(all))
 }
 
-/// Makes three senders over a queue, and runs them and a taker. `None` where a sender refused.
+/// Makes three senders over a queue, and runs them and a taker. `None` if a sender refused.
 fn run_over<R: Threads + Wait + Clock + Sync>(
     rt: &R,
     alloc: Global,
@@ -246,7 +246,7 @@ pub(crate) fn shared_queue(
 }
 
 /// Three senders of groups 0 to 2, each of one item, send the writes of the words below a count and then the end, while a
-/// taker pops until it has the three ends. Of each group, what was popped is what was sent. `None` where a sender refused.
+/// taker pops until it has the three ends. Of each group, what was popped is what was sent. `None` if a sender refused.
 pub fn three_senders<R: Threads + Wait + Clock + Sync>(
     rt: &R,
     alloc: Global,

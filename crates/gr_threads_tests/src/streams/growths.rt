@@ -14,10 +14,10 @@ use std::time::Clock;
 /// A heap that refuses one growth, shared by all threads of a run.
 pub(crate) type Heap = &'static Refusing<Global>;
 
-/// What a run answers, what it has written, and whether its threads have let the watch go.
+/// What a run answers, what it has written, and whether its threads have dropped the watch.
 pub(crate) type Ended = (Result<(), Fault>, Vec<u8>, bool);
 
-/// Readers of streams, each of which is given at once.
+/// Readers of streams. Each gives its whole stream at once.
 fn readers_of(heap: Heap, streams: Vec<Vec<u8>>) -> Option<Vec<Input, Heap>> {
     let mut readers = Vec::with_capacity(heap, streams.len()).ok()?;
     for stream in streams {

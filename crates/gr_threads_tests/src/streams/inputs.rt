@@ -7,10 +7,10 @@ use std::sync::Arc;
 use std::sync::atomic::{AtomicU64, Ordering};
 use std::thread::yield_now;
 
-/// How many turns a test waits at most, each of which yields.
+/// How often a test yields at most while it waits.
 const TURNS: u32 = 10_000_000;
 
-/// Counts races, and the waits for one that were in vain.
+/// Counts races, and the waits for one that failed.
 #[derive(Drop)]
 pub(crate) struct Races {
     pub(crate) seen: AtomicU64,
@@ -18,7 +18,7 @@ pub(crate) struct Races {
 }
 
 impl Races {
-    /// That has seen nothing.
+    /// Nothing was seen.
     pub(crate) fn new() -> Races {
         Races {
             seen: AtomicU64::new(0),
@@ -26,7 +26,7 @@ impl Races {
         }
     }
 
-    /// Waits until a race was seen, and notes where none comes.
+    /// Waits until a race is seen, and notes if none comes.
     fn wait(&self) {
         for _ in 0..TURNS {
             if self.seen.load(Ordering::SeqCst) > 0 {
@@ -48,8 +48,8 @@ impl Watch for Races {
     }
 }
 
-/// Gives its bytes, at most so many at a call, and fails once its calls are used up. It gives the byte at the gate only once a
-/// race was seen.
+/// A reader that gives its bytes, at most so many at a call, and fails after its last call. It gives the byte at the gate only
+/// after a race was seen.
 #[derive(Drop)]
 pub(crate) struct Input {
     pub(crate) bytes: Vec<u8>,
@@ -60,7 +60,7 @@ pub(crate) struct Input {
 }
 
 impl Input {
-    /// That gives all bytes at once.
+    /// A reader that gives all bytes at once.
     pub(crate) fn whole(bytes: Vec<u8>) -> Input {
         Input {
             bytes,
@@ -71,7 +71,7 @@ impl Input {
         }
     }
 
-    /// That gives one byte at a call, and fails at its last call.
+    /// A reader that gives one byte at a call, and fails after so many calls.
     pub(crate) fn failing(bytes: Vec<u8>, calls: usize) -> Input {
         Input {
             bytes,
@@ -82,7 +82,7 @@ impl Input {
         }
     }
 
-    /// That gives one byte at a call, and the one at this place only once a race was seen.
+    /// A reader that gives one byte at a call, and the byte at this place only after a race was seen.
     pub(crate) fn gated(bytes: Vec<u8>, place: usize, races: Arc<Races>) -> Input {
         Input {
             bytes,

@@ -4,7 +4,7 @@ use gr_text::pack;
 use std::alloc::Global;
 use std::test::Fail;
 
-/// A launch: its name, the text of each stream, and the lines of its report behind the first.
+/// A launch: its name, the text of each stream, and the lines of its report after the first.
 pub(crate) type Launch = (&'static str, &'static [&'static str], &'static str);
 
 /// A write and a read of two items.
@@ -14,8 +14,8 @@ pub(crate) const RACE: Launch = (
     "groups 1 items 2 records 3\nrace global 16\nend races 1 diverge 0 unmatched 0 held 0\n",
 );
 
-/// Launches that meet each growth: of what waits, barriers that meet and that diverge, names, words with many accesses, and
-/// each list of a report.
+/// Launches that meet each growth: of events that wait, barriers that meet or diverge, names, words with many accesses, and each
+/// list of a report.
 pub(crate) static LAUNCHES: [Launch; 3] = [
     RACE,
     (
@@ -40,7 +40,7 @@ pub(crate) static LAUNCHES: [Launch; 3] = [
     ),
 ];
 
-/// The bytes of a stream whose text this is.
+/// The bytes of the stream with this text.
 pub(crate) fn packed(alloc: Global, text: &str) -> Result<Vec<u8>, Fail> {
     let mut bytes = Vec::new(alloc);
     match pack(alloc, &mut text.as_bytes(), &mut bytes) {
@@ -49,7 +49,7 @@ pub(crate) fn packed(alloc: Global, text: &str) -> Result<Vec<u8>, Fail> {
     }
 }
 
-/// The bytes of the streams whose texts these are.
+/// The bytes of the streams with these texts.
 pub(crate) fn packed_all(alloc: Global, texts: &[&str]) -> Result<Vec<Vec<u8>>, Fail> {
     let mut streams = Vec::new(alloc);
     for text in texts {
@@ -58,7 +58,7 @@ pub(crate) fn packed_all(alloc: Global, texts: &[&str]) -> Result<Vec<Vec<u8>>, 
     Ok(streams)
 }
 
-/// A text with the first line of a report before these.
+/// The text of a report: its first line, and then these.
 pub(crate) fn report_with(alloc: Global, lines: &str) -> Result<Vec<u8>, Fail> {
     let mut text = "gpurace 1\n".as_bytes().to_vec(alloc)?;
     text.extend_from_slice(lines.as_bytes())?;

@@ -10,7 +10,7 @@ use std::test::Fail;
 use std::thread::Threads;
 use std::time::Clock;
 
-/// How a run is set up: workers, queues, and the places of each queue.
+/// The set-up of a run: workers, queues, and the places of each queue.
 pub(crate) type Plan = (u16, u16, u32);
 
 /// What a run answers, and what it has written.

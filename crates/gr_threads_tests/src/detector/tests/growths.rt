@@ -1,4 +1,4 @@
-//! Each growth of a run is refused in turn: the answer is then want of memory, or the report.
+//! Each growth of a run is refused in turn. The answer is then `Memory`, or the report.
 
 use crate::detector::growths::{Ended, Heap, run_two};
 use crate::detector::notes::{Noted, Notes};
@@ -11,7 +11,7 @@ use std::test::*;
 use std::thread::Threads;
 use std::time::Clock;
 
-/// Whether an answer is the one that is due, where a growth was refused or none was.
+/// Whether an answer is right, after a growth was refused or none was.
 fn is_due(answer: Result<bool, Ended>, refused: bool) -> bool {
     match answer {
         Ok(is_of_two) => is_of_two,
@@ -30,7 +30,7 @@ fn takes_of(answer: Result<bool, Ended>) -> u64 {
 /// What is seen of a run once it is over.
 #[derive(Clone, Copy)]
 struct Seen {
-    /// Whether its report is that of the two senders, or why it has none.
+    /// Whether its report is right, or why it has none.
     answer: Result<bool, Ended>,
     /// Whether a growth was refused.
     refused: bool,
@@ -40,7 +40,7 @@ struct Seen {
     drops: u64,
 }
 
-/// Runs the two senders. Tells whether the report is theirs, or why there is none.
+/// Runs the two senders. Gives whether the report is right, or why there is none.
 fn answer_of<R: Threads + Wait + Clock + Copy + Send + Sync + 'static>(
     rt: R,
     heap: Heap,

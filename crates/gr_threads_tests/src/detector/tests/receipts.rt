@@ -1,4 +1,4 @@
-//! Receipts that are not all, and what a sender refuses.
+//! Receipts that are handed in before all are there, and a cut stream.
 
 ghost use Rattle.std.specs.Prelude.{All, IfSome};
 ghost use Rattle.gr_detector.specs.Runs.{AreReceiptsOf};
@@ -18,7 +18,7 @@ use std::test::*;
 use std::thread::Threads;
 use std::time::Clock;
 
-/// How many records a run has once its last receipt is there too, and how many receipts there were before.
+/// How many receipts a run has without the last, and how many records with it.
 fn with_last<R: Threads>(
     rt: &R,
     running: Running,
@@ -36,7 +36,7 @@ fn with_last<R: Threads>(
     }
 }
 
-/// How many records a run has of which these are the receipts, and how many receipts there were before.
+/// How many records a run with these receipts has, beside this number of receipts.
 fn records_of<R: Threads>(
     rt: &R,
     running: Running,
@@ -51,7 +51,7 @@ fn records_of<R: Threads>(
     }
 }
 
-/// Hands in some receipts and, once these came back, the last one too. How many came back, and how many records there are.
+/// Hands in some receipts and, after they came back, the last one too. Gives how many came back, and how many records there are.
 fn hand_in_apart<R: Threads>(
     rt: &R,
     running: Running,
@@ -67,7 +67,7 @@ fn hand_in_apart<R: Threads>(
     }
 }
 
-/// Hands in the second of two receipts and, once it came back, both. How many came back, and how many records there are.
+/// Hands in the second of two receipts and, after it came back, both. Gives how many came back, and how many records there are.
 fn hand_in_two<R: Threads>(
     rt: &R,
     alloc: Global,
@@ -128,7 +128,7 @@ impl Sends for NoWatch {
 }
 
 #[test]
-fn a_cut_stream_is_told(rt: HostRuntime) -> Result<(), Fail> {
+fn a_cut_stream_is_reported(rt: HostRuntime) -> Result<(), Fail> {
     let watch = Arc::new(rt.alloc(), NoWatch)?;
     let went = run_one(rt, rt.alloc(), (&[2], 1, 1, 1), &watch, true)?;
     assert_eq!(rt; went, (true, Some((2, 0, true))));

@@ -16,7 +16,7 @@ use std::test::*;
 use std::thread::Threads;
 use std::time::Clock;
 
-/// The words of the races of a report are the global words 50 to 99.
+/// Whether the words of the races of a report are the global words 50 to 99.
 fn names_the_shared_words<A: Allocator>(report: &Report<A>) -> bool {
     let races = report.races.as_slice();
     races.len() == 50
@@ -52,7 +52,7 @@ fn report_of_both<R: Threads + Wait + Clock + Sync>(
     }
 }
 
-/// Starts a run of the two senders under a watch, and runs them. Tells whether the report is theirs.
+/// Starts a run of the two senders under a watch, and runs them. Gives whether the report is right.
 fn is_reported_under<R: Threads + Wait + Clock + Copy + Send + Sync + 'static>(
     rt: R,
     alloc: Global,

@@ -1,4 +1,4 @@
-//! What is done while streams are still open, and by whom.
+//! What each thread does while streams are still open.
 
 ghost use Rattle.gr_threads_tests.specs.Senders.{IsSameSender};
 
@@ -13,7 +13,7 @@ use std::test::*;
 use std::time::Clock;
 
 impl Sends for Races {
-    /// Sends a write and a read of a word by two items. Tells whether both were sent, and their race was seen.
+    /// Sends a write and a read of a word by two items. Gives whether both were sent, and their race was seen.
     fn send_under<R: Wait + Clock>(&self, rt: &R, sender: &mut Sender) -> bool {
         sends(rt, sender, plain(0, Kind::Write, 16))
             && sends(rt, sender, plain(1, Kind::Read, 16))
@@ -33,7 +33,7 @@ fn a_race_is_seen_before_any_stream_ends(rt: HostRuntime) -> Result<(), Fail> {
 }
 
 impl Sends for Apart {
-    /// Sends writes of two words. Tells whether both were sent.
+    /// Sends writes of two words. Gives whether both were sent.
     fn send_under<R: Wait + Clock>(&self, rt: &R, sender: &mut Sender) -> bool {
         sends(rt, sender, plain(0, Kind::Write, 16)) && sends(rt, sender, plain(0, Kind::Write, 17))
     }
@@ -57,8 +57,8 @@ fn two_workers_are_at_work_at_once(rt: HostRuntime) -> Result<(), Fail> {
 }
 
 impl Sends for Turns {
-    /// Sends writes of two words, the second one only after the first was accessed. Tells whether it came to that, and
-    /// both were sent.
+    /// Sends writes of two words, the second only after the first was accessed. Gives whether both were sent, and that access was
+    /// seen.
     fn send_under<R: Wait + Clock>(&self, rt: &R, sender: &mut Sender) -> bool {
         if !sends(rt, sender, plain(0, Kind::Write, 16)) {
             return false;

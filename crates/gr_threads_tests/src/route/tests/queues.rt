@@ -17,8 +17,8 @@ use std::alloc::{Allocator, Global};
 use std::sync::Wait;
 use std::test::*;
 
-/// What comes back of the second of two pushes into an empty queue of one place, and what two pops then give; `None` where
-/// the first push is refused.
+/// Pushes twice into an empty queue of one place, and pops twice. Gives what the second push gives back, and what was popped;
+/// `None` if the first push is refused.
 fn pushed_and_popped<R: Wait, A: Allocator + Copy>(
     rt: &R,
     queue: &Intake<A>,
@@ -42,15 +42,15 @@ fn pushed_and_popped<R: Wait, A: Allocator + Copy>(
     Some((back, [first, second]))
 }
 
-/// What a queue of one place gives: of a seat the group and the items, what `pushed_and_popped` tells, and whether the group
-/// is refused a seat while it has one and after that was joined back.
+/// What a queue of one place gives: a seat's group and items, the answer of `pushed_and_popped`, and whether a second seat of
+/// the group is refused, before and after the first is joined back.
 type IntakeAnswers = (
     (u16, u16),
     Option<(Option<Event>, [Option<Sent>; 2])>,
     [bool; 2],
 );
 
-/// What an empty queue of one place gives; `None` where the first split is refused.
+/// What an empty queue of one place gives; `None` if the first split is refused.
 fn split_push_and_join<R: Wait, A: Allocator + Copy>(
     rt: &R,
     queue: &Intake<A>,
@@ -66,7 +66,7 @@ fn split_push_and_join<R: Wait, A: Allocator + Copy>(
     Some((of, seen, [refused, queue.split(taker, 5, 2).is_none()]))
 }
 
-/// What a queue of one place gives; `None` where the first split is refused.
+/// What a queue of one place gives; `None` if the first split is refused.
 fn intake_answers<R: Wait, A: Allocator + Copy>(
     rt: &R,
     alloc: A,
@@ -115,7 +115,7 @@ fn word_of<A: Allocator>(work: &Work<A>) -> Option<Word> {
     }
 }
 
-/// Pops, and tells the word of what was popped.
+/// Pops, and gives the word of what was popped.
 fn pop_word<R: Wait, A: Allocator + Copy>(
     rt: &R,
     queue: &WorkQueue<A>,
@@ -130,7 +130,7 @@ fn pop_word<R: Wait, A: Allocator + Copy>(
     }
 }
 
-/// Pushes work, and tells the word of what comes back; `None` where nothing does.
+/// Pushes work, and gives the word of what comes back; `None` if nothing does.
 fn push_word<R: Wait, A: Allocator + Copy>(
     rt: &R,
     queue: &WorkQueue<A>,
@@ -148,8 +148,8 @@ fn push_word<R: Wait, A: Allocator + Copy>(
     }
 }
 
-/// Pushes an access and, into the full queue, the word that there are no more, and pops twice; then pushes that word again,
-/// and pops it. Tells the words of what was popped, or `None` where a push was not answered as it is due.
+/// Pushes an access and, into the full queue, `Stop`, and pops twice. Then pushes `Stop` again, and pops it. Gives the words of
+/// what was popped, or `None` if a push gave a wrong answer.
 fn through_one_place<R: Wait, A: Allocator + Copy>(
     rt: &R,
     queue: &WorkQueue<A>,
@@ -178,11 +178,11 @@ fn through_one_place<R: Wait, A: Allocator + Copy>(
     Some([first, second, last])
 }
 
-/// What a work queue of one place gives: what `through_one_place` tells, and whether a seat is refused while there is one and
-/// after that was joined back.
+/// What a work queue of one place gives: the answer of `through_one_place`, and whether a second seat is refused, before and
+/// after the first is joined back.
 type WorkAnswers = (Option<[Option<Option<Word>>; 3]>, [bool; 2]);
 
-/// What an empty queue of one place gives; `None` where the first split is refused.
+/// What an empty queue of one place gives; `None` if the first split is refused.
 fn split_give_and_join<R: Wait, A: Allocator + Copy>(
     rt: &R,
     queue: &WorkQueue<A>,
@@ -199,7 +199,7 @@ fn split_give_and_join<R: Wait, A: Allocator + Copy>(
     Some((popped, [refused, queue.split(worker).is_none()]))
 }
 
-/// What an empty queue of one place gives where the access is a write; `None` where the first split is refused.
+/// What an empty queue of one place gives for a write; `None` if the first split is refused.
 fn give_write<R: Wait, A: Allocator + Copy>(
     rt: &R,
     alloc: A,
@@ -212,7 +212,7 @@ fn give_write<R: Wait, A: Allocator + Copy>(
     Ok(split_give_and_join(rt, queue, worker, access))
 }
 
-/// What a queue of one place gives; `None` where the first split is refused.
+/// What a queue of one place gives; `None` if the first split is refused.
 fn work_answers<R: Wait, A: Allocator + Copy>(
     rt: &R,
     alloc: A,

@@ -1,4 +1,4 @@
-//! What a sender answers where its queue is full.
+//! What a sender answers when its queue is full.
 
 ghost use Rattle.std.specs.Prelude.{◌≡◌, [], IfOk};
 ghost use Rattle.std.specs.Arc.{arc_value};
@@ -11,7 +11,7 @@ use std::alloc::Global;
 use std::sync::{Arc, Wait};
 use std::test::*;
 
-/// A sender of group 0, of one item, over a queue whose group 0 has had no seat.
+/// A sender of group 0, of one item, over a queue. Group 0 has had no seat of it.
 fn sender_over(queue: &Arc<Intake, Global>, taker: &mut TakerSeat) -> Result<Sender, Fail>
     requires { taker.old.queue ≡ (arc_value queue.now).queue }
     ensures { IfOk result (λ sender. (sender.sent ≡ []) × (taker.new.queue ≡ (arc_value queue.now).queue)) }
@@ -35,7 +35,7 @@ type Answer = Result<(), SendError>;
 /// A sender's group, how many records it has sent, and whether it has sent the end.
 type State = (u16, u32, bool);
 
-/// What a sender tells of itself.
+/// The state of a sender.
 fn state_of(sender: &Sender) -> State {
     (sender.group(), sender.sent(), sender.is_closed())
 }
@@ -47,10 +47,10 @@ fn fill<R: Wait>(rt: &R, sender: &mut Sender) -> [Answer; 3] {
     [first, second, sender.close(rt, false)]
 }
 
-/// A sender's four answers, its state behind the third and the last of them, and whether an event was popped between these.
+/// A sender's four answers, its state after the third and after the last, and whether an event was popped in between.
 type Filled = ([Answer; 4], [State; 2], bool);
 
-/// What a sender of its own tells over a queue, before and after an event is popped.
+/// What a new sender over a queue answers, before and after an event is popped.
 fn fill_and_pop<R: Wait>(
     rt: &R,
     queue: &Arc<Intake, Global>,
@@ -67,7 +67,7 @@ fn fill_and_pop<R: Wait>(
     Ok(([first, second, full, end], states, popped))
 }
 
-/// What a sender tells over a queue of one place, before and after an event is popped.
+/// What a sender over a queue of one place answers, before and after an event is popped.
 fn fill_one_place<R: Wait>(rt: &R, alloc: Global) -> Result<Filled, Fail> {
     let (queue, mut taker) = shared_queue(alloc, 1)?;
     fill_and_pop(rt, &queue, &mut taker)

@@ -13,7 +13,7 @@ use std::test::*;
 use std::thread::Threads;
 use std::time::Clock;
 
-/// Runs over the race, whose reader fails after so many calls.
+/// Runs over the race, with a reader that fails after so many calls.
 fn run_calls<R: Threads + Wait + Clock + Copy + Send + 'static>(
     rt: R,
     alloc: Global,
@@ -36,7 +36,7 @@ fn is_read<R: Threads + Wait + Clock + Copy + Send + 'static>(
     Ok(is_accepted(&outcome, &report_with(alloc, lines)?))
 }
 
-/// Whether a reader that fails after so many calls is told, and nothing is written.
+/// Whether the fault of a reader that fails after so many calls is reported, and nothing is written.
 fn fails_to_read<R: Threads + Wait + Clock + Copy + Send + 'static>(
     rt: R,
     alloc: Global,
@@ -58,7 +58,7 @@ fn a_reader_that_fails_is_a_read_fault(rt: HostRuntime) -> Result<(), Fail> {
     Ok(())
 }
 
-/// Runs over the race, and gives the fault, if it is told of one.
+/// Runs over the race, and gives the fault, if there is one.
 fn fault_of<R: Threads + Wait + Clock + Copy + Send + 'static>(
     rt: R,
     alloc: Global,
@@ -71,7 +71,7 @@ fn fault_of<R: Threads + Wait + Clock + Copy + Send + 'static>(
     Ok(run_streams(rt, alloc, inputs, config, watch, output).err())
 }
 
-/// Whether a writer that takes so many bytes, and no flush, is told, and has as many bytes of the report.
+/// Whether the fault of a writer that takes so many bytes, and no flush, is reported, and it has as many bytes of the report.
 fn fails_to_write<R: Threads + Wait + Clock + Copy + Send + 'static>(
     rt: R,
     alloc: Global,

@@ -1,4 +1,4 @@
-//! Each growth is refused in turn: the answer is then want of memory, or what is due.
+//! Each growth is refused in turn. The answer is then `Memory`, or the right one.
 
 use crate::streams::growths::{Heap, run_on};
 use crate::streams::launches::{LAUNCHES, packed_all, report_with};
@@ -11,7 +11,7 @@ use std::test::*;
 use std::thread::Threads;
 use std::time::Clock;
 
-/// Refuses each growth in turn, until none is refused; the first whose answer is wrong, if there is one.
+/// Refuses each growth in turn, until none is refused. Gives the first whose answer is wrong, if there is one.
 fn first_wrong_growth<R: Threads + Wait + Clock + Copy + Send + 'static>(
     rt: R,
     alloc: Global,
@@ -46,8 +46,8 @@ fn copies_of(alloc: Global, streams: &[Vec<u8>]) -> Result<Vec<Vec<u8>>, Fail> {
     Ok(copies)
 }
 
-/// Whether each refused growth of a launch, whose report has these lines, is want of memory.
-fn are_growths_told<R: Threads + Wait + Clock + Copy + Send + 'static>(
+/// Whether each refused growth of a launch gives `Memory`, and the report has these lines if none is refused.
+fn are_growths_reported<R: Threads + Wait + Clock + Copy + Send + 'static>(
     rt: R,
     alloc: Global,
     texts: &[&str],
@@ -62,7 +62,10 @@ fn are_growths_told<R: Threads + Wait + Clock + Copy + Send + 'static>(
 #[test]
 fn each_refused_growth_is_want_of_memory(rt: HostRuntime) -> Result<(), Fail> {
     for &(name, texts, lines) in &LAUNCHES {
-        assert!(rt; are_growths_told(rt, rt.alloc(), texts, lines)?, "{name}");
+        assert!(rt;
+            are_growths_reported(rt, rt.alloc(), texts, lines)?,
+            "{name}"
+        );
     }
     Ok(())
 }

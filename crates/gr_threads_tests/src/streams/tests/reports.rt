@@ -1,4 +1,4 @@
-//! What is written while a stream is still to come.
+//! What is seen while a stream is still being read.
 
 use crate::streams::inputs::{Input, Races};
 use crate::streams::launches::{RACE, packed, report_with};
@@ -11,7 +11,7 @@ use std::test::*;
 use std::thread::Threads;
 use std::time::Clock;
 
-/// The race's stream, whose end is given only once a race was seen.
+/// The race's stream. Its end is given only after a race was seen.
 fn gated_inputs(alloc: Global, races: &Arc<Races>) -> Result<Vec<Input>, Fail> {
     let (_, texts, _) = RACE;
     let bytes = packed(alloc, texts[0])?;
@@ -20,7 +20,7 @@ fn gated_inputs(alloc: Global, races: &Arc<Races>) -> Result<Vec<Input>, Fail> {
     Ok(inputs)
 }
 
-/// Whether a run over them is accepted, and writes the report of the race.
+/// Whether a run over `gated_inputs` is accepted, and writes the report of the race.
 fn is_gated_race_reported<R: Threads + Wait + Clock + Copy + Send + 'static>(
     rt: R,
     alloc: Global,

@@ -20,15 +20,15 @@ take_round-requires-clause-along g c =
 pub invariant_of-self : goal.invariant_of-self
 invariant_of-self g c =
     let good = c.self.invariant.good c.if-self.false in
-    let told = c.in-Ok.ensures in
+    let took = c.in-Ok.ensures in
     let was = c.self.inside.backlogs.items in
     let now = c.take_round.new.sources in
     let slice = c.as_mut_slice.ensures.value in
-    let come = told.come ∙ ap (come_in c.self.inside.sequencer.taken) slice in
-    let popped = popped_moves c.self.inside.config c.self.inside.sequencer.taken was c.self.inside.inlets.items good.popped c.take_round.new.sequencer.taken now come told.sizes in
-    let passed = subst (λ o. IsAlong (AreSplit c.self.inside.config.workers (given_of o.items)) c.take_round.new.sequencer c.take_round.new.kept) c.of.ensures told.along in
+    let come = took.come ∙ ap (come_in c.self.inside.sequencer.taken) slice in
+    let popped = popped_moves c.self.inside.config c.self.inside.sequencer.taken was c.self.inside.inlets.items good.popped c.take_round.new.sequencer.taken now come took.sizes in
+    let passed = subst (λ o. IsAlong (AreSplit c.self.inside.config.workers (given_of o.items)) c.take_round.new.sequencer c.take_round.new.kept) c.of.ensures took.along in
     rw (c.look_at-left.ensures, whole_back _ _ _ now slice c.as_mut_slice.ensures.len c.take_round.auto.sources)
-    (taken_feed _ c.self.invariant _ _ _ _ (c.take_round.auto.sources ∙ ap length slice) (λ _. record { same = told.sizes ∙ good.same; sequence = told.sequence; popped = popped; passed = passed }))
+    (taken_feed _ c.self.invariant _ _ _ _ (c.take_round.auto.sources ∙ ap length slice) (λ _. record { same = took.sizes ∙ good.same; sequence = took.sequence; popped = popped; passed = passed }))
 
 pub invariant_of-self-in-Err : goal.invariant_of-self-in-Err
 invariant_of-self-in-Err g c =

@@ -7,4 +7,4 @@ pub push-requires-clause-good : goal.push-requires-clause-good
 push-requires-clause-good g c =
     let view = c.self.view_is in
     let is = c.self.invariant in
-    (c.in-None.ensures.tells c.args.self.now (is.mark ∙ ap (λ (s : Sending). is_complete s.sent) view) (ap (λ (s : Sending). s.items) view) (is.count ∙ ap (λ (s : Sending). length s.sent) view) (ap (λ (s : Sending). s.records) view)).sendable.1
+    (c.in-None.ensures.cause c.args.self.now (is.mark ∙ ap (λ (s : Sending). is_complete s.sent) view) (ap (λ (s : Sending). s.items) view) (is.count ∙ ap (λ (s : Sending). length s.sent) view) (ap (λ (s : Sending). s.records) view)).sendable.1
