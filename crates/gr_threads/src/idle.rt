@@ -38,15 +38,10 @@ impl Idle {
 
     /// The thread found nothing to do. It waits: at first it spins, then it yields the processor, then it sleeps.
     pub fn wait<R: Clock>(&self, rt: &R) {
-        if self.backoff.is_completed() {
-            self.sleep(rt);
-        } else {
+        if !self.backoff.is_completed() {
             self.backoff.snooze();
+            return;
         }
-    }
-
-    /// Sleeps, and longer the next time.
-    fn sleep<R: Clock>(&self, rt: &R) {
         let nap = self.nap.get();
         thread::sleep(rt, Duration::from_micros(nap));
         self.nap.set(nap.saturating_mul(2).min(LONGEST_NAP));

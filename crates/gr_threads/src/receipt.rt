@@ -12,11 +12,10 @@ use std::marker::Model;
 #[derive(Drop)]
 pub struct Receipt<A: Allocator = Global> {
     seat: IntakeSeat<A>,
-    group: u16,
 }
 
 impl<A: Allocator> Model for Receipt<A> {
-    ghost use Rattle.std.specs.Prelude.{◌≡◌, IsTrue};
+    ghost use Rattle.std.specs.Prelude.{IsTrue};
     ghost use Rattle.gr_model.specs.Streams.{is_complete};
     ghost use Rattle.gr_route.specs.IntakeSeats.{Seat};
 
@@ -24,25 +23,23 @@ impl<A: Allocator> Model for Receipt<A> {
 
     ghost view = { λ r. r.seat };
 
-    ghost invariant = { λ r. (r.seat.group ≡ r.group) × IsTrue (is_complete r.seat.pushed) };
+    ghost invariant = { λ r. IsTrue (is_complete r.seat.pushed) };
 }
 
 impl<A: Allocator> Receipt<A> {
-    /// The receipt of a group's seat.
-    /// Requires: the seat is the group's, and it has pushed the end.
-    pub(crate) fn of(group: u16, seat: IntakeSeat<A>) -> Receipt<A>
-        requires group { seat.group ≡ group }
-        requires ended { IsTrue (is_complete seat.pushed) }
+    /// The receipt of a seat that has pushed the end.
+    pub(crate) fn of(seat: IntakeSeat<A>) -> Receipt<A>
+        requires { IsTrue (is_complete seat.pushed) }
         ensures { result ≡ seat }
     {
-        Receipt { seat, group }
+        Receipt { seat }
     }
 
     /// The number of the work-group whose stream was sent.
     pub fn group(&self) -> u16
         ensures { result ≡ self.now.group }
     {
-        self.group
+        self.seat.group()
     }
 
     /// The seat, which can be joined back into the taker's.
@@ -50,7 +47,6 @@ impl<A: Allocator> Receipt<A> {
         ensures seat { result ≡ self }
         ensures ended { IsTrue (is_complete result.pushed) }
     {
-        let Receipt { seat, group: _ } = self;
-        seat
+        self.seat
     }
 }

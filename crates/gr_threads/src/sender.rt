@@ -315,15 +315,6 @@ impl<A: Allocator> Sender<A> {
         if !self.closed {
             return Err(self);
         }
-        let Sender {
-            queue: _,
-            seat,
-            group,
-            items: _,
-            records: _,
-            sent: _,
-            closed: _,
-        } = self;
-        Ok(Receipt::of(group, seat))
+        Ok(Receipt::of(self.seat))
     }
 }

@@ -4,7 +4,7 @@
 
 ghost use Rattle.std.specs.Prelude.{◌≡◌, ◌<◌, ◌++◌, ◌∷◌, [], true, false, IfOk, IfSome, List, MatchOption};
 ghost use Rattle.std.specs.Arc.{arc_value};
-ghost use Rattle.gr_clocks.specs.ClockedAccess.{ClockedAccess, clocked};
+ghost use Rattle.gr_clocks.specs.ClockedAccess.{ClockedAccess};
 ghost use Rattle.gr_model.specs.Reports.{Lists, WordBelow};
 ghost use Rattle.gr_shadow.specs.Clashes.{IsHitIn};
 ghost use Rattle.gr_shadow.specs.Launches.{StandsForLaunch};
@@ -13,7 +13,6 @@ ghost use Rattle.gr_threads.specs.Given.{accesses_in};
 
 use crate::idle::Idle;
 use crate::watch::Watch;
-use gr_clocks::access::Access;
 use gr_model::event::Word;
 use gr_model::memory::Memory;
 use gr_route::batch::Batch;
@@ -84,15 +83,18 @@ impl<A: Allocator> Worker<A> {
     }
 }
 
-/// Applies an access to the shadows, unless memory ran out before. They are lost if it runs out now.
+/// Applies work to the shadows, unless memory ran out before. They are lost if it runs out now.
 fn shade<A: Allocator + Copy, W: Watch>(
     shadows: Option<LaunchShadows<A>>,
     number: u16,
-    access: &Access<A>,
+    work: &Work<A>,
     watch: &Arc<W, A>,
 ) -> Option<LaunchShadows<A>>
-    ensures { (accesses : List ClockedAccess) → IfSome shadows (StandsForLaunch accesses) → IfSome result (StandsForLaunch (accesses ++ clocked access.now ∷ [])) }
+    ensures { (accesses : List ClockedAccess) → IfSome shadows (StandsForLaunch accesses) → IfSome result (StandsForLaunch (accesses ++ accesses_in (work.now ∷ []))) }
 {
+    let Work::Access(access) = work else {
+        return shadows;
+    };
     let mut shadows = shadows?;
     watch.at_access(number);
     match shadows.apply(access) {
@@ -102,21 +104,6 @@ fn shade<A: Allocator + Copy, W: Watch>(
             Some(shadows)
         }
         Err(Memory) => None,
-    }
-}
-
-/// Applies work, which may be `Stop`.
-fn shade_work<A: Allocator + Copy, W: Watch>(
-    shadows: Option<LaunchShadows<A>>,
-    number: u16,
-    work: &Work<A>,
-    watch: &Arc<W, A>,
-) -> Option<LaunchShadows<A>>
-    ensures { (accesses : List ClockedAccess) → IfSome shadows (StandsForLaunch accesses) → IfSome result (StandsForLaunch (accesses ++ accesses_in (work.now ∷ []))) }
-{
-    match work {
-        Work::Access(access) => shade(shadows, number, access, watch),
-        Work::Stop => shadows,
     }
 }
 
@@ -132,23 +119,14 @@ fn shade_all<A: Allocator + Copy, W: Watch>(
     let mut shadows = shadows;
     for place in 0..batch.len() {
         match batch.get(place) {
-            Some(work) => shadows = shade_work(shadows, number, work, watch),
+            Some(work) => shadows = shade(shadows, number, work, watch),
             None => unreachable!(),
         }
     }
     shadows
 }
 
-/// Drops the shadows of the local words of groups that have ended.
-fn close_all<A: Allocator + Copy>(shadows: &mut LaunchShadows<A>, ended: &[u16])
-    ensures { (accesses : List ClockedAccess) → StandsForLaunch accesses shadows.old → StandsForLaunch accesses shadows.new }
-{
-    for group in ended {
-        shadows.close(*group);
-    }
-}
-
-/// Applies all work of a batch, and then drops the shadows of the groups that it reports as ended.
+/// Applies all work of a batch, and then drops the shadows of the local words of the groups that it reports as ended.
 fn shade_batch<A: Allocator + Copy, W: Watch>(
     shadows: Option<LaunchShadows<A>>,
     number: u16,
@@ -157,13 +135,11 @@ fn shade_batch<A: Allocator + Copy, W: Watch>(
 ) -> Option<LaunchShadows<A>>
     ensures { (accesses : List ClockedAccess) → IfSome shadows (StandsForLaunch accesses) → IfSome result (StandsForLaunch (accesses ++ accesses_in batch.now)) }
 {
-    match shade_all(shadows, number, batch, watch) {
-        None => None,
-        Some(mut shadows) => {
-            close_all(&mut shadows, batch.ended());
-            Some(shadows)
-        }
+    let mut shadows = shade_all(shadows, number, batch, watch)?;
+    for group in batch.ended() {
+        shadows.close(*group);
     }
+    Some(shadows)
 }
 
 /// Gives the list of a batch back, to be filled again. Its accesses are dropped.

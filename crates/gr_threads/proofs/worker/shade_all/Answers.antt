@@ -20,8 +20,8 @@ loop-place-preserved g c =
       done ++ work ∷ [],
       c.loop-place.invariant.1 ∙ ap (λ l. done ++ l) next ∙ sym (append_assoc done (work ∷ []) rest),
       (λ accesses was.
-          subst (λ (l : List ClockedAccess). IfSome c.shade_work-shadows.result (StandsForLaunch l)) (append_assoc accesses (accesses_in done) (accesses_in (work ∷ [])) ∙ ap (λ l. accesses ++ l) (sym (more_given done (work ∷ []))))
-          (c.shade_work-shadows.ensures (accesses ++ accesses_in done) (c.loop-place.invariant.2 accesses was))),
+          subst (λ (l : List ClockedAccess). IfSome c.shade-shadows.result (StandsForLaunch l)) (append_assoc accesses (accesses_in done) (accesses_in (work ∷ [])) ∙ ap (λ l. accesses ++ l) (sym (more_given done (work ∷ []))))
+          (c.shade-shadows.ensures (accesses ++ accesses_in done) (c.loop-place.invariant.2 accesses was))),
     )
 
 pub returns : goal.returns
