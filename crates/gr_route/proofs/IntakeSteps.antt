@@ -266,7 +266,7 @@ next t x d =
 -- after a group's seat was split off or joined back
 pub turned : (p q n : TakerPass) (s t u : List ℕ) (js : List Joined) (r : List Sent) → IsTakerPass p s r → length t ≡ length s → IsSamePass p q → view q ≡ taker_of (view p).popped u js → u ≡ t → IsSamePass q n × (view n ≡ view q)
     → (batches : List (List Sent)) × AgreesWith BatchesAgree (view q) batches → IsTakerPass n t r
-turned p q n s t u js r is places first now same then told = grind (arith, then.1, then.0.2, first.2, is.idle, is.places)
+turned p q n s t u js r is places first now same then learned = grind (arith, then.1, then.0.2, first.2, is.idle, is.places)
 
 -- events are handed out of what was left, or of a batch if nothing was left: the seat before it, the pass and what was left after it, and the events
 pub record Hands (t : Taker) (q : TakerPass) (s : List ℕ) (r b : List Sent) : Type 0 where
@@ -285,8 +285,8 @@ hands_left t p s r0 r1 b is was first =
     hands t p s r1 b now (grind (arith, was, front_of (view p).popped (old ++ b) r1 all))
 
 pub hands_popped : (t : Taker) (p q : TakerPass) (s : List ℕ) (r0 r1 b batch : List Sent) → IsTakerPass p s r0 → seen p s r0 ≡ t → r0 ≡ [] → batch ≡ b ++ r1 → IsSamePass p q → Pops (view p) batch (view q) → Hands t q s r1 b
-hands_popped t p q s r0 r1 b batch is was none first same told =
+hands_popped t p q s r0 r1 b batch is was none first same learned =
     let old = front (view p).popped r0 in
-    let all : (view q).popped ≡ (old ++ b) ++ r1 = grind (arith, told.0, is.left, none, first, append-nil old, append_assoc old b r1) in
-    let now : IsTakerPass q s r1 = record { idle = same.2 ∙ is.idle; known = cc (told.0, is.known); places = is.places; left = front_left (view q).popped (old ++ b) r1 all; agrees = told.1 } in
-    hands t q s r1 b now (grind (arith, was, same, told.0, front_of (view q).popped (old ++ b) r1 all))
+    let all : (view q).popped ≡ (old ++ b) ++ r1 = grind (arith, learned.0, is.left, none, first, append-nil old, append_assoc old b r1) in
+    let now : IsTakerPass q s r1 = record { idle = same.2 ∙ is.idle; known = cc (learned.0, is.known); places = is.places; left = front_left (view q).popped (old ++ b) r1 all; agrees = learned.1 } in
+    hands t q s r1 b now (grind (arith, was, same, learned.0, front_of (view q).popped (old ++ b) r1 all))

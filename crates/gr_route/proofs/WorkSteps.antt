@@ -195,7 +195,7 @@ module _ {A : Type 0} where
   -- after the giver's seat was split off or joined back
   pub turned : (p q n : WorkerPass A) (s t u : Bool) (g : Option (List (Work A))) (r : List (Work A)) → IsWorkerPass p s r → IsSamePass p q → view q ≡ worker_of (view p).popped u g → u ≡ t → IsSamePass q n × (view n ≡ view q)
       → (batches : List (List (Work A))) × AgreesWith BatchesAgree (view q) batches → IsWorkerPass n t r
-  turned p q n s t u g r is first now same then told = grind (arith, then.1, then.0.2, first.2, is.idle)
+  turned p q n s t u g r is first now same then learned = grind (arith, then.1, then.0.2, first.2, is.idle)
 
   -- work is handed out of what was left, or of a batch if nothing was left: the seat before it, the pass and what was left after it, and the work
   pub record Hands (w : Worker A) (q : WorkerPass A) (s : Bool) (r b : List (Work A)) : Type 0 where
@@ -214,8 +214,8 @@ module _ {A : Type 0} where
       hands w p s r1 b now (grind (arith, was, front_of (view p).popped (old ++ b) r1 all))
 
   pub hands_popped : (w : Worker A) (p q : WorkerPass A) (s : Bool) (r0 r1 b batch : List (Work A)) → IsWorkerPass p s r0 → seen p s r0 ≡ w → r0 ≡ [] → batch ≡ b ++ r1 → IsSamePass p q → Pops (view p) batch (view q) → Hands w q s r1 b
-  hands_popped w p q s r0 r1 b batch is was none first same told =
+  hands_popped w p q s r0 r1 b batch is was none first same learned =
       let old = front (view p).popped r0 in
-      let all : (view q).popped ≡ (old ++ b) ++ r1 = grind (arith, told.0, is.left, none, first, append-nil old, append_assoc old b r1) in
-      let now : IsWorkerPass q s r1 = record { idle = same.2 ∙ is.idle; known = cc (told.0, is.known); left = front_left (view q).popped (old ++ b) r1 all; agrees = told.1 } in
-      hands w q s r1 b now (grind (arith, was, same, told.0, front_of (view q).popped (old ++ b) r1 all))
+      let all : (view q).popped ≡ (old ++ b) ++ r1 = grind (arith, learned.0, is.left, none, first, append-nil old, append_assoc old b r1) in
+      let now : IsWorkerPass q s r1 = record { idle = same.2 ∙ is.idle; known = cc (learned.0, is.known); left = front_left (view q).popped (old ++ b) r1 all; agrees = learned.1 } in
+      hands w q s r1 b now (grind (arith, was, same, learned.0, front_of (view q).popped (old ++ b) r1 all))

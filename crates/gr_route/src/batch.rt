@@ -240,10 +240,7 @@ impl<T: Drop, A: Allocator> Outbox<T, A> {
         ensures none { IfNone result (self.old ≡ []) }
         ensures empty { self.new ≡ [] }
     {
-        match self.waiting.take() {
-            Some(values) => Batch::of(values),
-            None => None,
-        }
+        Batch::of(self.waiting.take()?)
     }
 
     /// Lets the next values wait in this list, unless there is a list. What it holds is dropped.
@@ -294,11 +291,9 @@ fn begun<T: Drop, A: Allocator>(alloc: A, value: T) -> Result<Vec<T, A>, T>
     ensures ok { IfOk result (λ values. values.items ≡ value ∷ []) }
     ensures err { IfErr result (λ back. back ≡ value) }
 {
-    match Vec::with_capacity(alloc, MOST_WAITING) {
-        Err(_) => Err(value),
-        Ok(mut values) => {
-            values.push_reserved(value);
-            Ok(values)
-        }
-    }
+    let Ok(mut values) = Vec::with_capacity(alloc, MOST_WAITING) else {
+        return Err(value);
+    };
+    values.push_reserved(value);
+    Ok(values)
 }

@@ -316,12 +316,7 @@ impl<A: Allocator> Intake<A> {
 
         ensures delivery { IsDelivery taker.new }
     {
-        let IntakeSeat {
-            pass,
-            group: _,
-            items: _,
-        } = seat;
-        self.queue.absorb::<JoinStep>(&mut taker.pass, pass);
+        self.queue.absorb::<JoinStep>(&mut taker.pass, seat.pass);
         self.queue.learn_as::<PopStep>(&mut taker.pass);
     }
 }

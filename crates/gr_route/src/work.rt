@@ -246,8 +246,7 @@ impl<A: Allocator> WorkQueue<A> {
 
         ensures delivery { IsDelivery worker.new }
     {
-        let GiverSeat { pass } = giver;
-        self.queue.absorb::<JoinStep>(&mut worker.pass, pass);
+        self.queue.absorb::<JoinStep>(&mut worker.pass, giver.pass);
         self.queue.learn_as::<PopStep>(&mut worker.pass);
     }
 }
