@@ -15,7 +15,7 @@ use Rattle.gr_route.specs.WorkRule.{is_stopped}
 use Rattle.gr_route.specs.WorkSeats.{Giver}
 use Rattle.gr_taking.specs.Sources.{ListedRecords}
 use Rattle.gr_threads.specs.Given.{accesses_in}
-use Rattle.gr_sequencer_thread.specs.Feeds.{AreNoBacklogs, AreOpen, IsFresh, IsGood, given_of}
+use Rattle.gr_sequencer_thread.specs.Feeds.{AreNoBacklogs, IsFeed, IsFresh, IsGood, given_of}
 use Rattle.gr_sequencer_thread.proofs.Changes.{none_at}
 use Rattle.gr_sequencer_thread.proofs.TakeLemmas.{come_one}
 
@@ -33,7 +33,7 @@ module _ {A : Type 0} (config : Settings) (is : IsConfig config) (sizes : List �
   none_given k [] empty lt = absurd (omega (arith, lt))
   none_given k (g ∷ gs) empty lt = get_or-map (λ (u : Giver A). accesses_in u.pushed) (g ∷ gs) k g [] lt ∙ ap accesses_in (empty k g lt)
 
-  pub fresh_good : (on_way : List (List ClockedAccess)) → All (λ l. l ≡ []) on_way → IsGood (record { config = config; sizes = sizes; sequence = seq; takers = takers; givers = givers; coming = coming; on_way = on_way; failed = false })
+  fresh_good : (on_way : List (List ClockedAccess)) → All (λ l. l ≡ []) on_way → IsGood (record { config = config; sizes = sizes; sequence = seq; takers = takers; givers = givers; coming = coming; on_way = on_way; failed = false })
   fresh_good on_way empty = record {
     same = same;
     sequence = sequence;
@@ -54,5 +54,13 @@ module _ {A : Type 0} (config : Settings) (is : IsConfig config) (sizes : List �
     );
   }
 
-  pub fresh_unstopped : AreOpen givers
-  fresh_unstopped k d lt = ap is_stopped (fresh.pushed k d (omega (arith, lt, fresh.worker_count)))
+  pub fresh_feed : (on_way : List (List ClockedAccess)) → All (λ l. l ≡ []) on_way → IsFeed (record { config = config; sizes = sizes; sequence = seq; takers = takers; givers = givers; coming = coming; on_way = on_way; failed = false })
+  fresh_feed on_way empty = record {
+    config = is;
+    queues = fresh.queues;
+    worker_count = fresh.worker_count;
+    backlogs = none.count;
+    seated = fresh.seated;
+    unstopped = λ k d lt. ap is_stopped (fresh.pushed k d (omega (arith, lt, fresh.worker_count)));
+    good = λ f. fresh_good on_way empty;
+  }

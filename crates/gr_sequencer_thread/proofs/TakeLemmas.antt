@@ -5,14 +5,14 @@ use Rattle.std.proofs.lemmas.Bool.{cases_eq, cases_lt}
 use Rattle.std.proofs.lemmas.List.{get_or-map, get_or-set_same, get_or_default, length-map, length-set}
 use Rattle.std.specs.List.{All}
 use Rattle.gr_model.specs.declared.event.Event.{Event}
-use Rattle.gr_model.specs.declared.event.Sent.{Sent}
 use Rattle.gr_model.specs.Configs.{Settings}
 use Rattle.gr_model.specs.Streams.{IsPrefix, Streams, events_of, list_of, size_of}
-use Rattle.gr_model.proofs.Sending.{events_append, events_else, events_here}
+use Rattle.gr_model.proofs.Sending.{events_append}
 use Rattle.gr_clocks.specs.ClockedAccess.{ClockedAccess}
 use Rattle.gr_order.specs.Sequences.{Sequence}
 use Rattle.gr_route.specs.Batches.{sent_by}
 use Rattle.gr_route.specs.IntakeSeats.{IsDelivery, Taker, popped_of}
+use Rattle.gr_route.proofs.BatchLemmas.{sent_else, sent_here}
 use Rattle.gr_taking.specs.Sources.{ListedRecords, MayCome, come_of}
 use Rattle.gr_sequencer_thread.specs.Feeds.{ArePopped, AreSeated, AreTaken, Feed, IsFeed, IsGood, come_in}
 use Rattle.gr_sequencer_thread.proofs.Changes.{where_set}
@@ -25,19 +25,7 @@ popping t n es = record { queue = t.queue; popped = t.popped ++ sent_by n es; si
 abbrev pub with_more : ListedRecords → List Event → ListedRecords
 with_more b es = record { group = b.group; records = b.records ++ es }
 
-sent_here : (n : ℕ) (es : List Event) → events_of n (sent_by n es) ≡ es
-sent_here n [] = refl
-sent_here n (e ∷ es) =
-    let x : Sent = record { group = n; event = e } in
-    events_append n (x ∷ []) (sent_by n es) ∙ (λ i. events_here x i ++ sent_here n es i)
-
-sent_else : (h n : ℕ) (es : List Event) → h ≢ n → events_of h (sent_by n es) ≡ []
-sent_else h n [] apart = refl
-sent_else h n (e ∷ es) apart =
-    let x : Sent = record { group = n; event = e } in
-    events_append h (x ∷ []) (sent_by n es) ∙ (λ i. events_else h x (λ same. apart (sym same)) i ++ sent_else h n es apart i)
-
--- of a group, what was taken of it with what is to be taken
+-- of a group, what was taken of it, followed by what is still to be taken
 abbrev pub come_one : Streams → ListedRecords → ℕ × List Event
 come_one taken b = come_of (λ c. c.group) (λ g. g) (λ c. c.records) taken b
 

@@ -77,17 +77,10 @@ impl<A: Allocator> SequencerEnd<A> {
         ensures parts { self ≡ record { config = self.config; sizes = self.sizes; takers = result.inlets.items; givers = result.outlets.items; report = option_map whole_of result.report } }
         ensures end { spec.IsEnd self }
     {
-        let SequencerEnd {
-            config: _,
-            shape: _,
-            inlets,
-            outlets,
-            report,
-        } = self;
         Parts {
-            inlets,
-            outlets,
-            report,
+            inlets: self.inlets,
+            outlets: self.outlets,
+            report: self.report,
         }
     }
 }

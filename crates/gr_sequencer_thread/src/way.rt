@@ -198,16 +198,9 @@ impl<A: Allocator + Copy> Way<A> {
     pub(crate) fn note_end(&mut self, alloc: A, group: u16)
         ensures { self.new ≡ self.old }
     {
-        match &mut self.ended {
-            None => {
-                let mut ended = Vec::new(alloc);
-                let _ = ended.push(group);
-                self.ended = Some(ended);
-            }
-            Some(ended) => {
-                let _ = ended.push(group);
-            }
-        }
+        let mut ended = self.ended.take().unwrap_or(Vec::new(alloc));
+        let _ = ended.push(group);
+        self.ended = Some(ended);
     }
 
     /// Adds an access after the others.
