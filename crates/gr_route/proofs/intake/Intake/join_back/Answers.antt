@@ -1,15 +1,10 @@
 use Rattle.std.proofs.Common.{refl, rules}
-use Rattle.gr_route.specs.IntakeRule.{BatchesAgree}
 use Rattle.gr_route.proofs.PrefixLemmas.{end_makes_whole}
 use Rattle.gr_route.proofs.IntakeSteps.{delivered_last, delivery, joins_as, turned}
-use Rattle.gr_route.proofs.Views.{agrees}
 use Rattle.gr_route.proofs.intake.Intake.join_back.Goals as goal
 
 pub absorb-requires-clause-rule : goal.absorb-requires-clause-rule
 absorb-requires-clause-rule g c = joins_as _ _ _ _ _ _ _ c.taker.invariant.known c.seat.invariant.known
-
-pub learn_as-requires-clause-rule : goal.learn_as-requires-clause-rule
-learn_as-requires-clause-rule g c = agrees BatchesAgree _ _
 
 pub invariant_of-taker : goal.invariant_of-taker
 invariant_of-taker g c = turned c.taker.inside.pass c.absorb.new.pass c.learn_as.new.pass _ _ _ _ _ c.taker.invariant refl c.absorb.ensures.queue c.absorb.ensures.rule (cc c.taker.invariant.known) c.learn_as.ensures.queue c.learn_as.ensures.rule

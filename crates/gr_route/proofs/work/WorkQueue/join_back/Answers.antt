@@ -1,14 +1,9 @@
 use Rattle.std.proofs.Common.{rules}
-use Rattle.gr_route.specs.WorkRule.{BatchesAgree}
 use Rattle.gr_route.proofs.WorkSteps.{delivered_back, delivery, joins_as, stop_makes_whole, turned}
-use Rattle.gr_route.proofs.Views.{agrees}
 use Rattle.gr_route.proofs.work.WorkQueue.join_back.Goals as goal
 
 pub absorb-requires-clause-rule : goal.absorb-requires-clause-rule
 absorb-requires-clause-rule g c = joins_as _ _ _ _ _ c.worker.invariant.known c.giver.invariant.known
-
-pub learn_as-requires-clause-rule : goal.learn_as-requires-clause-rule
-learn_as-requires-clause-rule g c = agrees BatchesAgree _ _
 
 pub invariant_of-worker : goal.invariant_of-worker
 invariant_of-worker g c = turned c.worker.inside.pass c.absorb.new.pass c.learn_as.new.pass _ _ _ _ _ c.worker.invariant c.absorb.ensures.queue c.absorb.ensures.rule (cc c.worker.invariant.known) c.learn_as.ensures.queue c.learn_as.ensures.rule
