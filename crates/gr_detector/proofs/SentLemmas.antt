@@ -1,8 +1,6 @@
 -- What was taken is what was sent, if all ends were popped.
-use Rattle.std.proofs.Common.{◌≡◌, ◌==◌, ℕ, suc, ◌<◌, ◌%◌, IsTrue, List, [], ◌∷◌, length, map, get_or, sym, ap, ◌∙◌, arith}
-use Rattle.std.specs.Prelude.{All, filter}
+use Rattle.std.proofs.Common.{◌≡◌, ◌==◌, ℕ, suc, ◌<◌, ◌%◌, IsTrue, List, [], ◌∷◌, length, map, get_or, sym, ap, ◌∙◌, arith, All, filter, mod-lt}
 use Rattle.std.specs.List.{range_with_len}
-use Rattle.std.proofs.Math.Nat.{mod-lt}
 use Rattle.std.proofs.lemmas.Bool.Decides.{nat_tests}
 use Rattle.std.proofs.lemmas.List.{ext_get_or, get_or-map, length-map}
 use Rattle.std.proofs.lemmas.List.FromFn.{get_or-map-range_with_len, length-map-range_with_len}

@@ -1,6 +1,5 @@
 -- Accesses of one tag and class, of each item the one with the greatest index.
-use Rattle.std.proofs.Common.{◌≡◌, ◌==◌, eqb, if◌then◌else◌, ◌⊎◌, ℕ, ◌≤◌, Bool, true, false, cond, Contains, List, [], ◌∷◌, ◌++◌, Option, None, Some, arith, map, refl, sym, ◌∙◌, inl, inr, ⊎_elim}
-use Rattle.std.specs.List.{find}
+use Rattle.std.proofs.Common.{◌≡◌, ◌==◌, eqb, if◌then◌else◌, ◌⊎◌, ℕ, ◌≤◌, Bool, true, false, cond, Contains, List, [], ◌∷◌, ◌++◌, Option, None, Some, arith, map, refl, sym, ◌∙◌, inl, inr, ⊎_elim, find}
 use Rattle.std.specs.Map.{lookup}
 use Rattle.std.specs.Option.{option_eq, unwrap_or}
 use Rattle.std.proofs.lemmas.Bool.Decides.{nat_tests}

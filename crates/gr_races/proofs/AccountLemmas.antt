@@ -1,6 +1,5 @@
 -- A word has an account just where it is racy.
-use Rattle.std.proofs.Common.{◌↔◌, ℕ, IsTrue, Option, None, Some, is_some, refl, sym, true≢false}
-use Rattle.std.specs.Prelude.{option_map}
+use Rattle.std.proofs.Common.{◌↔◌, ℕ, IsTrue, Option, None, Some, is_some, refl, sym, true≢false, option_map}
 use Rattle.gr_model.specs.declared.event.Word.{Word}
 use Rattle.gr_model.specs.Races.{IsRacy}
 use Rattle.gr_model.specs.Streams.{Streams}

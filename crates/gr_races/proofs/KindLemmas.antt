@@ -1,6 +1,5 @@
 -- Each race of a launch has a kind, and it is said whether there is one.
-use Rattle.std.proofs.Common.{suc, inl, inr, ◌≡◌, ◌↔◌, ⊎_elim, subst, cond, ℕ, Bool, true, false, List, [], ◌∷◌, ◌++◌, Option, Some, Contains, IsTrue, All, None, option_and_then, ap, arith, length, map, refl, sym, ◌∙◌, true≢false}
-use Rattle.std.specs.Prelude.{AllPairs, if◌then◌else◌, filter, nat_lt, not, option_map}
+use Rattle.std.proofs.Common.{suc, inl, inr, ◌≡◌, ◌↔◌, ⊎_elim, subst, cond, ℕ, Bool, true, false, List, [], ◌∷◌, ◌++◌, Option, Some, Contains, IsTrue, All, None, option_and_then, ap, arith, length, map, refl, sym, ◌∙◌, true≢false, AllPairs, if◌then◌else◌, filter, nat_lt, not, option_map}
 use Rattle.std.specs.List.{list_any}
 use Rattle.std.proofs.Math.Bool.{beq}
 use Rattle.std.proofs.lemmas.Bool.Decides.{nat_tests}

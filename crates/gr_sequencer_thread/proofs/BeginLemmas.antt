@@ -1,8 +1,6 @@
 -- Where the sequencer's thread begins.
-use Rattle.std.proofs.Common.{◌≡◌, ◌++◌, ℕ, ◌<◌, ◌%◌, List, [], ◌∷◌, length, get_or, map, false, sym, ap, ◌∙◌, subst, arith, append-nil}
-use Rattle.std.proofs.Math.Nat.{mod-lt}
+use Rattle.std.proofs.Common.{◌≡◌, ◌++◌, ℕ, ◌<◌, ◌%◌, List, [], ◌∷◌, length, get_or, map, false, sym, ap, ◌∙◌, subst, arith, append-nil, mod-lt, All}
 use Rattle.std.proofs.lemmas.List.{get_or-map, length-map}
-use Rattle.std.specs.List.{All}
 use Rattle.gr_model.specs.declared.event.Event.{Event}
 use Rattle.gr_model.specs.Configs.{IsConfig, Settings}
 use Rattle.gr_model.specs.Streams.{IsPrefix, events_of, list_of, size_of}

@@ -1,9 +1,7 @@
 -- What the workers were given, and what is on its way to them, after a step.
-use Rattle.std.proofs.Common.{◌≡◌, ◌==◌, ℕ, ◌<◌, List, [], ◌∷◌, ◌++◌, length, get_or, set, cond, sym, ap, ◌∙◌, arith, append_assoc, append-nil, eq-eqb, ne_eqb, IsFalse}
-use Rattle.std.proofs.Math.Nat.{mod-lt}
+use Rattle.std.proofs.Common.{◌≡◌, ◌==◌, ℕ, ◌<◌, List, [], ◌∷◌, ◌++◌, length, get_or, set, cond, sym, ap, ◌∙◌, arith, append_assoc, append-nil, eq-eqb, ne_eqb, IsFalse, mod-lt, All}
 use Rattle.std.proofs.lemmas.List.{get_or-map, get_or_default, length-map, length-set, map-set}
 use Rattle.std.proofs.lemmas.List.Elements.{filter-append}
-use Rattle.std.specs.List.{All}
 use Rattle.gr_model.specs.declared.event.Word.{Word}
 use Rattle.gr_model.specs.declared.event.Word.TheVariants.{Global, Local}
 use Rattle.gr_model.specs.Configs.{worker_number}

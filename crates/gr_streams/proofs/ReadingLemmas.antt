@@ -1,6 +1,5 @@
 -- What a stream leaves after it is read agrees with its bytes.
-use Rattle.std.proofs.Common.{◌≡◌, ℕ, ◌≤◌, Bool, true, false, List, [], ◌++◌, length, take, Option, None, Some, Result, Err, refl, sym, ap, ◌∙◌, subst, arith, append_assoc}
-use Rattle.std.specs.Prelude.{IfErr, IfOk, IfSome, IsTrue}
+use Rattle.std.proofs.Common.{◌≡◌, ℕ, ◌≤◌, Bool, true, false, List, [], ◌++◌, length, take, Option, None, Some, Result, Err, refl, sym, ap, ◌∙◌, subst, arith, append_assoc, IfErr, IfOk, IfSome, IsTrue}
 use Rattle.std.specs.Io.KnownBytes.{Consumes, prepend_known}
 use Rattle.std.proofs.lemmas.List.{length-take, take-append-le, take_all}
 use Rattle.gr_model.specs.declared.event.Event.{Event}

@@ -1,6 +1,5 @@
 -- Whether a group was seen, and which launch the headers are of, without a look at each header.
-use Rattle.std.proofs.Common.{Decides, ◌≡◌, ◌≢◌, ℕ, zero, suc, ◌<◌, List, [], ◌∷◌, ◌++◌, length, map, slice_get, get_or, Some, refl, sym, ap, ◌∙◌, subst, arith, inl, inr}
-use Rattle.std.specs.Prelude.{not, ◌==◌, All}
+use Rattle.std.proofs.Common.{Decides, ◌≡◌, ◌≢◌, ℕ, zero, suc, ◌<◌, List, [], ◌∷◌, ◌++◌, length, map, slice_get, get_or, Some, refl, sym, ap, ◌∙◌, subst, arith, inl, inr, not, ◌==◌, All}
 use Rattle.std.specs.List.{list_any}
 use Rattle.std.proofs.lemmas.Bool.{cases_Bool, eq-eqb, eqb-true, true_from_ne_false}
 use Rattle.std.proofs.lemmas.List.Elements.{All-push}

@@ -1,6 +1,5 @@
 -- Events that are sent as they are decoded.
-use Rattle.std.proofs.Common.{◌≡◌, ℕ, ◌+◌, ◌-◌, ◌<◌, true, List, [], ◌∷◌, ◌++◌, length, map, take, get_or, Option, None, Some, Result, refl, ap, ◌∙◌, append_assoc, arith}
-use Rattle.std.specs.Prelude.{IfErr, IsFalse, IsTrue, OnErr, OnOk}
+use Rattle.std.proofs.Common.{◌≡◌, ℕ, ◌+◌, ◌-◌, ◌<◌, true, List, [], ◌∷◌, ◌++◌, length, map, take, get_or, Option, None, Some, Result, refl, ap, ◌∙◌, append_assoc, arith, IfErr, IsFalse, IsTrue, OnErr, OnOk}
 use Rattle.std.proofs.lemmas.Bool.{cases_lt}
 use Rattle.std.proofs.lemmas.List.{places, take_more}
 use Rattle.gr_model.specs.declared.event.Event.{Event}

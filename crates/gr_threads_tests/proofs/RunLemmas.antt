@@ -1,6 +1,5 @@
 -- Which groups have ended, after one more event was popped.
-use Rattle.std.proofs.Common.{◌≡◌, ℕ, zero, suc, arith, subst, IsTrue, ◌<◌, ◌==◌, Bool, true, false, cond, List, [], ◌∷◌, ◌++◌, sym, ap, ◌∙◌, append-nil}
-use Rattle.std.specs.Prelude.{slice_index_or}
+use Rattle.std.proofs.Common.{◌≡◌, ℕ, zero, suc, arith, subst, IsTrue, ◌<◌, ◌==◌, Bool, true, false, cond, List, [], ◌∷◌, ◌++◌, sym, ap, ◌∙◌, append-nil, slice_index_or}
 use Rattle.gr_model.specs.declared.event.Event.{Event}
 use Rattle.gr_model.specs.declared.event.Sent.{Sent}
 use Rattle.gr_model.specs.Events.{is_end}

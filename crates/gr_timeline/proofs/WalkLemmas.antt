@@ -1,5 +1,5 @@
 -- Chains that grow by a link, and the items that a walk has visited.
-use Rattle.std.proofs.Common.{◌≡◌, ℕ, zero, suc, ◌<◌, List, [], ◌∷◌, ◌++◌, length, Option, Some, slice_get, refl, subst, ⊎_elim, arith, ◌↔◌, Bool, false, IsTrue, true≢false, ◌-◌, None, sym, ap, ◌∙◌}
+use Rattle.std.proofs.Common.{◌≡◌, ℕ, zero, suc, ◌<◌, List, [], ◌∷◌, ◌++◌, length, Option, Some, slice_get, refl, subst, ⊎_elim, arith, ◌↔◌, Bool, false, IsTrue, true≢false, ◌-◌, None, sym, ap, ◌∙◌, IfSome}
 use Rattle.std.proofs.lemmas.Option.{gets}
 use Rattle.gr_model.specs.declared.event.EventId.{EventId}
 use Rattle.gr_model.specs.Streams.{Streams, ArePrefixes}
@@ -9,7 +9,6 @@ use Rattle.gr_timeline.specs.declared.reason.Reason.{Reason}
 use Rattle.gr_timeline.specs.declared.reason.Reason.TheVariants.{Circle}
 use Rattle.gr_timeline.specs.Chains.{IsChainTo, IsReason, Lead, event_of, leads_to}
 use Rattle.gr_timeline.specs.Waiting.{IsHeldEvent, IsFirstHeld}
-use Rattle.std.specs.Prelude.{IfSome}
 use Rattle.std.proofs.lemmas.Bool.{cases_eq}
 use Rattle.std.proofs.lemmas.Grind.{common_steps}
 use Rattle.gr_model.specs.declared.event.ItemId.{ItemId}

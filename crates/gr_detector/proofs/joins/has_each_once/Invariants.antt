@@ -1,5 +1,4 @@
-use Rattle.std.proofs.Common.{◌≡◌, ◌<◌, ◌==◌, ℕ, length}
-use Rattle.std.specs.Prelude.{filter}
+use Rattle.std.proofs.Common.{◌≡◌, ◌<◌, ◌==◌, ℕ, length, filter}
 use Rattle.gr_route.specs.IntakeSeats.{Seat}
 use Rattle.gr_detector.proofs.joins.has_each_once.Given as goal
 

@@ -1,5 +1,4 @@
-use Rattle.std.proofs.Common.{ℕ, arith, ◌∙◌, ap, subst, sym}
-use Rattle.std.specs.Prelude.{is_some}
+use Rattle.std.proofs.Common.{ℕ, arith, ◌∙◌, ap, subst, sym, is_some}
 use Rattle.std.specs.Option.{option_copied_mut}
 use Rattle.std.proofs.lemmas.Result.{on_ok_weaker}
 use Rattle.gr_clocks.specs.ClockedAccess.{clocked}

@@ -1,5 +1,4 @@
-use Rattle.std.proofs.Common.{append_assoc, arith, map, subst}
-use Rattle.std.specs.Prelude.{All}
+use Rattle.std.proofs.Common.{append_assoc, arith, map, subst, All}
 use Rattle.std.specs.Vec.Iter.{into_iter_items}
 use Rattle.std.proofs.lemmas.List.{map_push}
 use Rattle.std.proofs.lemmas.List.Elements.{All-head, All-tail}

@@ -1,5 +1,4 @@
-use Rattle.std.proofs.Common.{arith, ◌≡◌, ◌∙◌, List, Some, refl, ap, sym, subst, length}
-use Rattle.std.specs.Option.{option_map}
+use Rattle.std.proofs.Common.{arith, ◌≡◌, ◌∙◌, List, Some, refl, ap, sym, subst, length, option_map}
 use Rattle.std.proofs.lemmas.List.{length-map}
 use Rattle.std.proofs.lemmas.Result.{IfOk-at_ok}
 use Rattle.gr_model.specs.Reports.{Lists, WordBelow}

@@ -1,5 +1,4 @@
-use Rattle.std.proofs.Common.{◌≡◌, [], length}
-use Rattle.std.specs.List.{All}
+use Rattle.std.proofs.Common.{◌≡◌, [], length, All}
 use Rattle.gr_sequencer_thread.specs.Feeds.{accesses_on_way}
 use Rattle.gr_sequencer_thread.proofs.on_way.OnWay.new.Given as goal
 

@@ -1,5 +1,4 @@
-use Rattle.std.proofs.Common.{rules, append-nil, ◌≡◌, ◌∙◌, ◌<◌, ◌∷◌, ◌++◌, [], List, ap, arith, get_or, length, set, sym, subst}
-use Rattle.std.specs.Option.{option_map}
+use Rattle.std.proofs.Common.{rules, append-nil, ◌≡◌, ◌∙◌, ◌<◌, ◌∷◌, ◌++◌, [], List, ap, arith, get_or, length, set, sym, subst, option_map}
 use Rattle.std.proofs.lemmas.List.{get_or-map, length-map, map-set}
 use Rattle.gr_model.specs.Configs.{worker_number}
 use Rattle.gr_clocks.specs.ClockedAccess.{ClockedAccess, clocked}

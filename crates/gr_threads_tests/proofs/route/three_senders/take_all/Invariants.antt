@@ -1,5 +1,4 @@
-use Rattle.std.proofs.Common.{◌≡◌, ℕ, ◌<◌, false}
-use Rattle.std.specs.Prelude.{slice_index_or}
+use Rattle.std.proofs.Common.{◌≡◌, ℕ, ◌<◌, false, slice_index_or}
 use Rattle.gr_model.specs.Streams.{is_complete}
 use Rattle.gr_route.specs.IntakeSeats.{popped_of}
 use Rattle.gr_threads_tests.proofs.route.three_senders.take_all.Given as goal

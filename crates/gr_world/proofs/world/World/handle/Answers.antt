@@ -1,5 +1,4 @@
-use Rattle.std.proofs.Common.{◌≡◌, ◌∙◌, IsTrue, Option, None, Some, true, sym}
-use Rattle.std.specs.Option.{is_some, option_map}
+use Rattle.std.proofs.Common.{◌≡◌, ◌∙◌, IsTrue, Option, None, Some, true, sym, is_some, option_map}
 use Rattle.gr_clocks.specs.ClockedAccess.{clocked}
 use Rattle.gr_world.proofs.world.World.handle.Goals as goal
 

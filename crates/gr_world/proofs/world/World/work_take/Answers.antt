@@ -1,5 +1,4 @@
-use Rattle.std.proofs.Common.{Result, Ok, Err, rules}
-use Rattle.std.specs.Prelude.{OnErr}
+use Rattle.std.proofs.Common.{Result, Ok, Err, rules, OnErr}
 use Rattle.gr_world.proofs.InFlightLemmas.{none_refused, receive_refused, received_is_step, received_is_world, unreceived, worker_back}
 use Rattle.gr_world.proofs.world.World.work_take.Goals as goal
 
