@@ -1,4 +1,4 @@
--- The command that a parse met.
+-- The command that a parse finds.
 use Rattle.std.proofs.Common.{◌≡◌, ◌∙◌, true, List, [], Option, refl, ap, subst}
 use Rattle.clap.specs.declared.parser.matches.ArgMatches.{ArgMatches}
 use Rattle.clap.specs.Walk.{Row}
@@ -38,7 +38,7 @@ module _ (command : App) (is : command ≡ gpurace) (words : List Text) where
   unfolding faults
   faults_are = ap (λ (a : App). fault_of a words) is
 
-  -- what was met is what the words name, and so is what it asks for
+  -- what the parse finds is what the words name, so it asks for the same
   module _ (m : ArgMatches) (matches : HasMatchesOf command words m) where
     meets : subcommand_rows_of m ≡ command_of words
     unfolding command_of

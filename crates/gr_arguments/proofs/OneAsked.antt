@@ -1,4 +1,4 @@
--- Words ask for one thing at most.
+-- Words ask for at most one thing.
 use Rattle.std.proofs.Common.{arith, ◌≡◌, ◌∙◌, List, sym}
 use Rattle.clap.specs.Walk.{Row}
 use Rattle.gr_arguments.specs.declared.request.Misuse.{Misuse}

@@ -1,4 +1,4 @@
--- Words that begin with no hyphen, in the walk over the words of a command line.
+-- Words that do not begin with a hyphen, in the walk over the words of a command line.
 use Rattle.std.proofs.Common.{◌≡◌, ◌∙◌, ℕ, Bool, true, false, List, [], ◌∷◌, ◌++◌, Option, Some, None, refl, sym, ap, ap₂, append_assoc, append-nil, codes, arith, subst}
 use Rattle.std.specs.Prelude.{fold, is_some}
 use Rattle.clap.proofs.OnLiterals.{clap_on_literals}
@@ -22,7 +22,7 @@ use Rattle.gr_arguments.proofs.Asking.{unnamed}
 
 -- ---- one word
 
--- where no command is due, such a word is a value, and no fault
+-- where no command may come, such a word is a value, and no fault
 module _ (s : Shape) (position : ℕ) (h : Held) where
   idle_value : (word : Text) → IsPlain word → (word_met s.rules [] false idle position word h ≡ (h, value)) × (word_fault s [] false idle word h ≡ [])
   idle_value [] none = absurd none
@@ -32,7 +32,7 @@ module _ (s : Shape) (position : ℕ) (h : Held) where
   positional_value [] none = absurd none
   positional_value (x ∷ xs) other = (rw other (rw other refl), rw other (rw other refl))
 
--- ---- the words behind the command's name
+-- ---- the words after the command's name
 
 abbrev app : App
 app = built gpurace
@@ -73,7 +73,7 @@ abbrev file_rows : List Text → List Row
 file_rows [] = []
 file_rows (f ∷ fs) = row (codes "FILE") (f ∷ fs) ∷ []
 
--- the flag, where the long form is asked for, and its row before and behind those of the other words
+-- the flag, if the long form is asked for, and its row before or after those of the other words
 abbrev flag_words : Bool → List Text
 flag_words true = codes "--long" ∷ []
 flag_words false = []
@@ -92,11 +92,11 @@ flag_left_out false = left_out (codes "long") ∷ left_out (codes "json") ∷ []
 abbrev begun : Bool → Walk
 begun long = walk_from (record { rows = flag_given long; pending = None; skip = 0 })
 
--- the walk takes a word, which is no fault
+-- the walk takes a word without a fault
 abbrev Takes : Walk → Text → Walk → Type 0
 Takes w word after = (walked showing.rules [] w word ≡ after) × (turn_fault showing [] w word ≡ [])
 
--- and so all these words
+-- the walk takes all these words without a fault
 abbrev TakesAll : Walk → List Text → Walk → Type 0
 TakesAll w words after = (fold (walked showing.rules []) w words ≡ after) × (walk_fault showing [] w words ≡ [])
 
@@ -115,7 +115,7 @@ begins : (long : Bool) (rest : List Text) (after : Walk) → TakesAll (begun lon
 begins true rest after more = takes_more _ _ _ _ rest takes_flag more
 begins false rest after more = more
 
--- where a word is a value and no fault, as a plain one is, this is what the walk takes
+-- a word that is a value and no fault, as a plain one is, is taken like this
 abbrev met_at : Walk → Text → Held × Step
 met_at w word = word_met showing.rules [] w.is_trailing w.waiting w.position word w.held
 
@@ -125,12 +125,12 @@ by_value : (w : Walk) (word : Text) → (met_at w word ≡ (w.held, value)) × (
 by_value w word is = (ap (λ (m : Held × Step). after_step showing.rules word w m.0 m.1) is.0, ap₂ (λ (k : Kinds) (m : Held × Step). or_else k (step_fault showing w.position m.0 m.1)) is.1 is.0)
 
 module _ (space number : Text) (space_plain : IsPlain space) (number_plain : IsPlain number) where
-  -- the walk behind SPACE, and behind WORD
-  abbrev behind_space : Bool → Walk
-  behind_space long = waiting_at 2 (flag_given long) (codes "SPACE") space
+  -- the walk after SPACE, and after WORD
+  abbrev after_space : Bool → Walk
+  after_space long = waiting_at 2 (flag_given long) (codes "SPACE") space
 
-  abbrev behind_number : Bool → Walk
-  behind_number long = waiting_at 3 (flag_given long ++ row (codes "SPACE") (space ∷ []) ∷ []) (codes "WORD") number
+  abbrev after_number : Bool → Walk
+  after_number long = waiting_at 3 (flag_given long ++ row (codes "SPACE") (space ∷ []) ∷ []) (codes "WORD") number
 
   abbrev base : Bool → List Row
   base long = flag_given long ++ row (codes "SPACE") (space ∷ []) ∷ row (codes "WORD") (number ∷ []) ∷ []
@@ -143,20 +143,20 @@ module _ (space number : Text) (space_plain : IsPlain space) (number_plain : IsP
   abbrev all_rows : Bool → List Text → List Row
   all_rows long files = base long ++ file_rows files ++ flag_left_out long
 
-  -- such words are taken, and are no fault
-  space_taken : (long : Bool) → Takes (begun long) space (behind_space long)
+  -- such words are taken without a fault
+  space_taken : (long : Bool) → Takes (begun long) space (after_space long)
   unfolding clap_on_literals
   space_taken long = by_value (begun long) space (idle_value showing _ _ space space_plain)
 
-  number_taken : (long : Bool) → Takes (behind_space long) number (behind_number long)
+  number_taken : (long : Bool) → Takes (after_space long) number (after_number long)
   unfolding clap_on_literals
-  number_taken true = by_value (behind_space true) number (idle_value showing _ _ number number_plain)
-  number_taken false = by_value (behind_space false) number (idle_value showing _ _ number number_plain)
+  number_taken true = by_value (after_space true) number (idle_value showing _ _ number number_plain)
+  number_taken false = by_value (after_space false) number (idle_value showing _ _ number number_plain)
 
-  file_taken : (long : Bool) (file : Text) → IsPlain file → Takes (behind_number long) file (with_files long [] file)
+  file_taken : (long : Bool) (file : Text) → IsPlain file → Takes (after_number long) file (with_files long [] file)
   unfolding clap_on_literals
-  file_taken true file plain = by_value (behind_number true) file (idle_value showing _ _ file plain)
-  file_taken false file plain = by_value (behind_number false) file (idle_value showing _ _ file plain)
+  file_taken true file plain = by_value (after_number true) file (idle_value showing _ _ file plain)
+  file_taken false file plain = by_value (after_number false) file (idle_value showing _ _ file plain)
 
   next_taken : (long : Bool) (prefix : List Text) (last word : Text) → IsPlain word → Takes (with_files long prefix last) word (with_files long (prefix ++ last ∷ []) word)
   unfolding clap_on_literals
@@ -247,7 +247,7 @@ plain_words_ask_by long space number file files space_plain number_plain plain a
       asks = subst (λ (c : Option (Text × List Row)). IsAskedBy (name_met c) (values_met c) a) (sym met) asks;
     }
 
--- those in which a word is named
+-- words that name a word of memory
 words_ask : (long : Bool) (space number file : Text) (files : List Text) (w : Word) → NamesWord space number w → ArePlain (file ∷ files) → AsksTo (ask (about_word long w (file ∷ files))) (explain ∷ flag_words long ++ space ∷ number ∷ file ∷ files)
 words_ask long space number file files w named plain =
     let texts = words_are_plain space number w named in

@@ -28,13 +28,13 @@ has_flag flag rows = option_map_or (λ text. bytes_eq text (codes "true")) (firs
 
 -- ---- a task over standard input
 
--- the values ask for this task of its command: of a report the text or the JSON; of a text that of all, or also of what stands before a fault
+-- the values ask for this task of its command: a report as text or as JSON; the text of a whole trace, or also of what comes before a fault
 abbrev pub IsTask : List Row → Task → Type 0
 IsTask rows (Replay json) = has_flag (codes "json") rows ≡ json
 IsTask rows (Dump partial) = has_flag (codes "partial") rows ≡ partial
 IsTask rows t = ⊤
 
--- ---- a query about the launch whose streams are in files
+-- ---- a query about a launch whose streams are in files
 
 -- the command that asks it
 abbrev pub query_name : Query → Text
@@ -58,12 +58,12 @@ pub record NamesWord (rows : List Row) (w : Word) : Type 0 where
   pub at_number : first_of (codes "WORD") rows ≡ Some number
   pub names : Names space number w
 
--- how many kinds they ask for: a number, or none where the option is not there
+-- how many kinds they ask for: a number, or none if the option is not there
 abbrev pub IsMost : List Row → Option ℕ → Type 0
 IsMost rows None = first_of (codes "most") rows ≡ None
 IsMost rows (Some n) = (text : Text) × (first_of (codes "most") rows ≡ Some text) × IsNumber text n
 
--- the number that an option has, or else this one where the option is not there
+-- the number of an option, or the default if the option is not there
 abbrev pub IsNumberOr : List Row → Text → ℕ → ℕ → Type 0
 IsNumberOr rows option default n = ((first_of option rows ≡ None) × (n ≡ default)) ⊎ ((text : Text) × (first_of option rows ≡ Some text) × IsNumber text n)
 
@@ -93,14 +93,14 @@ IsQuery rows (Run config) = IsSetUp rows config
 IsQuery rows Check = ⊤
 IsQuery rows (WhyHeld event) = HasEvent rows event
 
--- the name of a side file, of a query that takes side files
+-- the name of a side file, if the query takes side files
 abbrev pub side_of : Query → Text → List Row → Option Text
 side_of (Run config) option rows = None
 side_of Check option rows = None
 side_of (WhyHeld event) option rows = None
 side_of query option rows = first_of option rows
 
--- which query, with which side files, whether as JSON, and in which files the streams are
+-- a query, its side files, whether the answer is JSON, and the files of the streams
 pub record Inquiry : Type 0 where
   pub query : Query
   pub places : Option Text
@@ -116,7 +116,7 @@ pub record IsInquiry (rows : List Row) (a : Inquiry) : Type 0 where
   pub as_json : has_flag (codes "json") rows ≡ a.json
   pub at_files : files_of rows ≡ a.files
 
--- ---- why words that are taken ask for nothing
+-- ---- why words ask for nothing, though the parser took them
 
 -- the command that they misuse
 abbrev pub misuse_name : Misuse → Text
@@ -127,7 +127,7 @@ misuse_name NoWordOfHistory = codes "history"
 misuse_name NoSetUp = codes "run"
 misuse_name NoEvent = codes "why-held"
 
--- the values misuse it so: each of a query's own values is none, of `explain` the first that is
+-- the values misuse it in this way: a value of the query is wrong; for `explain` it is the first wrong one
 abbrev pub IsMisuse : List Row → Misuse → Type 0
 IsMisuse rows SidesAlone = (long : Bool) → ¬ IsForm rows long
 IsMisuse rows NoWordToExplain = ((long : Bool) × IsForm rows long) × ((w : Word) → ¬ NamesWord rows w)
@@ -136,7 +136,7 @@ IsMisuse rows NoWordOfHistory = (w : Word) → ¬ NamesWord rows w
 IsMisuse rows NoSetUp = (c : Settings) → ¬ IsSetUp rows c
 IsMisuse rows NoEvent = (e : EventId) → ¬ HasEvent rows e
 
--- what a command on files has to say of its own values: the query that they ask, or why they ask none
+-- what the values of a command on files ask: a query, or why they ask none
 abbrev pub IsSaid : Text → List Row → Result Query Misuse → Type 0
 IsSaid name rows (Ok q) = (name ≡ query_name q) × IsQuery rows q
 IsSaid name rows (Err m) = (name ≡ misuse_name m) × IsMisuse rows m
@@ -168,7 +168,7 @@ pub record IsAskedBy (name : Text) (rows : List Row) (a : Asked) : Type 0 where
   pub command : name ≡ name_asked a
   pub values : IsAskedIn rows a
 
--- the words are taken, and ask for this
+-- the parser takes the words, and they ask for this
 pub record AsksTo (a : Asked) (words : List Text) : Type 0 where
   pub taken : faults words ≡ []
   pub asks : IsAskedBy (name_met (command_of words)) (values_met (command_of words)) a
@@ -182,7 +182,7 @@ IsTheOne P o = MatchOption o ((x : _) → ¬ P x) P
 abbrev pub inquiry_of : Arguments → Inquiry
 inquiry_of a = record { query = a.query; places = option_map (λ s. s.now) a.places; buffers = option_map (λ s. s.now) a.buffers; json = a.json; files = map (λ s. s.now) a.files.items }
 
--- what a request stands for
+-- what a request asks for
 abbrev pub asked_of : Request → Asked
 asked_of (request.Perform t) = perform t
 asked_of (request.Ask a) = ask (inquiry_of a)

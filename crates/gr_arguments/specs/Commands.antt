@@ -1,4 +1,4 @@
--- The commands by which the words of a command line are read, and why words are not taken.
+-- The commands of the program, and why the parser does not take words.
 use Rattle.std.specs.Prelude.{◌≡◌, ◌≢◌, ◌⊎◌, true, List, [], ◌∷◌, Option, Some, codes, if◌then◌else◌}
 use Rattle.std.specs.Option.{option_map_or}
 use Rattle.std.specs.Str.{bytes_eq}
@@ -26,7 +26,7 @@ alone = record (new_app (codes "gpurace")).top { no_binary_name = true; has_vers
 abbrev pub command_named : Text → Shape
 command_named name = (new_app name).top
 
--- a value that has to be given, and the files, of which there is one at least
+-- a value that must be given, and the files, at least one
 abbrev pub wanted : Text → Rule
 wanted id = record (new_rule id) { required = true }
 
@@ -45,7 +45,7 @@ option_rule id = record (new_rule id) { long = Some id; value_names = 1 }
 abbrev pub replaying : Shape
 replaying = (with_rule (new_app (codes "replay")) (flag_rule (codes "json"))).top
 
--- the command that writes streams as text: whether also what stands before a fault
+-- the command that writes streams as text: whether also what comes before a fault
 abbrev pub dumping : Shape
 dumping = (with_rule (new_app (codes "dump")) (flag_rule (codes "partial"))).top
 
@@ -63,14 +63,14 @@ racing =
     (with_rule (with_rule (with_rule (with_rule (with_rule (new_app (codes "races")) (option_rule (codes "most"))) (option_rule (codes "places"))) (option_rule (codes "buffers"))) (flag_rule (codes "causes"))) (flag_rule (codes "json")))
     wanted_files).top
 
--- the command that tells of all accesses to one word: the side files, whether as JSON, the word, and the files
+-- the command that lists all accesses to one word: the side files, whether as JSON, the word, and the files
 abbrev pub recalling : Shape
 recalling =
     (with_rule
     (with_rule (with_rule (with_rule (with_rule (with_rule (new_app (codes "history")) (option_rule (codes "places"))) (option_rule (codes "buffers"))) (flag_rule (codes "json"))) (wanted (codes "SPACE"))) (wanted (codes "WORD")))
     wanted_files).top
 
--- the command that runs a launch in threads: how many workers and queues, the places of a queue, whether as JSON, and the files
+-- the command that judges a launch in threads: how many workers and queues, the room of a queue, whether as JSON, and the files
 abbrev pub running : Shape
 running =
     (with_rule (with_rule (with_rule (with_rule (with_rule (new_app (codes "run")) (option_rule (codes "workers"))) (option_rule (codes "queues"))) (option_rule (codes "capacity"))) (flag_rule (codes "json")))
@@ -80,7 +80,7 @@ running =
 abbrev pub checking : Shape
 checking = (with_rule (with_rule (new_app (codes "check")) (flag_rule (codes "json"))) wanted_files).top
 
--- the command that tells why an event is held: whether as JSON, the event, and the files
+-- the command that reports why an event is held: whether as JSON, the event, and the files
 abbrev pub inquiring : Shape
 inquiring =
     (with_rule
@@ -103,18 +103,18 @@ command_of words = subcommand_of gpurace words
 abbrev pub other_commands : List Text
 other_commands = codes "pack" ∷ codes "dump" ∷ codes "upgrade" ∷ codes "explain" ∷ codes "races" ∷ codes "history" ∷ codes "run" ∷ codes "check" ∷ codes "why-held" ∷ []
 
--- the command of this name: where it is none of the others, it is `replay`
+-- the command of this name: `replay` if it is none of the others
 abbrev pub meant : Text → Text
 meant name = if list_any (λ other. bytes_eq name other) other_commands then name else codes "replay"
 
--- the name of the command, `replay` where the words name none; and the values
+-- the name of the command, `replay` if the words name none; and the values
 abbrev pub name_met : Option (Text × List Row) → Text
 name_met command = option_map_or (λ p. meant p.0) command (codes "replay")
 
 abbrev pub values_met : Option (Text × List Row) → List Row
 values_met command = option_map_or (λ p. p.1) command []
 
--- ---- words that are not taken
+-- ---- words that the parser does not take
 
 -- help was asked for, or the version
 abbrev pub IsHelp : ErrorKind → Type 0
@@ -124,11 +124,11 @@ IsHelp kind = (kind ≡ DisplayHelp) ⊎ (kind ≡ DisplayVersion)
 abbrev pub IsWrongUsage : ErrorKind → Type 0
 IsWrongUsage kind = ¬ IsHelp kind × (kind ≢ OutOfMemory)
 
--- why the words are not taken, if they are not: what is wrong with the first that is
+-- why the words are not taken, if they are not: what is wrong with the first wrong word
 unfoldable pub faults : List Text → List ErrorKind
 faults words = fault_of gpurace words
 
--- the words are wrong, or ask for help, whichever of these kinds the error has
+-- the words are wrong, or ask for help, for every kind of error among these
 abbrev pub AreWrong : List ErrorKind → Type 0
 AreWrong kinds = (kinds ≢ []) × ((k : ErrorKind) → IsAmong k kinds → IsWrongUsage k)
 

@@ -1,4 +1,4 @@
--- The word of memory that a space and a number name, and the event that three numbers name, as they are written on a command line.
+-- The word of memory that a space and a number name, and the event that three numbers name, on a command line.
 -- Source: docs/OUTPUT.md, "explain".
 use Rattle.std.specs.Prelude.{◌≡◌, ◌<◌, ◌^◌, ◌++◌, ℕ, List, codes}
 use Rattle.std.specs.Str.Parse.{IsNumeral, digits_value}
@@ -25,7 +25,7 @@ abbrev pub Names : List ℕ → List ℕ → Word → Type 0
 Names space number (Global n) = (space ≡ codes "g") × IsNumber number n
 Names space number (Local g n) = IsGroupOf space g × IsNumber number n
 
--- the same, below 2^16
+-- a number below 2^16
 pub record IsShortNumber (text : List ℕ) (n : ℕ) : Type 0 where
   pub is : IsNumber text n
   pub below : n < 2 ^ 16

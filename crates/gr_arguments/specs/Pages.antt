@@ -1,4 +1,4 @@
--- What the pages of the program's commands say.
+-- The commands and rules that the pages of the program define.
 use Rattle.std.specs.Prelude.{List, [], ◌∷◌}
 use Rattle.clap.specs.Words.{App, Rule, Shape, new_app, with_rule, with_subcommand}
 use Rattle.gr_arguments.specs.declared.command.Page.{Page}

@@ -1,4 +1,4 @@
--- Which words ask for what, where no word is an option.
+-- Which words ask for what, if no word is an option.
 use Rattle.std.specs.Prelude.{◌≡◌, ◌==◌, Bool, false, true, List, [], ◌∷◌, None, ⊤, codes}
 use Rattle.clap.specs.Walk.{Text}
 use Rattle.gr_model.specs.declared.event.Word.{Word}
@@ -10,11 +10,11 @@ use Rattle.gr_arguments.specs.Asked.{Asked, AsksTo, Inquiry, ask, perform, refus
 use Rattle.gr_arguments.specs.Commands.{name_of}
 use Rattle.gr_arguments.specs.Naming.{Names}
 
--- words ask for one thing at most
+-- words ask for at most one thing
 abbrev pub WordsAskOnce : Type 0
 WordsAskOnce = (words : List Text) (a b : Asked) → AsksTo a words → AsksTo b words → a ≡ b
 
--- the words of a task: the name of its command, and its flag where it has one
+-- the words of a task: the name of its command, and its flag if it has one
 abbrev pub words_of : Task → List Text
 words_of (Replay true) = codes "replay" ∷ codes "--json" ∷ []
 words_of (Dump true) = codes "dump" ∷ codes "--partial" ∷ []
@@ -28,7 +28,7 @@ NamesAsk = (t : Task) → AsksTo (perform t) (words_of t)
 abbrev pub NoWordAsks : Type 0
 NoWordAsks = AsksTo (perform (Replay false)) []
 
--- the word is not empty, and begins with another byte than a hyphen
+-- the word is not empty, and does not begin with a hyphen
 abbrev pub IsPlain : Text → Type 0
 IsPlain [] = ⊥
 IsPlain (x ∷ xs) = (x == 45) ≡ false
@@ -41,14 +41,14 @@ ArePlain (word ∷ words) = IsPlain word × ArePlain words
 abbrev pub about_word : Bool → Word → List Text → Inquiry
 about_word long w files = record { query = Explain long w; places = None; buffers = None; json = false; files = files }
 
--- a word that is named is asked for by the words `explain SPACE WORD FILE..`
+-- the words `explain SPACE WORD FILE..` ask for the word that SPACE and WORD name
 abbrev pub PlainWordsAsk : Type 0
 PlainWordsAsk = (space number file : Text) (files : List Text) (w : Word) → Names space number w → ArePlain (file ∷ files) → AsksTo (ask (about_word false w (file ∷ files))) (codes "explain" ∷ space ∷ number ∷ file ∷ files)
 
--- and by the words `explain --long SPACE WORD FILE..`, in the long form, without side files
+-- the words `explain --long SPACE WORD FILE..` ask for it in the long form, without side files
 abbrev pub LongWordsAsk : Type 0
 LongWordsAsk = (space number file : Text) (files : List Text) (w : Word) → Names space number w → ArePlain (file ∷ files) → AsksTo (ask (about_word true w (file ∷ files))) (codes "explain" ∷ codes "--long" ∷ space ∷ number ∷ file ∷ files)
 
--- and where the space and the number name none, for none
+-- if SPACE and WORD name no word, they are refused
 abbrev pub PlainWordsMisname : Type 0
 PlainWordsMisname = (space number file : Text) (files : List Text) → ((w : Word) → ¬ Names space number w) → ArePlain (space ∷ number ∷ file ∷ files) → AsksTo (refuse NoWordToExplain) (codes "explain" ∷ space ∷ number ∷ file ∷ files)

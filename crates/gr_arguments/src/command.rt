@@ -84,8 +84,8 @@ Example, with a text of two work-items, of which item 0 writes word 16 of global
 const LONG_DUMP: &str = "\
 Writes the text of the trace in files, or on standard input, a line for each header and each record.
 
-Of a trace that is refused nothing is written; with --partial the lines of all headers and records that stand before the fault
-are. The status is that of the fault either way, and standard error says where and why.";
+If the trace is refused, nothing is written; with --partial the lines of all headers and records before the fault are written.
+Either way the status is that of the fault, and standard error says where and why.";
 
 const AFTER_DUMP: &str = "\
 Example:
@@ -94,13 +94,13 @@ Example:
   0 w g 16
   gpurace: stream 0: truncated";
 
-const PARTIAL: &str = "Writes of a trace that is refused what stands before the fault";
+const PARTIAL: &str = "If the trace is refused, writes what comes before the fault";
 
 const LONG_UPGRADE: &str = "\
 Writes the trace in files, or on standard input: each stream of version 1 as one of version 2, and all others as they are.
 
 In version 1 an acquire names one release at most, in version 2 up to four. The trace says the same as before, and its report is the
-same. Of a trace that is refused nothing is written.";
+same. If the trace is refused, nothing is written.";
 
 const AFTER_UPGRADE: &str = "\
 Example:
@@ -109,21 +109,21 @@ Example:
   group 0 items 2 launch 7 v2";
 
 const LONG_EXPLAIN: &str = "\
-Tells of one word which two accesses race on it, or that it has no race.
+Reports which two accesses race on one word, or that it has no race.
 
-The accesses are told as GROUP ITEM INDEX; an item's records are counted from 0. Of all racing pairs it is the least, by
-its first access and then by its second.
+An access is written as GROUP ITEM INDEX; the records of an item are counted from 0. Of all racing pairs the least is shown,
+by its first access and then by its second.
 
-With --long more lines stand below that of a race. They tell what the first access is and what the second is, with the
-number of its record in its group's stream, from 0, and how many barriers of its item stand before it; what stands between
-the two, where something does: each barrier of their group that one of them is behind and the other is not, a release behind
-the first and an acquire before the second; and last the cause of the race. With --buffers there is also the buffer of the
-word, and with --places the place in the source of each of these records and barriers, where the files have it.
+With --long more lines follow the line of a race. They say what each of the two accesses is, with the number of its record in
+the stream of its group, from 0, and how many barriers of its item come before it. Then they say what is between the two, if
+anything is: each barrier of their group that comes before only one of them, a release after the first, and an acquire before
+the second. The last line is the cause of the race. With --buffers there is also the buffer of the word, and with --places the
+place in the source of each of these records and barriers, if the files have it.
 
-A trace of a million records takes about a second. Accesses that are held back by an unmatched acquire are not judged; what is
-held, and all else that is no race, replay and run tell.
+A trace of a million records takes about a second. Accesses that an unmatched acquire holds back are not judged; replay and
+run report what is held, and everything else that is not a race.
 
-Where a file of buffers is given, or a folder has one, a word may be given by its name in place of SPACE and WORD, as in
+If a file of buffers is given, or a folder has one, a word may be given by its name in place of SPACE and WORD, as in
 `gpurace explain FOLDER 'partial[10]'`.";
 
 const AFTER_EXPLAIN: &str = "\
@@ -138,7 +138,7 @@ Examples:
   barrier 0 site 1 l
   cause flags: with CLK_LOCAL_MEM_FENCE | CLK_GLOBAL_MEM_FENCE at every barrier the two would be ordered
 
-With side files, whose lines say where records and barriers stand and which words are which buffer:
+With side files, whose lines say where records and barriers are in the source and which words are which buffer:
   gpurace explain --long --places places --buffers buffers g 16 group*.gpurace
   race global 16: 0 0 0 with 0 1 1
   buffer words[16]
@@ -148,10 +148,10 @@ With side files, whose lines say where records and barriers stand and which word
   cause flags: with CLK_LOCAL_MEM_FENCE | CLK_GLOBAL_MEM_FENCE at every barrier the two would be ordered";
 
 const LONG: &str =
-    "Tells also what the two accesses are, what stands between them, and the cause of their race";
+    "Also says what the two accesses are, what is between them, and the cause of their race";
 
 const LONG_PLACES: &str = "\
-With --long: a file of lines GROUP ITEM INDEX TEXT, or SITE TEXT of barriers: where in the source the record or barrier stands";
+With --long: a file of lines GROUP ITEM INDEX TEXT, or SITE TEXT of barriers: where in the source the record or barrier is";
 
 const LONG_BUFFERS: &str = "\
 With --long: a file of lines g FIRST WORDS NAME or l GROUP FIRST WORDS NAME: which words are which buffer";
@@ -167,11 +167,11 @@ const FILES: &str =
     "The streams of the launch: files with one or several, a folder of them, or - for standard input";
 
 const LONG_RACES: &str = "\
-Tells of all words that have a race, kind by kind: which words they are, and of the first of them two accesses that race.
+Reports all words that have a race, kind by kind: which words they are, and two accesses that race on the first of them.
 
-A kind is the memory, what the two accesses do, whether they are of one work-group, where they stand in the source if --places
-has both, and with --causes the cause of the race. The accesses are told as GROUP ITEM INDEX; an item's records are counted
-from 0. The races are found by clocks, as replay finds them. Divergent barriers come first, since races may follow from them; the
+A kind is the memory, what the two accesses do, whether they are of one work-group, where they are in the source if --places
+has both, and with --causes the cause of the race. An access is written as GROUP ITEM INDEX; the records of an item are counted
+from 0. The races are found by clocks, as replay finds them. Divergent barriers come first, because they may cause races; the
 last line counts them, unmatched acquires and what these hold back.";
 
 const AFTER_RACES: &str = "\
@@ -182,7 +182,7 @@ Example:
   race global 896: 0 3 12 with 0 7 14
   end kinds 1 races 48 diverge 0 unmatched 0 held 0
 
-With side files, whose lines say where accesses stand and which words are which buffer:
+With side files, whose lines say where accesses are in the source and which words are which buffer:
   gpurace races --places places --buffers buffers --most 1 group*.gpurace
   kind global write read one group words 48
   words global 896..943
@@ -192,7 +192,7 @@ With side files, whose lines say where accesses stand and which words are which 
   second scan.cl:5001:16
   end kinds 1 races 48 diverge 0 unmatched 0 held 0
 
-With --causes the last line of a kind is the cause of all its races, as explain --long tells it:
+With --causes the last line of a kind is the cause of all its races, as explain --long gives it:
   gpurace races --causes --most 1 group*.gpurace
   kind global write read one group words 48
   words global 896..943
@@ -200,7 +200,7 @@ With --causes the last line of a kind is the cause of all its races, as explain 
   cause no-barrier: nothing orders the two; a barrier with CLK_GLOBAL_MEM_FENCE between them would
   end kinds 1 races 48 diverge 0 unmatched 0 held 0";
 
-const PLACES: &str = "A file of lines GROUP ITEM INDEX TEXT: where in the source the access stands";
+const PLACES: &str = "A file of lines GROUP ITEM INDEX TEXT: where in the source the access is";
 
 const BUFFERS: &str =
     "A file of lines g FIRST WORDS NAME or l GROUP FIRST WORDS NAME: which words are which buffer";
@@ -209,8 +209,8 @@ const LONG_RUN: &str = "\
 Reports on the trace in files, by several threads: what is written and the status are those of replay on the same streams.
 
 Each file has a thread that reads it and sends its records on; one thread puts all records in order; workers look for races.
-So the files may be pipes that are still being written. Where the whole trace is there already, replay takes less processor time.
-A file that cannot be opened is told first, and then the headers' faults, in the order of the files.";
+So the files may be pipes that are still being written. If the whole trace is there already, replay takes less processor time.
+A file that cannot be opened is reported first, and then the faults of headers, in the order of the files.";
 
 const AFTER_RUN: &str = "\
 Example:
@@ -227,8 +227,8 @@ const CAPACITY: &str =
     "For how many batches of records each queue has room, 1 to 65536; 1024 if not given";
 
 const LONG_CHECK: &str = "\
-Tells which record of which file is at fault, what is wrong with it and what would be right; or, of a trace that is taken, how
-many groups, items and records of each kind it has. It looks for no race.";
+Reports which record of which file is at fault, what is wrong with it and what would be right; or, if the trace is accepted, how
+many groups, items and records of each kind it has. It does not look for races.";
 
 const AFTER_CHECK: &str = "\
 Example:
@@ -240,11 +240,11 @@ Example:
   right: bytes 4 and 5 are the work-item by its place in the group, from 0; often it is the global number that was written";
 
 const LONG_WHY_HELD: &str = "\
-Tells why an event is held, and so not judged: what it waits for, what that waits for, and so on, to an acquire that names a
-release that is not there, or to events that wait for one another in a circle. An event is told as GROUP ITEM INDEX, as the report
-tells an unmatched acquire; an item's records are counted from 0.
+Reports why an event is held, and so not judged: what it waits for, what that waits for, and so on, up to an acquire that names a
+release that is not there, or to events that wait for one another in a circle. An event is written as GROUP ITEM INDEX, as the report
+writes an unmatched acquire; the records of an item are counted from 0.
 
-The status is 1 where the event is held, and else 0.";
+The status is 1 if the event is held, and else 0.";
 
 const AFTER_WHY_HELD: &str = "\
 Example:
@@ -255,11 +255,11 @@ Example:
   held 0 0 0 absent 0 3 0";
 
 const LONG_HISTORY: &str = "\
-Tells of one word all accesses to it, in an order in which they may have happened, and behind which of those above it each is
-ordered. Two accesses of different work-items of which neither is ordered behind the other race, unless both read or both are
-atomic with inclusive scope. Accesses that are held are left out.
+Lists all accesses to one word, in an order in which they may have happened. Each line says after which of the accesses above it
+this access is ordered. Two accesses of different work-items race if neither is ordered after the other, unless both read or both
+are atomic with inclusive scope. Accesses that are held are left out.
 
-The accesses are told as GROUP ITEM INDEX; an item's records are counted from 0. A word may be given by its name, as of explain.";
+An access is written as GROUP ITEM INDEX; the records of an item are counted from 0. A word may be given by its name, as in explain.";
 
 const AFTER_HISTORY: &str = "\
 Examples:
@@ -268,7 +268,7 @@ Examples:
   access 0 1 1 read record 3 phase 1 behind all
   end accesses 2 held 0 races no
 
-With side files, whose lines say where accesses stand and which words are which buffer:
+With side files, whose lines say where accesses are in the source and which words are which buffer:
   gpurace history --places places --buffers buffers l0 4 group*.gpurace
   buffer tile[4]
   access 0 0 0 write record 0 phase 0 behind none at scan.cl:12:5
@@ -282,9 +282,9 @@ enum Parameter {
     Flag(&'static str, &'static str),
     /// An option with a value: its name, the name of the value, and its help.
     Valued(&'static str, &'static str, &'static str),
-    /// A value that has to be given: its name and its help.
+    /// A value that must be given: its name and its help.
     Wanted(&'static str, &'static str),
-    /// The files, of which there is one at least.
+    /// The files: one at least.
     Files,
 }
 
@@ -304,7 +304,7 @@ const PAGES: [Page; 10] = [
     Page {
         name: "replay",
         usage: "gpurace replay [OPTIONS] [FILE]...",
-        about: "Reports on the trace in files, or on standard input; done without a command too",
+        about: "Reports on the trace in files, or on standard input; the default without a command",
         long_about: None,
         example: AFTER_REPLAY,
         parameters: &[Parameter::Flag("json", JSON)],
@@ -336,7 +336,7 @@ const PAGES: [Page; 10] = [
     Page {
         name: "explain",
         usage: EXPLAIN_USAGE,
-        about: "Tells of one word which two accesses race on it",
+        about: "Reports which two accesses race on one word",
         long_about: Some(LONG_EXPLAIN),
         example: AFTER_EXPLAIN,
         parameters: &[
@@ -352,14 +352,17 @@ const PAGES: [Page; 10] = [
     Page {
         name: "races",
         usage: RACES_USAGE,
-        about: "Tells of all races, kind by kind, with two accesses that race",
+        about: "Reports all races, kind by kind, with two accesses that race",
         long_about: Some(LONG_RACES),
         example: AFTER_RACES,
         parameters: &[
-            Parameter::Valued("most", "N", "Of how many kinds to tell at most"),
+            Parameter::Valued("most", "N", "How many kinds to report at most"),
             Parameter::Valued("places", "FILE", PLACES),
             Parameter::Valued("buffers", "FILE", BUFFERS),
-            Parameter::Flag("causes", "Tells also the cause of each race that is shown"),
+            Parameter::Flag(
+                "causes",
+                "Also reports the cause of each race that is shown",
+            ),
             Parameter::Flag("json", JSON),
             Parameter::Files,
         ],
@@ -367,7 +370,7 @@ const PAGES: [Page; 10] = [
     Page {
         name: "history",
         usage: HISTORY_USAGE,
-        about: "Tells of one word all accesses, and which are ordered behind which",
+        about: "Lists all accesses to one word, and which are ordered after which",
         long_about: Some(LONG_HISTORY),
         example: AFTER_HISTORY,
         parameters: &[
@@ -396,7 +399,7 @@ const PAGES: [Page; 10] = [
     Page {
         name: "check",
         usage: "gpurace check [OPTIONS] <FILE>...",
-        about: "Tells which record of a trace is at fault, and what would be right",
+        about: "Reports which record of a trace is at fault, and what would be right",
         long_about: Some(LONG_CHECK),
         example: AFTER_CHECK,
         parameters: &[Parameter::Flag("json", JSON), Parameter::Files],
@@ -404,7 +407,7 @@ const PAGES: [Page; 10] = [
     Page {
         name: "why-held",
         usage: WHY_HELD_USAGE,
-        about: "Tells why an event is held",
+        about: "Reports why an event is held",
         long_about: Some(LONG_WHY_HELD),
         example: AFTER_WHY_HELD,
         parameters: &[
@@ -417,7 +420,7 @@ const PAGES: [Page; 10] = [
     },
 ];
 
-/// The argument that a parameter is.
+/// The argument of a parameter.
 fn arg_of<'a>(alloc: Global, parameter: Parameter) -> Arg<'a>
     ensures rule { rule_of result ≡ rule_for parameter }
     ensures alone { result.global ≡ false }

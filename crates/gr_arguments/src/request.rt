@@ -14,32 +14,31 @@ use gr_model::event::{EventId, Word};
 use std::alloc::{AllocError, Global};
 use std::convert::AsStr;
 
-/// What is done with the streams that stand one after another on standard input.
+/// What is done with the streams on standard input, one after another.
 #[derive(Clone, Copy, Debug, PartialEq, Eq)]
 pub enum Task {
     /// Report on their launch, as text or as JSON.
     Replay { json: bool },
-    /// Write the bytes of the streams whose text stands there instead.
+    /// Read the text of streams there, and write their bytes.
     Pack,
-    /// Write their text; where they are refused and it is to be `partial`, the text of what stands before the fault.
+    /// Write their text; if they are refused and `partial` is set, the text of what comes before the fault.
     Dump { partial: bool },
     /// Write them in version 2.
     Upgrade,
 }
 
-/// What a command asks about the launch whose streams are in files.
+/// What a command asks about a launch whose streams are in files.
 #[derive(Clone, Copy)]
 pub enum Query {
-    /// The least racing pair of a word; `long`: also what the two accesses are, what stands between them and the cause of
-    /// their race.
+    /// The least racing pair of a word; `long`: also what the two accesses are, what is between them and the cause of their race.
     Explain { long: bool, word: Word },
-    /// The races by their kinds: of how many kinds at most, of all if there is no number; and whether with their causes.
+    /// The races by their kinds: `most` kinds, or all if there is no number; with their causes if `causes` is set.
     Races { most: Option<u32>, causes: bool },
     /// All accesses to a word.
     History { word: Word },
-    /// The report, by a run in threads: with how many workers and queues, and how many places a queue has.
+    /// The report, by a run in threads; `config` says how many workers and queues, and how much room a queue has.
     Run { config: Config },
-    /// Which record of which file is at fault, or how many records of each kind there are.
+    /// Which record of which file is at fault; or how many records of each kind there are.
     Check,
     /// Why an event is held.
     WhyHeld { event: EventId },
@@ -60,20 +59,20 @@ pub struct Arguments<'a> {
     pub files: Vec<&'a str>,
 }
 
-/// Why words that were taken ask for nothing.
+/// Why words ask for nothing, though the parser took them.
 #[derive(Clone, Copy, Debug, PartialEq, Eq)]
 pub enum Misuse {
-    /// Those of `explain` name side files, and do not ask for the long form.
+    /// `explain`: side files are given, but the long form is not asked for.
     SidesAlone,
-    /// Those of `explain` name no word of memory.
+    /// `explain`: no word of memory is given.
     NoWordToExplain,
-    /// Of `races`: how many kinds is no number.
+    /// `races`: the number of kinds is not a number.
     NoCount,
-    /// Those of `history` name no word of memory.
+    /// `history`: no word of memory is given.
     NoWordOfHistory,
-    /// Those of `run` set up none.
+    /// `run`: the numbers of workers, queues or room are not allowed.
     NoSetUp,
-    /// Those of `why-held` name no event.
+    /// `why-held`: no event is given.
     NoEvent,
 }
 
@@ -88,7 +87,7 @@ pub enum Request<'a> {
     Refuse(Misuse),
 }
 
-/// What the command of this name asks for with these values. A name that is none of the program's is `replay`.
+/// What the command of this name asks for with these values. An unknown name is taken for `replay`.
 fn request_by<'a>(
     alloc: Global,
     name: &str,
@@ -116,7 +115,7 @@ fn request_by<'a>(
     }
 }
 
-/// What the command that a parse met asks for with its values; a report where it met none.
+/// What the command that was parsed asks for with its values; a report if there is no command.
 fn request_in<'a>(alloc: Global, matches: &ArgMatches<'a>) -> Result<Request<'a>, AllocError>
     ensures { IfOk result (λ r. IsAskedBy (name_met (subcommand_rows_of matches.now)) (values_met (subcommand_rows_of matches.now)) (asked_of r)) }
 {
@@ -129,7 +128,7 @@ fn request_in<'a>(alloc: Global, matches: &ArgMatches<'a>) -> Result<Request<'a>
 /// What the words ask for, the program's name not among them.
 ///
 /// # Errors
-/// The text of help or of wrong usage, or `OutOfMemory`; of words that are taken this alone.
+/// The text of help or of wrong usage, or `OutOfMemory`. If the words are right, only `OutOfMemory`.
 pub fn request_of<'a, S: AsStr>(alloc: Global, words: &'a [S]) -> Result<Request<'a>, Error>
     ensures fails { FailsBy (faults (map S.text words.now)) result }
     ensures asks { IfOk result (λ r. AsksTo (asked_of r) (map S.text words.now)) }

@@ -13,14 +13,14 @@ use gr_model::config::Config;
 use gr_model::event::{EventId, Word};
 use std::alloc::{AllocError, Global};
 
-/// The value that stands under a name, if there is one.
+/// The value of this name, if there is one.
 fn value_of<'a>(values: &ArgMatches<'a>, name: &str) -> Option<&'a str>
     ensures { option_map (λ s. s.now) result ≡ first_of name.now (rows_of (found_of values.now)) }
 {
     values.get_str(name)
 }
 
-/// The values that stand under a name, if there are some.
+/// The values of this name, if there are some.
 fn values_of<'a, 'b>(values: &'b ArgMatches<'a>, name: &str) -> Option<&'b [&'a str]>
     ensures { option_map (λ s. map (λ v. v.now) s.now) result ≡ all_of name.now (rows_of (found_of values.now)) }
 {
@@ -51,7 +51,7 @@ fn word_of(values: &ArgMatches<'_>) -> Option<Word>
     word_named(value_of(values, "SPACE")?, value_of(values, "WORD")?)
 }
 
-/// Whether the values of the command `explain` ask for its long form; none where they name side files without it.
+/// Whether the values of the command `explain` ask for its long form; `None` if they name side files without it.
 fn form_of(values: &ArgMatches<'_>) -> Option<bool>
     ensures { IsTheOne (IsForm (rows_of (found_of values.now))) result }
 {
@@ -101,7 +101,7 @@ pub(crate) fn history_of(values: &ArgMatches<'_>) -> Result<Query, Misuse>
     }
 }
 
-/// The number below 2^32 behind an option, or `default` where the option is not there.
+/// The number below 2^32 after an option, or `default` if the option is not there.
 fn number_or(values: &ArgMatches<'_>, option: &str, default: u32) -> Option<u32>
     ensures { IsTheOne (IsNumberOr (rows_of (found_of values.now)) option.now default) result }
 {
@@ -149,7 +149,7 @@ pub(crate) fn why_held_of(values: &ArgMatches<'_>) -> Result<Query, Misuse>
     }
 }
 
-/// The name of a side file, of a query that takes side files.
+/// The name of a side file, if the query takes side files.
 fn side_of<'a>(query: &Query, option: &str, values: &ArgMatches<'a>) -> Option<&'a str>
     ensures { option_map (λ s. s.now) result ≡ asked.side_of query.now option.now (rows_of (found_of values.now)) }
 {
@@ -161,7 +161,7 @@ fn side_of<'a>(query: &Query, option: &str, values: &ArgMatches<'a>) -> Option<&
     }
 }
 
-/// What a command on files asks for, by what it has to say of its own values.
+/// What a command on files asks for, if its own values ask for `said`.
 pub(crate) fn ask<'a>(
     alloc: Global,
     said: Result<Query, Misuse>,

@@ -1,4 +1,4 @@
-//! The word of memory and the event that words of a command line name.
+//! The word of memory and the event that a command line names.
 
 ghost use Rattle.std.specs.Prelude.{ℕ, MatchOption};
 ghost use Rattle.gr_model.specs.declared.event.EventId.{EventId as AnyEvent};
@@ -8,7 +8,7 @@ ghost use Rattle.gr_arguments.specs.Naming.{IsGroupOf, IsNumber, IsShortNumber, 
 use gr_model::event::{EventId, ItemId, Word};
 use gr_model::limits::MOST_GROUPS;
 
-/// The number below 2^32 that is written in decimal digits, and without a sign. Zeros may lead.
+/// The number below 2^32 in decimal digits, without a sign. Leading zeros are allowed.
 pub fn number_of(text: &str) -> Option<u32>
     ensures { MatchOption result ((n : ℕ) → ¬ IsNumber text.now n) (λ n. IsNumber text.now n) }
 {
@@ -42,7 +42,7 @@ pub fn word_named(space: &str, number: &str) -> Option<Word>
     Some(Word::Local(group, number))
 }
 
-/// The number below 2^16 that is written so.
+/// The number below 2^16, in the same form.
 fn short_of(text: &str) -> Option<u16>
     ensures { MatchOption result ((n : ℕ) → ¬ IsShortNumber text.now n) (λ n. IsShortNumber text.now n) }
 {

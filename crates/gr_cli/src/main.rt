@@ -1,7 +1,7 @@
 //! `gpurace`: reports the data races and the divergent barriers of an OpenCL kernel launch, from its trace.
 //!
-//! What the words name is opened by `gr_plan`, and all that the program decides is in `gr_command`. `main` hands in words, input,
-//! output and error, and what opens a file.
+//! `gr_plan` opens what the words name, and `gr_command` decides what the program does. `main` gives them the words, input, output and
+//! error, and a function that opens a file.
 #![tactic(auto)]
 
 use gr_command::execute::{execute, fail};
@@ -22,7 +22,7 @@ use std::thread::Threads;
 use std::time::Clock;
 use std::{env, io};
 
-/// The words behind the program's name. Where there are none, and a terminal would have to be typed on, they ask for help.
+/// The words after the program's name. If there are none, and standard input is a terminal, they ask for help.
 fn words_or_help(rt: HostRuntime, mut words: Vec<String>) -> Result<Vec<String>, Memory> {
     if words.is_empty() && rt.stdin().is_terminal() {
         words.push(String::from_str(rt.alloc(), "--help")?)?;
@@ -30,7 +30,7 @@ fn words_or_help(rt: HostRuntime, mut words: Vec<String>) -> Result<Vec<String>,
     Ok(words)
 }
 
-/// Tells why nothing is done, and gives the exit status. That standard error fails is passed over.
+/// Reports why nothing is done, and gives the exit status. If standard error fails, that is ignored.
 fn refuse<E: Write>(refusal: &Refusal, errors: &mut E) -> u8 {
     match refusal {
         Refusal::Fault(fault) => {

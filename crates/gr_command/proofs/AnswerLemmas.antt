@@ -1,4 +1,4 @@
--- What a run leaves behind, from what its outcome says.
+-- The effects of a run, by its outcome.
 use Rattle.std.proofs.Common.{◌≡◌, ◌≢◌, ◌⊎◌, ℕ, Bool, true, false, List, [], Option, None, Some, Result, Ok, Err, inl, inr, refl, subst, sym}
 use Rattle.std.specs.Prelude.{IfOk, IfErr, IfSome, OnOk}
 use Rattle.std.specs.Io.KnownBytes.{Appends, Keeps}
@@ -33,7 +33,7 @@ use Rattle.gr_command.specs.Outcomes.{IsOutcome, IsTold}
 use Rattle.gr_command.specs.declared.status.TheConstants.{NOTHING, USAGE, WANTING, FAILED}
 
 module _ {F : Type 0} (line_of : F → List ℕ) (status_of : F → ℕ) (writing : F) (old new old_errors new_errors : Option (List ℕ)) (status : ℕ) {X : Type 0} (Has : X → Type 0) (Ends : X → ℕ → Type 0) (IsWhy : F → Type 0) (Prefix : Type 0) where
-  -- the outcome of a call, seen as `view` has it
+  -- the outcome of a call, as `view` shows it
   pub outcome_of : {R : Type 0} (view : R → X) (outcome : Result R F)
       → IfOk outcome (λ r. Has (view r))
       → IfErr outcome IsWhy
@@ -53,12 +53,12 @@ pub both : {R F : Type 0} (P Q : R → Type 0) (outcome : Result R F) → IfOk o
 both P Q (Ok r) p q = (p, q)
 both P Q (Err f) p q = tt
 
--- what is done without an outcome
+-- something is done, without a result
 pub done_of : {F : Type 0} (P : Type 0) (outcome : Result (Unit {0}) F) → OnOk outcome P → IfOk outcome (λ _. P)
 done_of P (Ok r) p = p
 done_of P (Err f) p = tt
 
--- a dump in part, as its call leaves it
+-- the outcome of a partial dump
 module _ (input old new old_errors new_errors : Option (List ℕ)) (status : ℕ) where
   pub partial_of : (outcome : Result (Unit {0}) Fault)
       → OnOk outcome (IfSome input (λ bytes. Writes (dumped bytes) old new))
@@ -75,7 +75,7 @@ module _ (input old new old_errors new_errors : Option (List ℕ)) (status : ℕ
   partial_of (Err f) whole why partial untouched prefix ends silent fault_ends line =
       inr (f, record { why = why; line = line; ends = fault_ends; partial = partial; untouched = untouched; prefix = prefix })
 
--- ---- where memory ran out before anything was done
+-- ---- memory ran out before anything was done
 
 memory_is_no_writing : Run Memory ≡ Run Write → ⊥
 memory_is_no_writing e = let same : Memory ≡ Write = cc in absurd cc
@@ -132,7 +132,7 @@ of_input (Some bytes) old new (r, exact, prefix) = (r, exact, (report_text r, re
 
 -- ---- words that are not taken
 
--- what is left behind where the words are wrong, and where they ask for help; memory may run out in both
+-- the effects if the words are wrong, and if they ask for help; memory may run out in both cases
 module _ (k : ErrorKind) (kinds : Kinds) (old new old_errors new_errors : Option (List ℕ)) (status : ℕ)
     (memory : k ≡ OutOfMemory → IsFaultTold old new old_errors new_errors status Memory) (among : (k ≡ OutOfMemory) ⊎ IsAmong k kinds) where
   pub wrong_of : (IsWrongUsage k → (status ≡ USAGE) × Keeps old new) → AreWrong kinds → IsUsageTold old new status
@@ -144,7 +144,7 @@ module _ (k : ErrorKind) (kinds : Kinds) (old new old_errors new_errors : Option
   pub help_of : (IsHelp k → (status ≡ NOTHING) ⊎ (status ≡ FAILED)) → AreHelp kinds → (status ≡ NOTHING) ⊎ (status ≡ WANTING) ⊎ (status ≡ FAILED)
   help_of help are = elim among [ inl e ↦ inr (inl (memory e).ends) | inr a ↦ elim (help (are.1 k a)) [ inl n ↦ inl n | inr f ↦ inr (inr f) ] ]
 
--- words that are taken fail only where memory runs out
+-- words that the parser takes fail only if memory runs out
 pub only_memory : (k : ErrorKind) (kinds : Kinds) → kinds ≡ [] → (k ≡ OutOfMemory) ⊎ IsAmong k kinds → k ≡ OutOfMemory
 only_memory k kinds none (inl memory) = memory
 only_memory k kinds none (inr among) = let nothing : IsAmong k [] = rw none at among in absurd nothing

@@ -1,4 +1,4 @@
--- What a run of the program leaves behind: on standard output, on standard error, and its status.
+-- The effects of a run of the program: standard output, standard error, and its status.
 -- Source: docs/OUTPUT.md, "The report", "Lines of faults" and "Statuses".
 use Rattle.std.specs.Prelude.{◌≡◌, ◌≢◌, ◌⊎◌, ℕ, Bool, false, true, List, Option, Result, IfSome, ⊤}
 use Rattle.std.specs.Io.KnownBytes.{Appends, Keeps}
@@ -57,12 +57,12 @@ WritesReportPrefix json r old new = (text : List ℕ) × IsReportTextOf json r t
 
 -- ---- tasks over standard input
 
--- a fault is told
+-- a fault is reported
 abbrev pub IsFaultTold : Option (List ℕ) → Option (List ℕ) → Option (List ℕ) → Option (List ℕ) → ℕ → Fault → Type 0
 IsFaultTold = IsTold fault_line fault_status Write
 
 module _ (input old new old_errors new_errors : Option (List ℕ)) (status : ℕ) where
-  -- the report of the input, whose whole text or JSON is written; or why it has none
+  -- the report of the input, with its whole text or JSON written; or why there is none
   abbrev pub IsReport : Bool → WholeReport → Type 0
   IsReport json r = IfSome input (λ bytes. IsExact bytes r) × WritesReport json r old new
 
@@ -71,14 +71,14 @@ module _ (input old new old_errors new_errors : Option (List ℕ)) (status : ℕ
       IsOutcome fault_line fault_status Write old new old_errors new_errors status (IsReport json) IsReportStatus
       (λ f. IfSome input (λ bytes. IsReplayFault bytes f)) (IfSome input (λ bytes. (r : WholeReport) × IsExact bytes r × WritesReportPrefix json r old new))
 
-  -- what the input means is written whole; or why it means nothing
+  -- the meaning of the input is written whole; or why it has none
   abbrev pub IsRewriting : (List ℕ → Result (List ℕ) Fault) → Type 0
   IsRewriting meaning =
       IsOutcome fault_line fault_status Write old new old_errors new_errors status
       (λ (done : Unit {0}). IfSome input (λ bytes. Writes (meaning bytes) old new)) (λ done ended. ended ≡ NOTHING)
       (λ f. f ≢ Write → IfSome input (λ bytes. Fails f (meaning bytes))) (IfSome input (λ bytes. WritesPrefixOf (meaning bytes) old new))
 
-  -- a fault is told, and its status is that of the run; what stands before it in the input is written, or nothing where reading fails or memory runs out, or a prefix where the writer fails
+  -- a fault is reported, and its status is that of the run; what comes before it in the input is written, or nothing if reading fails or memory runs out, or a prefix if the writer fails
   pub record IsPartlyDone (f : Fault) : Type 0 where
     pub why : f ≢ Write → IfSome input (λ bytes. Fails f (dumped bytes))
     pub line : AppendsPrefix old_errors new_errors (fault_line f)
@@ -91,7 +91,7 @@ module _ (input old new old_errors new_errors : Option (List ℕ)) (status : ℕ
   abbrev pub IsPartialDump : Type 0
   IsPartialDump = (IfSome input (λ bytes. Writes (dumped bytes) old new) × Keeps old_errors new_errors × (status ≡ NOTHING)) ⊎ ((f : Fault) × IsPartlyDone f)
 
-  -- what each task leaves behind
+  -- the effects of each task
   abbrev pub IsAnswerOf : Task → Type 0
   IsAnswerOf (Replay json) = IsAnswer json
   IsAnswerOf Pack = IsRewriting packed
@@ -101,12 +101,12 @@ module _ (input old new old_errors new_errors : Option (List ℕ)) (status : ℕ
 
 -- ---- launches whose streams are in files, one each
 
--- that of JSON where it is asked for, and else that of the text
+-- the property of JSON if that is asked for, else that of the text
 abbrev pub in_form : Bool → (SidesSaid → Streams → List ℕ → Type 0) → (SidesSaid → Streams → List ℕ → Type 0) → SidesSaid → Streams → List ℕ → Type 0
 in_form true IsJson IsText = IsJson
 in_form false IsJson IsText = IsText
 
--- that of both forms
+-- one property of both forms
 abbrev pub in_both : Bool → (SidesSaid → Streams → List ℕ → Type 0) → SidesSaid → Streams → List ℕ → Type 0
 in_both json IsText = in_form json IsText IsText
 
@@ -116,11 +116,11 @@ sides_of a = record { places = a.places; buffers = a.buffers }
 
 -- the report of a run in threads over the files of these names
 module _ {T X : Type 0} (remaining : T → Option (List ℕ)) (Gives : List ℕ → Result T X → Type 0) (names : List (List ℕ)) where
-  -- it is the report of the bytes of the files, where these are known
+  -- it is the report of the bytes of the files, if these are known
   abbrev pub IsReportOfFiles : WholeReport → Type 0
   IsReportOfFiles r = HoldsOfFiles remaining Gives names (λ known. IfSome known (λ inputs. IsExactOfEach inputs r))
 
-  -- why there is none: a file can't be opened, or the bytes of the files are no launch, or a thread or memory is missing, or the writer failed
+  -- why there is none: a file can't be opened, or the bytes of the files are not a launch, or a thread or memory is missing, or the writer failed
   abbrev pub IsFaultOfFiles : Fault → Type 0
   IsFaultOfFiles f = IsOpeningFault Gives names f ⊎ HoldsOfFiles remaining Gives names (λ known. IfSome known (λ inputs. IsRunFault inputs f))
 
@@ -130,7 +130,7 @@ module _ {T X : Type 0} (remaining : T → Option (List ℕ)) (Gives : List ℕ 
       HoldsOfFiles remaining Gives names (λ known. IfSome known (λ inputs. (r : WholeReport) × IsExactOfEach inputs r × WritesReportPrefix json r old new))
 
 module _ {T X : Type 0} (remaining : T → Option (List ℕ)) (Gives : List ℕ → Result T X → Type 0) (old new : Option (List ℕ)) where
-  -- a rendering of what comes of the check of the files of these names is written whole, and it is said whether they are accepted
+  -- a rendering of the check of the files of these names is written whole, and `accepted` says whether they are accepted
   abbrev pub IsCheckedOfFiles : List (List ℕ) → Bool → Type 0
   IsCheckedOfFiles names accepted = HoldsOfFiles remaining Gives names (λ known. (c : CheckedSaid) × IsCheckedAsKnown names known c × (accepted ≡ is_accepted c) × (text : List ℕ) × Appends old new text)
 
@@ -138,10 +138,10 @@ module _ {T X : Type 0} (remaining : T → Option (List ℕ)) (Gives : List ℕ 
   abbrev pub ChecksPrefixOfFiles : List (List ℕ) → Type 0
   ChecksPrefixOfFiles names = HoldsOfFiles remaining Gives names (λ known. (c : CheckedSaid) × IsCheckedAsKnown names known c × (text : List ℕ) × AppendsPrefix old new text)
 
-  -- what is left behind of an inquiry
+  -- the effects of an inquiry
   module _ (old_errors new_errors : Option (List ℕ)) (status : ℕ) (a : Inquiry) where
-    -- a text that answers it, with its side files and the streams in its files, is written whole, and the status says whether what
-    -- is looked for is found; or why there is none
+    -- a text that answers it, from its side files and the streams in its files, is written whole, and the status says whether what
+    -- it looks for is found; or why there is no text
     abbrev pub IsAnswered : (SidesSaid → Streams → List ℕ → Type 0) → (Streams → Type 0) → Type 0
     IsAnswered IsTextOf IsFoundIn =
         IsOutcome sides_fault_line sides_fault_status (Run Write) old new old_errors new_errors status
@@ -162,8 +162,8 @@ module _ {T X : Type 0} (remaining : T → Option (List ℕ)) (Gives : List ℕ 
         (λ r. IsReportOfFiles remaining Gives a.files r × WritesReport a.json r old new) IsReportStatus
         (IsFaultOfFiles remaining Gives a.files) (WritesPrefixOfFiles remaining Gives a.files a.json old new)
 
-    -- of a word the line of its least racing pair, or a rendering as JSON and in the long form, and whether it is racy; a rendering
-    -- of the races, and whether there is one; of all accesses to a word, and whether it is racy; of why an event is held, and whether it is
+    -- the line of a word's least racing pair, or a rendering if it is JSON or the long form, and whether the word is racy; a rendering of
+    -- the races, and whether there is one; of all accesses to a word, and whether it is racy; of why an event is held, and whether it is
     abbrev pub IsAnswerTo : Query → Type 0
     IsAnswerTo (Explain false w) = IsAnswered (in_form a.json (λ said s. Renders (IsExplanation s w)) (λ said. IsLine w)) (IsRacyIn w)
     IsAnswerTo (Explain true w) = IsAnswered (in_both a.json (λ said s. Renders (IsAccountOf s (place_number said.places) w))) (IsRacyIn w)
@@ -175,11 +175,11 @@ module _ {T X : Type 0} (remaining : T → Option (List ℕ)) (Gives : List ℕ 
 
 -- ---- whatever words ask for
 
--- the words are told to be wrong, unless memory ran out first; nothing is written
+-- the words are reported as wrong, unless memory ran out first; nothing is written
 abbrev pub IsUsageTold : Option (List ℕ) → Option (List ℕ) → ℕ → Type 0
 IsUsageTold old new status = ((status ≡ USAGE) ⊎ (status ≡ WANTING)) × Keeps old new
 
--- what is left behind of what words ask for, over this input, and with files that are opened so
+-- the effects of what words ask for, over this input, with files that are opened in this way
 module _ {T X : Type 0} (remaining : T → Option (List ℕ)) (Gives : List ℕ → Result T X → Type 0) (input old new old_errors new_errors : Option (List ℕ)) (status : ℕ) where
   abbrev pub IsDone : Asked → Type 0
   IsDone (perform t) = IsAnswerOf input old new old_errors new_errors status t

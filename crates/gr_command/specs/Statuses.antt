@@ -26,13 +26,13 @@ fault_status Threads = WANTING
 fault_status Read = FAILED
 fault_status Write = FAILED
 
--- and so is a side file that is out of form
+-- the status of a fault with side files
 abbrev pub sides_fault_status : SidesFault → ℕ
 sides_fault_status (Run f) = fault_status f
 sides_fault_status (Places line) = REFUSED
 sides_fault_status (Buffers line) = REFUSED
 
--- a report has the status of a finding where it has a race, a divergent barrier or an unmatched acquire
+-- a report has the status of a finding if it has a race, a divergent barrier or an unmatched acquire
 abbrev pub IsReportStatus : WholeReport → ℕ → Type 0
 IsReportStatus r status = ((status ≡ FOUND) × HasFinding r) ⊎ ((status ≡ NOTHING) × ¬ HasFinding r)
 

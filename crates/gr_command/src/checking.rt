@@ -18,7 +18,7 @@ use gr_show::writing::write_text;
 use std::alloc::Global;
 use std::io::{self, Read, Write};
 
-/// What comes of a check, as text or as JSON.
+/// The outcome of a check, as text or as JSON.
 fn text_of(alloc: Global, checked: &Checked<'_>, json: bool) -> Result<Vec<u8>, Memory> {
     if json {
         check_json(alloc, checked)
@@ -27,12 +27,11 @@ fn text_of(alloc: Global, checked: &Checked<'_>, json: bool) -> Result<Vec<u8>, 
     }
 }
 
-/// Checks files: writes what comes of it, as text or as JSON, and nothing else, and tells whether
-/// they are those of a launch.
+/// Checks files, and writes the outcome, as text or as JSON, and nothing else. Gives whether they are the files of a launch.
 ///
 /// # Errors
-/// Those of `check_files`, and `Memory` where there is no memory for the text: nothing is then written. `Write` where the
-/// writer fails, which then has a prefix of the text.
+/// Those of `check_files`, and `Memory` if there is no memory for the text: nothing is then written. `Write` if the writer fails,
+/// which then has a prefix of the text.
 pub fn write_check<T: Read + Drop, O: Fn(&str) -> io::Result<T>, W: Write>(
     alloc: Global,
     arguments: &Arguments<'_>,

@@ -54,8 +54,8 @@ decimal digits";
 const NO_SET_UP: &str = "\
 N of --workers is 1 to 8, N of --queues is 1 to 4, and N of --capacity is 1 to 65536, in decimal digits";
 
-/// Tells of a fault on standard error, and gives its status. That standard error fails is passed over: there is nowhere
-/// left to tell it.
+/// Writes the line of a fault to standard error, and gives its status. If standard error fails, that is ignored: there is nowhere
+/// left to report it.
 pub fn fail<E: Write>(fault: &Fault, errors: &mut E) -> u8
     ensures status { result ≡ fault_status fault.now }
     ensures told { AppendsPrefix (E.contents errors.old) (E.contents errors.new) (fault_line fault.now) }
@@ -84,7 +84,7 @@ fn explain_usage<W: Write, E: Write>(error: &Error, writer: &mut W, errors: &mut
     }
 }
 
-/// Tells of a run that failed, and gives the status of what came of it.
+/// Reports a run that failed, and gives the status of the outcome.
 fn conclude<E: Write>(outcome: Result<Report, Fault>, errors: &mut E) -> u8
     ensures report { IfOk outcome (λ report. IsReportStatus (whole_of report) result) }
     ensures silent { OnOk outcome (Keeps (E.contents errors.old) (E.contents errors.new)) }
@@ -97,7 +97,7 @@ fn conclude<E: Write>(outcome: Result<Report, Fault>, errors: &mut E) -> u8
     }
 }
 
-/// Tells of a rewriting that failed, and gives the status of what came of it.
+/// Reports a rewriting that failed, and gives the status of the outcome.
 fn conclude_rewriting<E: Write>(outcome: Result<(), Fault>, errors: &mut E) -> u8
     ensures done { OnOk outcome (result ≡ NOTHING) }
     ensures silent { OnOk outcome (Keeps (E.contents errors.old) (E.contents errors.new)) }
@@ -110,8 +110,8 @@ fn conclude_rewriting<E: Write>(outcome: Result<(), Fault>, errors: &mut E) -> u
     }
 }
 
-/// Does the task, and gives the exit status. Either all that the task gives on the input is written, and nothing is told
-/// on standard error; or standard error tells why it does not, and the status is that of the fault.
+/// Does the task, and gives the exit status. Either the whole result of the task is written, and nothing on standard error; or
+/// standard error says why not, and the status is that of the fault.
 fn perform<R: Read, W: Write, E: Write>(
     alloc: Global,
     task: Task,
@@ -133,8 +133,8 @@ fn perform<R: Read, W: Write, E: Write>(
     }
 }
 
-/// Tells of a fault of a launch with side files on standard error, and gives its status. That standard error fails is passed
-/// over.
+/// Writes the line of a fault of a launch with side files to standard error, and gives its status. If standard error fails, that is
+/// ignored.
 fn fail_with_sides<E: Write>(fault: &SidesFault, errors: &mut E) -> u8
     ensures status { result ≡ sides_fault_status fault.now }
     ensures told { AppendsPrefix (E.contents errors.old) (E.contents errors.new) (sides_fault_line fault.now) }
@@ -143,7 +143,7 @@ fn fail_with_sides<E: Write>(fault: &SidesFault, errors: &mut E) -> u8
     status_of_sides_fault(fault)
 }
 
-/// Tells of a question that could not be answered, and gives the status of what came of it.
+/// Reports a question that could not be answered, and gives the status of the outcome.
 fn conclude_telling<E: Write>(outcome: Result<bool, SidesFault>, errors: &mut E) -> u8
     ensures race { IfOk outcome (λ found. result ≡ race_status found) }
     ensures silent { OnOk outcome (Keeps (E.contents errors.old) (E.contents errors.new)) }
@@ -156,7 +156,7 @@ fn conclude_telling<E: Write>(outcome: Result<bool, SidesFault>, errors: &mut E)
     }
 }
 
-/// Writes the answer to a question about the launch whose streams are in files, and gives the exit status.
+/// Writes the answer to a question about a launch whose streams are in files, and gives the exit status.
 fn tell<Q, T, O, W, E>(
     alloc: Global,
     question: &Q,
@@ -208,7 +208,7 @@ where
     }
 }
 
-/// Reports a check that failed, and gives the status of what came of it.
+/// Reports a check that failed, and gives the status of the outcome.
 fn conclude_check<E: Write>(outcome: Result<bool, Fault>, errors: &mut E) -> u8
     ensures accepted { IfOk outcome (λ accepted. result ≡ check_status accepted) }
     ensures silent { OnOk outcome (Keeps (E.contents errors.old) (E.contents errors.new)) }
@@ -221,7 +221,7 @@ fn conclude_check<E: Write>(outcome: Result<bool, Fault>, errors: &mut E) -> u8
     }
 }
 
-/// Answers what is asked about the launch whose streams are in files, and gives the exit status.
+/// Answers what is asked about a launch whose streams are in files, and gives the exit status.
 fn ask<H, T, O, W, E>(
     rt: H,
     alloc: Global,
@@ -265,7 +265,7 @@ where
     }
 }
 
-/// What is wrong with the words of a command that were taken, and how the command is used.
+/// What is wrong with words that the parser took, and how their command is used.
 fn wrong_usage(why: Misuse) -> (&'static str, &'static str) {
     match why {
         Misuse::SidesAlone => ("--places and --buffers go with --long", EXPLAIN_USAGE),
@@ -277,7 +277,7 @@ fn wrong_usage(why: Misuse) -> (&'static str, &'static str) {
     }
 }
 
-/// Says on standard error that the words of a command are wrong, though they were taken.
+/// Says on standard error that the words of a command are wrong, though the parser took them.
 fn refuse<E: Write>(why: Misuse, errors: &mut E) -> u8
     ensures { result ≡ USAGE }
 {
@@ -317,8 +317,8 @@ where
     }
 }
 
-/// Does what the words ask for, and gives the exit status. The words are those behind the program's name. Files are opened
-/// by `opener` where the words name files; no other request opens one. Only a run in threads uses `rt`.
+/// Does what the words ask for, and gives the exit status. The words are those after the program's name. If they name files, `opener`
+/// opens them; no other request opens a file. Only a run in threads uses `rt`.
 pub fn execute<H, S, R, T, O, W, E>(
     rt: H,
     alloc: Global,

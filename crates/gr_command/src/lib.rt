@@ -1,6 +1,6 @@
-//! The program over values: what is done about the words of a command line.
+//! The program over values: does what the words of a command line ask for.
 //!
-//! Reader, writers, files and threads are handed in, so that tests run the program in memory.
+//! Its reader, writers, files and threads are arguments, so tests can run the program in memory.
 #![tactic(auto)]
 
 mod checking;

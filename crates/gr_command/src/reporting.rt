@@ -1,4 +1,4 @@
-//! Reports that may be JSON: of an input, and of a run in threads whose streams are in files.
+//! Reports as JSON, and the report of a run in threads over files, as text or JSON.
 
 ghost use Rattle.std.specs.Prelude.{◌≡◌, ◌≢◌, ◌⊎◌, true, IfErr, IfOk, IfSome, OnOk, map};
 ghost use Rattle.std.specs.Fn.{FnReturnsAt};
@@ -27,7 +27,7 @@ use std::time::Clock;
 /// Writes the JSON of a report and nothing else.
 ///
 /// # Errors
-/// `Memory`, before anything is written; `Write`, where the writer has a prefix.
+/// `Memory`, before anything is written; `Write`, after which the writer has a prefix.
 fn write_json<W: Write>(alloc: Global, report: &Report, writer: &mut W) -> Result<(), Fault>
     ensures whole { OnOk result (WritesReport true (whole_of report.now) (W.contents writer.old) (W.contents writer.new)) }
     ensures fault { IfErr result (λ f. (f ≡ faults.Memory) ⊎ (f ≡ faults.Write)) }
@@ -63,7 +63,7 @@ pub fn replay_json<R: Read, W: Write>(
     Ok(report)
 }
 
-/// Opens the files, reads the streams of a launch, one from each, in threads that are set up so, and writes the text of its
+/// Opens the files, reads the streams of a launch, one from each, in threads as `config` sets them up, and writes the text of its
 /// report, or its JSON, and nothing else.
 ///
 /// # Errors

@@ -29,7 +29,7 @@ pub const WANTING: u8 = 4;
 /// Reading or writing failed.
 pub const FAILED: u8 = 5;
 
-/// The status of a run that failed. Each fault is named, so that a new one does not compile until it has a status.
+/// The status of a run that failed. Each fault is listed, so a new fault does not compile until it has a status.
 pub fn status_of(fault: &Fault) -> u8
     ensures { result ≡ fault_status fault.now }
 {
@@ -72,7 +72,7 @@ pub fn status_of_race(found: bool) -> u8
     if found { FOUND } else { NOTHING }
 }
 
-/// The status of a check, by whether the files are accepted.
+/// The status of a check.
 pub fn status_of_check(accepted: bool) -> u8
     ensures { result ≡ check_status accepted }
 {

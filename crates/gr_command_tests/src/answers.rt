@@ -54,8 +54,8 @@ fn all_races(causes: bool) -> Races {
     Races { most: None, causes }
 }
 
-/// Answers a question as the frame does.
-fn told<A: Allocator + Copy, Q: Question<A>>(
+/// Answers a question as the program does.
+fn shown<A: Allocator + Copy, Q: Question<A>>(
     alloc: A,
     files: Files<'_>,
     question: &Q,
@@ -87,11 +87,11 @@ pub(crate) fn answered<A: Allocator + Copy>(
     writer: &mut FailingWriter,
 ) -> Result<bool, SidesFault> {
     match asked {
-        Asked::Pair(word) => told(alloc, files, &LeastRace(word), writer),
-        Asked::Account(word) => told(alloc, files, &LongRace(word), writer),
-        Asked::Races(causes) => told(alloc, files, &all_races(causes), writer),
-        Asked::WhyHeld(item, index) => told(alloc, files, &held_event(item, index), writer),
-        Asked::History(word) => told(alloc, files, &WordHistory(word), writer),
+        Asked::Pair(word) => shown(alloc, files, &LeastRace(word), writer),
+        Asked::Account(word) => shown(alloc, files, &LongRace(word), writer),
+        Asked::Races(causes) => shown(alloc, files, &all_races(causes), writer),
+        Asked::WhyHeld(item, index) => shown(alloc, files, &held_event(item, index), writer),
+        Asked::History(word) => shown(alloc, files, &WordHistory(word), writer),
         Asked::Check => Ok(checked(alloc, files, writer)?),
     }
 }

@@ -1,4 +1,4 @@
-//! What no words of a command line and no files give.
+//! What no command line and no files can cause.
 
 use gr_command::execute::execute;
 use gr_command::status::status_of;
@@ -32,13 +32,13 @@ fn a_fault_has_its_status(rt: HostRuntime) {
     }
 }
 
-/// Opens no file for want of memory.
+/// Opens no file: there is no memory.
 fn open_none(_: &str) -> io::Result<&'static [u8]> {
     Err(io::Error::from(ErrorKind::OutOfMemory))
 }
 
-/// The status of words where no file can be opened for want of memory, and whether that alone is told.
-fn told_without_memory<H: Threads + Wait + Clock + Copy + Send + 'static>(
+/// The status of words if there is no memory to open a file, and whether only that is reported.
+fn run_without_memory<H: Threads + Wait + Clock + Copy + Send + 'static>(
     rt: H,
     alloc: Global,
     words: &[&str],
@@ -55,16 +55,16 @@ fn told_without_memory<H: Threads + Wait + Clock + Copy + Send + 'static>(
         &mut output,
         &mut errors,
     );
-    let is_told = errors.as_slice() == b"gpurace: out of memory\n".as_slice();
-    (status, is_told && output.is_empty())
+    let is_reported = errors.as_slice() == b"gpurace: out of memory\n".as_slice();
+    (status, is_reported && output.is_empty())
 }
 
 #[test]
-fn a_file_that_wants_memory_to_be_opened_is_told(rt: HostRuntime) {
+fn a_file_that_wants_memory_to_be_opened_is_reported(rt: HostRuntime) {
     let explain = ["explain", "g", "16", "wanting"];
-    assert_eq!(rt; told_without_memory(rt, rt.alloc(), &explain), (4, true));
+    assert_eq!(rt; run_without_memory(rt, rt.alloc(), &explain), (4, true));
     assert_eq!(rt;
-        told_without_memory(rt, rt.alloc(), &["run", "wanting"]),
+        run_without_memory(rt, rt.alloc(), &["run", "wanting"]),
         (4, true)
     );
 }
@@ -79,7 +79,7 @@ static LINES: [(SidesFault, &str); 3] = [
     (SidesFault::Run(Fault::Read), "gpurace: read fault\n"),
 ];
 
-/// Whether a line that is written whole and can't be flushed is not told as written.
+/// Whether a line that is written whole and can't be flushed counts as not written.
 fn fails_unflushed(alloc: Global, fault: &SidesFault, line: &[u8]) -> bool {
     let mut writer = FailingWriter::with_room(alloc, line.len());
     write_sides_fault(fault, &mut writer).is_err() && writer.has_front(line, line.len())

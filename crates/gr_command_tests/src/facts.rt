@@ -1,9 +1,9 @@
-//! What the contracts alone give for some values, each of which a wrong body would answer otherwise.
+//! What the contracts alone give for some values. A wrong body would give another value for each.
 
 use gr_model::event::{EventId, ItemId};
 use gr_timeline::reason::Reason;
 
-/// A barrier is held for the event before the one that it is met with.
+/// A barrier is held because of the event before the barrier that it meets.
 #[test]
 fn leads_to_of_a_barrier() {
     let event = EventId {

@@ -11,14 +11,14 @@ use std::test::Fail;
 /// A question, for all that one frame answers, and a check.
 static QUESTIONS: [Asked; 2] = [Asked::Races(true), Asked::Check];
 
-/// Whether a file that fails is told, and nothing is written.
+/// Whether a file that fails is reported, and nothing is written.
 fn fails_to_read(alloc: Global, files: Files<'_>, question: Asked) -> bool {
     let mut writer = FailingWriter::with_room(alloc, usize::MAX);
     let answered = answered(alloc, files, question, &mut writer);
     answered == Err(SidesFault::Run(Fault::Read)) && writer.taken.is_empty()
 }
 
-/// Whether a file that fails is told, behind however many calls.
+/// Whether a file that fails is reported, after any number of calls.
 fn fails_at_each_read(alloc: Global, streams: &[Vec<u8>], name: &str, question: Asked) -> bool {
     let Some(bytes) = bytes_of(streams, name) else {
         return false;
@@ -35,7 +35,7 @@ fn files_of(question: Asked) -> &'static [&'static str] {
     }
 }
 
-/// Whether each file that is read for an answer, and fails, is told.
+/// Whether each file that is read for an answer is reported if it fails.
 fn fails_in_each_file(alloc: Global, streams: &[Vec<u8>], question: Asked) -> bool {
     files_of(question)
         .iter()
@@ -43,7 +43,7 @@ fn fails_in_each_file(alloc: Global, streams: &[Vec<u8>], question: Asked) -> bo
 }
 
 #[test]
-fn readers_that_fail_are_told(rt: HostRuntime) -> Result<(), Fail> {
+fn readers_that_fail_are_reported(rt: HostRuntime) -> Result<(), Fail> {
     let streams = streams_of(rt.alloc(), &NOTED)?;
     for question in &QUESTIONS {
         assert!(rt;
@@ -54,7 +54,7 @@ fn readers_that_fail_are_told(rt: HostRuntime) -> Result<(), Fail> {
     Ok(())
 }
 
-/// Whether a writer that fails behind so many bytes, or at its flush behind all, is told and has so many of the text.
+/// Whether a writer that fails after `room` bytes, or at its flush after all, is reported and has `room` bytes of the text.
 fn fails_to_write(
     alloc: Global,
     streams: &[Vec<u8>],
@@ -67,7 +67,7 @@ fn fails_to_write(
     answered == Err(SidesFault::Run(Fault::Write)) && writer.has_front(text, room)
 }
 
-/// Whether a writer that fails is told, behind however many bytes.
+/// Whether a writer that fails is reported, after any number of bytes.
 fn fails_at_each_write(alloc: Global, streams: &[Vec<u8>], question: Asked) -> bool {
     let mut writer = FailingWriter::with_room(alloc, usize::MAX);
     let answered = answered(alloc, Files::with_sides(streams), question, &mut writer);

@@ -1,4 +1,4 @@
-//! Each growth is refused in turn: then memory runs out and nothing is written, or what is due is answered and written.
+//! Each growth is refused in turn: then memory runs out and nothing is written, or the right answer is given and written.
 
 use crate::answers::{ALL, Asked, answered};
 use crate::launches::{Files, LAUNCHES, Launch, NOTED, streams_of};
@@ -24,7 +24,7 @@ fn answer_of<A: Allocator + Copy>(
     (answer, writer.taken)
 }
 
-/// Whether the answer is the one that is due, or memory runs out with nothing written.
+/// Whether the answer is right, or memory runs out and nothing is written.
 fn is_due<A: Allocator + Copy>(
     alloc: A,
     ample: Global,
@@ -39,14 +39,14 @@ fn is_due<A: Allocator + Copy>(
     }
 }
 
-/// Whether each growth of an answer is refused, at least so many, and each time the answer is due.
-fn are_growths_told(ample: Global, files: Files<'_>, asked: Asked, least: u64) -> bool {
+/// Whether each growth of an answer, at least `least`, can be refused and the answer is right each time.
+fn are_growths_reported(ample: Global, files: Files<'_>, asked: Asked, least: u64) -> bool {
     let due = answer_of(ample, ample, files, asked);
     let growths = refuse_each(ample, least, |heap| is_due(heap, ample, files, asked, &due));
     growths.is_ok_and(|growths| growths.told >= 1)
 }
 
-/// How many growths there are at least where side files are read, too.
+/// How many growths there are at least, if side files are read too.
 fn least_of(asked: Asked) -> u64 {
     match asked {
         Asked::Check => 4,
@@ -59,16 +59,16 @@ fn each_refused_growth_beside_side_files_is_want_of_memory(rt: HostRuntime) -> R
     let streams = streams_of(rt.alloc(), &NOTED)?;
     let files = Files::with_sides(&streams);
     for asked in &ALL {
-        let told = are_growths_told(rt.alloc(), files, *asked, least_of(*asked));
-        assert!(rt; told, "{asked:?}");
+        let reported = are_growths_reported(rt.alloc(), files, *asked, least_of(*asked));
+        assert!(rt; reported, "{asked:?}");
     }
     Ok(())
 }
 
-/// Whether each growth in each answer about a launch is told.
-fn are_all_told(alloc: Global, files: Files<'_>) -> bool {
+/// Whether each refused growth in each answer about a launch is reported.
+fn are_all_reported(alloc: Global, files: Files<'_>) -> bool {
     ALL.iter()
-        .all(|asked| are_growths_told(alloc, files, *asked, 2))
+        .all(|asked| are_growths_reported(alloc, files, *asked, 2))
 }
 
 #[test]
@@ -76,7 +76,7 @@ fn each_refused_growth_is_want_of_memory(rt: HostRuntime) -> Result<(), Fail> {
     for launch in &LAUNCHES {
         let streams = streams_of(rt.alloc(), launch)?;
         let name = launch.0;
-        assert!(rt; are_all_told(rt.alloc(), Files::of(&streams)), "{name}");
+        assert!(rt; are_all_reported(rt.alloc(), Files::of(&streams)), "{name}");
     }
     Ok(())
 }

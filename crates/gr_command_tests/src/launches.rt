@@ -6,12 +6,12 @@ use refusing::failing::FailingReader;
 use std::alloc::{AllocError, Global};
 use std::io::{self, ErrorKind};
 
-/// The texts of a launch's streams under a name. One that is no text of a stream is the file's bytes as it stands.
+/// A name, and the texts of a launch's streams. A text that is not one of a stream is itself the bytes of the file.
 pub(crate) type Launch = (&'static str, &'static [&'static str]);
 
-/// Between a write and a read of word 16 stand two barriers, a release and an acquire; then both items write a local word.
+/// Between a write and a read of word 16 are two barriers, a release and an acquire; then both items write a local word.
 pub(crate) const NOTED: Launch = (
-    "a launch of which side files tell",
+    "a launch with side files",
     &[
         "group 0 items 2 launch 7\n0 w g 16\n0 bar 9 l\n1 bar 9 l\n1 bar 4 -\n0 bar 4 -\n\
          0 rmw g 20 dev both\n1 ld g 28 dev acq\n1 r g 16\n0 w l 4\n1 w l 4\nend\n",
@@ -25,7 +25,7 @@ const PLACES: &str =
 
 const BUFFERS: &str = "g 12 8 flags\ng 16 1 late\nl 0 0 16 tile\n";
 
-/// Launches with races of each cause, with several hand-overs, with events that are held for each reason, and refused ones.
+/// Launches with races of each cause, with several hand-overs, with events that are held for each reason, and refused launches.
 pub(crate) static LAUNCHES: [Launch; 10] = [
     (
         "a race of each cause",
@@ -122,7 +122,7 @@ pub(crate) fn bytes_of<'a>(streams: &'a [Vec<u8>], name: &str) -> Option<&'a [u8
 /// The names of the streams' files.
 static NAMES: [&str; 2] = ["0", "1"];
 
-/// The files of a launch, of which one fails behind so many calls.
+/// The files of a launch. One of them fails after some calls.
 #[derive(Clone, Copy)]
 pub(crate) struct Files<'a> {
     pub(crate) streams: &'a [Vec<u8>],
@@ -155,7 +155,7 @@ impl<'a> Files<'a> {
         }
     }
 
-    /// The same files, of which that of this name fails behind so many calls.
+    /// The same files, but the file of this name fails after `calls` calls.
     pub(crate) fn failing(self, name: &'a str, calls: usize) -> Files<'a> {
         Files {
             streams: self.streams,
@@ -169,7 +169,7 @@ impl<'a> Files<'a> {
         &NAMES[..self.streams.len().min(2)]
     }
 
-    /// Opens a file by its name, a byte of which is read at each call.
+    /// Opens a file by its name. Each call reads one byte of it.
     pub(crate) fn open(&self, name: &str) -> io::Result<FailingReader<'a>> {
         let calls = if name == self.failing.0 {
             self.failing.1

@@ -1,5 +1,5 @@
-//! Tests of the commands that tell of a launch in files, in what files can't do: growths that are refused, readers and writers that
-//! fail at each of their calls, and values that no file has. All else is in the folder `tests`.
+//! Tests of the commands on files, of what files can't cause: growths that are refused, readers and writers that fail at each of their
+//! calls, and values that no file has. All other tests are in the folder `tests`.
 #![tactic(auto)]
 
 #[cfg(test)]

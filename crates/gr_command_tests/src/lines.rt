@@ -1,4 +1,4 @@
-//! Lines of side files: what no launch has, the numbers of places, and growths that are refused.
+//! Lines of side files: values that no launch has, the numbers of places, and growths that are refused.
 
 use gr_model::event::{EventId, ItemId, Word};
 use gr_model::memory::Memory;

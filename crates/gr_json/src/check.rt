@@ -29,7 +29,7 @@ fn counts_value(alloc: Global, counts: &Counts) -> Made {
     })
 }
 
-/// The byte and the record of a place in a stream, each where it has one.
+/// The byte and the record of a place in a stream, each if there is one.
 fn byte_and_record(spot: Option<Spot>) -> (Option<u64>, Option<u64>) {
     match spot {
         None => (None, None),
@@ -39,7 +39,7 @@ fn byte_and_record(spot: Option<Spot>) -> (Option<u64>, Option<u64>) {
     }
 }
 
-/// What a fault is about, or null where that is no stream and no group.
+/// What a fault is about, or null if that is no stream and no group.
 fn place_value(alloc: Global, place: FaultPlace<'_>) -> Made {
     let text_value = |text: Option<&str>| text_value(alloc, text);
     match place {
@@ -62,7 +62,7 @@ fn place_value(alloc: Global, place: FaultPlace<'_>) -> Made {
     }
 }
 
-/// The line of a check: how large the launch is; or where its fault is, what is wrong and what would be right.
+/// The line of a check: how large the launch is, or where its fault is, what is wrong and what would be right.
 ///
 /// # Errors
 /// `Memory`: out of memory.

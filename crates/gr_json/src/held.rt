@@ -7,12 +7,12 @@ use gr_timeline::why::WhyHeld;
 use serde_json::json;
 use std::alloc::{Allocator, Global};
 
-/// A reason that is about an event.
+/// A reason about an event.
 fn about_event(alloc: Global, name: &str, event: EventId) -> Made {
     json!(in alloc; {"event": event_value(alloc, event)?, "name": name})
 }
 
-/// A reason that is about a release that an acquire names.
+/// A reason about a release that an acquire names.
 fn about_release(alloc: Global, name: &str, named: Name) -> Made {
     json!(in alloc; {
         "name": name,

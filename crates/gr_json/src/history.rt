@@ -21,7 +21,7 @@ fn named_value(alloc: Global, named: &Named) -> Made {
     json!(in alloc; {"events": events, "others": named.others})
 }
 
-/// Adds how an access stands to those above it.
+/// Adds how an access is ordered to those above it.
 fn put_standing(
     alloc: Global,
     access: &mut Map<String, Value>,
@@ -34,7 +34,7 @@ fn put_standing(
     put(access, alloc, "unordered_with", unordered)
 }
 
-/// An access, what is told of it, and how it stands to those above it, to which it is added.
+/// An access, its details, and how it is ordered to those above it. Then it is one of those above.
 fn entry_value(
     alloc: Global,
     places: &PlaceIndex<'_>,
@@ -67,7 +67,7 @@ fn end_value(alloc: Global, sides: &Sides<'_>, word: Word, told: &HistoryAnswer)
     })
 }
 
-/// The history of a word, with what side files say of it and of its accesses, as lines of JSON.
+/// The history of a word, with what side files say about it and its accesses, as lines of JSON.
 ///
 /// # Errors
 /// `Memory`: out of memory.

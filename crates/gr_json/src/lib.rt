@@ -1,6 +1,6 @@
 //! Answers about a launch as lines of JSON, an object each (docs/OUTPUT.md, "JSON objects").
 //!
-//! Nothing is claimed of these texts; runs test them. That the answers are right is proved where they are made.
+//! Nothing is proved about these texts; runs test them. That the answers are right is proved by the crates that make them.
 #![tactic(auto)]
 
 pub mod check;

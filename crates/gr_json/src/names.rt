@@ -1,4 +1,4 @@
-//! The words that texts and JSON have for what answers are made of.
+//! The words in texts and JSON for the parts of answers.
 
 use gr_model::event::{Kind, Order, Scope, Space, Word};
 use gr_model::report::{AcquireCause, DivergenceCause};
@@ -37,7 +37,7 @@ pub fn kind_name(kind: Kind) -> &'static str {
     }
 }
 
-/// The scope and the order of an atomic access, or `None` where a record is none.
+/// The scope and the order of an atomic access, or `None` if the record is no atomic access.
 pub fn atomic_of(kind: Kind) -> Option<(Scope, Order)> {
     match kind {
         Kind::Load(scope, order) | Kind::Store(scope, order) | Kind::Rmw(scope, order) => {

@@ -1,5 +1,5 @@
-//! The least racing pair of a word as JSON; and with what its accesses are, what stands between them, and the cause of their race, by
-//! what side files say of them.
+//! The least racing pair of a word as JSON, alone or with what its accesses are, what is between them, the cause of their race, and
+//! what side files say.
 
 use crate::names::{cause_name, operation_name};
 use crate::values::{
@@ -21,7 +21,7 @@ fn no_race_value(alloc: Global, word: Word) -> Made {
     json!(in alloc; {"type": "no race", "word": word_value(alloc, word)?})
 }
 
-/// The line of a word and its racing pair, or of a word that has none.
+/// The line of a word and its racing pair, or that it has none.
 ///
 /// # Errors
 /// `Memory`: out of memory.
@@ -38,7 +38,7 @@ pub fn race_json(alloc: Global, word: Word, pair: Option<(EventId, EventId)>) ->
     line_of(alloc, race)
 }
 
-/// A barrier instance: its number, its site and its flags, and where the site stands.
+/// A barrier instance: its number, its site and its flags, and where the site is in the source.
 fn crossing_value(alloc: Global, places: &PlaceIndex<'_>, crossing: &Crossing) -> Made {
     json!(in alloc; {
         "global": crossing.global,
@@ -49,7 +49,7 @@ fn crossing_value(alloc: Global, places: &PlaceIndex<'_>, crossing: &Crossing) -
     })
 }
 
-/// What stands between two accesses: the halves of a hand-over, each where there is one, and barriers.
+/// What is between two accesses: the halves of a hand-over, each if there is one, and barriers.
 fn between_value(alloc: Global, places: &PlaceIndex<'_>, between: &Between) -> Made {
     json!(in alloc; {
         "acquire": or_null(between.acquire, |it| {
@@ -62,7 +62,7 @@ fn between_value(alloc: Global, places: &PlaceIndex<'_>, between: &Between) -> M
     })
 }
 
-/// What an access does, its event, and where it stands.
+/// What an access does, its event, and where it is in the source.
 fn operation_value(
     alloc: Global,
     places: &PlaceIndex<'_>,
@@ -87,7 +87,7 @@ fn other_value(alloc: Global, places: &PlaceIndex<'_>, other: &KindedRace) -> Ma
     })
 }
 
-/// A word's racing pair, what its accesses are, what stands between them, the cause of their race and the word's other races.
+/// A word's racing pair, what its accesses are, what is between them, the cause of their race and the word's other races.
 fn account_value(
     alloc: Global,
     sides: &Sides<'_>,
@@ -107,7 +107,7 @@ fn account_value(
     })
 }
 
-/// The line of a word's racing pair with all that, or of a word that has none.
+/// The line of a word's racing pair with all that, or that it has none.
 ///
 /// # Errors
 /// `Memory`: out of memory.

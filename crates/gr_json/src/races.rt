@@ -15,7 +15,7 @@ use gr_races::listing::KindEntry;
 use serde_json::json;
 use std::alloc::Global;
 
-/// An event, and where it stands in the source.
+/// An event, and where it is in the source.
 fn access_value(alloc: Global, sides: &Sides<'_>, event: EventId) -> Made {
     json!(in alloc; {
         "group": event.at.group,
@@ -25,7 +25,7 @@ fn access_value(alloc: Global, sides: &Sides<'_>, event: EventId) -> Made {
     })
 }
 
-/// A race, its word and its buffer, and its cause where one is told.
+/// A race, its word and its buffer, and its cause if it is known.
 fn race_value(alloc: Global, sides: &Sides<'_>, race: &Race, cause: Option<Cause>) -> Made {
     let word = race.word;
     json!(in alloc; {
@@ -59,8 +59,8 @@ fn entry_value(alloc: Global, sides: &Sides<'_>, entry: &KindEntry) -> Made {
     })
 }
 
-/// The divergent barriers of a launch, its races kind by kind, of at most so many kinds, with what side files say of them, and an
-/// end that counts all of them and what is no race, as lines of JSON.
+/// The divergent barriers of a launch, its races kind by kind, at most `most` kinds, with what side files say about them, and an end
+/// that counts all of them and all other findings, as lines of JSON.
 ///
 /// # Errors
 /// `Memory`: out of memory.

@@ -1,4 +1,4 @@
-//! The report of a launch as JSON: a line each for how large the launch is, each finding, and the end.
+//! The report of a launch as JSON: a line for how large the launch is, a line for each finding, and the end.
 
 use crate::names::{acquire_name, divergence_name};
 use crate::values::{Made, Text, event_value, push_object, push_objects, word_value};

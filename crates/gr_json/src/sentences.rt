@@ -1,4 +1,4 @@
-//! In words what is wrong where a run over an input fails, and what would be right.
+//! Sentences about a fault: what is wrong, and what would be right.
 
 use gr_model::shape::ShapeError;
 use gr_record::error::RecordError;

@@ -1,4 +1,4 @@
-//! What answers are made of, and lines of them, as JSON.
+//! The parts of answers, and lines of them, as JSON.
 
 use crate::names::{atomic_of, kind_name, order_name, scope_name};
 use gr_model::event::{EventId, Kind, Word};
@@ -17,7 +17,7 @@ pub(crate) type Made = Result<Value, AllocError>;
 /// A text, unless memory runs out.
 pub(crate) type Text = Result<Vec<u8>, Memory>;
 
-/// The value of what there is, or null where there is nothing.
+/// The value of what there is, or null if there is nothing.
 pub(crate) fn or_null<T, F: Fn(T) -> Made>(option: Option<T>, value_of: F) -> Made
     requires { F.IsAlwaysCallable value_of }
 {
@@ -53,12 +53,12 @@ pub(crate) fn event_value(alloc: Global, event: EventId) -> Made {
     json!(in alloc; {"group": event.at.group, "index": event.index, "item": event.at.item})
 }
 
-/// A text, or null where there is none.
+/// A text, or null if there is none.
 pub(crate) fn text_value(alloc: Global, text: Option<&str>) -> Made {
     or_null(text, |text| Value::try_from_str(alloc, text))
 }
 
-/// A word by its buffer and its place there, or null where no buffer has it.
+/// A word by its buffer and its place there, or null if no buffer has it.
 pub(crate) fn buffer_value(alloc: Global, sides: &Sides<'_>, word: Word) -> Made {
     let element = element_of(sides.buffers, word);
     or_null(
@@ -78,8 +78,8 @@ fn kind_value(alloc: Global, kind: Kind) -> Made {
     }
 }
 
-/// Adds an event with what its record says, the record's number in its stream, how many barriers of its item stand before it,
-/// and where it stands, or null where this index has no place of it.
+/// Adds an event with what its record says, the record's number in its stream, how many barriers of its item come before it, and
+/// where it is in the source, or null if this index has no place of it.
 pub(crate) fn put_details(
     alloc: Global,
     members: &mut Map<String, Value>,
@@ -97,7 +97,7 @@ pub(crate) fn put_details(
     put(members, alloc, "record", Value::from(details.number))
 }
 
-/// An event with the same.
+/// The object of an event with its details.
 pub(crate) fn details_value(
     alloc: Global,
     places: &PlaceIndex<'_>,

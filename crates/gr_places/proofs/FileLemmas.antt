@@ -1,4 +1,4 @@
--- What is told of files that are open, or why nothing is.
+-- Answers about open files, or why there is none.
 use Rattle.std.proofs.Common.{◌≡◌, ℕ, List, Option, Result, Ok, Err, inl, inr, map}
 use Rattle.std.specs.Prelude.{IfSome}
 use Rattle.gr_record.proofs.Outside.{at_known}

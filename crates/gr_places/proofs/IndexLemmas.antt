@@ -1,4 +1,4 @@
--- The index of lines, one line before another.
+-- The index of lines, made from the last line to the first.
 use Rattle.std.proofs.Common.{◌≡◌, ◌<◌, ◌+◌, ℕ, Bool, cond, List, arith, ◌∷◌, Option, Some, Bor, ap, drop, get_or, length, map, refl, sym, ◌∙◌}
 use Rattle.std.specs.List.{position_from}
 use Rattle.std.proofs.lemmas.List.{at_drop_more}
@@ -9,16 +9,16 @@ use Rattle.gr_places.specs.declared.places.PlaceLine.{PlaceLine}
 use Rattle.gr_places.specs.PlaceIndexes.{AreTexts, number_in, same_key, text_in}
 use Rattle.gr_places.specs.SideLines.{PlaceSaid, place_line, place_of, same_placed}
 
--- the numbers that are kept are those of the texts of lines, the first of which is line n
+-- the numbers that are kept are those of the texts of lines, from line n on
 abbrev pub AreNumbersFrom : ℕ → List (Bor (List ℕ) × ℕ) → List PlaceSaid → Type 0
 AreNumbersFrom n entries lines = (text : Bor (List ℕ)) → number_in entries text ≡ position_from (λ l. same l.text text.now) n lines
 
--- ---- the tests are one
+-- ---- the two tests are the same
 
 pub same_keys : (p q : Placed) → same_key p q ≡ same_placed p q
 same_keys p q = grind arith
 
--- ---- one line before those that are kept
+-- ---- one more line, before those that are kept
 
 text_over : (line : PlaceSaid) (text : Bor (List ℕ)) (rest : Option (Bor (List ℕ))) (lines : List PlaceSaid) (p : Placed) → line.text ≡ text.now → option_map (λ (t : Bor (List ℕ)). t.now) rest ≡ place_of lines p → option_map (λ (t : Bor (List ℕ)). t.now) (cond (same_key line.of p) (Some text) rest) ≡ place_of (line ∷ lines) p
 text_over line text rest lines p of more = grind (arith, same_keys line.of p)

@@ -47,7 +47,7 @@ module _ (seen : List Flat) (bytes : List ℕ) (place : ℕ) (e : RecordError) w
       refused_at errors.AfterEnd (rw some at is) (ap last_answer stops)
   records_stop h (AtFault d) events rest stops is = refused_at d is (ap last_answer stops)
 
-  -- behind a header: the group and the launch are compared first
+  -- after a header: the group and the launch are compared first
   abbrev compared : Bool → Bool → Header × List ℕ → Result (Flat × List ℕ) Fault
   compared same other h =
       if same then Err (faults.SameGroup (length seen))
@@ -71,7 +71,7 @@ module _ (seen : List Flat) (bytes : List ℕ) (place : ℕ) (e : RecordError) w
   unfolding only_stream_at stream_at
   stream_stops is = header_stops_at (front_header_at bytes) refl is
 
--- an input stops for an error, and stands behind so many others
+-- an input stops for an error, with `before` others before these inputs
 pub record StopsAmong (before : ℕ) (inputs : List (List ℕ)) (place : ℕ) (e : RecordError) : Type 0 where
   pub number : ℕ
   pub bytes : List ℕ

@@ -1,4 +1,4 @@
--- Texts as NAME[INDEX], and the words of buffers that they say.
+-- Texts of the form NAME[INDEX], and the words of buffers that they name.
 use Rattle.std.proofs.Common.{◌≡◌, ◌≢◌, ℕ, suc, ◌-◌, ◌^◌, ◌<◌, Bool, true, false, List, [], ◌∷◌, ◌++◌, Option, Some, None, refl, sym, ap, subst, ◌∙◌, length, arith, nat_eq, take, drop, get_or, map, MatchOption}
 use Rattle.std.specs.Prelude.{decimal}
 use Rattle.std.specs.List.{find}
@@ -40,7 +40,7 @@ from_map g (Some x) y e = (x, refl, cc)
 not_both : {X : Type 0} (o : Option X) (x : X) → o ≡ None → o ≡ Some x → ⊥
 not_both o x p q = absurd cc
 
--- ---- bytes behind and before others
+-- ---- bytes after and before others
 
 pub no_front : (s p : List ℕ) → pointwise nat_eq (take (length p) s) p ≡ false → (rest : List ℕ) → s ≢ p ++ rest
 no_front s p e rest is = other_text (take (length p) s) p (sym e) (ap (take (length p)) is ∙ take_at p rest (length p) refl)
@@ -60,21 +60,21 @@ end s p x e is =
 
 -- ---- a name and an index
 
--- behind the name stands the bracket
+-- after the name comes the bracket
 pub not_open : (name text indexed : List ℕ) → text ≡ name ++ indexed → ((rest : List ℕ) → indexed ≢ (91 ∷ []) ++ rest) → (k : ℕ) → ¬ IsText name k text
 not_open name text indexed is none k t = none (decimal k ++ (93 ∷ [])) (append_cancel_left name indexed (in_brackets k) (sym is ∙ t))
 
--- what stands behind the bracket
+-- what comes after the bracket
 pub behind_open : (name text indexed closed : List ℕ) → text ≡ name ++ indexed → indexed ≡ (91 ∷ []) ++ closed → (k : ℕ) → IsText name k text → closed ≡ decimal k ++ (93 ∷ [])
 behind_open name text indexed closed is opened k t =
     append_cancel_left (91 ∷ []) closed (decimal k ++ (93 ∷ [])) (sym opened ∙ append_cancel_left name indexed (in_brackets k) (sym is ∙ t))
 
--- the text is what its parts are
+-- the text consists of its parts
 pub is_whole : (name text indexed closed digits : List ℕ) (k : ℕ) → text ≡ name ++ indexed → indexed ≡ (91 ∷ []) ++ closed → closed ≡ digits ++ (93 ∷ []) → digits ≡ decimal k → IsText name k text
 is_whole name text indexed closed digits k is opened shut number =
     rw (is, opened, shut, number) refl
 
--- a name with an index says one index
+-- a text has at most one index
 pub one_index : (name text : List ℕ) (k j : ℕ) → k < 2 ^ 32 → j < 2 ^ 32 → IsText name k text → IsText name j text → k ≡ j
 one_index name text k j kl jl a b =
     let both : in_brackets k ≡ in_brackets j = append_cancel_left name (in_brackets k) (in_brackets j) (sym a ∙ b) in
@@ -96,20 +96,20 @@ small_index b w k e lt = grind (arith, nat_tests)
 
 -- ---- the buffer of a word
 
--- what is the same is the element
+-- what passes the test is the element
 pub same_element : (o : Option Element) (name : List ℕ) (k : ℕ) → is_same o name k ≡ true → option_map element o ≡ Some (record { name = name; index = k })
 same_element None name k e = absurd cc
 same_element (Some it) name k e =
     let p = and_parts _ _ e in
     rw (same_is it.name.now name p.1, eqb-true it.index k p.0) refl
 
--- what a test of both parts answers
+-- the test of both parts
 pub same_when : (o : Option Element) (it : Element) (name : List ℕ) (k : ℕ) (r : Bool) → o ≡ Some it → nat_eq it.index k ≡ true → r ≡ pointwise nat_eq it.name.now name → r ≡ is_same o name k
 unfolding reading.same
 same_when None it name k r e i is = absurd cc
 same_when (Some x) it name k r e i is = let same : x ≡ it = cc in subst (λ (y : Element). r ≡ is_same (Some y) name k) (sym same) (rw i is)
 
--- the element is the same
+-- the element passes the test
 pub element_same : (o : Option Element) (name : List ℕ) (k : ℕ) → option_map element o ≡ Some (record { name = name; index = k }) → is_same o name k ≡ true
 element_same None name k e = absurd cc
 element_same (Some it) name k e =

@@ -1,4 +1,4 @@
--- What the lines of a file say, as a loop reads them, and what is found in them.
+-- What the lines of a file say, as a loop reads them, and how something is found in them.
 use Rattle.std.proofs.Common.{◌≡◌, ℕ, ◌+◌, Bool, List, [], ◌∷◌, ◌++◌, Option, Some, None, Result, Ok, Err, refl, sym, ap, map, ◌∙◌, append_assoc, length, arith}
 use Rattle.std.specs.List.{find}
 use Rattle.std.specs.Option.{is_some, option_and_then, option_map}
@@ -13,27 +13,27 @@ use Rattle.gr_places.specs.declared.places.Placed.{Placed}
 use Rattle.gr_places.specs.declared.places.PlaceLine.{PlaceLine}
 use Rattle.gr_places.specs.SideLines.{BufferSaid, ElementSaid, PlaceSaid, buffer_line, element_of, index_in, place_line, place_of, said_from, said_next, same_placed, text_said}
 
--- what lines say, behind what those before them said
-abbrev pub behind : {X : Type 0} → List X → Result (List X) ℕ → Result (List X) ℕ
-behind done (Ok xs) = Ok (done ++ xs)
-behind done (Err f) = Err f
+-- what lines say, after what the lines before them said
+abbrev pub joined : {X : Type 0} → List X → Result (List X) ℕ → Result (List X) ℕ
+joined done (Ok xs) = Ok (done ++ xs)
+joined done (Err f) = Err f
 
-pub behind_more : {X : Type 0} (done : List X) (n : ℕ) (x : X) (rest : Result (List X) ℕ) → behind done (said_next n (Some x) rest) ≡ behind (done ++ x ∷ []) rest
-behind_more done n x rest = grind (arith, append_assoc)
+pub joined_more : {X : Type 0} (done : List X) (n : ℕ) (x : X) (rest : Result (List X) ℕ) → joined done (said_next n (Some x) rest) ≡ joined (done ++ x ∷ []) rest
+joined_more done n x rest = grind (arith, append_assoc)
 
-pub behind_all : {X : Type 0} (done : List X) → behind done (Ok []) ≡ Ok done
-behind_all done = ap (λ (ys : List _). Ok ys) (append-nil done)
+pub joined_all : {X : Type 0} (done : List X) → joined done (Ok []) ≡ Ok done
+joined_all done = ap (λ (ys : List _). Ok ys) (append-nil done)
 
 module _ {X : Type 0} (said : List ℕ → Option X) (done : List X) (n : ℕ) (l : List ℕ) (ls : List (List ℕ)) where
-  -- a line that says nothing
-  pub line_fails : said l ≡ None → behind done (said_from said n (l ∷ ls)) ≡ Err n
-  line_fails none = ap (λ (o : Option X). behind done (said_next n o (said_from said (n + 1) ls))) none
+  -- a line that is out of form
+  pub line_fails : said l ≡ None → joined done (said_from said n (l ∷ ls)) ≡ Err n
+  line_fails none = ap (λ (o : Option X). joined done (said_next n o (said_from said (n + 1) ls))) none
 
-  -- a line that says this
-  pub line_goes_on : (x : X) → said l ≡ Some x → behind done (said_from said n (l ∷ ls)) ≡ behind (done ++ x ∷ []) (said_from said (n + 1) ls)
-  line_goes_on x some = ap (λ (o : Option X). behind done (said_next n o (said_from said (n + 1) ls))) some ∙ behind_more done n x (said_from said (n + 1) ls)
+  -- a line that is in form
+  pub line_goes_on : (x : X) → said l ≡ Some x → joined done (said_from said n (l ∷ ls)) ≡ joined (done ++ x ∷ []) (said_from said (n + 1) ls)
+  line_goes_on x some = ap (λ (o : Option X). joined done (said_next n o (said_from said (n + 1) ls))) some ∙ joined_more done n x (said_from said (n + 1) ls)
 
--- the first that passes, seen through a view
+-- the first that passes a test, in a mapped list
 pub find_viewed : {X Y : Type 0} (view : X → Y) (test : Y → Bool) (xs : List X) → find test (map view xs) ≡ option_map view (find (λ x. test (view x)) xs)
 find_viewed view test [] = refl
 find_viewed view test (x ∷ xs) = grind (arith, find_viewed view test xs)
@@ -64,7 +64,7 @@ text_read view Q bytes (Err e) some m = sym (text_other bytes m.0)
 pub place_found : (lines : List PlaceLine) (p : Placed) (o : Option PlaceLine) → o ≡ find (λ (l : PlaceLine). same_placed l.of p) lines → option_map (λ (l : PlaceLine). l.text.now) o ≡ place_of (map place_line lines) p
 place_found lines p o is = grind (arith, find_viewed place_line (λ (l : PlaceSaid). same_placed l.of p) lines)
 
--- the element that a line makes of a word
+-- the element of a word in a line
 abbrev pub with_index : Word → BufferSaid → Option ElementSaid
 with_index w b = option_map (λ (k : ℕ). record { name = b.name; index = k }) (index_in b w)
 

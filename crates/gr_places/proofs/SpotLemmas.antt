@@ -1,4 +1,4 @@
--- What the header at the front of bytes says of what is read of them.
+-- What is read of bytes, by the header at their front.
 use Rattle.std.proofs.Common.{◌≡◌, ◌≢◌, ℕ, ◌-◌, ◌≤◌, List, [], ◌∷◌, ◌++◌, length, take, drop, None, Some, Option, Result, Ok, Err, refl, sym, ap, ◌∙◌, arith, inl, inr}
 use Rattle.std.proofs.lemmas.Bool.{cases_lt, lt-ltb, le-ltb}
 use Rattle.std.proofs.lemmas.List.{length-drop, length-take, take-append-drop}
@@ -16,12 +16,12 @@ use Rattle.gr_record.specs.WholeStreams.{◌>>=◌, Fails, front_header_at}
 use Rattle.gr_places.specs.declared.spot.Spot.TheVariants as spots
 use Rattle.gr_places.specs.Spots.{behind_header, spot}
 
--- where memory sufficed, an error is what the bytes mean
+-- if memory sufficed, an error is what the bytes mean
 pub is_error : {Y : Type 0} (e : RecordError) (meaning : Result Y RecordError) → e ≢ errors.Memory → Fails e meaning → meaning ≡ Err e
 is_error errors.Memory meaning some h = absurd (some refl)
 is_error e meaning some h = h
 
--- a header is told by its own bytes
+-- only its own bytes decide what a header is
 module _ (rest : List ℕ) where
   same_behind : (v : Option Version) (prefix : List ℕ) → length prefix ≡ 12 → reading_spec.header_behind v (prefix ++ rest) ≡ reading_spec.header_behind v prefix
   same_behind None prefix is = refl
@@ -86,7 +86,7 @@ module _ (bytes : List ℕ) where
     pub rest_is_short : length rest ≤ length bytes
     rest_is_short = header_read.1
 
-    -- behind the header
+    -- after the header
     pub records_read : (error : RecordError) (number : ℕ) (left : List ℕ) → number ≡ length (records_of h MOST_RECORDS rest).events → left ≡ (records_of h MOST_RECORDS rest).rest → behind_header error number (length bytes - length left) ≡ spot error bytes
     records_read error number left count behind = rw (header_read.0, count, behind) refl
 

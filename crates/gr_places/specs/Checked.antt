@@ -1,4 +1,4 @@
--- What comes of a check of files, and why nothing does.
+-- The outcome of a check of files, and why there is none.
 -- Source: docs/OUTPUT.md, "check".
 use Rattle.std.specs.Prelude.{◌≡◌, ◌⊎◌, ℕ, Bool, true, false, List, Option, Result, IfSome}
 use Rattle.gr_model.specs.Streams.{AreAccepted, Streams}
@@ -13,7 +13,7 @@ use Rattle.gr_places.specs.declared.counts.Counts.{Counts}
 use Rattle.gr_places.specs.Counts.{counts}
 use Rattle.gr_places.specs.Places.{PlaceSaid, place_of, place_said}
 
--- what comes of a check, by the names of files
+-- the outcome of a check, with the names of files
 pub data CheckedSaid : Type 0 where
   accepted : Counts → CheckedSaid
   refused : Fault → PlaceSaid → CheckedSaid
@@ -26,34 +26,34 @@ abbrev pub is_accepted : CheckedSaid → Bool
 is_accepted (accepted n) = true
 is_accepted (refused fault place) = false
 
--- the inputs are the streams of a launch, which the model accepts and of which this is counted
+-- the inputs are the streams of a launch that the model accepts, and these are its counts
 pub record IsCounted (inputs : List (List ℕ)) (n : Counts) : Type 0 where
   pub launch : Streams
   pub spelled : ReadsEach inputs launch
   pub accepted : AreAccepted launch
   pub is : n ≡ counts launch
 
--- the inputs are no launch, for this first fault, which is of the inputs alone, and this is what it is about
+-- the inputs are not a launch: this is the first fault, it follows from the inputs alone, and this is what it is about
 pub record IsRefused (names inputs : List (List ℕ)) (fault : Fault) (place : PlaceSaid) : Type 0 where
   pub first : IsEachFault inputs fault
   pub inside : ¬ IsOutside fault
   pub is : place ≡ place_of names inputs fault
 
--- of inputs that come from files of these names
+-- the outcome for inputs that come from files of these names
 abbrev pub IsChecked : List (List ℕ) → List (List ℕ) → CheckedSaid → Type 0
 IsChecked names inputs (accepted n) = IsCounted inputs n
 IsChecked names inputs (refused fault place) = IsRefused names inputs fault place
 
--- of inputs of which this is known
+-- the same, of inputs that are these, if they are known
 pub record IsCheckedAsKnown (names : List (List ℕ)) (known : Option (List (List ℕ))) (checked : CheckedSaid) : Type 0 where
   pub inputs : List (List ℕ)
   pub read : IfSome known (λ bytes. inputs ≡ bytes)
   pub exact : IsChecked names inputs checked
 
--- why a check of files that are opened by these names fails: one can't be opened; or all are open, and reading fails, or memory runs out,
--- or the writer fails
+-- why a check of open files fails: reading fails, or memory runs out, or the writer fails
 abbrev pub IsCheckFault : Fault → Type 0
 IsCheckFault f = IsOutside f ⊎ (f ≡ faults.Write)
 
+-- why a check of files of these names fails: one can't be opened, or all are open and it fails after that
 abbrev pub IsCheckFileFault : {T E : Type 0} → (T → Option (List ℕ)) → (List ℕ → Result T E → Type 0) → List (List ℕ) → Fault → Type 0
 IsCheckFileFault remaining Gives names f = IsOpeningFault Gives names f ⊎ HoldsOfFiles remaining Gives names (λ known. IsCheckFault f)

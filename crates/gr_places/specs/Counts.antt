@@ -10,7 +10,7 @@ use Rattle.gr_places.specs.declared.counts.Counts.{Counts}
 use Rattle.gr_places.specs.declared.counts.RecordKind.{RecordKind}
 use Rattle.gr_places.specs.declared.counts.RecordKind.TheVariants as kinds
 
--- whether it is of this kind, whatever its scope, its order and its flags are
+-- whether a record is of this kind, whatever its scope, its order and its flags are
 abbrev pub is_of_kind : RecordKind → Kind → Bool
 is_of_kind kinds.Read Read = true
 is_of_kind kinds.Write Write = true

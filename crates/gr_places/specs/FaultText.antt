@@ -1,4 +1,4 @@
--- The line that tells why nothing is told of a launch with side files.
+-- The line that says why there is no answer about a launch with side files.
 -- Source: docs/OUTPUT.md, "Lines of faults".
 use Rattle.std.specs.Prelude.{ℕ, List, ◌++◌, codes, decimal}
 use Rattle.gr_report.specs.FaultText.{fault_line}

@@ -5,19 +5,19 @@ use Rattle.gr_record.specs.declared.fault.Fault.{Fault}
 use Rattle.gr_record.specs.declared.fault.Fault.TheVariants as faults
 use Rattle.gr_replay.specs.Each.{IsEachFault, all_known}
 
--- why nothing is shown of inputs: they are no launch, or else the writer failed
+-- why there is no answer about inputs: they are not a launch, or else the writer failed
 abbrev pub IsShowFault : List (List ℕ) → Fault → Type 0
 IsShowFault inputs f = IsEachFault inputs f ⊎ (f ≡ faults.Write)
 
 module _ {T E : Type 0} (Gives : List ℕ → Result T E → Type 0) where
-  -- by what is given at each name, the files are those of the names, in their order
+  -- the files are those of the names, in their order
   abbrev pub AreOpened : List (List ℕ) → List T → Type 0
   AreOpened [] [] = ⊤
   AreOpened (name ∷ names) (file ∷ files) = Gives name (Ok file) × AreOpened names files
   AreOpened [] (file ∷ files) = ⊥
   AreOpened (name ∷ names) [] = ⊥
 
-  -- those of the names before it are opened, and this one can't be
+  -- the first name whose file can't be opened: all files of the names before it are open
   pub record IsFirstUnopened (names : List (List ℕ)) : Type 0 where
     pub before : List (List ℕ)
     pub name : List ℕ
@@ -32,8 +32,7 @@ module _ {T E : Type 0} (Gives : List ℕ → Result T E → Type 0) where
   abbrev pub IsOpeningFault : List (List ℕ) → Fault → Type 0
   IsOpeningFault names f = (f ≡ faults.Memory) ⊎ ((f ≡ faults.Read) × IsFirstUnopened names)
 
--- of files that are opened by these names
 module _ {T E : Type 0} (remaining : T → Option (List ℕ)) (Gives : List ℕ → Result T E → Type 0) (names : List (List ℕ)) where
-  -- this holds of the bytes of the files, as far as those of all are known
+  -- the files of these names are open, and this holds of their bytes, if the bytes of all are known
   abbrev pub HoldsOfFiles : (Option (List (List ℕ)) → Type 0) → Type 0
   HoldsOfFiles Holds = (files : List T) × AreOpened Gives names files × Holds (all_known (map remaining files))

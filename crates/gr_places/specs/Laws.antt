@@ -1,4 +1,4 @@
--- What follows of the fault of inputs, and of the place that is told.
+-- A law of the fault of inputs, and of its place.
 use Rattle.std.specs.Prelude.{◌≡◌, ℕ, List, Some, slice_get, Err}
 use Rattle.gr_model.specs.declared.limits.TheConstants.{MOST_RECORDS}
 use Rattle.gr_record.specs.declared.error.RecordError.{RecordError}
@@ -6,6 +6,6 @@ use Rattle.gr_record.specs.declared.fault.Fault.TheVariants as faults
 use Rattle.gr_record.specs.Decoding.{last_answer, reading}
 use Rattle.gr_replay.specs.Each.{IsEachFault}
 
--- a fault of the stream of an input is the one at which a decoder stops that is fed its bytes: there the place is told
+-- a fault of the stream of an input is the fault at which a decoder of its bytes stops: this is the place of the fault
 abbrev pub FaultsAreWhereReadingStops : Type 0
 FaultsAreWhereReadingStops = (inputs : List (List ℕ)) (place : ℕ) (e : RecordError) → IsEachFault inputs (faults.Stream place e) → (bytes : List ℕ) × (slice_get inputs place ≡ Some bytes) × (last_answer (reading MOST_RECORDS bytes).stop ≡ Err e)

@@ -1,4 +1,4 @@
--- The word of memory that a text as NAME[INDEX] says.
+-- The word of memory that a text of the form NAME[INDEX] names.
 -- Source: docs/FORMATS.md, "Side files".
 use Rattle.std.specs.Prelude.{◌≡◌, ℕ, ◌+◌, ◌^◌, ◌<◌, Bool, false, ◌&&◌, ◌==◌, nat_lt, if◌then◌else◌, List, [], ◌∷◌, ◌++◌, Option, None, Some, decimal}
 use Rattle.std.specs.Option.{option_map}
@@ -12,7 +12,7 @@ use Rattle.gr_places.specs.SideLines.{BufferSaid, ElementSaid, element_of, index
 abbrev pub in_brackets : ℕ → List ℕ
 in_brackets k = 91 ∷ (decimal k ++ (93 ∷ []))
 
--- the text is the name, and the index in brackets
+-- the text is the name, then the index in brackets
 abbrev pub IsText : List ℕ → ℕ → List ℕ → Type 0
 IsText name k text = text ≡ name ++ in_brackets k
 
@@ -21,7 +21,7 @@ abbrev pub number_of : Word → ℕ
 number_of (Global n) = n
 number_of (Local g n) = n
 
--- the word's buffer and its place in it, by the first line that has it, are what the text says
+-- the text names the word's buffer and its place in it, by the first line that has the word
 pub record IsSaid (lines : List BufferSaid) (text : List ℕ) (w : Word) : Type 0 where
   pub said : ElementSaid
   pub is_element : element_of lines w ≡ Some said
@@ -38,7 +38,7 @@ pub record IsSaidIn (lines : List BufferSaid) (line : BufferSaid) (text : List �
 
 -- ---- how the word is found
 
--- the number behind the first by as many
+-- first + k, if it is below 2^32 and k is below words
 abbrev pub number_at : ℕ → ℕ → ℕ → Option ℕ
 number_at first words k = if nat_lt k words && nat_lt (first + k) (2 ^ 32) then Some (first + k) else None
 
@@ -50,7 +50,7 @@ word_from (Local g first) words k = option_map (Local g) (number_at first words 
 abbrev pub word_at : BufferSaid → ℕ → Option Word
 word_at b k = word_from b.first b.words k
 
--- a word of a buffer with this name and this index was found
+-- whether there is a word of a buffer, with this name and this index
 abbrev pub is_same : Option Element → List ℕ → ℕ → Bool
 is_same None name k = false
 is_same (Some e) name k = (e.index == k) && same e.name.now name

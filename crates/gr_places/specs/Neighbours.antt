@@ -1,4 +1,4 @@
--- The file beside which another one does not fit, by the groups that their headers say.
+-- The file with which another file does not fit, by the groups in their headers.
 -- Source: docs/OUTPUT.md, "check".
 use Rattle.std.specs.Prelude.{ℕ, ◌+◌, Bool, false, ◌&&◌, nat_le, List, Option, None, Some, option_and_then, position, slice_get, Result, Ok, Err}
 use Rattle.gr_model.specs.declared.limits.TheConstants.{MOST_GROUPS}
@@ -10,11 +10,11 @@ abbrev pub group_of : Result (Header × List ℕ) RecordError → Option ℕ
 group_of (Ok h) = Some h.0.group
 group_of (Err e) = None
 
--- the group that the header at the front of the bytes says, if there is one
+-- the group in the header at the front of the bytes, if there is one
 abbrev pub group_at : List ℕ → Option ℕ
 group_at bytes = group_of (front_header_at bytes)
 
--- a group from least to most
+-- whether there is a group, from least to most
 abbrev pub is_between : ℕ → ℕ → Option ℕ → Bool
 is_between least most None = false
 is_between least most (Some g) = nat_le least g && nat_le g most

@@ -1,4 +1,4 @@
--- What is told of a launch whose streams, and side files, are in files.
+-- Answers about a launch whose streams and side files are in files, and why there is none.
 -- Source: docs/OUTPUT.md, "races" and docs/FORMATS.md, "Side files".
 use Rattle.std.specs.Prelude.{◌≡◌, ◌⊎◌, ℕ, List, [], ◌∷◌, ◌++◌, map, Option, None, Some, Result, Ok, Err, IfSome, option_map}
 use Rattle.gr_record.specs.InputFaults.{IsOutside}
@@ -12,7 +12,7 @@ use Rattle.gr_places.specs.declared.files.SideNames.{SideNames}
 use Rattle.gr_places.specs.Sides.{SidesSaid}
 use Rattle.gr_places.specs.Files.{AreOpened, IsOpeningFault, IsShowFault}
 
--- of places and of buffers, each where there is one
+-- something of places and of buffers, each if there is one
 pub record Pair (X : Type 0) : Type 0 where
   pub places : Option X
   pub buffers : Option X
@@ -35,17 +35,17 @@ pub record AreAllOpened {T E : Type 0} (Gives : List ℕ → Result T E → Type
   pub buffers : AreOpened Gives (listed named.buffers) (listed sides.buffers)
   pub streams : AreOpened Gives names files
 
--- the bytes of a side file, where they are known; of none there are none
+-- the bytes of a side file, if they are known; no bytes if there is no file
 abbrev pub known_of : {T : Type 0} → (T → Option (List ℕ)) → Option T → Option (List ℕ)
 known_of remaining None = Some []
 known_of remaining (Some file) = remaining file
 
--- the files of places and of buffers say this, where their bytes are known
+-- the files of places and of buffers say this, if their bytes are known
 pub record Say {T : Type 0} (remaining : T → Option (List ℕ)) (sides : Pair T) (said : SidesSaid) : Type 0 where
   pub places : IfSome (known_of remaining sides.places) (λ bytes. places_in bytes ≡ Ok said.places)
   pub buffers : IfSome (known_of remaining sides.buffers) (λ bytes. buffers_in bytes ≡ Ok said.buffers)
 
--- why bytes are no places: their first line that is out of form; or memory ran out
+-- why bytes are not places: the first line that is out of form; or memory ran out
 abbrev pub RefusesPlaces : List ℕ → SidesFault → Type 0
 RefusesPlaces bytes (Run f) = f ≡ faults.Memory
 RefusesPlaces bytes (Places line) = places_in bytes ≡ Err line
@@ -58,7 +58,7 @@ RefusesBuffers bytes (Places line) = ⊥
 RefusesBuffers bytes (Buffers line) = buffers_in bytes ≡ Err line
 
 module _ {T E : Type 0} (remaining : T → Option (List ℕ)) (Gives : List ℕ → Result T E → Type 0) (named : Pair (List ℕ)) (names : List (List ℕ)) where
-  -- the files are open, the side files are in form, and this holds of the bytes of the streams' files, as far as they are known, and of what the side files say
+  -- the files are open, the side files are in form, and this holds of the bytes of the streams' files, if they are known, and of what the side files say
   pub record HoldsOfAllFiles (Holds : Option (List (List ℕ)) → SidesSaid → Type 0) : Type 0 where
     pub sides : Pair T
     pub files : List T
@@ -89,7 +89,7 @@ module _ {T E : Type 0} (remaining : T → Option (List ℕ)) (Gives : List ℕ 
     pub opened : AreAllOpened Gives named names sides files
     pub outside : IsOutside f
 
-  -- the side files are in form, and why the streams are no launch, or the writer failed
+  -- the side files are in form, but the streams are not a launch, or the writer failed
   pub record IsStreamsFault (f : Fault) : Type 0 where
     pub sides : Pair T
     pub files : List T
@@ -98,7 +98,7 @@ module _ {T E : Type 0} (remaining : T → Option (List ℕ)) (Gives : List ℕ 
     pub say : Say remaining sides said
     pub fault : IfSome (all_known (map remaining files)) (λ inputs. IsShowFault inputs f)
 
-  -- why nothing is told: a file can't be opened; a side file can't be read, or is out of form; or the streams are no launch
+  -- why there is no answer: a file can't be opened; a side file can't be read, or is out of form; the streams are not a launch; or the writer failed
   abbrev pub IsSidesFault : SidesFault → Type 0
   IsSidesFault (Run f) = IsOpeningFault Gives (all_names named names) f ⊎ IsReadingFault f ⊎ IsStreamsFault f
   IsSidesFault (Places line) = IsPlacesFault line

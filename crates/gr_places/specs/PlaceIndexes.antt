@@ -1,4 +1,4 @@
--- The places that lines say, as an index of them has them.
+-- An index of the places that lines give.
 -- Source: docs/FORMATS.md, "Side files".
 use Rattle.std.specs.Prelude.{◌≡◌, ℕ, Bool, List, Option}
 use Rattle.std.specs.Borrow.{Bor}
@@ -20,7 +20,7 @@ text_in entries p = lookup (same_key p) entries
 abbrev pub number_in : List (Bor (List ℕ) × ℕ) → Bor (List ℕ) → Option ℕ
 number_in entries text = lookup (λ other. same text.now other.now) entries
 
--- the texts that are kept are the places that lines say
+-- the texts that are kept are the places that lines give
 abbrev pub AreTexts : List (Placed × Bor (List ℕ)) → List PlaceSaid → Type 0
 AreTexts entries lines = (p : Placed) → option_map (λ text. text.now) (text_in entries p) ≡ place_of lines p
 
@@ -44,7 +44,7 @@ place_at i p = option_map (λ text. text.now) (text_in i.texts p)
 abbrev pub number_at : Indexed → Placed → Option ℕ
 number_at i p = option_and_then (number_in i.numbers) (text_in i.texts p)
 
--- they are those that lines say
+-- an index is one of these lines
 pub record Indexes (i : Indexed) (lines : List PlaceSaid) : Type 0 where
   pub places : (p : Placed) → place_at i p ≡ place_of lines p
   pub numbers : (p : Placed) → number_at i p ≡ place_number lines p

@@ -9,11 +9,11 @@ use Rattle.gr_places.specs.declared.spot.Spot.{Spot}
 use Rattle.gr_places.specs.Neighbours.{first_above, first_like}
 use Rattle.gr_places.specs.Spots.{spot}
 
--- what it is about, by the names of files
+-- what it is about, with the names of files
 pub data PlaceSaid : Type 0 where
-  -- a stream, its file, and where in it the fault stands
+  -- a stream, its file, and where in it the fault is
   in_stream : ℕ → Option (List ℕ) → Option Spot → PlaceSaid
-  -- a stream, its file, and the one beside which it does not fit
+  -- a stream, its file, and the file with which it does not fit
   beside : ℕ → Option (List ℕ) → Option (List ℕ) → PlaceSaid
   -- a missing group, and the first file of a greater one
   missing : ℕ → Option (List ℕ) → PlaceSaid
@@ -26,7 +26,7 @@ place_said (places.Beside stream file other) = beside stream (option_map (λ s. 
 place_said (places.Missing group other) = missing group (option_map (λ s. s.now) other)
 place_said places.Nothing = nothing
 
--- what a fault of these inputs is about, which come from files of these names
+-- what a fault is about, where the inputs come from files of these names
 abbrev pub place_of : List (List ℕ) → List (List ℕ) → Fault → PlaceSaid
 place_of names inputs (faults.Stream place e) = in_stream place (slice_get names place) (option_map (spot e) (slice_get inputs place))
 place_of names inputs (faults.SameGroup place) = beside place (slice_get names place) (first_like names inputs place)

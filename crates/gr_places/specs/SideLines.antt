@@ -19,7 +19,7 @@ use Rattle.gr_places.specs.declared.places.PlaceLine.{PlaceLine}
 
 -- ---- texts
 
--- the text at the end of a line: it is not empty, and is UTF-8
+-- the text up to the end of a line: it is not empty, and is UTF-8
 unfoldable pub text_said : List ℕ → Option (List ℕ)
 text_said [] = None
 text_said (b ∷ bytes) = if is_utf8 (b ∷ bytes) then Some (b ∷ bytes) else None
@@ -30,18 +30,18 @@ begins_with_digit (b ∷ bytes) = nat_le 48 b && nat_le b 57
 
 -- ---- the lines of a file
 
--- what line n says, and those behind it, or the number of the first that says nothing
+-- what line n and the lines after it say, or the number of the first that is out of form
 abbrev pub said_next : {X : Type 0} → ℕ → Option X → Result (List X) ℕ → Result (List X) ℕ
 said_next n None rest = Err n
 said_next n (Some x) (Ok xs) = Ok (x ∷ xs)
 said_next n (Some x) (Err k) = Err k
 
--- what lines say, the first of which is line n
+-- what lines say, from line n on
 abbrev pub said_from : {X : Type 0} → (List ℕ → Option X) → ℕ → List (List ℕ) → Result (List X) ℕ
 said_from said n [] = Ok []
 said_from said n (l ∷ ls) = said_next n (said l) (said_from said (n + 1) ls)
 
--- what a call answered, seen by a view, is what the file says, or its first line that is out of form; or memory ran out
+-- a call returned what the file says, as `view` shows it, or its first line that is out of form; or memory ran out
 abbrev pub Answers : {X Y : Type 0} → (X → Y) → Result X SideFault → Result Y ℕ → Type 0
 Answers view (Ok x) meaning = meaning ≡ Ok (view x)
 Answers view (Err (BadLine n)) meaning = meaning ≡ Err n
@@ -57,11 +57,11 @@ pub record PlaceSaid : Type 0 where
 abbrev pub place_line : PlaceLine → PlaceSaid
 place_line l = record { of = l.of; text = l.text.now }
 
--- a place begins with no digit
+-- a place does not begin with a digit
 unfoldable pub place_said : List ℕ → Option (List ℕ)
 place_said bytes = if begins_with_digit bytes then None else text_said bytes
 
--- what stands behind the group
+-- the line of an event, by its group and the bytes after it
 unfoldable pub event_said : List ℕ → List ℕ → Option PlaceSaid
 event_said group bytes =
     let item = first_of bytes in item.1 >>= λ b.
@@ -69,7 +69,7 @@ event_said group bytes =
     short_of group >>= λ g. short_of item.0 >>= λ i. number_of index.0 >>= λ n. index.1 >>= λ c. place_said c >>= λ t.
     Some (record { of = Event (record { at = record { group = g; item = i }; index = n }); text = t })
 
--- what stands behind the site
+-- the line of a site, by its number and the bytes after it
 unfoldable pub site_said : List ℕ → List ℕ → Option PlaceSaid
 site_said site bytes = number_of site >>= λ s. place_said bytes >>= λ t. Some (record { of = Site s; text = t })
 
@@ -96,7 +96,7 @@ same_placed (Site s) (Event f) = false
 abbrev pub place_of : List PlaceSaid → Placed → Option (List ℕ)
 place_of lines p = option_map (λ l. l.text) (find (λ l. same_placed l.of p) lines)
 
--- the number of a text: how many lines stand before the first that has it
+-- the number of a text: how many lines come before the first line with it
 abbrev pub text_number : List PlaceSaid → List ℕ → Option ℕ
 text_number lines t = position_from (λ l. same l.text t) 0 lines
 
@@ -106,7 +106,7 @@ place_number lines p = option_and_then (text_number lines) (place_of lines p)
 
 -- ---- buffers
 
--- the first word, how many there are, and the name of the buffer that they are
+-- a buffer: its first word, how many there are, and its name
 pub record BufferSaid : Type 0 where
   pub first : Word
   pub words : ℕ
@@ -123,11 +123,11 @@ words_said bytes =
     number_of first.0 >>= λ f. number_of words.0 >>= λ n. words.1 >>= λ c. text_said c >>= λ t.
     Some (f, n, t)
 
--- what stands behind g
+-- a buffer in global memory, by the bytes after g
 unfoldable pub global_said : List ℕ → Option BufferSaid
 global_said bytes = words_said bytes >>= λ x. Some (record { first = Global x.0; words = x.1; name = x.2 })
 
--- what stands behind l
+-- a buffer in local memory, by the bytes after l
 unfoldable pub local_said : List ℕ → Option BufferSaid
 local_said bytes =
     let group = first_of bytes in short_of group.0 >>= λ g. group.1 >>= λ b. words_said b >>= λ x.
@@ -144,7 +144,7 @@ buffer_line_said line =
 abbrev pub buffers_in : List ℕ → Result (List BufferSaid) ℕ
 buffers_in text = said_from buffer_line_said 1 (lines_of text)
 
--- the place of a number among so many from the first on
+-- the place of a number among `words` numbers from `first` on
 abbrev pub index_within : ℕ → ℕ → ℕ → Option ℕ
 index_within first words number = if nat_le first number && nat_lt (number - first) words then Some (number - first) else None
 
@@ -166,7 +166,7 @@ pub record ElementSaid : Type 0 where
 abbrev pub element : Element → ElementSaid
 element e = record { name = e.name.now; index = e.index }
 
--- the buffer of a word, that of the first line that has it, and the word's place in it
+-- the buffer of a word, by the first line that has the word, and the word's place in it
 abbrev pub element_of : List BufferSaid → Word → Option ElementSaid
 element_of lines w =
     option_and_then (λ b. option_map (λ k. record { name = b.name; index = k }) (index_in b w)) (find (λ b. is_some (index_in b w)) lines)

@@ -1,4 +1,4 @@
--- Where in a stream its fault stands.
+-- Where in a stream its fault is.
 -- Source: docs/OUTPUT.md, "check".
 use Rattle.std.specs.Prelude.{ℕ, ◌-◌, List, length, Option, None, Some}
 use Rattle.gr_model.specs.declared.limits.TheConstants.{MOST_RECORDS}
@@ -9,7 +9,7 @@ use Rattle.gr_record.specs.Decoding.{reading}
 use Rattle.gr_places.specs.declared.spot.Spot.{Spot}
 use Rattle.gr_places.specs.declared.spot.Spot.TheVariants as spots
 
--- behind a header: what stands behind the end has no number
+-- a fault after a header: if it is after the end, it has no record number
 abbrev pub behind_header : RecordError → ℕ → ℕ → Spot
 behind_header AfterEnd number byte = spots.Behind byte
 behind_header e number byte = spots.Record number byte
@@ -18,7 +18,7 @@ abbrev pub spot_in : RecordError → Option Header → ℕ → ℕ → Spot
 spot_in e None number byte = spots.Header
 spot_in e (Some h) number byte = behind_header e number byte
 
--- where a stream has this fault: at its header, if none is read of it; else behind the records that are read of it, and the byte is the first that is left
+-- where a stream has this fault: at its header, if no header can be read; else after the records that are read, at the first byte that is left
 abbrev pub spot : RecordError → List ℕ → Spot
 spot e bytes =
     let r = reading MOST_RECORDS bytes in

@@ -33,7 +33,7 @@ pub struct Element<'a> {
     pub index: u32,
 }
 
-/// A number's place among so many numbers from the first on, if it is one of them.
+/// The place of a number among `words` numbers from `first` on, if it is one of them.
 fn index_within(first: u32, words: u32, number: u32) -> Option<u32>
     ensures { result ≡ spec.index_within first words number }
 {
@@ -67,7 +67,7 @@ impl<'a> BufferLine<'a> {
     }
 }
 
-/// The first word, how many there are and the name, in the bytes of a line behind the memory.
+/// The first word, how many there are and the name, in the bytes of a line after the memory.
 #[tactic(auto, unfolding(crate::specs::SideLines::words_said))]
 fn parse_words(bytes: &[u8]) -> Option<(u32, u32, &str)>
     ensures { option_map (λ x. (x.0, x.1, x.2.now)) result ≡ spec.words_said bytes.now }
@@ -80,7 +80,7 @@ fn parse_words(bytes: &[u8]) -> Option<(u32, u32, &str)>
     Some((first, words, name))
 }
 
-/// A buffer in global memory, of which these bytes stand behind the memory.
+/// A buffer in global memory, by the bytes of its line after the memory.
 #[tactic(auto, unfolding(crate::specs::SideLines::global_said))]
 fn parse_global(bytes: &[u8]) -> Option<BufferLine<'_>>
     ensures { option_map spec.buffer_line result ≡ spec.global_said bytes.now }
@@ -90,7 +90,7 @@ fn parse_global(bytes: &[u8]) -> Option<BufferLine<'_>>
     Some(BufferLine { first, words, name })
 }
 
-/// A buffer in a group's local memory, of which these bytes stand behind the memory.
+/// A buffer in a group's local memory, by the bytes of its line after the memory.
 #[tactic(auto, unfolding(crate::specs::SideLines::local_said))]
 fn parse_local(bytes: &[u8]) -> Option<BufferLine<'_>>
     ensures { option_map spec.buffer_line result ≡ spec.local_said bytes.now }
@@ -102,7 +102,7 @@ fn parse_local(bytes: &[u8]) -> Option<BufferLine<'_>>
     Some(BufferLine { first, words, name })
 }
 
-/// What a line says, given without its line feed, or `None` if it has not the form of a line of buffers.
+/// What a line says, without its line feed, or `None` if it does not have the form of a line of buffers.
 #[tactic(auto, unfolding(crate::specs::SideLines::buffer_line_said))]
 fn parse_line(line: &[u8]) -> Option<BufferLine<'_>>
     ensures { option_map spec.buffer_line result ≡ spec.buffer_line_said line.now }
@@ -121,7 +121,7 @@ fn parse_line(line: &[u8]) -> Option<BufferLine<'_>>
 /// What the lines of a file of buffers say, in their order.
 ///
 /// # Errors
-/// `BadLine` with the number, from 1, of the first line that has not the form; `Memory` if an allocation is refused.
+/// `BadLine` with the number, from 1, of the first line that does not have the form; `Memory` if an allocation is refused.
 pub fn read_buffers<A: Allocator>(
     alloc: A,
     text: &[u8],

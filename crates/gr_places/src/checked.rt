@@ -15,11 +15,11 @@ use gr_replay::each::read_inputs;
 use std::alloc::Allocator;
 use std::io::{self, Read};
 
-/// Reads each reader to its end, and judges the bytes as streams of a launch, one from each. `names` are those of the files
-/// from which the readers are, in their order.
+/// Reads each reader to its end, and judges the bytes as streams of a launch, one from each. `names` are the names of the readers'
+/// files, in their order.
 ///
 /// # Errors
-/// `Read` where a reader fails, or gives no end within 4,294,967,296 calls; `Memory` where a list can't be made.
+/// `Read` if a reader fails, or gives no end within 4,294,967,296 calls; `Memory` if a list can't be made.
 fn check_readers<'a, A: Allocator + Copy, T: Read + Drop>(
     alloc: A,
     names: &[&'a str],
@@ -32,8 +32,7 @@ fn check_readers<'a, A: Allocator + Copy, T: Read + Drop>(
     check(alloc, names, inputs.as_slice())
 }
 
-/// Opens the files of these names, and checks them: reads the streams of a launch, one from each, and tells whether they are
-/// those of a launch.
+/// Opens the files of these names, reads a stream from each, and says whether they are the streams of a launch.
 ///
 /// # Errors
 /// `Read` at the first file that can't be opened, before anything is read, and `Memory`; then those of reading.

@@ -70,7 +70,7 @@ impl Checked<'_> {
     }
 }
 
-/// Judges inputs as streams of a launch, one each, which come from files of these names, in their order.
+/// Judges inputs as streams of a launch, one each. They come from files of these names, in their order.
 pub(crate) fn check<'a, A: Allocator + Copy>(
     alloc: A,
     names: &[&'a str],

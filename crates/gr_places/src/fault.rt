@@ -5,10 +5,10 @@ ghost use Rattle.gr_places.specs.declared.fault.SideFault.TheVariants.{Memory as
 
 use gr_model::memory::Memory;
 
-/// Why what a side file says is not known. Lines are counted from 1.
+/// Why a side file is refused. Lines are counted from 1.
 #[derive(Clone, Copy, Debug, PartialEq, Eq)]
 pub enum SideFault {
-    /// The line with this number is the first that has not the form of the file's lines.
+    /// The line with this number is the first that does not have the form of the file's lines.
     BadLine(u64),
     /// An allocation was refused.
     Memory,

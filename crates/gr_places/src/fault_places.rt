@@ -1,4 +1,4 @@
-//! What the fault of files is about: which file, where in it, and beside which other one.
+//! What a fault of files is about: which file, where in it, and with which other file it does not fit.
 
 ghost use Rattle.std.specs.Prelude.{◌≡◌, map, option_map, slice_get};
 ghost use Rattle.gr_places.specs.Places as spec;
@@ -14,13 +14,13 @@ use std::alloc::Allocator;
 /// What a fault of files is about.
 #[derive(Clone, Copy, Debug, PartialEq, Eq)]
 pub enum FaultPlace<'a> {
-    /// A stream: its place among the files, the name of its file, and where in it the fault stands.
+    /// A stream: its place among the files, the name of its file, and where in it the fault is.
     Stream {
         stream: u64,
         file: Option<&'a str>,
         spot: Option<Spot>,
     },
-    /// A stream that does not fit: the same, and the name of the file beside which it does not.
+    /// A stream that does not fit to another: its place, the name of its file, and the name of the other file.
     Beside {
         stream: u64,
         file: Option<&'a str>,
@@ -35,7 +35,7 @@ pub enum FaultPlace<'a> {
     Nothing,
 }
 
-/// Where in the file at this place this fault stands, if there is one.
+/// Where in the file at this place this fault is, if there is such a file.
 fn spot_in<A: Allocator>(inputs: &[Vec<u8, A>], place: u64, error: RecordError) -> Option<Spot>
     ensures { result ≡ option_map (spot error) (slice_get (inputs_of inputs.now) place) }
 {
@@ -45,7 +45,7 @@ fn spot_in<A: Allocator>(inputs: &[Vec<u8, A>], place: u64, error: RecordError) 
     }
 }
 
-/// What this fault of inputs is about, which come from files of these names.
+/// What this fault is about. The inputs come from files of these names.
 pub(crate) fn place_of<'a, A: Allocator>(
     names: &[&'a str],
     inputs: &[Vec<u8, A>],

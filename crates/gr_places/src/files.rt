@@ -19,7 +19,7 @@ use gr_record::input::read_all;
 use std::alloc::Allocator;
 use std::io::{self, Read};
 
-/// The names of side files, each where there is one.
+/// The names of side files, each if there is one.
 #[derive(Clone, Copy, Debug)]
 pub struct SideNames<'a> {
     /// The file of places.
@@ -28,7 +28,7 @@ pub struct SideNames<'a> {
     pub buffers: Option<&'a str>,
 }
 
-/// Files that are open: side files, each where there is one, and those of the streams.
+/// Open files: side files, each if there is one, and the files of the streams.
 #[derive(Drop)]
 pub struct Opened<T: Drop, A: Allocator> {
     /// The file of places.
@@ -39,7 +39,7 @@ pub struct Opened<T: Drop, A: Allocator> {
     pub streams: Vec<T, A>,
 }
 
-/// Keeps a name, if there is one.
+/// Adds a name, if there is one.
 fn keep_name<'a, A: Allocator>(
     names: &mut Vec<&'a str, A>,
     name: Option<&'a str>,
@@ -68,7 +68,7 @@ fn all_names<'a, A: Allocator>(
 }
 
 /// Takes the first file away, if it is wanted.
-/// Requires: where it is wanted there is one.
+/// Requires: if it is wanted, there is one.
 fn take_first<T: Drop, A: Allocator>(files: &mut Vec<T, A>, wanted: bool) -> Option<T>
     requires { IsTrue wanted → 0 < length files.old.items }
     ensures taken { is_some result ≡ wanted }
@@ -77,7 +77,7 @@ fn take_first<T: Drop, A: Allocator>(files: &mut Vec<T, A>, wanted: bool) -> Opt
     if wanted { Some(files.remove(0)) } else { None }
 }
 
-/// Opens the file of places and that of buffers, each where there is one, and then those of the streams.
+/// Opens the file of places and the file of buffers, each if there is one, and then the files of the streams.
 ///
 /// # Errors
 /// `Read` at the first that can't be opened; `Memory`.
@@ -106,10 +106,10 @@ where
     })
 }
 
-/// All bytes of a side file, and none where there is no file.
+/// All bytes of a side file, or none if there is no file.
 ///
 /// # Errors
-/// Those of `read_all`, where there is a file.
+/// If there is a file, those of `read_all`.
 pub fn bytes_of<A: Allocator, T: Read + Drop>(
     alloc: A,
     file: Option<T>,

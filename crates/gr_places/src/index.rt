@@ -1,4 +1,4 @@
-//! The places of many events, found without a look at each line.
+//! The places of many events, found without a search through all lines.
 
 ghost use Rattle.std.specs.Prelude.{◌≡◌, IfOk, map};
 ghost use Rattle.std.specs.Option.{option_map};
@@ -19,7 +19,7 @@ type Texts<'a, A> = IndexMap<Placed, &'a str, BuildHasherDefault<FoldHasher>, A>
 /// The number of each text.
 type Numbers<'a, A> = IndexMap<&'a str, usize, BuildHasherDefault<FoldHasher>, A>;
 
-/// The places that the lines of a file say, and their numbers. Two places have one number just where they have one text.
+/// The places that the lines of a file give, and their numbers. Two places have the same number if and only if they have the same text.
 #[derive(Drop)]
 #[derive_where(Debug)]
 pub struct PlaceIndex<'a, A: Allocator = Global> {
@@ -95,8 +95,8 @@ impl<'a, A: Allocator> PlaceIndex<'a, A> {
         self.text_of(placed)
     }
 
-    /// The number of the place of an event or a site, or `None` if no line has it: how many lines stand before the first
-    /// that has the same text.
+    /// The number of the place of an event or a site, or `None` if no line has it: how many lines come before the first line
+    /// with the same text.
     pub fn number_of(&self, placed: Placed) -> Option<usize>
         ensures { result ≡ spec.number_at self.now placed }
     {

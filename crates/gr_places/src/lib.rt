@@ -1,8 +1,8 @@
-//! The side files of a trace: where in the source an event or a barrier stands, and which words belong to which buffer; files that
-//! are opened by their names; the lines of their faults; and whether files are the streams of a launch, and how many records of each
-//! kind it has, or else where the first fault is.
+//! The side files of a trace, which say where in the source an event or a barrier is, and which words belong to which buffer. This
+//! crate also opens files by their names, writes the lines of their faults, and checks whether files are the streams of a launch: it
+//! counts the records of each kind, or says where the first fault is.
 //!
-//! The forms of their lines are docs/FORMATS.md, "Side files".
+//! docs/FORMATS.md, "Side files", has the form of their lines.
 #![tactic(auto)]
 
 pub mod buffers;

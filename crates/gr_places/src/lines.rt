@@ -5,7 +5,7 @@ ghost use Rattle.std.specs.Prelude.{◌≡◌, ◌++◌, ◌∷◌, [], OnOk};
 use gr_model::memory::Memory;
 use std::alloc::Allocator;
 
-/// Keeps one more.
+/// Adds one more.
 pub(crate) fn keep<T: Drop, A: Allocator>(kept: &mut Vec<T, A>, said: T) -> Result<(), Memory>
     ensures { OnOk result (kept.new.items ≡ kept.old.items ++ said ∷ []) }
 {

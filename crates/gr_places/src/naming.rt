@@ -1,4 +1,4 @@
-//! The word of memory that a text as `NAME[INDEX]` says.
+//! The word of memory that a text of the form `NAME[INDEX]` names.
 
 ghost use Rattle.std.specs.Prelude.{◌≡◌, ◌≢◌, ℕ, ◌^◌, ◌<◌, ◌++◌, List, MatchOption, map};
 ghost use Rattle.gr_model.specs.declared.event.Word.{Word as AnyWord};
@@ -9,21 +9,21 @@ use crate::buffers::{BufferLine, Element, element_of};
 use gr_model::event::Word;
 use gr_text::words::parse_number;
 
-/// The bytes behind these at the front, if they stand there.
+/// The bytes after `front`, if the bytes begin with it.
 fn behind<'a>(bytes: &'a [u8], front: &[u8]) -> Option<&'a [u8]>
     ensures { MatchOption result ((rest : List ℕ) → bytes.entry.now ≢ front.now ++ rest) (λ rest. bytes.entry.now ≡ front.now ++ rest.now) }
 {
     bytes.strip_prefix(front)
 }
 
-/// The bytes before these at the end, if they stand there.
+/// The bytes before `end`, if the bytes end with it.
 fn before<'a>(bytes: &'a [u8], end: &[u8]) -> Option<&'a [u8]>
     ensures { MatchOption result ((rest : List ℕ) → bytes.entry.now ≢ rest ++ end.now) (λ rest. bytes.entry.now ≡ rest.now ++ end.now) }
 {
     bytes.strip_suffix(end)
 }
 
-/// The index in a text that is this name with an index behind it.
+/// The index in a text that is this name followed by an index in brackets.
 fn index_behind(name: &str, text: &str) -> Option<u32>
     ensures { MatchOption result ((k : ℕ) → k < 2 ^ 32 → ¬ spec.IsText name.now k text.now) (λ k. spec.IsText name.now k text.now) }
 {
@@ -33,7 +33,7 @@ fn index_behind(name: &str, text: &str) -> Option<u32>
     parse_number(digits)
 }
 
-/// The number behind the first by as many, if it is below 2^32 and one of so many.
+/// `first + index`, if it is below 2^32 and `index` is below `words`.
 fn number_at(first: u32, words: u32, index: u32) -> Option<u32>
     ensures { result ≡ spec.number_at first words index }
 {
@@ -60,7 +60,7 @@ fn word_at(line: &BufferLine<'_>, index: u32) -> Option<Word>
     }
 }
 
-/// Whether a word of a buffer has this name and this index.
+/// Whether there is a word of a buffer, with this name and this index.
 fn is_element(found: Option<Element<'_>>, name: &str, index: u32) -> bool
     ensures { result ≡ spec.is_same found.entry name.now index }
 {
@@ -70,7 +70,7 @@ fn is_element(found: Option<Element<'_>>, name: &str, index: u32) -> bool
     }
 }
 
-/// The word of this line that the text says, where the first line that has the word is one of this name.
+/// The word of this line that the text names, if the first line that has the word has the name of this line.
 fn word_in<'a>(lines: &[BufferLine<'a>], line: &BufferLine<'a>, text: &str) -> Option<Word>
     ensures { MatchOption result ((w : AnyWord) → ¬ spec.IsSaidIn (map buffer_line lines.now) (buffer_line line.now) text.now w) (λ w. spec.IsSaidIn (map buffer_line lines.now) (buffer_line line.now) text.now w) }
 {
@@ -83,9 +83,9 @@ fn word_in<'a>(lines: &[BufferLine<'a>], line: &BufferLine<'a>, text: &str) -> O
     }
 }
 
-/// The word that a text as `NAME[INDEX]` says: one of which the buffer has this name, and the place in it is this index, in
-/// decimal digits without leading zeros. Of several, as those of local memory of several groups, it is one of the first line.
-/// `None` where no word is said so.
+/// The word that a text of the form `NAME[INDEX]` names: its buffer has this name, and its place in the buffer is this index, in
+/// decimal digits without leading zeros. If there are several, as in the local memory of several groups, it is the word of the first
+/// line. `None` if no word has this name.
 pub fn word_said(lines: &[BufferLine<'_>], text: &str) -> Option<Word>
     ensures { MatchOption result ((w : AnyWord) → ¬ spec.IsSaid (map buffer_line lines.now) text.now w) (λ w. spec.IsSaid (map buffer_line lines.now) text.now w) }
 {

@@ -1,4 +1,4 @@
-//! The file beside which another one does not fit, by the groups that their headers say.
+//! The file with which another file does not fit, by the groups in their headers.
 
 ghost use Rattle.std.specs.Prelude.{◌≡◌, map, option_map, position, slice_get};
 ghost use Rattle.gr_replay.specs.Each.{inputs_of};
@@ -8,7 +8,7 @@ use gr_model::limits::MOST_GROUPS;
 use gr_record::stream::read_front_header;
 use std::alloc::Allocator;
 
-/// The group that the header at the start of the bytes says, if there is one.
+/// The group in the header at the start of the bytes, if there is one.
 fn group_of(bytes: &[u8]) -> Option<u16>
     ensures { result ≡ group_at bytes.now }
 {

@@ -20,7 +20,7 @@ fn fault_of_opening(error: &io::Error) -> Fault
     }
 }
 
-/// Opens the files of these names, in their order, by what opens one.
+/// Opens the files of these names, in their order.
 ///
 /// # Errors
 /// `Read` at the first that can't be opened; `Memory`.

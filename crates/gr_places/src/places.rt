@@ -1,4 +1,4 @@
-//! Where in the source events and barriers stand.
+//! Where in the source events and barriers are.
 
 ghost use Rattle.std.specs.Prelude.{◌≡◌, map};
 ghost use Rattle.std.specs.List.{find};
@@ -25,13 +25,13 @@ pub enum Placed {
 /// A line of a file of places.
 #[derive(Clone, Copy, Debug)]
 pub struct PlaceLine<'a> {
-    /// What stands there.
+    /// What is there.
     pub of: Placed,
-    /// The place, as the file has it: not empty, and it begins with no digit.
+    /// The place, as the file has it: it is not empty, and does not begin with a digit.
     pub text: &'a str,
 }
 
-/// A place, which begins with no digit.
+/// A place: it does not begin with a digit.
 #[tactic(auto, unfolding(crate::specs::SideLines::place_said))]
 fn parse_place(bytes: &[u8]) -> Option<&str>
     ensures { option_map (λ text. text.now) result ≡ spec.place_said bytes.now }
@@ -42,7 +42,7 @@ fn parse_place(bytes: &[u8]) -> Option<&str>
     parse_text(bytes)
 }
 
-/// The line of an event, of which these bytes stand behind the group.
+/// The line of an event, by its group and the bytes after the group.
 #[tactic(auto, unfolding(crate::specs::SideLines::event_said))]
 fn parse_event<'a>(group: &[u8], bytes: &'a [u8]) -> Option<PlaceLine<'a>>
     ensures { option_map spec.place_line result ≡ spec.event_said group.now bytes.entry.now }
@@ -59,7 +59,7 @@ fn parse_event<'a>(group: &[u8], bytes: &'a [u8]) -> Option<PlaceLine<'a>>
     Some(PlaceLine { of, text })
 }
 
-/// The line of a site, of which these bytes stand behind its number.
+/// The line of a site, by its number and the bytes after the number.
 #[tactic(auto, unfolding(crate::specs::SideLines::site_said))]
 fn parse_site<'a>(site: &[u8], bytes: &'a [u8]) -> Option<PlaceLine<'a>>
     ensures { option_map spec.place_line result ≡ spec.site_said site.now bytes.entry.now }
@@ -69,7 +69,7 @@ fn parse_site<'a>(site: &[u8], bytes: &'a [u8]) -> Option<PlaceLine<'a>>
     Some(PlaceLine { of, text })
 }
 
-/// What a line says, given without its line feed, or `None` if it has not the form of a line of places.
+/// What a line says, without its line feed, or `None` if it does not have the form of a line of places.
 #[tactic(auto, unfolding(crate::specs::SideLines::place_line_said))]
 fn parse_line(line: &[u8]) -> Option<PlaceLine<'_>>
     ensures { option_map spec.place_line result ≡ spec.place_line_said line.now }
@@ -86,7 +86,7 @@ fn parse_line(line: &[u8]) -> Option<PlaceLine<'_>>
 /// What the lines of a file of places say, in their order.
 ///
 /// # Errors
-/// `BadLine` with the number, from 1, of the first line that has not the form; `Memory` if an allocation is refused.
+/// `BadLine` with the number, from 1, of the first line that does not have the form; `Memory` if an allocation is refused.
 pub fn read_places<A: Allocator>(alloc: A, text: &[u8]) -> Result<Vec<PlaceLine<'_>, A>, SideFault>
     ensures { spec.Answers (λ lines. map spec.place_line lines.items) result (spec.places_in text.now) }
 {

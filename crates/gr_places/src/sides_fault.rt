@@ -1,4 +1,4 @@
-//! Why nothing is told of a launch with side files, and the line that says so.
+//! Why there is no answer about a launch with side files, and the line that says so.
 
 ghost use Rattle.std.specs.Prelude.{◌≡◌, OnErr, OnOk};
 ghost use Rattle.std.specs.Io.KnownBytes.{Appends};
@@ -11,14 +11,14 @@ use gr_report::putting::{WriteFault, finish, put, put_field};
 use gr_report::write_fault;
 use std::io::Write;
 
-/// Why nothing is told of a launch with side files. Lines are counted from 1.
+/// Why there is no answer about a launch with side files. Lines are counted from 1.
 #[derive(Clone, Copy, Debug, PartialEq, Eq)]
 pub enum SidesFault {
     /// The streams are no launch, reading or writing fails, or memory runs out.
     Run(Fault),
-    /// The line with this number has not the form of a line of places.
+    /// The line with this number does not have the form of a line of places.
     Places(u64),
-    /// The line with this number has not the form of a line of buffers.
+    /// The line with this number does not have the form of a line of buffers.
     Buffers(u64),
 }
 

@@ -1,4 +1,4 @@
-//! Where in a stream its fault stands.
+//! Where in a stream its fault is.
 
 ghost use Rattle.std.specs.Prelude.{◌≡◌, ◌≤◌, length};
 ghost use Rattle.gr_model.specs.declared.limits.TheConstants.{MOST_RECORDS};
@@ -11,19 +11,19 @@ use gr_record::header::Header;
 use gr_record::reading::read_event;
 use gr_record::stream::read_front_header;
 
-/// Where in a stream its fault stands. Bytes are counted from the start of the stream, from 0.
+/// Where in a stream its fault is. Bytes are counted from 0 at the start of the stream.
 #[derive(Clone, Copy, Debug, PartialEq, Eq)]
 pub enum Spot {
     /// At the header, which begins at byte 0.
     Header,
     /// At the record with this number, from 0, which begins at this byte.
     Record { number: u64, byte: u64 },
-    /// Behind the end, at this byte.
+    /// After the end, at this byte.
     Behind { byte: u64 },
 }
 
-/// How many records are accepted at the start of the bytes, in the stream of this header and up to its end, and the bytes
-/// behind them.
+/// How many records are accepted at the start of the bytes, in a stream of this header and up to its end, and the bytes after
+/// them.
 fn skip_accepted(header: Header, bytes: &[u8]) -> (usize, &[u8])
     ensures number { result.0 ≡ length (records_of header MOST_RECORDS bytes.now).events }
     ensures rest { result.1.now ≡ (records_of header MOST_RECORDS bytes.now).rest }
@@ -49,7 +49,7 @@ fn skip_accepted(header: Header, bytes: &[u8]) -> (usize, &[u8])
     (MOST_RECORDS, rest)
 }
 
-/// Where a fault behind a header stands, behind so many records and before this byte.
+/// Where a fault after a header is: after `number` records, at this byte.
 fn behind_header(error: RecordError, number: u64, byte: u64) -> Spot
     ensures { result ≡ behind_header error number byte }
 {
@@ -59,8 +59,8 @@ fn behind_header(error: RecordError, number: u64, byte: u64) -> Spot
     }
 }
 
-/// Where this fault stands in the stream that the bytes are: at the header, if it can't be read; else at the first record that
-/// is not accepted, or behind the end.
+/// Where this fault is in a stream of these bytes: at the header, if it can't be read; else at the first record that is not
+/// accepted, or after the end.
 pub(crate) fn spot_of(error: RecordError, bytes: &[u8]) -> Spot
     ensures { result ≡ spot error bytes.now }
 {

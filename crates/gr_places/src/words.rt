@@ -14,7 +14,7 @@ pub(crate) fn is_digit_first(bytes: &[u8]) -> bool
     }
 }
 
-/// The text that goes up to the end of a line, or `None` if it is empty or no UTF-8.
+/// The text up to the end of a line, or `None` if it is empty or not UTF-8.
 pub(crate) fn parse_text(bytes: &[u8]) -> Option<&str>
     ensures { option_map (λ text. text.now) result ≡ text_said bytes.now }
 {

@@ -1,4 +1,4 @@
--- Faults of reading streams are faults of showing what they are.
+-- Faults of reading streams are faults of an answer about them.
 use Rattle.std.proofs.Common.{ℕ, List, Option, None, Some, inl, inr, refl}
 use Rattle.std.specs.Prelude.{IfSome}
 use Rattle.gr_record.specs.declared.fault.Fault.{Fault}
@@ -10,7 +10,7 @@ pub shown_fault : (known : Option (List (List ℕ))) (f : Fault) → IfSome know
 shown_fault None f h = tt
 shown_fault (Some inputs) f h = inl h
 
--- and so is that the writer fails
+-- the fault of the writer is one, too
 pub writing_fault : (known : Option (List (List ℕ))) → IfSome known (λ inputs. IsShowFault inputs Write)
 writing_fault None = tt
 writing_fault (Some inputs) = inr refl

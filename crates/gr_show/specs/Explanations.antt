@@ -1,4 +1,4 @@
--- The line that tells of a word's least racing pair, or that it has none.
+-- The line of a word's least racing pair, or that it has none.
 -- Source: docs/OUTPUT.md, "explain".
 use Rattle.std.specs.Prelude.{ℕ, List, ◌++◌, Option, None, Some, decimal, codes}
 use Rattle.gr_model.specs.declared.event.EventId.{EventId}

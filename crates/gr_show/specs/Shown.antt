@@ -49,14 +49,14 @@ pub record RacesSaid : Type 0 where
 abbrev pub races_said : {Z : Type 0} → RacesByKind Z → RacesSaid
 races_said r = record { by_kind = map entry_of r.kinds.items; races = r.races; report = whole_of r.report }
 
--- those of a launch, by what side files say, with causes where they are asked for, and its report
+-- the races of a launch, with what side files say and with causes if they are asked for, and its report
 pub record AreRaces (said : SidesSaid) (causes : Bool) (s : Streams) (r : RacesSaid) : Type 0 where
   pub listed : AreListedRaces s (place_number said.places) causes r.by_kind r.races
   pub report : IsReportOf s r.report
 
 -- ---- the history of a word
 
--- the accesses to a word, what is told of each, how many others are held, and whether the word is racy
+-- the accesses to a word with their details, how many others are held, and whether the word is racy
 pub record HistorySaid : Type 0 where
   pub known : List (EventId × Details)
   pub lines : List Line
@@ -66,7 +66,7 @@ pub record HistorySaid : Type 0 where
 abbrev pub history_said : {Z : Type 0} → HistoryAnswer Z → HistorySaid
 history_said t = record { known = t.known.entries; lines = lines_of t.entries.items; held = t.held; racy = t.racy }
 
--- those of a word of a launch
+-- the history of a word of a launch
 pub record IsToldOf (s : Streams) (w : Word) (h : HistorySaid) : Type 0 where
   pub known : AreAccesses s w h.known
   pub history : IsHistory s w h.lines

@@ -1,11 +1,11 @@
--- What is told of a launch, and what of it is written.
+-- Answers about a launch, and their text as it is written.
 use Rattle.std.specs.Prelude.{◌↔◌, ℕ, Bool, List, Option, IfSome, IsTrue}
 use Rattle.std.specs.Io.KnownBytes.{Appends}
 use Rattle.gr_model.specs.Streams.{AreAccepted, Streams}
 use Rattle.gr_replay.specs.Each.{ReadsEach}
 use Rattle.gr_report.specs.Putting.{AppendsPrefix}
 
--- the inputs, where they are known, are the streams of a launch, which the model accepts; this is a text of it; and it is said whether this is found in it
+-- the inputs, if they are known, are the streams of a launch that the model accepts; `text` is a text of it; and `found` says whether this is found in it
 pub record IsTold (IsTextOf : Streams → List ℕ → Type 0) (IsFoundIn : Streams → Type 0) (known : Option (List (List ℕ))) (text : List ℕ) (found : Bool) : Type 0 where
   pub launch : Streams
   pub spelled : IfSome known (λ inputs. ReadsEach inputs launch)
@@ -13,7 +13,7 @@ pub record IsTold (IsTextOf : Streams → List ℕ → Type 0) (IsFoundIn : Stre
   pub exact : IsTextOf launch text
   pub said : IsTrue found ↔ IsFoundIn launch
 
--- the inputs, where they are known, are the streams of a launch, which the model accepts; a text of it is written whole; and it is said whether this is found in it
+-- the inputs, if they are known, are the streams of a launch that the model accepts; a text of it is written whole; and `found` says whether this is found in it
 pub record IsShown (IsTextOf : Streams → List ℕ → Type 0) (IsFoundIn : Streams → Type 0) (known : Option (List (List ℕ))) (found : Bool) (old new : Option (List ℕ)) : Type 0 where
   pub launch : Streams
   pub spelled : IfSome known (λ inputs. ReadsEach inputs launch)

@@ -22,7 +22,7 @@ fn flags_text(crossing: &Crossing) -> &'static str {
     }
 }
 
-/// A text in which it is told where events stand.
+/// A text, with the places of events in the source.
 #[derive(Drop)]
 struct PlacedText<'a, A: Allocator> {
     text: String<A>,
@@ -30,7 +30,7 @@ struct PlacedText<'a, A: Allocator> {
 }
 
 impl<A: Allocator> PlacedText<'_, A> {
-    /// Adds what is told of an access behind this label, and where it stands.
+    /// Adds a label, the details of an access, and where it is in the source.
     fn put_details(&mut self, label: &str, event: EventId, details: &Details) -> Added {
         let at = AtText(self.places.place_of(Placed::Event(event)));
         writeln!(self.text, "{label} {}{at}", ToldText(*details))
@@ -45,7 +45,7 @@ impl<A: Allocator> PlacedText<'_, A> {
         Ok(())
     }
 
-    /// Adds half of a hand-over, where there is one.
+    /// Adds half of a hand-over, if there is one.
     fn put_half(&mut self, label: &str, half: Option<DetailedEvent>) -> Added {
         let Some(half) = half else {
             return Ok(());
@@ -54,13 +54,13 @@ impl<A: Allocator> PlacedText<'_, A> {
         self.put_details("", half.event, &half.details)
     }
 
-    /// Adds what an access does, and where it stands.
+    /// Adds what an access does, and where it is in the source.
     fn put_operation(&mut self, label: &str, operation: Operation, event: EventId) -> Added {
         let at = AtText(self.places.place_of(Placed::Event(event)));
         writeln!(self.text, "{label} {}{at}", operation_name(operation))
     }
 
-    /// Adds the other races of a word: of each two accesses, what they do, and where they stand.
+    /// Adds the other races of a word: the two accesses of each, what they do, and where they are in the source.
     fn put_others(&mut self, others: &[KindedRace]) -> Added {
         for KindedRace { kind, race } in others {
             let (first, second) = (EventText(race.first), EventText(race.second));
@@ -72,8 +72,8 @@ impl<A: Allocator> PlacedText<'_, A> {
     }
 }
 
-/// The text of a word and its least racing pair: what the two accesses are, what stands between them, the cause of their race and the
-/// word's other races, with what side files say; or of a word that has none.
+/// The text of a word and its least racing pair: what the two accesses are, what is between them, the cause of their race and the
+/// word's other races, with what side files say; or that the word has no race.
 pub(crate) fn account_text<A: Allocator + Copy>(
     alloc: A,
     sides: &Sides<'_>,

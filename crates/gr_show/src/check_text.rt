@@ -21,7 +21,7 @@ fn put_counts<W: Write>(writer: &mut W, counts: &Counts) -> io::Result<()> {
     writeln!(writer, "barriers {}\nends {}", counts.barriers, counts.ends)
 }
 
-/// Writes the line of a file, if it has a name, behind this label.
+/// Writes a label and the name of a file, if it has one.
 fn put_file<W: Write>(writer: &mut W, label: &str, name: Option<&str>) -> io::Result<()> {
     match name {
         None => Ok(()),
@@ -38,7 +38,7 @@ fn put_spot<W: Write>(writer: &mut W, spot: Option<Spot>) -> io::Result<()> {
     }
 }
 
-/// Writes what stands below the line of a fault.
+/// Writes the lines after the line of a fault.
 fn put_below<W: Write>(writer: &mut W, fault: Fault, place: FaultPlace<'_>) -> io::Result<()> {
     match place {
         FaultPlace::Stream { file, spot, .. } => {

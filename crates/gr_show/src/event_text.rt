@@ -1,4 +1,4 @@
-//! Words, events, places, and what is told of an access, as text.
+//! Words, events, places and the details of an access, as text.
 
 ghost use Rattle.std.specs.Prelude.{Some};
 ghost use Rattle.gr_show.specs.Explanations.{event_text, word_text};
@@ -12,7 +12,7 @@ use gr_timeline::details::Details;
 use std::alloc::{AllocError, Allocator};
 use std::fmt::{self, Display, Formatter};
 
-/// That text was added, unless memory ran out.
+/// Whether memory sufficed to add text.
 pub(crate) type Added = Result<(), AllocError>;
 
 /// The memory and the number of a word.
@@ -43,7 +43,7 @@ impl Display for EventText {
     }
 }
 
-/// Where an event or a site stands, if it is said.
+/// Where an event or a site is in the source, if that is known.
 #[derive(Clone, Copy)]
 pub(crate) struct AtText<'a>(pub(crate) Option<&'a str>);
 
@@ -56,7 +56,7 @@ impl Display for AtText<'_> {
     }
 }
 
-/// What is told of an access.
+/// The details of an access.
 #[derive(Clone, Copy)]
 pub(crate) struct ToldText(pub(crate) Details);
 
@@ -71,7 +71,7 @@ impl Display for ToldText {
     }
 }
 
-/// Adds the line of a word and two events that race on it, and the line of its buffer, where one is known.
+/// Adds the line of a word and two events that race on it, and the line of its buffer, if one is known.
 pub(crate) fn put_race<A: Allocator>(
     text: &mut String<A>,
     sides: &Sides<'_>,
@@ -83,7 +83,7 @@ pub(crate) fn put_race<A: Allocator>(
     put_buffer(text, sides, word)
 }
 
-/// Adds the line of the buffer of a word, where one is known.
+/// Adds the line of the buffer of a word, if one is known.
 pub(crate) fn put_buffer<A: Allocator>(
     text: &mut String<A>,
     sides: &Sides<'_>,

@@ -1,4 +1,4 @@
-//! The answer to a question about a launch whose streams are in files, with what side files say of it.
+//! The answer to a question about a launch whose streams are in files, with what side files say about it.
 
 ghost use Rattle.std.specs.Prelude.{◌≡◌, ◌≢◌, IfErr, IfOk, map};
 ghost use Rattle.std.specs.Fn.{FnReturnsAt};
@@ -18,11 +18,11 @@ use gr_record::fault::Fault;
 use std::alloc::Allocator;
 use std::io::{self, Read, Write};
 
-/// Opens the side files that are named and the files of these names, reads the side files and then the streams of a
-/// launch, one from each file, and answers the question.
+/// Opens the side files and the files of these names, reads the side files and then a stream from each file, and answers the
+/// question.
 ///
 /// # Errors
-/// Those of `tell_files`, but for the writer's.
+/// Those of `tell_files`, except the writer's.
 fn answer_of_files<'a, A, Q, T, O>(
     alloc: A,
     question: &Q,
@@ -56,16 +56,14 @@ where
     Ok(answer_of_streams(alloc, question, streams, &said)?)
 }
 
-/// Opens the side files that are named and the files of these names, reads the side files and then the streams of a
-/// launch, one from each file, writes the text that answers the question and nothing else, and tells whether what the
-/// question looks for is found.
+/// Opens the side files and the files of these names, reads the side files and then a stream from each file, and writes the text
+/// that answers the question and nothing else. Gives whether what the question looks for is found.
 ///
 /// # Errors
-/// `Run` with the fault of the first file that can't be opened: places, buffers, streams. Nothing is read before all are
-/// open. Then `Places` and `Buffers` with the first line that is out of form, the places first; `Run` with the fault of
-/// a side file that can't be read, at its turn; then `Run` with those of `read_each`, or with `Memory` where there is no
-/// memory for the answer. Nothing is written before. Last `Run` with `Write` where the writer fails, which then has a prefix of
-/// the text.
+/// `Run` with the fault of the first file that can't be opened, in the order places, buffers, streams; nothing is read before all are
+/// open. Then `Places` and `Buffers` with the first line that is out of form, the places first; `Run` with the fault of a side file
+/// that can't be read, at its turn. Then `Run` with the faults of `read_each`, or with `Memory` if there is no memory for the answer.
+/// Nothing is written before that. Last, `Run` with `Write` if the writer fails; the writer then has a prefix of the text.
 pub fn tell_files<'a, A, Q, T, O, W>(
     alloc: A,
     question: &Q,

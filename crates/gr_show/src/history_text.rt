@@ -13,7 +13,7 @@ use gr_timeline::standing::{Above, Named, Standing};
 use gr_timeline::word_history::HistoryAnswer;
 use std::alloc::Allocator;
 
-/// Adds events behind these words, if there are some.
+/// Adds these words and events, if there are any.
 fn put_named<A: Allocator + Copy>(text: &mut String<A>, before: &str, named: &Named<A>) -> Added {
     let mut between = before;
     for event in &named.events {
@@ -36,7 +36,7 @@ fn put_standing<A: Allocator + Copy>(text: &mut String<A>, standing: &Standing<A
     put_named(text, " but", &standing.unordered)
 }
 
-/// Adds what is told of an access, and how it stands to those above it, to which it is added.
+/// Adds the details of an access, and how it is ordered to those above it. Then it is one of those above.
 fn put_access<A: Allocator + Copy>(
     alloc: A,
     text: &mut String<A>,

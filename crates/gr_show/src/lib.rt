@@ -1,8 +1,8 @@
 //! From the files of a launch to the text that answers a question about it: one frame for every question, the questions, and their
 //! texts.
 //!
-//! That an answer is right is a contract; its text is a rendering, of which nothing is claimed but for the line of `explain`. The
-//! texts are docs/OUTPUT.md, "explain" and what follows there.
+//! A contract says that an answer is right. Its text is a rendering: nothing is proved about it, except for the line of `explain`.
+//! docs/OUTPUT.md, from "explain" on, describes the texts.
 #![tactic(auto)]
 
 mod account_text;

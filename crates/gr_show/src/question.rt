@@ -15,34 +15,34 @@ pub type OrMemory<T> = Result<T, Memory>;
 /// A text, unless memory runs out.
 pub type Text<A = Global> = Result<Vec<u8, A>, Memory>;
 
-/// What is told of a launch: a text, and whether what is looked for is found.
+/// The answer about a launch: a text, and whether what the question looks for is found.
 #[derive(Drop)]
 pub(crate) struct Rendered<A: Allocator> {
     /// The text, whole.
     pub(crate) text: Vec<u8, A>,
-    /// Whether it is found.
+    /// Whether what the question looks for is found.
     pub(crate) found: bool,
 }
 
-/// A question about a launch. Its answer is a value, of which a text is made.
+/// A question about a launch. Its answer is a value that can be written as text.
 pub trait Question<A: Allocator> {
     /// What answers it.
     type Answer: Drop;
 
-    // by what side files say, this answers it of a launch
+    // with what side files say, this value answers it about a launch
     ghost is_answer: { Self → SidesSaid → Streams → Self.Answer → Type 0 };
 
     // what it looks for is found in a launch
     ghost is_found: { Self → Streams → Type 0 };
 
-    // by what side files say, this is a text of an answer of a launch
+    // with what side files say, this is a text of an answer about a launch
     ghost is_text: { Self → SidesSaid → Streams → List ℕ → Type 0 };
 
-    /// The answer of a launch, with what side files say.
+    /// The answer about a launch, with what side files say.
     fn answer(&self, alloc: A, launch: &Traces<A>, sides: &Sides<'_>) -> OrMemory<Self::Answer>
         ensures { IfOk result (λ answer. is_answer self.now (sides_said sides.now) launch.now answer) };
 
-    /// Whether an answer is that what it looks for is found.
+    /// Whether the answer says that what it looks for is found.
     fn found(&self, answer: &Self::Answer) -> bool
         ensures { (said : SidesSaid) (launch : Streams) → is_answer self.now said launch answer.now → IsTrue result ↔ is_found self.now launch };
 
@@ -51,9 +51,9 @@ pub trait Question<A: Allocator> {
         ensures { IfOk result (λ text. (launch : Streams) → is_answer self.now (sides_said sides.now) launch answer.now → is_text self.now (sides_said sides.now) launch text.items) };
 }
 
-/// A question whose answers are told as JSON, too.
+/// A question whose answers can also be written as JSON.
 pub trait JsonQuestion: Question<Global> {
-    // by what side files say, this is JSON of an answer of a launch
+    // with what side files say, this is JSON of an answer about a launch
     ghost is_json: { Self → SidesSaid → Streams → List ℕ → Type 0 };
 
     /// The JSON of an answer, with what side files say.
@@ -61,7 +61,7 @@ pub trait JsonQuestion: Question<Global> {
         ensures { IfOk result (λ text. (launch : Streams) → Self.is_answer self.now (sides_said sides.now) launch answer.now → is_json self.now (sides_said sides.now) launch text.items) };
 }
 
-/// A question whose answer is told as JSON.
+/// A question whose answer is written as JSON.
 #[derive(Clone, Copy, Debug, Drop)]
 pub struct InJson<Q>(pub Q);
 

@@ -33,15 +33,15 @@ use std::alloc::{Allocator, Global};
 /// Two events that race.
 type Pair = (EventId, EventId);
 
-/// For the least racing pair of a word.
+/// The least racing pair of a word.
 #[derive(Clone, Copy, Debug)]
 pub struct LeastRace(pub Word);
 
-/// For the same, with what its accesses are, what stands between them, the cause, and the other races of the word.
+/// The least racing pair of a word, with what its accesses are, what is between them, the cause, and the other races of the word.
 #[derive(Clone, Copy, Debug)]
 pub struct LongRace(pub Word);
 
-/// For the history of a word.
+/// The history of a word.
 #[derive(Clone, Copy, Debug)]
 pub struct WordHistory(pub Word);
 
@@ -49,16 +49,16 @@ pub struct WordHistory(pub Word);
 #[derive(Clone, Copy, Debug)]
 pub struct HeldEvent(pub EventId);
 
-/// For the races of a launch by their kinds.
+/// The races of a launch by their kinds.
 #[derive(Clone, Copy, Debug)]
 pub struct Races {
-    /// How many kinds are told at most, if not all.
+    /// How many kinds are shown at most; `None` shows all.
     pub most: Option<u32>,
-    /// Whether the cause of all races of each kind is told.
+    /// Whether the cause of the races of each kind is shown.
     pub causes: bool,
 }
 
-/// The line of a word and its least racing pair, or of a word that has none.
+/// The line of a word and its least racing pair, or that it has none.
 fn line_of<A: Allocator>(alloc: A, word: Word, pair: Option<Pair>) -> Text<A>
     ensures { IfOk result (λ text. text.items ≡ explanation_line word pair) }
 {

@@ -11,10 +11,10 @@ use gr_races::listing::KindEntry;
 use gr_races::runs::number_of;
 use std::alloc::Allocator;
 
-/// How many runs of a kind's words are told at most.
+/// How many runs of a kind's words are shown at most.
 const MOST_RUNS: usize = 5;
 
-/// Adds the line of a kind that so many words have.
+/// Adds the line of a kind, and how many words have it.
 fn put_kind<A: Allocator>(text: &mut String<A>, kind: RaceKind, words: usize) -> Added {
     let space = space_name(kind.space);
     let first = operation_name(kind.first.operation);
@@ -27,7 +27,7 @@ fn put_kind<A: Allocator>(text: &mut String<A>, kind: RaceKind, words: usize) ->
     writeln!(text, "kind {space} {first} {second} {groups} words {words}")
 }
 
-/// Adds the first runs of a kind's words, and how many words more there are.
+/// Adds the first runs of a kind's words, and how many more words there are.
 fn put_words<A: Allocator>(text: &mut String<A>, entry: &KindEntry<A>) -> Added {
     write!(text, "words")?;
     let mut left = entry.races.len() as u64;
@@ -46,7 +46,7 @@ fn put_words<A: Allocator>(text: &mut String<A>, entry: &KindEntry<A>) -> Added 
     writeln!(text, "")
 }
 
-/// Adds a kind with its words, and the first of its races with what side files say, and with its cause where it is told.
+/// Adds a kind with its words, and the first of its races with what side files say, and with its cause if it is known.
 fn put_entry<A: Allocator>(text: &mut String<A>, sides: &Sides<'_>, entry: &KindEntry<A>) -> Added {
     let kind = entry.kind;
     put_kind(text, kind, entry.races.len())?;
@@ -77,8 +77,8 @@ fn put_end<A: Allocator>(text: &mut String<A>, found: &RacesByKind<A>) -> Added 
     writeln!(text, "unmatched {unmatched} held {held}")
 }
 
-/// The text of the divergent barriers of a launch, its races kind by kind, of at most so many kinds, with what side files say of
-/// them, and an end that counts all of them.
+/// The text of the divergent barriers of a launch, its races kind by kind, at most `most` kinds, with what side files say about them,
+/// and an end that counts all of them.
 pub(crate) fn races_text<A: Allocator>(
     alloc: A,
     sides: &Sides<'_>,

@@ -42,12 +42,12 @@ pub(crate) fn answer_of_streams<A: Allocator + Copy, Q: Question<A>, T: Read + D
     })
 }
 
-/// Reads the streams of a launch, one from each reader, writes the line of the word and nothing else, and tells whether
-/// the word has a race.
+/// Reads the streams of a launch, one from each reader, and writes the line of the word and nothing else. Gives whether the word has a
+/// race.
 ///
 /// # Errors
-/// Those of `read_each`; `Write` where the writer fails, which then has a prefix of the line. In every other case of an
-/// error nothing is written.
+/// Those of `read_each`; `Write` if the writer fails, which then has a prefix of the line. If there is any other error, nothing is
+/// written.
 pub fn show_race<A: Allocator + Copy, T: Read + Drop, W: Write>(
     alloc: A,
     readers: Vec<T, A>,

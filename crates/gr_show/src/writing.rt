@@ -1,4 +1,4 @@
-//! A text that is written whole.
+//! Writes a whole text.
 
 ghost use Rattle.std.specs.Prelude.{◌≡◌, IfErr, OnErr, OnOk};
 ghost use Rattle.std.specs.Io.KnownBytes.{Appends};

@@ -7,7 +7,7 @@ use Rattle.gr_arguments.specs.Commands.{faults}
 use Rattle.gr_arguments.proofs.Meeting.{asks_to, faults_are, is_free}
 use Rattle.gr_arguments.proofs.request.request_of.Goals as goal
 
--- an error of one of the kinds is an answer of these kinds
+-- an error of one of these kinds fails by these kinds
 fails_by : {T : Type 0} (kinds : Kinds) (e : Error) (r : Result T Error) → IsErrAnd r (λ y. y ≡ e) → HasKind kinds e → FailsBy kinds r
 fails_by kinds e (Ok x) h k = absurd h
 fails_by kinds e (Err y) h k = subst (HasKind kinds) (sym h) k

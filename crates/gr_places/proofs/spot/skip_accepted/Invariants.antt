@@ -5,7 +5,7 @@ use Rattle.gr_record.specs.Fronts.{records_of}
 use Rattle.gr_record.proofs.Loop.{with_prefix}
 use Rattle.gr_places.proofs.spot.skip_accepted.Given as goal
 
--- so many records were accepted, and what is read behind them completes what is read of all bytes
+-- `number` records were accepted, and the rest of the bytes completes what all bytes give
 abbrev pub invariant-loop-number : goal.invariant-loop-number
 invariant-loop-number l =
     (prefix : List Event)
