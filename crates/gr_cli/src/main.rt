@@ -10,10 +10,10 @@ use gr_model::memory::Memory;
 use gr_places::sides_fault::write_sides_fault;
 use gr_plan::files::Files;
 use gr_plan::held::Held;
+use gr_plan::notes::note;
 use gr_plan::plan::{Refusal, plan_of};
 use gr_plan::progress::{Cleared, Watched};
 use gr_plan::reading::Reading;
-use gr_plan::told::tell;
 use gr_record::fault::Fault;
 use std::io::{BufWriter, ErrorKind, IsTerminal, Write};
 use std::process::ExitCode;
@@ -95,9 +95,9 @@ where
         progress.clear();
     }
     let command = words.first().map_or("", |word| word.as_str());
-    let _ = tell(&mut plan, command, &mut errors);
+    let _ = note(&mut plan, command, &mut errors);
     if status == 0 {
-        let _ = plan.tell_word(&mut errors);
+        let _ = plan.note_word(&mut errors);
     }
     status
 }

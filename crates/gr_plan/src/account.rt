@@ -1,4 +1,4 @@
-//! What of the streams in a series of bytes was read: where each begins, and how many records there were.
+//! What was read of the streams in a series of bytes: where each begins, and how many records there were.
 
 use crate::files::fault_of;
 use crate::seen::Seen;
@@ -13,36 +13,35 @@ use gr_record::stream::read_front_header;
 use std::alloc::Global;
 use std::io::Read;
 
-/// The first byte of a record that is an end; no record has a greater one.
+/// The first byte of an end. No record has a greater first byte.
 const END: u8 = 6;
 
 /// How many bytes are read at once.
 const PIECE_LENGTH: usize = 65_536;
 
-/// How many streams are told apart, at most: one more than a launch may have.
+/// How many streams are counted at most: one more than a launch may have.
 const MOST_STREAMS: usize = MOST_GROUPS + 1;
 
-/// What was read of a series of bytes that has streams, one after another. Records are looked at by their first byte alone, where
-/// nobody sees them.
+/// What was read of a series of streams, one after another. If nobody sees the records, only their first bytes are checked.
 #[derive(Drop)]
 pub struct Account {
-    /// Whether each record is looked at as a whole one.
+    /// Whether all bytes of each record are checked.
     judges: bool,
-    /// The stream of this number, from 0, is the last one, and its records are looked at as whole ones.
+    /// The number of the last stream, from 0, if there is one. All bytes of its records are checked.
     pub last: Option<u64>,
-    /// Where each stream begins that was met.
+    /// Where each stream begins.
     pub starts: Vec<u64>,
-    /// How many records of the stream at hand were passed.
+    /// How many records of the present stream were passed.
     pub records: u64,
     /// How many records were passed in all.
     all_records: u64,
     /// How many bytes were passed.
     pub passed: u64,
-    /// Why what stands next is not of a stream, where it is not.
+    /// Why the next bytes are not of a stream, if they are not.
     pub fault: Option<RecordError>,
-    /// The header of the stream at hand; none where a header stands next.
+    /// The header of the present stream; none if a header comes next.
     pub header: Option<Header>,
-    /// The bytes at hand.
+    /// The bytes that were taken and not passed.
     bytes: Vec<u8>,
 }
 
@@ -52,7 +51,7 @@ pub fn begins_stream(bytes: &[u8]) -> bool {
 }
 
 impl Account {
-    /// The account of bytes of which none was read.
+    /// The account before any byte is read.
     pub fn new(alloc: Global, judges: bool) -> Account {
         Account {
             judges,
@@ -67,31 +66,26 @@ impl Account {
         }
     }
 
-    /// Takes bytes that were read, passes and shows what was taken before, and gives how many records were passed.
+    /// Passes and shows what was taken before, takes a piece of bytes, and gives how many records were passed.
     pub fn take(&mut self, piece: &[u8], seen: &mut Seen) -> Result<u64, Memory> {
         let before = self.all_records;
         self.pass(seen)?;
         if self.fault.is_none() {
-            self.add(piece)?;
+            self.bytes.extend_from_slice(piece)?;
         }
         Ok(self.all_records.saturating_sub(before))
     }
 
-    /// Adds bytes to those at hand.
-    fn add(&mut self, piece: &[u8]) -> Result<(), Memory> {
-        self.bytes.extend_from_slice(piece)?;
-        Ok(())
-    }
-
-    /// Takes and passes the bytes of a reader, up to its end or to what is not of a stream, and shows what is passed.
+    /// Takes, passes and shows the bytes of a reader, up to its end or to bytes that are not of a stream.
     ///
     /// # Errors
-    /// `Read` where the reader fails; `Memory`.
+    /// `Read` if the reader fails; `Memory`.
     pub fn read<R: Read>(&mut self, reader: &mut R, seen: &mut Seen) -> Result<(), Fault> {
         let mut piece = [0u8; PIECE_LENGTH];
         for _ in 0..u64::MAX {
             let n = reader.read(&mut piece).map_err(|error| fault_of(&error))?;
-            self.add(&piece[..n])?;
+            let added = self.bytes.extend_from_slice(&piece[..n]);
+            added.map_err(Memory::from)?;
             self.pass(seen)?;
             if n == 0 || self.fault.is_some() {
                 break;
@@ -100,7 +94,7 @@ impl Account {
         Ok(())
     }
 
-    /// Passes the headers and records that are whole, shows them, and lets them go.
+    /// Passes and shows the whole headers and records that were taken, and removes them.
     pub fn pass(&mut self, seen: &mut Seen) -> Result<(), Memory> {
         let mut at: usize = 0;
         for _ in 0..self.bytes.len() {
@@ -117,18 +111,18 @@ impl Account {
         Ok(())
     }
 
-    /// Whether the stream at hand is the last one.
+    /// Whether the present stream is the last one.
     fn is_at_last(&self) -> bool {
         self.last
             .is_some_and(|last| self.starts.len() as u64 > last)
     }
 
-    /// The bytes at hand from this place on.
+    /// The bytes that were taken, from this place on.
     fn rest(&self, at: usize) -> &[u8] {
         self.bytes.get(at..).unwrap_or(&[])
     }
 
-    /// Passes the header or the record at this place of the bytes at hand, and gives how long it is: 0 where none is passed.
+    /// Passes the header or the records at this place, and gives how long they are: 0 if none is passed.
     fn pass_front(&mut self, at: usize, seen: &mut Seen) -> Result<usize, Memory> {
         let passed = match self.header {
             None => self.pass_header(at, seen),
@@ -151,7 +145,7 @@ impl Account {
         }
     }
 
-    /// Passes the header at this place of the bytes at hand, and gives how long it is. Where it begins is noted once.
+    /// Passes the header at this place, and gives how long it is. Its begin is noted once.
     fn pass_header(&mut self, at: usize, seen: &mut Seen) -> Result<usize, RecordError> {
         let is_noted = self.starts.last().copied() == Some(self.passed);
         if begins_stream(self.rest(at)) && !is_noted && self.starts.len() < MOST_STREAMS {
@@ -164,8 +158,7 @@ impl Account {
         Ok(HEADER_LENGTH)
     }
 
-    /// Passes the records of a stream of this header that stand at this place of the bytes at hand, up to its end, where nobody looks
-    /// at more than their first byte. Gives how long they are.
+    /// Passes the records at this place, up to the stream's end, if only their first bytes are checked. Gives how long they are.
     fn pass_plain(&mut self, at: usize, header: Header, seen: &Seen) -> usize {
         if self.judges || self.is_at_last() || !seen.is_blind() {
             return 0;
@@ -174,20 +167,18 @@ impl Account {
         let records = self.rest(at).chunks_exact(length);
         let plain = records.take_while(|record| record.first().is_some_and(|kind| *kind < END));
         let count = plain.count();
-        self.records = self.records.saturating_add(count as u64);
-        self.all_records = self.all_records.saturating_add(count as u64);
+        self.count(count as u64);
         count.saturating_mul(length)
     }
 
-    /// Passes the record of a stream of this header at this place of the bytes at hand, and gives how long it is.
+    /// Passes the record at this place, and gives how long it is.
     fn pass_record(
         &mut self,
         at: usize,
         header: Header,
         seen: &mut Seen,
     ) -> Result<usize, RecordError> {
-        let length = header.version.record_length();
-        let is_at_last = self.is_at_last();
+        let (length, is_at_last) = (header.version.record_length(), self.is_at_last());
         let Some(record) = self.rest(at).get(..length) else {
             return Err(RecordError::Truncated);
         };
@@ -201,9 +192,14 @@ impl Account {
             Ok(event) => seen.pass(&header, &event, record)?,
             Err(_) => {}
         }
-        self.records = self.records.saturating_add(1);
-        self.all_records = self.all_records.saturating_add(1);
+        self.count(1);
         Ok(length)
+    }
+
+    /// Counts records that were passed.
+    fn count(&mut self, records: u64) {
+        self.records = self.records.saturating_add(records);
+        self.all_records = self.all_records.saturating_add(records);
     }
 
     /// Whether the bytes end inside a stream.
@@ -211,12 +207,12 @@ impl Account {
         self.fault.is_none() && (self.header.is_some() || !self.bytes.is_empty())
     }
 
-    /// Whether a header stands next, and the text of one stands there.
+    /// Whether a header should come next, but its text does.
     pub fn is_text(&self) -> bool {
         self.header.is_none() && self.bytes.starts_with(b"group ")
     }
 
-    /// Whether a header begins in the record that stands next; what is missing of it is taken for right.
+    /// Whether a header begins inside the next record. A header that is cut short counts, too.
     pub fn has_header_inside(&self) -> bool {
         self.header.is_some_and(|header| {
             let mut places = 0..header.version.record_length();

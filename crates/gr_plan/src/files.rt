@@ -1,5 +1,4 @@
-//! The streams of the files that are given on the command line: a file may have several, a folder has a file for each, and `-`
-//! is standard input.
+//! The streams of the files on the command line: a file may have several, a folder has a file for each, and `-` is standard input.
 
 use crate::account::Account;
 use crate::line::Line;
@@ -17,7 +16,7 @@ use std::io::{self, ErrorKind, Read};
 use std::iter;
 use std::sync::Arc;
 
-/// What a name stands for. A `File` may be read again; a `Pipe` is also a device.
+/// What a name means. A `File` may be read again; a `Pipe` is also a device.
 #[derive(Clone, Copy, PartialEq, Eq)]
 pub enum Kind {
     Input,
@@ -27,7 +26,7 @@ pub enum Kind {
     Missing,
 }
 
-/// What a name stands for.
+/// What a name means.
 pub fn kind_of(rt: HostRuntime, name: &str) -> Kind {
     if name == "-" {
         return Kind::Input;
@@ -48,7 +47,12 @@ pub fn fault_of(error: &io::Error) -> Fault {
     }
 }
 
-/// Texts of their own.
+/// A copy of a text.
+pub fn copy_of(alloc: Global, text: &str) -> Result<String, Memory> {
+    Ok(String::from_str(alloc, text)?)
+}
+
+/// Copies of texts.
 pub fn copies_of(alloc: Global, texts: &[&str]) -> Result<Vec<String>, Memory> {
     let copies = texts.iter().map(|text| String::from_str(alloc, text));
     Ok(copies.try_collect::<Vec<String>>(alloc)?)
@@ -66,7 +70,7 @@ pub fn read_file(rt: HostRuntime, path: &str) -> Result<Vec<u8>, Fault> {
     read_all(rt.alloc(), &mut file)
 }
 
-/// The paths of what is in a folder and has a name with this ending, sorted; none where the folder can't be read.
+/// The sorted paths of what is in a folder, if its name has this ending; none if the folder can't be read.
 fn paths_in(rt: HostRuntime, folder: &str, ending: &str) -> Result<Vec<String>, Memory> {
     let alloc = rt.alloc();
     let mut paths = Vec::new(alloc);
@@ -88,12 +92,12 @@ fn paths_in(rt: HostRuntime, folder: &str, ending: &str) -> Result<Vec<String>, 
     Ok(paths)
 }
 
-/// The paths of the files of streams in a folder, sorted; none where the folder can't be read.
+/// The sorted paths of the files of streams in a folder; none if the folder can't be read.
 pub fn paths_of_streams(rt: HostRuntime, folder: &str) -> Result<Vec<String>, Memory> {
     paths_in(rt, folder, ".gpurace")
 }
 
-/// The first folder in a folder that has files of streams, if there is one: the folder of a launch among others.
+/// The first folder of a launch in a folder, if there is one: it has files of streams.
 pub fn launch_in(rt: HostRuntime, folder: &str) -> Result<Option<String>, Memory> {
     for path in paths_in(rt, folder, "")? {
         if !paths_of_streams(rt, path.as_str())?.is_empty() {
@@ -103,14 +107,13 @@ pub fn launch_in(rt: HostRuntime, folder: &str) -> Result<Option<String>, Memory
     Ok(None)
 }
 
-/// The path of a side file of a folder, if it is there.
+/// The path of a side file in a folder, if it is there.
 fn side_file(rt: HostRuntime, folder: &str, name: &str) -> Result<Option<String>, Memory> {
     let path = path_below(rt.alloc(), folder, name)?;
-    let is_there = kind_of(rt, path.as_str()) == Kind::File;
-    Ok(is_there.then_some(path))
+    Ok((kind_of(rt, path.as_str()) == Kind::File).then_some(path))
 }
 
-/// The file of buffers of a command on these files: that which is given, or the first one of a folder.
+/// The file of buffers of a command on these files: the one that is given, or the first one in a folder.
 pub fn buffers_of(line: &Line<'_>, names: &[&str]) -> Result<Option<String>, Memory> {
     let mut path = line.path_of("--buffers")?;
     for name in names {
@@ -121,25 +124,25 @@ pub fn buffers_of(line: &Line<'_>, names: &[&str]) -> Result<Option<String>, Mem
     Ok(path)
 }
 
-/// The files of streams, one each, for those that are given.
+/// The streams of the files that are given, each under a name.
 #[derive(Drop)]
 pub struct Files {
     rt: HostRuntime,
-    /// The names, in their order.
+    /// The names of the streams, in their order.
     pub names: Vec<String>,
-    /// What those open that are no path of a whole file.
+    /// What a name opens, if it is not the path of a whole file.
     pieces: IndexMap<String, Piece, BuildHasherDefault<FoldHasher>>,
     /// Who reports how far the reading is.
     pub progress: Option<Arc<Progress>>,
-    /// The file of places: that which is given, or the first one of a folder, or its sites.
+    /// The file of places: the one that is given, or the first one in a folder, or the folder's file of sites.
     pub places: Option<String>,
-    /// The file of buffers: that which is given, or the first one of a folder.
+    /// The file of buffers: the one that is given, or the first one in a folder.
     pub buffers: Option<String>,
-    /// The command takes side files.
+    /// Whether the command takes side files.
     pub takes_sides: bool,
     /// Who sees the headers and records.
     pub seen: Seen,
-    /// The first file that ends inside a stream, of those that were looked into.
+    /// The first file that ends inside a stream, among those that were read.
     pub torn: Option<String>,
 }
 
@@ -159,8 +162,8 @@ impl Files {
         }
     }
 
-    /// Adds the streams of the files of a command, and its side files. Where a file is missing all names stay as they are, so that
-    /// it is reported as ever.
+    /// Adds the streams of the files of a command, and its side files. If a file is missing, all names stay as they are, and the
+    /// command reports the missing file.
     pub fn add_all(&mut self, line: &Line<'_>, names: &[&str]) -> Result<(), Fault> {
         let rt = self.rt;
         self.takes_sides = line.takes_sides();
@@ -176,12 +179,12 @@ impl Files {
         Ok(())
     }
 
-    /// Whether a name opens something else than the whole file of this path.
+    /// Whether a name opens anything but the whole file of this path.
     pub fn has_piece(&self, name: &str) -> bool {
         self.pieces.get(name).is_some()
     }
 
-    /// How many bytes a name opens, where that is known.
+    /// How many bytes a name opens, if that is known.
     pub fn size_of(&self, name: &str) -> Option<u64> {
         match self.pieces.get(name) {
             None => file_size(self.rt, name),
@@ -197,8 +200,8 @@ impl Files {
         }
     }
 
-    /// Adds the streams of what is given by this name. `run` reads pipes as they come, so they have one stream each; else all of a
-    /// pipe is read at first.
+    /// Adds the streams of what has this name. `run` reads pipes while they are written, so each has one stream; for all other
+    /// commands the whole pipe is read here.
     fn add(&mut self, line: &Line<'_>, name: &str) -> Result<(), Fault> {
         let rt = self.rt;
         match kind_of(rt, name) {
@@ -206,81 +209,69 @@ impl Files {
             Kind::File => self.add_file(name),
             Kind::Folder => self.add_folder(name),
             Kind::Pipe if line.command != "run" => match File::open(&rt, name) {
-                Err(_) => Ok(self.add_name(name)?),
+                Err(_) => Ok(self.add_name(name, None)?),
                 Ok(mut pipe) => self.add_bytes(name, &mut pipe),
             },
-            Kind::Pipe | Kind::Missing => Ok(self.add_name(name)?),
+            Kind::Pipe | Kind::Missing => Ok(self.add_name(name, None)?),
         }
     }
 
-    /// Where the streams begin that a reader of what is given by a name has, one after another.
+    /// Where each stream of a reader begins. The reader is of what has this name.
     fn starts_of<R: Read>(&mut self, name: &str, reader: &mut R) -> Result<Vec<u64>, Fault> {
         let mut account = Account::new(self.rt.alloc(), false);
         account.read(reader, &mut self.seen)?;
         if self.torn.is_none() && account.is_torn() {
-            self.torn = Some(self.copy_of(name)?);
+            self.torn = Some(copy_of(self.rt.alloc(), name)?);
         }
         Ok(account.starts)
     }
 
-    /// A text of its own.
-    fn copy_of(&self, text: &str) -> Result<String, Memory> {
-        Ok(String::from_str(self.rt.alloc(), text)?)
-    }
-
-    /// Adds a name as it is.
-    fn add_name(&mut self, name: &str) -> Result<(), Memory> {
-        let name = self.copy_of(name)?;
-        self.names.push(name)?;
-        Ok(())
-    }
-
-    /// Has a name open a piece. A name that has one keeps it.
-    fn add_piece(&mut self, name: &str, piece: Piece) -> Result<(), Memory> {
-        if !self.has_piece(name) {
-            let name = self.copy_of(name)?;
-            self.pieces.insert(name, piece)?;
+    /// Adds a name. It opens this piece, or else the whole file of this path. A name that has a piece keeps it.
+    fn add_name(&mut self, name: &str, piece: Option<Piece>) -> Result<(), Memory> {
+        let alloc = self.rt.alloc();
+        self.names.push(copy_of(alloc, name)?)?;
+        if let Some(piece) = piece
+            && !self.has_piece(name)
+        {
+            self.pieces.insert(copy_of(alloc, name)?, piece)?;
         }
         Ok(())
     }
 
-    /// Adds the streams that begin at these bytes of what is given by a name.
+    /// Adds the streams that begin at these bytes of what has a name.
     fn add_parts(&mut self, name: &str, whole: &Piece, starts: &[u64]) -> Result<(), Memory> {
         let ends = starts.iter().copied().skip(1).chain(iter::once(u64::MAX));
         for (start, end) in starts.iter().zip(ends) {
             let part = format!(in self.rt.alloc(); "{name}@{start}")?;
-            self.add_name(part.as_str())?;
-            self.add_piece(part.as_str(), whole.part(*start, end)?)?;
+            self.add_name(part.as_str(), Some(whole.part(*start, end)?))?;
         }
         Ok(())
     }
 
-    /// Adds the streams that a reader has up to its end.
+    /// Adds the streams of a reader, up to its end.
     fn add_bytes<R: Read>(&mut self, name: &str, reader: &mut R) -> Result<(), Fault> {
-        let alloc = self.rt.alloc();
-        let bytes = read_all(alloc, reader)?;
+        let bytes = read_all(self.rt.alloc(), reader)?;
         let starts = self.starts_of(name, &mut bytes.as_slice())?;
-        let whole = Piece::of_bytes(alloc, bytes)?;
+        let whole = Piece::of_bytes(self.rt.alloc(), bytes)?;
         if starts.len() > 1 {
             return Ok(self.add_parts(name, &whole, &starts)?);
         }
-        self.add_name(name)?;
-        Ok(self.add_piece(name, whole)?)
+        Ok(self.add_name(name, Some(whole))?)
     }
 
     /// Adds the streams of the file of this path.
     fn add_file(&mut self, path: &str) -> Result<(), Fault> {
         let rt = self.rt;
         let Ok(mut file) = File::open(&rt, path) else {
-            return Ok(self.add_name(path)?);
+            return Ok(self.add_name(path, None)?);
         };
         match self.starts_of(path, &mut file) {
             Ok(starts) if starts.len() > 1 => {
-                let whole = Piece::of_file(rt, self.copy_of(path)?);
+                let whole = Piece::of_file(rt, copy_of(rt.alloc(), path)?);
                 Ok(self.add_parts(path, &whole, &starts)?)
             }
             Err(Fault::Memory) => Err(Fault::Memory),
-            Ok(_) | Err(_) => Ok(self.add_name(path)?),
+            Ok(_) | Err(_) => Ok(self.add_name(path, None)?),
         }
     }
 
@@ -288,16 +279,16 @@ impl Files {
     fn add_folder(&mut self, folder: &str) -> Result<(), Fault> {
         let paths = paths_of_streams(self.rt, folder)?;
         if paths.is_empty() {
-            return Ok(self.add_name(folder)?);
+            return Ok(self.add_name(folder, None)?);
         }
         self.add_sides(folder)?;
         for path in &paths {
             self.add_file(path.as_str())?;
         }
         if let (Some(sited), Some(sites)) = (self.seen.sited.take(), &self.places) {
-            let sites = self.copy_of(sites.as_str())?;
+            let sites = copy_of(self.rt.alloc(), sites.as_str())?;
             let places = Piece::of_bytes(self.rt.alloc(), sited.places)?;
-            self.add_piece(sites.as_str(), places)?;
+            self.pieces.insert(sites, places).map_err(Memory::from)?;
         }
         Ok(())
     }

@@ -1,4 +1,4 @@
-//! Standard error, where a line is held back until it is known what is told beside it.
+//! Standard error, with a line held back until it is known what to add to it.
 
 use arrayvec::ArrayVec;
 use std::io::{self, Stderr, Write};
@@ -6,7 +6,7 @@ use std::io::{self, Stderr, Write};
 /// How many bytes are held back, at most: more than a fault line has.
 const MOST_HELD: usize = 128;
 
-/// Standard error, with what is held back of it, until that is passed on or forgotten. More than a fault line is passed on at once.
+/// Standard error, with what is held back until it is passed on or forgotten. More than a fault line is passed on at once.
 #[derive(Drop)]
 pub struct Held {
     held: Option<ArrayVec<u8, MOST_HELD>>,
@@ -14,10 +14,12 @@ pub struct Held {
 }
 
 impl Held {
-    /// Standard error, of which nothing is held back yet.
+    /// Standard error, with nothing held back yet.
     pub fn new(to: Stderr) -> Held {
-        let held = Some(ArrayVec::new());
-        Held { held, to }
+        Held {
+            held: Some(ArrayVec::new()),
+            to,
+        }
     }
 
     /// What is held back, if it is text.

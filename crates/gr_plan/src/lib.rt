@@ -1,5 +1,5 @@
-//! What the words of a command line name: files with several streams, folders and standard input, each opened and read as the
-//! command takes it (`plan`), and what is told beside the line of a fault (`told`).
+//! What the words of a command line name: files with several streams, folders and standard input. `plan` opens and reads each as the
+//! command takes it, and `notes` adds to the line of a fault where it is.
 #![tactic(auto)]
 
 mod account;
@@ -7,10 +7,10 @@ pub mod files;
 pub mod held;
 mod line;
 mod named;
+pub mod notes;
 pub mod plan;
 pub mod progress;
 pub mod reading;
 mod seen;
 mod source;
 mod text_fault;
-pub mod told;

@@ -1,13 +1,14 @@
-//! The words of a command line by what they are: the command, its options, and the others.
+//! The words of a command line: the command, its options, and the others.
 
+use crate::files::copy_of;
 use gr_model::memory::Memory;
 
 /// What a command does with the files that it is given.
 #[derive(Clone, Copy)]
 pub enum Taking {
-    /// It reads them one after another, as standard input.
+    /// It reads them one after another, like standard input.
     Joined,
-    /// It reads a stream from each; before the files stand as many other words.
+    /// It reads a stream from each. So many other words come before the files.
     Each(usize),
 }
 
@@ -15,17 +16,16 @@ pub enum Taking {
 #[derive(Drop)]
 pub struct Line<'a> {
     pub rt: HostRuntime,
-    /// The command.
     pub command: &'a str,
     /// What it does with its files.
     pub taking: Taking,
-    /// Its options, each with the word after it, if that is its value.
+    /// Its options, each with its value if that is the next word.
     options: Vec<(&'a str, Option<&'a str>)>,
-    /// All other words: files, and what stands before them.
+    /// All other words: files, and what comes before them.
     pub values: Vec<&'a str>,
 }
 
-/// What a command does with its files; `None` of a name that is no command's.
+/// What a command does with its files; `None` if there is no such command.
 pub fn taking_of(command: &str) -> Option<Taking> {
     match command {
         "replay" | "pack" | "dump" | "upgrade" => Some(Taking::Joined),
@@ -41,7 +41,7 @@ pub fn is_option(word: &str) -> bool {
     word.len() > 1 && word.starts_with('-')
 }
 
-/// Whether a word may be meant as a command: it has small letters and hyphens alone.
+/// Whether a word may be meant as a command: it has only small letters and hyphens.
 pub fn may_be_command(word: &str) -> bool {
     word.bytes().all(|byte| matches!(byte, b'a'..=b'z' | b'-'))
 }
@@ -55,7 +55,7 @@ fn takes_value(option: &str) -> bool {
 }
 
 impl<'a> Line<'a> {
-    /// The line of a command, after which these words stand.
+    /// The line of a command, with the words after it.
     pub fn of(
         rt: HostRuntime,
         command: &'a str,
@@ -121,7 +121,6 @@ impl<'a> Line<'a> {
     /// The path that an option gives, if it is there.
     pub fn path_of(&self, option: &str) -> Result<Option<String>, Memory> {
         let path = self.value_of(option);
-        let path = path.map(|path| String::from_str(self.rt.alloc(), path));
-        Ok(path.transpose()?)
+        path.map(|path| copy_of(self.rt.alloc(), path)).transpose()
     }
 }

@@ -1,9 +1,10 @@
-//! A word of memory that is given by its name, as `partial[10]`, and what is told of names that no word has, or words of several memories.
+//! A word of memory that is given by its name, such as `partial[10]`, and reports about names that no word has, or that words of several
+//! memories have.
 
-use crate::files::{Kind, buffers_of, kind_of, launch_in, read_file};
+use crate::files::{Kind, buffers_of, copy_of, kind_of, launch_in, read_file};
 use crate::line::{Line, Taking};
+use crate::notes::reason_of;
 use crate::plan::Refusal;
-use crate::told::reason_of;
 use gr_arguments::words::group_of;
 use gr_model::event::Word;
 use gr_model::memory::Memory;
@@ -14,7 +15,7 @@ use gr_text::words::parse_number;
 use std::alloc::Global;
 use std::fs;
 
-/// What is said of a name where no file says which word has it.
+/// What is reported about a name if no file says which word has it.
 const NO_BUFFERS: &str =
     "is the name of a word, and there is no file of buffers that says which: give a folder that has one, or --buffers FILE";
 
@@ -24,17 +25,14 @@ const MOST_SHOWN: usize = 8;
 /// A name among the words of `explain` or `history`.
 #[derive(Clone, Copy)]
 pub struct Naming<'l, 'a> {
-    /// The words.
     pub line: &'l Line<'a>,
-    /// The name.
     name: &'a str,
-    /// The memory that the word is of, where it is given too.
+    /// The memory of the word, if it is given too.
     space: Option<&'a str>,
-    /// The files.
     pub files: &'l [&'a str],
 }
 
-/// The name among the words of a command on a word: after a memory, or else the first or the last of the words, if that is one.
+/// The name among the words of a command on a word, if there is one: after a memory, or else the first or the last of the words.
 pub fn naming_by<'l, 'a, F>(line: &'l Line<'a>, is_name: F) -> Option<Naming<'l, 'a>>
 where
     F: Fn(&str) -> bool,
@@ -58,7 +56,7 @@ where
 }
 
 impl Naming<'_, '_> {
-    /// The buffer that the name speaks of, and the place of the word in it, if it is given as a number.
+    /// The buffer in the name, and the place of the word in it, if it is a number.
     fn parts(&self) -> (&str, Option<u32>) {
         let open = self.name.strip_suffix(']');
         match open.and_then(|open| open.rsplit_once('[')) {
@@ -76,11 +74,11 @@ impl Naming<'_, '_> {
         }
     }
 
-    /// That no word has the name, by the lines of this file of buffers.
+    /// The refusal of a name that no word has, by the lines of this file of buffers.
     fn refusal(&self, path: &str, lines: &[BufferLine<'_>]) -> Result<Refusal, Memory> {
         let (alloc, why) = (self.line.rt.alloc(), self.why_unnamed(lines)?);
         let name = match self.space {
-            None => String::from_str(alloc, self.name)?,
+            None => copy_of(alloc, self.name)?,
             Some(space) => format!(in alloc; "{space} {}", self.name)?,
         };
         let text = format!(in alloc; "no word is {name}, by the file of buffers {path}: {why}");
@@ -91,14 +89,12 @@ impl Naming<'_, '_> {
     fn why_unnamed(&self, lines: &[BufferLine<'_>]) -> Result<String, Memory> {
         let alloc = self.line.rt.alloc();
         let (buffer, index) = self.parts();
-        let mut named = Vec::from_slice(alloc, lines)?;
-        named.retain(|line| line.name == buffer);
-        let mut of_space = Vec::from_slice(alloc, &named)?;
-        of_space.retain(|line| self.is_of(line));
+        let named = lines_that(alloc, lines, |line| line.name == buffer)?;
+        let of_space = lines_that(alloc, &named, |line| self.is_of(line))?;
         if lines.is_empty() {
-            return Ok(String::from_str(alloc, "it names no buffer")?);
+            return copy_of(alloc, "it names no buffer");
         } else if named.is_empty() {
-            let names = list_of(alloc, lines, |line| Ok(String::from_str(alloc, line.name)?))?;
+            let names = list_of(alloc, lines, |line| copy_of(alloc, line.name))?;
             return Ok(format!(in alloc; "its buffers are {names}")?);
         } else if of_space.is_empty() {
             let spaces = spaces_of(alloc, &named)?;
@@ -112,12 +108,11 @@ impl Naming<'_, '_> {
         Ok(format!(in alloc; "word {space} {number} is {name}[{index}]")?)
     }
 
-    /// What is told of the name of a word where other memories have a buffer of the name, too.
+    /// The note about the name of a word, if other memories have a buffer of the name, too.
     fn note(&self, lines: &[BufferLine<'_>], word: Word) -> Result<Option<String>, Memory> {
         let alloc = self.line.rt.alloc();
         let (buffer, _) = self.parts();
-        let mut named = Vec::from_slice(alloc, lines)?;
-        named.retain(|line| line.name == buffer);
+        let named = lines_that(alloc, lines, |line| line.name == buffer)?;
         let (name, space, spaces) = (self.name, space_of(alloc, word)?, spaces_of(alloc, &named)?);
         if spaces == space {
             return Ok(None);
@@ -125,7 +120,7 @@ impl Naming<'_, '_> {
         Ok(Some(format!(in alloc; "this is {name} of {space}; {buffer} is in {spaces}")?))
     }
 
-    /// Why a word is not found by the name where there is no file of buffers.
+    /// Why no word is found by the name if there is no file of buffers.
     fn refusal_without_buffers(&self) -> Result<Refusal, Memory> {
         let (rt, alloc) = (self.line.rt, self.line.rt.alloc());
         for name in self.files {
@@ -145,10 +140,10 @@ impl Naming<'_, '_> {
         Ok(Refusal::Usage(format!(in alloc; "{name} {NO_BUFFERS}")?))
     }
 
-    /// The word that the name says, by the file of buffers, and what is told of the name, if it is in several memories.
+    /// The word of the name, by the file of buffers, and a note if the name is in several memories.
     ///
     /// # Errors
-    /// `Usage` where no word has the name, or there is no file of buffers; `NoFile`; `Fault`, where the file is not known.
+    /// `Usage` if no word has the name, or there is no file of buffers; `NoFile`; `Fault` if the file can't be read.
     pub fn word(&self) -> Result<(Word, Option<String>), Refusal> {
         let rt = self.line.rt;
         let Some(path) = buffers_of(self.line, self.files)? else {
@@ -156,18 +151,17 @@ impl Naming<'_, '_> {
         };
         let bytes = read_file(rt, path.as_str())?;
         let lines = lines_said(rt.alloc(), &bytes).map_err(|fault| Refusal::Fault(fault))?;
-        let mut of_space = Vec::from_slice(rt.alloc(), &lines).map_err(Memory::from)?;
-        of_space.retain(|line| self.is_of(line));
+        let of_space = lines_that(rt.alloc(), &lines, |line| self.is_of(line))?;
         let Some(word) = word_said(&of_space, self.name) else {
             return Err(self.refusal(path.as_str(), &lines)?);
         };
         Ok((word, self.note(&of_space, word)?))
     }
 
-    /// Refuses what stands in place of a name, where it is the name of a buffer alone. A file of buffers that is not known has none.
+    /// Refuses the name of a buffer without an index. A file of buffers that can't be read has no buffers.
     ///
     /// # Errors
-    /// `Usage` where a buffer has the name; `Fault` with `Memory`.
+    /// `Usage` if a buffer has the name; `Fault` with `Memory`.
     pub fn check(&self) -> Result<(), Refusal> {
         let rt = self.line.rt;
         let Some(path) = buffers_of(self.line, self.files)? else {
@@ -185,52 +179,60 @@ impl Naming<'_, '_> {
     }
 }
 
-/// A memory, as the command line has it.
+/// A memory, as the command line writes it.
 fn space_of(alloc: Global, word: Word) -> Result<String, Memory> {
     match word {
-        Word::Global(_) => Ok(String::from_str(alloc, "g")?),
+        Word::Global(_) => copy_of(alloc, "g"),
         Word::Local(group, _) => Ok(format!(in alloc; "l{group}")?),
     }
 }
 
-/// The memory and the number of a word, as the command line has them.
+/// The memory and the number of a word, as the command line writes them.
 pub fn spelling_of(alloc: Global, word: Word) -> Result<(String, String), Memory> {
     let (Word::Global(number) | Word::Local(_, number)) = word;
     Ok((space_of(alloc, word)?, format!(in alloc; "{number}")?))
 }
 
-/// The texts of lines that differ, one after another.
+/// The lines that pass a test.
+fn lines_that<'a, F: Fn(&BufferLine<'a>) -> bool>(
+    alloc: Global,
+    lines: &[BufferLine<'a>],
+    test: F,
+) -> Result<Vec<BufferLine<'a>>, Memory>
+    requires { F.IsAlwaysCallable test }
+{
+    let mut kept = Vec::from_slice(alloc, lines)?;
+    kept.retain(test);
+    Ok(kept)
+}
+
+/// The texts of lines, each text once.
 fn list_of<F>(alloc: Global, lines: &[BufferLine<'_>], text_of: F) -> Result<String, Memory>
 where
     F: Fn(&BufferLine<'_>) -> Result<String, Memory>,
     requires { F.IsAlwaysCallable text_of }
 {
-    let mut list = String::new(alloc);
-    let mut shown: Vec<String> = Vec::new(alloc);
+    let mut texts: Vec<String> = Vec::new(alloc);
     for line in lines {
-        let next = text_of(line)?;
-        if shown.contains(&next) {
+        let text = text_of(line)?;
+        if texts.contains(&text) {
             continue;
         }
-        if shown.len() >= MOST_SHOWN {
-            list.push_str(" and others")?;
-            break;
+        if texts.len() >= MOST_SHOWN {
+            let list = texts.join(alloc, ", ")?;
+            return Ok(format!(in alloc; "{list} and others")?);
         }
-        if !shown.is_empty() {
-            list.push_str(", ")?;
-        }
-        list.push_str(next.as_str())?;
-        shown.push(next)?;
+        texts.push(text)?;
     }
-    Ok(list)
+    Ok(texts.join(alloc, ", ")?)
 }
 
-/// The memories that lines are of, one after another.
+/// The memories of lines, each once.
 fn spaces_of(alloc: Global, lines: &[BufferLine<'_>]) -> Result<String, Memory> {
     list_of(alloc, lines, |line| space_of(alloc, line.first))
 }
 
-/// The first word at this place of a buffer of these lines, and what it is by all lines of its memory.
+/// The first word at this place in a buffer of `named`, and its name by all lines.
 fn element_at<'a>(
     lines: &[BufferLine<'a>],
     named: &[BufferLine<'a>],

@@ -1,6 +1,6 @@
-//! What is done about the words of a command line: the words that `gr_command` is given, its input, and what names open.
+//! How the words of a command line are done: the words for `gr_command`, its input, and what names open.
 
-use crate::files::{Files, Kind, copies_of, kind_of, paths_of_streams};
+use crate::files::{Files, Kind, copies_of, copy_of, kind_of, paths_of_streams};
 use crate::line::{Line, Taking, is_option, may_be_command, taking_of};
 use crate::named::{Naming, naming_by, spelling_of};
 use crate::progress::Progress;
@@ -16,28 +16,26 @@ use std::alloc::Global;
 use std::io::{self, IsTerminal, Write};
 use std::sync::Arc;
 
-/// What is done about the words of a command line.
+/// How the words of a command line are done.
 #[derive(Drop)]
 pub struct Plan {
     pub rt: HostRuntime,
-    /// The words in place of those that were given, if they are others.
+    /// The words in place of the given ones, if they differ.
     pub words: Option<Vec<String>>,
-    /// The input.
     pub reading: Reading,
-    /// The files that have a stream each.
     pub files: Files,
-    /// What is told of the name by which a word is given, if it is in several memories.
+    /// A note about the name of a word, if the name is in several memories.
     note: Option<String>,
 }
 
 /// Why nothing is done.
 #[derive(Debug, Drop)]
 pub enum Refusal {
-    /// Reading fails, memory runs out, or a line of a file of buffers has not its form.
+    /// Reading fails, memory runs out, or a line of a file of buffers is out of form.
     Fault(SidesFault),
-    /// A word is given by its name, and a file can't be opened: which, and why.
+    /// A word is given by its name, and a file can't be opened: which file, and why.
     NoFile(String),
-    /// A word is given by a name that is none, or that no file says: why.
+    /// A word is given by a name that no word has, or no file has: why.
     Usage(String),
 }
 
@@ -53,7 +51,7 @@ impl From<Fault> for Refusal {
     }
 }
 
-/// What is done about the words of a command line, the program's name not among them.
+/// How the words of a command line are done. The program's name is not among them.
 ///
 /// # Errors
 /// Why nothing is done.
@@ -70,7 +68,7 @@ pub fn plan_of(rt: HostRuntime, words: &[String]) -> Result<Plan, Refusal> {
 }
 
 impl Plan {
-    /// Has the reading report how far it is, where standard error is a terminal.
+    /// Lets the progress be reported, if standard error is a terminal.
     ///
     /// # Errors
     /// `Memory`: out of memory.
@@ -84,11 +82,11 @@ impl Plan {
         Ok(())
     }
 
-    /// Reports of the word that is asked for what an answer without a race does not say: that nothing accesses it, and that its name
-    /// is in several memories.
-    pub fn tell_word<W: Write>(&self, errors: &mut W) -> io::Result<()> {
+    /// Reports what an answer without a race does not say about its word: that nothing accesses it, and that its name is in several
+    /// memories.
+    pub fn note_word<W: Write>(&self, errors: &mut W) -> io::Result<()> {
         if let Some(sought) = &self.files.seen.sought {
-            sought.tell(errors)?;
+            sought.report(errors)?;
         }
         if let Some(note) = &self.note {
             writeln!(errors, "gpurace: {note}")?;
@@ -96,20 +94,19 @@ impl Plan {
         Ok(())
     }
 
-    /// How many bytes are read, where that is known.
+    /// How many bytes are read, if that is known.
     fn size(&self) -> Option<u64> {
-        let (given, names) = (&self.reading.names, &self.files.names);
-        if given.is_empty() && names.is_empty() {
-            return self.files.size_of("/dev/stdin");
+        let (given, files) = (&self.reading.names, &self.files);
+        if given.is_empty() && files.names.is_empty() {
+            return files.size_of("/dev/stdin");
         }
-        let mut names = given.iter().chain(names);
+        let mut names = given.iter().chain(&files.names);
         names.try_fold(0_u64, |size, name| {
-            Some(size.saturating_add(self.files.size_of(name.as_str())?))
+            Some(size.saturating_add(files.size_of(name.as_str())?))
         })
     }
 
-    /// Takes the words of a command line. They stay as they are, and standard input is the input, where they are no command on
-    /// files.
+    /// Takes the words of a command line. If they are not a command on files, they stay as they are, and the input is standard input.
     fn take_words(&mut self, words: &[String]) -> Result<(), Refusal> {
         let Some(line) = line_of(self.rt, words)? else {
             return Ok(());
@@ -143,7 +140,7 @@ impl Plan {
         Ok(())
     }
 
-    /// Takes a command that has a stream from each of these files, before which these words stand.
+    /// Takes a command that reads a stream from each of these files, with these words before the files.
     fn take_each(&mut self, line: &Line<'_>, before: &[&str], names: &[&str]) -> Result<(), Fault> {
         if let [space, number] = before {
             self.files.seen.sought = Sought::new(space, number);
@@ -163,22 +160,22 @@ impl Plan {
     }
 }
 
-/// The line of a command, or that of `replay` where words without a command ask for a report; `None` where they are neither.
+/// The line of a command, or of `replay` if words without a command ask for a report; `None` if they are neither.
 fn line_of<'a>(rt: HostRuntime, words: &'a [String]) -> Result<Option<Line<'a>>, Memory> {
     let Some((first, after)) = words.split_first() else {
         return Ok(None);
     };
-    let first = first.as_str();
-    let line = match taking_of(first) {
-        Some(taking) => Line::of(rt, first, taking, after),
-        None if asks_for_report(rt, words) => Line::of(rt, "replay", Taking::Joined, words),
-        None => return Ok(None),
-    };
-    Ok(Some(line?))
+    match taking_of(first.as_str()) {
+        Some(taking) => Ok(Some(Line::of(rt, first.as_str(), taking, after)?)),
+        None if asks_for_report(rt, words) => {
+            Ok(Some(Line::of(rt, "replay", Taking::Joined, words)?))
+        }
+        None => Ok(None),
+    }
 }
 
-/// Whether words without a command ask for a report: the first that is not the option of `replay`, if there is one, names a file that
-/// is there, or that is missing and can't be a mistyped command.
+/// Whether words without a command ask for a report: the first word that is not the option of `replay`, if there is one, names a file
+/// that is there, or can't be a mistyped command.
 fn asks_for_report(rt: HostRuntime, words: &[String]) -> bool {
     let mut words = words.iter().map(|word| word.as_str());
     words.find(|word| *word != "--json").is_none_or(|word| {
@@ -187,7 +184,7 @@ fn asks_for_report(rt: HostRuntime, words: &[String]) -> bool {
     })
 }
 
-/// The files that names stand for: those of a folder's streams, or the name itself.
+/// The files that names mean: the files of a folder's streams, or the name itself.
 fn files_given(rt: HostRuntime, names: &[&str], keeping: Keeping) -> Result<Vec<String>, Memory> {
     let mut given = Vec::new(rt.alloc());
     for name in names {
@@ -196,14 +193,14 @@ fn files_given(rt: HostRuntime, names: &[&str], keeping: Keeping) -> Result<Vec<
             paths = paths_of_streams(rt, name)?;
         }
         if paths.is_empty() {
-            paths.push(String::from_str(rt.alloc(), name)?)?;
+            paths.push(copy_of(rt.alloc(), name)?)?;
         }
         given.append(&mut paths)?;
     }
     Ok(given)
 }
 
-/// Whether the words of a command on files are taken, and ask for something.
+/// Whether the words of a command on files are right, and ask for something.
 fn is_taken(alloc: Global, words: &[String]) -> Result<bool, Memory> {
     match request_of(alloc, words) {
         Ok(request) => Ok(!matches!(request, Request::Refuse(_))),
@@ -212,8 +209,8 @@ fn is_taken(alloc: Global, words: &[String]) -> Result<bool, Memory> {
     }
 }
 
-/// The words of a command on these files, after these others. A file of buffers is left out where the command takes no side
-/// files: a word was then given by its name.
+/// The words of a command on these files, after these other words. If the command takes no side files, a file of buffers is left out:
+/// it only served to find a word by its name.
 fn words_with<'a>(
     line: &Line<'a>,
     before: &[&'a str],

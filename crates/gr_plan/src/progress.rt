@@ -1,5 +1,4 @@
-//! How far the reading of an input is, reported on standard error where that is a terminal, and what is read and written under the
-//! eyes of who reports it.
+//! How much of an input was read, reported on standard error if that is a terminal; and the readers and writers that this needs.
 
 use crate::files::Files;
 use crate::source::Source;
@@ -11,29 +10,29 @@ use std::sync::atomic::{AtomicU64, Ordering};
 use std::time::{Clock, Duration};
 
 /// How many milliseconds pass before anything is reported.
-const FIRST_TOLD: u64 = 500;
+const FIRST_REPORT: u64 = 500;
 
 /// How many milliseconds pass between two reports.
 const BETWEEN: u64 = 200;
 
-/// What goes to the start of a line, and clears it.
+/// Goes to the start of the line, and clears it.
 const CLEAR: &[u8] = b"\r\x1b[K";
 
-/// How far the reading is.
+/// How much was read.
 #[derive(Drop)]
 pub struct Progress {
     rt: HostRuntime,
     begun: Duration,
-    /// How many bytes there are, where that is known.
+    /// How many bytes there are, if that is known.
     total: Option<u64>,
     bytes: AtomicU64,
     records: AtomicU64,
-    /// The millisecond at which it is reported next.
+    /// The millisecond of the next report.
     next: AtomicU64,
 }
 
 impl Progress {
-    /// The progress of an input of which nothing was read, with as many bytes, where that is known.
+    /// The progress of an input before any byte is read. `total` is its length, if that is known.
     pub fn new(rt: HostRuntime, total: Option<u64>) -> Progress {
         Progress {
             rt,
@@ -41,33 +40,34 @@ impl Progress {
             total,
             bytes: AtomicU64::new(0),
             records: AtomicU64::new(0),
-            next: AtomicU64::new(FIRST_TOLD),
+            next: AtomicU64::new(FIRST_REPORT),
         }
     }
 
-    /// Counts bytes and records that were read, and reports how far the reading is from time to time.
+    /// Counts bytes and records that were read, and reports them from time to time.
     pub fn add(&self, bytes: u64, records: u64) {
         self.bytes.fetch_add(bytes, Ordering::SeqCst);
         self.records.fetch_add(records, Ordering::SeqCst);
         let Ok(now) = self.rt.monotonic() else {
             return;
         };
-        let passed = now.saturating_sub(self.begun).as_millis();
-        let passed = u64::try_from(passed).unwrap_or(u64::MAX);
+        let passed = u64::try_from(now.saturating_sub(self.begun).as_millis()).unwrap_or(u64::MAX);
         if passed < self.next.load(Ordering::SeqCst) {
             return;
         }
         self.next
             .store(passed.saturating_add(BETWEEN), Ordering::SeqCst);
-        let _ = self.tell(passed);
+        let _ = self.report(passed);
     }
 
-    /// Reports how far the reading is, as many milliseconds after its begin.
-    fn tell(&self, passed: u64) -> io::Result<()> {
+    /// Reports how much was read, `passed` milliseconds after the begin.
+    fn report(&self, passed: u64) -> io::Result<()> {
         let hundred = self.bytes.load(Ordering::SeqCst).saturating_mul(100);
         let records = self.records.load(Ordering::SeqCst);
-        let rate = records.saturating_mul(1000).checked_div(passed);
-        let rate = rate.unwrap_or(0);
+        let rate = records
+            .saturating_mul(1000)
+            .checked_div(passed)
+            .unwrap_or(0);
         let mut text = format!(in self.rt.alloc(); "\r{records} records read")?;
         if let Some(part) = self.total.and_then(|total| hundred.checked_div(total)) {
             write!(text, ", {part} %")?;
@@ -78,13 +78,13 @@ impl Progress {
 
     /// Clears what was reported.
     pub fn clear(&self) {
-        if self.next.load(Ordering::SeqCst) != FIRST_TOLD {
+        if self.next.load(Ordering::SeqCst) != FIRST_REPORT {
             let _ = self.rt.stderr().write_all(CLEAR);
         }
     }
 }
 
-/// What is read where a name is opened, of which it is reported how far the reading is.
+/// What a name opens, and the progress that counts what is read of it.
 #[derive(Drop)]
 pub struct Watched {
     source: Source,
@@ -93,13 +93,13 @@ pub struct Watched {
     read: u64,
 }
 
-/// How many records as many bytes of a stream of this version have.
+/// How many records there are in the first bytes of a stream of this version.
 fn records_in(version: Version, bytes: u64) -> u64 {
     bytes.saturating_sub(HEADER_LENGTH as u64) / version.record_length() as u64
 }
 
 impl Watched {
-    /// Opens a name, and has it reported how far the reading is.
+    /// Opens a name, and lets the progress count what is read.
     pub fn open(files: &Files, name: &str) -> io::Result<Watched> {
         Ok(Watched {
             source: files.open(name)?,
@@ -133,12 +133,11 @@ impl Read for Watched {
     }
 }
 
-/// A writer before whose first bytes what was reported of the progress is cleared.
+/// A writer that clears the report of the progress before its first bytes.
 #[derive(Drop)]
 pub struct Cleared<W: Drop> {
-    /// The writer.
     pub writer: W,
-    /// Who reports the progress, until it is cleared.
+    /// The progress, until its report is cleared.
     pub progress: Option<Arc<Progress>>,
 }
 

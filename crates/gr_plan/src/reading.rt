@@ -1,4 +1,4 @@
-//! The input of a command that reads all of it as one: standard input, or files one after another.
+//! The input of a command that reads it as a whole: standard input, or files one after another.
 
 use crate::account::Account;
 use crate::progress::Progress;
@@ -13,9 +13,9 @@ use std::sync::Arc;
 pub enum Keeping {
     /// The text.
     Text,
-    /// Where its streams begin, and what was read last: of an input that is judged while it is read.
+    /// Where its streams begin, and what was read last: for an input that is judged while it is read.
     Last,
-    /// The same up to its first record at fault: of one that is judged once all of it was read.
+    /// The same, up to its first record at fault: for an input that is judged after all of it was read.
     Fault,
 }
 
@@ -24,23 +24,23 @@ pub enum Keeping {
 pub struct Reading {
     /// The names of the files, if it is not standard input.
     pub names: Vec<String>,
-    /// What is read of them; nothing where one can't be opened.
+    /// The open files; empty if one can't be opened.
     sources: Vec<Source>,
-    /// The place of the file that is read.
+    /// The place of the file that is read now.
     at: usize,
     /// How many bytes were read.
     read: u64,
     /// The places of the files that were read from, and the bytes at which they begin.
     begins: Vec<(usize, u64)>,
-    /// What was read, as streams; none where it is a text, or where memory ran out.
+    /// What was read, as streams; none if it is a text, or memory ran out.
     pub account: Option<Account>,
-    /// All bytes that were read, where they are a text.
+    /// All bytes that were read, if they are a text.
     pub text: Option<Vec<u8>>,
     /// Who reports how far the reading is.
     pub progress: Option<Arc<Progress>>,
 }
 
-/// What is read of these files, or of standard input where they are none; nothing where one can't be opened.
+/// The open files of these names, or standard input if there are none; empty if one can't be opened.
 fn sources_of(rt: HostRuntime, names: &[String]) -> Result<Vec<Source>, Memory> {
     let mut sources = Vec::new(rt.alloc());
     if names.is_empty() {
@@ -59,7 +59,7 @@ fn sources_of(rt: HostRuntime, names: &[String]) -> Result<Vec<Source>, Memory> 
 }
 
 impl Reading {
-    /// The input that these files have, one after another, or standard input where they are none.
+    /// The input from these files, one after another, or from standard input if there are none.
     pub fn new(rt: HostRuntime, names: Vec<String>, keeping: Keeping) -> Result<Reading, Memory> {
         let alloc = rt.alloc();
         let is_text = keeping == Keeping::Text;
@@ -75,7 +75,7 @@ impl Reading {
         })
     }
 
-    /// Keeps what is to be reported of bytes that were read.
+    /// Keeps what a report of a fault needs of the bytes that were read.
     fn note(&mut self, piece: &[u8]) -> Result<(), Memory> {
         if self.begins.last().map(|(file, _)| *file) != Some(self.at) {
             self.begins.push((self.at, self.read))?;

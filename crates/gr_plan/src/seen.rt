@@ -1,5 +1,5 @@
-//! What is seen in the records of files while their streams are looked up: whether they access the word that is asked for, and where
-//! in the source they stand, by the sites that they tell and the folder's file `sites`.
+//! What is seen in the records of files while their streams are found: whether they access the word that is asked for, and where in the
+//! source they are, by their sites and the folder's file `sites`.
 
 use gr_arguments::words::word_named;
 use gr_model::event::{Event, Kind, Word, word_of};
@@ -12,17 +12,17 @@ use std::io::{self, Write};
 /// The byte of a record at which its site begins.
 const SITE: usize = 6;
 
-/// A word that is asked for, and what of it was met.
+/// A word that is asked for, and what was seen of it.
 #[derive(Clone, Copy)]
 pub struct Sought {
     word: Word,
     is_accessed: bool,
-    /// The group is there whose local memory the word is of.
+    /// Whether the group of the word's local memory was seen.
     has_group: bool,
 }
 
 impl Sought {
-    /// The word that the command line names so. Nothing of it was met.
+    /// The word that the command line names. Nothing of it was seen.
     pub fn new(space: &str, number: &str) -> Option<Sought> {
         Some(Sought {
             word: word_named(space, number)?,
@@ -31,19 +31,17 @@ impl Sought {
         })
     }
 
-    /// Reports that there is no such word, where that is so.
-    pub fn tell<W: Write>(&self, errors: &mut W) -> io::Result<()> {
+    /// Reports if no record accesses the word.
+    pub fn report<W: Write>(&self, errors: &mut W) -> io::Result<()> {
         match self.word {
             Word::Local(group, _) if !self.has_group => {
                 writeln!(errors, "gpurace: the launch has no group {group}")
             }
             _ if self.is_accessed => Ok(()),
-            Word::Global(word) => {
-                writeln!(
-                    errors,
-                    "gpurace: no record accesses word {word} of global memory"
-                )
-            }
+            Word::Global(word) => writeln!(
+                errors,
+                "gpurace: no record accesses word {word} of global memory"
+            ),
             Word::Local(group, word) => writeln!(
                 errors,
                 "gpurace: no record accesses word {word} of group {group}'s local memory"
@@ -52,16 +50,16 @@ impl Sought {
     }
 }
 
-/// Makes the lines of a file of places (docs/FORMATS.md, "Side files") of records as they pass.
+/// Makes the lines of a file of places (docs/FORMATS.md, "Side files") from records.
 #[derive(Drop)]
 pub struct Sited {
     /// The file of sites.
     sites: Vec<u8>,
     /// Where each line of it begins, and where it ends.
     lines: Vec<(usize, usize)>,
-    /// Of each item of the group at hand how many records have passed.
+    /// How many records of each item of the present group have passed.
     passed: Vec<u32>,
-    /// Those barriers that have a line.
+    /// The barriers that have a line.
     barriers: Vec<u32>,
     /// The lines of places.
     pub places: Vec<u8>,
@@ -76,7 +74,7 @@ fn site_of(record: &[u8]) -> Option<usize> {
 }
 
 impl Sited {
-    /// Of a folder whose file of sites has this text. No record has passed.
+    /// For a folder whose file of sites has this text. No record has passed.
     pub fn new(alloc: Global, sites: Vec<u8>) -> Result<Sited, Memory> {
         let (mut lines, mut start) = (Vec::new(alloc), 0_usize);
         for line in sites.split_inclusive(|byte| *byte == b'\n') {
@@ -93,7 +91,7 @@ impl Sited {
         })
     }
 
-    /// Adds the line of a group's record, which says this event, if it gives its site. Barriers of one site have one line.
+    /// Adds the line of a group's record, if it has a site. `event` is what the record says. Barriers of one site have one line.
     pub fn pass(&mut self, group: u16, event: &Event, record: &[u8]) -> Result<(), Memory> {
         let Some(passed) = self.passed.get_mut(usize::from(event.item)) else {
             return Ok(());
@@ -114,7 +112,7 @@ impl Sited {
         }
     }
 
-    /// Adds a line that says the place of what has these numbers.
+    /// Adds a line: these numbers, and the place.
     fn add_line(&mut self, numbers: &[u32], place: (usize, usize)) -> Result<(), Memory> {
         for number in numbers {
             let mut buffer = Buffer::new();
@@ -129,12 +127,12 @@ impl Sited {
     }
 }
 
-/// Who sees each record.
+/// Sees each header and each record.
 #[derive(Drop, Default)]
 pub struct Seen {
-    /// Who makes the places of a folder from its sites, if these are wanted.
+    /// Makes the places of a folder from its sites, if these are wanted.
     pub sited: Option<Sited>,
-    /// Who looks for a word, if one is asked for.
+    /// Looks for a word, if one is asked for.
     pub sought: Option<Sought>,
 }
 
@@ -156,7 +154,7 @@ impl Seen {
         self.sited.is_none() && self.sought.is_none()
     }
 
-    /// Passes a record of the stream of this header, which says this event and is no end.
+    /// Passes a record of a stream of this header. It is not an end, and `event` is what it says.
     pub fn pass(&mut self, header: &Header, event: &Event, record: &[u8]) -> Result<(), Memory> {
         if let Some(sought) = &mut self.sought {
             sought.is_accessed |= word_of(header.group, event) == Some(sought.word);

@@ -1,4 +1,4 @@
-//! What is read where a name of the command line is opened.
+//! What a name of the command line opens.
 
 use gr_model::memory::Memory;
 use std::alloc::{AllocError, Global};
@@ -6,19 +6,19 @@ use std::fs::{self, File};
 use std::io::{self, Read, Seek, SeekFrom, Stdin};
 use std::sync::Arc;
 
-/// How many files are open side by side at most. Of more, each is open only while it is read.
+/// How many files may be open at once. If there are more, each is open only while it is read.
 const MOST_OPEN: usize = 256;
 
-/// What has the bytes of a piece.
+/// Where the bytes of a piece are.
 #[derive(Drop)]
 enum Bytes {
-    /// The file of a path. It is open only while it is read, so that thousands of its streams may be read side by side.
+    /// In the file of a path. It is open only while it is read, so thousands of its streams may be read side by side.
     File(HostRuntime, String),
-    /// Bytes that were read before.
+    /// In memory: they were read before.
     Kept(Arc<Vec<u8>>),
 }
 
-/// Bytes from one place up to another, or to their end where that comes first.
+/// Bytes from one place up to another, or up to their end if that comes first.
 #[derive(Drop)]
 pub struct Piece {
     bytes: Bytes,
@@ -51,7 +51,7 @@ impl Piece {
         })
     }
 
-    /// Of what has the bytes, those from `at` up to `end`, or to the end of the piece.
+    /// The bytes from `at` up to `end`, or up to the end of the piece.
     pub fn part(&self, at: u64, end: u64) -> Result<Piece, AllocError> {
         let bytes = match &self.bytes {
             Bytes::File(rt, path) => Bytes::File(*rt, path.clone()?),
@@ -61,7 +61,7 @@ impl Piece {
         Ok(Piece { bytes, at, end })
     }
 
-    /// The same bytes, to be read.
+    /// The same bytes, for a reader.
     pub fn open(&self) -> io::Result<Piece> {
         if let Bytes::File(rt, path) = &self.bytes {
             File::open(rt, path.as_str())?;
@@ -69,7 +69,7 @@ impl Piece {
         Ok(self.part(self.at, self.end)?)
     }
 
-    /// How many bytes there are, where that is known.
+    /// How many bytes there are, if that is known.
     pub fn size(&self) -> Option<u64> {
         let end = match &self.bytes {
             Bytes::File(rt, path) if self.end == u64::MAX => file_size(*rt, path.as_str())?,
@@ -99,19 +99,17 @@ impl Read for Piece {
     }
 }
 
-/// What is read where a name is opened.
+/// What a name opens.
 #[derive(Drop)]
 pub enum Source {
-    /// A file or a pipe from where it stands to its end.
+    /// A file or a pipe, from its present place to its end.
     Whole(File),
-    /// Some bytes.
     Piece(Piece),
-    /// Standard input.
     Input(Stdin),
 }
 
 impl Source {
-    /// Opens the file or pipe of a path, which is one of so many.
+    /// Opens the file or pipe of a path. It is one of `count` files.
     pub fn open(rt: HostRuntime, path: &str, count: usize) -> io::Result<Source> {
         let file = File::open(&rt, path)?;
         if count > MOST_OPEN && file_size(rt, path).is_some() {

@@ -1,4 +1,4 @@
-//! Which word of a line of a text is at fault, and what is due in its place (docs/FORMATS.md, "Text form").
+//! Which word of a line of a text is at fault, and what should be in its place (docs/FORMATS.md, "Text form").
 
 use gr_model::limits::MOST_RECORDS;
 use gr_record::header::{Header, Version};
@@ -9,33 +9,33 @@ use std::io::{self, Write};
 /// How many bytes of a word are shown, at most.
 const MOST_SHOWN: usize = 64;
 
-/// Numbers that a header and a record have are below this.
+/// The numbers of headers and records are below this.
 const MOST_NUMBERS: usize = 1 << 32;
 
-/// What may stand behind the last word, where a record may have a site.
+/// What may come after the last word, if a record may have a site.
 const SITE_OR_END: &str = "@ and a site, or the end of the line";
 
-/// Words of which one is due, as they are shown.
+/// Words; one of them is due.
 type Words = &'static [&'static str];
 
-/// What is due at a word.
+/// What is due in the place of a word.
 #[derive(Clone, Copy)]
 enum Due {
     /// The word that begins a header.
     Header,
-    /// How many items a group has: 1 to so many.
+    /// How many items a group has: from 1 to this number.
     Items(usize),
-    /// An item below so many, or the word that ends a stream.
+    /// An item below this number, or the word that ends a stream.
     Item(usize),
-    /// A number of this, below so many.
+    /// A number below this one, and what it counts.
     Number(&'static str, usize),
     /// One of these words.
     Word(Words),
-    /// One of these words, or the end of the line, before which a site may stand where the flag is set.
+    /// One of these words, or the end of the line; or a site before the end, if the flag is set.
     Last(Words, bool),
 }
 
-/// The first line of a text that may not stand in its place, and the place.
+/// The first line of a text that is not allowed in its place, and the place.
 fn bad_line(text: &[u8]) -> Option<(&[u8], Place)> {
     let mut place = Place::Outside;
     for line in text.split(|byte| *byte == b'\n') {
@@ -47,7 +47,7 @@ fn bad_line(text: &[u8]) -> Option<(&[u8], Place)> {
     None
 }
 
-/// The word at this place of a line, from 0; none where the line ends before it.
+/// The word at this place of a line, from 0; none if the line ends before it.
 fn word_at(line: &[u8], at: usize) -> Option<&[u8]> {
     if line.is_empty() {
         return None;
@@ -55,12 +55,9 @@ fn word_at(line: &[u8], at: usize) -> Option<&[u8]> {
     line.split(|byte| *byte == b' ').nth(at)
 }
 
-/// The word at this place of a line, or an empty one where the line ends before it.
+/// The word at this place of a line, or an empty one if the line ends before it.
 fn word_or_none(line: &[u8], at: usize) -> &[u8] {
-    match word_at(line, at) {
-        None => &[],
-        Some(word) => word,
-    }
+    word_at(line, at).unwrap_or(&[])
 }
 
 /// Whether a word is one of these.
@@ -76,7 +73,7 @@ fn is_site(word: &[u8]) -> bool {
     }
 }
 
-/// What is due at this place of the line of a header, whose version its end says.
+/// What is due at this place of the line of a header. The end of the line gives the version.
 fn due_in_header(line: &[u8], at: usize) -> Due {
     let version = match line {
         [.., b' ', b'v', b'4'] => Version::Four,
@@ -96,7 +93,7 @@ fn due_in_header(line: &[u8], at: usize) -> Due {
     }
 }
 
-/// What is due at this place of an acquire, from that of its first name, in a stream of this version.
+/// What is due among the names of an acquire, at this place from the first name, in a stream of this version.
 fn due_in_names(version: Version, at: usize) -> Due {
     match at % 4 {
         0 if at / 4 < version.places() => Due::Last(&["<"], version.has_sites()),
@@ -107,7 +104,7 @@ fn due_in_names(version: Version, at: usize) -> Due {
     }
 }
 
-/// What is due at this place of the line of a record in a stream of this header, where the words before it are right.
+/// What is due at this place of the line of a record in a stream of this header, if the words before it are right.
 fn due_in_record(header: Header, line: &[u8], at: usize) -> Due {
     let version = header.version;
     let verb = word_or_none(line, 1);
@@ -150,7 +147,7 @@ impl Due {
     }
 }
 
-/// Writes words of which one is due, the last behind this word.
+/// Writes words, one of which is due, with `or` before the last.
 fn put_words<W: Write>(to: &mut W, words: Words, or: &str, last: &str) -> io::Result<()> {
     for (at, word) in words.iter().enumerate() {
         write!(to, "{}{word}", if at == 0 { "" } else { ", " })?;
@@ -174,7 +171,7 @@ fn put_due<W: Write>(to: &mut W, due: Due) -> io::Result<()> {
     }
 }
 
-/// Writes the bytes of a word, the first of them where they are many; what is no ASCII that can be seen is a question mark.
+/// Writes the first bytes of a word; a byte that is not visible ASCII is a question mark.
 fn put_shown<W: Write>(to: &mut W, word: &[u8]) -> io::Result<()> {
     for byte in word.iter().take(MOST_SHOWN) {
         to.write_all(&[if byte.is_ascii_graphic() { *byte } else { b'?' }])?;
@@ -182,7 +179,7 @@ fn put_shown<W: Write>(to: &mut W, word: &[u8]) -> io::Result<()> {
     Ok(())
 }
 
-/// Writes what stands at a place of a line, which is at fault, and what is due there.
+/// Writes the word at fault at a place of a line, and what is due there.
 fn put_bad_word<W: Write>(to: &mut W, line: &[u8], at: usize, due: Due) -> io::Result<()> {
     write!(to, ", word {}: ", at.saturating_add(1))?;
     match word_at(line, at) {
@@ -195,8 +192,8 @@ fn put_bad_word<W: Write>(to: &mut W, line: &[u8], at: usize, due: Due) -> io::R
     writeln!(to, "")
 }
 
-/// Writes which word of the first line at fault of a text is so, and what is due in its place. The line has this number, from 1.
-pub fn tell_word<W: Write>(to: &mut W, text: &[u8], number: u64) -> io::Result<()> {
+/// Writes which word is at fault in the first line at fault of a text, and what is due in its place. The line has this number, from 1.
+pub fn put_bad_line<W: Write>(to: &mut W, text: &[u8], number: u64) -> io::Result<()> {
     let Some((line, place)) = bad_line(text) else {
         return Ok(());
     };
