@@ -6,8 +6,12 @@ use Rattle.std.specs.Option.{option_map}
 use Rattle.gr_text.specs.LineReading.{same}
 use Rattle.gr_places.specs.declared.places.Placed.{Placed}
 use Rattle.gr_places.specs.declared.places.PlaceLine.{PlaceLine}
-use Rattle.gr_places.specs.PlaceIndexes.{AreTexts, number_in, same_key, text_in}
+use Rattle.gr_places.specs.PlaceIndexes.{number_in, same_key, text_in}
 use Rattle.gr_places.specs.SideLines.{PlaceSaid, place_line, place_of, same_placed}
+
+-- the texts that are kept are the places that lines give
+abbrev pub AreTexts : List (Placed × Bor (List ℕ)) → List PlaceSaid → Type 0
+AreTexts entries lines = (p : Placed) → option_map (λ text. text.now) (text_in entries p) ≡ place_of lines p
 
 -- the numbers that are kept are those of the texts of lines, from line n on
 abbrev pub AreNumbersFrom : ℕ → List (Bor (List ℕ) × ℕ) → List PlaceSaid → Type 0

@@ -1,11 +1,10 @@
 -- Texts of the form NAME[INDEX], and the words of buffers that they name.
-use Rattle.std.proofs.Common.{◌≡◌, ◌≢◌, ℕ, suc, ◌-◌, ◌^◌, ◌<◌, Bool, true, false, List, [], ◌∷◌, ◌++◌, Option, Some, None, refl, sym, ap, subst, ◌∙◌, length, arith, nat_eq, take, drop, get_or, map, MatchOption}
+use Rattle.std.proofs.Common.{◌≡◌, ◌≢◌, ℕ, suc, ◌+◌, ◌-◌, ◌^◌, ◌<◌, Bool, Bor, true, false, List, [], ◌∷◌, ◌++◌, Option, Some, None, refl, sym, ap, subst, ◌∙◌, length, arith, nat_eq, take, drop, get_or, map, MatchOption}
 use Rattle.std.specs.Prelude.{decimal}
 use Rattle.std.specs.List.{find}
 use Rattle.std.specs.Option.{is_some, option_map, option_and_then}
 use Rattle.std.specs.Cmp.Lexicographic.{pointwise, same_text, other_text}
 use Rattle.std.proofs.lemmas.Bool.Decides.{nat_tests}
-use Rattle.std.proofs.lemmas.Option.{MatchOption-at_none, MatchOption-at_some}
 use Rattle.std.proofs.lemmas.Bool.{and_parts, cond_both, eq-eqb, eqb-true}
 use Rattle.std.proofs.lemmas.List.{append_cancel_left, append_cancel_right, drop_at, length-append, take-append-drop, take_at}
 use Rattle.gr_text.specs.LineReading as reading
@@ -18,16 +17,6 @@ use Rattle.gr_places.proofs.Reading.{element_found, made}
 use Rattle.gr_places.specs.Naming.{IsSaid, IsSaidIn, IsText, in_brackets, is_same, number_of, word_at}
 
 -- ---- options
-
-pub match_more : {X : Type 0} (A B : Type 0) (P Q : X → Type 0) (o : Option X) → (A → B) → ((x : X) → P x → Q x) → MatchOption o A P → MatchOption o B Q
-match_more A B P Q None f g m = f m
-match_more A B P Q (Some x) f g m = g x m
-
-pub when_none : {X : Type 0} (A : Type 0) (P : X → Type 0) (o : Option X) → o ≡ None → MatchOption o A P → A
-when_none A P o = MatchOption-at_none A P
-
-pub when_some : {X : Type 0} (A : Type 0) (P : X → Type 0) (o : Option X) (x : X) → o ≡ Some x → MatchOption o A P → P x
-when_some A P o x = MatchOption-at_some A P x
 
 pub is_none : {X : Type 0} (A : Type 0) (P : X → Type 0) (o : Option X) → o ≡ None → A → MatchOption o A P
 is_none A P None e a = a
@@ -42,21 +31,20 @@ not_both o x p q = absurd cc
 
 -- ---- bytes after and before others
 
-pub no_front : (s p : List ℕ) → pointwise nat_eq (take (length p) s) p ≡ false → (rest : List ℕ) → s ≢ p ++ rest
-no_front s p e rest is = other_text (take (length p) s) p (sym e) (ap (take (length p)) is ∙ take_at p rest (length p) refl)
+module _ (s p : List ℕ) where
+  pub after : (o : Option (Bor (List ℕ)))
+      → MatchOption o (pointwise nat_eq (take (length p) s) p ≡ false) (λ x. (pointwise nat_eq (take (length p) s) p ≡ true) × (x.now ≡ drop (length p) s) × (length x.now + length p ≡ length s))
+      → MatchOption o ((rest : List ℕ) → s ≢ p ++ rest) (λ x. s ≡ p ++ x.now)
+  after None e = λ rest is. other_text (take (length p) s) p (sym e) (ap (take (length p)) is ∙ take_at p rest (length p) refl)
+  after (Some x) e = cc (take-append-drop (length p) s, same_text (take (length p) s) p (sym e.0))
 
-pub front : (s p x : List ℕ) → pointwise nat_eq (take (length p) s) p ≡ true → x ≡ drop (length p) s → s ≡ p ++ x
-front s p x e is =
-    cc (take-append-drop (length p) s, same_text (take (length p) s) p (sym e))
-
-pub no_end : (s p : List ℕ) → pointwise nat_eq (drop (length s - length p) s) p ≡ false → (rest : List ℕ) → s ≢ rest ++ p
-no_end s p e rest is =
-    let many = ap (λ (l : List ℕ). length l) is ∙ length-append rest p in
-    other_text (drop (length s - length p) s) p (sym e) (ap (drop (length s - length p)) is ∙ drop_at rest p (length s - length p) (omega (arith, many)))
-
-pub end : (s p x : List ℕ) → pointwise nat_eq (drop (length s - length p) s) p ≡ true → x ≡ take (length s - length p) s → s ≡ x ++ p
-end s p x e is =
-    cc (take-append-drop (length s - length p) s, same_text (drop (length s - length p) s) p (sym e))
+  pub before : (o : Option (Bor (List ℕ)))
+      → MatchOption o (pointwise nat_eq (drop (length s - length p) s) p ≡ false) (λ x. (pointwise nat_eq (drop (length s - length p) s) p ≡ true) × (x.now ≡ take (length s - length p) s) × (length x.now + length p ≡ length s))
+      → MatchOption o ((rest : List ℕ) → s ≢ rest ++ p) (λ x. s ≡ x.now ++ p)
+  before None e = λ rest is.
+      let many = ap (λ (l : List ℕ). length l) is ∙ length-append rest p in
+      other_text (drop (length s - length p) s) p (sym e) (ap (drop (length s - length p)) is ∙ drop_at rest p (length s - length p) (omega (arith, many)))
+  before (Some x) e = cc (take-append-drop (length s - length p) s, same_text (drop (length s - length p) s) p (sym e.0))
 
 -- ---- a name and an index
 
@@ -65,8 +53,8 @@ pub not_open : (name text indexed : List ℕ) → text ≡ name ++ indexed → (
 not_open name text indexed is none k t = none (decimal k ++ (93 ∷ [])) (append_cancel_left name indexed (in_brackets k) (sym is ∙ t))
 
 -- what comes after the bracket
-pub behind_open : (name text indexed closed : List ℕ) → text ≡ name ++ indexed → indexed ≡ (91 ∷ []) ++ closed → (k : ℕ) → IsText name k text → closed ≡ decimal k ++ (93 ∷ [])
-behind_open name text indexed closed is opened k t =
+pub after_open : (name text indexed closed : List ℕ) → text ≡ name ++ indexed → indexed ≡ (91 ∷ []) ++ closed → (k : ℕ) → IsText name k text → closed ≡ decimal k ++ (93 ∷ [])
+after_open name text indexed closed is opened k t =
     append_cancel_left (91 ∷ []) closed (decimal k ++ (93 ∷ [])) (sym opened ∙ append_cancel_left name indexed (in_brackets k) (sym is ∙ t))
 
 -- the text consists of its parts

@@ -48,7 +48,7 @@ module _ (bytes : List ℕ) where
       let len : length (take HEADER_LENGTH bytes) ≡ HEADER_LENGTH = omega (arith, length-take HEADER_LENGTH bytes, long) in
       sym (ap header_at (sym (take-append-drop HEADER_LENGTH bytes)) ∙ same_header (drop HEADER_LENGTH bytes) (take HEADER_LENGTH bytes) len)
 
-  refused_by : (x : Result Header RecordError) (e : RecordError) → (x >>= λ h. found (h, drop HEADER_LENGTH bytes)) ≡ Err e → (under x MOST_RECORDS bytes).header ≡ None
+  refused_by : (x : Result Header RecordError) (e : RecordError) → (x >>= λ h. found (h, drop HEADER_LENGTH bytes)) ≡ Err e → ((under x MOST_RECORDS bytes).header ≡ None) × (last_answer (under x MOST_RECORDS bytes).stop ≡ Err e)
   refused_by x e is = grind arith
 
   read_by : (x : Result Header RecordError) (h : Header) (rest : List ℕ) → (x >>= λ k. found (k, drop HEADER_LENGTH bytes)) ≡ Ok (h, rest) → (under x MOST_RECORDS bytes ≡ closed (Some h) (records_of h MOST_RECORDS rest)) × (length rest ≤ length bytes)
@@ -57,17 +57,22 @@ module _ (bytes : List ℕ) where
       let same = same_found (k, drop HEADER_LENGTH bytes) (h, rest) is in
       rw (← ap (λ (x : Header × List ℕ). x.0) same, ← ap (λ (x : Header × List ℕ). x.1) same) (refl, omega (arith, length-drop HEADER_LENGTH bytes))
 
-  -- no header is read
-  pub nothing_read : (error e : RecordError) → front_header_at bytes ≡ Err e → spots.Header ≡ spot error bytes
+  -- no header is read, and reading stops for its fault
+  header_refused : (e : RecordError) → front_header_at bytes ≡ Err e → ((reading MOST_RECORDS bytes).header ≡ None) × (last_answer (reading MOST_RECORDS bytes).stop ≡ Err e)
   unfolding front_header_at read_from
-  nothing_read error e is =
+  header_refused e is =
       elim (cases_lt (length bytes) HEADER_LENGTH) [
-        | inl lt ↦ rw (lt-ltb (length bytes) HEADER_LENGTH lt) refl
+        | inl lt ↦ let r = rw (lt-ltb (length bytes) HEADER_LENGTH lt) at is in rw (lt-ltb (length bytes) HEADER_LENGTH lt) (refl, cc)
         | inr long ↦
             let r = rw (le-ltb (length bytes) HEADER_LENGTH long) at is in
-            let none = refused_by (header_at bytes) e r in
-            rw (le-ltb (length bytes) HEADER_LENGTH long, own_bytes long, none) refl
+            rw (le-ltb (length bytes) HEADER_LENGTH long, own_bytes long) (refused_by (header_at bytes) e r)
       ]
+
+  pub nothing_read : (error e : RecordError) → front_header_at bytes ≡ Err e → spots.Header ≡ spot error bytes
+  nothing_read error e is = rw (header_refused e is).0 refl
+
+  pub header_stops : (e : RecordError) → front_header_at bytes ≡ Err e → last_answer (reading MOST_RECORDS bytes).stop ≡ Err e
+  header_stops e is = (header_refused e is).1
 
   module _ (h : Header) (rest : List ℕ) (is : front_header_at bytes ≡ Ok (h, rest)) where
     header_read : (reading MOST_RECORDS bytes ≡ closed (Some h) (records_of h MOST_RECORDS rest)) × (length rest ≤ length bytes)
@@ -89,20 +94,3 @@ module _ (bytes : List ℕ) where
     -- after the header
     pub records_read : (error : RecordError) (number : ℕ) (left : List ℕ) → number ≡ length (records_of h MOST_RECORDS rest).events → left ≡ (records_of h MOST_RECORDS rest).rest → behind_header error number (length bytes - length left) ≡ spot error bytes
     records_read error number left count behind = rw (header_read.0, count, behind) refl
-
--- ---- the fault at which reading stops
-
-module _ (bytes : List ℕ) where
-  stops_by : (x : Result Header RecordError) (e : RecordError) → (x >>= λ h. found (h, drop HEADER_LENGTH bytes)) ≡ Err e → last_answer (under x MOST_RECORDS bytes).stop ≡ Err e
-  stops_by x e is = grind arith
-
-  -- at a header
-  pub header_stops : (e : RecordError) → front_header_at bytes ≡ Err e → last_answer (reading MOST_RECORDS bytes).stop ≡ Err e
-  unfolding front_header_at read_from
-  header_stops e is =
-      elim (cases_lt (length bytes) HEADER_LENGTH) [
-        | inl lt ↦ let r = rw (lt-ltb (length bytes) HEADER_LENGTH lt) at is in rw (lt-ltb (length bytes) HEADER_LENGTH lt) cc
-        | inr long ↦
-            let r = rw (le-ltb (length bytes) HEADER_LENGTH long) at is in
-            rw (le-ltb (length bytes) HEADER_LENGTH long, own_bytes bytes long) (stops_by (header_at bytes) e r)
-      ]

@@ -7,7 +7,7 @@ use Rattle.std.specs.Option.{option_and_then, option_map}
 use Rattle.gr_text.specs.LineReading.{same}
 use Rattle.gr_places.specs.contracts.places.PlacedPartialEq.TheImpl as equality
 use Rattle.gr_places.specs.declared.places.Placed.{Placed}
-use Rattle.gr_places.specs.SideLines.{PlaceSaid, place_number, place_of, text_number}
+use Rattle.gr_places.specs.SideLines.{PlaceSaid, place_number, place_of}
 
 abbrev pub same_key : Placed → Placed → Bool
 same_key p q = (equality.eq-value).it p q
@@ -19,14 +19,6 @@ text_in entries p = lookup (same_key p) entries
 -- the number that is kept for a text
 abbrev pub number_in : List (Bor (List ℕ) × ℕ) → Bor (List ℕ) → Option ℕ
 number_in entries text = lookup (λ other. same text.now other.now) entries
-
--- the texts that are kept are the places that lines give
-abbrev pub AreTexts : List (Placed × Bor (List ℕ)) → List PlaceSaid → Type 0
-AreTexts entries lines = (p : Placed) → option_map (λ text. text.now) (text_in entries p) ≡ place_of lines p
-
--- the numbers that are kept are those of the texts of lines
-abbrev pub AreNumbers : List (Bor (List ℕ) × ℕ) → List PlaceSaid → Type 0
-AreNumbers entries lines = (text : Bor (List ℕ)) → number_in entries text ≡ text_number lines text.now
 
 -- what is kept: the text of each event and site, and the number of each text
 pub record Indexed : Type 0 where

@@ -48,22 +48,11 @@ impl<'a> BufferLine<'a> {
     {
         match (self.first, word) {
             (Word::Global(first), Word::Global(number)) => index_within(first, self.words, number),
-            (Word::Local(group, first), Word::Local(other, number)) => {
-                if group == other {
-                    index_within(first, self.words, number)
-                } else {
-                    None
-                }
+            (Word::Local(group, first), Word::Local(other, number)) if group == other => {
+                index_within(first, self.words, number)
             }
-            (Word::Global(_), Word::Local(_, _)) | (Word::Local(_, _), Word::Global(_)) => None,
+            _ => None,
         }
-    }
-
-    /// Whether a word belongs to the buffer.
-    fn has(&self, word: Word) -> bool
-        ensures { result ≡ is_some (spec.index_in (spec.buffer_line self.now) word) }
-    {
-        self.index_of(word).is_some()
     }
 }
 
@@ -147,7 +136,10 @@ pub fn read_buffers<A: Allocator>(
 fn line_with<'a>(lines: &[BufferLine<'a>], word: Word) -> Option<BufferLine<'a>>
     ensures { result ≡ find (λ l. is_some (spec.index_in (spec.buffer_line l) word)) lines.now }
 {
-    lines.iter().copied().find(|line| line.has(word))
+    lines
+        .iter()
+        .copied()
+        .find(|line| line.index_of(word).is_some())
 }
 
 /// The buffer of a word and the word's place in it, by the first line that has the word, or `None` if no line has it.

@@ -20,19 +20,7 @@ fn is_outside(fault: Fault) -> bool
     ensures outside { IsTrue result → IsOutside fault }
     ensures inside { IsFalse result → ¬ IsOutside fault }
 {
-    match fault {
-        Fault::Memory | Fault::Read => true,
-        Fault::Stream(_, _)
-        | Fault::SameGroup(_)
-        | Fault::OtherLaunch(_)
-        | Fault::MissingGroup(_)
-        | Fault::Shape(_)
-        | Fault::BadLine(_)
-        | Fault::NoEnd
-        | Fault::LongStream(_)
-        | Fault::Write
-        | Fault::Threads => false,
-    }
+    matches!(fault, Fault::Memory | Fault::Read)
 }
 
 /// The launch whose streams these inputs are, one each.

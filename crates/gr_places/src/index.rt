@@ -35,48 +35,22 @@ impl<'a, A: Allocator> Model for PlaceIndex<'a, A> {
     ghost view = { λ s. indexed s.texts.entries s.numbers.entries };
 }
 
-/// The place of each event and site, by the first line that has it.
-fn texts_of<'a, A: Allocator + Copy>(
-    alloc: A,
-    lines: &[PlaceLine<'a>],
-) -> Result<Texts<'a, A>, Memory>
-    ensures { IfOk result (λ texts. spec.AreTexts texts.entries (map place_line lines.now)) }
-{
-    let mut texts = IndexMap::new(alloc);
-    let mut left = lines.len();
-    while left > 0 {
-        left -= 1;
-        texts.insert(lines[left].of, lines[left].text)?;
-    }
-    Ok(texts)
-}
-
-/// The number of each text, by the first line that has it.
-fn numbers_of<'a, A: Allocator + Copy>(
-    alloc: A,
-    lines: &[PlaceLine<'a>],
-) -> Result<Numbers<'a, A>, Memory>
-    ensures { IfOk result (λ numbers. spec.AreNumbers numbers.entries (map place_line lines.now)) }
-{
-    let mut numbers = IndexMap::new(alloc);
-    let mut left = lines.len();
-    while left > 0 {
-        left -= 1;
-        numbers.insert(lines[left].text, left)?;
-    }
-    Ok(numbers)
-}
-
 impl<'a, A: Allocator + Copy> PlaceIndex<'a, A> {
-    /// The index of the lines of a file of places.
+    /// The index of the lines of a file of places. It is made from the last line to the first, so the first line of an event, a site or a
+    /// text counts.
     ///
     /// # Errors
     /// `Memory`: out of memory.
     pub fn of(alloc: A, lines: &[PlaceLine<'a>]) -> Result<PlaceIndex<'a, A>, Memory>
         ensures { IfOk result (λ index. spec.Indexes index (map place_line lines.now)) }
     {
-        let texts = texts_of(alloc, lines)?;
-        let numbers = numbers_of(alloc, lines)?;
+        let (mut texts, mut numbers) = (IndexMap::new(alloc), IndexMap::new(alloc));
+        let mut left = lines.len();
+        while left > 0 {
+            left -= 1;
+            texts.insert(lines[left].of, lines[left].text)?;
+            numbers.insert(lines[left].text, left)?;
+        }
         Ok(PlaceIndex { texts, numbers })
     }
 }

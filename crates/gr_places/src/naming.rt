@@ -1,6 +1,6 @@
 //! The word of memory that a text of the form `NAME[INDEX]` names.
 
-ghost use Rattle.std.specs.Prelude.{◌≡◌, ◌≢◌, ℕ, ◌^◌, ◌<◌, ◌++◌, List, MatchOption, map};
+ghost use Rattle.std.specs.Prelude.{◌≡◌, ℕ, ◌^◌, ◌<◌, MatchOption, map};
 ghost use Rattle.gr_model.specs.declared.event.Word.{Word as AnyWord};
 ghost use Rattle.gr_places.specs.Naming as spec;
 ghost use Rattle.gr_places.specs.SideLines.{buffer_line, element};
@@ -9,27 +9,13 @@ use crate::buffers::{BufferLine, Element, element_of};
 use gr_model::event::Word;
 use gr_text::words::parse_number;
 
-/// The bytes after `front`, if the bytes begin with it.
-fn behind<'a>(bytes: &'a [u8], front: &[u8]) -> Option<&'a [u8]>
-    ensures { MatchOption result ((rest : List ℕ) → bytes.entry.now ≢ front.now ++ rest) (λ rest. bytes.entry.now ≡ front.now ++ rest.now) }
-{
-    bytes.strip_prefix(front)
-}
-
-/// The bytes before `end`, if the bytes end with it.
-fn before<'a>(bytes: &'a [u8], end: &[u8]) -> Option<&'a [u8]>
-    ensures { MatchOption result ((rest : List ℕ) → bytes.entry.now ≢ rest ++ end.now) (λ rest. bytes.entry.now ≡ rest.now ++ end.now) }
-{
-    bytes.strip_suffix(end)
-}
-
 /// The index in a text that is this name followed by an index in brackets.
-fn index_behind(name: &str, text: &str) -> Option<u32>
+fn index_after(name: &str, text: &str) -> Option<u32>
     ensures { MatchOption result ((k : ℕ) → k < 2 ^ 32 → ¬ spec.IsText name.now k text.now) (λ k. spec.IsText name.now k text.now) }
 {
-    let indexed = behind(text.as_bytes(), name.as_bytes())?;
-    let closed = behind(indexed, b"[")?;
-    let digits = before(closed, b"]")?;
+    let indexed = text.as_bytes().strip_prefix(name.as_bytes())?;
+    let closed = indexed.strip_prefix(b"[")?;
+    let digits = closed.strip_suffix(b"]")?;
     parse_number(digits)
 }
 
@@ -49,14 +35,8 @@ fn word_at(line: &BufferLine<'_>, index: u32) -> Option<Word>
     ensures { result ≡ spec.word_at (buffer_line line.now) index }
 {
     match line.first {
-        Word::Global(first) => match number_at(first, line.words, index) {
-            None => None,
-            Some(number) => Some(Word::Global(number)),
-        },
-        Word::Local(group, first) => match number_at(first, line.words, index) {
-            None => None,
-            Some(number) => Some(Word::Local(group, number)),
-        },
+        Word::Global(first) => Some(Word::Global(number_at(first, line.words, index)?)),
+        Word::Local(group, first) => Some(Word::Local(group, number_at(first, line.words, index)?)),
     }
 }
 
@@ -74,7 +54,7 @@ fn is_element(found: Option<Element<'_>>, name: &str, index: u32) -> bool
 fn word_in<'a>(lines: &[BufferLine<'a>], line: &BufferLine<'a>, text: &str) -> Option<Word>
     ensures { MatchOption result ((w : AnyWord) → ¬ spec.IsSaidIn (map buffer_line lines.now) (buffer_line line.now) text.now w) (λ w. spec.IsSaidIn (map buffer_line lines.now) (buffer_line line.now) text.now w) }
 {
-    let index = index_behind(line.name, text)?;
+    let index = index_after(line.name, text)?;
     let word = word_at(line, index)?;
     if is_element(element_of(lines, word), line.name, index) {
         Some(word)

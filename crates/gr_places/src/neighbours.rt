@@ -51,10 +51,7 @@ fn first_between<'a, A: Allocator>(
 ) -> Option<&'a str>
     ensures { option_map (λ s. s.now) result ≡ first_between (map (λ s. s.now) names.now) (inputs_of inputs.now) least most }
 {
-    match place_between(inputs, least, most) {
-        None => None,
-        Some(place) => name_at(names, place as u64),
-    }
+    name_at(names, place_between(inputs, least, most)? as u64)
 }
 
 /// The name of the first file of a group that is greater than this one.

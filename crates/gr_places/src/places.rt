@@ -105,22 +105,11 @@ pub fn read_places<A: Allocator>(alloc: A, text: &[u8]) -> Result<Vec<PlaceLine<
     Ok(lines)
 }
 
-/// Whether a line is of an event or a site.
-fn is_of(line: &PlaceLine<'_>, placed: Placed) -> bool
-    ensures { result ≡ spec.same_placed line.now.of placed }
-{
-    match (line.of, placed) {
-        (Placed::Event(event), Placed::Event(other)) => event == other,
-        (Placed::Site(site), Placed::Site(other)) => site == other,
-        (Placed::Event(_), Placed::Site(_)) | (Placed::Site(_), Placed::Event(_)) => false,
-    }
-}
-
 /// The first line of an event or a site.
 fn line_of<'a>(lines: &[PlaceLine<'a>], placed: Placed) -> Option<PlaceLine<'a>>
     ensures { result ≡ find (λ l. spec.same_placed l.of placed) lines.now }
 {
-    lines.iter().copied().find(|line| is_of(line, placed))
+    lines.iter().copied().find(|line| line.of == placed)
 }
 
 /// The place of an event or a site, by the first line that has it, or `None` if no line has it.

@@ -1,14 +1,15 @@
 use Rattle.std.proofs.Common.{below_more, sym, ◌∙◌, map, subst, arith}
 use Rattle.std.proofs.lemmas.List.{get_or_default}
+use Rattle.std.proofs.lemmas.Option.{MatchOption-at_none}
 use Rattle.gr_places.specs.declared.buffers.BufferLine.{BufferLine}
 use Rattle.gr_places.specs.SideLines.{buffer_line}
 use Rattle.gr_places.specs.Naming.{IsSaidIn}
-use Rattle.gr_places.proofs.NamingLemmas.{no_option, said_in_line, when_none}
+use Rattle.gr_places.proofs.NamingLemmas.{no_option, said_in_line}
 use Rattle.gr_places.proofs.naming.word_said.Goals as goal
 
 pub loop-line-preserved : goal.loop-line-preserved
 loop-line-preserved c =
-    let here = when_none _ _ c.word_in-word.result (no_option _ (sym c.is_some.ensures ∙ c.if-is_some.false)) c.word_in-word.ensures in
+    let here = MatchOption-at_none _ _ (no_option _ (sym c.is_some.ensures ∙ c.if-is_some.false)) c.word_in-word.ensures in
     below_more _ _ c.loop-line.invariant (λ d w s. here w (subst (λ (l : BufferLine). IsSaidIn (map buffer_line c.args.lines.now) (buffer_line l) c.args.text.now w) (get_or_default c.args.lines.now c.loop-line.line-index d _ (omega arith)) s))
 
 pub returns : goal.returns

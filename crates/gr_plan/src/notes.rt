@@ -1,0 +1,205 @@
+//! What is added to the line of a fault: which file it is about, and where in the file.
+
+use crate::account::{Account, begins_stream};
+use crate::files::{Kind, kind_of, launch_in};
+use crate::held::Held;
+use crate::plan::Plan;
+use crate::seen::Seen;
+use crate::text_fault::put_bad_line;
+use gr_record::error::RecordError;
+use gr_record::fault::Fault;
+use std::alloc::{AllocError, Global};
+use std::fs::File;
+use std::io::{self, ErrorKind, Read, Write};
+
+/// How the line of a stream's fault ends if it is about the header.
+const OF_HEADER: [&str; 4] = [
+    ": bad magic\n",
+    ": bad header\n",
+    ": group given twice\n",
+    ": other launch\n",
+];
+
+/// Passes on the line of a fault that is held back, and adds a note.
+pub fn note(plan: &mut Plan, command: &str, errors: &mut Held) -> io::Result<()> {
+    let line = errors.text();
+    if line == "gpurace: read fault\n" {
+        return note_unread(plan, command, errors);
+    }
+    let is_header = OF_HEADER.iter().any(|end| line.ends_with(end));
+    let is_missing = line.starts_with("gpurace: group ") && line.ends_with(" missing\n");
+    let number = number_in(line, "gpurace: line ").filter(|_| line.ends_with(": bad line\n"));
+    let stream = number_in(line, "gpurace: stream ");
+    errors.pass()?;
+    match (stream, number) {
+        (Some(stream), _) => note_stream(errors, plan, stream, is_header),
+        (None, Some(number)) => note_line(errors, plan, number),
+        (None, None) => match &plan.files.torn {
+            Some(name) if is_missing => writeln!(
+                errors,
+                "gpurace: {name}: its last stream is truncated, and streams behind it may be lost"
+            ),
+            _ => Ok(()),
+        },
+    }
+}
+
+/// The number after a word, and before a colon.
+fn number_in(text: &str, word: &str) -> Option<u64> {
+    let (number, _) = text.strip_prefix(word)?.split_once(':')?;
+    number.parse::<u64>().ok()
+}
+
+/// Opens a file, and reads of it if asked to. Pipes are left as they are.
+fn try_file(rt: HostRuntime, name: &str, is_read: bool) -> io::Result<()> {
+    if !matches!(kind_of(rt, name), Kind::Input | Kind::Pipe) {
+        let mut file = File::open(&rt, name)?;
+        if is_read {
+            file.read(&mut [0u8; 1])?;
+        }
+    }
+    Ok(())
+}
+
+/// The first file that can't be opened, or read, and why. Side files come before those of streams.
+fn first_error(plan: &Plan, is_read: bool) -> Option<(&str, io::Error)> {
+    let files = &plan.files;
+    let sides = files.places.iter().chain(&files.buffers);
+    let sides = sides.filter(|_| files.takes_sides);
+    let whole = files
+        .names
+        .iter()
+        .filter(|name| !files.has_piece(name.as_str()));
+    let mut names = sides.chain(whole).chain(&plan.reading.names);
+    names.find_map(|name| {
+        let error = try_file(plan.rt, name.as_str(), is_read).err()?;
+        Some((name.as_str(), error))
+    })
+}
+
+/// The name of a file, and why it can't be opened or read.
+pub fn reason_of(alloc: Global, name: &str, error: &io::Error) -> Result<String, AllocError> {
+    let text = format!(in alloc; "{error}")?;
+    match text.as_str().split_once(" (os error ") {
+        None => format!(in alloc; "{name}: {text}"),
+        Some((message, _)) => format!(in alloc; "{name}: {message}"),
+    }
+}
+
+/// Reports that a folder has no stream, or that it holds the folders of launches.
+fn note_folder<W: Write>(rt: HostRuntime, name: &str, to: &mut W) -> io::Result<()> {
+    match launch_in(rt, name) {
+        Ok(Some(launch)) => writeln!(
+            to,
+            "gpurace: {name}: this folder holds launches; give one of them, such as {launch}"
+        ),
+        Ok(None) | Err(_) => writeln!(
+            to,
+            "gpurace: {name}: no stream in this folder: no file whose name ends in .gpurace"
+        ),
+    }
+}
+
+/// Reports which file can't be read, and why: the first that can't be opened, or else the first that can't be read.
+fn note_unread(plan: &Plan, command: &str, errors: &mut Held) -> io::Result<()> {
+    let unopened = first_error(plan, false);
+    let Some((name, error)) = unopened.or_else(|| first_error(plan, true)) else {
+        return errors.pass();
+    };
+    match command {
+        "races" | "history" | "check" | "why-held" | "upgrade" => errors.forget(),
+        _ => errors.pass()?,
+    }
+    let mut sides = plan.files.places.iter().chain(&plan.files.buffers);
+    if error.kind() == ErrorKind::IsADirectory && sides.all(|side| side.as_str() != name) {
+        return note_folder(plan.rt, name, errors);
+    }
+    let reason = reason_of(plan.rt.alloc(), name, &error)?;
+    writeln!(errors, "gpurace: {reason}")
+}
+
+/// Writes where the fault of a stream is, if its file has a name, and what may have caused it.
+fn put<W: Write>(
+    to: &mut W,
+    (stream, is_header): (u64, bool),
+    name: Option<&str>,
+    account: &Account,
+) -> io::Result<()> {
+    let record = account.records;
+    if let Some(name) = name {
+        write!(to, "gpurace: {name}: stream {stream}, ")?;
+        if account.fault == Some(RecordError::AfterEnd) && !is_header {
+            writeln!(to, "behind its end")?;
+        } else if account.header.is_none() || is_header {
+            writeln!(to, "at its header")?;
+        } else {
+            writeln!(to, "at its record {record}")?;
+        }
+    }
+    if is_header && account.is_text() {
+        let name = name.unwrap_or("the input");
+        writeln!(
+            to,
+            "gpurace: {name} is a text, of which gpurace pack makes a trace"
+        )?;
+    } else if !is_header && account.has_header_inside() {
+        writeln!(
+            to,
+            "gpurace: stream {stream} is truncated: the next stream begins in its record {record}"
+        )?;
+    }
+    Ok(())
+}
+
+/// The account of a file's one stream, up to its first record at fault; none if it can't be read again, or memory runs out.
+fn account_again(plan: &Plan, name: &str) -> Option<Account> {
+    if !plan.files.has_piece(name) && kind_of(plan.rt, name) != Kind::File {
+        return None;
+    }
+    let mut source = plan.files.open(name).ok()?;
+    let mut account = Account::new(plan.rt.alloc(), false);
+    account.last = Some(0);
+    match account.read(&mut source, &mut Seen::default()) {
+        Err(Fault::Memory) => None,
+        Ok(()) | Err(_) => Some(account),
+    }
+}
+
+/// Reports the fault of a stream that is read from a file of its own or from the input.
+fn note_stream<W: Write>(
+    to: &mut W,
+    plan: &mut Plan,
+    stream: u64,
+    is_header: bool,
+) -> io::Result<()> {
+    let number = stream as usize;
+    if let Some(name) = plan.files.names.get(number) {
+        let name = name.as_str();
+        return match account_again(plan, name) {
+            None => writeln!(to, "gpurace: {name}: stream {number}"),
+            Some(account) => put(to, (stream, is_header), Some(name), &account),
+        };
+    }
+    let Some(mut account) = plan.reading.account.take() else {
+        return Ok(());
+    };
+    account.last = Some(stream);
+    if account.pass(&mut Seen::default()).is_err() {
+        return Ok(());
+    }
+    let start = account.starts.get(number).copied();
+    let name = plan.reading.name_at(start.unwrap_or(account.passed));
+    put(to, (stream, is_header), name, &account)
+}
+
+/// Reports a line at fault of a text.
+fn note_line<W: Write>(to: &mut W, plan: &Plan, number: u64) -> io::Result<()> {
+    match &plan.reading.text {
+        None => Ok(()),
+        Some(text) if begins_stream(text) => writeln!(
+            to,
+            "gpurace: the input is a trace already, and no text of one"
+        ),
+        Some(text) => put_bad_line(to, text, number),
+    }
+}
