@@ -1,4 +1,4 @@
-use Rattle.std.proofs.Common.{◌-◌, arith}
+use Rattle.std.proofs.Common.{◌≡◌, ◌<◌, ◌+◌, ◌-◌, length, arith}
 use Rattle.gr_text.specs.LineReading.{same}
 use Rattle.gr_places.proofs.IndexLemmas.{numbers_more, texts_more}
 use Rattle.gr_places.proofs.index.PlaceIndex.of.Goals as goal
@@ -12,5 +12,5 @@ loop-left-preserved g c =
     record {
       within = omega (arith, lt);
       texts = texts_more c.args.lines.now (c.loop-left.left - 1) c.loop-left.left _ lt next c.loop-left.texts.entries c.insert.new.self.entries c.in_ok-insert.ensures.updates.0 before.texts;
-      numbers = numbers_more c.args.lines.now (c.loop-left.left - 1) c.loop-left.left _ lt next c.loop-left.numbers.entries c.insert-2.new.self.entries c.in_ok-insert-2.ensures.updates.0 before.numbers;
+      numbers = numbers_more c.args.lines.now (c.loop-left.left - 1) c.loop-left.left _ lt next c.loop-left.numbers.entries c.insert-in-loop-left.new.self.entries c.in_ok-insert-2.ensures.updates.0 before.numbers;
     }
