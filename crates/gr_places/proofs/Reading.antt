@@ -24,15 +24,6 @@ joined_more done n x rest = grind (arith, append_assoc)
 pub joined_all : {X : Type 0} (done : List X) → joined done (Ok []) ≡ Ok done
 joined_all done = ap (λ (ys : List _). Ok ys) (append-nil done)
 
-module _ {X : Type 0} (said : List ℕ → Option X) (done : List X) (n : ℕ) (l : List ℕ) (ls : List (List ℕ)) where
-  -- a line that is out of form
-  pub line_fails : said l ≡ None → joined done (said_from said n (l ∷ ls)) ≡ Err n
-  line_fails none = ap (λ (o : Option X). joined done (said_next n o (said_from said (n + 1) ls))) none
-
-  -- a line that is in form
-  pub line_goes_on : (x : X) → said l ≡ Some x → joined done (said_from said n (l ∷ ls)) ≡ joined (done ++ x ∷ []) (said_from said (n + 1) ls)
-  line_goes_on x some = ap (λ (o : Option X). joined done (said_next n o (said_from said (n + 1) ls))) some ∙ joined_more done n x (said_from said (n + 1) ls)
-
 -- the first that passes a test, in a mapped list
 pub find_viewed : {X Y : Type 0} (view : X → Y) (test : Y → Bool) (xs : List X) → find test (map view xs) ≡ option_map view (find (λ x. test (view x)) xs)
 find_viewed view test [] = refl
