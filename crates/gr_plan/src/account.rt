@@ -71,9 +71,15 @@ impl Account {
         let before = self.all_records;
         self.pass(seen)?;
         if self.fault.is_none() {
-            self.bytes.extend_from_slice(piece)?;
+            self.add(piece)?;
         }
         Ok(self.all_records.saturating_sub(before))
+    }
+
+    /// Adds bytes to those that were taken.
+    fn add(&mut self, piece: &[u8]) -> Result<(), Memory> {
+        self.bytes.extend_from_slice(piece)?;
+        Ok(())
     }
 
     /// Takes, passes and shows the bytes of a reader, up to its end or to bytes that are not of a stream.
@@ -84,8 +90,7 @@ impl Account {
         let mut piece = [0u8; PIECE_LENGTH];
         for _ in 0..u64::MAX {
             let n = reader.read(&mut piece).map_err(|error| fault_of(&error))?;
-            let added = self.bytes.extend_from_slice(&piece[..n]);
-            added.map_err(Memory::from)?;
+            self.add(&piece[..n])?;
             self.pass(seen)?;
             if n == 0 || self.fault.is_some() {
                 break;
@@ -167,7 +172,8 @@ impl Account {
         let records = self.rest(at).chunks_exact(length);
         let plain = records.take_while(|record| record.first().is_some_and(|kind| *kind < END));
         let count = plain.count();
-        self.count(count as u64);
+        self.records = self.records.saturating_add(count as u64);
+        self.all_records = self.all_records.saturating_add(count as u64);
         count.saturating_mul(length)
     }
 
@@ -178,7 +184,8 @@ impl Account {
         header: Header,
         seen: &mut Seen,
     ) -> Result<usize, RecordError> {
-        let (length, is_at_last) = (header.version.record_length(), self.is_at_last());
+        let length = header.version.record_length();
+        let is_at_last = self.is_at_last();
         let Some(record) = self.rest(at).get(..length) else {
             return Err(RecordError::Truncated);
         };
@@ -192,14 +199,9 @@ impl Account {
             Ok(event) => seen.pass(&header, &event, record)?,
             Err(_) => {}
         }
-        self.count(1);
+        self.records = self.records.saturating_add(1);
+        self.all_records = self.all_records.saturating_add(1);
         Ok(length)
-    }
-
-    /// Counts records that were passed.
-    fn count(&mut self, records: u64) {
-        self.records = self.records.saturating_add(records);
-        self.all_records = self.all_records.saturating_add(records);
     }
 
     /// Whether the bytes end inside a stream.

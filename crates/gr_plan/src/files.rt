@@ -47,11 +47,6 @@ pub fn fault_of(error: &io::Error) -> Fault {
     }
 }
 
-/// A copy of a text.
-pub fn copy_of(alloc: Global, text: &str) -> Result<String, Memory> {
-    Ok(String::from_str(alloc, text)?)
-}
-
 /// Copies of texts.
 pub fn copies_of(alloc: Global, texts: &[&str]) -> Result<Vec<String>, Memory> {
     let copies = texts.iter().map(|text| String::from_str(alloc, text));
@@ -110,7 +105,8 @@ pub fn launch_in(rt: HostRuntime, folder: &str) -> Result<Option<String>, Memory
 /// The path of a side file in a folder, if it is there.
 fn side_file(rt: HostRuntime, folder: &str, name: &str) -> Result<Option<String>, Memory> {
     let path = path_below(rt.alloc(), folder, name)?;
-    Ok((kind_of(rt, path.as_str()) == Kind::File).then_some(path))
+    let is_there = kind_of(rt, path.as_str()) == Kind::File;
+    Ok(is_there.then_some(path))
 }
 
 /// The file of buffers of a command on these files: the one that is given, or the first one in a folder.
@@ -209,10 +205,10 @@ impl Files {
             Kind::File => self.add_file(name),
             Kind::Folder => self.add_folder(name),
             Kind::Pipe if line.command != "run" => match File::open(&rt, name) {
-                Err(_) => Ok(self.add_name(name, None)?),
+                Err(_) => Ok(self.add_name(name)?),
                 Ok(mut pipe) => self.add_bytes(name, &mut pipe),
             },
-            Kind::Pipe | Kind::Missing => Ok(self.add_name(name, None)?),
+            Kind::Pipe | Kind::Missing => Ok(self.add_name(name)?),
         }
     }
 
@@ -221,19 +217,28 @@ impl Files {
         let mut account = Account::new(self.rt.alloc(), false);
         account.read(reader, &mut self.seen)?;
         if self.torn.is_none() && account.is_torn() {
-            self.torn = Some(copy_of(self.rt.alloc(), name)?);
+            self.torn = Some(self.copy_of(name)?);
         }
         Ok(account.starts)
     }
 
-    /// Adds a name. It opens this piece, or else the whole file of this path. A name that has a piece keeps it.
-    fn add_name(&mut self, name: &str, piece: Option<Piece>) -> Result<(), Memory> {
-        let alloc = self.rt.alloc();
-        self.names.push(copy_of(alloc, name)?)?;
-        if let Some(piece) = piece
-            && !self.has_piece(name)
-        {
-            self.pieces.insert(copy_of(alloc, name)?, piece)?;
+    /// A copy of a text.
+    fn copy_of(&self, text: &str) -> Result<String, Memory> {
+        Ok(String::from_str(self.rt.alloc(), text)?)
+    }
+
+    /// Adds a name as it is.
+    fn add_name(&mut self, name: &str) -> Result<(), Memory> {
+        let name = self.copy_of(name)?;
+        self.names.push(name)?;
+        Ok(())
+    }
+
+    /// Has a name open a piece. A name that has one keeps it.
+    fn add_piece(&mut self, name: &str, piece: Piece) -> Result<(), Memory> {
+        if !self.has_piece(name) {
+            let name = self.copy_of(name)?;
+            self.pieces.insert(name, piece)?;
         }
         Ok(())
     }
@@ -243,35 +248,38 @@ impl Files {
         let ends = starts.iter().copied().skip(1).chain(iter::once(u64::MAX));
         for (start, end) in starts.iter().zip(ends) {
             let part = format!(in self.rt.alloc(); "{name}@{start}")?;
-            self.add_name(part.as_str(), Some(whole.part(*start, end)?))?;
+            self.add_name(part.as_str())?;
+            self.add_piece(part.as_str(), whole.part(*start, end)?)?;
         }
         Ok(())
     }
 
     /// Adds the streams of a reader, up to its end.
     fn add_bytes<R: Read>(&mut self, name: &str, reader: &mut R) -> Result<(), Fault> {
-        let bytes = read_all(self.rt.alloc(), reader)?;
+        let alloc = self.rt.alloc();
+        let bytes = read_all(alloc, reader)?;
         let starts = self.starts_of(name, &mut bytes.as_slice())?;
-        let whole = Piece::of_bytes(self.rt.alloc(), bytes)?;
+        let whole = Piece::of_bytes(alloc, bytes)?;
         if starts.len() > 1 {
             return Ok(self.add_parts(name, &whole, &starts)?);
         }
-        Ok(self.add_name(name, Some(whole))?)
+        self.add_name(name)?;
+        Ok(self.add_piece(name, whole)?)
     }
 
     /// Adds the streams of the file of this path.
     fn add_file(&mut self, path: &str) -> Result<(), Fault> {
         let rt = self.rt;
         let Ok(mut file) = File::open(&rt, path) else {
-            return Ok(self.add_name(path, None)?);
+            return Ok(self.add_name(path)?);
         };
         match self.starts_of(path, &mut file) {
             Ok(starts) if starts.len() > 1 => {
-                let whole = Piece::of_file(rt, copy_of(rt.alloc(), path)?);
+                let whole = Piece::of_file(rt, self.copy_of(path)?);
                 Ok(self.add_parts(path, &whole, &starts)?)
             }
             Err(Fault::Memory) => Err(Fault::Memory),
-            Ok(_) | Err(_) => Ok(self.add_name(path, None)?),
+            Ok(_) | Err(_) => Ok(self.add_name(path)?),
         }
     }
 
@@ -279,16 +287,16 @@ impl Files {
     fn add_folder(&mut self, folder: &str) -> Result<(), Fault> {
         let paths = paths_of_streams(self.rt, folder)?;
         if paths.is_empty() {
-            return Ok(self.add_name(folder, None)?);
+            return Ok(self.add_name(folder)?);
         }
         self.add_sides(folder)?;
         for path in &paths {
             self.add_file(path.as_str())?;
         }
         if let (Some(sited), Some(sites)) = (self.seen.sited.take(), &self.places) {
-            let sites = copy_of(self.rt.alloc(), sites.as_str())?;
+            let sites = self.copy_of(sites.as_str())?;
             let places = Piece::of_bytes(self.rt.alloc(), sited.places)?;
-            self.pieces.insert(sites, places).map_err(Memory::from)?;
+            self.add_piece(sites.as_str(), places)?;
         }
         Ok(())
     }

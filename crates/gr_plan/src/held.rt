@@ -16,10 +16,8 @@ pub struct Held {
 impl Held {
     /// Standard error, with nothing held back yet.
     pub fn new(to: Stderr) -> Held {
-        Held {
-            held: Some(ArrayVec::new()),
-            to,
-        }
+        let held = Some(ArrayVec::new());
+        Held { held, to }
     }
 
     /// What is held back, if it is text.

@@ -1,6 +1,5 @@
 //! The words of a command line: the command, its options, and the others.
 
-use crate::files::copy_of;
 use gr_model::memory::Memory;
 
 /// What a command does with the files that it is given.
@@ -121,6 +120,7 @@ impl<'a> Line<'a> {
     /// The path that an option gives, if it is there.
     pub fn path_of(&self, option: &str) -> Result<Option<String>, Memory> {
         let path = self.value_of(option);
-        path.map(|path| copy_of(self.rt.alloc(), path)).transpose()
+        let path = path.map(|path| String::from_str(self.rt.alloc(), path));
+        Ok(path.transpose()?)
     }
 }

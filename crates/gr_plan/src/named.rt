@@ -1,7 +1,7 @@
 //! A word of memory that is given by its name, such as `partial[10]`, and reports about names that no word has, or that words of several
 //! memories have.
 
-use crate::files::{Kind, buffers_of, copy_of, kind_of, launch_in, read_file};
+use crate::files::{Kind, buffers_of, kind_of, launch_in, read_file};
 use crate::line::{Line, Taking};
 use crate::notes::reason_of;
 use crate::plan::Refusal;
@@ -78,7 +78,7 @@ impl Naming<'_, '_> {
     fn refusal(&self, path: &str, lines: &[BufferLine<'_>]) -> Result<Refusal, Memory> {
         let (alloc, why) = (self.line.rt.alloc(), self.why_unnamed(lines)?);
         let name = match self.space {
-            None => copy_of(alloc, self.name)?,
+            None => String::from_str(alloc, self.name)?,
             Some(space) => format!(in alloc; "{space} {}", self.name)?,
         };
         let text = format!(in alloc; "no word is {name}, by the file of buffers {path}: {why}");
@@ -89,12 +89,14 @@ impl Naming<'_, '_> {
     fn why_unnamed(&self, lines: &[BufferLine<'_>]) -> Result<String, Memory> {
         let alloc = self.line.rt.alloc();
         let (buffer, index) = self.parts();
-        let named = lines_that(alloc, lines, |line| line.name == buffer)?;
-        let of_space = lines_that(alloc, &named, |line| self.is_of(line))?;
+        let mut named = Vec::from_slice(alloc, lines)?;
+        named.retain(|line| line.name == buffer);
+        let mut of_space = Vec::from_slice(alloc, &named)?;
+        of_space.retain(|line| self.is_of(line));
         if lines.is_empty() {
-            return copy_of(alloc, "it names no buffer");
+            return Ok(String::from_str(alloc, "it names no buffer")?);
         } else if named.is_empty() {
-            let names = list_of(alloc, lines, |line| copy_of(alloc, line.name))?;
+            let names = list_of(alloc, lines, |line| Ok(String::from_str(alloc, line.name)?))?;
             return Ok(format!(in alloc; "its buffers are {names}")?);
         } else if of_space.is_empty() {
             let spaces = spaces_of(alloc, &named)?;
@@ -112,7 +114,8 @@ impl Naming<'_, '_> {
     fn note(&self, lines: &[BufferLine<'_>], word: Word) -> Result<Option<String>, Memory> {
         let alloc = self.line.rt.alloc();
         let (buffer, _) = self.parts();
-        let named = lines_that(alloc, lines, |line| line.name == buffer)?;
+        let mut named = Vec::from_slice(alloc, lines)?;
+        named.retain(|line| line.name == buffer);
         let (name, space, spaces) = (self.name, space_of(alloc, word)?, spaces_of(alloc, &named)?);
         if spaces == space {
             return Ok(None);
@@ -151,7 +154,8 @@ impl Naming<'_, '_> {
         };
         let bytes = read_file(rt, path.as_str())?;
         let lines = lines_said(rt.alloc(), &bytes).map_err(|fault| Refusal::Fault(fault))?;
-        let of_space = lines_that(rt.alloc(), &lines, |line| self.is_of(line))?;
+        let mut of_space = Vec::from_slice(rt.alloc(), &lines).map_err(Memory::from)?;
+        of_space.retain(|line| self.is_of(line));
         let Some(word) = word_said(&of_space, self.name) else {
             return Err(self.refusal(path.as_str(), &lines)?);
         };
@@ -182,7 +186,7 @@ impl Naming<'_, '_> {
 /// A memory, as the command line writes it.
 fn space_of(alloc: Global, word: Word) -> Result<String, Memory> {
     match word {
-        Word::Global(_) => copy_of(alloc, "g"),
+        Word::Global(_) => Ok(String::from_str(alloc, "g")?),
         Word::Local(group, _) => Ok(format!(in alloc; "l{group}")?),
     }
 }
@@ -193,38 +197,30 @@ pub fn spelling_of(alloc: Global, word: Word) -> Result<(String, String), Memory
     Ok((space_of(alloc, word)?, format!(in alloc; "{number}")?))
 }
 
-/// The lines that pass a test.
-fn lines_that<'a, F: Fn(&BufferLine<'a>) -> bool>(
-    alloc: Global,
-    lines: &[BufferLine<'a>],
-    test: F,
-) -> Result<Vec<BufferLine<'a>>, Memory>
-    requires { F.IsAlwaysCallable test }
-{
-    let mut kept = Vec::from_slice(alloc, lines)?;
-    kept.retain(test);
-    Ok(kept)
-}
-
 /// The texts of lines, each text once.
 fn list_of<F>(alloc: Global, lines: &[BufferLine<'_>], text_of: F) -> Result<String, Memory>
 where
     F: Fn(&BufferLine<'_>) -> Result<String, Memory>,
     requires { F.IsAlwaysCallable text_of }
 {
-    let mut texts: Vec<String> = Vec::new(alloc);
+    let mut list = String::new(alloc);
+    let mut shown: Vec<String> = Vec::new(alloc);
     for line in lines {
-        let text = text_of(line)?;
-        if texts.contains(&text) {
+        let next = text_of(line)?;
+        if shown.contains(&next) {
             continue;
         }
-        if texts.len() >= MOST_SHOWN {
-            let list = texts.join(alloc, ", ")?;
-            return Ok(format!(in alloc; "{list} and others")?);
+        if shown.len() >= MOST_SHOWN {
+            list.push_str(" and others")?;
+            break;
         }
-        texts.push(text)?;
+        if !shown.is_empty() {
+            list.push_str(", ")?;
+        }
+        list.push_str(next.as_str())?;
+        shown.push(next)?;
     }
-    Ok(texts.join(alloc, ", ")?)
+    Ok(list)
 }
 
 /// The memories of lines, each once.

@@ -66,10 +66,8 @@ fn first_error(plan: &Plan, is_read: bool) -> Option<(&str, io::Error)> {
     let files = &plan.files;
     let sides = files.places.iter().chain(&files.buffers);
     let sides = sides.filter(|_| files.takes_sides);
-    let whole = files
-        .names
-        .iter()
-        .filter(|name| !files.has_piece(name.as_str()));
+    let names = files.names.iter();
+    let whole = names.filter(|name| !files.has_piece(name.as_str()));
     let mut names = sides.chain(whole).chain(&plan.reading.names);
     names.find_map(|name| {
         let error = try_file(plan.rt, name.as_str(), is_read).err()?;

@@ -1,6 +1,6 @@
 //! How the words of a command line are done: the words for `gr_command`, its input, and what names open.
 
-use crate::files::{Files, Kind, copies_of, copy_of, kind_of, paths_of_streams};
+use crate::files::{Files, Kind, copies_of, kind_of, paths_of_streams};
 use crate::line::{Line, Taking, is_option, may_be_command, taking_of};
 use crate::named::{Naming, naming_by, spelling_of};
 use crate::progress::Progress;
@@ -96,13 +96,13 @@ impl Plan {
 
     /// How many bytes are read, if that is known.
     fn size(&self) -> Option<u64> {
-        let (given, files) = (&self.reading.names, &self.files);
-        if given.is_empty() && files.names.is_empty() {
-            return files.size_of("/dev/stdin");
+        let (given, names) = (&self.reading.names, &self.files.names);
+        if given.is_empty() && names.is_empty() {
+            return self.files.size_of("/dev/stdin");
         }
-        let mut names = given.iter().chain(&files.names);
+        let mut names = given.iter().chain(names);
         names.try_fold(0_u64, |size, name| {
-            Some(size.saturating_add(files.size_of(name.as_str())?))
+            Some(size.saturating_add(self.files.size_of(name.as_str())?))
         })
     }
 
@@ -165,13 +165,13 @@ fn line_of<'a>(rt: HostRuntime, words: &'a [String]) -> Result<Option<Line<'a>>,
     let Some((first, after)) = words.split_first() else {
         return Ok(None);
     };
-    match taking_of(first.as_str()) {
-        Some(taking) => Ok(Some(Line::of(rt, first.as_str(), taking, after)?)),
-        None if asks_for_report(rt, words) => {
-            Ok(Some(Line::of(rt, "replay", Taking::Joined, words)?))
-        }
-        None => Ok(None),
-    }
+    let first = first.as_str();
+    let line = match taking_of(first) {
+        Some(taking) => Line::of(rt, first, taking, after),
+        None if asks_for_report(rt, words) => Line::of(rt, "replay", Taking::Joined, words),
+        None => return Ok(None),
+    };
+    Ok(Some(line?))
 }
 
 /// Whether words without a command ask for a report: the first word that is not the option of `replay`, if there is one, names a file
@@ -193,7 +193,7 @@ fn files_given(rt: HostRuntime, names: &[&str], keeping: Keeping) -> Result<Vec<
             paths = paths_of_streams(rt, name)?;
         }
         if paths.is_empty() {
-            paths.push(copy_of(rt.alloc(), name)?)?;
+            paths.push(String::from_str(rt.alloc(), name)?)?;
         }
         given.append(&mut paths)?;
     }

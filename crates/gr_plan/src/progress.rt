@@ -51,7 +51,8 @@ impl Progress {
         let Ok(now) = self.rt.monotonic() else {
             return;
         };
-        let passed = u64::try_from(now.saturating_sub(self.begun).as_millis()).unwrap_or(u64::MAX);
+        let passed = now.saturating_sub(self.begun).as_millis();
+        let passed = u64::try_from(passed).unwrap_or(u64::MAX);
         if passed < self.next.load(Ordering::SeqCst) {
             return;
         }
@@ -64,10 +65,8 @@ impl Progress {
     fn report(&self, passed: u64) -> io::Result<()> {
         let hundred = self.bytes.load(Ordering::SeqCst).saturating_mul(100);
         let records = self.records.load(Ordering::SeqCst);
-        let rate = records
-            .saturating_mul(1000)
-            .checked_div(passed)
-            .unwrap_or(0);
+        let rate = records.saturating_mul(1000).checked_div(passed);
+        let rate = rate.unwrap_or(0);
         let mut text = format!(in self.rt.alloc(); "\r{records} records read")?;
         if let Some(part) = self.total.and_then(|total| hundred.checked_div(total)) {
             write!(text, ", {part} %")?;

@@ -38,10 +38,12 @@ impl Sought {
                 writeln!(errors, "gpurace: the launch has no group {group}")
             }
             _ if self.is_accessed => Ok(()),
-            Word::Global(word) => writeln!(
-                errors,
-                "gpurace: no record accesses word {word} of global memory"
-            ),
+            Word::Global(word) => {
+                writeln!(
+                    errors,
+                    "gpurace: no record accesses word {word} of global memory"
+                )
+            }
             Word::Local(group, word) => writeln!(
                 errors,
                 "gpurace: no record accesses word {word} of group {group}'s local memory"

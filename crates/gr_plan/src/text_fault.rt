@@ -57,7 +57,10 @@ fn word_at(line: &[u8], at: usize) -> Option<&[u8]> {
 
 /// The word at this place of a line, or an empty one if the line ends before it.
 fn word_or_none(line: &[u8], at: usize) -> &[u8] {
-    word_at(line, at).unwrap_or(&[])
+    match word_at(line, at) {
+        None => &[],
+        Some(word) => word,
+    }
 }
 
 /// Whether a word is one of these.
