@@ -1,6 +1,5 @@
 -- Values of arguments ask for at most one thing.
-use Rattle.std.proofs.Common.{arith, ◌≡◌, ℕ, List, Some, sym, codes, refl, subst, Result, Ok, Err}
-use Rattle.std.specs.Prelude.{◌↔◌, IfOk, IsOk}
+use Rattle.std.proofs.Common.{arith, ◌≡◌, ℕ, List, Some, sym, codes, refl, subst, Result, Ok, Err, ◌↔◌, IfOk, IsOk}
 use Rattle.std.specs.Result.{result_ok}
 use Rattle.clap.specs.Walk.{Row, Text, first_of}
 use Rattle.gr_model.specs.declared.config.ConfigError.{ConfigError}

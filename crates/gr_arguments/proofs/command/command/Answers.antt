@@ -1,6 +1,5 @@
-use Rattle.std.proofs.Common.{◌≡◌, ◌∙◌, List, Result, ap, codes, true, []}
+use Rattle.std.proofs.Common.{◌≡◌, ◌∙◌, List, Result, ap, codes, true, [], IfOk}
 use Rattle.std.proofs.lemmas.Result.{IfOk-weaker}
-use Rattle.std.specs.Prelude.{IfOk}
 use Rattle.clap.specs.declared.builder.command.Command.{Command}
 use Rattle.clap.specs.Words.{App, app_of, new_app}
 use Rattle.gr_arguments.specs.Commands.{alone}

@@ -1,5 +1,4 @@
-use Rattle.std.proofs.Common.{◌≡◌, ◌∙◌, [], map, subst, sym, Result, Ok, Err}
-use Rattle.std.specs.Prelude.{IsErrAnd}
+use Rattle.std.proofs.Common.{◌≡◌, ◌∙◌, [], map, subst, sym, Result, Ok, Err, IsErrAnd}
 use Rattle.clap.specs.Words.{FailsBy, HasKind, Kinds, app_of}
 use Rattle.clap.specs.declared.error.Error.{Error}
 use Rattle.gr_arguments.specs.Asked.{asked_of}

@@ -1,5 +1,4 @@
-use Rattle.std.proofs.Common.{◌++◌, List, [], ◌∷◌, ℕ, sym, ◌∙◌, ap}
-use Rattle.std.specs.Prelude.{decimal}
+use Rattle.std.proofs.Common.{◌++◌, List, [], ◌∷◌, ℕ, sym, ◌∙◌, ap, decimal}
 use Rattle.std.proofs.lemmas.List.{append_cancel_right}
 use Rattle.std.proofs.lemmas.Option.{MatchOption-at_none, MatchOption-at_some}
 use Rattle.gr_places.specs.Naming.{in_brackets}

@@ -1,5 +1,4 @@
-use Rattle.std.proofs.Common.{◌≡◌, Some}
-use Rattle.std.proofs.lemmas.Bool.{eq-eqb}
+use Rattle.std.proofs.Common.{◌≡◌, Some, eq-eqb}
 use Rattle.gr_places.proofs.NamingLemmas.{same_when}
 use Rattle.gr_places.proofs.naming.is_element.Goals as goal
 

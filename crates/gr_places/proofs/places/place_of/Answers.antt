@@ -1,5 +1,4 @@
-use Rattle.std.proofs.Common.{ap, sym, ◌∙◌}
-use Rattle.std.specs.Option.{option_map}
+use Rattle.std.proofs.Common.{ap, sym, ◌∙◌, option_map}
 use Rattle.gr_places.specs.declared.places.PlaceLine.{PlaceLine}
 use Rattle.gr_places.proofs.Reading.{place_found}
 use Rattle.gr_places.proofs.places.place_of.Goals as goal

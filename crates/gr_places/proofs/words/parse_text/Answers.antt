@@ -1,6 +1,4 @@
-use Rattle.std.proofs.Common.{eqb-true, sym, ap, ◌∙◌, ◌≡◌, true, length}
-use Rattle.std.specs.Option.{option_map}
-use Rattle.std.proofs.lemmas.Bool.{eq-eqb}
+use Rattle.std.proofs.Common.{eqb-true, sym, ap, ◌∙◌, ◌≡◌, true, length, option_map, eq-eqb}
 use Rattle.gr_places.proofs.Reading.{text_none, text_read}
 use Rattle.gr_places.proofs.words.parse_text.Goals as goal
 

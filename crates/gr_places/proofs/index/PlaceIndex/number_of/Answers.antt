@@ -1,5 +1,4 @@
-use Rattle.std.proofs.Common.{ap, sym, ◌∙◌}
-use Rattle.std.specs.Option.{option_and_then}
+use Rattle.std.proofs.Common.{ap, sym, ◌∙◌, option_and_then}
 use Rattle.gr_text.specs.LineReading.{same}
 use Rattle.gr_places.specs.PlaceIndexes.{Indexed, number_in}
 use Rattle.gr_places.proofs.index.PlaceIndex.number_of.Goals as goal
