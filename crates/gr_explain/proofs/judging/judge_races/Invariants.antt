@@ -4,4 +4,4 @@ use Rattle.gr_explain.specs.Judged.{AreJudgements}
 use Rattle.gr_explain.proofs.judging.judge_races.Given as goal
 
 abbrev pub invariant-loop-race : goal.invariant-loop-race
-invariant-loop-race g l = AreJudgements (read_by (g.R.Reading.read_as l.reading) l.traces) (take l.race-index l.races) l.judgements.items
+invariant-loop-race g l = AreJudgements (read_by (g.R.Reading.read_as l.fn.reading) l.traces) (take l.race-index l.races) l.judgements.items
