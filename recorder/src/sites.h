@@ -5,8 +5,8 @@
 namespace gpurace {
 
 // The first seven are those of a record (docs/FORMATS.md). A compare-exchange is recorded as a read-modify-write where
-// it succeeds, and as a load where it fails. Fences and images are counted alone.
-enum SiteKind { READ, WRITE, LOAD, STORE, MODIFY, BARRIER, END, COMPARE_EXCHANGE, FENCE, IMAGE };
+// it succeeds, and as a load where it fails; a wait for copies is recorded as a barrier. Fences and images are only counted.
+enum SiteKind { READ, WRITE, LOAD, STORE, MODIFY, BARRIER, END, COMPARE_EXCHANGE, FENCE, IMAGE, WAIT };
 
 // The memory of a site; of a generic pointer the runtime finds out.
 enum SiteSpace { GLOBAL, LOCAL, GENERIC };

@@ -194,6 +194,36 @@ kernel void copies_together(global const int *in, global int *out) { // of one e
     wait_group_events(1, &copy);
     out[get_global_id(0)] = tile[63 - get_local_id(0)];
 }
+kernel void waits(global const int *in, global int *out, int wrong) { // a wait is no barrier
+    local int tile[64], turned[64];
+    const int l = get_local_id(0);
+    event_t copy = async_work_group_copy(tile, in + get_group_id(0) * 64, 64, 0);
+    turned[63 - l] = l;
+    wait_group_events(1, &copy);
+    if (!wrong) barrier(CLK_LOCAL_MEM_FENCE);
+    out[get_global_id(0)] = tile[63 - l] + turned[l];
+}
+kernel void wait_again(global int *out) { // a copy's memory is free again after the wait
+    local int tile[64];
+    const int l = get_local_id(0);
+    global int *part = out + get_group_id(0) * 64;
+    for (int round = 0; round < 3; round++) {
+        tile[l] = round + l;
+        barrier(CLK_LOCAL_MEM_FENCE);
+        event_t copy = async_work_group_copy(part, tile, 64, 0);
+        wait_group_events(1, &copy);
+        part[63 - l] += 1;
+        barrier(CLK_GLOBAL_MEM_FENCE);
+    }
+}
+kernel void wait_of_some(global const int *in, global int *out) {
+    local int tile[64];
+    const int l = get_local_id(0);
+    event_t copy = async_work_group_copy(tile, in + get_group_id(0) * 64, 64, 0);
+    if (l < 16) wait_group_events(1, &copy);
+    out[get_global_id(0)] = tile[63 - l];
+}
+kernel void adds_floats(global const int *in, global float *sum) { sum[get_group_id(0)] += in[get_global_id(0)]; }
 kernel void divergent(global int *out) {
     local int tile[64];
     const int l = get_local_id(0);
@@ -378,13 +408,22 @@ def cases():
     yield Case("vectors_right", [zeros * 4, zeros * 4], 0, {1: [1] * 4 * ALL})
     yield Case("vectors_wrong", [zeros * 4, zeros * 4], ALL - 1)
     yield Case("copies_right", [list(range(2 * ALL)), zeros], 0, {1: [2 * (g * 64 + 63 - l) for g in range(GROUPS) for l in range(ITEMS)]})
-    behind = "nothing orders the two; wait_group_events behind the copy would, or, if the copy comes last, a barrier before it"
-    yield Case("copies_wrong", [list(range(ALL)), zeros], ALL, say=(behind,))  # each word of each tile
-    yield Case("copies_unwaited", [list(range(ALL)), zeros], ALL, say=(behind,))
+    after = "nothing orders the two; wait_group_events after the copy would, or, if the copy comes last, a barrier before it"
+    yield Case("copies_wrong", [list(range(ALL)), zeros], ALL, say=(after,))  # each word of each tile
+    yield Case("copies_unwaited", [list(range(ALL)), zeros], ALL, say=(after,))
     mirrored = [g * 64 + 63 - l for g in range(GROUPS) for l in range(ITEMS)]
     yield Case("copies_ahead", [list(range(ALL)), zeros, 0], 0, {1: [sum(both) for both in zip(mirrored, range(ALL))]})
-    yield Case("copies_ahead", [list(range(ALL)), zeros, 1], ALL, say=(behind,))  # the first tile
+    yield Case("copies_ahead", [list(range(ALL)), zeros, 1], ALL, say=(after,))  # the first tile
     yield Case("copies_together", [list(range(ALL)), zeros], 0, {1: mirrored})
+    turned = [it + 63 - at % 64 for at, it in enumerate(mirrored)]
+    yield Case("waits", [list(range(ALL)), zeros, 0], 0, {1: turned})
+    yield Case("waits", [list(range(ALL)), zeros, 1], ALL, {1: turned}, say=(
+        " waits for copies and is no barrier: put a barrier with CLK_LOCAL_MEM_FENCE between the two",))  # each word of `turned`
+    yield Case("wait_again", [zeros], 0, {0: [3 + at % 64 for at in range(ALL)]})
+    yield Case("wait_of_some", [list(range(ALL)), zeros], 48 * GROUPS, {}, diverge=GROUPS,
+               say=(after, "16 work-items, the first is item 0"))  # what the others read
+    yield Case("adds_floats", [numbers(), (0.5,) * GROUPS], GROUPS, unsaid="atomic_inc", say=(
+        "use a loop of atomic_cmpxchg on the bits (OpenCL C has no atomic_add of float), or give each item a word of its own: each item",))
     for order, scope, races in ((1, 1, 0), (0, 1, 1), (1, 0, 2)):
         yield Case("orders", [[0], [0] * GROUPS, order, scope], races, {1: [42] * GROUPS})
     yield Case("divergent", [zeros], ALL, diverge=GROUPS)  # a divergent barrier orders nothing

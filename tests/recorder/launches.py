@@ -71,7 +71,7 @@ race on tile[0] of group 0
         tile[l] = input[l];
     kernel.cl:5:20: write by group 0, asynchronous copy
         tile[l] += tile[l + 8];
-    nothing orders the two; wait_group_events behind the copy would, or, if the copy comes last, a barrier before it
+    nothing orders the two; wait_group_events after the copy would, or, if the copy comes last, a barrier before it
 """)
 
     def test_equal_values(self):
@@ -308,7 +308,8 @@ race on global word 5
 
     def test_items_that_count_at_one_line(self):
         """Items of one group, and of two, count at line 4 of a file, or in two steps; between the two another word is read. An atomic comes first."""
-        atomic = "use an atomic, such as atomic_inc, atomic_add or atomic_fetch_add: each item reads the word and writes it at this line; without it"
+        atomic = "use an atomic (of an int, such as atomic_inc or atomic_add; of a float, a loop of atomic_cmpxchg): each item reads the word and " \
+                 "writes it at this line; without it"
         counts = "r g 5", "r g 9", "w g 5"
         one_group = ["group 0 items 2 launch 7\n" + "".join(f"{item} {step}\n" for item in (0, 1) for step in counts) + "end\n"]
         two_groups = [f"group {group} items 1 launch 7\n" + "".join(f"0 {step}\n" for step in counts) + "end\n" for group in (0, 1)]
@@ -319,6 +320,32 @@ race on global word 5
             for places in (at_one_line.replace("a.cl:4:5", "a.cl:5:5"), at_one_line.replace(f"{items[1]} 2 a.cl:4:5", f"{items[1]} 2 b.cl:4:5")):
                 launch = self.judged(streams, {"places": places})
                 self.assertEqual({it.message for it in launch.findings}, {said})
+
+    def test_what_counts_by_its_type(self):
+        """Two items count in element 1 of a buffer at one line: what is advised is there for its type."""
+        streams = ["group 0 items 2 launch 7\n" + "".join(f"{item} {kind} g 5\n" for item in (0, 1) for kind in "rw") + "end\n"]
+        places = "".join(f"0 {item} {index} kernel.cl:1:9\n" for item in (0, 1) for index in (0, 1))
+        for kind, advice in (("uint", "use an atomic, such as atomic_inc, atomic_add or atomic_fetch_add: "), ("atomic_int", "use an atomic (of an int, "),
+                             ("ulong", "use an atomic, such as atom_inc or atom_add (of cl_khr_int64_base_atomics) or atomic_fetch_add: "),
+                             ("float4", "use a loop of atomic_cmpxchg on the bits (OpenCL C has no atomic_add of float), or give each item "),
+                             ("double", "use a loop of atom_cmpxchg on the bits (OpenCL C has no atomic_add of double), or give each item "),
+                             ("short", "use an atomic of an int, such as atomic_inc or atomic_add (OpenCL C has none of short): "),
+                             ("real", "use an atomic (of an int, such as atomic_inc or atomic_add; of a float, a loop of atomic_cmpxchg): ")):
+            files = {"info.txt": INFO, "places": places, "buffers": "g 4 9 bins\n", "kernel.cl": f"kernel void sums(global {kind} *bins) {{ bins[1]++; }}\n"}
+            for it in self.judged(streams, files).findings:
+                self.assertTrue(it.message.startswith(advice), it.message)
+
+    def test_a_wait_is_no_barrier(self):
+        """Item 0 writes before a wait for copies what item 1 reads after it, or what the copy reads on."""
+        files = {**SIDES, "info.txt": INFO + "copying-item 0 2\nwait 3\n", "places": "3 kernel.cl:4:5\n"}
+        for streams, message in (
+                (["group 0 items 3 launch 7\n0 w l 64\n0 bar 3 -\n1 bar 3 -\n2 bar 3 -\n1 r l 64\nend\n"],
+                 "wait_group_events at kernel.cl:4:5 waits for copies and is no barrier: put a barrier with CLK_LOCAL_MEM_FENCE between the two"),
+                (["group 0 items 3 launch 7\n0 w l 64\n0 bar 3 -\n1 bar 3 -\n2 bar 3 -\n2 r l 64\nend\n"],
+                 "nothing orders the two; wait_group_events after the copy would, or, if the copy comes last, a barrier before it"),
+                (["group 0 items 3 launch 7\n0 w l 64\n0 bar 3 -\n1 bar 3 -\n2 bar 3 -\n0 bar 4 g\n1 bar 4 g\n2 bar 4 g\n1 r l 64\nend\n"],
+                 "the barrier at site 4 does not order local memory: give it CLK_LOCAL_MEM_FENCE")):
+            self.assertEqual([it.message for it in self.judged(streams, files).findings], [message])
 
     def test_a_barrier_within_one_line_is_no_count(self):
         """Each item reads the word in front of a barrier, and writes it behind."""

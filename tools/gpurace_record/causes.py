@@ -5,15 +5,21 @@ from typing import List, NamedTuple, Optional
 
 DEVICE, GROUP = "`memory_scope_device`", "`memory_scope_work_group`"
 NAMES = {"load": "load", "store": "store", "rmw": "read-modify-write"}  # of atomics
-COPY = "nothing orders the two; wait_group_events behind the copy would, or, if the copy comes last, a barrier before it"
+COPY = "nothing orders the two; wait_group_events after the copy would, or, if the copy comes last, a barrier before it"
 GROUPS = ("nothing orders the two, and a barrier never orders two groups; a second kernel, a word for each group, or a release that an acquire takes, "
           "at memory_scope_device, would mend it")
-ATOMIC = "use an atomic, such as atomic_inc, atomic_add or atomic_fetch_add: each item reads the word and writes it at this line"
+WHOLE = "use an atomic, such as atomic_inc, atomic_add or atomic_fetch_add"
+LONG = "use an atomic, such as atom_inc or atom_add (of cl_khr_int64_base_atomics) or atomic_fetch_add"
+NARROW = "use an atomic of an int, such as atomic_inc or atomic_add (OpenCL C has none of {})"
+REAL = "use a loop of {} (OpenCL C has no atomic_add of {}), or give each item a word of its own"
+ADVICE = {"int": WHOLE, "uint": WHOLE, "long": LONG, "ulong": LONG, "float": REAL.format("atomic_cmpxchg on the bits", "float"),
+          "double": REAL.format("atom_cmpxchg on the bits", "double"), **{kind: NARROW.format(kind) for kind in ("char", "uchar", "short", "ushort", "half")}}
+UNKNOWN = "use an atomic (of an int, such as atomic_inc or atomic_add; of a float, a loop of atomic_cmpxchg)"
 FLAGS = {"global": (1, "CLK_GLOBAL_MEM_FENCE"), "local": (2, "CLK_LOCAL_MEM_FENCE")}
 
 
 class At(NamedTuple):
-    """An access, a release or an acquire, and where it stands."""
+    """An access, a release or an acquire, and its place."""
     what: str
     place: str
     scope: str = ""
@@ -22,25 +28,27 @@ class At(NamedTuple):
 
 
 class Barrier(NamedTuple):
-    """A barrier that one of the two accesses is behind and the other is not."""
+    """A barrier that one of the two accesses comes after and the other does not."""
     place: str
     flags: int
     is_divergent: bool
+    is_wait: bool = False  # it is a wait_group_events
 
 
 class Pair(NamedTuple):
-    """The two accesses of a race, and what of their items' records stands between them."""
+    """The two accesses of a race, and what their items did between them."""
     space: str
     is_one_group: bool
     first: At
     second: At
     barriers: List[Barrier]
-    release: Optional[At]  # behind the first access
+    release: Optional[At]  # after the first access
     acquire: Optional[At]  # before the second one
     are_updates: bool = False  # both items read the word and write it next, as `++` does
     is_one_line: bool = False  # both items read the word and write it at one line, the same
-    store: Optional[At] = None  # an atomic of a word behind the one access, and one of the same word before the other
+    store: Optional[At] = None  # an atomic of a word after the one access, and one of the same word before the other
     load: Optional[At] = None
+    kind: str = ""              # the type of the word, where the kernel's text says it
 
 
 def sentence(name: str, said: str, pair: Pair) -> str:
@@ -51,10 +59,13 @@ def sentence(name: str, said: str, pair: Pair) -> str:
 
 def of_flags(_: str, pair: Pair) -> str:
     bit, flag = FLAGS[pair.space]
-    for barrier in pair.barriers:
-        if not barrier.is_divergent and not barrier.flags & bit:
+    weak = [barrier for barrier in pair.barriers if not barrier.is_divergent and not barrier.flags & bit]
+    for barrier in weak:
+        if not barrier.is_wait:
             return f"the barrier at {barrier.place} does not order {pair.space} memory: give it {flag}"
-    return ""
+    if weak and (pair.first.is_copy or pair.second.is_copy):
+        return COPY
+    return weak and f"wait_group_events at {weak[0].place} waits for copies and is no barrier: put a barrier with {flag} between the two"
 
 
 def of_scope(_: str, pair: Pair) -> str:
@@ -84,7 +95,7 @@ def of_nothing(said: str, pair: Pair) -> str:
     if weak:
         said += f": {weak}"
     elif pair.is_one_line:
-        return f"{ATOMIC}; without it {said if pair.is_one_group else GROUPS}"
+        return f"{ADVICE.get(pair.kind, UNKNOWN)}: each item reads the word and writes it at this line; without it {said if pair.is_one_group else GROUPS}"
     if pair.are_updates:
         return f"{said}; or make each item's read and write of the word one atomic operation"
     return said if weak else ""

@@ -18,6 +18,7 @@ class Element(NamedTuple):
     words: float
     components: int
     stored: int        # components, as memory has them
+    kind: str          # of a component
 
 
 def text_of_kernel(text: str, kernel: str) -> str:
@@ -46,7 +47,7 @@ class Elements:
         kind, number = types.pop()
         components = int(number or 1)
         stored = 4 if components == 3 else components
-        return Element(plain, BYTES[kind] * stored / GRAINS.get(grain if plain != name else "", 4), components, stored)
+        return Element(plain, BYTES[kind] * stored / GRAINS.get(grain if plain != name else "", 4), components, stored, kind)
 
 
 def component(number: int, components: int) -> str:

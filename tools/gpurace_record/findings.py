@@ -182,6 +182,7 @@ class Reader:
         self.kernel = info["kernel"][0] if info["kernel"] else ""
         self.elements = Elements(folder, self.kernel)
         self.shape, self.texts, self.buffers, self.equal = Shape(info), Texts(folder), buffers_of(folder), equal_of(folder)
+        self.waits = {int(site) for site in info["wait"]}
         lines = [line.split() for line in report]
         self.cut = {int(line[1]) for line in lines if line[0] == "cut"}
         self.divergent = {(int(line[1]), int(line[2])): line[3] for line in lines if line[0] == "diverge"}
@@ -238,13 +239,14 @@ class Reader:
                           maps=self.maps(said["space"], runs))
         finding.is_equal = (said["first"], said["second"]) == ("write", "write") and all(
             any(it.first <= run.first and run.last <= it.last for it in self.equal.get(run.group, ())) for run in runs)
+        buffer = race["buffer"]
+        element = self.elements.of(buffer["name"]) if buffer else None
         pair = self.pair(said, race, accesses)
         if pair:
             self.put_marks((race["first"], race["second"]), accesses)
-            finding.message = causes.sentence(finding.cause, finding.message, pair)
-        buffer = race["buffer"]
+            finding.message = causes.sentence(finding.cause, finding.message, pair._replace(kind=element.kind if element else ""))
         number = buffer["index"] if buffer else race["word"]["number"]
-        shown = name_of(buffer["name"] if buffer else "", said["space"], [(number, number)], 1, self.elements.of(buffer["name"]) if buffer else None)
+        shown = name_of(buffer["name"] if buffer else "", said["space"], [(number, number)], 1, element)
         finding.shown = shown + ("" if group is None else f" of {self.shape.group_told(group)}")
         return finding
 
@@ -328,13 +330,16 @@ class Reader:
         return lines.pop() if len(lines) == 1 else ""
 
     def hand_over(self, one: Dict[str, Any], other: Dict[str, Any]) -> Tuple[Optional[causes.At], Optional[causes.At]]:
-        """The release of an event's item behind it, and the acquire of another event's item before that one, where there are such."""
-        behind = [step for step in self.groups[one["group"]].steps[one["item"]] if step.at > one["index"] and step.is_release()]
-        before = [step for step in self.groups[other["group"]].steps[other["item"]] if step.at < other["index"] and step.is_acquire()]
-        return self.at(one, behind[0]) if behind else None, self.at(other, before[-1]) if before else None
+        """The release of an event's item after it, and the acquire of another event's item before that one, where there are such. What waits for
+        copies is none: the item that copies hands nothing else over."""
+        after = [step for step in self.groups[one["group"]].steps[one["item"]] if step.at > one["index"] and step.is_release()
+                 and not self.shape.is_copying(one["group"], one["item"])]
+        before = [step for step in self.groups[other["group"]].steps[other["item"]] if step.at < other["index"] and step.is_acquire()
+                  and not any(self.shape.is_copying(group, item) for group, item, _ in step.names)]
+        return self.at(one, after[0]) if after else None, self.at(other, before[-1]) if before else None
 
     def meeting(self, one: Dict[str, Any], other: Dict[str, Any]) -> Optional[Tuple[causes.At, causes.At]]:
-        """An atomic that stores, of an event's item behind it, and one that loads the same word, of another event's item before that one."""
+        """An atomic that stores, of an event's item after it, and one that loads the same word, of another event's item before that one."""
         stores, loads = (self.groups[event["group"]].atomics[event["item"]] for event in (one, other))
         words = [word for word, step in stores.stores.items()
                  if step.at > one["index"] and word in loads.loads and loads.loads[word].at < other["index"]]
@@ -351,7 +356,7 @@ class Reader:
         number, group = first["group"], self.groups[first["group"]]
         phases = sorted((group.phase(event["item"], event["index"]), event["item"]) for event in (first, second))
         steps = group.barriers[phases[1][1]]
-        return [causes.Barrier(self.places.site(steps[at].word), steps[at].space, (number, at) in self.divergent)
+        return [causes.Barrier(self.places.site(steps[at].word), steps[at].space, (number, at) in self.divergent, steps[at].word in self.waits)
                 for at in range(phases[0][0], phases[1][0])]
 
     def maps(self, space: str, runs: List[Run]) -> List[Map]:
@@ -383,6 +388,8 @@ class Reader:
         """The items of a group by the place of their barrier, which is empty where they had none: it, how many, and the first."""
         came: Dict[str, List[int]] = collections.defaultdict(list)
         for item, barriers in enumerate(self.groups[number].barriers):
+            if self.shape.is_copying(number, item):
+                continue
             came[self.places.site(barriers[instance].word) if instance < len(barriers) else ""].append(item)
         return tuple((place, len(items), items[0]) for place, items in came.items())
 

@@ -129,6 +129,9 @@ expect "a window of it" 2 "(32 groups of 64 work-items, 2080 records)" "groups 9
 expect "a copy that is waited for" 0 "copy_tiles: nothing found" -- --build-options -DWAIT=1 copy_tiles.sim
 expect "a copy that is not" 1 "races 16 diverge 0" "kernel.cl:6:[0-9]*: write by group 0, asynchronous copy" \
     "event_t copied = async_work_group_copy(tile, input + first, 8, 0);" -- --build-options -DWAIT=0 copy_tiles.sim
+expect "a barrier beside a wait" 0 "waits: nothing found" -- waits.sim
+expect "a wait that is no barrier" 1 "races 16 diverge 0" "race on turned\[0..7\] of 2 groups" \
+    "wait_group_events at kernel.cl:8:5 waits for copies and is no barrier" -- --build-options -DWRONG waits.sim
 # two copies of one input under way: the second one writes what is read before it is waited for
 expect "two copies of the same" 1 "races 16 diverge 0" "kernel.cl:8:[0-9]*: write by group 0, asynchronous copy" \
     "copied = async_work_group_copy(other, input + first, 8, copied);" -- --build-options -DWAIT=2 copy_tiles.sim

@@ -101,6 +101,9 @@ private:
     std::vector<Reached> all_;
 };
 
+// The buffer of the word by which copies are handed over, which the simulator has not.
+constexpr uint32_t WAITS = UINT32_MAX;
+
 // A buffer, by its number in the simulator's memory. `bits` joins the offsets and sizes of all accesses to it.
 struct Buffer {
     uint64_t bytes = 0, bits = 0;
@@ -109,7 +112,9 @@ struct Buffer {
     uint32_t grain = 4;              // the bytes of a word of it
 
     uint64_t words() const { return (bytes + grain - 1) / grain; }
-    std::string name_or(uint32_t number) const { return name.empty() ? "buffer" + std::to_string(number) : name; }
+    std::string name_or(uint32_t number) const {
+        return number == WAITS ? "wait_group_events" : name.empty() ? "buffer" + std::to_string(number) : name;
+    }
 };
 
 using Buffers = std::array<std::map<uint32_t, Buffer>, 2>; // by space, by number
@@ -175,6 +180,9 @@ struct Group {
     uint32_t number = 0, items = 0;
     bool is_kept = false;            // it is in the window that is recorded
     bool has_copies = false;         // asynchronous copies, which one more item does
+    bool has_copied = false;         // it has since the last barrier
+    uint32_t copier_releases = 0;
+    std::vector<uint16_t> waiting;   // the items that have come to a wait for copies
     bool is_complete = false, is_full = false;
     std::deque<Record> records;      // which grows without copies
     std::vector<uint32_t> releases;  // of each item, its release operations so far
@@ -183,7 +191,7 @@ struct Group {
     Copies copies;
     Places places;
     std::vector<uint32_t> launch_places; // their numbers in the launch, when that has ended
-    std::set<uint32_t> barriers;         // places
+    std::set<uint32_t> barriers, waits;  // places; waits are barriers too
     std::vector<Names> names; // their numbers count release operations, whatever number of words each has
     Buffers buffers;
     Sequences sequences;      // of local memory
@@ -219,6 +227,7 @@ struct Launch {
     Places reached;                      // of all groups
     std::vector<std::string> places;     // the texts of those
     std::map<uint32_t, uint64_t> sites;  // of those that are barriers, the sites
+    std::set<uint32_t> waits;            // those that are waits for copies
     std::map<uint32_t, Outside> outside; // by place
 
     // The group has ended, or the launch has before it.
@@ -237,6 +246,7 @@ struct Launch {
             for (const auto &[at, call] : group.places.all()) // a call is there before what it leads to
                 group.launch_places.push_back(reached.number_of({at, call == Places::NO_CALL ? call : group.launch_places[call]}));
             for (const uint32_t place : group.barriers) sites[group.launch_places[place]] = 0;
+            for (const uint32_t place : group.waits) waits.insert(group.launch_places[place]);
             for (const auto &[place, of_group] : group.outside) {
                 const auto [all, is_first] = outside.emplace(group.launch_places[place], of_group);
                 if (!is_first) all->second.count += of_group.count;

@@ -124,7 +124,8 @@ public:
         group.places.close();
         if (!group.is_kept && group.outside.empty()) launch_->group.erase(group.number);
     }
-    // The item that does the asynchronous copies passes every barrier of its group.
+    // The item that does the asynchronous copies passes every barrier of its group. A wait is a barrier that names no memory: all items must
+    // come to it, but it orders none of them with another. What it ends is handed over by releases of that item, which the others acquire.
     void workGroupBarrier(const WorkGroup *work_group, uint32_t) override {
         if (!launch_) return;
         running.held.release(); // of the copies
@@ -133,6 +134,9 @@ public:
         Record record = group.last_barrier;
         record.item = uint16_t(group.items);
         group.keep(record);
+        if (group.has_copied) hand_over_copies(group);
+        group.has_copied = false;
+        group.waiting.clear();
     }
 
     void instructionExecuted(const WorkItem *item, const llvm::Instruction *instruction, const TypedValue &) override {
@@ -313,8 +317,27 @@ private:
         if (place == Copies::NONE) place = group.places.number_of({work_group->getCurrentBarrier(), Places::NO_CALL});
         const auto record = record_of(memory, group, place, uint16_t(group.items), kind, address, size);
         if (!record) return;
-        group.has_copies = true;
+        group.has_copies = group.has_copied = true;
         keep(group, *record);
+    }
+    // Of both memories, each by a word of its own.
+    void hand_over_copies(Group &group) {
+        const auto copier = uint16_t(group.items);
+        for (const gpurace_space space : {GPURACE_GLOBAL, GPURACE_LOCAL}) {
+            const uint8_t scope = space == GPURACE_LOCAL ? GPURACE_GROUP : GPURACE_DEVICE;
+            Buffer &buffer = group.buffers[space][WAITS];
+            buffer.bytes = buffer.bits = 4;
+            Record record{0, WAITS, group.last_barrier.place, 4, -1, copier, GPURACE_STORE, uint8_t(space), scope, GPURACE_RELEASE};
+            group.keep(record);
+            if (group.is_kept) group.names.push_back({{group.number, copier, scope, group.copier_releases++}});
+            record.names = int32_t(group.names.size()) - 1;
+            record.kind = GPURACE_LOAD;
+            record.order = GPURACE_ACQUIRE;
+            for (const uint16_t item : group.waiting) {
+                record.item = item;
+                group.keep(record);
+            }
+        }
     }
     void keep(Group &group, const Record &record) {
         if (record.kind == GPURACE_WRITE && record.space == GPURACE_LOCAL) group.sequences.write(word_of(record), record.size);
@@ -326,7 +349,7 @@ private:
     }
 
     void barrier(const WorkItem *item, const llvm::CallInst *call, Call kind) {
-        uint32_t flags = GPURACE_GLOBAL_FENCE | GPURACE_LOCAL_FENCE; // of wait_group_events
+        uint32_t flags = kind == Call::wait ? GPURACE_NO_FENCE : GPURACE_GLOBAL_FENCE | GPURACE_LOCAL_FENCE;
         if (kind == Call::barrier && call->arg_size() > 0) {
             const uint64_t given = item->getOperand(call->getArgOperand(0)).getUInt();
             flags = (given & CLK_GLOBAL_MEM_FENCE ? GPURACE_GLOBAL_FENCE : GPURACE_NO_FENCE) |
@@ -336,6 +359,10 @@ private:
         group.last_barrier = {0, 0, place_of(group, item), flags, -1, item_of(item), GPURACE_BARRIER, 0, 0, 0};
         group.has_barrier = true;
         group.barriers.insert(group.last_barrier.place);
+        if (kind == Call::wait) {
+            group.waits.insert(group.last_barrier.place);
+            group.waiting.push_back(item_of(item));
+        }
         group.keep(group.last_barrier);
     }
 

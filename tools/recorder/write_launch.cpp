@@ -234,6 +234,9 @@ private:
         for (const auto &[number, group] : launch_.group)
             if (group.is_kept && group.has_copies)
                 out << "copying-item " << launch_.window.number_of(number) << ' ' << group.items << '\n';
+        std::set<uint64_t> waits;
+        for (const uint32_t place : launch_.waits) waits.insert(launch_.sites.at(place));
+        for (const uint64_t site : waits) out << "wait " << site << '\n';
         write_losses(out);
         return show_info(out);
     }

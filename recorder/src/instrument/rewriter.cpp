@@ -288,11 +288,12 @@ private:
         at->eraseFromParent();
     }
 
-    // CLK_LOCAL_MEM_FENCE is 1 and CLK_GLOBAL_MEM_FENCE 2; items may give different flags. A wait for copies has both, and its events.
+    // CLK_LOCAL_MEM_FENCE is 1 and CLK_GLOBAL_MEM_FENCE 2; items may give different flags. A wait for copies has its events.
     void put_barrier(CallInst &call) {
         Builder builder(&call);
-        Value *number = builder.getInt32(site(call, BARRIER, nullptr, 0));
-        if (name_of(call) == "wait_group_events") {
+        const bool is_wait = name_of(call) == "wait_group_events";
+        Value *number = builder.getInt32(site(call, is_wait ? WAIT : BARRIER, nullptr, 0));
+        if (is_wait) {
             Value *count = builder.CreateZExtOrTrunc(call.getArgOperand(0), builder.getInt32Ty());
             call_runtime(builder, "gr_wait", builder.getVoidTy(), {number, count, plain(builder, call.getArgOperand(1))});
         } else {

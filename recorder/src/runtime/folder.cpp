@@ -21,6 +21,8 @@ std::string shape_of(const Request &request) {
     if (request.window.count() < range.group_count()) text += request.window.lines();
     for (uint64_t group = 0; request.kernel->has_copies && group < request.window.count(); group++)
         text += "copying-item " + std::to_string(group) + ' ' + std::to_string(range.items_of_group()) + '\n';
+    for (size_t site = 0; site < request.program->sites.size(); site++)
+        if (request.program->sites[site].kind == WAIT) text += "wait " + std::to_string(site) + '\n';
     return text;
 }
 
@@ -28,6 +30,7 @@ std::string buffers_of(const Launch &launch) {
     std::string text;
     const auto add = [&](const std::string &memory, const std::vector<Span> &spans) {
         for (const Span &span : spans) text += buffer_line(memory, span.first_word, span.words(), span.name, span.grain);
+        if (launch.request.kernel->has_copies) text += buffer_line(memory, word_of_waits(spans), 1, "wait_group_events", 4);
     };
     add("g", launch.spans);
     const std::vector<Entry> &entries = launch.request.entries;

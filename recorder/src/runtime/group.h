@@ -100,6 +100,7 @@ private:
 };
 
 struct Group {
+    static constexpr uint32_t NOTHING = UINT32_MAX;
     Launch *launch;
     uint64_t number;
     uint32_t window;                          // its number in the trace
@@ -117,7 +118,8 @@ struct Group {
     uint8_t *memory = nullptr, *stacks = nullptr;
     std::optional<Stream> stream;             // of a group that is recorded
     std::optional<StoredValues> stored;       // in local memory
-    uint32_t copier_records = 0, copier_phase = 0; // how many barriers it has passed
+    uint32_t copier_records = 0, copier_releases = 0, copier_phase = 0; // how many barriers and waits it has passed
+    uint32_t handed = NOTHING;                // the first of the copier's two releases at the wait that was passed last
     uint32_t last_barrier = 0;                // the site of item 0's
     uint8_t last_flags = 0;
     uint64_t events = 0;                      // of copies

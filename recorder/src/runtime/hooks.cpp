@@ -236,11 +236,12 @@ void go_on_behind_barrier(Group &group, Copy &copy) {
     copy.is_behind_barrier = true;
 }
 
+bool is_waited(const Copy &copy) { return copy.is_waited; }
+
 void forget_waited(Group &group) {
     for (const Copy &copy : group.copies)
         if (copy.is_waited && copy.is_behind_barrier && !group.launch->has_names)
             for_each_word(group, copy, [&](int space, uint32_t word, uint32_t site) { group.copied.remove(space, word, site); });
-    const auto is_waited = [](const Copy &copy) { return copy.is_waited; };
     group.copies.erase(std::remove_if(group.copies.begin(), group.copies.end(), is_waited), group.copies.end());
 }
 
@@ -252,6 +253,31 @@ void come_to_barrier(Item &item, uint32_t number, uint8_t flags) {
     item.last_site = UINT32_MAX;
     item.state = STANDS;
     item.rest();
+}
+
+// A release or an acquire of each memory, as the one at which copies are handed over: `use` gets its head and its word.
+template <class Use> void for_each_memory(const Group &group, size_t item, int kind, uint8_t order, Use use) {
+    use(head_of(uint32_t(item), uint8_t(kind), GLOBAL, GPURACE_DEVICE, order), uint32_t(word_of_waits(group.launch->spans)));
+    use(head_of(uint32_t(item), uint8_t(kind), LOCAL, GPURACE_GROUP, order), uint32_t(word_of_waits(group.spans)));
+}
+
+// The item that does copies releases what it has done at the wait to which item 0 has come.
+void release_copies(Group &group) {
+    group.handed = group.copier_releases;
+    for_each_memory(group, group.items.size(), STORE, GPURACE_RELEASE, [&](uint64_t head, uint32_t word) {
+        group.put(group.copier_records, group.launch->sites[group.last_barrier], head, word);
+        group.copier_releases++;
+    });
+}
+
+void acquire_copies(Item &item, uint32_t number) {
+    Group &group = *item.group;
+    if (group.handed == Group::NOTHING || !group.records_now()) return;
+    Name name{group.window, uint32_t(group.items.size()), 0, group.handed};
+    for_each_memory(group, item.number, LOAD, GPURACE_ACQUIRE, [&](uint64_t head, uint32_t word) {
+        group.put(item.records, group.launch->sites[number], head, word, &name, 1);
+        name.number++;
+    });
 }
 
 } // namespace
@@ -271,12 +297,14 @@ HOOK void gr_barrier(void *state, uint32_t number, uint32_t flags) {
     come_to_barrier(item_of(state), number, uint8_t((flags & 1) << 1 | (flags >> 1 & 1))); // a trace has global memory first
 }
 
-// A barrier behind which the copies of these events are done.
+// All items must come to a wait, but it orders none of them with another: it is recorded as a barrier that names no memory. After it the
+// copies of these events are done, and each item acquires them.
 HOOK void gr_wait(void *state, uint32_t number, uint32_t count, const uint64_t *events) {
     Item &item = item_of(state);
     if (item.number == 0)
         for (Copy &copy : item.group->copies) copy.is_waited = std::find(events, events + count, copy.event) != events + count;
-    come_to_barrier(item, number, 3);
+    come_to_barrier(item, number, 0);
+    acquire_copies(item, number);
 }
 
 // One more item of the group does the copies. Answers the copy's event, which may be that of an earlier copy.
@@ -314,15 +342,17 @@ HOOK void *gr_print(void *state) {
 HOOK void gr_printed(void *) { printing.unlock(); }
 }
 
-// The item that does copies passes the barriers of item 0, when the others have come: until then they may meet its copies. A wait that not
-// all items come to orders nothing, so that what it ends is recorded in front of it once more.
+// The item that does copies passes the barriers of item 0, when the others have come: until then they may meet its copies. Items that don't
+// come to a wait may meet them after it, so that what it ends is recorded before it once more.
 void pass_barrier(Group &group) {
+    group.handed = Group::NOTHING;
     if (group.items[0].state != STANDS) return;
     if (group.records_now()) {
         for (const Copy &copy : group.copies)
             if (copy.is_waited && copy.is_behind_barrier && !group.launch->has_names) put_again(group, copy);
         const uint64_t head = head_of(uint32_t(group.items.size()), BARRIER, group.last_flags);
         group.put(group.copier_records, group.launch->sites[group.last_barrier], head, group.last_barrier);
+        if (std::any_of(group.copies.begin(), group.copies.end(), is_waited)) release_copies(group);
     }
     group.copier_phase++;
     forget_waited(group);

@@ -63,6 +63,9 @@ inline uint64_t words_of(const std::vector<Span> &spans) {
     return spans.empty() ? 0 : spans.back().first_word + spans.back().words();
 }
 
+// The word of no buffer by which copies are handed over to those who wait for them.
+inline uint64_t word_of_waits(const std::vector<Span> &spans) { return words_of(spans) + APART; }
+
 // The span that has this access, or null.
 inline const Span *find_span(const std::vector<Span> &spans, uint64_t address, uint64_t bytes) {
     for (const Span &span : spans)
