@@ -12,7 +12,7 @@ KERNELS = ["matmul", "histogram", "reduction", "messages", "sparse"]
 
 
 class Benches(unittest.TestCase):
-    def told(self, *words, status=0):
+    def ran(self, *words, status=0):
         environ = {**os.environ, "GPURACE_PROGRAM": os.environ["GPURACE"]}
         ran = subprocess.run([sys.executable, TOP / "tools" / "bench", *words], env=environ, stdout=subprocess.PIPE, stderr=subprocess.PIPE, text=True,
                              timeout=600, check=False)
@@ -20,22 +20,22 @@ class Benches(unittest.TestCase):
         return ran.stdout
 
     def test_replay_of_kernels(self):
-        told = self.told("replay", "2000", "--turns", "1")
-        self.assertEqual(re.findall(r"^(\w+) +\d+ records: ", told, re.MULTILINE), KERNELS)
+        text = self.ran("replay", "2000", "--turns", "1")
+        self.assertEqual(re.findall(r"^(\w+) +\d+ records: ", text, re.MULTILINE), KERNELS)
 
     def test_replay_of_shapes(self):
-        told = self.told("replay", "2000", "--turns", "1", "--shapes")
-        self.assertEqual(re.findall(r"^(\w+) of 2048 +\d+ records: ", told, re.MULTILINE), ["barriers", "atomics", "messages", "readers", "adders"])
+        text = self.ran("replay", "2000", "--turns", "1", "--shapes")
+        self.assertEqual(re.findall(r"^(\w+) of 2048 +\d+ records: ", text, re.MULTILINE), ["barriers", "atomics", "messages", "readers", "adders"])
 
     def test_questions(self):
-        told = self.told("questions", "20000", "--turns", "1")
+        text = self.ran("questions", "20000", "--turns", "1")
         for question in ("replay", "races", "races --causes", "explain", "explain --long", "history"):
-            self.assertEqual(len(re.findall(rf"^  {question}  +[0-9.]+ s, ", told, re.MULTILINE)), 5, question)
+            self.assertEqual(len(re.findall(rf"^  {question}  +[0-9.]+ s, ", text, re.MULTILINE)), 5, question)
 
     def test_threads(self):
         """Each report of `run` is that of `replay`, else the status is 1."""
-        told = self.told("threads", "2000", "--turns", "1")
-        self.assertEqual(re.findall(r"^(\w+): \d+ records, ", told, re.MULTILINE), KERNELS)
+        text = self.ran("threads", "2000", "--turns", "1")
+        self.assertEqual(re.findall(r"^(\w+): \d+ records, ", text, re.MULTILINE), KERNELS)
 
     def test_a_name_that_is_none(self):
-        self.assertEqual(self.told("reply", status=3), "")
+        self.assertEqual(self.ran("reply", status=3), "")

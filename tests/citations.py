@@ -46,7 +46,7 @@ def anchor(heading):
 
 
 def citations_in(text):
-    """The citations of documents in a text: the document, and the headings that are named behind it."""
+    """The citations of documents in a text: the document, and the headings that are named after it."""
     for match in CITATION.finditer(GOES_ON.sub(" ", text)):
         yield match[1], re.findall(r'"([^"]+)"', match[2])
 
@@ -80,7 +80,7 @@ def faults_of_links(path, text):
 
 
 def files_of_crates(text):
-    """The files that a text names behind their crates, as in `gr_lanes` (`kinds.rt`, `group.rt`)."""
+    """The files that a text names after their crates, as in `gr_lanes` (`kinds.rt`, `group.rt`)."""
     return [(crate, file) for crate, files in FILES_OF_CRATE.findall(text) for file in FILE_OF_CRATE.findall(files)]
 
 
@@ -106,7 +106,7 @@ class Citations(unittest.TestCase):
         self.assertGreater(len(named), 100)
         self.assert_none(f"{document}: there is no {path}" for document, path in named if not (TOP / path).exists())
 
-    def test_a_file_that_is_named_behind_its_crate_is_there(self):
+    def test_a_file_that_is_named_after_its_crate_is_there(self):
         named = [(document, *it) for document in written_documents() for it in files_of_crates(document.read_text())]
         self.assertGreater(len(named), 20)
         self.assert_none(f"{document}: {crate} has no {file}" for document, crate, file in named if not has_file(crate, file))

@@ -28,16 +28,16 @@ WORDS = ("--help", "help run", "--version", "--quiet", "explain l65535 16 race",
 MOST = 5_000
 
 
-# how an access of a history stands to those above it, in a line of text and in one of JSON
-STANDING = re.compile(rb"( races with .*?)? behind (none|all( others)?( but .*?)?)(?= at |$)")
-STANDING_KEYS = ("behind", "races_with", "unordered_with")
+# how an access of a history is ordered with those above it, in a line of text and in one of JSON
+ORDER = re.compile(rb"( races with .*?)? behind (none|all( others)?( but .*?)?)(?= at |$)")
+ORDER_KEYS = ("behind", "races_with", "unordered_with")
 
 
 def without_standing(line):
-    """A line of a history, whatever stands above it."""
+    """A line of a history, whatever is above it."""
     if not line.startswith(b"{"):
-        return STANDING.sub(b"", line)
-    return json.dumps({key: value for key, value in json.loads(line).items() if key not in STANDING_KEYS}).encode()
+        return ORDER.sub(b"", line)
+    return json.dumps({key: value for key, value in json.loads(line).items() if key not in ORDER_KEYS}).encode()
 
 
 class Growths(ProgramTest):
@@ -52,16 +52,16 @@ class Growths(ProgramTest):
 
     def with_refused(self, words, given, number):
         """The run whose allocation of this number is refused, and whether there are as many."""
-        told, to = os.pipe()
+        taken, to = os.pipe()
         environ = {**os.environ, "LD_PRELOAD": str(self.library), "REFUSED": str(number), "REFUSED_TO": str(to)}
         ran = self.gpurace(*words, given=given, env=environ, pass_fds=[to])
         os.close(to)
-        with os.fdopen(told, "rb") as pipe:
+        with os.fdopen(taken, "rb") as pipe:
             return ran, bool(pipe.read())
 
-    def assert_told(self, words, given=b""):
+    def assert_said(self, words, given=b""):
         """Each such run has the answer, or says that memory ran out, or that a thread can't be started, and writes nothing. A
-        history may then be in another lawful order, in which other accesses stand above each."""
+        history may then be in another lawful order, in which other accesses are above each."""
         lines = (lambda it: sorted(map(without_standing, it.stdout.splitlines()))) if words[0] == "history" else (lambda it: it.stdout.splitlines())
         answer = self.gpurace(*words, given=given)
         for number in range(1, MOST):
@@ -77,25 +77,25 @@ class Growths(ProgramTest):
     def test_commands_on_standard_input(self):
         for words, given in INPUTS.items():
             with self.subTest(words=words):
-                self.assert_told(words.split(), given)
+                self.assert_said(words.split(), given)
 
     def test_commands_on_files(self):
         for words in FILES:
             with self.subTest(words=words):
-                self.assert_told([*words.split(), "race"])
+                self.assert_said([*words.split(), "race"])
 
     def test_commands_with_side_files(self):
         for words in ("explain --long g 16", "races", "history g 16"):
             with self.subTest(words=words):
-                self.assert_told([*words.split(), *SIDES, "race"])
+                self.assert_said([*words.split(), *SIDES, "race"])
 
     def test_answers_as_JSON(self):
         for words in JSON:
             with self.subTest(words=words):
-                for line in self.assert_told([*words.split(), "race"]).stdout.splitlines():
+                for line in self.assert_said([*words.split(), "race"]).stdout.splitlines():
                     json.loads(line)
 
     def test_words_that_ask_for_help_or_are_no_command(self):
         for words in WORDS:
             with self.subTest(words=words):
-                self.assert_told(words.split())
+                self.assert_said(words.split())

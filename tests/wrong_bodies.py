@@ -75,10 +75,10 @@ class WrongBodies(unittest.TestCase):
         self.assertEqual(
             found,
             [
-                "made/gone: its text stands 0 times in src/lib.rt",
-                "made/gone_by_then: its text stands 0 times in src/lib.rt",
+                "made/gone: its text is there 0 times in src/lib.rt",
+                "made/gone_by_then: its text is there 0 times in src/lib.rt",
                 "made/nothing: it changes nothing",
-                "made/twice: its text stands 2 times in src/lib.rt",
+                "made/twice: its text is there 2 times in src/lib.rt",
                 "made/without_file: there is no file src/none.rt",
                 "made/without_fact: there is no fact no_such_fact in gr_model_tests/src/facts/model.rt",
             ],

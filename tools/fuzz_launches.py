@@ -106,7 +106,7 @@ def divergence(size, barriers):
 
 
 def named_releases(traces, event):
-    """What stands under each name of an event: a release, or None."""
+    """The release that each name of an event names, or None."""
     for at, number in event.names:
         releases = [other for other in traces.get(at, ()) if other.releases()]
         yield releases[number] if number < len(releases) else None
@@ -142,8 +142,7 @@ def relate_instance(traces, pairs, barriers):
         for other in barriers:
             if other.index:
                 barrier.waits.append(traces[other.at][other.index - 1])
-            behind = traces[other.at][other.index + 1:other.index + 2]
-            for event in behind:
+            for event in traces[other.at][other.index + 1:other.index + 2]:
                 event.waits.append(barrier)
                 for memory in "gl":
                     if memory in barrier.memory:

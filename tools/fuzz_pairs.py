@@ -5,7 +5,7 @@ fuzz_pairs.py [--launches N] [--seed S] [--program FILE]
 
 The launches are those of the examples and random ones, in which each event has a place of a few, or none. Of each racy word the pairs of
 an operation and a place that race have to be those of the kinds that `races` writes, each pair once, with two events that race, of two
-groups if there are such. A launch of which others are told is left in a file `different` of the working folder.
+groups if there are such. A launch of which other pairs are shown is left in a file `different` of the working folder.
 """
 import argparse
 import json
@@ -80,36 +80,36 @@ def words_of(kind):
             yield (*first[:-1], number)
 
 
-def told(kind, which):
+def access_in(kind, which):
     """What a kind says of one of its two accesses: what it does and where, and the event."""
     event = kind["race"][which]
     return (kind["kind"][which], event["place"]), (event["group"], event["item"], event["index"])
 
 
 def wrong(lines, races, places):
-    """What is wrong with the kinds that are told of these races, or None."""
+    """What is wrong with the kinds that `races` writes of these races, or None."""
     kinds = [line for line in lines if line["type"] == "kind"]
     one_group = defaultdict(lambda: True)
     for word, found in races.items():
         for one, other in found:
             one_group[word, frozenset((side_of(one, places), side_of(other, places)))] &= one.at[0] == other.at[0]
     expected = {(*pair, alone) for pair, alone in one_group.items()}
-    said = [(word, frozenset((told(kind, "first")[0], told(kind, "second")[0])), kind["kind"]["one_group"]) for kind in kinds for word in words_of(kind)]
+    said = [(word, frozenset((access_in(kind, "first")[0], access_in(kind, "second")[0])), kind["kind"]["one_group"]) for kind in kinds for word in words_of(kind)]
     if len(said) != len(set(said)) or set(said) != expected:
         return f"pairs missing {expected - set(said)}, not there {set(said) - expected}"
     for kind in kinds:
-        (one, first), (other, second) = told(kind, "first"), told(kind, "second")
+        (one, first), (other, second) = access_in(kind, "first"), access_in(kind, "second")
         shown = {((*a.at, a.index), (*b.at, b.index)): (side_of(a, places), side_of(b, places)) for a, b in races[word_of(kind["race"]["word"])]}
         if shown.get((first, second)) != (one, other):
             return f"the pair that is shown does not race so: {kind}"
-    alike = [told(kind, "first")[0] == told(kind, "second")[0] for kind in kinds]
+    alike = [access_in(kind, "first")[0] == access_in(kind, "second")[0] for kind in kinds]
     if alike != sorted(alike):
-        return "a pair of one place stands before a pair of two"
+        return "a pair of one place comes before a pair of two"
     return None if lines[-1]["races"] == len(races) else "the number of racy words"
 
 
 def judge(program, name, text, sizes, traces, places):
-    """Stops where the kinds that are told of a launch are wrong."""
+    """Stops if the kinds that `races` writes of a launch are wrong."""
     with tempfile.TemporaryDirectory() as folder:
         packed = pathlib.Path(folder, "launch")
         packed.write_bytes(subprocess.run([program, "pack"], input=text.encode(), capture_output=True, check=True).stdout)
@@ -141,7 +141,7 @@ def main():
         events = [event for trace in traces.values() for event in trace]
         places = {(*event.at, event.index): f"kernel.cl:{choose.randrange(4)}" for event in events if choose.random() < 0.8}
         judge(arguments.program, f"seed {seed}", text, sizes, traces, places)
-    print(f"{len(examples)} examples and {arguments.launches} launches: each pair that races is told, and no other")
+    print(f"{len(examples)} examples and {arguments.launches} launches: each pair that races is shown, and no other")
 
 
 if __name__ == "__main__":

@@ -17,7 +17,7 @@
  * Each call answers GPURACE_OK, or the first thing that is wrong with it, and has then written nothing and counted nothing.
  * Numbers are taken as 64 bits and refused where they are out of range; none is cut to fit. A stream in which a call was
  * refused lacks a record, so its end says that records were lost, whether the caller looked at the answers or not. After
- * GPURACE_WRITE_FAILED a part of a record may stand there, and the stream takes nothing more.
+ * GPURACE_WRITE_FAILED a part of a record may be there, and the stream takes nothing more.
  *
  * Threads: the functions have no state but the stream that they are given. Streams are independent of each other; calls on one
  * stream must not overlap, so work-items on several threads share the stream of their group under one lock.
@@ -50,7 +50,7 @@
 #define GPURACE_MOST_WIDE_ITEMS 1024
 #define GPURACE_MOST_RECORDS 16777216
 
-/* Places in the source that the records of versions 3 and 4 can tell: lines of the file `sites`. */
+/* Places in the source that the records of versions 3 and 4 can name: lines of the file `sites`. */
 #define GPURACE_MOST_SITES 65535
 
 /* How many releases a record of versions 2 and 4 has room for; one of versions 1 and 3 has room for one. */
@@ -215,7 +215,7 @@ static inline int gpurace_is_name(const struct gpurace_stream *stream, const str
            name->release < GPURACE_MOST_RECORDS;
 }
 
-/* Whether a name stands before another: by group, then by item, then by the number of the release. */
+/* Whether a name comes before another: by group, then by item, then by the number of the release. */
 static inline int gpurace_is_before(const struct gpurace_name *name, const struct gpurace_name *other) {
     if (name->group != other->group)
         return name->group < other->group;
@@ -224,7 +224,7 @@ static inline int gpurace_is_before(const struct gpurace_name *name, const struc
     return name->release < other->release;
 }
 
-/* The least of the names that stands behind `last`, or behind none where that is NULL; NULL where there is none. */
+/* The least of the names that come after `last`, or of all if that is NULL; NULL if there is none. */
 static inline const struct gpurace_name *gpurace_next_name(const struct gpurace_name *names, size_t count,
                                                            const struct gpurace_name *last) {
     const struct gpurace_name *next = NULL;
@@ -301,7 +301,7 @@ static inline enum gpurace_status gpurace_check_names(const struct gpurace_strea
     return GPURACE_OK;
 }
 
-/* Counts a release of the item, and tells its name where the caller asks for it. */
+/* Counts a release of the item, and gives its name if the caller asks for it. */
 static inline void gpurace_count_release(struct gpurace_stream *stream, uint64_t item, struct gpurace_name *name) {
     uint32_t release = stream->releases[item]++;
     if (name) {
@@ -347,8 +347,8 @@ static inline enum gpurace_status gpurace_stream_open(struct gpurace_stream *str
 }
 
 /*
- * The records written from here on stand at this site in the source: its number is a line of the file `sites`, from 1; 0 where
- * none is told, as at first. Streams of versions 1 and 2 have no room for others.
+ * The records written from here on are of this site in the source: its number is a line of the file `sites`, from 1; 0 for
+ * none, as at first. Streams of versions 1 and 2 have no room for others.
  */
 static inline enum gpurace_status gpurace_at(struct gpurace_stream *stream, uint64_t site) {
     if (!stream->is_open)
@@ -367,7 +367,7 @@ struct gpurace_sites {
 
 /*
  * Writes a place in the source, as `kernel.cl:3:5`, as the next line of the file, and answers its number for gpurace_at: call it once for each
- * place, and keep the number. 0, which tells no place, where there are as many as records can tell, or the line could not be written.
+ * place, and keep the number. The answer is 0, which is no place, if records can number no more, or the line could not be written.
  */
 static inline uint32_t gpurace_site(struct gpurace_sites *sites, const char *place) {
     if (sites->count >= GPURACE_MOST_SITES || fprintf(sites->file, "%s\n", place) < 0)
@@ -395,7 +395,7 @@ static inline enum gpurace_status gpurace_atomic(struct gpurace_stream *stream, 
     return status == GPURACE_OK ? gpurace_put_record(stream, &access, (unsigned)space, NULL, 0) : gpurace_refuse(stream, status);
 }
 
-/* A store or read-modify-write (GPURACE_STORE, GPURACE_RMW) with order release. Its name is told where `name` is not NULL. */
+/* A store or read-modify-write (GPURACE_STORE, GPURACE_RMW) with order release. Its name is given if `name` is not NULL. */
 static inline enum gpurace_status gpurace_release(struct gpurace_stream *stream, uint64_t item, enum gpurace_kind kind,
                                                   enum gpurace_space space, enum gpurace_scope scope, uint64_t word,
                                                   struct gpurace_name *name) {
@@ -411,7 +411,7 @@ static inline enum gpurace_status gpurace_release(struct gpurace_stream *stream,
 
 /*
  * A load or read-modify-write (GPURACE_LOAD, GPURACE_RMW) with order acquire, whose value belongs to the release sequences of
- * the named releases; none, where it belongs to no release's. The names may stand in any order, and one may stand twice.
+ * the named releases; none, where it belongs to no release's. The names may come in any order, and one may come twice.
  */
 static inline enum gpurace_status gpurace_acquire(struct gpurace_stream *stream, uint64_t item, enum gpurace_kind kind,
                                                   enum gpurace_space space, enum gpurace_scope scope, uint64_t word,
@@ -427,7 +427,7 @@ static inline enum gpurace_status gpurace_acquire(struct gpurace_stream *stream,
 
 /*
  * A read-modify-write with order acquire and release: it takes from the named releases, and is then a release itself, whose
- * name is told where `name` is not NULL. `name` may be one of `names`.
+ * name is given if `name` is not NULL. `name` may be one of `names`.
  */
 static inline enum gpurace_status gpurace_acquire_release(struct gpurace_stream *stream, uint64_t item,
                                                           enum gpurace_space space, enum gpurace_scope scope, uint64_t word,
@@ -444,7 +444,7 @@ static inline enum gpurace_status gpurace_acquire_release(struct gpurace_stream 
     return status;
 }
 
-/* A work-group barrier. Its site is any number that tells the barriers of the kernel's text apart. */
+/* A work-group barrier. Its site is any number, another for each barrier of the kernel's text. */
 static inline enum gpurace_status gpurace_barrier(struct gpurace_stream *stream, uint64_t item, uint64_t site, uint64_t flags) {
     const struct gpurace_access barrier = {GPURACE_BARRIER, GPURACE_GLOBAL, 0, 0, item, site};
     const enum gpurace_status status = gpurace_ready(stream, item, 1);
@@ -458,7 +458,7 @@ static inline enum gpurace_status gpurace_barrier(struct gpurace_stream *stream,
 }
 
 /*
- * Writes the end of the stream and closes it: no record comes behind. `cut` is not 0 where records before it were lost, which
+ * Writes the end of the stream and closes it: no record comes after it. `cut` is not 0 if records before it were lost, which
  * is also written where a call on this stream was refused. The file under the stream is the caller's to close.
  */
 static inline enum gpurace_status gpurace_stream_close(struct gpurace_stream *stream, int cut) {

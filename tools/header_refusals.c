@@ -142,7 +142,7 @@ static void refuses_hand_overs(struct gpurace_stream *s) {
     expect_number("releases after refused ones", s->releases[0], 0);
 }
 
-/* The names of an acquire stand in ascending order, each once; what a record has no room for stands in loads before it. */
+/* The names of an acquire are in ascending order, each once; loads before it have those for which a record has no room. */
 static void orders_names(enum gpurace_version version, size_t record, uint64_t loads, unsigned char last_name) {
     struct sink sink = {0, 1000, {0}};
     struct gpurace_stream stream;
@@ -175,7 +175,7 @@ static void refuses_records(void) {
     expect_number("records after refused ones", stream.records, 0);
     expect("end", gpurace_stream_close(&stream, 0), GPURACE_OK);
     expect_number("the end says that records were lost", sink.last[1], 1);
-    expect("record behind the end", gpurace_plain(&stream, 0, GPURACE_READ, GPURACE_GLOBAL, 16), GPURACE_NOT_OPEN);
+    expect("record after the end", gpurace_plain(&stream, 0, GPURACE_READ, GPURACE_GLOBAL, 16), GPURACE_NOT_OPEN);
     expect("second end", gpurace_stream_close(&stream, 0), GPURACE_NOT_OPEN);
 }
 
@@ -218,7 +218,7 @@ static void fails_with_the_writer(void) {
     expect("record", gpurace_barrier(&stream, 0, 1, 3), GPURACE_OK);
     expect("no room", gpurace_barrier(&stream, 0, 1, 3), GPURACE_WRITE_FAILED);
     sink.room = 1000;
-    expect("behind it", gpurace_barrier(&stream, 0, 1, 3), GPURACE_WRITE_FAILED);
+    expect("after it", gpurace_barrier(&stream, 0, 1, 3), GPURACE_WRITE_FAILED);
     expect("its end", gpurace_stream_close(&stream, 0), GPURACE_WRITE_FAILED);
     expect_number("bytes of a broken stream", sink.length, GPURACE_HEADER_BYTES + GPURACE_RECORD_BYTES);
 }

@@ -45,7 +45,7 @@ class Stream:
         self.parts, self.records, self.blocks = [self.magic + struct.pack('<HHI', group, items, 7)], 0, {}
 
     def step(self, head, words, items=None):
-        """One record of each of the items (all of them, if not told), with these words."""
+        """One record of each of the items (all of them by default), with these words."""
         items = self.everyone if items is None else items
         key = (head, items)
         if key not in self.templates:

@@ -7,7 +7,7 @@
 
 enum { GROUPS = 3, COUNTER = 64 };
 
-/* Tells what was refused. */
+/* Says what was refused. */
 static int is_done(enum gpurace_status status) {
     if (status != GPURACE_OK)
         fprintf(stderr, "last_block: %s\n", gpurace_status_text(status));

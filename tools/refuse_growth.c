@@ -1,5 +1,5 @@
 /* Loaded into a program by LD_PRELOAD, it refuses the program one allocation: the one whose number, from 1 and over all
- * threads, stands in the variable REFUSED. It then writes a byte to the file descriptor in REFUSED_TO. For glibc.
+ * threads, is in the variable REFUSED. It then writes a byte to the file descriptor in REFUSED_TO. For glibc.
  *
  *   cc -shared -fPIC -O2 -o refuse_growth.so tools/refuse_growth.c
  */
@@ -14,13 +14,13 @@ void *__libc_realloc(void *old, size_t size);
 void *__libc_memalign(size_t alignment, size_t size);
 
 static atomic_long left;
-static int told;
+static int report_to;
 
 __attribute__((constructor)) static void begin(void)
 {
     const char *number = getenv("REFUSED");
     const char *file = getenv("REFUSED_TO");
-    told = file ? atoi(file) : -1;
+    report_to = file ? atoi(file) : -1;
     left = number ? atol(number) : 0;
 }
 
@@ -28,7 +28,7 @@ static int is_refused(void)
 {
     if (atomic_fetch_sub(&left, 1) != 1)
         return 0;
-    if (told >= 0 && write(told, "x", 1) != 1)
+    if (report_to >= 0 && write(report_to, "x", 1) != 1)
         abort();
     errno = ENOMEM;
     return 1;

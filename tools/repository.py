@@ -19,7 +19,7 @@ def lines_of_crates():
 
 
 def crates_of_program():
-    """The program's crate and all of this repository that it stands on, by name, and the line of each."""
+    """The program's crate and all of this repository that it needs, by name, and the line of each."""
     lines = lines_of_crates()
     found, left = {}, [PROGRAM]
     while left:

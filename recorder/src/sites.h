@@ -24,6 +24,6 @@ enum LinearNumber { WORK_DIM, LOCAL_LINEAR_ID, GLOBAL_LINEAR_ID }; // the words 
 constexpr unsigned PRINT_ROOM = 1 << 22; // of what kernels print in a launch, 8 bytes before it with how much that is
 
 constexpr unsigned DIMENSIONS = 4;
-constexpr unsigned LOCALS_OFFSET = ROWS * DIMENSIONS * 8; // behind the numbers: where the group's local variables are
+constexpr unsigned LOCALS_OFFSET = ROWS * DIMENSIONS * 8; // after the numbers: where the group's local variables are
 
 } // namespace gpurace

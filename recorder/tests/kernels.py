@@ -429,10 +429,10 @@ def cases():
     yield Case("divergent", [zeros], ALL, diverge=GROUPS)  # a divergent barrier orders nothing
     yield Case("plain_wait", [[0], [0] * GROUPS], 1, {1: [1] * GROUPS})
     yield Case("outside", [list(range(ALL)), zeros, [5] * 4], 0, {2: [0, 254, 255, 0], 1: [0] * (ALL - 2) + [1, 2]}, say=(
-        "out of bounds: write of 4 bytes, 16 bytes behind the end of out, which has 1024 bytes",
+        "out of bounds: write of 4 bytes, 16 bytes after the end of out, which has 1024 bytes",
         "read by group 0, item 5", "out of bounds: read of 4 bytes, 8 bytes before the start of in, which has 1024 bytes",
-        "out of bounds: read of 16 bytes, partly behind the end of in",
-        "out of bounds: write of 16 bytes, partly behind the end of out"))
+        "out of bounds: read of 16 bytes, partly after the end of in",
+        "out of bounds: write of 16 bytes, partly after the end of out"))
     yield Case("computed", [[0] * 4 + [0], [2 ** 32 - 1, 0, 0, 0, 0, ALL], (0.0,), (0, 0, 0, 0)], 0,
                {0: [3 * ALL, -ALL, 1 - ALL, ALL - 101, ALL]})
     yield Case("fenced", [zeros], 0, {0: [1] * ALL}, say=("fences not recorded, so that an order that they give is not seen: 256, at kernel.cl:",))

@@ -92,9 +92,9 @@ def both(folder, test):
     return native, recorded([*(["--build-options", options] if options else []), os.path.basename(path)], os.path.dirname(path))
 
 
-def words_of(told):
-    """Of what is told, what does not depend on the pair that is shown, nor on what each recorder notes beside."""
-    return [line.partition("; on ")[0] for line in told if line.startswith(("races ", "race on ", "divergent barrier"))]
+def words_of(lines):
+    """The lines that depend neither on the pair that is shown nor on what each recorder notes besides."""
+    return [line.partition("; on ")[0] for line in lines if line.startswith(("races ", "race on ", "divergent barrier"))]
 
 
 def compared(folder, tests=()):
@@ -104,9 +104,9 @@ def compared(folder, tests=()):
     with concurrent.futures.ThreadPoolExecutor(4) as threads:
         found = threads.map(both, [os.path.abspath(folder)] * len(tests), tests)
         for test, sides in zip(tests, found):
-            is_alike = len({(status, *words_of(told)) for status, told in sides}) == 1
+            is_alike = len({(status, *words_of(lines)) for status, lines in sides}) == 1
             yield test, [] if is_alike == (test not in DIFFERENT) or test in UNDEFINED else [
-                "; ".join(f"{where} {status}: {', '.join(told)}" for where, (status, told) in zip(("natively", "on the simulator"), sides))]
+                "; ".join(f"{where} {status}: {', '.join(lines)}" for where, (status, lines) in zip(("natively", "on the simulator"), sides))]
 
 
 def main(words):

@@ -101,7 +101,7 @@ def shape(seed):
 
 
 def computed(python, given, n):
-    """What the Python program computes: where all items of a group stand at barriers or have ended, they go on."""
+    """What the Python program computes: when all items of a group have come to barriers or ended, they go on."""
     out, names = [0] * (ITEMS * GROUPS), {}
     exec(python, names)
     for group in range(GROUPS):

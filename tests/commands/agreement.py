@@ -1,4 +1,4 @@
-"""The commands that tell of a launch agree with its report, on each launch of the runs beside this file that ask for a word."""
+"""The commands that report on a launch agree with its report, on each launch of the runs beside this file that ask for a word."""
 
 import json
 import re
@@ -42,7 +42,7 @@ class Agreement(ProgramTest):
                     yield space.replace("l", f"l{group}"), word
 
     def assert_refused(self, fault):
-        """Each command tells the fault that `run` tells."""
+        """Each command reports the fault that `run` reports."""
         for words in ("races", "explain g 16", "history g 16", "why-held 0 0 0"):
             self.assert_run(self.gpurace(*words.split(), *self.streams), b"", 2, fault)
         line = fault.split(b"\n")[0] + b"\n"

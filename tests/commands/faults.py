@@ -47,9 +47,9 @@ SIDES = ("explain --long g 16", "explain --long --json g 16", "races", "races --
 HELP = ("--help", "-h", "help", "--version", "replay --help", "help run")
 
 
-def read_fault(words, told):
-    """What a command says where a file can't be read, of which this is told: some say it in place of the line of the fault."""
-    return READ_FAULT + told if words.split()[0] in ("explain", "run") else told
+def read_fault(words, said):
+    """What a command says if a file can't be read, with this as the reason: some say it in place of the line of the fault."""
+    return READ_FAULT + said if words.split()[0] in ("explain", "run") else said
 
 
 class FaultTest(ProgramTest):
@@ -105,7 +105,7 @@ class Outputs(FaultTest):
             with self.subTest(words=words), open("/dev/full", "wb") as full:
                 self.assert_run(self.gpurace(*words, stdout=full), None, 5, WRITE_FAULT)
 
-    def test_errors_that_can_not_be_told_keep_their_status(self):
+    def test_errors_that_can_not_be_written_keep_their_status(self):
         for words, given, status in ((["--quiet"], b"", 3), (["explain", "l65535", "16", "race"], b"", 3), (["replay"], CUT_OFF, 2)):
             with self.subTest(words=words), open("/dev/full", "wb") as full:
                 self.assert_run(self.gpurace(*words, given=given, stdout=full, stderr=full), None, status, None)
@@ -127,9 +127,9 @@ class Inputs(FaultTest):
     def test_files_that_are_missing_or_can_not_be_read(self):
         for words in FILES:
             for names in (["missing"], ["folder"], ["cut", "missing"], ["race", "missing"], ["folder", "missing"]):
-                told = NO_FILE if "missing" in names else NO_STREAM
+                said = NO_FILE if "missing" in names else NO_STREAM
                 with self.subTest(words=words, names=names):
-                    self.assert_run(self.gpurace(*words.split(), *names), b"", 5, read_fault(words, told))
+                    self.assert_run(self.gpurace(*words.split(), *names), b"", 5, read_fault(words, said))
 
     def test_a_file_that_is_refused_before_one_that_can_not_be_read(self):
         for words in FILES:
@@ -140,9 +140,9 @@ class Inputs(FaultTest):
     def test_side_files_that_are_missing_or_can_not_be_read(self):
         for words in SIDES:
             for option in ("--places", "--buffers"):
-                for name, told in (("missing", NO_FILE), ("folder", IS_FOLDER)):
+                for name, said in (("missing", NO_FILE), ("folder", IS_FOLDER)):
                     with self.subTest(words=words, option=option, name=name):
-                        self.assert_run(self.gpurace(*words.split(), option, name, "cut"), b"", 5, read_fault(words, told))
+                        self.assert_run(self.gpurace(*words.split(), option, name, "cut"), b"", 5, read_fault(words, said))
 
     def test_files_are_read_from_standard_input(self):
         for words, status in FILES.items():
@@ -190,7 +190,7 @@ class Threads(FaultTest):
                 with self.subTest(workers=workers, threads=threads):
                     self.assert_run(self.run_with_room_for(threads, workers), b"", 4, b"gpurace: no thread\n")
 
-    def test_a_missing_thread_is_told_before_a_stream_that_is_cut_off(self):
+    def test_a_missing_thread_is_reported_before_a_stream_that_is_cut_off(self):
         for threads in range(3):
             with self.subTest(threads=threads):
                 self.assert_run(self.run_with_room_for(threads, 1, "cut"), b"", 4, b"gpurace: no thread\n")

@@ -1,4 +1,4 @@
-"""Large launches by the commands that tell of them: what each writes is known from how the launch was made."""
+"""Large launches by the commands that report on them: what each writes is known from how the launch was made."""
 
 import itertools
 import json
@@ -134,7 +134,7 @@ class Races(ProgramTest):
 
 
 class SideFiles(ProgramTest):
-    """Side files of 5 MB, whose last line alone tells of the launch."""
+    """Side files of 5 MB, of which only the last line is about the launch."""
 
     def setUp(self):
         super().setUp()
@@ -216,9 +216,9 @@ class Groups(ProgramTest):
         stream[12 + 63 * 20 + 11] = 1  # a word of its end
         self.put("group63", bytes(stream))
         fault = b"gpurace: stream 63: bad field 11\n"
-        told = fault + b"gpurace: group63: stream 63, at its record 63\n"
-        self.assert_run(self.gpurace("run", *self.names), b"", 2, told)
-        self.assert_run(self.gpurace("races", *self.names), b"", 2, told)
+        said = fault + b"gpurace: group63: stream 63, at its record 63\n"
+        self.assert_run(self.gpurace("run", *self.names), b"", 2, said)
+        self.assert_run(self.gpurace("races", *self.names), b"", 2, said)
         wrong = "this byte of the record has a value that a record of its kind may not have there"
         right = "the bytes 4, 5 and 8 to 11 of an end are 0, since an end is of no work-item and has no word"
         text = f"file group63\nrecord 63 byte 1272\nwrong: {wrong}\nright: {right}\n"
@@ -242,7 +242,7 @@ class Histories(ProgramTest):
     """Histories of a word whose accesses nothing orders but that some are of one item."""
 
     def assert_history(self, files, kind, record_of, count, end, status):
-        """Each access is behind just those of its item that stand above it, and races with the others where these are writes.
+        """Each access is after just those of its item that are above it, and races with the others where these are writes.
         `record_of` has the number of an access's record."""
         ran = self.gpurace("history", "g", "16", *files)
         *lines, last = ran.stdout.decode().splitlines()

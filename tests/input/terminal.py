@@ -14,18 +14,18 @@ class Terminal(ProgramTest):
         self.leader, self.follower = pty.openpty()
         self.addCleanup(os.close, self.leader)
 
-    def told(self):
+    def shown(self):
         """What was written to the terminal."""
         os.close(self.follower)
-        told = b""
+        text = b""
         while True:
             try:
                 piece = os.read(self.leader, 65536)
             except OSError:
-                return told
+                return text
             if not piece:
-                return told
-            told += piece
+                return text
+            text += piece
 
     def slowly(self, words, pieces):
         """Runs a command whose standard error is the terminal, and whose standard input comes in pieces, with pauses."""
@@ -48,10 +48,10 @@ class Terminal(ProgramTest):
         record = access(0, 0, 0, 16)
         status, output = self.slowly(["replay"], [header(0, 1) + 2 * record, 3 * record, END])
         self.assertEqual((status, output.split(b"\n")[1]), (0, b"groups 1 items 1 records 6"))
-        told = self.told()
-        self.assertIn(b" records read, ", told)
-        self.assertIn(b" a second", told)
-        self.assertTrue(told.endswith(b"\r\x1b[K"), told)
+        text = self.shown()
+        self.assertIn(b" records read, ", text)
+        self.assertIn(b" a second", text)
+        self.assertTrue(text.endswith(b"\r\x1b[K"), text)
 
     def test_how_far_the_reading_of_a_file_is(self):
         self.put("race", header(0, 1) + access(0, 0, 0, 16) + END)
@@ -59,11 +59,11 @@ class Terminal(ProgramTest):
         self.assertEqual(status, 0)
         os.close(self.follower)
 
-    def test_nothing_is_told_where_there_is_no_terminal(self):
+    def test_nothing_is_shown_where_there_is_no_terminal(self):
         ran = self.gpurace("replay", given=header(0, 1) + END)
         self.assertEqual(ran.stderr, b"")
         os.close(self.follower)
 
     def test_a_quick_run_tells_nothing(self):
         ran = self.gpurace("replay", given=header(0, 1) + END, stderr=self.follower)
-        self.assertEqual((ran.returncode, self.told()), (0, b""))
+        self.assertEqual((ran.returncode, self.shown()), (0, b""))

@@ -10,14 +10,14 @@ SETTINGS = ((1, 1, 1024), (2, 3, 1024), (3, 4, 7), (8, 4, 65536))
 
 
 class LargeLaunches(ProgramTest):
-    def assert_judged(self, streams, told, settings=SETTINGS):
+    def assert_judged(self, streams, expected, settings=SETTINGS):
         """`replay` writes this report of the streams, and so does `run` with each setting: workers, queues, capacity."""
-        self.assert_run(self.gpurace("replay", given=b"".join(streams)), told, 1)
+        self.assert_run(self.gpurace("replay", given=b"".join(streams)), expected, 1)
         files = [self.put(f"stream{number}", stream) for number, stream in enumerate(streams)]
         for workers, queues, capacity in settings:
             with self.subTest(workers=workers, queues=queues, capacity=capacity):
                 words = ("--workers", workers, "--queues", queues, "--capacity", capacity)
-                self.assert_run(self.gpurace("run", *words, *files), told, 1)
+                self.assert_run(self.gpurace("run", *words, *files), expected, 1)
 
     def test_64_groups_of_256_items(self):
         """The first item of all reads a word, and the last one writes it."""
@@ -39,7 +39,7 @@ class LargeLaunches(ProgramTest):
         self.assert_judged(streams, report(6, 6 * 256, 6 * (count + 1), words[0]))
 
     def test_more_records_than_16_bits_count_before_a_release(self):
-        """Group 1 reads what group 0 wrote in 70,000 records, all of which stand before the release that it acquires."""
+        """Group 1 reads what group 0 wrote in 70,000 records, all before the release that it acquires."""
         count = 70_000
         release = b"\x03\x00\x02\x03" + access(0, 0, 0, 4_000_000)[4:]
         acquire = b"\x02\x00\x02\x02" + access(0, 0, 0, 4_000_000)[4:12] + bytes(8)
@@ -48,15 +48,15 @@ class LargeLaunches(ProgramTest):
         self.assert_judged([writes, reads], report(2, 2, 2 * count + 6, [count]))
 
     def test_100_000_records_wait(self):
-        """The records of group 0 stand behind acquires of group 1's two releases; what is written behind the second one races."""
+        """The records of group 0 come after acquires of group 1's two releases; what is written after the second one races."""
         count = 100_000
         release = b"\x03\x00\x02\x03" + access(0, 0, 0, 20)[4:]
         acquires = [b"\x02\x00\x02\x02" + access(0, 0, 0, 20)[4:12] + bytes([1, 0, 0, 0, number, 0, 0, 0]) for number in (0, 1)]
         waits = header(0, 1) + acquires[0] + access(0, 0, 0, 16) * count + acquires[1] + accesses(0, range(24, 26)) + END
         releases = header(1, 1) + access(0, 1, 0, 16) + release + access(0, 1, 0, 24) + release + access(0, 1, 0, 25) + END
-        told = report(2, 2, count + 11, [25])
-        self.assert_judged([waits, releases], told, SETTINGS[:1])
-        self.assert_judged([releases, waits], told, SETTINGS[1:2])
+        expected = report(2, 2, count + 11, [25])
+        self.assert_judged([waits, releases], expected, SETTINGS[:1])
+        self.assert_judged([releases, waits], expected, SETTINGS[1:2])
 
     def test_groups_that_have_ended_take_no_memory(self):
         """Each of 2,000 groups of 256 items writes local words, meets, and reads others. If all were kept, 128 MiB would be too little."""

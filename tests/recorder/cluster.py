@@ -55,7 +55,7 @@ class Cluster(unittest.TestCase):
         address = self.address()
         workers = [self.start("dask-worker", address, "--nthreads", "1", "--no-nanny", "--name", name) for name in ("first", "second")]
         run = self.judge("cluster.json", "--scheduler", address)
-        while "launch" not in run.stdout.readline():  # the first line is told once a launch is judged
+        while "launch" not in run.stdout.readline():  # the first line comes when a launch is judged
             self.assertIsNone(run.poll())
         workers[0].kill()
         self.assertEqual((run.communicate(timeout=300)[1], run.returncode), (None, 1))

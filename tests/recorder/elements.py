@@ -23,13 +23,13 @@ class ElementsOfWords(unittest.TestCase):
 
     def test_words_and_what_they_are_of(self):
         elements = self.elements(DECLARATIONS, "k")
-        for name, first, last, told in (
+        for name, first, last, name_of in (
                 ("vectors", 4, 4, "vectors[1].x"), ("vectors", 4, 7, "vectors[1]"), ("vectors", 4, 11, "vectors[1..2]"), ("vectors", 5, 6, "vectors[1].yz"),
                 ("vectors", 5, 10, "vectors[1].y..[2].z"), ("doubles", 5, 5, "doubles[2]"), ("doubles", 4, 7, "doubles[2..3]"),
                 ("pairs", 6, 7, "pairs[1].y"), ("bytes", 2, 2, "bytes[2]"), ("bytes.byte", 5, 5, "bytes[1].y"), ("small", 3, 3, "small[12..15]"),
                 ("small.byte", 3, 3, "small[3]"), ("threes", 6, 6, "threes[1].z"), ("threes", 7, 7, "threes[1]"), ("wide", 17, 19, "wide[1].s1..s3"),
                 ("wide", 31, 31, "wide[1].sf"), ("shorts.half", 3, 3, "shorts[1].y"), ("count", 0, 0, "count[0]"), ("tile", 5, 5, "tile[5]")):
-            self.assertEqual(span_of(elements.of(name), first, last), told, name)
+            self.assertEqual(span_of(elements.of(name), first, last), name_of, name)
 
     def test_a_type_that_is_not_said_in_one_way(self):
         self.assertIsNone(self.elements(DECLARATIONS, "k").of("unknown"))

@@ -21,7 +21,7 @@ class Judges(unittest.TestCase):
         (self.room / "tests").mkdir()
         self.folder = self.room / "kept" / "000-sums"
         self.pipe = self.folder / "group00.gpurace.pipe"
-        self.report = Report(tell=lambda line: None)
+        self.report = Report(show=lambda line: None)
         self.judge = Judge(os.environ["GPURACE"], str(self.room / "kept"), self.report, True, 1, None, str(self.room / "tests"))
 
     def put(self):
@@ -66,7 +66,7 @@ class Judges(unittest.TestCase):
         self.assertEqual(([it.title for it in launch.findings], launch.reasons, self.report.run_reasons), (["race on global word 5"], [], []))
 
     def test_that_a_judge_was_killed_is_said(self):
-        """What stands in files is told."""
+        """What is in files is shown."""
         killed = self.room / "killed"
         killed.write_text(f'#!/bin/sh\n[ "$1" = run ] && kill -KILL $$\nexec "{os.environ["GPURACE"]}" "$@"\n')
         killed.chmod(0o755)
@@ -111,7 +111,7 @@ class Judges(unittest.TestCase):
         self.assertEqual(self.judge.stop(), [])
 
     def test_a_judging_that_is_stopped(self):
-        """One launch is judged, one is not, and one has not ended: no more is told."""
+        """One launch is judged, one is not, and one has not ended: no more is shown."""
         put_right(self.room / "kept", 1, "first")
         self.judge.start()
         self.wait(lambda: self.report.launches)
@@ -133,7 +133,7 @@ class Judges(unittest.TestCase):
             "2 launches: 0 with findings, 0 without, 2 not judged whole; --keep DIR keeps them"])
 
     def test_no_process_can_be_started(self):
-        """The pipe goes, so that the recorder does not wait for it; what stands in the file is judged, as cut, and the run is no answer."""
+        """The pipe goes, so that the recorder does not wait for it; what is in the file is judged, as cut, and the run is no answer."""
         def fail(*_, **__):
             raise OSError(24, "Too many open files")
 

@@ -21,7 +21,7 @@ HAND_OVER = "nothing orders the two; a release that an acquire takes, at memory_
 
 
 def tile(group):
-    """Item 0 writes tile[0] and reads tile[8] and tile[9], which item 1 writes; no barrier stands between."""
+    """Item 0 writes tile[0] and reads tile[8] and tile[9], which item 1 writes; no barrier is between."""
     return f"group {group} items 2 launch 7\n0 w l 64\n0 r l 72\n0 r l 73\n1 w l 72\n1 w l 73\nend\n"
 
 
@@ -35,14 +35,14 @@ class Launches(unittest.TestCase):
         launch.decide()
         return launch
 
-    def assert_told(self, streams, files, verdict, told):
+    def assert_report(self, streams, files, verdict, report):
         launch = self.judged(streams, files)
         lines = [line for it in launch.findings for line in it.lines()] + [f"reason {it.name}: {it.text}" for it in launch.reasons]
-        self.assertEqual((launch.verdict, "".join(f"{line}\n" for line in lines)), (verdict, told))
+        self.assertEqual((launch.verdict, "".join(f"{line}\n" for line in lines)), (verdict, report))
 
     def test_a_barrier_is_missing(self):
         """The accesses to tile[8] have places, those to tile[9] have none: two kinds."""
-        self.assert_told([tile(0), tile(1)], SIDES, "found", f"""\
+        self.assert_report([tile(0), tile(1)], SIDES, "found", f"""\
 race on tile[8] of 2 groups (2 words); on tile[8] of group 0
     kernel.cl:3:13: write by group 0, item 1
         tile[l] = input[l];
@@ -56,7 +56,7 @@ race on tile[9] of 2 groups (2 words); on tile[9] of group 0
 """)
 
     def test_no_places_and_no_buffers(self):
-        self.assert_told([tile(0)], {}, "found", f"""\
+        self.assert_report([tile(0)], {}, "found", f"""\
 race on local words 72..73 (2 words); on local word 72 of group 0
     unknown place: write by group 0, item 1
     unknown place: read by group 0, item 0
@@ -65,7 +65,7 @@ race on local words 72..73 (2 words); on local word 72 of group 0
 
     def test_an_asynchronous_copy(self):
         streams = ["group 0 items 2 launch 7\n0 r l 64\n1 r l 64\n1 w l 64\nend\n"]
-        self.assert_told(streams, {**SIDES, "info.txt": INFO + "copying-item 0 1\n", "places": PLACES + "0 1 1 kernel.cl:5:20\n"}, "found", f"""\
+        self.assert_report(streams, {**SIDES, "info.txt": INFO + "copying-item 0 1\n", "places": PLACES + "0 1 1 kernel.cl:5:20\n"}, "found", f"""\
 race on tile[0] of group 0
     kernel.cl:3:13: read by group 0, item 0
         tile[l] = input[l];
@@ -78,7 +78,7 @@ race on tile[0] of group 0
         """Both words of the output got one value, and so did the word of group 0's tile, but not that of group 1's."""
         streams = ["group 0 items 2 launch 7\n0 w g 128\n1 w g 128\n0 w g 129\n1 w g 129\n0 w l 64\n1 w l 64\nend\n",
                    "group 1 items 2 launch 7\n0 w l 64\n1 w l 64\nend\n"]
-        self.assert_told(streams, {"buffers": BUFFERS, "equal": "g 127 130\nl 0 64 64\n"}, "found", f"""\
+        self.assert_report(streams, {"buffers": BUFFERS, "equal": "g 127 130\nl 0 64 64\n"}, "found", f"""\
 race on output[0..1] (2 words); on output[0]
     unknown place: write by group 0, item 0
     unknown place: write by group 0, item 1
@@ -94,7 +94,7 @@ race on tile[0] of 2 groups (2 words); on tile[0] of group 0
         """Words with one place of two are of one kind. Both accesses to output[0] have a place, so it is of another."""
         streams = ["group 0 items 1 launch 7\n0 w g 5\n0 w g 128\n0 w g 200\nend\n",
                    "group 1 items 1 launch 7 v2\n0 w g 200\n0 w g 128\n0 w g 5\nend\n"]
-        self.assert_told(streams, SIDES, "found", f"""\
+        self.assert_report(streams, SIDES, "found", f"""\
 race on input[5], global word 200 (2 words); on input[5]
     unknown place: write by group 1, item 0
     kernel.cl:3:13: write by group 0, item 0
@@ -110,7 +110,7 @@ race on output[0]
 
     def test_both_sides_of_one_mistake_are_one_finding(self):
         """Words 0 and 2 race at the same two lines, and which of the two items is the smaller one differs."""
-        self.assert_told(["group 0 items 2 launch 7\n0 w g 0\n1 r g 0\n0 r g 2\n1 w g 2\nend\n"],
+        self.assert_report(["group 0 items 2 launch 7\n0 w g 0\n1 r g 0\n0 r g 2\n1 w g 2\nend\n"],
                          {"buffers": "g 0 8 input\n", "places": "0 0 0 a.cl:1:1\n0 1 0 a.cl:2:1\n0 0 1 a.cl:2:1\n0 1 1 a.cl:1:1\n"}, "found", f"""\
 race on input[0], input[2] (2 words); on input[0]
     a.cl:1:1: write by group 0, item 0
@@ -119,8 +119,8 @@ race on input[0], input[2] (2 words); on input[0]
 """)
 
     def test_a_harmless_race_hides_no_other_one(self):
-        """Both items store at line 2; behind the barrier item 0 stores at line 5 what item 1 reads at line 7."""
-        self.assert_told(["group 0 items 2 launch 7\n0 w g 0\n1 w g 0\n0 bar 3 g\n1 bar 3 g\n0 w g 0\n1 r g 0\nend\n"],
+        """Both items store at line 2; after the barrier item 0 stores at line 5 what item 1 reads at line 7."""
+        self.assert_report(["group 0 items 2 launch 7\n0 w g 0\n1 w g 0\n0 bar 3 g\n1 bar 3 g\n0 w g 0\n1 r g 0\nend\n"],
                          {"buffers": "g 0 1 flag\n", "places": "0 0 0 a.cl:2:13\n0 1 0 a.cl:2:13\n0 0 2 a.cl:5:17\n0 1 2 a.cl:7:19\n"}, "found", f"""\
 race on flag[0]
     a.cl:5:17: write by group 0, item 0
@@ -145,7 +145,7 @@ race on flag[0]
         first, second = ("kernel.cl:2:14 called at kernel.cl:6:5", "kernel.cl:2:14 called at kernel.cl:7:5")
         streams = ["group 0 items 2 launch 7\n0 w l 65\n1 w l 65\n0 w l 70\n1 w l 70\nend\n"]
         places = f"0 0 0 {second}\n0 1 0 {first}\n0 0 1 {second} called at other.cl:9:1\n0 1 1 {second}\n"
-        self.assert_told(streams, {"buffers": BUFFERS, "kernel.cl": text, "places": places}, "found", f"""\
+        self.assert_report(streams, {"buffers": BUFFERS, "kernel.cl": text, "places": places}, "found", f"""\
 race on tile[1] of group 0
     kernel.cl:2:14: write by group 0, item 0
         tile[at] = value;
@@ -169,7 +169,7 @@ race on tile[6] of group 0
         """Items 0 and 1 come to the barrier of line 2 by two calls."""
         text = "void meet() {\n    barrier(CLK_LOCAL_MEM_FENCE);\n}\nkernel void sums() {\n    if (l) meet();\n    else meet();\n}\n"
         places = "1 kernel.cl:2:5 called at kernel.cl:5:12\n2 kernel.cl:2:5 called at kernel.cl:6:10\n"
-        self.assert_told(["group 0 items 2 launch 7\n1 bar 1 l\n0 bar 2 l\nend\n"], {"info.txt": INFO, "kernel.cl": text, "places": places}, "found", """\
+        self.assert_report(["group 0 items 2 launch 7\n1 bar 1 l\n0 bar 2 l\nend\n"], {"info.txt": INFO, "kernel.cl": text, "places": places}, "found", """\
 divergent barrier, number 0 of group 0
     kernel.cl:2:5: item 0
         barrier(CLK_LOCAL_MEM_FENCE);
@@ -184,7 +184,7 @@ divergent barrier, number 0 of group 0
         """Words 0 and 4 race at the same two places, and word 2 at others."""
         streams = ["group 0 items 4 launch 7\n0 w g 0\n1 r g 0\n0 w g 2\n1 r g 2\n0 w g 4\n1 r g 4\nend\n"]
         places = "0 0 0 a.cl:1:1\n0 1 0 a.cl:2:1\n0 0 1 a.cl:3:1\n0 1 1 a.cl:4:1\n0 0 2 a.cl:1:1\n0 1 2 a.cl:2:1\n"
-        self.assert_told(streams, {"buffers": "g 0 8 input\n", "places": places}, "found", f"""\
+        self.assert_report(streams, {"buffers": "g 0 8 input\n", "places": places}, "found", f"""\
 race on input[0], input[4] (2 words); on input[0]
     a.cl:1:1: write by group 0, item 0
     a.cl:2:1: read by group 0, item 1
@@ -197,7 +197,7 @@ race on input[2]
 
     def test_two_buffers_of_local_memory(self):
         streams = [f"group {group} items 2 launch 7\n0 w l 64\n0 w l 128\n1 r l 128\n1 r l 64\nend\n" for group in (0, 1)]
-        self.assert_told(streams, {"buffers": "".join(f"l {group} 64 1 sum\nl {group} 128 4 tile\n" for group in (0, 1))}, "found", f"""\
+        self.assert_report(streams, {"buffers": "".join(f"l {group} 64 1 sum\nl {group} 128 4 tile\n" for group in (0, 1))}, "found", f"""\
 race on sum[0] of 2 groups, tile[0] of 2 groups (4 words); on sum[0] of group 0
     unknown place: write by group 0, item 0
     unknown place: read by group 0, item 1
@@ -208,7 +208,7 @@ race on sum[0] of 2 groups, tile[0] of 2 groups (4 words); on sum[0] of group 0
         streams = ["group 0 items 2 launch 7 v2\n0 bar 3 l\n1 bar 3 l\n0 w g 1\n1 bar 4 l\n0 bar 4 l\n1 r g 1\n0 rmw g 2 grp both\nend\n",
                    "group 1 items 1 launch 7 v2\n0 ld g 2 grp acq < 0 0 0\nend\n"]
         places = "3 a b.cl:1:2\n4 a b.cl:9:2\n0 0 3 lock.cl:4:7\n1 0 0 lock.cl:8:7\n"
-        self.assert_told(streams, {"places": places}, "found", """\
+        self.assert_report(streams, {"places": places}, "found", """\
 race on global word 1
     unknown place: write by group 0, item 0
     unknown place: read by group 0, item 1
@@ -223,7 +223,7 @@ race on global word 2
         """The plain accesses race since the release and the acquire between them have work-group scope; so do these themselves."""
         streams = ["group 0 items 1 launch 7\n0 w g 16\n0 st g 20 grp rel\nend\n", "group 1 items 1 launch 7\n0 ld g 20 grp acq < 0 0 0\n0 r g 16\nend\n"]
         narrow = "`memory_scope_work_group` at f.cl:4:9 and f.cl:5:13 reaches no other group: use `memory_scope_device`"
-        self.assert_told(streams, {"places": "0 0 0 f.cl:3:9\n0 0 1 f.cl:4:9\n1 0 0 f.cl:5:13\n1 0 1 f.cl:6:9\n"}, "found", f"""\
+        self.assert_report(streams, {"places": "0 0 0 f.cl:3:9\n0 0 1 f.cl:4:9\n1 0 0 f.cl:5:13\n1 0 1 f.cl:6:9\n"}, "found", f"""\
 race on global word 16
     f.cl:3:9: write by group 0, item 0
     f.cl:6:9: read by group 1, item 0
@@ -237,7 +237,7 @@ race on global word 20
     def test_a_hand_over_that_does_not_meet(self):
         """The acquire took no value of the release."""
         streams = ["group 0 items 1 launch 7\n0 w g 16\n0 st g 20 dev rel\nend\n", "group 1 items 1 launch 7\n0 ld g 20 dev acq\n0 r g 16\nend\n"]
-        self.assert_told(streams, {"places": "0 0 0 f.cl:3:9\n0 0 1 f.cl:4:9\n1 0 0 f.cl:5:13\n1 0 1 f.cl:6:9\n"}, "found", f"""\
+        self.assert_report(streams, {"places": "0 0 0 f.cl:3:9\n0 0 1 f.cl:4:9\n1 0 0 f.cl:5:13\n1 0 1 f.cl:6:9\n"}, "found", f"""\
 race on global word 16
     f.cl:3:9: write by group 0, item 0
     f.cl:6:9: read by group 1, item 0
@@ -245,7 +245,7 @@ race on global word 16
 """)
 
     def test_a_hand_over_that_is_relaxed(self):
-        """Neither, one or the other of the two atomics orders; a third one, behind the read, has no part in it. Which item is told first is the same."""
+        """Neither, one or the other of the two atomics orders; a third one, after the read, has no part in it. Which item is shown first makes no difference."""
         places = "0 0 0 f.cl:3:9\n0 0 1 f.cl:4:9\n1 0 0 f.cl:5:13\n1 0 1 f.cl:6:9\n"
         store, load = "the store at f.cl:4:9 is no release", "the load at f.cl:5:13 is no acquire"
         for store_order, load_order, more in (("rlx", "rlx", f"{store} and {load}"), ("rlx", "acq", store), ("rel", "rlx", load)):
@@ -269,10 +269,10 @@ race on global word 16
         self.assertEqual({it.message for it in launch.findings}, {
             f"{HAND_OVER}: the read-modify-write at f.cl:6:9 is no release; or make each item's read and write of the word one atomic operation"})
 
-    def test_a_hand_over_to_the_item_that_is_told_first(self):
+    def test_a_hand_over_to_the_item_that_is_shown_first(self):
         """As before, with the groups the other way round."""
         streams = ["group 0 items 1 launch 7\n0 ld g 20 dev acq\n0 r g 16\nend\n", "group 1 items 1 launch 7\n0 w g 16\n0 st g 20 dev rel\nend\n"]
-        self.assert_told(streams, {"places": "0 0 0 f.cl:5:13\n0 0 1 f.cl:6:9\n1 0 0 f.cl:3:9\n1 0 1 f.cl:4:9\n"}, "found", f"""\
+        self.assert_report(streams, {"places": "0 0 0 f.cl:5:13\n0 0 1 f.cl:6:9\n1 0 0 f.cl:3:9\n1 0 1 f.cl:4:9\n"}, "found", f"""\
 race on global word 16
     f.cl:6:9: read by group 0, item 0
     f.cl:3:9: write by group 1, item 0
@@ -292,7 +292,7 @@ race on global word 16
         self.assertEqual([(it.words, it.cause, it.message) for it in found], [(2, "", "the cause was not known after 1 s")])
 
     def test_a_plain_access_beside_atomics(self):
-        self.assert_told(["group 0 items 2 launch 7\n0 rmw g 5 dev rlx\n1 r g 5\nend\n"], {}, "found", """\
+        self.assert_report(["group 0 items 2 launch 7\n0 rmw g 5 dev rlx\n1 r g 5\nend\n"], {}, "found", """\
 race on global word 5
     unknown place: atomic read-modify-write (relaxed, device scope) by group 0, item 0
     unknown place: read by group 0, item 1
@@ -348,7 +348,7 @@ race on global word 5
             self.assertEqual([it.message for it in self.judged(streams, files).findings], [message])
 
     def test_a_barrier_within_one_line_is_no_count(self):
-        """Each item reads the word in front of a barrier, and writes it behind."""
+        """Each item reads the word before a barrier, and writes it after that."""
         places = "".join(f"0 {item} {at} a.cl:4:9\n" for item in (0, 1) for at in (0, 2))
         launch = self.judged(["group 0 items 2 launch 7\n" + "".join(f"{item} r g 5\n{item} bar 3 g\n{item} w g 5\n" for item in (0, 1)) + "end\n"],
                              {"places": places})
@@ -369,7 +369,7 @@ race on global word 5
 
     def test_divergent_barriers_come_first(self):
         streams = ["group 0 items 3 launch 7 v2\n0 bar 1 l\n1 bar 2 l\n0 w g 1\n1 w g 0\n0 bar 1 l\n1 bar 2 l\n0 r g 0\nend\n"]
-        self.assert_told(streams, {**SIDES, "places": "1 kernel.cl:3:1\n2 kernel.cl:5:1\n"}, "found", """\
+        self.assert_report(streams, {**SIDES, "places": "1 kernel.cl:3:1\n2 kernel.cl:5:1\n"}, "found", """\
 divergent barrier, number 0 of group 0, and 1 more alike
     kernel.cl:3:1: item 0
         tile[l] = input[l];
@@ -391,7 +391,7 @@ race on input[0]
     def test_streams_in_one_file(self):
         streams = ["group 1 items 2 launch 7\n0 bar 3 l\n1 w g 1\nend\n" "group 2 items 1 launch 7\nend\n"
                    "group 0 items 2 launch 7\n0 bar 3 l\n1 bar 3 l\nend cut\n"]
-        self.assert_told(streams, {"places": "3 b.cl:1:2\n"}, "found", """\
+        self.assert_report(streams, {"places": "3 b.cl:1:2\n"}, "found", """\
 divergent barrier, number 0 of group 1
     b.cl:1:2: item 0
     no barrier: item 1
@@ -401,7 +401,7 @@ reason cut: records of 1 of 3 groups were lost (the first is group 0): a group d
 
     def test_an_acquire_without_its_release(self):
         places = "0 1 0 kernel.cl:3:9\n0 1 0 late.cl:1:1\n0 1 1 kernel.cl:5:9\n"
-        self.assert_told(["group 0 items 2 launch 7 v2\n0 w g 1\n1 ld g 2 dev acq < 0 0 0\n1 r g 1\nend\n"], {**SIDES, "places": places}, "found", """\
+        self.assert_report(["group 0 items 2 launch 7 v2\n0 w g 1\n1 ld g 2 dev acq < 0 0 0\n1 r g 1\nend\n"], {**SIDES, "places": places}, "found", """\
 acquire without its release (absent)
     kernel.cl:3:9: acquire by group 0, item 1
         tile[l] = input[l];
@@ -409,7 +409,7 @@ acquire without its release (absent)
 """)
 
     def test_a_divergence_among_lost_records_is_doubtful(self):
-        self.assert_told(["group 0 items 2 launch 7\n0 bar 1 l\nend cut\n"], {}, "doubtful", """\
+        self.assert_report(["group 0 items 2 launch 7\n0 bar 1 l\nend cut\n"], {}, "doubtful", """\
 divergent barrier, number 0 of group 0 (doubtful)
     site 1: item 0
     no barrier: item 1
@@ -418,26 +418,26 @@ reason cut: records of 1 of 1 groups were lost (the first is group 0): a group d
 """)
 
     def test_nothing_but_lost_records(self):
-        self.assert_told(["group 0 items 1 launch 7 v2\n0 w g 1\nend cut\n"], SIDES, "incomplete", """\
+        self.assert_report(["group 0 items 1 launch 7 v2\n0 w g 1\nend cut\n"], SIDES, "incomplete", """\
 reason cut: records of 1 of 1 groups were lost (the first is group 0): a group did more than a trace has room for, or was stopped
 """)
 
     def test_no_mistake(self):
-        self.assert_told(["group 0 items 2 launch 7 v2\n0 w g 1\n0 bar 1 g\n1 bar 1 g\n1 r g 1\nend\n"], SIDES, "nothing", "")
+        self.assert_report(["group 0 items 2 launch 7 v2\n0 w g 1\n0 bar 1 g\n1 bar 1 g\n1 r g 1\nend\n"], SIDES, "nothing", "")
 
     def test_places_that_are_refused(self):
-        self.assert_told([tile(0)], {"places": "0 0 0 kernel.cl:3:13\n0 0\n"}, "found", """\
-races that could not be told: gpurace: places: line 2: bad line
+        self.assert_report([tile(0)], {"places": "0 0 0 kernel.cl:3:13\n0 0\n"}, "found", """\
+races that could not be read: gpurace: places: line 2: bad line
 """)
 
     def test_a_group_that_is_not_there(self):
-        self.assert_told([tile(1)], SIDES, "incomplete", """\
+        self.assert_report([tile(1)], SIDES, "incomplete", """\
 reason refused: the trace was refused: gpurace: group 0 missing
 """)
 
     def test_a_race_in_a_launch_with_fences_is_doubtful(self):
         info = INFO + "fence 3 kernel.cl:4:9\nfence 1 kernel.cl:5:9\nimage 2 kernel.cl:5:1\nnote calls of printf\n"
-        self.assert_told(["group 0 items 2 launch 7\n0 w g 1\n1 w g 1\nend\n", "group 1 items 2 launch 7\nend\n"], {"info.txt": info}, "doubtful", f"""\
+        self.assert_report(["group 0 items 2 launch 7\n0 w g 1\n1 w g 1\nend\n", "group 1 items 2 launch 7\nend\n"], {"info.txt": info}, "doubtful", f"""\
 race on global word 1 (doubtful)
     unknown place: write by group 0, item 0
     unknown place: write by group 0, item 1
@@ -448,17 +448,17 @@ reason operations: not recorded: calls of printf
 """)
 
     def test_an_access_out_of_bounds_is_a_finding_also_beside_fences(self):
-        info = INFO + "fence 1 kernel.cl:5:9\nout-of-bounds 2 kernel.cl:3:9 write 4 1 1 16 bytes behind the end of output, which has 128 bytes\n"
+        info = INFO + "fence 1 kernel.cl:5:9\nout-of-bounds 2 kernel.cl:3:9 write 4 1 1 16 bytes after the end of output, which has 128 bytes\n"
         launch = self.judged(["group 0 items 2 launch 7\nend\n", "group 1 items 2 launch 7\nend\n"], {**SIDES, "info.txt": info})
         self.assertEqual((launch.verdict, launch.findings[0].buffers()), ("found", ["output"]))
         self.assertEqual(list(launch.findings[0].lines()), [
-            "out of bounds: write of 4 bytes, 16 bytes behind the end of output, which has 128 bytes",
+            "out of bounds: write of 4 bytes, 16 bytes after the end of output, which has 128 bytes",
             "    kernel.cl:3:9: write by group 1, item 1", "        tile[l] = input[l];", "    2 times"])
 
     def test_coordinates(self):
         """Of 6 x 4 items in groups of 3 x 2, in the third and fourth group, which are the trace's 0 and 1: items 5 (2,1) and 4 (1,1)."""
         info = "kernel sums\nlaunch 7\nglobal 6 4 1\nlocal 3 2 1\ngroups 4\nwindow 2 2\nitems 12\nrecords 4\n"
-        self.assert_told(["group 0 items 6 launch 7\n5 w g 1\nend\n", "group 1 items 6 launch 7\n4 w g 1\nend\n"], {"info.txt": info}, "found", f"""\
+        self.assert_report(["group 0 items 6 launch 7\n5 w g 1\nend\n", "group 1 items 6 launch 7\n4 w g 1\nend\n"], {"info.txt": info}, "found", f"""\
 race on global word 1
     unknown place: write by group 2 (0,1), item 5 (2,1)
     unknown place: write by group 3 (1,1), item 4 (1,1)
@@ -468,7 +468,7 @@ reason window: only groups 2 to 3 of 4 were recorded
 
     def test_elements_of_their_types(self):
         """Word 5 of l_data is the component y of its second float4, and words 8 to 11 are all of the third; byte 6 of marks is its seventh element.
-        The type of `other` is a macro, and `size` is no type of a buffer: their words are told."""
+        The type of `other` is a macro, and `size` is no type of a buffer: their words are shown as words."""
         text = ("kernel void first(global int2 *l_data) {}\nkernel void sums(global uchar *marks, local float4 *l_data, global T *other, int size)\n"
                 "{ /* int *other */ }\n")
         streams = ["group 0 items 2 launch 7\n0 w l 5\n1 w l 5\n0 w l 8\n1 w l 8\n0 w l 9\n1 w l 9\n0 w l 10\n1 w l 10\n0 w l 11\n1 w l 11\n"

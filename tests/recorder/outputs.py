@@ -64,16 +64,16 @@ class Statuses(Outputs):
         for number in range(3):
             put_racy(self.kept, number)
         put_right(self.kept, 3)
-        told = self.judge(status=1)
-        self.assertEqual([line for line in told if line.startswith("launch")], [
+        lines = self.judge(status=1)
+        self.assertEqual([line for line in lines if line.startswith("launch")], [
             "launch 0, sums: FOUND (1 group of 2 work-items, 9 records), and 2 launches alike", "launch 3, right: nothing found (1 group of 2 work-items, 9 records)"])
-        self.assertIn("gpurace-judge: 4 launches: 3 with findings, 1 without, 0 not judged whole", told[-1])
+        self.assertIn("gpurace-judge: 4 launches: 3 with findings, 1 without, 0 not judged whole", lines[-1])
 
     def test_what_keeps_a_launch_from_being_an_answer_comes_first_in_the_summary(self):
         put_right(self.kept, more="fence 2 kernel.cl:3:5\n")
         put_right(self.kept, 1, "other", more="not-recorded a work-group has 2048 work-items\n")
-        told = [line for line in self.judge(status=2) if line.startswith("gpurace-judge")]
-        self.assertEqual(told[:3], [
+        lines = [line for line in self.judge(status=2) if line.startswith("gpurace-judge")]
+        self.assertEqual(lines[:3], [
             "gpurace-judge: nothing found, which is no answer:",
             "gpurace-judge:     fences not recorded, so that an order that they give is not seen: 2, at kernel.cl:3:5 (1 launch of right)",
             "gpurace-judge:     not recorded: a work-group has 2048 work-items (1 launch of other)"])
@@ -81,8 +81,8 @@ class Statuses(Outputs):
 
     def test_a_doubtful_race_is_not_found(self):
         put_racy(self.kept, more="fence 2 kernel.cl:4:5\n")
-        told = self.judge(status=2)
-        self.assertIn("gpurace-judge:     doubtful: race on tile[8] of group 0, at kernel.cl:3:13 and kernel.cl:5:20 (1 launch of sums)", told)
+        lines = self.judge(status=2)
+        self.assertIn("gpurace-judge:     doubtful: race on tile[8] of group 0, at kernel.cl:3:13 and kernel.cl:5:20 (1 launch of sums)", lines)
 
     def test_no_launch(self):
         self.kept.mkdir()
@@ -109,9 +109,9 @@ class Statuses(Outputs):
         put_right(self.kept)
         put_right(self.kept, 1, "other")
         (self.kept / "001-other" / "info.txt").write_text("kernel other\nlaunch 1\nlocal two\n")
-        told = self.judge(status=2)
-        self.assertIn("not judged: ", told[1])
-        self.assertIn("2 launches: 0 with findings, 1 without, 1 not judged whole", told[-1])
+        lines = self.judge(status=2)
+        self.assertIn("not judged: ", lines[1])
+        self.assertIn("2 launches: 0 with findings, 1 without, 1 not judged whole", lines[-1])
 
     def test_numbers_that_are_none(self):
         put_right(self.kept)
@@ -120,8 +120,8 @@ class Statuses(Outputs):
 
     def test_streams_of_a_runtime_of_ones_own(self):
         put_launch(self.kept / "mine", ["group 0 items 2 launch 7\n0 w g 5\n1 w g 5\nend\n"], {})
-        told = self.judge(status=1)
-        self.assertEqual(told[:3], ["launch 0, mine: FOUND (1 group, 2 work-items, 3 records)", f"    races 1 diverge 0 unmatched 0 held 0, in {self.kept}/mine",
+        lines = self.judge(status=1)
+        self.assertEqual(lines[:3], ["launch 0, mine: FOUND (1 group, 2 work-items, 3 records)", f"    races 1 diverge 0 unmatched 0 held 0, in {self.kept}/mine",
                                     "    race on global word 5:"])
 
 
@@ -131,7 +131,7 @@ class Forms(Outputs):
         put_racy(self.kept, 1)
         put_racy(self.kept, 2, "doubtful", more="fence 2 kernel.cl:4:5\n")
         put_right(self.kept, 3)
-        files = {"info.txt": info("divergent", 4, more="out-of-bounds 1 kernel.cl:3:9 write 4 0 1 16 bytes behind the end of output, which has 128 bytes\n"),
+        files = {"info.txt": info("divergent", 4, more="out-of-bounds 1 kernel.cl:3:9 write 4 0 1 16 bytes after the end of output, which has 128 bytes\n"),
                  "kernel.cl": KERNEL, "places": "1 kernel.cl:5:9\n", "buffers": BUFFERS}
         put_launch(self.kept / "004-divergent", ["group 0 items 2 launch 4\n0 bar 1 l\nend\n"], files)
 
@@ -228,9 +228,9 @@ class Sources(Outputs):
         (self.room / name).write_text(text)
 
     def assert_places(self, first, second):
-        told = "".join(self.judge("--sources", "tree", "--sarif", "made.sarif", status=1))
-        self.assertIn(f"{first}: read by group 0, item 0", told)
-        self.assertIn(f"{second}: write by group 0, item 1", told)
+        lines = "".join(self.judge("--sources", "tree", "--sarif", "made.sarif", status=1))
+        self.assertIn(f"{first}: read by group 0, item 0", lines)
+        self.assertIn(f"{second}: write by group 0, item 1", lines)
         return self.made("made.sarif")["runs"][0]
 
     def test_the_file_of_the_text(self):
@@ -265,12 +265,12 @@ class Known(Outputs):
         self.judge("--baseline", "known.json", "--update-baseline", status=0)
         self.assertEqual(self.made("known.json"), {"gpurace_baseline": 1, "findings": [
             {"kind": "race", "kernel": "sums", "buffers": ["tile"], "cause": "no-barrier", "texts": ["tile[l] += tile[l + 8];", "tile[l] = input[l];"]}]})
-        told = self.judge("--baseline", "known.json", "--json", "made.json", "--sarif", "made.sarif", "--junit", "made.xml", status=0)
-        self.assertIn("launch 0, sums: nothing new found (1 group of 2 work-items, 9 records)", told)
-        self.assertEqual([line for line in told if line.startswith("    race on")], ["    race on tile[8] of group 0 (known), at kernel.cl:3:13 and kernel.cl:5:20"])
-        self.assertNotIn("tile[l] += tile[l + 8];", "".join(told))  # known ones are told by a line each
-        self.assertEqual(told[-3:-1], ["gpurace-judge: nothing new found", "gpurace-judge: 1 known finding of known.json"])
-        self.assertIn("1 launch: 0 with findings, 1 with known ones, 0 without, 0 not judged whole", told[-1])
+        lines = self.judge("--baseline", "known.json", "--json", "made.json", "--sarif", "made.sarif", "--junit", "made.xml", status=0)
+        self.assertIn("launch 0, sums: nothing new found (1 group of 2 work-items, 9 records)", lines)
+        self.assertEqual([line for line in lines if line.startswith("    race on")], ["    race on tile[8] of group 0 (known), at kernel.cl:3:13 and kernel.cl:5:20"])
+        self.assertNotIn("tile[l] += tile[l + 8];", "".join(lines))  # known ones have a line each
+        self.assertEqual(lines[-3:-1], ["gpurace-judge: nothing new found", "gpurace-judge: 1 known finding of known.json"])
+        self.assertIn("1 launch: 0 with findings, 1 with known ones, 0 without, 0 not judged whole", lines[-1])
         self.assertEqual(self.made("made.json")["findings"][0]["state"], "known")
         self.assertEqual(self.made("made.sarif")["runs"][0]["results"][0]["baselineState"], "unchanged")
         self.assertEqual([it.tag for it in xml.parse(self.room / "made.xml").getroot().find(".//testcase")], [])
@@ -291,7 +291,7 @@ class Known(Outputs):
             known.cause, race.cause, race.state = *causes, "new"
             path = self.room / "known.json"
             path.write_text(json.dumps({"gpurace_baseline": 1, "findings": [entry_of(known)]}))
-            baseline, report, launch = Baseline(str(path), False), Report(tell=lambda line: None), Launch(0, "sums", "")
+            baseline, report, launch = Baseline(str(path), False), Report(show=lambda line: None), Launch(0, "sums", "")
             report.filters, launch.findings = [baseline], [race]
             report.add(launch)
             self.assertEqual((race.state, baseline.gone(report)), (state, [] if state == "known" else [entry_of(known)]))
@@ -303,8 +303,8 @@ class Known(Outputs):
         put_right(self.kept, 1)
         self.assertNotIn("gone", "".join(self.judge("--baseline", "known.json", status=0)))  # its kernel was not launched
         put_right(self.kept, 0, "sums")
-        told = self.judge("--baseline", "known.json", "--sarif", "made.sarif", "--json", "made.json", status=0)
-        self.assertIn("gpurace-judge:     gone: race in sums on tile, `tile[l] += tile[l + 8];`, `tile[l] = input[l];`", told)
+        lines = self.judge("--baseline", "known.json", "--sarif", "made.sarif", "--json", "made.json", status=0)
+        self.assertIn("gpurace-judge:     gone: race in sums on tile, `tile[l] += tile[l + 8];`, `tile[l] = input[l];`", lines)
         self.assertEqual([it["baselineState"] for it in self.made("made.sarif")["runs"][0]["results"]], ["absent"])
         self.assertEqual(len(self.made("made.json")["gone"]), 1)
         self.assert_valid(self.made("made.sarif"), TOP / "tests" / "recorder" / "sarif.schema.json")
@@ -320,10 +320,10 @@ class Known(Outputs):
         put_racy(self.kept)
         put_racy(self.kept, 1)
         (self.room / "quiet").write_text("# of the sums\n\nkernel sum* buffer tile place kernel.cl:3:* -- known to its author\nkernel other -- never\n")
-        told = self.judge("--suppress", "quiet", "--json", "made.json", "--sarif", "made.sarif", status=0)
-        self.assertIn("    race on tile[8] of group 0 (suppressed: known to its author), at kernel.cl:3:13 and kernel.cl:5:20", told)
-        self.assertIn("gpurace-judge: quiet, line 3: suppressed 2 times: known to its author", told)
-        self.assertIn("gpurace-judge: quiet, line 4: matched nothing: never", told)
+        lines = self.judge("--suppress", "quiet", "--json", "made.json", "--sarif", "made.sarif", status=0)
+        self.assertIn("    race on tile[8] of group 0 (suppressed: known to its author), at kernel.cl:3:13 and kernel.cl:5:20", lines)
+        self.assertIn("gpurace-judge: quiet, line 3: suppressed 2 times: known to its author", lines)
+        self.assertIn("gpurace-judge: quiet, line 4: matched nothing: never", lines)
         self.assertEqual(self.made("made.json")["suppressions"], [
             {"line": 3, "kernel": "sum*", "buffer": "tile", "place": "kernel.cl:3:*", "why": "known to its author", "matched": 2},
             {"line": 4, "kernel": "other", "why": "never", "matched": 0}])

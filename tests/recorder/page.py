@@ -18,16 +18,16 @@ PYTHON = python_with("jinja2", "pygments")
 BROWSER = ["chromium", "--headless=new", "--no-sandbox", "--disable-gpu", "--disable-dev-shm-usage", "--enable-logging=stderr", "--dump-dom"]
 
 TRY = """<script>
-const told = [];
+const seen = [];
 const rows = () => [...document.querySelectorAll("#table tbody tr")].filter(row => !row.hidden).map(row => row.cells[0].textContent).join();
 const filter = document.getElementById("filter"), state = document.getElementById("state");
-told.push(rows());
-document.querySelectorAll("#table th button")[3].click(); told.push(rows());
-document.querySelectorAll("#table th button")[3].click(); told.push(rows());
-filter.value = "tile sums"; filter.dispatchEvent(new Event("input")); told.push(rows());
-filter.value = ""; state.value = "doubtful"; state.dispatchEvent(new Event("input")); told.push(rows());
-told.push(document.documentElement.scrollWidth > innerWidth ? "too wide" : "fits");
-document.body.dataset.told = told.join(";");
+seen.push(rows());
+document.querySelectorAll("#table th button")[3].click(); seen.push(rows());
+document.querySelectorAll("#table th button")[3].click(); seen.push(rows());
+filter.value = "tile sums"; filter.dispatchEvent(new Event("input")); seen.push(rows());
+filter.value = ""; state.value = "doubtful"; state.dispatchEvent(new Event("input")); seen.push(rows());
+seen.push(document.documentElement.scrollWidth > innerWidth ? "too wide" : "fits");
+document.body.dataset.seen = seen.join(";");
 </script>"""
 
 
@@ -51,7 +51,7 @@ class Pictures(unittest.TestCase):
         self.assertEqual(picture.rows_of([READ, READ, RACING], [RACING, READ], True), [
             picture.Row(READ, None), picture.Row(READ, None), picture.Row(RACING, RACING), picture.Row(None, READ)])
 
-    def test_who_hands_over_stands_above_who_takes(self):
+    def test_who_hands_over_is_above_who_takes(self):
         release, acquire = Mark("store", order="rel", scope="grp", key=(0, 1, 2)), Mark("load", order="acq", scope="grp", takes=((0, 1, 2),))
         self.assertEqual(picture.rows_of([RACING, release], [acquire, RACING], False), [
             picture.Row(RACING, None), picture.Row(release, None), picture.Row(None, acquire), picture.Row(None, RACING)])
@@ -110,7 +110,7 @@ class Page(unittest.TestCase):
         page.write_text(self.text.replace("</body>", TRY + "</body>"))
         for width in (1280, 500):
             ran = self.browse(page, width)
-            told = re.search('data-told="([^"]*)"', ran.stdout)
-            self.assertTrue(told, ran.stderr[-2000:])
-            self.assertEqual(told[1].split(";"), ["1,2,3,4", "3,4,2,1", "1,2,3,4", "1", "2", "fits"])
+            seen = re.search('data-seen="([^"]*)"', ran.stdout)
+            self.assertTrue(seen, ran.stderr[-2000:])
+            self.assertEqual(seen[1].split(";"), ["1,2,3,4", "3,4,2,1", "1,2,3,4", "1", "2", "fits"])
             self.assertNotIn("CONSOLE", ran.stderr)

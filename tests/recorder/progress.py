@@ -16,15 +16,15 @@ JUDGE = TOP / "tools" / "gpurace-judge"
 
 def read_all(file):
     """What was written to a terminal, whose end is an error."""
-    told = b""
+    shown = b""
     while True:
         try:
             part = os.read(file, 1 << 16)
         except OSError:
-            return told
+            return shown
         if not part:
-            return told
-        told += part
+            return shown
+        shown += part
 
 
 @unittest.skipUnless(PYTHON, "python3-rich is missing")
@@ -38,18 +38,18 @@ class Terminal(unittest.TestCase):
             environ = {**os.environ, "GPURACE_PROGRAM": os.environ["GPURACE"], "TERM": "xterm"}
             with subprocess.Popen([PYTHON, *options, str(JUDGE), "--jobs", "1", room], stdout=subprocess.DEVNULL, stderr=theirs, env=environ) as run:
                 os.close(theirs)
-                told = read_all(ours)
+                shown = read_all(ours)
             os.close(ours)
-            self.assertEqual(run.returncode, 0, told)
-            return told.decode()
+            self.assertEqual(run.returncode, 0, shown)
+            return shown.decode()
 
-    def test_a_bar_stands_there_meanwhile(self):
-        told = self.judged()
-        self.assertIn("judging", told)
-        self.assertIn("launch 0, right: nothing found", told)
+    def test_a_bar_is_shown_meanwhile(self):
+        shown = self.judged()
+        self.assertIn("judging", shown)
+        self.assertIn("launch 0, right: nothing found", shown)
 
     def test_without_rich_lines_stand_there(self):
         """By a Python without packages."""
-        told = self.judged("-S")
-        self.assertNotIn("judging", told)
-        self.assertIn("launch 0, right: nothing found", told)
+        shown = self.judged("-S")
+        self.assertNotIn("judging", shown)
+        self.assertIn("launch 0, right: nothing found", shown)

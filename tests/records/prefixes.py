@@ -1,4 +1,4 @@
-"""Streams that break off: each beginning of them is refused, and `dump --partial` writes what stands before the break."""
+"""Streams that break off: each beginning of them is refused, and `dump --partial` writes what comes before the break."""
 
 from testing.program import ProgramTest, pack
 
@@ -38,7 +38,7 @@ class Prefixes(ProgramTest):
         for length in range(1, len(stream)):
             with self.subTest(bytes=length):
                 whole = 0 if length < 12 else 1 + (length - 12) // 20
-                told = b"".join(lines[:whole])
-                self.assert_run(self.gpurace("dump", "--partial", given=stream[:length]), told, 2, TRUNCATED)
-                behind = self.gpurace("dump", "--partial", given=stream + stream[:length])
-                self.assert_run(behind, RACE + told, 2, TRUNCATED.replace(b"stream 0", b"stream 1"))
+                text = b"".join(lines[:whole])
+                self.assert_run(self.gpurace("dump", "--partial", given=stream[:length]), text, 2, TRUNCATED)
+                ran = self.gpurace("dump", "--partial", given=stream + stream[:length])
+                self.assert_run(ran, RACE + text, 2, TRUNCATED.replace(b"stream 0", b"stream 1"))

@@ -27,7 +27,7 @@ class Run:
     busy: float
     peak: float
 
-    def told(self):
+    def costs(self):
         return f"{self.wall:7.2f} s, busy {self.busy:7.2f} s, {self.peak:5.0f} MiB"
 
 
@@ -47,7 +47,7 @@ def peak_of(process):
 
 
 def measured(words, given=os.devnull, **settings):
-    """One run of a command with this file as its standard input. Its memory is looked at each millisecond, since what the system tells of it at
+    """One run of a command with this file as its standard input. Its memory is looked at each millisecond, since what the system says of it at
     its end counts that of this script, too."""
     start, peak, own = time.monotonic(), 0.0, resource.getrusage(resource.RUSAGE_SELF).ru_maxrss
     with open(given, "rb") as it, tempfile.TemporaryFile() as out, subprocess.Popen(words, stdin=it, stdout=out, **settings) as child:
@@ -93,7 +93,7 @@ def kernel_trace(kernel, folder, records, groups, items, variant=""):
 
 def parser(document):
     made = argparse.ArgumentParser(description=document, formatter_class=argparse.RawDescriptionHelpFormatter)
-    made.add_argument("--turns", type=int, default=3, metavar="N", help="runs of each command, of which the medians are told (3)")
+    made.add_argument("--turns", type=int, default=3, metavar="N", help="runs of each command, whose medians are shown (3)")
     return made
 
 

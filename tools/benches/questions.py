@@ -32,5 +32,5 @@ def main(words):
             print(f"{kernel} {variant}: {count} records, {report.count(b'race ')} racy words", flush=True)
             for name, command in questions(report):
                 run = median([measured([program(), *command, path]) for _ in range(given.turns)])
-                print(f"  {name:16} {run.told()}", flush=True)
+                print(f"  {name:16} {run.costs()}", flush=True)
     return 0

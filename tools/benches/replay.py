@@ -37,12 +37,12 @@ def main(words):
         with tempfile.TemporaryDirectory() as folder:
             for name, path, count in traces(given, records, folder):
                 run = median([measured(command, path) for _ in range(given.turns)])
-                told = f"{name:18} {count:>9} records: {run.told()}, {count / run.wall:>11,.0f} a second"
+                line = f"{name:18} {count:>9} records: {run.costs()}, {count / run.wall:>11,.0f} a second"
                 if given.instructions:
                     all_, within = instructions(command, path, given.share)
-                    told += f", {all_ / count:7,.0f} instructions a record"
-                    told += f", {100 * within / all_:.1f} % in {given.share}" if given.share else ""
-                print(told, flush=True)
+                    line += f", {all_ / count:7,.0f} instructions a record"
+                    line += f", {100 * within / all_:.1f} % in {given.share}" if given.share else ""
+                print(line, flush=True)
                 if run.status not in (0, 1):
                     sys.exit(f"status {run.status}")
     return 0

@@ -2,10 +2,10 @@
 
 Each of N runs (10,000) takes an example of examples, its streams in any order, 1 to 8 workers, 1 to 4 queues,
 a capacity of 1 to 65,536, often 1, and 1, 2 or 4 processors. Then, on 1, 2 and 4 processors each: 64 groups that wait for
-one another through queues of one place; a stream that stalls for a second, of which the program's processor time is told
+one another through queues of one place; a stream that stalls for a second, with the program's processor time
 too; a stream that is cut in the middle, as a file and as a pipe; and a folder in the place of a file. Standard output,
 standard error and status must be those of `replay`, and no run may take more than 60 seconds. Also each allocation of a
-run is refused in turn (tools/refuse_growth.c): the run must tell that memory ran out or a thread could not be started, or
+run is refused in turn (tools/refuse_growth.c): the run must say that memory ran out or a thread could not be started, or
 answer as ever. The same seed gives the same runs. Says at the end how many were made; the status is 1 where one differed or
 hung. Needs taskset and a C compiler.
 """
@@ -33,7 +33,7 @@ END = 6
 
 
 def fault_line(errors):
-    """The line of a fault, without what is told below it."""
+    """The line of a fault, without the lines below it."""
     return errors[:errors.find(b"\n") + 1]
 
 
@@ -111,7 +111,7 @@ class Stress:
 
 
 def streams_of(joined):
-    """The streams that stand one after another."""
+    """The streams that come one after another."""
     streams = []
     while joined:
         length = RECORD_LENGTHS[joined[:4]]

@@ -1,4 +1,4 @@
-"""How fast `gpurace run` is beside `gpurace replay`, on the same traces, in turn. The machine's load is told before each kernel, since other work
+"""How fast `gpurace run` is beside `gpurace replay`, on the same traces, in turn. The machine's load is shown before each kernel, since other work
 takes processors away."""
 
 import os
@@ -30,7 +30,7 @@ def are_equal(kernel, records, given):
                 taken.setdefault(name, []).append(measured(words, file))
     for name, runs in taken.items():
         run = median(runs)
-        print(f"  {name:14} {run.told()}, {count / run.wall:>11,.0f} a second", flush=True)
+        print(f"  {name:14} {run.costs()}, {count / run.wall:>11,.0f} a second", flush=True)
     return len({run.text for runs in taken.values() for run in runs}) == 1
 
 

@@ -94,7 +94,7 @@ def parser() -> Parser:
     made.add_argument("--ignore-program-status", action="store_true", help="a program that ends with another status than 0 is as good")
     add_outputs(made)
     own = made.add_argument_group("of the native recorder")
-    own.add_argument("--most-records", metavar="N", type=number, help="of each launch; what comes behind them is told as cut")
+    own.add_argument("--most-records", metavar="N", type=number, help="of each launch; what comes after them is reported as cut")
     own.add_argument("--timeout", metavar="S", type=number, help="ends the program where a kernel has not ended after S seconds")
     own.add_argument("--seed", metavar="N", type=number, help="makes the order of work-items and work-groups a function of N, on one thread")
     own.add_argument("--schedules", metavar="K", type=above_zero, help="runs the program K times, with the seeds N, N + 1 and so on")
@@ -106,20 +106,20 @@ def parser() -> Parser:
 
 
 def add_outputs(made: argparse.ArgumentParser) -> None:
-    """The options of what is told, and to whom."""
-    told = made.add_argument_group("for build servers")
+    """The options of what is reported, and in which form."""
+    forms = made.add_argument_group("for build servers")
     for form, what in (("json", "every launch and every finding as JSON"), ("sarif", "the findings as SARIF 2.1.0"),
                        ("junit", "a case for each kernel as JUnit"), ("html", "a page to look at: sources, findings, pictures")):
-        told.add_argument(f"--{form}", metavar="FILE", help=f"writes {what}")
-    told.add_argument("--baseline", metavar="FILE", help="the findings of this file are known, and only others count")
-    told.add_argument("--update-baseline", action="store_true", help="writes what is found into the baseline, so that it is known")
-    told.add_argument("--suppress", metavar="FILE", help="lines KEY PATTERN .. -- WHY, with the keys kernel, buffer and place: these don't count")
-    told.add_argument("--sources", metavar="DIR", help="names the files of DIR that the kernels' texts are of, in place of kernel.cl")
-    told.add_argument("--error-exitcode", metavar="N", type=exit_status, help="the status where something was found, in place of 1")
+        forms.add_argument(f"--{form}", metavar="FILE", help=f"writes {what}")
+    forms.add_argument("--baseline", metavar="FILE", help="the findings of this file are known, and only others count")
+    forms.add_argument("--update-baseline", action="store_true", help="writes what is found into the baseline, so that it is known")
+    forms.add_argument("--suppress", metavar="FILE", help="lines KEY PATTERN .. -- WHY, with the keys kernel, buffer and place: these don't count")
+    forms.add_argument("--sources", metavar="DIR", help="names the files of DIR that the kernels' texts are of, in place of kernel.cl")
+    forms.add_argument("--error-exitcode", metavar="N", type=exit_status, help="the status where something was found, in place of 1")
 
 
 def report_for(options: argparse.Namespace, kept: Optional[str]) -> Report:
-    """A report by the files that are named; one that can't be written is told before the program runs."""
+    """A report by the files that are named; one that can't be written is reported before the program runs."""
     report = Report(kept)
     report.filters = filters_of(options)
     if options.sources and not os.path.isdir(options.sources):
@@ -308,7 +308,7 @@ def conclude(report: Report, options: argparse.Namespace) -> int:
 
 
 def guarded(run: Callable[[], int]) -> int:
-    """Who reads the summary may have had enough of it; what comes behind the program may be stopped. A fault is no finding."""
+    """Who reads the summary may have had enough of it; what comes after the program may be stopped. A fault is no finding."""
     signal.signal(signal.SIGTERM, recording.stop)
     try:
         return run()

@@ -56,7 +56,7 @@ class Call:
 
 @dataclasses.dataclass
 class Access:
-    """Something that an item did, or several did alike, and where it stands."""
+    """Something that an item did, or several did alike, and its place."""
     what: str
     who: str
     place: str = ""
@@ -73,13 +73,13 @@ class Access:
         if self.what in ("barrier", "no barrier"):
             yield f"{self.place or self.what}: {self.who}"
         else:
-            yield self.told()
+            yield self.sentence()
         yield from [f"    {self.text}"] if self.text else []
         for call in self.calls:
             yield f"    called at {call.place}" + (f": {call.text}" if call.text else "")
 
-    def stand(self, place: str, texts: Texts) -> Access:
-        """Puts it to a place, which may name the calls that lead there."""
+    def put_at(self, place: str, texts: Texts) -> Access:
+        """Gives it its place, which may name the calls that lead there."""
         self.place, *calls = place.split(CALLED)
         self.text, self.calls = texts.line(self.place), [Call(call, texts.line(call)) for call in calls]
         return self
@@ -88,7 +88,7 @@ class Access:
         """The lines of the source; where these are not known the places, and else what is done."""
         return " < ".join([self.text or self.place or self.what, *(call.text or call.place for call in self.calls)])
 
-    def told(self) -> str:
+    def sentence(self) -> str:
         how = ", ".join(word for word in (ORDERS.get(self.order), SCOPES.get(self.scope)) if word)
         return f"{self.place or NO_PLACE}: {WHAT.get(self.what, self.what)}{' (' + how + ')' if how else ''} by {self.who}"
 
@@ -193,7 +193,7 @@ class Reader:
         wanted = self.wanted()
         self.groups = groups_of(folder, wanted)
         keys = {f"{group} {item} {index}" for group, item, index, _ in self.unmatched}
-        keys |= {f"{group} {item} {step.at}" for group, it in self.groups.items() for item in it.steps for step in it.told_of(item)}
+        keys |= {f"{group} {item} {step.at}" for group, it in self.groups.items() for item in it.steps for step in it.steps_of(item)}
         self.places = Places(folder, self.groups, keys)
 
     def wanted(self) -> Dict[int, Wanted]:
@@ -226,7 +226,7 @@ class Reader:
 
     def races(self) -> Iterator[Finding]:
         if self.fault:
-            yield Finding("race", self.kernel, f"races that could not be told: {self.fault}")
+            yield Finding("race", self.kernel, f"races that could not be read: {self.fault}")
         for kind in self.kinds:
             yield self.race(kind)
 
@@ -247,13 +247,13 @@ class Reader:
             finding.message = causes.sentence(finding.cause, finding.message, pair._replace(kind=element.kind if element else ""))
         number = buffer["index"] if buffer else race["word"]["number"]
         shown = name_of(buffer["name"] if buffer else "", said["space"], [(number, number)], 1, element)
-        finding.shown = shown + ("" if group is None else f" of {self.shape.group_told(group)}")
+        finding.shown = shown + ("" if group is None else f" of {self.shape.group_name(group)}")
         return finding
 
     def access(self, what: str, event: Dict[str, Any]) -> Access:
         group, item, index = event["group"], event["item"], event["index"]
         access = Access(what, self.shape.who(group, item), group=self.shape.group(group), item=item, index=index)
-        access.stand(event["place"] or "", self.texts)
+        access.put_at(event["place"] or "", self.texts)
         if group in self.groups:
             step = self.groups[group].step(item, index)
             access.scope, access.order = step.scope, step.order
@@ -261,7 +261,7 @@ class Reader:
 
     def put_marks(self, events: Tuple[Dict[str, Any], Dict[str, Any]], accesses: List[Access]) -> None:
         """Gives both accesses the steps around them. Of two items of a group the same barriers are shown: from the one before the first of the
-        two to the one behind the last; of many those at both ends."""
+        two to the one after the last; of many those at both ends."""
         number, group = events[0]["group"], self.groups[events[0]["group"]]
         shown: Optional[Set[int]] = None
         if number == events[1]["group"]:
@@ -291,7 +291,7 @@ class Reader:
         return Mark("barrier", self.places.site(step.word).split(CALLED)[0], instance=self.groups[group].phase(item, step.at), flags=step.space)
 
     def pair(self, said: Dict[str, Any], race: Dict[str, Any], accesses: List[Access]) -> Optional[causes.Pair]:
-        """The two accesses with what stands between them; None where their records were not read."""
+        """The two accesses with what is between them; None if their records were not read."""
         first, second = race["first"], race["second"]
         if first["group"] not in self.groups or second["group"] not in self.groups:
             return None
@@ -398,20 +398,20 @@ class Reader:
         seen = sum(number in self.groups for number, _ in self.divergent)
         more = f", and {others} more alike" if others else ""
         more += f" ({seen} of {len(self.divergent)} were looked at)" if seen < len(self.divergent) else ""
-        who = self.shape.group_told(group)
+        who = self.shape.group_name(group)
         message = DIVERGENT[cause] + (", or theirs is among the records that were lost" if is_cut else "")
         message += f"; {following} race{'s follow' if following > 1 else ' follows'} from it" if following else ""
         accesses = []
         for place, count, first in came:
             items = f"{count} work-items, the first is {self.shape.item(group, first)}" if count > 1 else self.shape.item(group, first)
-            accesses.append(Access("barrier" if place else "no barrier", items).stand(place, self.texts))
+            accesses.append(Access("barrier" if place else "no barrier", items).put_at(place, self.texts))
         return Finding("divergence", self.kernel, f"divergent barrier, number {instance} of {who}{more}", cause, message, accesses=accesses,
                        is_doubtful=is_cut)
 
     def unmatched_acquires(self) -> Iterator[Finding]:
         for group, item, index, cause in self.unmatched:
             access = Access("acquire", self.shape.who(group, item), group=self.shape.group(group), item=item, index=index)
-            access.stand(self.places.event(group, item, index), self.texts)
+            access.put_at(self.places.event(group, item, index), self.texts)
             yield Finding("unmatched", self.kernel, f"acquire without its release ({cause})", cause,
                           "the fault is mostly the recorder's; what waits for it is not judged", accesses=[access])
 
@@ -437,9 +437,9 @@ def out_of_bounds(info: Info, folder: str) -> Iterator[Finding]:
         if not said:
             raise ValueError(f"info.txt has a line out-of-bounds {line}")
         number, place, how, size, group, item, where = said.groups()
-        by = "asynchronous copy" if int(item) == shape.items else shape.told("item", int(item), shape.local)
-        who = f"{shape.told('group', int(group), shape.groups)}, {by}"
+        by = "asynchronous copy" if int(item) == shape.items else shape.name("item", int(item), shape.local)
+        who = f"{shape.name('group', int(group), shape.groups)}, {by}"
         named = OUTSIDE.fullmatch(where)
         maps = [Map(named[1], "", 0, 1, [])] if named else []
         yield Finding("out-of-bounds", kernel, f"out of bounds: {how} of {size} byte{'' if size == '1' else 's'}, {where}", "out-of-bounds",
-                      "" if number == "1" else f"{number} times", accesses=[Access(how, who).stand(place, texts)], maps=maps)
+                      "" if number == "1" else f"{number} times", accesses=[Access(how, who).put_at(place, texts)], maps=maps)

@@ -9,7 +9,7 @@ import shutil
 import struct
 from typing import Dict, Iterator, List, NamedTuple, Optional, Tuple, cast
 
-JOINED = "groups.gpurace"  # of a launch of many groups, whose streams stand there as they ended
+JOINED = "groups.gpurace"  # of a launch of many groups, with their streams in the order in which they ended
 END = 6
 MOST_GROUPS = 64  # that have a file each
 HEADER = struct.Struct("<4sHHI")
@@ -60,7 +60,7 @@ def mapped(path: str) -> bytes:
 
 
 def streams_in(data: bytes) -> Iterator[Stream]:
-    """The streams that stand one behind another in the bytes of a file. Behind one without an end there is none."""
+    """The streams that come one after another in the bytes of a file. After one without an end there is none."""
     at = 0
     while data[at:at + 4] in RECORD_FORMS and at + HEADER.size <= len(data):
         form, group, _, _ = HEADER.unpack_from(data, at)
@@ -87,7 +87,7 @@ def records_of(data: bytes, start: int, size: int) -> int:
 
 
 def end_streams(folder: str) -> str:
-    """Makes a launch whole whose program died: its streams end as cut behind their last whole record. Answers what kept it from that."""
+    """Makes a launch whole whose program died: its streams end as cut after their last whole record. Answers what kept it from that."""
     begun = info_of(folder, "begun.txt")
     if not begun["kernel"]:
         return ""

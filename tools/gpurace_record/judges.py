@@ -25,7 +25,7 @@ class Judge(threading.Thread):
     much is not judged yet. Of a launch of many records it reads pipes while they are recorded."""
 
     def __init__(self, program: str, folder: str, report: Report, is_kept: bool, jobs: int, seed: Optional[int], tests: str):
-        """`tests` is a folder in which the plugin of pytest asks, and is told."""
+        """`tests` is a folder in which the plugin of pytest asks, and gets its answers."""
         super().__init__(daemon=True)
         self.tests = tests
         self.program, self.folder, self.report, self.is_kept, self.seed = program, folder, report, is_kept, seed
@@ -69,7 +69,7 @@ class Judge(threading.Thread):
         self.report.unrecorded += [Reason("not-recorded", f"not recorded: {fault}", [name.partition("-")[2]]) for name, fault in faults if fault]
 
     def pipe(self, name: str) -> Optional[Piped]:
-        """Has a launch judged while it is recorded; where no process can be started for it, it is cut, and judged by what stands in files."""
+        """Has a launch judged while it is recorded; where no process can be started for it, it is cut, and judged by what is in files."""
         try:
             return Piped(self.program, os.path.join(self.folder, name), self.starter)
         except OSError as fault:
@@ -122,8 +122,8 @@ class Judge(threading.Thread):
         return self.waiting + len(self.having("info.txt"))
 
     def stop(self) -> List[str]:
-        """Nothing more is told. Answers the kernels of the launches that were recorded and not judged; what kept one from being judged at the
-        end is told already."""
+        """Nothing more is shown. Answers the kernels of the launches that were recorded and not judged; what kept one from being judged at the
+        end is shown already."""
         files = ("info.txt", "begun.txt") if self.is_alive() else ("info.txt",)
         with self.lock:
             self.is_stopped = True

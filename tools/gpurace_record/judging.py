@@ -13,9 +13,9 @@ from .pipes import Piped
 from .sides import Texts, PLACE
 
 FOUND, INCOMPLETE = 1, 2
-MOST_PLACES = 3  # of one kind that are told
-KINDS = ("divergence", "out-of-bounds", "race", "unmatched")  # of findings, in the order in which they are told
-NOT_ALL_KEPT = "its first records are told of, and all are counted, since it has more than are kept; --keep DIR has all told of"
+MOST_PLACES = 3  # of one kind that are shown
+KINDS = ("divergence", "out-of-bounds", "race", "unmatched")  # of findings, in the order in which they are shown
+NOT_ALL_KEPT = "only its first records are shown, but all are counted, since it has more than are kept; --keep DIR shows all"
 
 
 def count(number: int, what: str) -> str:
@@ -46,10 +46,10 @@ class Launch:
     findings: List[Finding] = dataclasses.field(default_factory=list)
     reasons: List[Reason] = dataclasses.field(default_factory=list)
     notes: List[str] = dataclasses.field(default_factory=list)
-    texts: Dict[str, List[str]] = dataclasses.field(default_factory=dict)  # the files that its findings stand in
+    texts: Dict[str, List[str]] = dataclasses.field(default_factory=dict)  # the files of its findings
 
     def outcome(self) -> Tuple:
-        """What launches have in common that are told as one."""
+        """What launches have in common that are shown as one."""
         return (self.kernel, self.label if self.findings else "", self.verdict, tuple(sorted({it.fingerprint() for it in self.findings})),
                 tuple(sorted({reason.text for reason in self.reasons})))
 
@@ -79,7 +79,7 @@ def judged(program: str, folder: str, piped: Optional[Piped] = None) -> Launch:
 
 
 def judged_by(program: str, folder: str, piped: Optional[Piped]) -> Launch:
-    """One that was judged while it was recorded is told by what stands in files."""
+    """One that was judged while it was recorded is shown by what is in files."""
     info = info_of(folder)
     if info["cut"] and info["groups"] and not piped:  # some groups may never have begun
         end_files(folder, info)
@@ -95,7 +95,7 @@ def judged_by(program: str, folder: str, piped: Optional[Piped]) -> Launch:
 
 
 def report_of(program: str, launch: Launch, info: Info, piped: Optional[Piped]) -> Tuple[int, List[str], str]:
-    """The status and the lines of gpurace's report, and what is wrong. Of a launch that pipes have judged, what stands in files is told."""
+    """The status and the lines of gpurace's report, and what is wrong. Of a launch that pipes have judged, what is in files is shown."""
     by_pipes, of_pipes = piped.finish(info) if piped else (None, [])
     if by_pipes == 0:
         return 0, of_pipes, ""
@@ -111,7 +111,7 @@ def report_of(program: str, launch: Launch, info: Info, piped: Optional[Piped]) 
     if by_pipes not in (None, FOUND, INCOMPLETE):
         how = f"by signal {-by_pipes}" if by_pipes < 0 else f"with status {by_pipes}"
         launch.reasons.append(Reason("fault", f"what judged it while it was recorded was ended {how}, as where memory runs out: only its first records "
-                                              "are told of; --groups records less of it"))
+                                              "are shown; --groups records less of it"))
     return status, report, fault
 
 

@@ -61,7 +61,7 @@ class Baseline(Filter):
         found = [entry_of(entry.finding) for entry in report.entries().values()]
         return [it for it in self.known.values() if it["kernel"] in launched and not any(is_alike(it, other) for other in found)]
 
-    def told(self, report: Report) -> Iterator[str]:
+    def lines(self, report: Report) -> Iterator[str]:
         known = [entry for entry in report.entries().values() if entry.state == "known"]
         yield f"{count(len(known), 'known finding')} of {self.path}{', which is written anew' if self.is_updated else ''}"
         for it in self.gone(report):
@@ -117,7 +117,7 @@ class Suppressions(Filter):
             rule.matched += 1
             finding.state, finding.why = "suppressed", rule.why
 
-    def told(self, report: Report) -> Iterator[str]:
+    def lines(self, report: Report) -> Iterator[str]:
         for rule in self.rules:
             matched = f"suppressed {count(rule.matched, 'time')}" if rule.matched else "matched nothing"
             yield f"{self.path}, line {rule.number}: {matched}: {rule.why}"

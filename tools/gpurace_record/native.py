@@ -60,9 +60,9 @@ def check(say: Callable[[str], None]) -> bool:
         state = "missing" if package in missing else "there  "
         print(f"  {state}  {os.path.basename(needed)}, of the package {package}", flush=True)
     program = [sys.executable, os.path.join(RECORDER, "tests", "small_program.py")]
-    told = subprocess.run(program + ["list"], capture_output=True, text=True)
-    print("".join(f"  {line}\n" for line in (told.stdout or told.stderr).splitlines()), end="", flush=True)
-    if missing or told.returncode != 0:
+    listed = subprocess.run(program + ["list"], capture_output=True, text=True)
+    print("".join(f"  {line}\n" for line in (listed.stdout or listed.stderr).splitlines()), end="", flush=True)
+    if missing or listed.returncode != 0:
         say("not ready" + (f": apt-get install {' '.join(missing)}" if missing else ""))
         return False
     with tempfile.TemporaryDirectory() as folder:

@@ -72,27 +72,27 @@ def uri_of(launch: Launch, file: str) -> str:
     return os.path.relpath(file) if "/" in file else f"{launch.kernel}/{file}"
 
 
-def location(launch: Launch, place: str, text: str, told: str) -> Dict[str, Any]:
+def location(launch: Launch, place: str, text: str, said: str) -> Dict[str, Any]:
     at = PLACE.fullmatch(place)
     if not at:
-        return {"message": {"text": told}}
+        return {"message": {"text": said}}
     region: Dict[str, Any] = {"startLine": max(1, int(at[2])), "startColumn": max(1, int(at[3]))}
     if text:
         region["snippet"] = {"text": text}
     physical = {"artifactLocation": {"uri": uri_of(launch, at[1])}, "region": region}
-    return {"physicalLocation": physical, "message": {"text": told}}
+    return {"physicalLocation": physical, "message": {"text": said}}
 
 
 def stack(launch: Launch, access: Access) -> Dict[str, Any]:
     """The calls that lead to an access, and it as the innermost frame."""
-    frames = [location(launch, access.place, access.text, access.told())]
+    frames = [location(launch, access.place, access.text, access.sentence())]
     frames += [location(launch, call.place, call.text, f"called at {call.place}") for call in access.calls]
-    return {"message": {"text": access.told()}, "frames": [{"location": frame} for frame in frames]}
+    return {"message": {"text": access.sentence()}, "frames": [{"location": frame} for frame in frames]}
 
 
 def result(mark: str, entry: Entry, has_baseline: bool) -> Dict[str, Any]:
     it, launch = entry.finding, entry.launches[0]
-    places = [location(launch, access.place, access.text, access.told()) for access in it.accesses]
+    places = [location(launch, access.place, access.text, access.sentence()) for access in it.accesses]
     made = {"ruleId": RULES[it.kind][0], "level": "warning" if it.is_doubtful else "error",
             "message": {"text": f"{it.title}{': ' if it.message else ''}{it.message}"}, "occurrenceCount": len(entry.launches),
             "partialFingerprints": {"gpurace/v1": mark}, "locations": places[:1],

@@ -82,7 +82,7 @@ def marks_of(shown: List[Shown], file: str) -> Marks:
 
     for it in shown:
         for access in it.finding.accesses:
-            mark(access.place, str(it.number), f"finding {it.number}: {access.told()}", "racing")
+            mark(access.place, str(it.number), f"finding {it.number}: {access.sentence()}", "racing")
             for step in access.marks:
                 if step.what == "barrier":
                     mark(step.place, "═", "barrier", "barrier")

@@ -28,7 +28,7 @@ Lane = Sequence[Optional[Mark]]
 
 
 def split(marks: List[Mark]) -> Tuple[List[Mark], Mark, List[Mark]]:
-    """What stands before the racing access, it, and what stands behind it."""
+    """What comes before the racing access, it, and what comes after it."""
     at = next(number for number, mark in enumerate(marks) if mark.is_racing)
     return marks[:at], marks[at], marks[at + 1:]
 
@@ -47,13 +47,13 @@ def level(first: Lane, second: Lane) -> List[Row]:
 
 
 def is_handed_over(marks: List[Mark], others: List[Mark]) -> bool:
-    """Whether a release behind the racing access is taken before the other one."""
-    behind, before = split(marks)[2], split(others)[0]
-    return any(mark.key in other.takes for mark in behind if mark.key for other in before)
+    """Whether a release after the racing access is taken before the other one."""
+    after, before = split(marks)[2], split(others)[0]
+    return any(mark.key in other.takes for mark in after if mark.key for other in before)
 
 
 def rows_of(first: List[Mark], second: List[Mark], is_one_group: bool) -> List[Row]:
-    """Of one group each barrier is a row of both. Of two groups who hands over stands above who takes."""
+    """Of one group each barrier is a row of both. Of two groups, the one that hands over is above the one that takes."""
     if is_one_group:
         return rows_of_group(first, second)
     if is_handed_over(first, second):
@@ -80,7 +80,7 @@ def rows_of_group(first: List[Mark], second: List[Mark]) -> List[Row]:
 
 
 def label(mark: Mark) -> Tuple[str, str]:
-    """What a record is, and where it stands. Of a long place the end is shown."""
+    """What a record is, and its place. Of a long place the end is shown."""
     place = mark.place if len(mark.place) <= PLACE else ".." + mark.place[-PLACE:]
     if mark.what == "barrier":
         return f"barrier {mark.instance} ({FLAGS[mark.flags]})", place

@@ -69,21 +69,21 @@ class Run:
 def under_way(folder: str) -> List[Reason]:
     """The launches that had not ended when the program did, and what there is of them."""
     infos = ((path, info_of(path, "begun.txt")) for path in sorted(glob.glob(os.path.join(glob.escape(folder), "*"))))
-    return [Reason("cut", told_of_begun(path, info)) for path, info in infos if info["groups"]]
+    return [Reason("cut", text_of_begun(path, info)) for path, info in infos if info["groups"]]
 
 
-def told_of_begun(path: str, info: Info) -> str:
-    sizes = ", ".join(f"{which} size {size_told(info[which][0])}" for which in ("global", "local"))
-    told = f"launch {info['launch'][0]}, {info['kernel'][0]}, was under way ({sizes})"
+def text_of_begun(path: str, info: Info) -> str:
+    sizes = ", ".join(f"{which} size {size_text(info[which][0])}" for which in ("global", "local"))
+    text = f"launch {info['launch'][0]}, {info['kernel'][0]}, was under way ({sizes})"
     if os.path.exists(os.path.join(path, "piped.txt")):  # files have only the first records
-        return told
+        return text
     files = streams_of(path) + glob.glob(os.path.join(glob.escape(path), "*.part"))
     streams = [stream for file in files for stream in streams_in(mapped(file))]
     ended, records = sum(stream.end is not None for stream in streams), sum(stream.records for stream in streams)
-    return f"{told}: it left {count(records, 'record')}, and {ended} of {count(kept_of(info), 'work-group')} were recorded to their end"
+    return f"{text}: it left {count(records, 'record')}, and {ended} of {count(kept_of(info), 'work-group')} were recorded to their end"
 
 
-def size_told(sizes: str) -> str:
+def size_text(sizes: str) -> str:
     """Three sizes, without the last ones that are 1."""
     return re.sub("(?: 1){1,2}$", "", sizes).replace(" ", " x ")
 
@@ -100,7 +100,7 @@ def cache() -> str:
 
 
 def of_tests(folder: str, is_judged: bool) -> Dict[str, str]:
-    """What a program that runs tests needs to say which one makes a launch, and to be told what was found: the plugin of pytest does both."""
+    """What a program that runs tests needs to say which one makes a launch, and to get what was found: the plugin of pytest does both."""
     plugins = os.path.join(os.path.dirname(os.path.realpath(__file__)), "plugin")
     paths = [plugins] + ([os.environ["PYTHONPATH"]] if os.environ.get("PYTHONPATH") else [])
     return {"PYTHONPATH": os.pathsep.join(paths), "GPURACE_TESTS": folder if is_judged else "",

@@ -77,13 +77,13 @@ class Group:
             count[item] += 1
             releases[item] += order > 2
 
-    def told_of(self, item: int) -> Iterator[Step]:
+    def steps_of(self, item: int) -> Iterator[Step]:
         yield from self.steps[item]
         yield from self.atomics[item].stores.values()
         yield from self.atomics[item].loads.values()
 
     def phase(self, item: int, index: int) -> int:
-        """How many barriers of the item stand before its record of this index."""
+        """How many barriers of the item come before its record of this index."""
         return sum(barrier.at < index for barrier in self.barriers[item])
 
     def step(self, item: int, index: int) -> Step:

@@ -15,7 +15,7 @@ NEW = "new"
 NO_LAUNCH = {"gpurace-judge": "no launch was recorded there: no folder has an info.txt, or a file whose name ends in .gpurace",
              "gpurace-record": "no launch was recorded: the program launched no kernel, or none of that name or number"}
 MOST_SHOWN = 20    # findings of an outcome
-MOST_ALIKE = 3     # reasons of one name, and kernels of a reason, that are told
+MOST_ALIKE = 3     # reasons of one name, and kernels of a reason, that are shown
 HEADS = {"found": "FOUND", "doubtful": "doubtful", "incomplete": "nothing found in what was recorded", "nothing": "nothing found",
          "known": "nothing new found"}
 
@@ -27,7 +27,7 @@ class Entry:
     launches: List[Launch]
     state: str = NEW
     why: str = ""      # it is suppressed
-    first: str = ""    # the launch of which it is told
+    first: str = ""    # the launch in which it is shown
 
 
 def say(text: str) -> None:
@@ -45,15 +45,15 @@ class Filter:
     def see(self, finding: Finding) -> None:
         raise NotImplementedError
 
-    def told(self, report: Report) -> Iterator[str]:
+    def lines(self, report: Report) -> Iterator[str]:
         raise NotImplementedError
 
 
 class Report:
-    """The launches of a run. The first of each outcome is told at once."""
+    """The launches of a run. The first of each outcome is shown at once."""
 
-    def __init__(self, kept: Optional[str] = None, tell: Callable[[str], None] = say):
-        self.kept, self.tell = kept, tell
+    def __init__(self, kept: Optional[str] = None, show: Callable[[str], None] = say):
+        self.kept, self.show = kept, show
         self.launches: List[Launch] = []
         self.run_reasons: List[Reason] = []  # with the kernels of launches that were not judged
         self.unrecorded: List[Reason] = []  # launches that the driver ran, by their reason
@@ -74,7 +74,7 @@ class Report:
         self.seen[outcome] = self.seen.get(outcome, 0) + 1
         if self.seen[outcome] == 1:
             what = launch.findings[0].title if launch.findings else launch.reasons[0].text if launch.reasons else ""
-            self.tell(f"{self.name(launch)}: {HEADS[launch.verdict]}{': ' if what else ''}{what}")
+            self.show(f"{self.name(launch)}: {HEADS[launch.verdict]}{': ' if what else ''}{what}")
 
     def sort(self) -> None:
         self.launches.sort(key=lambda launch: (launch.seed or 0, launch.number, launch.folder))
@@ -106,7 +106,7 @@ class Report:
             own = list(launch.reasons)
             for finding in launch.findings:
                 if finding.is_doubtful and finding.state == NEW:
-                    own.append(Reason("doubtful", f"doubtful: {finding.title}{self.lines_told(finding)}"))
+                    own.append(Reason("doubtful", f"doubtful: {finding.title}{self.places_of(finding)}"))
             for reason in own:
                 found.setdefault((reason.name, reason.text), Reason(reason.name, reason.text)).kernels.append(launch.kernel)
         none = [] if self.launches or self.unrecorded or self.not_judged() else [Reason("no-launch", NO_LAUNCH[NAME])]
@@ -117,7 +117,7 @@ class Report:
         return sum(len(reason.kernels) for reason in [*self.run_reasons, *self.unrecorded])
 
     @staticmethod
-    def lines_told(finding: Finding) -> str:
+    def places_of(finding: Finding) -> str:
         places = [access.place for access in finding.accesses if access.place]
         return f", at {' and '.join(dict.fromkeys(places))}" if places else ""
 
@@ -132,13 +132,13 @@ class Report:
         return [(launch, number[outcome]) for outcome, launch in first.items()]
 
     def lines(self) -> Iterator[str]:
-        told: Dict[str, str] = {}
+        named: Dict[str, str] = {}
         for launch, number in self.outcomes():
-            yield from self.launch_lines(launch, number, told)
+            yield from self.launch_lines(launch, number, named)
         yield from (f"{NAME}: {line}" for line in self.summary())
 
-    def launch_lines(self, launch: Launch, number: int, told: Dict[str, str]) -> Iterator[str]:
-        """What is said of the launches of an outcome. A finding that was told of an earlier one is named alone."""
+    def launch_lines(self, launch: Launch, number: int, named: Dict[str, str]) -> Iterator[str]:
+        """What is said of the launches of an outcome. A finding of an earlier one is only named."""
         is_recorded = bool(launch.size)
         head = HEADS[launch.verdict] if is_recorded else launch.reasons[0].text
         size = f" ({launch.size}, {count(launch.records, 'record')})" if is_recorded else ""
@@ -147,10 +147,10 @@ class Report:
             yield f"    {launch.end}" + (f", in {launch.folder}" if self.kept else "")
         for finding in launch.findings[:MOST_SHOWN]:
             state = "" if finding.state == NEW else f" ({finding.state}{': ' if finding.why else ''}{finding.why})"
-            first = told.setdefault(finding.fingerprint(), self.name(launch))
+            first = named.setdefault(finding.fingerprint(), self.name(launch))
             title, *lines = finding.lines()
             if finding.state != NEW:  # so that what is new is seen
-                yield f"    {title}{state}{self.lines_told(finding)}"
+                yield f"    {title}{state}{self.places_of(finding)}"
                 continue
             yield f"    {title}" + (f": as in {first}" if first != self.name(launch) else ":" if lines else "")
             yield from (f"    {line}" for line in (lines if first == self.name(launch) else []))
@@ -176,7 +176,7 @@ class Report:
             if number > MOST_ALIKE:
                 yield f"    and {number - MOST_ALIKE} more ({name})"
         for it in self.filters:
-            yield from it.told(self)
+            yield from it.lines(self)
         verdicts, more = [launch.verdict for launch in self.launches], self.not_judged()
         found = verdicts.count("found") + verdicts.count("doubtful")
         known = f"{verdicts.count('known')} with known ones, " if "known" in verdicts else ""

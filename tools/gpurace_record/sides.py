@@ -13,7 +13,7 @@ from .records import Group
 
 BUFFER = re.compile(r"(?:g|l (\d+)) (\d+) (\d+) (.+)")
 PLACE = re.compile(r"(.+):(\d+):(\d+)")
-CALLED = " called at "  # behind a place, and before that of each call that leads there, the innermost one first
+CALLED = " called at "  # between a place and that of each call that leads there, the innermost one first
 MOST_RUNS = 5       # of words of a buffer
 MOST_COLUMNS = 160  # of a line of source
 
@@ -100,7 +100,7 @@ def name_of(name: str, space: str, runs: Spans, groups: int, element: Optional[E
 
 
 class Places:
-    """Where events and barriers' sites stand in the source, by "GROUP ITEM INDEX" and by the site's number."""
+    """The places of events and of barriers' sites in the source, by "GROUP ITEM INDEX" and by the site's number."""
 
     def __init__(self, folder: str, groups: Dict[int, Group], keys: Set[str]):
         """Of what was read of these groups, by the file of sites; or of these events and all sites, by that of places."""
@@ -122,7 +122,7 @@ class Places:
     def find(self, groups: Dict[int, Group], sites: List[str]) -> None:
         for number, group in groups.items():
             for item in group.steps:
-                self.found.update((f"{number} {item} {step.at}", sites[step.site - 1]) for step in group.told_of(item) if 0 < step.site <= len(sites))
+                self.found.update((f"{number} {item} {step.at}", sites[step.site - 1]) for step in group.steps_of(item) if 0 < step.site <= len(sites))
             for step in (step for steps in group.barriers for step in steps if 0 < step.site <= len(sites)):
                 self.found.setdefault(str(step.word), sites[step.site - 1])
 
@@ -176,7 +176,7 @@ class Shape:
             number -= count
         return number
 
-    def told(self, word: str, number: int, sizes: List[int]) -> str:
+    def name(self, word: str, number: int, sizes: List[int]) -> str:
         """`item 8 (0,1)`; where there is one dimension, `item 8`."""
         if self.dimensions == 1:
             return f"{word} {number}"
@@ -185,14 +185,14 @@ class Shape:
 
     def item(self, group: int, item: int) -> str:
         """Who an item of a group of the trace is."""
-        return "asynchronous copy" if self.is_copying(group, item) else self.told("item", item, self.local)
+        return "asynchronous copy" if self.is_copying(group, item) else self.name("item", item, self.local)
 
     def is_copying(self, group: int, item: int) -> bool:
         return (group, item) in self.copying
 
-    def group_told(self, group: int) -> str:
+    def group_name(self, group: int) -> str:
         """The launch's group that a group of the trace is."""
-        return self.told("group", self.group(group), self.groups)
+        return self.name("group", self.group(group), self.groups)
 
     def who(self, group: int, item: int) -> str:
-        return f"{self.group_told(group)}, {self.item(group, item)}"
+        return f"{self.group_name(group)}, {self.item(group, item)}"

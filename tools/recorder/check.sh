@@ -63,7 +63,7 @@ expect "a barrier is missing" 1 "races 32 diverge 0 unmatched 0 held 0" \
     "kernel.cl:19:[0-9]*: read by group 0, item 0" "a barrier with CLK_LOCAL_MEM_FENCE between them would" -- "$work/sum_tiles" sum_tiles.cl 1
 expect "a flag is missing" 1 "races 32 diverge 0 unmatched 0 held 0" "the barrier at kernel.cl:16:5 does not order local memory: give it CLK_LOCAL_MEM_FENCE" \
     -- "$work/sum_tiles" sum_tiles.cl 2
-# behind the first barrier only items below 8, 4, 2 and 1 come: four divergent barriers a group, and tile[1..7] race
+# after the first barrier only items below 8, 4, 2 and 1 come: four divergent barriers a group, and tile[1..7] race
 expect "barriers in a branch" 1 "races 28 diverge 16 unmatched 0 held 0" "race on tile\[1..7\] of 4 groups (28 words)" \
     "divergent barrier, number 1 of group 0, and 3 more alike:" "some work-items never reach it; 28 races follow from it" "kernel.cl:21:[0-9]*: 8 work-items, the first is item 0" \
     "no barrier: 8 work-items, the first is item 8" -- "$work/sum_tiles" sum_tiles.cl 3
@@ -146,14 +146,14 @@ expect "components that are written" 1 "race on both\[0\].y, both\[1\].y" "kerne
 # twelve bytes and shorts lie side by side; the thirteenth of each is written by several
 expect "parts of words" 1 "races 2 diverge 0 unmatched 0 held 0" "race on bytes\[12\]" "write by group 4 (1,1), item 0 (0,0)" \
     "write by group 4 (1,1), item 1 (1,0)" "race on shorts\[12\]" "a release that an acquire takes, at memory_scope_device, would" -- parts.sim
-# four work-items execute a fence, and one of them writes behind the buffer; two groups write four words and end
+# four work-items execute a fence, and one of them writes after the buffer; two groups write four words and end
 expect "what is left out" 1 "left_out: FOUND (2 groups of 2 work-items, 6 records)" \
     "note: fences not recorded, so that an order that they give is not seen: 4" \
-    "out of bounds: write of 4 bytes, right behind the end of words, which has 16 bytes:" "kernel.cl:8:[0-9]*: write by group 1, item 1" -- left_out.sim
-# an atomic and reads by a call that begin before a buffer, or end behind it
+    "out of bounds: write of 4 bytes, right after the end of words, which has 16 bytes:" "kernel.cl:8:[0-9]*: write by group 1, item 1" -- left_out.sim
+# an atomic and reads by a call that begin before a buffer, or end after it
 expect "out of bounds" 1 "out of bounds: read of 4 bytes, 8 bytes before the start of words, which has 16 bytes:" "kernel.cl:3:[0-9]*: read by group 0, item 0" \
-    "called at kernel.cl:9:[0-9]*: " "read of 16 bytes, partly behind the end of words, which has 16 bytes:" "2 times" \
-    "atomic of 4 bytes, 4 bytes behind the end of tile, which has 8 bytes:" -- outside.sim
+    "called at kernel.cl:9:[0-9]*: " "read of 16 bytes, partly after the end of words, which has 16 bytes:" "2 times" \
+    "atomic of 4 bytes, 4 bytes after the end of tile, which has 8 bytes:" -- outside.sim
 # the folder is the same whatever the number of threads, where no atomics meet
 for threads in 1 4; do
     OCLGRIND_NUM_THREADS=$threads "$here/../gpurace-record" --simulator --only-record --keep "$work/by-$threads" \

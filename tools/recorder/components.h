@@ -24,7 +24,7 @@ inline LoadInst *whole_of(StoreInst &store, Value *from) {
     return is_here && load->getPointerOperand() == store.getPointerOperand() ? load : nullptr;
 }
 
-// The components that a store changes, where its value is what stood there with some of them inserted; else none.
+// The components that a store changes, if its value is the old one with some of them inserted; else none.
 inline std::vector<Component> changed_components(StoreInst &store) {
     std::vector<Component> changed;
     if (auto *insert = dyn_cast<InsertElementInst>(store.getValueOperand())) {
@@ -40,7 +40,7 @@ inline std::vector<Component> changed_components(StoreInst &store) {
         for (int at = 0; at < width; at++) {
             const int from = mask[size_t(at)];
             if (from == at || from < 0) continue;
-            if (from < width) return {}; // a component that moves: all that stood there is read
+            if (from < width) return {}; // a component that moves: all of the old value is read
             changed.push_back({unsigned(at), builder.CreateExtractElement(others, uint64_t(from - width))});
         }
     }
@@ -73,7 +73,7 @@ inline void store_components(StoreInst &store, const std::vector<Component> &cha
     if (whole->use_empty()) whole->eraseFromParent();
 }
 
-// The components of a loaded vector that are used; none where one can't tell.
+// The components of a loaded vector that are used; none if that is not known.
 inline std::set<unsigned> used_components(const LoadInst &load) {
     std::set<unsigned> used;
     const unsigned width = cast<FixedVectorType>(load.getType())->getNumElements();

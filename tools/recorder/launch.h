@@ -46,7 +46,7 @@ public:
     void add(uint64_t source, uint64_t elements, uint32_t place) {
         if (elements > 0) copies_.push_back({source, elements, place});
     }
-    // Where the copy stands that accesses this address, or NONE. Each is done as a whole, by a read and a write for each element.
+    // The place of the copy that accesses this address, or NONE. Each is done as a whole, by a read and a write for each element.
     uint32_t place_at(uint8_t kind, uint64_t address) {
         if (copies_.empty()) return NONE;
         if (left_ == 0) {
@@ -152,7 +152,7 @@ struct Stripe {
 };
 using Stripes = std::array<Stripe, 16>;
 
-// What a thread has of them, from before it is told of an access until that is done: they change in the order in which values do. It lets
+// What a thread has of them, from before Oclgrind reports an access until that is done: they change in the order in which values do. It lets
 // go what it had before it waits for more, and waits in ascending order. (Where an exception ends the thread, so does this.)
 class Held {
 public:

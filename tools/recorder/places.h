@@ -9,7 +9,7 @@
 
 namespace gpurace {
 
-constexpr const char CALLED[] = " called at "; // behind a place, and before that of the call that leads there
+constexpr const char CALLED[] = " called at "; // between a place and that of the call that leads there
 
 // FILE:LINE:COLUMN, and of what was inlined each call that leads there, the innermost one first; empty where there is none. It begins with
 // no digit. The program's own text, which is input.cl to Oclgrind, is kernel.cl.

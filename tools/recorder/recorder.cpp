@@ -1,6 +1,6 @@
-// The plugin: Oclgrind tells it what the work-items of each launch do, it keeps that as records (launch.h), and at the launch's
-// end writes them as a folder of streams (write_launch.cpp). Oclgrind runs each group to its end on one of its threads. It tells
-// of an access before it is done, so that a thread holds the words of an atomic meanwhile: else another might come between.
+// The plugin: Oclgrind reports to it what the work-items of each launch do. It keeps that as records (launch.h), and at the launch's
+// end writes them as a folder of streams (write_launch.cpp). Oclgrind runs each group to its end on one of its threads. It reports an
+// access before it is done, so that a thread holds the words of an atomic meanwhile: else another might come between.
 #include "calls.h"
 #include "components.h"
 #include "launch.h"
@@ -62,8 +62,8 @@ public:
         if (!launch_) return;
         launch_->number_places();
         for (const auto &[at, call] : launch_->reached.all()) {
-            const std::string behind = call == Places::NO_CALL ? "" : CALLED + launch_->places[call];
-            launch_->places.push_back(text_of(static_cast<const llvm::Instruction *>(at)) + behind);
+            const std::string callers = call == Places::NO_CALL ? "" : CALLED + launch_->places[call];
+            launch_->places.push_back(text_of(static_cast<const llvm::Instruction *>(at)) + callers);
         }
         Places sites;
         for (auto &[place, site] : launch_->sites) {
@@ -156,7 +156,7 @@ public:
     void memoryStore(const Memory *memory, const WorkGroup *group, size_t address, size_t size, const uint8_t *) override {
         copy(memory, group, GPURACE_WRITE, address, size);
     }
-    // An atomic is told of as a load, and as a store behind it where it modifies.
+    // An atomic is reported as a load, and then as a store if it modifies.
     void memoryAtomicLoad(const Memory *memory, const WorkItem *item, AtomicOp, size_t address, size_t size) override {
         running.changed = is_traced(memory, size) ? atomic_load(memory, item, address, size) : nullptr;
     }
@@ -279,7 +279,7 @@ private:
         if (!buffer) return "in no buffer";
         const auto number = uint32_t(memory->extractBuffer(start));
         const std::lock_guard<std::mutex> lock(launch_->mutex);
-        return told_outside(launch_->buffers[space][number].name_or(number), buffer->size, offset, before);
+        return outside_text(launch_->buffers[space][number].name_or(number), buffer->size, offset, before);
     }
 
     // It may have. (A function of its own: the check before it is done for every instruction, and this seldom.)

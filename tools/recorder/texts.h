@@ -23,12 +23,12 @@ inline std::string shape_lines(const std::string &kernel, uint32_t launch, const
 }
 
 // Where an access is in relation to the end of a buffer, or else to its start.
-inline std::string told_outside(const std::string &name, uint64_t size, uint64_t offset, uint64_t before) {
+inline std::string outside_text(const std::string &name, uint64_t size, uint64_t offset, uint64_t before) {
     const auto bytes = [](uint64_t count) { return std::to_string(count) + (count == 1 ? " byte" : " bytes"); };
     const std::string where = before > 0       ? bytes(before) + " before the start of "
-                              : offset < size  ? "partly behind the end of "
-                              : offset == size ? "right behind the end of "
-                                               : bytes(offset - size) + " behind the end of ";
+                              : offset < size  ? "partly after the end of "
+                              : offset == size ? "right after the end of "
+                                               : bytes(offset - size) + " after the end of ";
     return where + name + ", which has " + bytes(size);
 }
 
@@ -54,7 +54,7 @@ inline std::string buffer_line(const std::string &memory, uint64_t first, uint64
     return memory + ' ' + std::to_string(first) + ' ' + std::to_string(words) + ' ' + name + part + '\n';
 }
 
-// NUMBER-KERNEL, with .2, .3 .. behind it where `is_taken` says that another process of the program has that folder.
+// NUMBER-KERNEL, and then .2, .3 .. if `is_taken` says that another process of the program has that folder.
 template <class IsTaken> std::string folder_of(const std::string &out, uint32_t number, const std::string &kernel, IsTaken is_taken) {
     char digits[16];
     std::snprintf(digits, sizeof digits, "/%03u-", number);

@@ -18,7 +18,7 @@ int write_bytes(void *context, const unsigned char *bytes, size_t length) {
     return 1;
 }
 
-// The streams of some groups that follow each other, or what there is to tell of them where they have files of their own.
+// The streams of some groups that follow each other, or what there is to say of them if they have files of their own.
 struct Part {
     std::string bytes;
     uint64_t records = 0, items = 0, added_loads = 0;
@@ -66,7 +66,7 @@ private:
     }
 
     // The grain of a buffer is the greatest of 4, 2 and 1 at which every access to it is of whole words. Buffers never share a
-    // word, and stand apart by some.
+    // word, and have some words between them.
     void lay_out_buffers() {
         for (auto &of_space : launch_.buffers) {
             uint64_t next = 0;
@@ -141,7 +141,7 @@ private:
     gpurace_status put_records(gpurace_stream &stream, const Group &group, Part &part) const {
         for (const Record &record : group.records) {
             if (record.item == group.items && !group.has_copies) continue;
-            // a place without room for its number is not told
+            // a place without room for its number is left out
             const uint32_t place = group.launch_places[record.place];
             gpurace_at(&stream, place < GPURACE_MOST_SITES ? place + 1 : 0);
             const uint64_t count = record.is_access() ? words(record) : 1;
@@ -263,11 +263,11 @@ void write_launch(Launch &launch, const Settings &settings, const std::string &r
                      " that a trace has room for";
     Writer writer(launch, settings);
     const bool is_written = writer.write(reason);
-    const std::string told = !is_written        ? writer.folder() + " could not be written: " + std::strerror(errno)
+    const std::string said = !is_written        ? writer.folder() + " could not be written: " + std::strerror(errno)
                              : !reason.empty() ? "not recorded: " + reason
                                                : std::to_string(writer.records()) + " records in " + writer.folder();
     if (!is_written || !settings.quiet)
-        std::fprintf(stderr, "gpurace-recorder: launch %u %s: %s\n", launch.number, launch.kernel.c_str(), told.c_str());
+        std::fprintf(stderr, "gpurace-recorder: launch %u %s: %s\n", launch.number, launch.kernel.c_str(), said.c_str());
 }
 
 } // namespace gpurace

@@ -23,10 +23,10 @@ def program_of(words, top):
     """The program that is tested: the one that is named, or the one that ./gpurace runs."""
     if words.program:
         return pathlib.Path(words.program).resolve()
-    told = subprocess.run([top / "gpurace", "--which"], stdout=subprocess.PIPE, check=False)
-    if told.returncode:
-        sys.exit(told.returncode)
-    return pathlib.Path(told.stdout.decode().strip())
+    which = subprocess.run([top / "gpurace", "--which"], stdout=subprocess.PIPE, check=False)
+    if which.returncode:
+        sys.exit(which.returncode)
+    return pathlib.Path(which.stdout.decode().strip())
 
 
 def say_progress(done, most):

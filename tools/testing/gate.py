@@ -8,7 +8,7 @@ import time
 
 # what rt ci builds
 PROGRAM = "crates/gr_cli/out/gr_cli"
-TOLD = re.compile(rb"(\d+) passed, (\d+) failed")
+COUNTS = re.compile(rb"(\d+) passed, (\d+) failed")
 
 
 def proved(top):
@@ -29,6 +29,6 @@ def count_of_proof(top):
             print(last.decode(errors="replace"), end="", flush=True)
     used = resource.getrusage(resource.RUSAGE_CHILDREN)
     print(f"proved in {(time.monotonic() - begun) / 60:.0f} minutes, {(used.ru_utime + used.ru_stime) / 60:.0f} minutes of processors")
-    told = TOLD.match(last)
-    passed, failed = (int(it) for it in told.groups()) if told else (0, 0)
-    return collections.Counter(passed=passed, failed=failed or (1 if ran.returncode or not told else 0))
+    counts = COUNTS.match(last)
+    passed, failed = (int(it) for it in counts.groups()) if counts else (0, 0)
+    return collections.Counter(passed=passed, failed=failed or (1 if ran.returncode or not counts else 0))

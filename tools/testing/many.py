@@ -25,6 +25,6 @@ def lines(start, words):
 
 
 def report(groups, items, records, words):
-    """The report of a launch whose races are on these global words, and which has nothing else to tell."""
+    """The report of a launch whose races are on these global words, and which has nothing else to say."""
     top = f"gpurace 1\ngroups {groups} items {items} records {records}\n"
     return top.encode() + lines("race global ", words) + f"end races {len(words)} diverge 0 unmatched 0 held 0\n".encode()

@@ -137,23 +137,23 @@ def lines_of(written):
     return lines + [f"{last}\\"] if last else lines
 
 
-def is_as_told(lines, told):
-    """Whether lines are those that are told; in place of the rest of a line, or of all further lines, `[..]` may stand."""
-    if told and told[-1] == REST:
-        told = told[:-1]
-        lines = lines[: len(told)]
-    if len(lines) != len(told):
+def is_as_expected(lines, expected):
+    """Whether lines are those that are expected; `[..]` may replace the rest of a line, or all further lines."""
+    if expected and expected[-1] == REST:
+        expected = expected[:-1]
+        lines = lines[: len(expected)]
+    if len(lines) != len(expected):
         return False
-    return all(line.startswith(it[: -len(REST)]) if it.endswith(REST) else line == it for line, it in zip(lines, told))
+    return all(line.startswith(it[: -len(REST)]) if it.endswith(REST) else line == it for line, it in zip(lines, expected))
 
 
 def difference_of(run, output, errors, status):
-    """The difference between what is told of a run and what came of it, or an empty text."""
-    if status == run.status and is_as_told(output, run.output) and is_as_told(errors, run.errors):
+    """The difference between what is expected of a run and what came of it, or an empty text."""
+    if status == run.status and is_as_expected(output, run.output) and is_as_expected(errors, run.errors):
         return ""
-    told = run.output + [f"! {line}" for line in run.errors] + [f"= {run.status}"]
+    expected = run.output + [f"! {line}" for line in run.errors] + [f"= {run.status}"]
     made = output + [f"! {line}" for line in errors] + [f"= {status}"]
-    shown = list(difflib.unified_diff(told, made, "told", "made", lineterm="", n=2))[2:]
+    shown = list(difflib.unified_diff(expected, made, "expected", "made", lineterm="", n=2))[2:]
     return "\n".join([f"$ {run.command}"] + shown[:60]) + "\n"
 
 

@@ -53,7 +53,7 @@ Operation operation_of(StringRef name, SiteKind kind) {
         .Default(OP_EXCHANGE); // xchg, exchange, flag_test_and_set
 }
 
-// The letter of the word's type in the mangled name: behind the mark of an atomic type, or of a volatile one.
+// The letter of the word's type in the mangled name: after the mark of an atomic type, or of a volatile one.
 char type_of(const CallInst &call, StringRef name) {
     if (name.contains("flag")) return 'i';
     const StringRef full = call.getCalledFunction()->getName();

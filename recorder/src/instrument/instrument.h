@@ -19,7 +19,7 @@ enum AddressSpace : unsigned { PRIVATE_SPACE, GLOBAL_SPACE, CONSTANT_SPACE, LOCA
 // The plain name of a builtin: that of _Z10atomic_addPU3AS1Vii is atomic_add.
 llvm::StringRef name_of(const llvm::CallInst &call);
 
-// The number behind the letters of a vector builtin's name: 4 of vload4 and vstore_half4_rte, 1 where there is none.
+// The number after the letters of a vector builtin's name: 4 of vload4 and vstore_half4_rte, 1 if there is none.
 unsigned width_of(llvm::StringRef name);
 
 // An atomic builtin. Its orders and its scope are OpenCL's numbers, which need not be constants; null is the default.
@@ -103,7 +103,7 @@ inline bool is_kernel(const llvm::Function &function) {
     return !function.isDeclaration() && function.getCallingConv() == llvm::CallingConv::SPIR_KERNEL;
 }
 
-// The functions that the host calls are named so, with the kernel's name behind it.
+// The functions that the host calls have this and then the kernel's name as their name.
 constexpr const char RUN_PREFIX[] = "gr_run_";
 
 // Instruments a kernel, and writes what the numbers of its sites mean (rewriter.cpp).
@@ -112,7 +112,7 @@ void instrument_kernel(llvm::Function &kernel, llvm::raw_ostream &sites, unsigne
 // Inlines all calls of a module's own functions, those of kernels too, and promotes private variables.
 void inline_calls(llvm::Module &module);
 
-// Drops what no longer holds behind instrumentation: debug information and statements on aliases.
+// Drops what no longer holds after instrumentation: debug information and statements on aliases.
 void strip(llvm::Module &module);
 
 // The module with one address space, linked with the builtins that it uses; null where that failed, which is said.

@@ -1,4 +1,4 @@
-// Instruments the kernels of modules of OpenCL C, and links them for the host. rewriter.cpp says what stands in SITES.
+// Instruments the kernels of modules of OpenCL C, and links them for the host. rewriter.cpp says what SITES has.
 #include "instrument.h"
 
 #include "llvm/Bitcode/BitcodeWriter.h"

@@ -181,7 +181,7 @@ private:
                << ' ' << grains.of(&object) << ' ' << has_atomics << ' ' << (name.empty() ? "unnamed" : name) << '\n';
     }
 
-    // Local variables stand where the item's state says.
+    // Local variables are where the item's state says.
     void place_local_variables() {
         Builder builder(&*function_->getEntryBlock().getFirstInsertionPt());
         unsigned next = 0;

@@ -52,7 +52,7 @@ Known joined(const std::vector<cl_program> &parts) {
     return whole;
 }
 
-// The program's options, and the user's behind them. The user's standard is in the place of the program's: a driver may take the first one.
+// The program's options, then the user's. The user's standard replaces the program's, since a driver may take the first one.
 std::string all_options(const char *options) {
     static const std::regex standard("(^|\\s)-cl-std=\\S*");
     const std::string more = settings().build_options;

@@ -125,12 +125,12 @@ void Group::begin_item(Item &item, uint64_t each, const Sizes &at, const Sizes &
     item.last_site = UINT32_MAX;
 }
 
-// Where all items stand at barriers or have ended, they go on: a divergent barrier is what items do.
+// When all items have come to barriers or ended, they go on: a divergent barrier is what items do.
 bool Group::sweep() {
     if (launch->written > settings().most_records) launch->is_over = true;
     if (launch->written > settings().most_pending) launch->streams.open_pipes();
     for (size_t at = order.size(); at > 1; at--) std::swap(order[at - 1], order[random->below(uint32_t(at))]);
-    size_t ended = 0, standing = 0;
+    size_t ended = 0, at_barriers = 0;
     bool is_moved = false, is_idle = true;
     const uint32_t most = random->below(4) == 0 ? SHORT_TURN : LONG_TURN;
     for (const uint16_t number : order) {
@@ -143,13 +143,13 @@ bool Group::sweep() {
             is_idle = is_idle && (item.is_idle || item.state != RUNS);
         }
         ended += item.state == ENDED;
-        standing += item.state == STANDS;
+        at_barriers += item.state == AT_BARRIER;
     }
     if (ended == items.size()) return true;
-    if (ended + standing == items.size()) {
+    if (ended + at_barriers == items.size()) {
         if (launch->request.kernel->has_copies) pass_barrier(*this);
         for (Item &item : items)
-            if (item.state == STANDS) item.state = RUNS;
+            if (item.state == AT_BARRIER) item.state = RUNS;
     }
     still = is_moved ? 0 : still + 1;
     is_waiting = !is_moved && (is_idle || still >= MOST_STILL);

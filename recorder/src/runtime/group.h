@@ -21,7 +21,7 @@ private:
     uint64_t state_;
 };
 
-enum ItemState : uint8_t { RUNS, STANDS, ENDED };
+enum ItemState : uint8_t { RUNS, AT_BARRIER, ENDED };
 
 // A store that is done by the runtime at the item's next call, from memory of the item.
 struct PendingStore {
@@ -64,8 +64,8 @@ struct Copy {
     uint32_t reads, writes; // its sites
     uint8_t *to, *from;
     uint64_t count, to_stride, from_stride; // elements, and bytes from one to the next
-    bool is_waited = false;                 // it is done behind the barrier to which item 0 has come
-    bool is_behind_barrier = false;         // it has begun before one that its group has passed
+    bool is_waited = false;                 // it is done after the wait to which item 0 has come
+    bool is_past_barrier = false;           // it has begun before a barrier or wait that its group has passed
 };
 
 // What copies do to words, by the word and its space: of each site how many copies, and the phase in which that was recorded last.

@@ -51,7 +51,7 @@ std::string place_of(const Group &group, const Site &site, uint64_t address) {
         if (site.entry < 0 && (!near || distance(span) < distance(*near))) near = &span;
     if (!near) return "in no buffer";
     const uint64_t before = near->address - std::min(address, near->address);
-    return told_outside(near->name, near->bytes, address - near->address, before);
+    return outside_text(near->name, near->bytes, address - near->address, before);
 }
 
 void note_outside(Group &group, uint32_t item, uint32_t number, const Site &site, uint64_t address) {
@@ -87,8 +87,8 @@ __attribute__((noinline)) void note_stored(Group &group, uint32_t item, int spac
     }
 }
 
-// An item accesses words that copies under way may access as well, behind the barriers that these have passed: what a copy does to such a
-// word is recorded once more, once in a phase. Within others this would slow accesses down.
+// An item accesses words that copies under way may access as well, after barriers that these have passed: what a copy does to such a word is
+// recorded once more, once in a phase. Within others this would slow accesses down.
 __attribute__((noinline)) void meet_copies(Group &group, int kind, int space, const Part &part) {
     for (uint64_t word = part.first_word(), last = part.last_word(); word <= last; word++) {
         std::vector<CopiedWords::Use> *uses = group.copied.find(space, uint32_t(word));
@@ -226,21 +226,21 @@ template <class Use> void for_each_word(const Group &group, const Copy &copy, Us
     });
 }
 
-// A copy for which nobody has waited may access its memory behind the barrier as well.
-void go_on_behind_barrier(Group &group, Copy &copy) {
+// A copy for which nobody has waited may access its memory after the barrier as well.
+void go_on_after_barrier(Group &group, Copy &copy) {
     if (group.launch->has_names) { // other groups' hand-overs may be ordered with some phases and not with others
         if (group.records_now()) put_again(group, copy);
-    } else if (!copy.is_behind_barrier) {
+    } else if (!copy.is_past_barrier) {
         for_each_word(group, copy, [&](int space, uint32_t word, uint32_t site) { group.copied.add(space, word, site, group.copier_phase - 1); });
     }
-    copy.is_behind_barrier = true;
+    copy.is_past_barrier = true;
 }
 
 bool is_waited(const Copy &copy) { return copy.is_waited; }
 
 void forget_waited(Group &group) {
     for (const Copy &copy : group.copies)
-        if (copy.is_waited && copy.is_behind_barrier && !group.launch->has_names)
+        if (copy.is_waited && copy.is_past_barrier && !group.launch->has_names)
             for_each_word(group, copy, [&](int space, uint32_t word, uint32_t site) { group.copied.remove(space, word, site); });
     group.copies.erase(std::remove_if(group.copies.begin(), group.copies.end(), is_waited), group.copies.end());
 }
@@ -251,7 +251,7 @@ void come_to_barrier(Item &item, uint32_t number, uint8_t flags) {
     if (group.records_now()) group.put(item.records, group.launch->sites[number], head_of(item.number, BARRIER, flags), number);
     if (item.number == 0) group.last_barrier = number, group.last_flags = flags;
     item.last_site = UINT32_MAX;
-    item.state = STANDS;
+    item.state = AT_BARRIER;
     item.rest();
 }
 
@@ -346,17 +346,17 @@ HOOK void gr_printed(void *) { printing.unlock(); }
 // come to a wait may meet them after it, so that what it ends is recorded before it once more.
 void pass_barrier(Group &group) {
     group.handed = Group::NOTHING;
-    if (group.items[0].state != STANDS) return;
+    if (group.items[0].state != AT_BARRIER) return;
     if (group.records_now()) {
         for (const Copy &copy : group.copies)
-            if (copy.is_waited && copy.is_behind_barrier && !group.launch->has_names) put_again(group, copy);
+            if (copy.is_waited && copy.is_past_barrier && !group.launch->has_names) put_again(group, copy);
         const uint64_t head = head_of(uint32_t(group.items.size()), BARRIER, group.last_flags);
         group.put(group.copier_records, group.launch->sites[group.last_barrier], head, group.last_barrier);
         if (std::any_of(group.copies.begin(), group.copies.end(), is_waited)) release_copies(group);
     }
     group.copier_phase++;
     forget_waited(group);
-    for (Copy &copy : group.copies) go_on_behind_barrier(group, copy);
+    for (Copy &copy : group.copies) go_on_after_barrier(group, copy);
 }
 
 void write_prints() {
@@ -486,7 +486,7 @@ extern "C" HOOK uint64_t gr_atomic(void *state, uint32_t number, uint32_t what, 
     Stripe &stripe = launch.sequences.stripe_of(address);
     std::unique_lock<Stripe> held(stripe, std::defer_lock);
     if (is_named) held.lock();
-    // behind the lock: who acquires from a release that is lost is not recorded
+    // with the lock held: who acquires from a release that is lost is not recorded
     const bool is_recorded = span && group.records_now();
     const Done done = site.bytes == 8 ? perform<uint64_t>(what, pointer, value, compare)
                                       : perform<uint32_t>(what, pointer, uint32_t(value), uint32_t(compare));

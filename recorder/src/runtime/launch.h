@@ -11,7 +11,7 @@
 
 namespace gpurace {
 
-// Where the `number`th one of so many stands.
+// The coordinates of the `number`th one of so many.
 inline Sizes place_in(const Sizes &sizes, uint64_t number) {
     return {number % sizes[0], number / sizes[0] % sizes[1], number / sizes[0] / sizes[1]};
 }
@@ -108,7 +108,7 @@ private:
 double seconds_now();
 
 // The folder of a launch: side files, the text of the kernel, and at last info.txt. A folder without info.txt is not
-// whole; begun.txt stands there while the launch runs. False where it can't be written; `error` then says why.
+// whole; begun.txt is there while the launch runs. False where it can't be written; `error` then says why.
 bool begin_folder(Launch &launch, std::string &error);
 void end_folder(Launch &launch, double seconds);
 

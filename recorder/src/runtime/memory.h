@@ -33,7 +33,7 @@ struct Span {
 constexpr uint64_t APART = 16; // words between spans
 
 // The spans of the entries of one space, whose addresses are their own or these; those that overlap are one. They never share a word, and
-// stand apart by some. Words are numbered in the order of the entries, since the driver has memory at other places from run to run.
+// have some words between them. Words are numbered in the order of the entries, since the driver's addresses differ from run to run.
 inline std::vector<Span> spans_of(const std::vector<Entry> &entries, const std::vector<uint64_t> &addresses, int space) {
     std::vector<Span> found, spans;
     for (size_t at = 0; at < entries.size(); at++) {

@@ -37,7 +37,7 @@ public:
     }
 
 private:
-    // What stands in a word's entry: how it was stored to, the first item, and the value.
+    // What a word's entry says: how it was stored to, the first item, and the value.
     enum State : uint64_t { ONE_ITEM = 1ull << 62, SAME = 2ull << 62, DIFFERENT = 3ull << 62 };
     Pool memory_;
     uint64_t *const entries_; // null where there is no memory; then nothing is said

@@ -131,7 +131,7 @@ bool Stream::open() {
     used_ = GPURACE_HEADER_BYTES;
     if (streams_.are_joined) return true;
     const std::shared_lock<std::shared_mutex> held(streams_.lock);
-    if (!streams_.are_piped) { // or its header stands there
+    if (!streams_.are_piped) { // or its header is there
         streams_.states[group_] = Streams::BEGUN;
         error_ = append_to(path_, bytes_.get(), used_);
     }
@@ -152,7 +152,7 @@ void Stream::put(uint64_t head, uint32_t word, const Name *names, size_t count) 
         std::memcpy(record + 16 + 8 * at, &names[at].number, 4);
     }
     used_ += record_bytes_;
-    records_++, untold_++;
+    records_++, uncounted_++;
 }
 
 int Stream::write_out(bool is_last) {
@@ -171,8 +171,8 @@ int Stream::write_out(bool is_last) {
 
 void Stream::flush(bool is_last) {
     if (!error_) error_ = write_out(is_last);
-    counted_.fetch_add(untold_, std::memory_order_relaxed);
-    used_ = untold_ = 0;
+    counted_.fetch_add(uncounted_, std::memory_order_relaxed);
+    used_ = uncounted_ = 0;
     has_file_ = true;
 }
 
@@ -185,7 +185,7 @@ void Stream::close(bool is_cut) {
     const std::string part = is_in_memory ? "" : path_;
     const int error = is_joined ? streams_.join(part, bytes_.get(), used_, record_bytes_, records_) : 0;
     if (!error_) error_ = error;
-    counted_.fetch_add(untold_, std::memory_order_relaxed);
+    counted_.fetch_add(uncounted_, std::memory_order_relaxed);
     bytes_.reset();
 }
 

@@ -44,10 +44,10 @@ private:
     File joined_; // the file of the joined streams, or its pipe, once it is open
 };
 
-// A group's stream. Records stand in a buffer until it is full; where they can't be written the stream is ended as cut.
+// A group's stream. Records wait in a buffer until it is full; if they can't be written, the stream is ended as cut.
 class Stream {
 public:
-    // `counted` is told of records as they are written.
+    // `counted` counts the records that are written.
     Stream(uint32_t group, bool has_names, Streams &streams, std::atomic<uint64_t> &counted);
     bool open();
     void put(uint64_t head, uint32_t word, const Name *names, size_t count);
@@ -64,7 +64,7 @@ private:
     bool is_piped_ = false, has_file_ = false;
     File pipe_;
     int error_ = 0;
-    uint32_t records_ = 0, untold_ = 0;
+    uint32_t records_ = 0, uncounted_ = 0;
     std::unique_ptr<char[]> bytes_; // null where it is not open
     size_t used_ = 0;
     std::atomic<uint64_t> &counted_;

@@ -1,4 +1,4 @@
-// Each work-item executes a fence, and the last one writes behind the end of the buffer. Neither is recorded.
+// Each work-item executes a fence, and the last one writes after the end of the buffer. Neither is recorded.
 kernel void left_out(global int *words)
 {
     const int g = get_global_id(0);

@@ -1,5 +1,5 @@
 // Accesses of parts of words. Neighbouring bytes and shorts are written by neighbouring work-items, which is no race; in group
-// (1, 1) of 3 x 2 both work-items write the byte behind them, and all groups write the last short.
+// (1, 1) of 3 x 2 both work-items write the byte after them, and all groups write the last short.
 kernel void parts(global uchar *bytes, global ushort *shorts, global int *words)
 {
     const int at = get_global_id(0) + get_global_size(0) * get_global_id(1), all = get_global_size(0) * get_global_size(1);

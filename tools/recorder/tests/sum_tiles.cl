@@ -1,5 +1,5 @@
-// Each work-group sums its tile. MISTAKE says what is wrong: 1 the barrier behind the load is missing, 2 it has no flag, 3 the
-// barriers of the loop stand in its branch, and else nothing.
+// Each work-group sums its tile. MISTAKE says what is wrong: 1 the barrier after the load is missing, 2 it has no flag, 3 the
+// barriers of the loop are in its branch, and else nothing.
 #if MISTAKE == 1
 #define LOADED
 #elif MISTAKE == 2
