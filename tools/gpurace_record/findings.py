@@ -42,6 +42,7 @@ class Mark:
     order: str = ""
     instance: int = -1  # of a barrier
     flags: int = 0
+    is_wait: bool = False  # for copies, which is recorded as a barrier of no memory
     is_racing: bool = False
     key: Tuple[int, ...] = ()                # of a release: the group and the item of the trace, and its number
     takes: Tuple[Tuple[int, ...], ...] = ()  # of an acquire: such releases
@@ -288,7 +289,8 @@ class Reader:
             key = (group, item, step.release) if step.is_release() else ()
             place = self.places.event(group, item, step.at).split(CALLED)[0]
             return Mark(step.kind, place, step.scope, step.order, is_racing=is_racing, key=key, takes=step.names)
-        return Mark("barrier", self.places.site(step.word).split(CALLED)[0], instance=self.groups[group].phase(item, step.at), flags=step.space)
+        return Mark("barrier", self.places.site(step.word).split(CALLED)[0], instance=self.groups[group].phase(item, step.at), flags=step.space,
+                    is_wait=step.word in self.waits)
 
     def pair(self, said: Dict[str, Any], race: Dict[str, Any], accesses: List[Access]) -> Optional[causes.Pair]:
         """The two accesses with what is between them; None if their records were not read."""

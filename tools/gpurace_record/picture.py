@@ -83,7 +83,7 @@ def label(mark: Mark) -> Tuple[str, str]:
     """What a record is, and its place. Of a long place the end is shown."""
     place = mark.place if len(mark.place) <= PLACE else ".." + mark.place[-PLACE:]
     if mark.what == "barrier":
-        return f"barrier {mark.instance} ({FLAGS[mark.flags]})", place
+        return "wait_group_events" if mark.is_wait else f"barrier {mark.instance} ({FLAGS[mark.flags]})", place
     what, order, scope = WORDS.get(mark.what, mark.what), ORDERS.get(mark.order), SCOPES.get(mark.scope)
     return what + (f", {order}" if order else ""), f"{scope}, {place}" if scope and place else scope or place
 
