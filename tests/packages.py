@@ -1,13 +1,9 @@
 """What tools/test-packages does where packages are missing, by an apt-get of the tests' own."""
 
-import os
-import pathlib
 import shutil
 import subprocess
-import tempfile
-import unittest
 
-from testing.program import TOP
+from testing.program import TOP, RoomTest
 
 SCRIPT = TOP / "tools" / "test-packages"
 NEEDED = ("sh", "grep", "tail", "mktemp", "rm", "timeout", "cat")
@@ -19,11 +15,9 @@ for name in "$@"; do echo "$name" >> "$THERE"; done
 """
 
 
-class Packages(unittest.TestCase):
+class Packages(RoomTest):
     def setUp(self):
-        room = tempfile.TemporaryDirectory()
-        self.addCleanup(room.cleanup)
-        self.room = pathlib.Path(room.name)
+        super().setUp()
         self.all = subprocess.run([SCRIPT, "--list"], stdout=subprocess.PIPE, text=True, check=True).stdout.split()
         (self.room / "bin").mkdir()
         for name in NEEDED:

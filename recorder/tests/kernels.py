@@ -223,7 +223,7 @@ kernel void wait_of_some(global const int *in, global int *out) {
     if (l < 16) wait_group_events(1, &copy);
     out[get_global_id(0)] = tile[63 - l];
 }
-kernel void adds_floats(global const int *in, global float *sum) { sum[get_group_id(0)] += in[get_global_id(0)]; }
+kernel void adds_floats(global const int *in, global float *all) { all[get_group_id(0)] += in[get_global_id(0)]; } // `all` is a builtin, too
 kernel void divergent(global int *out) {
     local int tile[64];
     const int l = get_local_id(0);
@@ -423,7 +423,8 @@ def cases():
     yield Case("wait_of_some", [list(range(ALL)), zeros], 48 * GROUPS, {}, diverge=GROUPS,
                say=(after, "16 work-items, the first is item 0"))  # what the others read
     yield Case("adds_floats", [numbers(), (0.5,) * GROUPS], GROUPS, unsaid="atomic_inc", say=(
-        "use a loop of atomic_cmpxchg on the bits (OpenCL C has no atomic_add of float), or give each item a word of its own: each item",))
+        "use a loop of atomic_cmpxchg on the bits, begun by an atomic read (OpenCL C has no atomic_add of float), or give each item a word of its own: ",
+        "race on all["))
     for order, scope, races in ((1, 1, 0), (0, 1, 1), (1, 0, 2)):
         yield Case("orders", [[0], [0] * GROUPS, order, scope], races, {1: [42] * GROUPS})
     yield Case("divergent", [zeros], ALL, diverge=GROUPS)  # a divergent barrier orders nothing

@@ -5,7 +5,7 @@ import pty
 import subprocess
 import time
 
-from testing.program import END, ProgramTest, access, header
+from testing.program import END, ProgramTest, access, header, read_terminal
 
 
 class Terminal(ProgramTest):
@@ -17,15 +17,7 @@ class Terminal(ProgramTest):
     def shown(self):
         """What was written to the terminal."""
         os.close(self.follower)
-        text = b""
-        while True:
-            try:
-                piece = os.read(self.leader, 65536)
-            except OSError:
-                return text
-            if not piece:
-                return text
-            text += piece
+        return read_terminal(self.leader)
 
     def slowly(self, words, pieces):
         """Runs a command whose standard error is the terminal, and whose standard input comes in pieces, with pauses."""
@@ -64,6 +56,6 @@ class Terminal(ProgramTest):
         self.assertEqual(ran.stderr, b"")
         os.close(self.follower)
 
-    def test_a_quick_run_tells_nothing(self):
+    def test_a_quick_run_says_nothing(self):
         ran = self.gpurace("replay", given=header(0, 1) + END, stderr=self.follower)
         self.assertEqual((ran.returncode, self.shown()), (0, b""))

@@ -2,27 +2,23 @@
 
 import json
 import os
-import pathlib
 import re
 import shutil
 import subprocess
-import tempfile
 import time
 import unittest
 
 from testing.launches import put_racy, put_right
-from testing.program import TOP, python_with
+from testing.program import TOP, RoomTest, python_with
 
 PYTHON = python_with("distributed") if shutil.which("dask-scheduler") and shutil.which("dask-worker") else None
 LAUNCHES = 16
 
 
 @unittest.skipUnless(PYTHON, "python3-distributed is missing")
-class Cluster(unittest.TestCase):
+class Cluster(RoomTest):
     def setUp(self):
-        room = tempfile.TemporaryDirectory()
-        self.addCleanup(room.cleanup)
-        self.room = pathlib.Path(room.name)
+        super().setUp()
         self.slow = self.room / "gpurace"
         self.slow.write_text(f"#!/bin/sh\n[ \"$1\" = replay ] && sleep 0.3\nexec '{os.environ['GPURACE']}' \"$@\"\n")
         self.slow.chmod(0o755)

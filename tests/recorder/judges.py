@@ -1,23 +1,19 @@
 """Launches that are judged while they are recorded, by a recorder that the test plays."""
 
 import os
-import pathlib
-import tempfile
 import time
-import unittest
 
 from testing.launches import info, put_launch, put_right
+from testing.program import RoomTest
 
 from gpurace_record.judges import Judge
 from gpurace_record.judging import Reason
 from gpurace_record.report import Report
 
 
-class Judges(unittest.TestCase):
+class Judges(RoomTest):
     def setUp(self):
-        room = tempfile.TemporaryDirectory()
-        self.addCleanup(room.cleanup)
-        self.room = pathlib.Path(room.name)
+        super().setUp()
         (self.room / "tests").mkdir()
         self.folder = self.room / "kept" / "000-sums"
         self.pipe = self.folder / "group00.gpurace.pipe"

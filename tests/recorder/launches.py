@@ -296,7 +296,7 @@ race on global word 16
 race on global word 5
     unknown place: atomic read-modify-write (relaxed, device scope) by group 0, item 0
     unknown place: read by group 0, item 1
-    a plain read beside atomics: make it an atomic load
+    a plain read beside atomics: make it an atomic load (in OpenCL 1.2 an atomic_or with 0)
 """)
 
     def test_items_that_count(self):
@@ -327,8 +327,8 @@ race on global word 5
         places = "".join(f"0 {item} {index} kernel.cl:1:9\n" for item in (0, 1) for index in (0, 1))
         for kind, advice in (("uint", "use an atomic, such as atomic_inc, atomic_add or atomic_fetch_add: "), ("atomic_int", "use an atomic (of an int, "),
                              ("ulong", "use an atomic, such as atom_inc or atom_add (of cl_khr_int64_base_atomics) or atomic_fetch_add: "),
-                             ("float4", "use a loop of atomic_cmpxchg on the bits (OpenCL C has no atomic_add of float), or give each item "),
-                             ("double", "use a loop of atom_cmpxchg on the bits (OpenCL C has no atomic_add of double), or give each item "),
+                             ("float4", "use a loop of atomic_cmpxchg on the bits, begun by an atomic read (OpenCL C has no atomic_add of float), or give each item "),
+                             ("double", "use a loop of atom_cmpxchg on the bits, begun by an atomic read (OpenCL C has no atomic_add of double), or give each item "),
                              ("short", "use an atomic of an int, such as atomic_inc or atomic_add (OpenCL C has none of short): "),
                              ("real", "use an atomic (of an int, such as atomic_inc or atomic_add; of a float, a loop of atomic_cmpxchg): ")):
             files = {"info.txt": INFO, "places": places, "buffers": "g 4 9 bins\n", "kernel.cl": f"kernel void sums(global {kind} *bins) {{ bins[1]++; }}\n"}

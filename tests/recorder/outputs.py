@@ -2,15 +2,12 @@
 
 import json
 import os
-import pathlib
 import subprocess
 import sys
-import tempfile
-import unittest
 import xml.etree.ElementTree as xml
 
 from testing.launches import BUFFERS, KERNEL, info, put_launch, put_racy, put_right
-from testing.program import TOP, python_with
+from testing.program import TOP, RoomTest, python_with
 
 from gpurace_record.findings import Finding
 from gpurace_record.judging import Launch
@@ -23,11 +20,9 @@ VALIDATE = "import json, jsonschema, sys; jsonschema.validate(json.loads(sys.arg
 JUDGE = TOP / "tools" / "gpurace-judge"
 
 
-class Outputs(unittest.TestCase):
+class Outputs(RoomTest):
     def setUp(self):
-        room = tempfile.TemporaryDirectory()
-        self.addCleanup(room.cleanup)
-        self.room = pathlib.Path(room.name)
+        super().setUp()
         self.kept = self.room / "kept"
 
     def judge(self, *options, status):

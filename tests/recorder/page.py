@@ -1,15 +1,13 @@
 """The page of --html: what it shows, its pictures, and that a browser has nothing to say against it."""
 
 import os
-import pathlib
 import re
 import shutil
 import subprocess
-import tempfile
 import unittest
 
 from testing.launches import KERNEL, SIDES, info, put_launch, put_racy, put_right
-from testing.program import TOP, python_with
+from testing.program import TOP, RoomTest, python_with
 
 from gpurace_record import picture
 from gpurace_record.findings import Map, Mark
@@ -51,6 +49,10 @@ class Pictures(unittest.TestCase):
         self.assertEqual(picture.rows_of([READ, READ, RACING], [RACING, READ], True), [
             picture.Row(READ, None), picture.Row(READ, None), picture.Row(RACING, RACING), picture.Row(None, READ)])
 
+    def test_what_a_barrier_is(self):
+        self.assertEqual(picture.label(barrier(1)), ("barrier 1 (local)", "k.cl:2:1"))
+        self.assertEqual(picture.label(Mark("barrier", "k.cl:2:1", instance=1, is_wait=True)), ("wait_group_events", "k.cl:2:1"))
+
     def test_who_hands_over_is_above_who_takes(self):
         release, acquire = Mark("store", order="rel", scope="grp", key=(0, 1, 2)), Mark("load", order="acq", scope="grp", takes=((0, 1, 2),))
         self.assertEqual(picture.rows_of([RACING, release], [acquire, RACING], False), [
@@ -66,11 +68,9 @@ class Pictures(unittest.TestCase):
 
 
 @unittest.skipUnless(PYTHON, "python3-jinja2 or python3-pygments is missing")
-class Page(unittest.TestCase):
+class Page(RoomTest):
     def setUp(self):
-        room = tempfile.TemporaryDirectory()
-        self.addCleanup(room.cleanup)
-        self.room = pathlib.Path(room.name)
+        super().setUp()
         kept = self.room / "kept"
         put_racy(kept)
         put_racy(kept, 1, "doubtful", more="fence 2 kernel.cl:4:5\n")

@@ -8,23 +8,10 @@ import tempfile
 import unittest
 
 from testing.launches import put_right
-from testing.program import TOP, python_with
+from testing.program import TOP, python_with, read_terminal
 
 PYTHON = python_with("rich")
 JUDGE = TOP / "tools" / "gpurace-judge"
-
-
-def read_all(file):
-    """What was written to a terminal, whose end is an error."""
-    shown = b""
-    while True:
-        try:
-            part = os.read(file, 1 << 16)
-        except OSError:
-            return shown
-        if not part:
-            return shown
-        shown += part
 
 
 @unittest.skipUnless(PYTHON, "python3-rich is missing")
@@ -38,7 +25,7 @@ class Terminal(unittest.TestCase):
             environ = {**os.environ, "GPURACE_PROGRAM": os.environ["GPURACE"], "TERM": "xterm"}
             with subprocess.Popen([PYTHON, *options, str(JUDGE), "--jobs", "1", room], stdout=subprocess.DEVNULL, stderr=theirs, env=environ) as run:
                 os.close(theirs)
-                shown = read_all(ours)
+                shown = read_terminal(ours)
             os.close(ours)
             self.assertEqual(run.returncode, 0, shown)
             return shown.decode()
@@ -48,7 +35,7 @@ class Terminal(unittest.TestCase):
         self.assertIn("judging", shown)
         self.assertIn("launch 0, right: nothing found", shown)
 
-    def test_without_rich_lines_stand_there(self):
+    def test_without_rich_lines_are_shown(self):
         """By a Python without packages."""
         shown = self.judged("-S")
         self.assertNotIn("judging", shown)

@@ -11,10 +11,11 @@ GROUPS = ("nothing orders the two, and a barrier never orders two groups; a seco
 WHOLE = "use an atomic, such as atomic_inc, atomic_add or atomic_fetch_add"
 LONG = "use an atomic, such as atom_inc or atom_add (of cl_khr_int64_base_atomics) or atomic_fetch_add"
 NARROW = "use an atomic of an int, such as atomic_inc or atomic_add (OpenCL C has none of {})"
-REAL = "use a loop of {} (OpenCL C has no atomic_add of {}), or give each item a word of its own"
-ADVICE = {"int": WHOLE, "uint": WHOLE, "long": LONG, "ulong": LONG, "float": REAL.format("atomic_cmpxchg on the bits", "float"),
-          "double": REAL.format("atom_cmpxchg on the bits", "double"), **{kind: NARROW.format(kind) for kind in ("char", "uchar", "short", "ushort", "half")}}
+REAL = "use a loop of {} on the bits, begun by an atomic read (OpenCL C has no atomic_add of {}), or give each item a word of its own"
+ADVICE = {"int": WHOLE, "uint": WHOLE, "long": LONG, "ulong": LONG, "float": REAL.format("atomic_cmpxchg", "float"),
+          "double": REAL.format("atom_cmpxchg", "double"), **{kind: NARROW.format(kind) for kind in ("char", "uchar", "short", "ushort", "half")}}
 UNKNOWN = "use an atomic (of an int, such as atomic_inc or atomic_add; of a float, a loop of atomic_cmpxchg)"
+OWN = {"read": "load (in OpenCL 1.2 an atomic_or with 0)", "write": "store (in OpenCL 1.2 an atomic_xchg)"}
 FLAGS = {"global": (1, "CLK_GLOBAL_MEM_FENCE"), "local": (2, "CLK_LOCAL_MEM_FENCE")}
 
 
@@ -88,7 +89,7 @@ def of_nothing(said: str, pair: Pair) -> str:
         return COPY
     for one, other in ((pair.first, pair.second), (pair.second, pair.first)):
         if one.what not in NAMES and other.what in NAMES:
-            return f"a plain {one.what} beside atomics: make it an atomic {'load' if one.what == 'read' else 'store'}"
+            return f"a plain {one.what} beside atomics: make it an atomic {OWN[one.what]}"
     if not pair.is_one_group and pair.release and pair.acquire and pair.release.place and pair.acquire.place:
         return f"{said}; the release at {pair.release.place} and the acquire at {pair.acquire.place} do not meet"
     weak = of_orders(pair.store, pair.load) if not pair.is_one_group and pair.store and pair.load else ""

@@ -1,5 +1,6 @@
 """What tests that are written in Python use: the program, folders, traces."""
 
+import contextlib
 import os
 import pathlib
 import shutil
@@ -22,6 +23,15 @@ def python_with(*modules):
     return None
 
 
+def read_terminal(file):
+    """What was written to a terminal, whose end is an error."""
+    parts = []
+    with contextlib.suppress(OSError):
+        while part := os.read(file, 1 << 16):
+            parts.append(part)
+    return b"".join(parts)
+
+
 def pack(text):
     """The bytes of the streams that a text says."""
     return subprocess.run([os.environ["GPURACE"], "pack"], input=text.encode(), stdout=subprocess.PIPE, check=True).stdout
@@ -40,12 +50,20 @@ def access(item, kind, space, word):
 END = b"\x06" + bytes(11) + b"\xff" * 8
 
 
-class ProgramTest(unittest.TestCase):
+class RoomTest(unittest.TestCase):
+    """A test with a folder of its own."""
+
+    def setUp(self):
+        self.room = pathlib.Path(tempfile.mkdtemp(prefix="gpurace-test-"))
+        self.addCleanup(shutil.rmtree, self.room, ignore_errors=True)
+
+
+class ProgramTest(RoomTest):
     """A test of the program, in a folder of its own."""
 
     def setUp(self):
-        self.folder = pathlib.Path(tempfile.mkdtemp(prefix="gpurace-test-"))
-        self.addCleanup(shutil.rmtree, self.folder, ignore_errors=True)
+        super().setUp()
+        self.folder = self.room
 
     def gpurace(self, *words, given=b"", **settings):
         """Runs the program on these words and this standard input."""

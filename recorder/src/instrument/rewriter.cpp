@@ -169,6 +169,7 @@ private:
     }
 
     void write_entry(const Value &object, int argument, uint64_t bytes, StringRef name, const Accesses &accesses, const Grains &grains) {
+        name.consume_front("_cl_"); // that pocl's headers give to a name that a builtin has too
         const unsigned space = object.getType()->getPointerAddressSpace();
         const bool has_atomics = any_of(accesses.atomics, [&](const Atomic &atomic) {
             const Value *known = object_of(atomic.pointer);
