@@ -436,7 +436,7 @@ def cases():
         "out of bounds: write of 16 bytes, partly after the end of out"))
     yield Case("computed", [[0] * 4 + [0], [2 ** 32 - 1, 0, 0, 0, 0, ALL], (0.0,), (0, 0, 0, 0)], 0,
                {0: [3 * ALL, -ALL, 1 - ALL, ALL - 101, ALL]})
-    yield Case("fenced", [zeros], 0, {0: [1] * ALL}, say=("fences not recorded, so that an order that they give is not seen: 256, at kernel.cl:",))
+    yield Case("fenced", [zeros], 0, {0: [1] * ALL}, say=("fences, which are not recorded: the order that they give is not seen: 256, at kernel.cl:",))
     yield Case("numbers", [[0] * 4 * 48], 0, {0: numbers_of()}, (6, 4, 2), (3, 2, 1), offset=(1, 2, 3))
     same = "write the same value"  # out[0]; y and z of two vectors; four parts of a tile of each group
     yield Case("equal", [[0], [0] * 16, Local(4 * ITEMS)], 1 + 4 + 4 * GROUPS, {0: [7], 1: [0] * 5 + [1, 9, 0] + [0] * 5 + [3, 9, 0]},

@@ -405,7 +405,7 @@ reason cut: records of 1 of 3 groups were lost (the first is group 0): a group d
 acquire without its release (absent)
     kernel.cl:3:9: acquire by group 0, item 1
         tile[l] = input[l];
-    the fault is mostly the recorder's; what waits for it is not judged
+    this is mostly a fault of the recorder; what waits for the acquire is not judged
 """)
 
     def test_a_divergence_among_lost_records_is_doubtful(self):
@@ -442,7 +442,7 @@ race on global word 1 (doubtful)
     unknown place: write by group 0, item 0
     unknown place: write by group 0, item 1
     {GLOBAL}
-reason fences: fences not recorded, so that an order that they give is not seen: 4, at kernel.cl:4:9, kernel.cl:5:9
+reason fences: fences, which are not recorded: the order that they give is not seen: 4, at kernel.cl:4:9, kernel.cl:5:9
 reason images: accesses of images, which are not judged: 2, at kernel.cl:5:1
 reason operations: not recorded: calls of printf
 """)

@@ -70,7 +70,7 @@ class Statuses(Outputs):
         lines = [line for line in self.judge(status=2) if line.startswith("gpurace-judge")]
         self.assertEqual(lines[:3], [
             "gpurace-judge: nothing found, which is no answer:",
-            "gpurace-judge:     fences not recorded, so that an order that they give is not seen: 2, at kernel.cl:3:5 (1 launch of right)",
+            "gpurace-judge:     fences, which are not recorded: the order that they give is not seen: 2, at kernel.cl:3:5 (1 launch of right)",
             "gpurace-judge:     not recorded: a work-group has 2048 work-items (1 launch of other)"])
         self.judge("--error-exitcode", "42", status=2)
 

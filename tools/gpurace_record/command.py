@@ -22,17 +22,17 @@ from .sources import Sources
 WRONG_WORDS, MISSING = 3, 70
 PARTS = re.compile("[0-9]{1,9}:[0-9]{1,9}(,[0-9]{1,9}:[0-9]{1,9})*")
 RUNS = """\
-Kernels run instrumented on the host's threads, at native speed, whatever the device is. Where a package is missing, it says which.
+Kernels run instrumented on the host's threads, at native speed, whatever the device is. If a package is missing, it says which.
 """
 STATUSES = """\
-The program gpurace is that of this tree, or that which was installed beside, else the one on the path; GPURACE_PROGRAM names another.
+The program gpurace is the one of this tree, or the one that was installed with this command, or the one on the path; GPURACE_PROGRAM names another.
 
 The status is
   0   all launches were recorded whole, the program ended well, and nothing was found
   1   something was found: a race, a divergent barrier, an access out of bounds (N with --error-exitcode N)
-  2   nothing was found, but something keeps that from being an answer; the summary begins with what it is
+  2   nothing was found, but not all was judged; the summary begins with the reasons
   3   wrong words on the command line
-  70  something that is needed is missing
+  70  something is missing that is needed
 """
 
 
@@ -81,25 +81,25 @@ def parser() -> Parser:
                   usage="gpurace-record [OPTION..] PROGRAM ARG..  |  [OPTION..] FILE.sim  |  --check",
                   description="Records the kernels that a program launches, and says what gpurace finds in them, with lines of source.")
     made.add_argument("words", nargs=argparse.REMAINDER, metavar="PROGRAM", help="the program and its arguments, or a simulator file of oclgrind-kernel")
-    made.add_argument("--check", action="store_true", help="says what this machine has for it, and records one small kernel")
+    made.add_argument("--check", action="store_true", help="says what this machine has and what is missing, and records one small kernel")
     made.add_argument("--keep", metavar="DIR", help="keeps the launches in DIR, a new folder or an empty one")
-    made.add_argument("--kernel", metavar="NAME", help="records the launches of this kernel alone")
-    made.add_argument("--launch", metavar="N", type=number, help="records launch N alone; all launches of the program count, from 0")
+    made.add_argument("--kernel", metavar="NAME", help="records only the launches of this kernel")
+    made.add_argument("--launch", metavar="N", type=number, help="records only launch N; all launches of the program count, from 0")
     made.add_argument("--groups", metavar="FIRST:COUNT", type=windows,
                       help="records COUNT work-groups of each launch, from FIRST on, and no others; 0:8,248:8 is two such parts")
     made.add_argument("--build-options", metavar="TEXT", help="more options for the compiler of the kernels")
-    made.add_argument("--max-group-size", metavar="N", type=number, help="what the device says of its largest work-group (1024)")
+    made.add_argument("--max-group-size", metavar="N", type=number, help="the size that the device reports for its largest work-group (1024)")
     made.add_argument("--only-record", action="store_true", help="writes the launches and judges none; needs --keep")
-    made.add_argument("--jobs", metavar="N", type=above_zero, default="1", help="judges as many launches side by side (1)")
-    made.add_argument("--ignore-program-status", action="store_true", help="a program that ends with another status than 0 is as good")
+    made.add_argument("--jobs", metavar="N", type=above_zero, default="1", help="judges N launches at once (1)")
+    made.add_argument("--ignore-program-status", action="store_true", help="accepts a program that ends with a status other than 0")
     add_outputs(made)
     own = made.add_argument_group("of the native recorder")
-    own.add_argument("--most-records", metavar="N", type=number, help="of each launch; what comes after them is reported as cut")
-    own.add_argument("--timeout", metavar="S", type=number, help="ends the program where a kernel has not ended after S seconds")
+    own.add_argument("--most-records", metavar="N", type=number, help="records at most N records of each launch; what comes after them is reported as cut")
+    own.add_argument("--timeout", metavar="S", type=number, help="ends the program if a kernel has not ended after S seconds")
     own.add_argument("--seed", metavar="N", type=number, help="makes the order of work-items and work-groups a function of N, on one thread")
     own.add_argument("--schedules", metavar="K", type=above_zero, help="runs the program K times, with the seeds N, N + 1 and so on")
     other = made.add_argument_group("of the simulator")
-    other.add_argument("--simulator", action="store_true", help="records on the simulator Oclgrind, as it does a FILE.sim")
+    other.add_argument("--simulator", action="store_true", help="records on the simulator Oclgrind, as it does with a FILE.sim")
     other.add_argument("--opencl20", action="store_true", help="compiles all kernels as OpenCL C 2.0, with its atomics, whatever their own options say")
     other.add_argument("--optimized", action="store_true", help="compiles kernels as Oclgrind does by itself, and not with -O0")
     return made
@@ -114,8 +114,8 @@ def add_outputs(made: argparse.ArgumentParser) -> None:
     forms.add_argument("--baseline", metavar="FILE", help="the findings of this file are known, and only others count")
     forms.add_argument("--update-baseline", action="store_true", help="writes what is found into the baseline, so that it is known")
     forms.add_argument("--suppress", metavar="FILE", help="lines KEY PATTERN .. -- WHY, with the keys kernel, buffer and place: these don't count")
-    forms.add_argument("--sources", metavar="DIR", help="names the files of DIR that the kernels' texts are of, in place of kernel.cl")
-    forms.add_argument("--error-exitcode", metavar="N", type=exit_status, help="the status where something was found, in place of 1")
+    forms.add_argument("--sources", metavar="DIR", help="names the files of DIR that have the kernels' texts, in place of kernel.cl")
+    forms.add_argument("--error-exitcode", metavar="N", type=exit_status, help="the status if something was found, in place of 1")
 
 
 def report_for(options: argparse.Namespace, kept: Optional[str]) -> Report:
@@ -157,7 +157,7 @@ def with_values(made: Parser, words: List[str]) -> List[str]:
 
 
 def no_program(name: str) -> str:
-    """Why there is no program of this name: it may be in this folder, which is not on the path, or it may be a file that can't be run."""
+    """Why there is no program of this name: it may be in this folder, which is not on the path, or be a file that can't be run."""
     here = os.path.join(".", name)
     if os.path.dirname(name) == "" and shutil.which(here):
         return f"there is no program {name} on the path; {here} is one"
@@ -188,8 +188,8 @@ def options_of(words: List[str]) -> argparse.Namespace:
 
 
 def find_gpurace() -> str:
-    """The program that judges: that of this tree, that which was installed beside, or that on the path. That of the tree is run by itself,
-    since its script takes longer to find it than it takes to judge."""
+    """The program that judges: the one of this tree, the one that was installed with this command, or the one on the path. The one of the tree
+    is run without its script, which takes longer to find it than it takes to judge."""
     script, beside = (os.path.normpath(os.path.join(simulator.TOOLS, *up, "gpurace")) for up in ([".."], ["..", ".."]))
     program = os.environ.get("GPURACE_PROGRAM") or ""
     try:
@@ -308,7 +308,7 @@ def conclude(report: Report, options: argparse.Namespace) -> int:
 
 
 def guarded(run: Callable[[], int]) -> int:
-    """Who reads the summary may have had enough of it; what comes after the program may be stopped. A fault is no finding."""
+    """Runs a command: its reader may stop reading, and Ctrl-C may stop it after the program's end. A fault is no finding."""
     signal.signal(signal.SIGTERM, recording.stop)
     try:
         return run()

@@ -415,7 +415,7 @@ class Reader:
             access = Access("acquire", self.shape.who(group, item), group=self.shape.group(group), item=item, index=index)
             access.put_at(self.places.event(group, item, index), self.texts)
             yield Finding("unmatched", self.kernel, f"acquire without its release ({cause})", cause,
-                          "the fault is mostly the recorder's; what waits for it is not judged", accesses=[access])
+                          "this is mostly a fault of the recorder; what waits for the acquire is not judged", accesses=[access])
 
 
 def join(one: Finding, other: Finding) -> None:

@@ -64,7 +64,7 @@ def parser() -> Parser:
                   description="Judges recorded launches: each DIR is the folder of one, or has folders of launches below it.", epilog=STATUSES)
     made.add_argument("folders", nargs="+", metavar="DIR", help="recorded by gpurace-record --keep, or by a runtime of your own")
     made.add_argument("--jobs", metavar="N", type=above_zero, default=str(len(os.sched_getaffinity(0))),
-                      help="judges as many launches side by side (as many as processors)")
+                      help="judges N launches at once (as many as processors)")
     made.add_argument("--scheduler", metavar="ADDRESS", help="judges on the workers of this Dask scheduler, which see the same files")
     add_outputs(made)
     return made

@@ -174,7 +174,7 @@ def reasons_of(info: Info, report: List[str]) -> Iterator[Reason]:
     if info["window"]:
         groups = ", ".join(f"{first} to {first + number - 1}" for first, number in windows_of(info))
         yield Reason("window", f"only groups {groups} of {info['groups'][0]} were recorded")
-    for name, keys, text in (("fences", ("fence", "fences-not-recorded"), "fences not recorded, so that an order that they give is not seen"),
+    for name, keys, text in (("fences", ("fence", "fences-not-recorded"), "fences, which are not recorded: the order that they give is not seen"),
                              ("images", ("image",), "accesses of images, which are not judged"),
                              ("orders", ("orders-not-known",), "atomics whose order is not known, taken as relaxed"),
                              ("hand-overs", ("names-outside-window",), "hand-overs from groups outside the window, not recorded")):

@@ -16,7 +16,7 @@ NEEDED = [("g++", "g++"), ("make", "make"), ("llvm-config-14", "llvm-14-dev"),
 NEVER_ENDS = ("a launch that had not ended is not recorded; one whose groups wait for each other may never end on the simulator, which runs as "
               "many at once as there are processors: record it natively, without --simulator")
 
-NOT_BUILT = "where a kernel did not build since it has atomics of OpenCL 2.0: --opencl20 gives it these, and so does -cl-std=CL2.0 of the program"
+NOT_BUILT = "perhaps a kernel did not build, since it has atomics of OpenCL 2.0: --opencl20 gives it these, and so does -cl-std=CL2.0 of the program"
 
 
 def find(program: str) -> str:

@@ -148,7 +148,7 @@ expect "parts of words" 1 "races 2 diverge 0 unmatched 0 held 0" "race on bytes\
     "write by group 4 (1,1), item 1 (1,0)" "race on shorts\[12\]" "a release that an acquire takes, at memory_scope_device, would" -- parts.sim
 # four work-items execute a fence, and one of them writes after the buffer; two groups write four words and end
 expect "what is left out" 1 "left_out: FOUND (2 groups of 2 work-items, 6 records)" \
-    "note: fences not recorded, so that an order that they give is not seen: 4" \
+    "note: fences, which are not recorded: the order that they give is not seen: 4" \
     "out of bounds: write of 4 bytes, right after the end of words, which has 16 bytes:" "kernel.cl:8:[0-9]*: write by group 1, item 1" -- left_out.sim
 # an atomic and reads by a call that begin before a buffer, or end after it
 expect "out of bounds" 1 "out of bounds: read of 4 bytes, 8 bytes before the start of words, which has 16 bytes:" "kernel.cl:3:[0-9]*: read by group 0, item 0" \
