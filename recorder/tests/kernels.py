@@ -194,6 +194,19 @@ kernel void copies_together(global const int *in, global int *out) { // of one e
     wait_group_events(1, &copy);
     out[get_global_id(0)] = tile[63 - get_local_id(0)];
 }
+kernel void copies_in_turn(global const int *in, global int *out, int wrong) { // one tile is read while the other is copied
+    local int tiles[2][64];
+    event_t copies[2];
+    int sum = 0;
+    copies[0] = async_work_group_copy(tiles[0], in, 64, 0);
+    for (int k = 0; k < 4; k++) {
+        if (k < 3) copies[(k + 1) & 1] = async_work_group_copy(tiles[(k + 1) & 1], in + 64 * (k + 1), 64, 0);
+        wait_group_events(1, &copies[k & 1]);
+        sum += tiles[k & 1][63 - get_local_id(0)];
+        if (!wrong) barrier(CLK_LOCAL_MEM_FENCE);
+    }
+    out[get_global_id(0)] = sum;
+}
 kernel void waits(global const int *in, global int *out, int wrong) { // a wait is no barrier
     local int tile[64], turned[64];
     const int l = get_local_id(0);
@@ -415,6 +428,8 @@ def cases():
     yield Case("copies_ahead", [list(range(ALL)), zeros, 0], 0, {1: [sum(both) for both in zip(mirrored, range(ALL))]})
     yield Case("copies_ahead", [list(range(ALL)), zeros, 1], ALL, say=(after,))  # the first tile
     yield Case("copies_together", [list(range(ALL)), zeros], 0, {1: mirrored})
+    yield Case("copies_in_turn", [list(range(ALL)), zeros, 0], 0, {1: [4 * (63 - at % 64) + 6 * 64 for at in range(ALL)]})
+    yield Case("copies_in_turn", [list(range(ALL)), zeros, 1], 2 * 64 * GROUPS)  # all words of both tiles
     turned = [it + 63 - at % 64 for at, it in enumerate(mirrored)]
     yield Case("waits", [list(range(ALL)), zeros, 0], 0, {1: turned})
     yield Case("waits", [list(range(ALL)), zeros, 1], ALL, {1: turned}, say=(
