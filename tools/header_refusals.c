@@ -241,7 +241,7 @@ static void counts_records_of_items(void) {
     expect_number("records of both and the end", stream.records, 6);
 }
 
-/* Places are lines, numbered from 1, as many as records can tell. */
+/* Places are lines, numbered from 1, as many as records can name. */
 static void numbers_sites(void) {
     struct gpurace_sites sites = {tmpfile(), 0};
     char text[32] = "";
