@@ -20,7 +20,7 @@ class Pool {
 public:
     ~Pool();
     // `count` pieces of `bytes` each, one after another; null where there is no room. At the low end of each guarded
-    // one stands a page that can't be accessed, as long as the process has not too many of them.
+    // one is a page that can't be accessed, as long as the process has not too many of them.
     uint8_t *take(size_t count, size_t bytes, bool is_guarded);
     void give_back(uint8_t *memory);
 
