@@ -4,6 +4,7 @@ use Rattle.std.specs.List.{list_all}
 use Rattle.std.proofs.lemmas.Bool.{and_parts}
 use Rattle.std.proofs.lemmas.Option.{slice_get-map}
 use Rattle.std.proofs.lemmas.List.{ext_get_or, length-map}
+use Rattle.std.proofs.Math.ListN.{get_or-map}
 use Rattle.gr_model.specs.declared.event.Event.{Event}
 use Rattle.gr_model.specs.declared.event.EventId.{EventId}
 use Rattle.gr_model.specs.declared.event.Kind.{Kind}
@@ -20,7 +21,6 @@ use Rattle.gr_races.specs.declared.relaxing.Relaxation.{Relaxation}
 use Rattle.gr_races.specs.declared.relaxing.Relaxation.TheVariants.{BothFlags}
 use Rattle.gr_explain.specs.declared.judging.Judgement.TheVariants.{Race as AsRace}
 use Rattle.gr_explain.specs.Judged.{AreAccesses, AreJudgements}
-use Rattle.gr_taking.proofs.Lists.{read_list}
 use Rattle.gr_races.specs.Causes.{IsPairOf}
 use Rattle.gr_races.specs.Relaxing.{is_relaxed, relaxed, relaxed_event, relaxed_kind}
 
@@ -65,11 +65,14 @@ still_accepted r items list accepted = record {
 
 -- ---- all lists
 
+relaxed_list_of : (r : Relaxation) (s : Streams) (g : ℕ) → list_of (relaxed r s) g ≡ map (relaxed_event r) (list_of s g)
+relaxed_list_of r s g = get_or-map (map (relaxed_event r)) s.lists g []
+
 pub still_all_accepted : (r : Relaxation) (s : Streams) → AreAccepted s → AreAccepted (relaxed r s)
 still_all_accepted r s accepted = record {
   shape = accepted.shape;
   count = length-map s.lists (map (relaxed_event r)) ∙ accepted.count;
-  each = λ g lt. subst (IsAccepted (size_of s g)) (sym (read_list (relaxed_event r) s g)) (still_accepted r (size_of s g) (list_of s g) (accepted.each g lt));
+  each = λ g lt. subst (IsAccepted (size_of s g)) (sym (relaxed_list_of r s g)) (still_accepted r (size_of s g) (list_of s g) (accepted.each g lt));
 }
 
 -- ---- what an event accesses
@@ -82,7 +85,7 @@ filtered f test same (x ∷ xs) = grind (arith, same x, filtered f test same xs)
 pub still_word : (r : Relaxation) (s : Streams) (e : EventId) → word_at (relaxed r s) e ≡ word_at s e
 still_word r s e =
     let same = filtered (relaxed_event r) (is_of e.at.item) (λ x. ap (λ ended. (x.item == e.at.item) && not ended) (same_kind r x.kind).0) (list_of s e.at.group) in
-    rw (read_list (relaxed_event r) s e.at.group) (rw same (rw (slice_get-map (relaxed_event r) (filter (is_of e.at.item) (list_of s e.at.group)) e.index) (of_event (event_at s e))))
+    rw (relaxed_list_of r s e.at.group) (rw same (rw (slice_get-map (relaxed_event r) (filter (is_of e.at.item) (list_of s e.at.group)) e.index) (of_event (event_at s e))))
   where
     of_event : (o : Option Event) → option_and_then (event_word e.at.group) (option_map (relaxed_event r) o) ≡ option_and_then (event_word e.at.group) o
     of_event None = refl
@@ -107,7 +110,7 @@ same_list r (x ∷ xs) all =
 pub same_launch : (r : Relaxation) (s : Streams) → ((k : ℕ) → k < length s.lists → map (relaxed_event r) (list_of s k) ≡ list_of s k) → relaxed r s ≡ s
 same_launch r s each =
     let relax : List Event → List Event = map (relaxed_event r) in
-    let same : map relax s.lists ≡ s.lists = ext_get_or [] (map relax s.lists) s.lists (length-map s.lists relax) (λ k lt. read_list (relaxed_event r) s k ∙ each k (omega (arith, lt, length-map s.lists relax))) in
+    let same : map relax s.lists ≡ s.lists = ext_get_or [] (map relax s.lists) s.lists (length-map s.lists relax) (λ k lt. relaxed_list_of r s k ∙ each k (omega (arith, lt, length-map s.lists relax))) in
     λ i. record { sizes = s.sizes; lists = same i }
 
 -- each race still is one
