@@ -51,7 +51,7 @@ item_arrives v i mark x y there inside reads more =
       ended = set_keeps v i.group there y (λ (t : GroupMarks). t.ended) (grind arith);
     }
 
--- an item of the launch stands in its group
+-- an item of the launch is in its group
 pub item_there : (v : List GroupMarks) (i : ItemId) → HasItem (sizes_of v) i → (i.group < length v) × (i.item < length (group_of v i.group).marks)
 item_there v i has =
     grind (arith, has.0, has.1, length-map v (λ (t : GroupMarks). length t.marks), get_or-map (λ (t : GroupMarks). length t.marks) v i.group (record { marks = []; ended = false }) 0)

@@ -12,7 +12,7 @@ use Rattle.gr_barriers.proofs.SummaryLemmas.{nobody_diverges}
 
 -- the divergences of groups that have ended or not, are of some size, and whose items brought this to their instances
 module _ (Is : Divergence → Type 0) where
-  -- behind the last group all are listed
+  -- after the last group all are listed
   pub all_listed : (groups : ℕ) (ds : List Divergence) → ((d : Divergence) → Is d → d.group < groups) → AreListedBefore Is groups 0 ds → Lists DivergenceBelow Is ds
   all_listed groups ds within listed = listed_same DivergenceBelow (λ d. Is d × IsBefore groups 0 d) Is ds listed (λ d p. p.0) (λ d is. (is, inl (within d is)))
 
@@ -40,7 +40,7 @@ module _ (Is : Divergence → Type 0) where
             let same : d.cause ≡ c = one_cause (ended g) (size g) (arrived g k) d.cause c causes cause in
             λ i. record { group = group i; instance = instance i; cause = same i }
 
-    -- behind the last instance to which somebody came the group is done
+    -- after the last instance to which somebody came the group is done
     pub group_done : ((n : ℕ) → k ≤ n → NobodyCame (size g) (arrived g n)) → AreListedBefore Is (g + 1) 0 ds
     group_done none = listed_same DivergenceBelow (λ d. Is d × IsBefore g k d) (λ d. Is d × IsBefore (g + 1) 0 d) ds listed
         (λ d p. (p.0, grind arith))

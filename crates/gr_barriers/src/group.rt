@@ -42,7 +42,7 @@ fn mark_at(marks: &[Mark], number: u32) -> Option<Mark>
 }
 
 impl<A: Allocator + Copy> Group<A> {
-    /// A group of `items` work-items, none of which has come to a barrier.
+    /// A group of `items` work-items. None has come to a barrier yet.
     pub(crate) fn new(alloc: A, items: u16) -> Result<Group<A>, Memory>
         ensures { IfOk result (λ t. t ≡ record { marks = replicate items []; ended = false }) }
     {

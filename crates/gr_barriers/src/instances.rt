@@ -77,7 +77,7 @@ impl<A: Allocator> Model for Instances<A> {
 }
 
 impl<A: Allocator + Copy> Instances<A> {
-    /// The barriers of a launch of this shape, none of whose items has come to one.
+    /// The barriers of a launch of this shape. No item has come to one yet.
     ///
     /// # Errors
     /// `Memory` if an allocation is refused.

@@ -34,7 +34,7 @@ impl Mark {
         }
     }
 
-    /// Whether two barriers stand at one site.
+    /// Whether two barriers are at one site.
     pub(crate) fn is_at_site_of(self, other: Mark) -> bool
         ensures { IsTrue result ↔ (self.site ≡ other.site) }
     {

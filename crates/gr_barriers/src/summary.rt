@@ -1,4 +1,4 @@
-//! What items of a group brought to one instance of its barriers, in sum: what the instance is by this, and why (docs/MODEL.md,
+//! A summary of what the items of a group brought to one barrier instance. It says what the instance is, and why (docs/MODEL.md,
 //! "Barriers").
 
 ghost use Rattle.std.specs.Prelude.{◌≡◌, ◌↔◌, ◌+◌, ℕ, IsTrue, MatchOption};
@@ -9,10 +9,10 @@ use crate::instances::State;
 use crate::mark::Mark;
 use gr_model::report::DivergenceCause;
 
-/// What the first items of a group brought to an instance, in sum.
+/// A summary of what the first items of a group brought to an instance.
 #[derive(Clone, Copy, Debug)]
 pub struct Summary {
-    /// What the first item brought that has come, if one has.
+    /// What the first item that has come brought, if one has come.
     mark: Option<Mark>,
     /// Whether an item has not come.
     lacks_one: bool,
@@ -23,7 +23,7 @@ pub struct Summary {
 }
 
 impl Summary {
-    /// That of no items.
+    /// The summary of no items.
     pub fn new() -> Summary
         ensures { (arrived : Arrivals) → IsSummaryOf 0 arrived result }
     {
@@ -35,7 +35,7 @@ impl Summary {
         }
     }
 
-    /// That of one item more, which brought this, or has not come.
+    /// The summary with one item more, which brought this mark or has not come.
     pub fn adding(self, brought: Option<Mark>) -> Summary
         ensures { (n : ℕ) (arrived : Arrivals) → IsSummaryOf n arrived self → arrived n ≡ brought → IsSummaryOf (n + 1) arrived result }
     {
@@ -54,7 +54,7 @@ impl Summary {
         }
     }
 
-    /// Whether nobody has come.
+    /// Whether no item has come.
     pub fn is_empty(&self) -> bool
         ensures { (n : ℕ) (arrived : Arrivals) → IsSummaryOf n arrived self.now → IsTrue result ↔ NobodyCame n arrived }
     {

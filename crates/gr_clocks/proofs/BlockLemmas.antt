@@ -37,7 +37,7 @@ with_block {mine} {changed} {m} {place} {count} block small with = record {
   limit = omega (arith, block.limit);
 }
 
--- an empty row behind the others changes nothing
+-- an empty row after the others changes nothing
 pub push_empty : (c : Counts) → CountSame (c ++ [] ∷ []) c
 push_empty c j = grind (arith, get_or_push, get_or_append_left, get_or_past, length_push)
 

@@ -1,4 +1,4 @@
--- The clocks of one work-group: what its items keep, and what all of them count behind a barrier.
+-- The clocks of one work-group: what its items keep, and what all of them count after a barrier.
 use Rattle.std.proofs.Common.{◌≡◌, ◌≢◌, ℕ, zero, suc, ◌+◌, ◌<◌, ◌≤◌, All, Bool, true, false, List, [], length, get_or, set, refl, sym, ◌∙◌, arith}
 use Rattle.std.proofs.lemmas.Bool.Decides.{nat_tests}
 use Rattle.std.proofs.lemmas.List.{get_or_past, get_or_read, length-set, get_or-set_same, get_or-set_other}
@@ -104,7 +104,7 @@ module _ {number : ℕ} {met : Counts} {clocks : List Counts} {learned : List Bo
         most = λ j some. grind (arith, is, join.counts j, first.most j some, greatest_above (length clocks) (λ k. count_of (get_or clocks k []) j) n there);
       }
 
--- ---- the counts behind the barrier
+-- ---- the counts after the barrier
 
 -- base has learned all that the clocks count, and then gets the raised counts of the group's own items
 module _ {g : GroupClocks} {base : Counts} {counts : List ℕ} (some : 0 < length g.clocks) (merged : Merges g base) (raised : AreRaised g base (length g.clocks) counts) {behind : Counts} (is : IsRaisedBy base g.number counts behind) where

@@ -14,7 +14,7 @@ cases_item i j = grind (arith, nat_tests, one_item i j)
 pub not_ticked : (i j : ItemId) → i ≢ j → tick_at i j ≡ 0
 not_ticked i j other = grind (arith, nat_tests, one_item i j)
 
--- a count that stands in place of one like it changes nothing
+-- a count that replaces an equal one changes nothing
 pub with_own : (c : Counts) (i : ItemId) (n : ℕ) → n ≡ count_of c i → CountSame (with_count c i n) c
 with_own c i n is j = grind (arith, with_same, with_other, cases_item i j)
 

@@ -1,4 +1,4 @@
--- Counts in pages: what stands at an item, and what is written there.
+-- Counts in pages: what is read at an item, and what is written there.
 use Rattle.std.proofs.Common.{◌≡◌, ◌≢◌, ℕ, ◌+◌, ◌*◌, ◌/◌, ◌%◌, ◌<◌, ◌≤◌, List, [], ◌∷◌, ◌++◌, length, slice_index, get_or, set, ap, arith}
 use Rattle.std.proofs.lemmas.Grind.{get_or-set_at}
 use Rattle.std.proofs.lemmas.List.{get_or_past, get_or-set_other, get_or_push, get_or_append_left, length_push}
@@ -30,7 +30,7 @@ push_page pages page none j = grind (arith, count_whole, get_or_push, get_or_app
 pub count_none : (j : ItemId) → count_of (whole []) j ≡ 0
 count_none j = count_whole [] j
 
--- nor do those of a group behind the last page
+-- nor do those of a group after the last page
 pub count_past : (pages : List Counts) (j : ItemId) → length pages ≤ j.group / 256 → count_of (whole pages) j ≡ 0
 count_past pages j past = grind (arith, count_whole, get_or_past)
 

@@ -1,4 +1,4 @@
--- Tables with an entry for each work-item: what stands at an item, and what is written there.
+-- Tables with an entry for each work-item: what is read at an item, and what is written there.
 use Rattle.std.proofs.Common.{◌≡◌, ◌≢◌, ℕ, ◌+◌, ◌<◌, true, List, [], ◌∷◌, ◌++◌, map, length, slice_index, get_or, set, ap, ◌∙◌, arith}
 use Rattle.std.proofs.lemmas.Bool.Decides.{nat_tests}
 use Rattle.std.proofs.lemmas.Grind.{get_or-set_at}

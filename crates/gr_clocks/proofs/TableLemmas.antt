@@ -116,7 +116,7 @@ behind_same g false y ticked = ticked.same
 
 -- ---- a group gets its items
 
--- groups without items may stand behind the others, and a group then in its place
+-- groups without items may come after the others, and then a group in its place
 pub record Reaches (t : ClockTable) (group : ℕ) (groups : List GroupClocks) : Type 0 where
   pub are : AreGroups groups
   pub same : (row : List Counts) → put [] (table_of groups) group row ≡ put [] t group row

@@ -19,7 +19,7 @@ pub record GroupClocks : Type 0 where
   pub number : ℕ
   pub clocks : List Counts
 
--- what stands for a group where there is none
+-- what is read where there is no group
 abbrev pub no_group : GroupClocks
 no_group = record { number = 0; clocks = [] }
 
@@ -91,7 +91,7 @@ pub record Merges (g : GroupClocks) (base : Counts) : Type 0 where
   pub least : (k : ℕ) (j : ItemId) → k < length g.clocks → item_of g.number k ≢ j → count_of (clock_in_group g k) j ≤ count_of base j
   pub most : (j : ItemId) → 0 < length g.clocks → count_of base j ≤ greatest (length g.clocks) (λ k. count_of (clock_in_group g k) j)
 
--- the count of an item behind the barrier
+-- the count of an item after the barrier
 abbrev pub raised_count : GroupClocks → Counts → ℕ → ℕ
 raised_count g base k = max (count_of base (item_of g.number k)) (count_of (clock_in_group g k) (item_of g.number k) + 1)
 
@@ -123,7 +123,7 @@ pub record MeetsEach (old new : GroupClocks) : Type 0 where
   pub same : IsSameGroup old new
   pub each : (k : ℕ) → k < length old.clocks → IsMetBase old (clock_in_group new k)
 
--- behind a barrier that orders the memory, or does not
+-- after a barrier that orders the memory, or does not
 abbrev pub IsBehind : GroupClocks → Bool → GroupClocks → Type 0
 IsBehind old true new = MeetsEach old new
 IsBehind old false new = TicksEach old new

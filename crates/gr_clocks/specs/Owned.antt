@@ -1,4 +1,4 @@
--- A clock as the counts of all items, and one item's count that stands in place of the one there.
+-- A clock as the counts of all items, and one item's count that replaces the one there.
 -- Source: docs/MODEL.md, "Clocks".
 use Rattle.std.specs.Prelude.{◌≡◌, ◌≢◌, ℕ, ◌≤◌, max, List, [], slice_index, slice_index_or}
 use Rattle.gr_model.specs.declared.event.ItemId.{ItemId}
@@ -10,7 +10,7 @@ use Rattle.gr_clocks.specs.Counts.{Counts, count_of}
 abbrev pub with_count : Counts → ItemId → ℕ → Counts
 with_count c i n = put [] c i.group (put 0 (slice_index_or c i.group []) i.item n)
 
--- the counts of all items, and the count of one of them that stands in place of the one there, if there is one
+-- the counts of all items, and the count of one of them that replaces the one there, if there is one
 pub record OwnCounts : Type 0 where
   pub base : Counts
   pub item : ItemId
@@ -20,7 +20,7 @@ pub record OwnCounts : Type 0 where
 abbrev pub counts_of : OwnCounts → Counts
 counts_of o = with_count o.base o.item o.count
 
--- the item's count is not below the one in whose place it stands
+-- the item's count is not below the one that it replaces
 pub record IsOwn (o : OwnCounts) : Type 0 where
   pub above : count_of o.base o.item ≤ o.count
   pub limit : o.count ≤ LARGEST_COUNT

@@ -2,7 +2,7 @@
 use Rattle.std.specs.Prelude.{Bool, List, [], slice_index_or, ◌==◌, ◌&&◌}
 use Rattle.gr_model.specs.declared.event.ItemId.{ItemId}
 
--- what stands in a table at an item, or else the default
+-- what a table has at an item, or else the default
 abbrev pub entry_of : {X : Type 0} → X → List (List X) → ItemId → X
 entry_of none table i = slice_index_or (slice_index_or table i.group []) i.item none
 

@@ -1,4 +1,4 @@
-//! The counts of all items, which clocks share. There may be no count of an item of which nothing is counted.
+//! The counts of all items, which clocks share. An item of which nothing is counted may have no count here.
 
 ghost use Rattle.std.specs.Prelude.{IsTrue, ◌≡◌, ◌+◌, ◌/◌, ◌<◌, ◌≤◌, All, IfOk, OnOk, IsOkUnless, length};
 ghost use Rattle.gr_clocks.specs.declared.clock.ClockError.TheVariants.{Memory as OutOfMemory};
@@ -89,8 +89,7 @@ fn raised_by<A: Allocator + Clone>(
     Ok(raised)
 }
 
-/// The page at a place that has the greater count of each item, where the other pages are no more: that of one of the two, where
-/// no count of the other is above it.
+/// The page at a place, with the greater count of each item: one of the two pages, shared, where no count of the other is above it.
 #[tactic(auto, using(crate::proofs::PageLemmas::join_of_none, crate::proofs::PageLemmas::join_of_greater, crate::proofs::PageLemmas::join_of_lesser))]
 fn joined_page<A: Allocator + Clone>(
     mine: &Pages<A>,
@@ -115,7 +114,7 @@ fn joined_page<A: Allocator + Clone>(
     Ok(page)
 }
 
-/// The greater count of each item, where the other pages are no more.
+/// The greater count of each item. There are no more of the other pages.
 fn merged<A: Allocator + Clone>(mine: &Pages<A>, theirs: &Pages<A>) -> Result<Pages<A>, ClockError>
     requires { length theirs.now ≤ length mine.now }
     ensures join { IfOk result (λ p. IsJoin (whole mine.now) (whole theirs.now) (whole p)) }
@@ -139,7 +138,7 @@ impl<A: Allocator> Base<A> {
         }
     }
 
-    /// What its memory is taken from.
+    /// Its allocator.
     pub(crate) fn alloc(&self) -> Result<A, ClockError>
     where
         A: Clone,
@@ -220,7 +219,7 @@ impl<A: Allocator> Base<A> {
         self.pages.put(place, page)
     }
 
-    /// The greater count of each item, in pages that are shared where one of the two's has it.
+    /// The greater count of each item, in pages that are shared where one of the two pages has it.
     pub(crate) fn joined(&self, other: &Base<A>) -> Result<Base<A>, ClockError>
     where
         A: Clone,

@@ -1,5 +1,5 @@
-//! The counts of the items of some work-groups, in blocks of one work-group each, which clocks share. There may be no block of a
-//! group of which nothing is counted.
+//! The counts of the items of some work-groups, in blocks of one work-group each, which clocks share. A group of which nothing is counted
+//! may have no block.
 
 ghost use Rattle.std.specs.Prelude.{IsTrue, ◌≡◌, ◌<◌, ◌≤◌, All, IfOk, OnOk, IsOkUnless, length};
 ghost use Rattle.gr_clocks.specs.declared.clock.ClockError.TheVariants.{Memory as OutOfMemory};
@@ -40,7 +40,7 @@ impl<A: Allocator> Page<A> {
         }
     }
 
-    /// What its memory is taken from.
+    /// Its allocator.
     pub(crate) fn alloc(&self) -> Result<A, ClockError>
     where
         A: Clone,
@@ -102,7 +102,7 @@ impl<A: Allocator> Page<A> {
         Ok(Page { blocks })
     }
 
-    /// Has blocks for so many groups, and counts what it did.
+    /// Makes blocks until so many groups have one. The counts stay.
     fn reach(&mut self, groups: usize) -> Result<(), ClockError>
     where
         A: Clone,
@@ -150,7 +150,7 @@ impl<A: Allocator> Page<A> {
         Ok(())
     }
 
-    /// The greater count of each item, where the other counts have blocks of no more groups.
+    /// The greater count of each item. The other page has no more blocks.
     fn merged(&self, other: &Page<A>) -> Result<Page<A>, ClockError>
     where
         A: Clone,
@@ -170,7 +170,7 @@ impl<A: Allocator> Page<A> {
         Ok(Page { blocks })
     }
 
-    /// The greater count of each item, in blocks that are shared where one of the two's has it.
+    /// The greater count of each item, in blocks that are shared where one of the two blocks has it.
     pub(crate) fn joined(&self, other: &Page<A>) -> Result<Page<A>, ClockError>
     where
         A: Clone,

@@ -49,7 +49,7 @@ impl<A: Allocator> Pages<A> {
         }
     }
 
-    /// What its memory is taken from.
+    /// Its allocator.
     pub(crate) fn alloc(&self) -> Result<A, ClockError>
     where
         A: Clone,
@@ -84,7 +84,7 @@ impl<A: Allocator> Pages<A> {
         Ok(page)
     }
 
-    /// Adds a page behind the others.
+    /// Adds a page after the others.
     pub(crate) fn push(&mut self, page: Arc<Page<A>, A>) -> Result<(), ClockError>
         ensures pushed { OnOk result (self.new ≡ self.old ++ page.value ∷ []) }
         ensures memory { IsOkUnless result ClockError.Memory }

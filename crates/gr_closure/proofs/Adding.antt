@@ -13,7 +13,7 @@ use Rattle.gr_clocks.specs.ClockedAccess.{ClockedAccess, clocked, bare}
 use Rattle.gr_closure.specs.Accesses.{IsAccess}
 use Rattle.gr_closure.specs.AccessesAlong.{AreAccesses, of_none, of_access, of_other}
 
--- an access tells the same without its allocator
+-- an access says the same without its allocator
 pub bare_access : {Z : Type 0} (s : Streams) (e : EventId) (a : Access Z) → IsAccess s e a → IsAccess s e (bare (clocked a))
 bare_access s e a of_e = grind arith
 

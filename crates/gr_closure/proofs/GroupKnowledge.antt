@@ -40,7 +40,7 @@ module _ (s : Streams) (m : Space) (old new : List EventId) (g k : ℕ) (prefixe
   pub met_cases : (x : EventId) → IsIn new x → IsIn old x ⊎ StandsIn s x g k
   met_cases x h = grind (arith, in_longer old met.barriers x (subst (λ l. IsIn l x) met.order h), met.are.each)
 
-  -- of an instance that a barrier stands in, this is the number
+  -- this is the number of an instance that a barrier is in
   here : (a : Mark) (c b : EventId) → StandsIn s b g k → Together s a c b → StandsIn s c g k × IsConvergent s g k a
   here a c b stands t = grind (arith, same_instance, moved)
 

@@ -1,4 +1,4 @@
--- Of two accesses the race test tells whether their events clash.
+-- The race test of two accesses says whether their events clash.
 use Rattle.std.proofs.Common.{◌↔◌, ◌≡◌, ◌<◌, ◌&&◌, ◌||◌, arith}
 use Rattle.std.specs.Prelude.{not}
 use Rattle.std.proofs.lemmas.Bool.{and_parts, and_from, not-true, not_from_false, false_from_ne_true, ltb-true, lt-ltb, true≢false}

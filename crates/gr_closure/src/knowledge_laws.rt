@@ -18,9 +18,8 @@ pub fn an_event_tells_its_item()
     ensures others { OthersKnowAfterHandle }
 {}
 
-/// A barrier sees itself and what its item knew. Where its instance meets, each item of the group then knows, in a
-/// memory that is flagged, just what any of the barriers sees, and in another memory just what its own barrier sees.
-/// The items of other groups know what they knew.
+/// A barrier sees itself and what its item knew. Where its instance meets, each item of the group then knows, in a memory that is flagged,
+/// just what any of the barriers sees, and in another memory just what its own barrier sees. The items of other groups know what they knew.
 pub fn a_barrier_tells_its_group()
     ensures sees { MetSees }
     ensures flagged { FlaggedKnows }
@@ -34,8 +33,7 @@ pub fn knowledge_stays()
     ensures seen { SeenStay }
 {}
 
-/// A clock that counts just what a handled event sees has for each item the number of its events that are the event or
-/// happen before it.
+/// A clock that counts just what a handled event sees has for each item the number of its events that are the event or happen before it.
 pub fn clocks_count()
     ensures { ClocksCount }
 {}

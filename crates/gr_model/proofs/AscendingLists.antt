@@ -1,4 +1,4 @@
--- A list without repeats in an order is told by its elements.
+-- Two ascending lists without repeats are equal where they have the same elements.
 use Rattle.std.proofs.Common.{◌≡◌, ◌⊎◌, ℕ, suc, ◌<◌, List, [], ◌∷◌, length, slice_index_or, Contains, AllPairs, refl, sym, subst, arith}
 use Rattle.gr_model.specs.Reports.{Lists}
 
@@ -12,7 +12,7 @@ module _ {X : Type 0} (Below : X → X → Type 0) (one_way : (x y : X) → Belo
   first_below : (x : X) (xs : List X) → AllPairs Below (x ∷ xs) → (y : X) → Contains xs y → Below x y
   first_below x xs up y h = subst (λ z. Below x z) h.2 (up 0 (suc h.0) y (omega arith) (omega (arith, h.1)))
 
-  -- what stands behind the first of one list stands behind the first of the other
+  -- what comes after the first of one list comes after the first of the other
   in_rest : (x y : X) (xs ys : List X) → x ≡ y → AllPairs Below (x ∷ xs) → ((z : X) → Contains (x ∷ xs) z → Contains (y ∷ ys) z) → (z : X) → Contains xs z → Contains ys z
   in_rest x y xs ys same up to z h =
       grind (arith, to z (suc h.0, omega (arith, h.1), h.2), Contains-cases y ys z, first_below x xs up z h, one_way x x)

@@ -1,4 +1,4 @@
--- Where each thing that an event waits for stands lower than the event, so does each that happens before it.
+-- Where all that an event waits for is lower than the event, so is all that happens before it.
 use Rattle.std.proofs.Common.{◌≡◌, ℕ, zero, suc, ◌+◌, ◌-◌, ◌<◌, List, refl, ⊎_elim, arith, eq-or-lt_of_le, lt_trans}
 use Rattle.gr_model.specs.declared.event.Space.{Space}
 use Rattle.gr_model.specs.declared.event.EventId.{EventId}
@@ -13,11 +13,11 @@ use Rattle.gr_model.specs.Waits.{IsGrounded, Stage, Waits, for_meeting, for_prev
 pub together-swap : {s : Streams} {a : Mark} {e b : EventId} → Together s a e b → Together s a b e
 together-swap t = record { group = t.group; instance = t.instance; convergent = t.convergent; first = t.second; second = t.first }
 
--- an event stands below a level
+-- an event is below a level
 abbrev pub IsBelow : (ℕ → EventId → Type 0) → ℕ → EventId → Type 0
 IsBelow At p e = (q : ℕ) × (q < p) × At q e
 
--- what an event at a level waits for stands at a lower one
+-- what an event at a level waits for is at a lower one
 abbrev pub Descends : Streams → (ℕ → EventId → Type 0) → Type 0
 Descends s At = (p : ℕ) (e d : EventId) → At p e → Waits s e d → IsBelow At p d
 
@@ -58,7 +58,7 @@ pub stage_descends : (s : Streams) → Descends s (Stage s)
 stage_descends s zero e d h w = absurd h
 stage_descends s (suc n) e d h w = (n, omega arith, h.2 d w)
 
--- what stands in a lawful order is reached, and so is each base pair's beginning
+-- each event of a lawful order is reached, and so is each base pair's beginning
 pub lawful_stage : (s : Streams) (order : List EventId) → IsLawful s order → (n p : ℕ) (e : EventId) → p < n → IsAt order p e → Stage s n e
 lawful_stage s order l zero p e lt at = absurd (omega arith)
 lawful_stage s order l (suc n) p e lt at =

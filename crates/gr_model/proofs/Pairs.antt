@@ -16,7 +16,7 @@ SomeOf-place P [] h = absurd h
 SomeOf-place P (y ∷ xs) (inl h) = (0, y, refl, h)
 SomeOf-place P (y ∷ xs) (inr h) = let there = SomeOf-place P xs h in (suc there.0, there.1, there.2, there.3)
 
--- R relates an element and one behind it, by recursion on the list
+-- R relates an element and a later one, by recursion on the list
 abbrev pub PairIn : {X : Type 0} → (X → X → Type 0) → List X → Type 0
 PairIn R [] = ⊥
 PairIn R (x ∷ xs) = SomeOf (R x) xs ⊎ PairIn R xs

@@ -1,4 +1,4 @@
--- Lists with an element at a place behind their end.
+-- Lists with an element at a place after their end.
 use Rattle.std.proofs.Common.{◌≡◌, ℕ, zero, suc, ◌+◌, ◌<◌, ◌≤◌, max, All, List, [], ◌∷◌, ◌++◌, length, get_or, map, set, sum, refl, sym, ap, ◌∙◌, arith}
 use Rattle.std.proofs.lemmas.List.{get_or_default, get_or_past}
 use Rattle.std.proofs.lemmas.List.Sums.{sum_by-cons}
@@ -25,7 +25,7 @@ pub put_within : {X : Type 0} (none : X) (xs : List X) (p : ℕ) (x : X) → p <
 put_within none [] p x there = absurd (omega (arith, there))
 put_within none (y ∷ ys) p x there = grind (arith, put_within none ys)
 
--- what stands between may stand there before
+-- what is put between may be there before
 pub put_behind : {X : Type 0} (none : X) (xs : List X) (p : ℕ) (x : X) → length xs ≤ p → put none (xs ++ none ∷ []) p x ≡ put none xs p x
 put_behind none [] p x over = grind arith
 put_behind none (y ∷ ys) p x over = grind (arith, put_behind none ys)
@@ -37,7 +37,7 @@ map_put f none xs p x = refl
 
 -- ---- numbers
 
--- where nothing stood there
+-- where nothing was there
 pub sum_put : (ns : List ℕ) (p n : ℕ) → get_or ns p 0 ≡ 0 → sum (put 0 ns p n) ≡ sum ns + n
 sum_put [] zero n none = grind (arith, sum_by-cons)
 sum_put [] (suc p) n none = grind (arith, sum_by-cons, sum_put [] p n refl)

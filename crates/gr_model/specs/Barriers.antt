@@ -8,7 +8,7 @@ use Rattle.gr_model.specs.declared.event.Kind.TheVariants.{Read, Write, Load, St
 use Rattle.gr_model.specs.Instances.{Mark, Arrivals, IsConvergentOf, IsDivergentOf}
 use Rattle.gr_model.specs.Streams.{Streams, list_of, size_of, trace_of, place_of, is_complete}
 
--- the mark of a barrier; its site stands in the record's word
+-- the mark of a barrier; the record's word is its site
 abbrev pub mark_of_kind : Kind → ℕ → Option Mark
 mark_of_kind Read site = None
 mark_of_kind Write site = None
@@ -40,7 +40,7 @@ pub record StandsIn (s : Streams) (e : EventId) (g k : ℕ) : Type 0 where
   pub item : e.at.item < size_of s g
   pub place : place_of s is_barrier e.at k ≡ Some e.index
 
--- e and b stand in one convergent instance, which has this mark
+-- e and b are in one convergent instance, which has this mark
 pub record Together (s : Streams) (a : Mark) (e b : EventId) : Type 0 where
   pub group : ℕ
   pub instance : ℕ

@@ -11,7 +11,7 @@ use Rattle.gr_model.specs.Classes.{class_of, class_modifies, class_scope, exempt
 abbrev pub AccessesHaveClasses : Type 0
 AccessesHaveClasses = (g : ℕ) (e : Event) → (is_some (class_of e.kind) ≡ is_access e.kind) × (is_some (event_word g e) ≡ is_access e.kind)
 
--- a class tells whether its access modifies, and its scope
+-- a class says whether its access modifies, and its scope
 abbrev pub ClassesTellModifies : Type 0
 ClassesTellModifies = (k : Kind) (a : Class) → class_of k ≡ Some a → class_modifies a ≡ modifies k
 

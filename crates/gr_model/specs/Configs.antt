@@ -22,7 +22,7 @@ pub record IsConfig (c : Settings) : Type 0 where
   pub queues : IsAmount MOST_QUEUES c.queues
   pub capacity : IsAmount MOST_PLACES c.capacity
 
--- why numbers are no configuration: each cause stands where none before it does
+-- why numbers are no configuration: the first of these causes that is there
 abbrev pub IsConfigFault : Settings → ConfigError → Type 0
 IsConfigFault c BadWorkers = ¬ IsAmount MOST_WORKERS c.workers
 IsConfigFault c BadQueues = IsAmount MOST_WORKERS c.workers × ¬ IsAmount MOST_QUEUES c.queues

@@ -20,7 +20,7 @@ IsKindOk (Rmw scope order) item space word = ⊤
 IsKindOk (Barrier global local) item space word = space ≡ Global
 IsKindOk (End cut) item space word = (item ≡ 0) × (space ≡ Global) × (word ≡ 0)
 
--- names stand only at an acquire, and are names that one acquire may have
+-- only an acquire has names, and these are names that one acquire may have
 abbrev pub IsNamingOk : Kind → List Name → Type 0
 IsNamingOk kind [] = ⊤
 IsNamingOk kind (n ∷ names) = IsTrue (is_acquire_kind kind) × AreNames (n ∷ names)

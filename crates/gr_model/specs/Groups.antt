@@ -5,7 +5,7 @@ use Rattle.gr_model.specs.declared.limits.TheConstants.{MOST_GROUPS, MOST_ITEMS}
 use Rattle.gr_model.specs.Shapes.{IsGroupSize}
 use Rattle.gr_model.specs.Streams.{Streams, list_of, size_of}
 
--- the list with x at a place; where it is shorter, the default stands between
+-- the list with x at a place; where it is shorter, the default fills the places between
 abbrev pub put : {X : Type 0} → X → List X → ℕ → X → List X
 put none [] zero x = x ∷ []
 put none [] (suc p) x = none ∷ put none [] p x

@@ -28,7 +28,7 @@ pub data BasePair (s : Streams) (m : Space) (e f : EventId) : Type 0 where
   sequenced : e.at ≡ f.at → e.index < f.index → IsEvent s f → BasePair s m e f
   -- f matches the release e, on a word of this memory, with inclusive scope
   synchronized : Matches s f e → IsInclusive s m e f → BasePair s m e f
-  -- f is behind a barrier b in its item, and e and b stand in one convergent instance that flags this memory
+  -- f comes after a barrier b in its item, and e and b are in one convergent instance that flags this memory
   behind_barrier : (a : Mark) (b : EventId) → IsTrue (flags a m) → Together s a e b → b.at ≡ f.at → b.index < f.index → IsEvent s f → BasePair s m e f
 
 -- a non-empty list of base pairs leads from e to f, each ending where the next starts

@@ -7,7 +7,7 @@ use Rattle.gr_model.specs.Streams.{Streams, IsEvent}
 use Rattle.gr_model.specs.Barriers.{Together}
 use Rattle.gr_model.specs.Waits.{Waits, IsSettled, IsGrounded}
 
--- an event stands in an order at a place, or somewhere
+-- an event is in an order at a place, or somewhere
 abbrev pub IsAt : List EventId → ℕ → EventId → Type 0
 IsAt order p e = slice_get order p ≡ Some e
 
@@ -18,11 +18,11 @@ IsIn order e = (p : ℕ) × IsAt order p e
 pub record IsLawful (s : Streams) (order : List EventId) : Type 0 where
   -- each is an event that waits for nothing that is not there
   pub event : (p : ℕ) (e : EventId) → IsAt order p e → IsEvent s e × IsSettled s e
-  -- each stands there once
+  -- each is there once
   pub once : (p q : ℕ) (e : EventId) → IsAt order p e → IsAt order q e → p ≡ q
-  -- each stands behind all that it waits for
+  -- each comes after all that it waits for
   pub after : (p : ℕ) (e d : EventId) → IsAt order p e → Waits s e d → (q : ℕ) × (q < p) × IsAt order q d
-  -- the barriers of a convergent instance stand side by side, in the order of their items
+  -- the barriers of a convergent instance are side by side, in the order of their items
   pub together : (p : ℕ) (e b : EventId) (a : Mark) → IsAt order p e → Together s a e b → (q : ℕ) × (q + e.at.item ≡ p + b.at.item) × IsAt order q b
 
 -- a lawful order of all grounded events

@@ -22,14 +22,14 @@ AcceptedAreComplete = (s : Streams) → AreAccepted s ↔ (IsShape s.sizes × Ar
 abbrev pub PairsGoForwards : Type 0
 PairsGoForwards = (s : Streams) (order : List EventId) (m : Space) (e f : EventId) (p q : ℕ) → IsLawful s order → IsAt order p e → IsAt order q f → BasePair s m e f → p < q
 
--- in a lawful order happens-before goes forwards, and what happens before an event of the order stands in it
+-- in a lawful order happens-before goes forwards, and what happens before an event of the order is in it
 abbrev pub OrderGoesForwards : Type 0
 OrderGoesForwards = (s : Streams) (order : List EventId) (m : Space) (e f : EventId) (p q : ℕ) → IsLawful s order → IsAt order p e → IsAt order q f → HappensBefore s m e f → p < q
 
 abbrev pub OrderStaysWithin : Type 0
 OrderStaysWithin = (s : Streams) (order : List EventId) (m : Space) (e f : EventId) → IsLawful s order → IsIn order f → HappensBefore s m e f → IsIn order e
 
--- what stands in a lawful order is grounded
+-- each event of a lawful order is grounded
 abbrev pub OrderIsGrounded : Type 0
 OrderIsGrounded = (s : Streams) (order : List EventId) (e : EventId) → IsLawful s order → IsIn order e → IsGrounded s e
 

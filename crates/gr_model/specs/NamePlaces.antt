@@ -4,7 +4,7 @@ use Rattle.gr_model.specs.declared.event.Name.{Name}
 use Rattle.gr_model.specs.declared.limits.TheConstants.{MOST_NAMES}
 use Rattle.gr_model.specs.NameLists.{AreNames}
 
--- what stands in a place that is not used
+-- what a place that is not used holds
 abbrev pub unused : Name
 unused = record { at = record { group = 0; item = 0 }; release = 0 }
 

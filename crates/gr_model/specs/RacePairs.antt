@@ -1,5 +1,5 @@
 -- Racing pairs of a word.
--- Source: docs/MODEL.md, "Races" and "The report". That the smaller event stands first is this project's own.
+-- Source: docs/MODEL.md, "Races" and "The report". That the smaller event comes first is this project's own.
 use Rattle.std.specs.Prelude.{◌≡◌, ◌⊎◌, ℕ, List, All, map}
 use Rattle.gr_model.specs.declared.event.EventId.{EventId}
 use Rattle.gr_model.specs.declared.event.Word.{Word}

@@ -50,7 +50,7 @@ pub record IsFirstBadSize (most : ℕ) (sizes : List ℕ) (g : ℕ) : Type 0 whe
   pub before : (k : ℕ) → k < g → IsSizeWithin most (slice_index sizes k)
   pub bad : ¬ IsSizeWithin most (slice_index sizes g)
 
--- why sizes are no shape of at most so many groups, each of at most so many items: each cause stands where none before it does
+-- why sizes are no shape of at most so many groups, each of at most so many items: the first of these causes that is there
 abbrev pub IsFaultWithin : ℕ → ℕ → List ℕ → ShapeError → Type 0
 IsFaultWithin groups items sizes NoGroups = length sizes ≡ 0
 IsFaultWithin groups items sizes TooManyGroups = groups < length sizes

@@ -60,7 +60,7 @@ pub record IsAccepted (items : ℕ) (list : List Event) : Type 0 where
   pub good : AreGood items list
   pub ended : IsTrue (is_complete list)
 
--- why a group's list is not accepted: each cause stands where none before it does
+-- why a group's list is not accepted: the first of these causes that is there
 abbrev pub IsListFault : ℕ → ℕ → List Event → TracesError → Type 0
 IsListFault group items list WrongCount = ⊥
 IsListFault group items list (TooManyRecords g) = (g ≡ group) × (MOST_RECORDS < length list)
@@ -120,7 +120,7 @@ IsEvent s e = (x : Event) × (event_at s e ≡ Some x)
 abbrev pub word_at : Streams → EventId → Option Word
 word_at s e = option_and_then (event_word e.at.group) (event_at s e)
 
--- the places of the elements that pass a test, where the first of the list stands at i
+-- the places of the elements that pass a test, where the first of the list has place i
 abbrev pub places_from : {X : Type 0} → (X → Bool) → ℕ → List X → List ℕ
 places_from test i [] = []
 places_from test i (x ∷ xs) = if test x then i ∷ places_from test (suc i) xs else places_from test (suc i) xs

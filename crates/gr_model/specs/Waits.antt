@@ -20,7 +20,7 @@ pub data Waits (s : Streams) (e d : EventId) : Type 0 where
   for_release : Matches s e d → Waits s e d
   -- the event before each barrier of its convergent instance
   for_arrival : (a : Mark) (b : EventId) → Together s a e b → IsPrevious d b → Waits s e d
-  -- each barrier of the convergent instance directly behind which it stands
+  -- each barrier of the convergent instance that comes directly before it
   for_meeting : (a : Mark) (c : EventId) → IsPrevious c e → Together s a c d → Waits s e d
 
 -- all that e waits for exists: the releases that it names are there with its word, and its instance is convergent or divergent

@@ -117,9 +117,8 @@ pub fn conflicts(first: &Kind, second: &Kind) -> bool
     is_access(first) && is_access(second) && (modifies(first) || modifies(second))
 }
 
-/// Whether the first event is a release that synchronizes with the second if that takes its value. This is so if the
-/// first is a release, the second an acquire, both are on one word, and they have inclusive scope. Each event is of the
-/// work-group beside it.
+/// Whether the first event is a release that synchronizes with the second if that takes its value. This is so if the first is a release,
+/// the second an acquire, both are on one word, and they have inclusive scope. Each event is of the work-group beside it.
 pub fn pairs_with(release: &Event, release_group: u16, acquire: &Event, acquire_group: u16) -> bool
     ensures { IsTrue result ↔ PairsWith release.now release_group acquire.now acquire_group }
 {

@@ -8,8 +8,7 @@ ghost use Rattle.gr_model.specs.Classes as spec;
 use crate::access::same_scope;
 use crate::event::{Kind, Scope};
 
-/// What an access does to its word, and how: plainly, or as an atomic access of a scope. An access that modifies may
-/// read too.
+/// What an access does to its word, and how: plainly, or as an atomic access of a scope. An access that modifies may read too.
 #[derive(Clone, Copy, Debug, PartialEq, Eq)]
 pub enum Class {
     /// A plain read.

@@ -1,5 +1,4 @@
-//! How a run is set up: how many workers and queues it has, and which of them a group's events and a word's accesses go
-//! to.
+//! How a run is set up: how many workers and queues it has, and which of them a group's events and a word's accesses go to.
 
 ghost use Rattle.std.specs.Prelude.{◌≡◌, ◌≢◌, ◌↔◌, ◌%◌, ◌<◌, IsOk, IfOk, IfErr};
 ghost use Rattle.gr_model.specs.Configs.{IsConfig, IsConfigFault, worker_number};
@@ -45,8 +44,7 @@ impl Model for Config {
 }
 
 impl Config {
-    /// The configuration of `workers` workers and `queues` intake queues, with room for `capacity` values in each
-    /// queue.
+    /// The configuration of `workers` workers and `queues` intake queues, with room for `capacity` values in each queue.
     ///
     /// # Errors
     /// The first of these that is there: `BadWorkers` if `workers` is not 1 to `MOST_WORKERS`; `BadQueues` if `queues`

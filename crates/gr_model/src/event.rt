@@ -1,4 +1,4 @@
-//! The records of a kernel trace, the events that they stand for, and the words that events access.
+//! The records of a kernel trace, the events that they record, and the words that events access.
 //!
 //! What a record may look like is docs/MODEL.md, "Records"; orders and scopes are those of the OpenCL 2.0
 //! specification, section 3.3 (memory model), "memory order" and "memory scope".
@@ -204,8 +204,7 @@ fn naming_ok(kind: Kind, names: Names) -> bool
     names.as_slice().is_empty() || kind.is_acquire()
 }
 
-/// Whether a record's order is one that its kind may have, and the fields that the kind leaves unused are 0 or
-/// `Global`.
+/// Whether a record's order is one that its kind may have, and the fields that the kind leaves unused are 0 or `Global`.
 fn kind_ok(kind: Kind, item: u16, space: Space, word: u32) -> bool
     ensures { IsTrue result ↔ IsKindOk kind item space word }
 {
@@ -221,9 +220,9 @@ fn kind_ok(kind: Kind, item: u16, space: Space, word: u32) -> bool
     }
 }
 
-/// Whether a record is one that a work-group of `items` work-items may have: its item is below `items`, its order is
-/// one that its kind may have, the fields that its kind leaves unused are 0 or `Global`, and names stand only at an
-/// acquire. (Names are in range and in order by their type.)
+/// Whether a record is one that a work-group of `items` work-items may have: its item is below `items`, its order is one that its kind may
+/// have, the fields that its kind leaves unused are 0 or `Global`, and only an acquire has names. (Names are in range and in order by their
+/// type.)
 pub fn event_ok(event: &Event, items: u16) -> bool
     ensures { IsTrue result ↔ IsEventOk event.now items }
 {

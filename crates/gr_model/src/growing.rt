@@ -14,7 +14,7 @@ use crate::shape::{Shape, total_of};
 use std::alloc::{Allocator, Global};
 use std::marker::Model;
 
-/// How many work-items each work-group of a launch has that has come so far. Contracts see the list of these numbers.
+/// For each work-group of a launch, how many work-items it has; 0 where it has not come yet. Contracts see the list of these numbers.
 #[derive(Drop)]
 #[derive_where(Debug)]
 pub struct GrowingShape<A: Allocator = Global> {
@@ -33,7 +33,7 @@ impl<A: Allocator> Model for GrowingShape<A> {
 }
 
 impl<A: Allocator> GrowingShape<A> {
-    /// The shape of a launch of which no group has come. It takes no memory.
+    /// The shape of a launch before any group has come. It takes no memory.
     pub fn new(alloc: A) -> GrowingShape<A>
         ensures { result ≡ [] }
     {
@@ -42,7 +42,7 @@ impl<A: Allocator> GrowingShape<A> {
         }
     }
 
-    /// A shape all of whose groups have come.
+    /// The sizes of a shape. All of its groups have come.
     pub fn of(shape: Shape<A>) -> GrowingShape<A>
         ensures { result ≡ shape }
     {
@@ -86,8 +86,8 @@ impl<A: Allocator> GrowingShape<A> {
         }
     }
 
-    /// The sizes, where a group comes that has so many work-items.
-    /// Requires: it has not come, and is one that a launch may have beside the others.
+    /// The sizes after a group with so many work-items has come.
+    /// Requires: it has not come yet, and a launch may have it beside the others.
     ///
     /// # Errors
     /// `Memory`: out of memory.

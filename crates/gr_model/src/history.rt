@@ -7,8 +7,7 @@ use std::marker::Model;
 use std::mem;
 use std::snapshot::Snapshot;
 
-/// A list as clauses see it: nothing, or the list before its last element and that element. What it is made of are
-/// snapshots, so it takes no bytes but its tag.
+/// A list as clauses see it: empty, or a list and one element after it. Its parts are snapshots, so only its tag takes bytes.
 #[derive(Drop)]
 enum Past<T> {
     Nothing,

@@ -1,5 +1,4 @@
-//! Laws of the definitions. Each is the contract of a function that does nothing, told in words in docs/MODEL.md,
-//! "Laws".
+//! Laws of the definitions. Each is the contract of a function that does nothing. docs/MODEL.md, "Laws", gives them in words.
 
 ghost use Rattle.std.specs.Prelude.{◌≡◌, ◌*◌};
 ghost use Rattle.gr_model.specs.Laws.{AcceptedAreComplete, PairsGoForwards, OrderGoesForwards, OrderStaysWithin, OrderIsGrounded, WaitsStay, StagesStay, OrderStays, CountsStay, HitsAreRaces, WholeHitsAreRaces, RacesStay, ReportIsOne};
@@ -14,8 +13,8 @@ pub fn accepted_lists_are_complete()
     ensures { AcceptedAreComplete }
 {}
 
-/// In a lawful order base pairs go forwards, and so does the happens-before of each memory. What happens before an
-/// event of the order stands in the order.
+/// In a lawful order base pairs go forwards, and so does the happens-before of each memory. What happens before an event of the order is in
+/// the order too.
 pub fn order_goes_forwards()
     ensures pairs { PairsGoForwards }
     ensures order { OrderGoesForwards }
@@ -55,7 +54,7 @@ pub fn lists_have_one_report()
     ensures { ReportIsOne }
 {}
 
-/// The limits, as docs/FORMATS.md and the README tell them.
+/// The limits, as docs/FORMATS.md and the README give them.
 pub fn limits_are_those_of_the_formats()
     ensures groups { MOST_GROUPS ≡ 65535 }
     ensures items_of_a_group { MOST_ITEMS_OF_A_GROUP ≡ 1024 }

@@ -1,6 +1,6 @@
-//! The memory model of the detector: the types that every other crate speaks of, and in `specs/` the definitions of
-//! happens-before, of a data race and of the report. Told in words in docs/MODEL.md. Beside them conflict, inclusive scope and
-//! synchronization of two accesses, and the class of an access, which is all that a race test has to know of its kind.
+//! The memory model of the detector: the types that all other crates use, and in `specs/` the definitions of happens-before, of a data race
+//! and of the report. docs/MODEL.md gives them in words. There are also conflict, inclusive scope and synchronization of two accesses, and
+//! the class of an access, which is all that a race test has to know of its kind.
 #![tactic(auto)]
 
 pub mod access;

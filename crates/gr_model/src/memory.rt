@@ -3,7 +3,7 @@
 use std::alloc::{AllocError, AllocFailed};
 use thiserror::Error;
 
-/// Out of memory: an allocation was refused. What a public method was called on is then unchanged.
+/// Out of memory: an allocation was refused. The value on which a public method was called is then unchanged.
 #[derive(Clone, Copy, Debug, PartialEq, Eq, Error)]
 #[error("out of memory")]
 pub struct Memory;

@@ -1,6 +1,6 @@
 //! The releases that an acquire names: none to four.
 //!
-//! Invariant: their names are in range, and stand in strictly ascending order.
+//! Invariant: the names are in range, and in strictly ascending order.
 
 ghost use Rattle.std.specs.Prelude.{◌≤◌, ◌≡◌, ◌↔◌, IsTrue, IsSome, IfSome, []};
 ghost use Rattle.gr_model.specs.NameLists.{NameBelow, AreAscending, AreFewNames, AreNames, AreNamesWithin};
@@ -11,7 +11,7 @@ use crate::limits::{
 };
 use std::marker::Model;
 
-/// What stands in the places that are not used.
+/// What the unused places hold.
 const UNUSED: Name = Name {
     at: ItemId { group: 0, item: 0 },
     release: 0,
@@ -91,9 +91,8 @@ impl Names {
         Names::within(names, FEW_GROUPS, FEW_ITEMS_OF_A_GROUP)
     }
 
-    /// These names, or `None` where they are more than `MOST_NAMES`, or not in strictly ascending order of group, item and
-    /// number, or one of them is not in range: the group and the item below these numbers, and the number below
-    /// `MOST_RECORDS`.
+    /// These names, or `None` where they are more than `MOST_NAMES`, or not in strictly ascending order of group, item and number, or one
+    /// of them is not in range: the group and the item below these numbers, and the number below `MOST_RECORDS`.
     /// Requires: a launch may have so many groups, and a group so many items.
     #[tactic(auto, using(crate::proofs::Bounds::names_within))]
     pub fn within(names: &[Name], groups: usize, items: u16) -> Option<Names>

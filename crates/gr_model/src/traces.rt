@@ -1,7 +1,7 @@
 //! The complete lists of a launch, one for each work-group.
 //!
-//! Invariant: there are as many lists as groups; each has records that its group may have, at most `MOST_RECORDS`, of
-//! which the last and no other is an end.
+//! Invariant: there are as many lists as groups. Each list has at most `MOST_RECORDS` records, all of which its group may have. The last
+//! record, and no other, is an end.
 
 ghost use Rattle.std.specs.Prelude.{◌≡◌, ◌↔◌, ◌+◌, ◌<◌, IsTrue, IsOk, IfOk, IfErr, MatchOption, length, slice_index, slice_index_or, map, take};
 ghost use Rattle.gr_model.specs.Shapes.{IsShape};
@@ -50,8 +50,7 @@ impl<A: Allocator> Model for Traces<A> {
     ghost invariant = { λ t. AreAccepted (streams t.shape t.lists.items) };
 }
 
-/// Whether a record may stand where it does, in a group with `items` work-items. `last` tells whether it is the last
-/// record of its list.
+/// Whether a group with `items` work-items may have this record at its place. `last` says whether it is the last record of its list.
 fn good_at(event: &Event, items: u16, last: bool) -> bool
     ensures { IsTrue result ↔ (IsEventOk event.now items × (IsTrue (is_end event.now) → IsTrue last)) }
 {

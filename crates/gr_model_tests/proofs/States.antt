@@ -25,7 +25,7 @@ use Rattle.gr_model.specs.declared.class.Class.TheVariants.{PlainRead, PlainWrit
 use Rattle.gr_shadow.specs.Clashes.{clashes, IsHitIn}
 use Rattle.gr_shadow.specs.StandsFor.{IsHitBy}
 
--- an end stands before another
+-- an end is before another
 pub ends_twice : (s : Streams) (e : Event) → length s.sizes ≡ 1 → s.lists ≡ (e ∷ e ∷ []) ∷ [] → IsTrue (is_end e) → ¬ AreAccepted s
 ends_twice s e one are end accepted =
     let here : slice_get (list_of s 0) 0 ≡ Some e = ap (λ (lists : List (List Event)). slice_get (get_or lists 0 []) 0) are in

@@ -48,7 +48,7 @@ handed_over = record {
 abbrev pub names_itself : Streams
 names_itself = record { sizes = 1 ∷ []; lists = (acquire 0 (Rmw Device Both) 16 (release 0 0 0) ∷ the_end false ∷ []) ∷ [] }
 
--- two acquires, each of which names a release behind the other
+-- two acquires, each of which names a release after the other
 abbrev pub crossed : Streams
 crossed = record {
   sizes = 1 ∷ 1 ∷ [];

@@ -1,5 +1,4 @@
-//! A worked row of barrier instances. A call to which a growth was refused leaves what is known as it was, and then gives
-//! the row's answer.
+//! A worked row of barrier instances. A call to which a growth was refused leaves what is known as it was, and then gives the row's answer.
 
 ghost use Rattle.std.specs.Prelude.{◌≡◌, ◌<◌, ◌≤◌, ◌+◌, ◌∷◌, [], length, IfSome, OnErr};
 ghost use Rattle.gr_model.specs.declared.event.ItemId.{ItemId};

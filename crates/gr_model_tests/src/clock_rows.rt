@@ -1,5 +1,4 @@
-//! A worked row of vector clocks. A call to which a growth was refused leaves the counts as they were, and then gives the
-//! row's answer.
+//! A worked row of vector clocks. A call to which a growth was refused leaves the counts as they were, and then gives the row's answer.
 
 ghost use Rattle.std.specs.Prelude.{◌≡◌, ◌<◌, ◌∷◌, [], IfSome};
 
@@ -129,8 +128,8 @@ fn meet<A: Allocator + Copy>(clocks: &mut Clocks<A>, global: bool, local: bool) 
 /// clocks after the barrier.
 type Seen = ([u32; 2], [[u32; 2]; 2], [u32; 2], [[u32; 2]; 4]);
 
-/// Of an acquire of item 1 from a release of item 0: the counts behind it; and, behind an acquire that releases too and a
-/// barrier for global memory, those of the second release.
+/// Of an acquire of item 1 from a release of item 0: the counts after it; and, after an acquire that releases too and a barrier for global
+/// memory, those of the second release.
 fn acquire_twice_and_meet<A: Allocator + Copy>(
     clocks: &mut Clocks<A>,
     first: &Snapshot<A>,

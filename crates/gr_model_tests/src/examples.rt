@@ -14,7 +14,7 @@ ghost use Rattle.gr_model.specs.declared.report.AcquireCause.TheVariants.{Absent
 ghost use Rattle.gr_model.specs.declared.report.DivergenceCause.TheVariants.{Missing};
 ghost use Rattle.gr_model_tests.specs.Examples.{event, release, half_there, handed_by_two, handed_over, names_itself, crossed, scopes_differ, two_releases, mixed, waiting, met, the_mark, local_words};
 
-/// What is handed over by a release and an acquire is ordered, from before the release to behind the acquire.
+/// What a release hands over to an acquire is ordered, from before the release to after the acquire.
 pub fn a_release_hands_over()
     ensures ordered { HappensBefore handed_over Global (event 0 0 0) (event 1 0 1) }
     ensures cut { IsCut handed_over 1 }
@@ -46,7 +46,7 @@ pub fn releases_are_counted_over_all_words()
     ensures other_word { HasAcquireCause two_releases (event 0 1 0) OtherWord }
 {}
 
-/// An acquire that names two releases is ordered behind both.
+/// An acquire that names two releases is ordered after both.
 pub fn two_releases_hand_over()
     ensures first { HappensBefore handed_by_two Global (event 0 0 0) (event 2 0 1) }
     ensures second { HappensBefore handed_by_two Global (event 1 0 0) (event 2 0 2) }

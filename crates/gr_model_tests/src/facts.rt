@@ -1,4 +1,4 @@
-//! What the contracts alone say of some values, of which some wrong body would say otherwise.
+//! What the contracts alone say of some values. A wrong body would say something else of them.
 
 mod barriers;
 mod clocks;

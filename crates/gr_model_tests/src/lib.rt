@@ -1,5 +1,5 @@
-//! Tests of the model and of what stands on it alone: clocks and barrier instances with each growth refused in turn, what
-//! contracts say of some values, and small worked examples of the definitions.
+//! Tests of the model and of the crates that need only it: clocks and barrier instances with each growth refused in turn, what contracts
+//! say of some values, and small worked examples of the definitions.
 #![tactic(auto)]
 
 #[cfg(test)]

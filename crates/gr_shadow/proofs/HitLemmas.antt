@@ -11,6 +11,6 @@ PairIn-push : {X : Type 0} (R : X → X → Type 0) (xs : List X) (y : X) → Pa
 PairIn-push R [] y = grind arith
 PairIn-push R (x ∷ xs) y = grind (arith, PairIn-push R xs y, SomeOf-push (R x) xs y)
 
--- a pair of a list with one more element is one before it, or has that element behind one of the list
+-- a pair of a list with one more element is one before it, or has that element after one of the list
 pub SomePair-push : {X : Type 0} (R : X → X → Type 0) (xs : List X) (y : X) → SomePair R (xs ++ y ∷ []) ↔ (SomePair R xs ⊎ SomeOf (λ x. R x y) xs)
 SomePair-push R xs y = grind (arith, PairIn-push R xs y, SomePair-from_in R, PairIn-from_some R)

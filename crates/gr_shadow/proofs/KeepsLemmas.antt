@@ -1,4 +1,4 @@
--- What is kept of a list of touches tells the same clashes.
+-- What is kept of a list of touches gives the same clashes.
 use Rattle.std.proofs.Common.{◌≡◌, ◌⊎◌, ◌↔◌, ℕ, zero, suc, ◌+◌, ◌<◌, ◌≤◌, All, Bool, true, false, cond, ◌&&◌, List, [], ◌∷◌, ◌++◌, length, get_or, slice_set, is_some, Option, Some, None, Contains, drop, refl, sym, ◌∙◌, ap, arith, ⊎_elim, append_assoc}
 use Rattle.std.specs.Prelude.{not}
 use Rattle.std.specs.List.{list_any, All, find}
@@ -44,9 +44,9 @@ pub find_is : {X : Type 0} (f : X → Bool) (xs : List X) (x : X) → find f xs 
 find_is f [] x is = cc
 find_is f (y ∷ xs) x is = grind (arith, find_is f xs x, Contains-first y xs, Contains-rest y xs x)
 
--- ---- what is kept tells the same clashes
+-- ---- what is kept gives the same clashes
 
--- where an access clashes with a touch, it does with one that stands for it
+-- where an access clashes with a touch, it does with one that represents it
 later_clashes : (y : ClockedAccess) (t u : Touch) → IsInPlaceOf t u → touch_clashes y u ≡ true → touch_clashes y t ≡ true
 later_clashes y t u p h = grind (arith, nat_tests, p.item, p.class, p.index)
 
@@ -105,7 +105,7 @@ Keeps-at [] p old new x within at k = absurd (omega arith)
 Keeps-at (t ∷ ts) zero old new x within at k = rw (sym at) (Keeps-first (new ∷ []) (old ∷ []) (x ∷ []) ts k)
 Keeps-at (t ∷ ts) (suc p) old new x within at k = Keeps-second (t ∷ []) _ ts (x ∷ []) (Keeps-at ts p old new x (omega arith) at k)
 
--- of two touches the one that stands for the other
+-- of two touches the one that represents the other
 only : (t u : Touch) → Contains (t ∷ []) u → t ≡ u
 only t u h = ⊎_elim (λ none. absurd (omega (arith, none.1))) (λ same. same) (Contains-push_cases [] t u h)
 
@@ -158,7 +158,7 @@ pub Keeps-push : (lists : List TouchList) (new : TouchList) (x : List Touch) →
 Keeps-push [] new x k = rw append-nil k
 Keeps-push (l ∷ lists) new x k = Keeps-second l.touches _ (all_touches lists) x (Keeps-push lists new x k)
 
--- what is found behind the first lists
+-- what is found after the first lists
 pub found_at : (f : Touch → Bool) (lists : List TouchList) (k : ℕ) (l : TouchList) → k < length lists → l ≡ get_or lists k l → find f (all_touches (drop k lists)) ≡ option_or (find f l.touches) (find f (all_touches (drop (k + 1) lists)))
 found_at f lists k l lt is = rw (drop_more lists k l lt, ← is) (find-append f l.touches (all_touches (drop (k + 1) lists)))
 

@@ -55,7 +55,7 @@ no_hit accesses w none h = elim (PairIn-from_some _ [] (rw none at h)) [ ]
 word_of_hit : (accesses : List ClockedAccess) (y : ClockedAccess) (w : Word) → IsHitBy accesses y w → y.word ≡ w
 word_of_hit accesses y w by = grind (arith, hit_by_push accesses y w, word_of_clash accesses y w, by.now, by.before)
 
--- so it is told by the accesses to its memory
+-- so the accesses to its memory give it
 pub hit_by_part : (keep : Word → Bool) (accesses : List ClockedAccess) (y : ClockedAccess) → keep y.word ≡ true → (w : Word) → IsHitBy (accesses_in keep accesses) y w ↔ IsHitBy accesses y w
 hit_by_part keep accesses y kept w =
     let more = filter_keep (λ x. keep x.word) accesses y kept in (

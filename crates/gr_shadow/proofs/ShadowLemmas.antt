@@ -1,4 +1,4 @@
--- What shadows tell of the accesses that they stand for.
+-- What shadows say of the accesses that they represent.
 use Rattle.std.proofs.Common.{◌≡◌, ◌⊎◌, ◌↔◌, inl, inr, Bool, true, false, ◌&&◌, ◌||◌, IsTrue, List, [], ◌∷◌, ◌++◌, map, cond, Option, Some, None, refl, sym, ◌∙◌, ap, arith}
 use Rattle.std.proofs.lemmas.Bool.{and_from, and_parts, or_parts}
 use Rattle.std.proofs.lemmas.Bool.Decides.{Decides-or}
@@ -34,7 +34,7 @@ word_of_clash xs y w h = (SomeOf-place (λ x. ClashesAt (λ x. x.word) clashes w
 any_kept : {X Y : Type 0} (f : Y → Bool) (g : X → Y) (b : Bool) (x : X) (xs : List X) → list_any f (map g (cond b (x ∷ xs) xs)) ≡ ((b && f (g x)) || list_any f (map g xs))
 any_kept f g b x xs = grind arith
 
--- what is kept of the accesses to a word tells which of them clash with one more
+-- what is kept of the accesses to a word says which of them clash with one more
 clash_told : (xs : List ClockedAccess) (y : ClockedAccess) (w : Word) → y.word ≡ w → IsTrue (list_any (touch_clashes y) (map touch_of (accesses_to w xs))) ↔ ClashesBefore xs y w
 clash_told [] y w at = grind arith
 clash_told (x ∷ xs) y w at = rw (any_kept (touch_clashes y) touch_of (same_word x.word w) x (accesses_to w xs)) (Decides-or (same_word x.word w && clashes x y) _ first (clash_told xs y w at))
@@ -48,7 +48,7 @@ clash_told (x ∷ xs) y w at = rw (any_kept (touch_clashes y) touch_of (same_wor
 pub clashes_before_told : (xs : List ClockedAccess) (kept : Kept) (y : ClockedAccess) (w : Word) → StandsFor xs kept → (shadow_at kept w).answered ≡ false → y.word ≡ w → IsTrue (clashes_before (shadow_at kept w) y) ↔ ClashesBefore xs y w
 clashes_before_told xs kept y w stands not_yet at = grind (arith, clashes_kept y _ _ (stands.touches w not_yet), clash_told xs y w at)
 
--- shadows tell which word becomes hit by one more access
+-- shadows say which word becomes hit by one more access
 pub answer_told : (xs : List ClockedAccess) (kept : Kept) (y : ClockedAccess) → StandsFor xs kept → (w : Word) → IsHitBy xs y w ↔ ((y.word ≡ w) × IsTrue (is_first_hit (shadow_at kept y.word) y))
 answer_told xs kept y stands w =
     grind (arith, hit_by_push xs y w, stands.answered w, word_of_clash xs y w, clashes_before_told xs kept y w stands)
@@ -96,7 +96,7 @@ kept_after old new y not_yet none answered kept = record {
   touches = λ _. kept;
 }
 
--- ---- what is kept after one more access stands for the list with it
+-- ---- what is kept after one more access represents the list with it
 
 pub stands_after : (xs : List ClockedAccess) (old : Kept) (y : ClockedAccess) (new : Kept) → StandsFor xs old → IsAfter old y new → StandsFor (xs ++ y ∷ []) new
 stands_after xs old y new stands after = record {

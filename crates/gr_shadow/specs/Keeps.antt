@@ -26,13 +26,13 @@ is_unseen y t = not (same_item t.item y.item) && not (nat_lt t.index (count_of y
 
 -- ---- what is kept of a list of touches
 
--- a touch stands for another: it is of its item and class, and its index is not smaller
+-- a touch represents another: it is of its item and class, and its index is not smaller
 pub record IsInPlaceOf (t u : Touch) : Type 0 where
   pub item : t.item ≡ u.item
   pub class : t.class ≡ u.class
   pub index : u.index ≤ t.index
 
--- what is kept is of the list, and each touch of the list has one that stands for it
+-- what is kept is of the list, and each touch of the list has one that represents it
 pub record Keeps (kept all : List Touch) : Type 0 where
   pub each : (t : Touch) → Contains kept t → Contains all t
   pub some : (u : Touch) → Contains all u → (t : Touch) × Contains kept t × IsInPlaceOf t u

@@ -1,4 +1,4 @@
--- The list of accesses that the shadows of a launch stand for. Those of a group's local words may have been given up.
+-- The list of accesses that the shadows of a launch represent. Those of a group's local words may have been given up.
 -- Source: docs/MODEL.md, "Hits".
 use Rattle.std.specs.Prelude.{◌≡◌, ℕ, ◌==◌, Bool, true, false, List, [], filter, slice_get, Option, Some, None}
 use Rattle.gr_model.specs.declared.event.Word.{Word}

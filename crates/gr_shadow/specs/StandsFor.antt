@@ -1,4 +1,4 @@
--- The list of accesses that shadows stand for.
+-- The list of accesses that shadows represent.
 -- Source: docs/MODEL.md, "Hits".
 use Rattle.std.specs.Prelude.{◌≡◌, ◌↔◌, IsTrue, false, List, [], ◌∷◌, ◌++◌, Some, filter, map}
 use Rattle.gr_model.specs.declared.event.EventId.{EventId}

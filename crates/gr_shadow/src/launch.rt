@@ -1,4 +1,4 @@
-//! The shadows of a launch's words, apart by memory: those of global words, and of each group those of its local words.
+//! The shadows of a launch's words, apart by memory: those of global words, and for each group those of its local words.
 //!
 //! Semantics: as `Shadows` (docs/MODEL.md, "Hits"). A word's hits are those of the accesses to its memory alone, so each
 //! memory has shadows of its own, and those of a group that has ended can be given up where none of its words is hit.
@@ -21,14 +21,14 @@ use gr_model::words::order_words;
 use std::alloc::{Allocator, Global};
 use std::marker::Model;
 
-/// The race test's state of a launch. Contracts see by `StandsForLaunch` the list of accesses that it stands for.
+/// The race test's state of a launch. Contracts see by `StandsForLaunch` the list of accesses that it represents.
 #[derive(Drop)]
 #[derive_where(Debug)]
 pub struct LaunchShadows<A: Allocator = Global> {
     #[derive_where(skip)]
     alloc: A,
     global: Shadows<A>,
-    /// Of each group those of its local words; none where they were given up.
+    /// For each group the shadows of its local words; `None` where they were given up.
     local: Vec<Option<Shadows<A>>, A>,
 }
 

@@ -1,4 +1,4 @@
-//! A law of hits. It is the contract of a function that does nothing, told in words in docs/MODEL.md, "Hits".
+//! A law of hits. It is the contract of a function that does nothing. docs/MODEL.md, "Hits", gives it in words.
 
 ghost use Rattle.gr_shadow.specs.Laws.{HitsAreOfTheirWords};
 

@@ -8,7 +8,7 @@ use gr_model::memory::Memory;
 use gr_model::words::order_words;
 use std::alloc::Allocator;
 
-/// The words of one list, and behind them those of another.
+/// The words of one list, and after them those of another.
 fn words_of_both<A: Allocator>(
     alloc: A,
     first: &[Word],

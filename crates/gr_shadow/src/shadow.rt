@@ -16,10 +16,10 @@ use gr_model::memory::Memory;
 use std::alloc::{Allocator, Global};
 use std::marker::Model;
 
-/// What is kept of the accesses to one word: whether the word was answered, and where it was not, of each item and
-/// class the touch with the greatest index. The first few items and classes have theirs in the shadow itself, for good,
-/// so nothing is moved when more come; the others have theirs in lists, one for each class. A word that was answered has
-/// the two touches of the clash that answered it, the earlier first, and no lists.
+/// What is kept of the accesses to one word: whether the word was answered, and if not, for each item and class the touch with the greatest
+/// index. The first few items and classes have theirs in the shadow itself, for good, so nothing is moved when more come; the others have
+/// theirs in lists, one for each class. A word that was answered has the two touches of the clash that answered it, the earlier first, and
+/// no lists.
 #[derive(Drop)]
 #[derive_where(Debug)]
 pub(crate) struct Shadow<A: Allocator = Global> {
@@ -70,7 +70,7 @@ impl<A: Allocator + Copy> Shadow<A> {
         }
     }
 
-    /// A touch that is kept with which an access clashes.
+    /// The first kept touch with which an access clashes.
     fn clashing(&self, access: &Access<A>) -> Option<Touch>
         ensures { result ≡ find (touch_clashes (clocked access.now)) self.now.touches }
     {
@@ -96,7 +96,7 @@ impl<A: Allocator + Copy> Shadow<A> {
         put(&mut self.lists, touch)
     }
 
-    /// Adds an access to the word, and tells whether the word becomes hit by it.
+    /// Adds an access to the word, and says whether the word becomes hit by it.
     ///
     /// # Errors
     /// `Memory` if an allocation is refused. The shadow is then unchanged.

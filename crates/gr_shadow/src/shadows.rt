@@ -1,8 +1,8 @@
 //! The shadows of all words that were accessed.
 //!
-//! Semantics: shadows stand for the list of the accesses that they were given. A word is hit in it where a later access
-//! clashes with an earlier one, and each word that is hit is answered once (docs/MODEL.md, "Hits"). What is kept of the
-//! accesses is private, and tells the hits of every list that goes on from there.
+//! Semantics: shadows represent the list of the accesses that they were given. A word is hit in this list if a later access clashes with an
+//! earlier one, and each word that is hit is answered once (docs/MODEL.md, "Hits"). What is kept of the accesses is private. It gives the
+//! hits of every longer list.
 
 ghost use Rattle.std.specs.Prelude.{◌≡◌, ◌↔◌, All, IfOk, OnOk, OnErr, List, [], ◌∷◌, ◌++◌, Some, map};
 ghost use Rattle.std.specs.List.{IsDistinct, filter_map, list_any};
@@ -25,9 +25,9 @@ use std::alloc::{Allocator, Global};
 use std::hash::{BuildHasherDefault, FoldHasher};
 use std::marker::Model;
 
-/// The race test's state. Of each word accessed it has whether the word was answered. If not, it has for each item and
-/// class the epoch (item, index) of the last access, since a later access that clashes with an earlier one also clashes
-/// with the last one of its item and class. Contracts see by `StandsFor` the list of accesses that it stands for.
+/// The race test's state. For each word accessed it has whether the word was answered. If not, it has for each item and class the epoch
+/// (item, index) of the last access, since a later access that clashes with an earlier one also clashes with the last one of its item and
+/// class. Contracts see by `StandsFor` the list of accesses that it represents.
 #[derive(Drop)]
 #[derive_where(Debug)]
 pub struct Shadows<A: Allocator = Global> {
@@ -55,7 +55,7 @@ impl<A: Allocator + Copy> Shadows<A> {
         }
     }
 
-    /// Adds an access to the shadow of its word, and tells whether the word becomes hit by it.
+    /// Adds an access to the shadow of its word, and says whether the word becomes hit by it.
     fn note(&mut self, access: &Access<A>) -> Result<bool, Memory>
         ensures kept { OnOk result (IsAfter self.old (clocked access.now) self.new) }
         ensures hit { IfOk result (λ hit. hit ≡ is_first_hit (shadow_at self.old access.now.word) (clocked access.now)) }

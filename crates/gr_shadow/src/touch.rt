@@ -75,14 +75,14 @@ impl Touch {
             && !access.clock.covers(self.item, self.index)
     }
 
-    /// Whether another touch is of the same item and class, so that the later of the two may stand for both.
+    /// Whether another touch is of the same item and class, so that the later of the two can replace both.
     fn is_like(&self, other: &Touch) -> bool
         ensures { IsTrue result ↔ ((self.now.item ≡ other.now.item) × (self.now.class ≡ other.now.class)) }
     {
         self.item == other.item && self.class == other.class
     }
 
-    /// Becomes the later of two touches, where the other is of its item and class. It tells whether it is.
+    /// Becomes the later of two touches, if the other is of its item and class. Says whether it is.
     pub(crate) fn takes(&mut self, other: &Touch) -> bool
         ensures kept { result ≡ true → Keeps (self.new ∷ []) (self.old ∷ other.now ∷ []) }
         ensures other { result ≡ false → self.new ≡ self.old }
@@ -104,7 +104,7 @@ pub(crate) fn clashing_in<A: Allocator>(touches: &[Touch], access: &Access<A>) -
     touches.iter().copied().find(|touch| touch.clashes(access))
 }
 
-/// Keeps a touch where there is one of its item and class, and tells whether there is.
+/// Keeps a touch if there is one of its item and class, and says whether there is.
 pub(crate) fn keep_among(touches: &mut ArrayVec<Touch, PLACES>, touch: &Touch) -> bool
     ensures kept { result ≡ true → Keeps touches.new.items (touches.old.items ++ touch.now ∷ []) }
     ensures other { result ≡ false → touches.new ≡ touches.old }

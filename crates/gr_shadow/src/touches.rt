@@ -12,8 +12,7 @@ use gr_model::memory::Memory;
 use std::alloc::{Allocator, Global};
 use std::marker::Model;
 
-/// The group by which touches of a class are kept apart: that of their item where the class has group scope, and 0
-/// else.
+/// The group by which touches of a class are kept apart: the group of their item where the class has group scope, and else 0.
 fn kept_group(class: Class, group: u16) -> u16
     ensures { result ≡ kept_group class group }
 {

@@ -1,5 +1,5 @@
 -- Where no acquire is unmatched in complete lists, every event is grounded.
--- Of each item the first event that is not would be a barrier of a convergent instance. One with the least number would have met: each other item of its group stands at a barrier of the same instance, or has passed what is before it.
+-- Of each item the first event that is not would be a barrier of a convergent instance. One with the least number would have met: each other item of its group is at a barrier of the same instance, or has passed what is before it.
 use Rattle.std.proofs.Common.{◌≡◌, ℕ, zero, suc, ◌<◌, List, refl, sym, subst, ⊎_elim, arith}
 use Rattle.std.proofs.lemmas.Option.{slice_get_within}
 use Rattle.gr_model.specs.declared.event.EventId.{EventId}
@@ -95,7 +95,7 @@ module _ (s : Streams) (complete : AreComplete s) (matched : (e : EventId) → �
   earlier_instance b f g k h l at hb hf lt =
       grind (arith, lt, at, hb, hf, stands_same s b f g k hb, moved s f h l g, stands_before s b f g k l hb)
 
-  -- no item's first event that is not grounded stands in a convergent instance, by induction on the number of the instance: each item of the group has passed what is before its barrier, or is held at one of an earlier instance
+  -- no item's first event that is not grounded is in a convergent instance, by induction on the number of the instance: each item of the group has passed what is before its barrier, or is held at one of an earlier instance
   none_held : (bound : ℕ) (a : Mark) (e : EventId) (at : Together s a e e) → at.instance < bound → IsPassed e → (IsIn all e → ⊥) → ⊥
   none_held zero a e at lt passed away = omega arith
   none_held (suc bound) a e at lt passed away =

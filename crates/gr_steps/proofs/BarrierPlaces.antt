@@ -38,11 +38,11 @@ places_from-once test i xs n k l a b = grind (arith, places_from-ordered test i 
 
 -- ---- barriers
 
--- the event that stands in an instance is there, and is a barrier
+-- an event of an instance is there, and is a barrier
 pub barrier_there : (s : Streams) (e : EventId) (g k : ℕ) → StandsIn s e g k → (x : Event) × (event_at s e ≡ Some x) × (is_barrier x ≡ true)
 barrier_there s e g k stands = grind (arith, places_from-there)
 
--- an event stands in an instance or in none
+-- an event is in an instance or in none
 pub standing : (s : Streams) (e : EventId) → Dec ((g k : ℕ) × StandsIn s e g k)
 standing s e =
     elim (event_at s e) as (λ o. (event_at s e ≡ o) → Dec ((g k : ℕ) × StandsIn s e g k)) [
@@ -77,7 +77,7 @@ stands_before s b c g k l hb hc at lt = grind (arith, places_from-ordered)
 pub moved : (s : Streams) (b : EventId) (g k h l : ℕ) → g ≡ h → k ≡ l → StandsIn s b g k → StandsIn s b h l
 moved s b g k h l group number stands = grind arith
 
--- whom a barrier of an instance meets stands in that instance
+-- what a barrier of an instance meets is in that instance
 pub meets_in : (s : Streams) (g k : ℕ) (a : Mark) (e b : EventId) → StandsIn s e g k → Together s a e b → StandsIn s b g k
 meets_in s g k a e b stands met = grind (arith, same_instance s e met.group met.instance g k met.first stands, met.second)
 

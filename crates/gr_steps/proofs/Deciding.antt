@@ -27,7 +27,7 @@ option_dec d a b = grind arith
 pub word_dec : (v w : Word) → Dec (v ≡ w)
 word_dec v w = grind arith
 
--- an event stands in a list or does not
+-- an event is in a list or is not
 pub in_dec : (xs : List EventId) (e : EventId) → Dec (IsIn xs e)
 in_dec [] e = grind arith
 in_dec (x ∷ xs) e = dec_map (in_either x xs e) (in_cases x xs e) (grind (arith, in_dec xs e))

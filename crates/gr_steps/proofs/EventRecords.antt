@@ -1,4 +1,4 @@
--- The record of an event stands in its group's list; a name is that of one release, and a barrier has none.
+-- The record of an event is in its group's list; a name is that of one release, and a barrier has none.
 use Rattle.std.proofs.Common.{◌≡◌, ℕ, suc, ◌<◌, Bool, true, List, [], ◌∷◌, length, Contains, Some, slice_get, filter, arith}
 use Rattle.std.proofs.lemmas.Bool.{and_parts}
 use Rattle.std.proofs.lemmas.Bool.Decides.{nat_tests}

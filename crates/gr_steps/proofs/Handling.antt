@@ -1,4 +1,4 @@
--- A lawful order stays lawful where an event that is ready comes behind it.
+-- A lawful order stays lawful where an event that is ready comes after it.
 use Rattle.std.proofs.Common.{◌≡◌, ℕ, List, [], ◌∷◌, ◌++◌, sym, subst, inr, arith}
 use Rattle.gr_model.specs.declared.event.EventId.{EventId}
 use Rattle.gr_model.specs.LawfulOrders.{IsAt, IsLawful}

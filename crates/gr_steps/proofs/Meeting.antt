@@ -1,4 +1,4 @@
--- A lawful order stays lawful where the barriers of an instance that can meet come behind it; and when an instance can meet.
+-- A lawful order stays lawful where the barriers of an instance that can meet come after it; and when an instance can meet.
 use Rattle.std.proofs.Common.{◌≡◌, ℕ, ◌<◌, List, ◌++◌, Some, slice_get, refl, sym, inl, arith}
 use Rattle.gr_model.specs.declared.event.EventId.{EventId}
 use Rattle.gr_model.specs.declared.event.Name.{Name}
@@ -25,7 +25,7 @@ module _ (s : Streams) (prefixes : ArePrefixes s) (order : List EventId) (lawful
   met_waits x d stands (for_arrival m b met previous) = meeting.before b d (meets_in s g k m x b stands met) previous
   met_waits x d stands (for_meeting m c previous met) = met_handled s order lawful m c d (meeting.before x c stands previous) met
 
-  -- each barrier stands at its item's place
+  -- each barrier is at its item's place
   barrier_at : (b : EventId) → StandsIn s b g k → slice_get bs b.at.item ≡ Some b
   barrier_at b stands =
       let there = there_is bs b.at.item (omega (arith, are.count, stands.item)) in

@@ -14,7 +14,7 @@ use Rattle.gr_model.proofs.Cuts.{same_event}
 
 -- ---- lists
 
--- an element of a list stands in its prefix, or so far behind it
+-- an element of a list is in its prefix, or so far after it
 pub split_last : {X : Type 0} (xs ys : List X) (p : ℕ) (x : X) → slice_get (xs ++ ys) p ≡ Some x → (slice_get xs p ≡ Some x) ⊎ ((i : ℕ) × (p ≡ length xs + i) × (slice_get ys i ≡ Some x))
 split_last xs ys p x at = grind (arith, common_steps, gets)
 
@@ -33,7 +33,7 @@ number_before (suc m) lt = (m, refl)
 
 -- ---- events
 
--- what stands in a list is its first, or stands behind it
+-- an element of a list is its first, or comes after that
 pub in_cases : (x : EventId) (xs : List EventId) (e : EventId) → IsIn (x ∷ xs) e → (e ≡ x) ⊎ IsIn xs e
 in_cases x xs e (p, at) = grind arith
 
@@ -43,7 +43,7 @@ in_either x xs e (inr h) = (suc h.0, h.1)
 
 -- ---- lawful orders
 
--- with an event, the earlier ones of its item stand in a lawful order
+-- with an event, the earlier ones of its item are in a lawful order
 pub handled_before : (s : Streams) (order : List EventId) → IsLawful s order → (d e : EventId) → d.at ≡ e.at → d.index < e.index → IsIn order e → IsIn order d
 handled_before s order lawful d e item below there =
     let lower = below_in_item s (IsAt order) (lawful_descends s order lawful) there.0 d e there.1 item below in (lower.0, lower.2)
@@ -52,7 +52,7 @@ handled_before s order lawful d e item below there =
 pub handled_upto : (s : Streams) (order : List EventId) → IsLawful s order → (d e : EventId) → d.at ≡ e.at → d.index ≤ e.index → IsIn order e → IsIn order d
 handled_upto s order lawful d e item upto there = grind (arith, same_event d e item, handled_before s order lawful d e item, there)
 
--- the event before another stands at or behind each that is earlier than that
+-- the event before another comes at or after each that is earlier than that
 pub previous_of : (e : EventId) (n : ℕ) → n < e.index → (p : EventId) × IsPrevious p e × (n ≤ p.index)
 previous_of e n lt = let m = number_before e.index (omega (arith, lt)) in (record { at = e.at; index = m.0 }, record { item = refl; next = m.1 }, omega (arith, m.1, lt))
 
@@ -60,11 +60,11 @@ previous_of e n lt = let m = number_before e.index (omega (arith, lt)) in (recor
 pub lawful_empty : (s : Streams) → IsLawful s []
 lawful_empty s = grind arith
 
--- with a barrier, each that it meets stands in a lawful order
+-- with a barrier, each that it meets is in a lawful order
 pub met_handled : (s : Streams) (order : List EventId) → IsLawful s order → (a : Mark) (e b : EventId) → IsIn order e → Together s a e b → IsIn order b
 met_handled s order lawful a e b h met = let there = lawful.together h.0 e b a h.1 met in (there.0, there.2)
 
--- events that may come behind a lawful order: they wait for what stands in it alone
+-- events that may come after a lawful order: they wait only for what is in it
 pub record AreNext (s : Streams) (order next : List EventId) : Type 0 where
   pub event : (i : ℕ) (x : EventId) → IsAt next i x → IsEvent s x × IsSettled s x
   pub fresh : (i : ℕ) (x : EventId) → IsAt next i x → ¬ IsIn order x

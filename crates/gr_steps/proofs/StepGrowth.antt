@@ -1,4 +1,4 @@
--- A lawful order, and a step behind it, stay so where lists that are not complete grow.
+-- A lawful order, and a step after it, stay so where lists that are not complete grow.
 use Rattle.std.proofs.Common.{ℕ, suc, List, [], ◌∷◌, ◌++◌, length, arith}
 use Rattle.std.proofs.lemmas.Grind.{common_steps}
 use Rattle.std.proofs.lemmas.Option.{gets}

@@ -27,7 +27,7 @@ MeetStaysLawful = (s : Streams) (old new : List EventId) (g k : ℕ) → ArePref
 abbrev pub GrowthStaysLawful : Type 0
 GrowthStaysLawful = (s t : Streams) (order : List EventId) → Grows s t → IsLawful s order → IsLawful t order
 
--- and a step behind it is one too
+-- and a step after it is one too
 abbrev pub HandlesStay : Type 0
 HandlesStay = (s t : Streams) (old new : List EventId) (e : EventId) → Grows s t → IsLawful s old → Handles s old e new → Handles t old e new
 

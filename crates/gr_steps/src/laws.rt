@@ -1,14 +1,13 @@
-//! Laws of the steps. Each is the contract of a function that does nothing, told in words in docs/MODEL.md, "Steps".
+//! Laws of the steps. Each is the contract of a function that does nothing. docs/MODEL.md, "Steps", gives them in words.
 
 ghost use Rattle.gr_steps.specs.Laws.{ReadyIsNext, HandleStaysLawful, MeetStaysLawful, GrowthStaysLawful, HandlesStay, MeetsStay, RestIsGrounded, HeldAtRest, GroundedIsDecided, UnmatchedAreReported, AllIsGrounded, AllRacesCount};
 
-/// An event that may be handled behind a lawful order is the next event of its item.
+/// An event that may be handled after a lawful order is the next event of its item.
 pub fn ready_is_next()
     ensures { ReadyIsNext }
 {}
 
-/// A lawful order stays lawful where an event is handled, where an instance meets, and where lists that are not
-/// complete grow.
+/// A lawful order stays lawful where an event is handled, where an instance meets, and where lists that are not complete grow.
 pub fn steps_stay_lawful()
     ensures handle { HandleStaysLawful }
     ensures meet { MeetStaysLawful }

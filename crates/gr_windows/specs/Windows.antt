@@ -1,4 +1,4 @@
--- Of each work-item the events that wait, as one row of lists for each group, and what is done to them.
+-- For each work-item, the events that wait, as one row of lists for each group; and what is done to them.
 use Rattle.std.specs.Prelude.{◌≡◌, ◌≢◌, ℕ, ◌<◌, List, [], drop, length, map}
 use Rattle.gr_model.specs.declared.event.Event.{Event}
 use Rattle.gr_model.specs.declared.event.ItemId.{ItemId}

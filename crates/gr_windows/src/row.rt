@@ -1,7 +1,7 @@
 //! The events of the work-items of one group that wait.
 //!
-//! Invariant: it is counted of how many items events wait. Where that is none, there need be no windows: of each item no event
-//! then waits.
+//! Invariant: `busy` is the number of items with events that wait. Where it is 0 there may be no windows, since no item then has an event
+//! that waits.
 
 ghost use Rattle.std.specs.Prelude.{◌≡◌, ◌-◌, ◌<◌, ◌++◌, ◌∷◌, [], IfOk, OnOk, OnErr, drop, length, replicate, slice_get, slice_index_or, slice_set, take};
 ghost use Rattle.gr_windows.specs.Rows.{begun};
@@ -12,13 +12,13 @@ use gr_model::memory::Memory;
 use std::alloc::{Allocator, Global};
 use std::marker::Model;
 
-/// Of each item of a group the events that wait. Contracts see their lists.
+/// For each item of a group, the events that wait. Contracts see their lists.
 #[derive(Drop)]
 #[derive_where(Debug)]
 pub(crate) struct Row<A: Allocator = Global> {
     /// How many items the group has.
     size: u16,
-    /// Of how many items events wait.
+    /// How many items have events that wait.
     busy: u16,
     /// The window of each item, or none.
     windows: Vec<Window<A>, A>,
@@ -36,7 +36,7 @@ impl<A: Allocator> Model for Row<A> {
     ghost invariant = { λ r. IsRowKept r.size r.busy r.windows.items };
 }
 
-/// The windows of so many items, of whom no event waits.
+/// The windows of so many items. No event waits.
 fn windows_of<A: Allocator + Copy>(alloc: A, items: u16) -> Result<Vec<Window<A>, A>, Memory>
     ensures { IfOk result (λ ws. ws.items ≡ replicate items []) }
 {
@@ -59,7 +59,7 @@ fn begin<A: Allocator + Copy>(windows: &mut Vec<Window<A>, A>, items: u16) -> Re
 }
 
 impl<A: Allocator + Copy> Row<A> {
-    /// No event of a group of so many items waits. It takes no memory.
+    /// The row of a group with so many items. No event waits. It takes no memory.
     pub(crate) fn new(alloc: A, items: u16) -> Row<A>
         ensures { result ≡ replicate items [] }
     {
@@ -70,7 +70,7 @@ impl<A: Allocator + Copy> Row<A> {
         }
     }
 
-    /// Adds an event of an item behind the others.
+    /// Adds an event of an item after the others.
     ///
     /// # Errors
     /// `Memory`: out of memory. Nothing is then added.
@@ -123,7 +123,7 @@ impl<A: Allocator> Row<A> {
         }
     }
 
-    /// Frees the windows where no event waits. Tells whether that is so.
+    /// Frees the windows if no event waits. Says whether that is so.
     pub(crate) fn free(&mut self) -> bool
         ensures { self.new ≡ self.old }
     {

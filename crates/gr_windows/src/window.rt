@@ -50,7 +50,7 @@ impl<A: Allocator> Window<A> {
         self.events.is_empty()
     }
 
-    /// Adds an event behind the others.
+    /// Adds an event after the others.
     ///
     /// # Errors
     /// `Memory`: out of memory. Nothing is then added.
@@ -63,7 +63,7 @@ impl<A: Allocator> Window<A> {
         Ok(())
     }
 
-    /// Forgets the first event. Tells whether it was the only one.
+    /// Forgets the first event. Says whether it was the only one.
     pub(crate) fn pop_first(&mut self) -> bool
         ensures rest { self.new ≡ drop 1 self.old }
         ensures only { result ≡ (length self.old == 1) }
@@ -73,7 +73,7 @@ impl<A: Allocator> Window<A> {
         only
     }
 
-    /// Forgets the last event. Tells whether it was the only one.
+    /// Forgets the last event. Says whether it was the only one.
     pub(crate) fn pop_last(&mut self) -> bool
         ensures rest { self.new ≡ take (length self.old - 1) self.old }
         ensures only { result ≡ (length self.old == 1) }

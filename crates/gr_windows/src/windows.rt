@@ -1,4 +1,4 @@
-//! Of each work-item the events that wait.
+//! For each work-item, the events that wait.
 
 ghost use Rattle.std.specs.Prelude.{◌≡◌, ◌-◌, ◌<◌, ◌≤◌, ◌++◌, ◌∷◌, [], IfOk, OnOk, OnErr, drop, length, map, slice_get, slice_index, take};
 ghost use Rattle.gr_model.specs.Shapes.{HasItem};
@@ -11,7 +11,7 @@ use gr_model::memory::Memory;
 use std::alloc::{Allocator, Global};
 use std::marker::Model;
 
-/// Of each item of a launch the events that wait. Contracts see for each work-group the lists of its items.
+/// For each item of a launch, the events that wait. Contracts see for each work-group the lists of its items.
 #[derive(Drop)]
 #[derive_where(Debug)]
 pub struct Windows<A: Allocator = Global> {
@@ -41,8 +41,7 @@ impl<A: Allocator + Copy> Windows<A> {
         Ok(Windows { rows })
     }
 
-    /// The events that wait, where a group that had no items has so many. The groups below it that were not there are there,
-    /// without items.
+    /// The events that wait, after a group that had no items gets so many. Groups below it that were missing are added, without items.
     ///
     /// # Errors
     /// `Memory`: out of memory.
@@ -71,7 +70,7 @@ impl<A: Allocator> Windows<A> {
         }
     }
 
-    /// Adds an event of an item behind the others.
+    /// Adds an event of an item after the others.
     ///
     /// # Errors
     /// `Memory`: out of memory. Nothing is then added.
@@ -113,7 +112,7 @@ impl<A: Allocator> Windows<A> {
         }
     }
 
-    /// Frees the memory of a group of whose items no event waits. Tells whether that is so.
+    /// Frees the memory of a group if none of its events waits. Says whether that is so.
     pub fn free(&mut self, group: u16) -> bool
         ensures { self.new ≡ self.old }
     {

@@ -12,13 +12,13 @@ const MOST: u64 = 10_000;
 pub struct Growths {
     /// How many there are.
     pub refused: u64,
-    /// How many of them made the answer want of memory.
+    /// How many of them made the answer "out of memory".
     pub told: u64,
 }
 
-/// Asks for an answer with each growth refused in turn, until none is refused. An answer says whether it is as wanted; want of
-/// memory is right as well where a growth was refused. The error is the number of the first growth with a wrong answer, or
-/// how many growths there are, where these are less than `least`: then too little was tried.
+/// Asks for an answer with each growth refused in turn, until none is refused. An answer says whether it is as wanted. "Out of memory" is
+/// right as well where a growth was refused. The error is the number of the first growth with a wrong answer, or how many growths there
+/// are, where these are less than `least`: then too little was tried.
 pub fn refuse_each<F: Fn(&Refusing<Global>) -> Result<bool, Memory>>(
     alloc: Global,
     least: u64,

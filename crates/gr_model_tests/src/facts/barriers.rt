@@ -12,7 +12,7 @@ use std::alloc::Allocator;
 /// The first item of the group.
 const FIRST: ItemId = ItemId { group: 0, item: 0 };
 
-/// The barriers of a group of two items, none of which has come to one.
+/// The barriers of a group of two items. None has come to one yet.
 fn new_instances<A: Allocator + Copy>(alloc: A) -> Result<Instances<A>, Memory>
     ensures { IfOk result (λ v. v ≡ map fresh_group (2 ∷ [])) }
 {
@@ -23,7 +23,7 @@ fn new_instances<A: Allocator + Copy>(alloc: A) -> Result<Instances<A>, Memory>
     }
 }
 
-/// No barrier comes behind the end of its group.
+/// No barrier comes after the end of its group.
 #[test]
 fn arrive_behind_the_end(rt: HostRuntime) -> Result<(), BarrierError> {
     let mut instances = new_instances(rt.alloc())?;

@@ -47,7 +47,7 @@ fn refuse_two_ends<A: Allocator>(shape: Shape<A>, lists: Vec<Vec<Event, A>, A>)
     prove!(traces.is_err());
 }
 
-/// An end stands last.
+/// An end comes last.
 #[test]
 fn traces_of_an_end_before_another(rt: HostRuntime) -> Result<(), Memory> {
     let alloc = rt.alloc();
