@@ -38,7 +38,7 @@ module _ {Z : Type 0} (q : Sequence) (is : IsSequence q) (t : Steps) (lists : Li
   frame = rw (step.taken, step.handles.order) (frame_event (takes_own q.taken g x is.prefixes go.can go.access.ends marks q.handled is.lawful) e
       step.handles.ready.fresh (λ d same. same))
 
-  -- behind both steps all events of the item are handled
+  -- after both steps all events of the item are handled
   all_handled : (d : EventId) → d.at ≡ e.at → IsEvent q2.taken d → IsIn q2.handled d
   all_handled d own = rw (step.taken, step.handles.order) (λ there. grind (arith, go.first d own, slice_get-append q.handled (e ∷ []), at_behind q.handled (e ∷ []) 0 d, others_at_once q.taken g x is.prefixes go.can go.access.ends d own there))
 

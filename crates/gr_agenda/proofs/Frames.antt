@@ -20,8 +20,8 @@ use Rattle.gr_steps.proofs.EventRecords.{one_release}
 use Rattle.gr_steps.proofs.Orders.{split_last}
 use Rattle.gr_agenda.specs.Kept.{IsHeldUp, IsReleaseHandled}
 
--- t has the records of s and maybe more, and the events New are handled behind those of h, which makes those of h2. An event of which T
--- holds not is as it was, none of its item is new, and its instances are divergent only where they were
+-- t has the records of s and maybe more. The events New are handled after those of h, which makes those of h2. An event for which T does
+-- not hold is as it was, no event of its item is new, and its instances are divergent only where they were
 pub record Frame (s t : Streams) (h h2 : List EventId) (New T : EventId → Type 0) : Type 0 where
   pub grows : Grows s t
   pub lawful : IsLawful s h
@@ -75,7 +75,7 @@ module _ {s t : Streams} {h h2 : List EventId} {New T : EventId → Type 0} (fra
     name_grows : (n : Name) → HasName s d n → HasName t d n
     name_grows n named = grind (arith, frame.event d apart)
 
-    -- what stood before it in its item was handled before
+    -- what came before it in its item was handled before
     was_in : (x : EventId) → x.at ≡ d.at → IsIn h2 x → IsIn h x
     was_in x item there = grind (arith, frame.touched x d, frame.split x there)
 

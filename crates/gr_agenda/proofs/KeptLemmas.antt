@@ -1,4 +1,4 @@
--- The list of steps has all that is ready, behind each step and each record.
+-- The list of steps has all that is ready, after each step and each record.
 use Rattle.std.proofs.Common.{◌≡◌, ◌⊎◌, ◌<◌, ℕ, List, [], Bool, true, Some, Option, Vec, refl, sym, ap, ◌∙◌, subst, inl, inr, ⊎_elim, arith, is_some}
 use Rattle.std.proofs.lemmas.Bool.{cases_eq}
 use Rattle.std.proofs.Math.ListN.{get_or-map}
@@ -44,13 +44,14 @@ not_both kind word b r = grind arith
 abbrev pub Goes : Sequence → EventId → Type 0
 Goes q d = IsReady q.taken q.handled d ⊎ ((n : Name) × IsHeldUp q.taken q.handled d n)
 
--- where each item of a group stands in the list that may go on, each of its events does
+-- if each item of a group that may go on is in the list, each of its events is
 pub items_of : (q : Sequence) → ArePrefixes q.taken → (g : ℕ) (t : Steps)
     → ((i : ℕ) → i < size_of q.taken g → IsPending q (record { group = g; item = i }) → Has t (Item (record { group = g; item = i })))
     → (d : EventId) → d.at.group ≡ g → Goes q d → Has t (Item d.at)
 items_of q prefixes g t items d own goes = grind (arith, named_there q.taken d, item_of_event q.taken prefixes d, items d.at.item)
 
--- each event that the step touches stands in the list, if it can go on, and so does its group; and of each name those who wait for its release do, or the release is not new
+-- each event that the step touches is in the list, if it can go on, and so is its group; and so are those that wait for the release of a
+-- name, or that release is not new
 module _ {Z : Type 0} {q q2 : Sequence} (t t2 : Steps) {lists : List (Vec ItemId Z)} {New T : EventId → Type 0} (kept : IsKept q t lists)
     (keeps : KeepsSteps t t2) (frame : Frame q.taken q2.taken q.handled q2.handled New T)
     (decided : (d : EventId) → T d ⊎ (T d → ⊥)) (items : (d : EventId) → T d → Goes q2 d → Has t2 (Item d.at))
@@ -58,7 +59,7 @@ module _ {Z : Type 0} {q q2 : Sequence} (t t2 : Steps) {lists : List (Vec ItemId
     (of_group : (x : EventId) → New x → x.at.group ≡ g)
     (releases : (n : Name) → ((i : ItemId) → IsWaiting lists n i → Has t2 (Item i)) ⊎ ((x : EventId) → New x → x.at ≡ n.at
     → release_place q2.taken n ≡ Some x.index → ⊥)) where
-  -- what is ready behind the step and was held up before has been woken
+  -- what is ready after the step and was held up before has been woken
   woken : (d : EventId) → ¬ T d → IsReady q2.taken q2.handled d → (n : Name) → IsHeldUp q.taken q.handled d n → Has t2 (Item d.at)
   woken d apart ready n held = ⊎_elim
       (keeps (Item d.at))

@@ -34,7 +34,7 @@ one_step r o p a b = grind arith
 pub marked_more : (marks new : List Bool) (steps after : List Ready) (step : Ready) → AreMarked marks steps → after ≡ steps ++ step ∷ [] → ((p : ℕ) → slice_get new p ≡ Some true → IsPlace step p ⊎ (slice_get marks p ≡ Some true)) → AreMarked new after
 marked_more marks new steps after step are is each r p place at = grind (arith, one_step r step p place, among_last steps step, among_more steps step r, are r p place, each p)
 
--- what stood there and is not the last one stands there still
+-- what was there and is not the last one is still there
 pub has_less : (t : Steps) (after : List Ready) (step : Ready) → t.steps ≡ after ++ step ∷ [] → (r : Ready) → Has t r → (IsLast t r → ⊥) → Has (record { steps = after; short = t.short }) r
 has_less t after step is r h apart = grind (arith, among_cases, common_steps, gets)
 

@@ -127,7 +127,7 @@ module _ (s : Streams) (g : ℕ) (x : Event) (prefixes : ArePrefixes s) (can : C
       pub own_place : place_of more is_barrier own brought ≡ Some e.index
       own_place = grind (arith, own_longer, places_more, length-places, at_behind, common_steps, gets)
 
-      -- where that is not divergent behind it, the barrier alone is new
+      -- where that is not divergent then, only the barrier is new
       module _ (undiverged : ¬ IsDivergent more g brought) where
         else_divergent : (k n : ℕ) → IsDivergent more k n → IsDivergent s k n
         else_divergent k n divergent = ⊎_elim
@@ -203,7 +203,7 @@ module _ {Z : Type 0} {q : Sequence} {t : Steps} {lists : List (Vec ItemId Z)} (
   pub took_following : IsFollowing q.taken g x → Has t2 (Group g) → Has t2 (Item next.at) → IsKept (taking q g x) t2 lists × AreUndiverged longer undiverged
   took_following follows group item = search (arith, barrier_goes_on, took_own, following_marks)
 
-  -- a barrier of an instance that is not divergent behind it can't go on by itself, and lets no other item go on
+  -- a barrier that leaves its instance not divergent can't go on by itself, and lets no other item go on
   pub took_undiverged : is_barrier x ≡ true → (k : ℕ) → k ≡ next_instance q.taken g x.item → ArePrefixes longer → ¬ IsDivergent longer g k
       → Has t2 (Group g) → (new : List (Option ℕ)) → IsTold undiverged g k new → IsKept (taking q g x) t2 lists × AreUndiverged longer new
   took_undiverged barrier k same prefixes not_divergent group new tells = (

@@ -1,4 +1,4 @@
--- An item that stands at a barrier can go on exactly where the barrier's instance is divergent; and which instances stay as they are.
+-- An item at a barrier can go on exactly where the barrier's instance is divergent; and which instances stay as they are.
 use Rattle.std.proofs.Common.{◌≡◌, arith, ℕ, List, true, Some, Option, refl}
 use Rattle.std.specs.Prelude.{slice_index_or}
 use Rattle.std.proofs.lemmas.List.Elements.{Contains-get_or}

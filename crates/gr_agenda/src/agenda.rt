@@ -1,8 +1,7 @@
 //! An order of events with the list of the steps that may have become ready.
 //!
-//! Invariant: each step that can be made stands in the list, or memory was too short for one; each item whose next event
-//! names releases that were not handled stands in the list or among those that wait for one of these; and the instances that
-//! are noted as undiverged are not divergent.
+//! Invariant: each step that can be made is in the list, unless memory was too short. Each item whose next event names releases
+//! that were not handled is in the list, or waits for one of these releases. The instances noted as undiverged are not divergent.
 
 ghost use Rattle.std.specs.Prelude.{[], ◌≡◌, ◌↔◌, ◌<◌, IfOk, IfErr, IfSome, IsSomeAnd, OnOk, OnErr, IsTrue, MatchOption, All, Contains, Some, length, slice_get, ℕ};
 ghost use Rattle.gr_model.specs.declared.event.EventId.{EventId as AnyEvent};
@@ -42,7 +41,7 @@ pub struct Agenda<A: Allocator = Global> {
     order: Schedule<A>,
     worklist: Worklist<A>,
     waiting: Vec<Vec<ItemId, A>, A>,
-    /// Of each group an instance that is known not to be divergent, if one is.
+    /// For each group an instance that is known not to be divergent, if there is one.
     undiverged: Vec<Option<u32>, A>,
 }
 
@@ -70,7 +69,7 @@ fn name_of<A: Allocator>(order: &Schedule<A>, event: EventId) -> Option<Name>
     }
 }
 
-/// Lists for those that wait.
+/// The lists for the items that wait.
 fn no_lists<A: Allocator + Copy>(alloc: A) -> Result<Vec<Vec<ItemId, A>, A>, Memory> {
     let mut lists = Vec::with_capacity(alloc, LISTS)?;
     for _ in 0..LISTS {
@@ -79,7 +78,7 @@ fn no_lists<A: Allocator + Copy>(alloc: A) -> Result<Vec<Vec<ItemId, A>, A>, Mem
     Ok(lists)
 }
 
-/// The lists for those that wait, made where there are none yet: before the first group nobody waits.
+/// The lists for the items that wait, made if there are none yet: before the first group no item waits.
 ///
 /// # Errors
 /// `Memory`: out of memory.
@@ -95,7 +94,7 @@ fn filled<A: Allocator + Copy>(
     Ok(lists)
 }
 
-/// Of each group no instance that is known not to be divergent.
+/// For each group no instance that is known not to be divergent.
 ///
 /// # Errors
 /// `Memory`: out of memory.
@@ -106,7 +105,7 @@ fn no_instances<A: Allocator + Copy>(alloc: A) -> Result<Vec<Option<u32>, A>, Me
     Ok(undiverged)
 }
 
-/// Whether an item's next event is a barrier, as it is where an instance of its group may meet.
+/// Whether an item's next event is a barrier. It is one if an instance of its group may meet.
 fn is_at_barrier<A: Allocator>(order: &Schedule<A>, item: ItemId) -> bool
     ensures { CanMeet order.now.taken order.now.handled item.group → item.item < size_of order.now.taken item.group → IsTrue result }
 {
@@ -118,7 +117,7 @@ fn is_at_barrier<A: Allocator>(order: &Schedule<A>, item: ItemId) -> bool
     }
 }
 
-/// Puts the group of an item on the list, if the item's next event is a barrier.
+/// Puts an item's group on the list, if the item's next event is a barrier.
 fn put_group<A: Allocator>(order: &Schedule<A>, worklist: &mut Worklist<A>, item: ItemId)
     ensures there { CanMeet order.now.taken order.now.handled item.group → item.item < size_of order.now.taken item.group → Has worklist.new (Group item.group) }
     ensures keeps { KeepsSteps worklist.old worklist.new }
@@ -152,7 +151,7 @@ fn first_unhandled<A: Allocator>(order: &Schedule<A>, event: &Event) -> Option<N
     None
 }
 
-/// A name by which an item's next event is held up, if there is one.
+/// A name that holds up an item's next event, if there is one.
 fn named_by<A: Allocator>(order: &Schedule<A>, item: ItemId) -> Option<Name>
     ensures { (d : AnyEvent) (n : AnyName) → IsHeldUp order.now.taken order.now.handled d n → d.at ≡ item → IsSomeAnd result (IsHeldUp order.now.taken order.now.handled d) }
 {
@@ -164,7 +163,7 @@ fn named_by<A: Allocator>(order: &Schedule<A>, item: ItemId) -> Option<Name>
     }
 }
 
-/// Whether a step is that of an item whose every event was handled: it can't be made, and nothing holds it up.
+/// Whether a step is of an item whose events were all handled. Then it can't be made, and nothing holds it up.
 fn is_idle<A: Allocator>(order: &Schedule<A>, step: Ready) -> bool
     ensures none { IsTrue result → ¬ CanMake order.now step }
     ensures free { IsTrue result → (d : AnyEvent) (n : AnyName) → Item d.at ≡ step → ¬ IsHeldUp order.now.taken order.now.handled d n }
@@ -189,7 +188,7 @@ fn put_if_pending<A: Allocator>(order: &Schedule<A>, worklist: &mut Worklist<A>,
     }
 }
 
-/// Puts those of a group's first items on the list of whose events some waits.
+/// Puts those of a group's first items on the list that have an event that waits.
 fn put_pending<A: Allocator>(
     order: &Schedule<A>,
     worklist: &mut Worklist<A>,
@@ -204,7 +203,7 @@ fn put_pending<A: Allocator>(
     }
 }
 
-/// Notes for which release an item waits, where its next event is not ready.
+/// Notes for which release an item waits, if its next event is not ready.
 ///
 /// # Errors
 /// `Memory`: out of memory.
@@ -225,7 +224,7 @@ fn note<A: Allocator>(
     }
 }
 
-/// The number among its barriers of an item's next event, if it is one.
+/// Which of its barriers an item's next event is, if it is one.
 fn next_barrier<A: Allocator>(order: &Schedule<A>, item: ItemId) -> Option<u32>
     ensures { IfSome result (λ k. IsNextBarrier order.now item k) }
 {
@@ -234,14 +233,14 @@ fn next_barrier<A: Allocator>(order: &Schedule<A>, item: ItemId) -> Option<u32>
     order.lanes().barrier_number(EventId { at: item, index })
 }
 
-/// Whether a number is there and is this one.
+/// Whether there is a number and it is this one.
 fn is_number(told: Option<u32>, number: u32) -> bool
     ensures { IsTrue result → told ≡ Some number }
 {
     told == Some(number)
 }
 
-/// Whether an item's next event is its barrier of this number.
+/// Whether an item's next event is its barrier with this number.
 fn is_next_barrier<A: Allocator>(order: &Schedule<A>, item: ItemId, number: u32) -> bool
     ensures { IsTrue result → IsNextBarrier order.now item number }
 {
@@ -276,7 +275,7 @@ fn tell_undiverged<A: Allocator>(undiverged: &mut Vec<Option<u32>, A>, group: u1
     }
 }
 
-/// Notes that the instance is not divergent at whose barrier an item stands that can't go on.
+/// Where a step can't be made and is of an item at a barrier: notes that the barrier's instance is not divergent.
 fn mark_undiverged<A: Allocator>(
     order: &Schedule<A>,
     undiverged: &mut Vec<Option<u32>, A>,
@@ -305,7 +304,7 @@ fn forget_undiverged<A: Allocator>(undiverged: &mut Vec<Option<u32>, A>, group: 
     }
 }
 
-/// Puts on the list what may have become ready where any item of a group may go on.
+/// Puts on the list what may have become ready, where any item of a group may go on.
 fn wake_group<A: Allocator>(
     order: &Schedule<A>,
     worklist: &mut Worklist<A>,
@@ -320,12 +319,12 @@ fn wake_group<A: Allocator>(
 {
     forget_undiverged(undiverged, group);
     put_pending(order, worklist, group, order.lanes().shape().items(group));
-    // last, so that it is looked at first: where the instance meets, its items need no look before
+    // last, so that it is looked at first: if the instance meets, its items need no look before
     worklist.put(Ready::Group(group));
 }
 
 impl<A: Allocator + Copy> Agenda<A> {
-    /// The agenda of a launch of this shape, of which nothing was taken.
+    /// The agenda of a launch of this shape, before its first record.
     ///
     /// # Errors
     /// `Memory`: out of memory.
@@ -348,7 +347,7 @@ impl<A: Allocator + Copy> Agenda<A> {
         Agenda::of_order(alloc, order, Vec::new(alloc))
     }
 
-    /// The agenda of an order of which nothing was taken, with lists for those that wait.
+    /// The agenda of an order from which nothing was taken, with lists for the items that wait.
     ///
     /// # Errors
     /// `Memory`: out of memory.
@@ -370,9 +369,8 @@ impl<A: Allocator + Copy> Agenda<A> {
         })
     }
 
-    /// The agenda, where a group comes that has so many items. The groups below it that were not there are there, without
-    /// items.
-    /// Requires: the group has not come, and is one that a launch may have beside the others.
+    /// The agenda with one more group, which has this many items. Groups below it that were not there come too, without items.
+    /// Requires: the group has not come, and a launch may have it together with the others.
     ///
     /// # Errors
     /// `Memory`: out of memory.
@@ -408,15 +406,15 @@ impl<A: Allocator> Agenda<A> {
         &self.order
     }
 
-    /// Frees what is kept of a group and not asked for any more, once it has ended. Tells whether it has: its end was taken, and
-    /// no event of its items waits.
+    /// Once a group has ended, frees what is no longer needed of it. Says whether it has ended: its end was taken, and no event of
+    /// its items waits.
     pub fn close(&mut self, group: u16) -> bool
         ensures { self.new ≡ self.old }
     {
         self.order.close(group)
     }
 
-    /// Takes the next record of a group. It is one that some group may have, whatever its item.
+    /// Takes the next record of a group. It is a record that some group may have, whatever its item.
     ///
     /// # Errors
     /// The first of `UnknownGroup`, `AfterEnd` with the group, `UnknownItem` and `Memory` that is there. Nothing is then
@@ -466,8 +464,8 @@ impl<A: Allocator> Agenda<A> {
         Ok(())
     }
 
-    /// Takes the next record of a group and handles its event, which can be handled at once: then no other step can be made
-    /// that could not be made before. It takes no memory.
+    /// Takes the next record of a group and handles its event, which can be handled at once. No other step becomes ready by this. It
+    /// takes no memory.
     pub fn take_at_once(&mut self, group: u16, event: Event)
         requires good { IsEventButItem event }
         requires room { length (list_of self.old.taken group) < MOST_RECORDS }
@@ -513,7 +511,7 @@ impl<A: Allocator> Agenda<A> {
         );
     }
 
-    /// Whether an item stands at a barrier of an instance that is known not to be divergent.
+    /// Whether an item's next event is a barrier of an instance that is known not to be divergent.
     fn is_undiverged_at(&self, item: ItemId) -> bool
         ensures { IsTrue result → ¬ CanHandle self.now.taken self.now.handled item }
     {
@@ -537,8 +535,8 @@ impl<A: Allocator> Agenda<A> {
         }
     }
 
-    /// Looks at the last step of the list. Gives it if it can be made; else takes it off the list, and notes what its item
-    /// waits for, if it waits.
+    /// Looks at the last step of the list. Gives it if it can be made. Else takes it off the list, and notes what its item waits
+    /// for, if it waits.
     fn try_last(&mut self) -> Option<Ready>
         ensures found { IfSome result (λ r. CanMake self.old r) }
         ensures unchanged { self.new ≡ self.old }

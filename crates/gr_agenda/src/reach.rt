@@ -1,4 +1,4 @@
-//! Whose steps a record may let go on where it is taken.
+//! Which steps may become ready when a record is taken.
 
 ghost use Rattle.std.specs.Prelude.{◌≡◌, ◌≤◌, true, IsTrue, is_some};
 ghost use Rattle.gr_model.specs.Barriers.{mark_of};
@@ -11,23 +11,23 @@ use gr_lanes::lanes::Lanes;
 use gr_model::event::{Event, ItemId};
 use std::alloc::Allocator;
 
-/// Whose steps a record may let go on.
+/// Which steps may become ready when a record is taken.
 #[derive(Clone, Copy, Debug, PartialEq, Eq)]
 pub(crate) enum Reach {
     /// Those of its item.
     Item,
-    /// Those of its item, a barrier that brings the item to the instance of this number, where another came with the same mark;
-    /// and the instance may meet.
+    /// Those of its item, and the meeting of the instance with this number: the record is a barrier that brings the item there, and
+    /// another item came there with the same mark.
     Instance(u32),
-    /// Those of each item of its group, where the barrier, which brings its item to the instance of this number, makes that
-    /// divergent; else the instance may meet.
+    /// The record is a barrier that brings its item to the instance with this number. If that makes the instance divergent, those of
+    /// each item of the group; else the meeting of the instance.
     Mark(u32),
     /// Those of each item of its group.
     Group,
 }
 
-/// Whether one of two neighbours of a barrier's item came, with the same mark, to the instance to which the barrier brings
-/// its item: then no mark is new there.
+/// Whether one of two neighbours of a barrier's item came with the same mark to the barrier's instance: then the mark is not new
+/// there.
 fn is_following<A: Allocator>(lanes: &Lanes<A>, group: u16, instance: u32, event: &Event) -> bool
     requires barrier { is_some (mark_of event.now) ≡ true }
     requires instance { instance ≡ next_instance lanes.now.streams group event.now.item }
@@ -45,7 +45,7 @@ fn is_following<A: Allocator>(lanes: &Lanes<A>, group: u16, instance: u32, event
     came_with(lanes, before, instance, event) || came_with(lanes, after, instance, event)
 }
 
-/// Whose steps a record of a group may let go on.
+/// Which steps may become ready when a record of a group is taken.
 #[inline(always)]
 pub(crate) fn reach_of<A: Allocator>(lanes: &Lanes<A>, group: u16, event: &Event) -> Reach
     ensures { IsReach lanes.now.streams group event.now result }
@@ -61,7 +61,7 @@ pub(crate) fn reach_of<A: Allocator>(lanes: &Lanes<A>, group: u16, event: &Event
         item: event.item,
     };
     let instance = lanes.barrier_count(at);
-    // so it may be of an item that is not there, which has no barriers
+    // this may be so for an item that is not there, which has no barriers
     if instance < lanes.forgotten(group) {
         return Reach::Group;
     }

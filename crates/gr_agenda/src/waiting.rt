@@ -15,12 +15,13 @@ use std::alloc::Allocator;
 /// How many lists there are.
 pub(crate) const LISTS: usize = 2048;
 
-/// How far apart the lists of two neighbouring items are, and those of an item's releases: primes, so that few share one.
+/// How far apart the lists of two neighbouring items are, and those of an item's releases. They are primes, so that few share a
+/// list.
 const ITEM_STEP: usize = 67;
 
 const RELEASE_STEP: usize = 257;
 
-/// The list for those that wait for the release of this name. Others may share it.
+/// The list for the items that wait for the release of this name. Other names may share it.
 fn bucket_of(named: Name) -> usize
     ensures { result ≡ bucket_of named }
 {
@@ -28,7 +29,7 @@ fn bucket_of(named: Name) -> usize
     (item + named.release as usize * RELEASE_STEP) % LISTS
 }
 
-/// Enters an item among those that wait for the release of this name.
+/// Enters an item in the list of those that wait for the release of this name.
 ///
 /// # Errors
 /// `Memory`: out of memory.
@@ -50,7 +51,7 @@ pub(crate) fn wait<A: Allocator>(
     }
 }
 
-/// Puts each item of a list among those that may be ready.
+/// Puts the step of each item of a list among those that may be ready.
 fn put_all<A: Allocator>(list: &[ItemId], worklist: &mut Worklist<A>)
     ensures there { (i : AnyItem) → IsAmong list.now i → Has worklist.new (Item i) }
     ensures keeps { KeepsSteps worklist.old worklist.new }
@@ -60,7 +61,7 @@ fn put_all<A: Allocator>(list: &[ItemId], worklist: &mut Worklist<A>)
     }
 }
 
-/// Moves those that wait for the release of this name to the steps that may be ready.
+/// Moves the items that wait for the release of this name to the steps that may be ready.
 pub(crate) fn wake<A: Allocator>(
     lists: &mut Vec<Vec<ItemId, A>, A>,
     named: Name,

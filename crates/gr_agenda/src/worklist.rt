@@ -1,6 +1,6 @@
 //! The list of the steps that may have become ready.
 //!
-//! Invariant: a step that is marked stands in the list. It may stand there more than once, and without a mark.
+//! Invariant: a marked step is in the list. A step may be there more than once, and without a mark.
 
 ghost use Rattle.std.specs.Prelude.{◌≡◌, [], ◌⊎◌, ◌≢◌, ℕ, true, Some, IsTrue, IfOk, MatchOption, slice_get};
 ghost use Rattle.gr_order.specs.declared.steps.Ready.{Ready as AnyStep};
@@ -59,7 +59,7 @@ fn is_marked(marks: &[bool], step: Ready) -> bool
     }
 }
 
-/// Makes places for marks until there are so many, as far as memory suffices.
+/// Makes places for marks until there are this many, as far as memory suffices.
 fn reach<A: Allocator>(marks: &mut Vec<bool, A>, count: usize)
     ensures { (p : ℕ) → slice_get marks.new.items p ≡ Some true → slice_get marks.old.items p ≡ Some true }
 {
@@ -86,7 +86,7 @@ fn mark<A: Allocator>(marks: &mut Vec<bool, A>, step: Ready)
     }
 }
 
-/// Takes a step's mark away.
+/// Removes a step's mark.
 fn unmark<A: Allocator>(marks: &mut Vec<bool, A>, step: Ready)
     ensures here { (p : ℕ) → IsPlace step p → slice_get marks.new.items p ≢ Some true }
     ensures others { (p : ℕ) → slice_get marks.new.items p ≡ Some true → slice_get marks.old.items p ≡ Some true }
@@ -114,12 +114,12 @@ impl<A: Allocator + Copy> Worklist<A> {
 }
 
 impl<A: Allocator> Worklist<A> {
-    /// How many steps stand in the list.
+    /// How many steps are in the list.
     pub(crate) fn len(&self) -> usize {
         self.steps.len()
     }
 
-    /// Whether no step stands in the list, and none is missing.
+    /// Whether the list is empty and no step is missing.
     pub(crate) fn is_done(&self) -> bool
         ensures { IsTrue result → HasNone self.now }
     {
@@ -133,7 +133,7 @@ impl<A: Allocator> Worklist<A> {
         self.steps.last().copied()
     }
 
-    /// Says that a step is missing.
+    /// Notes that a step is missing.
     pub(crate) fn note_shortage(&mut self)
         ensures { (r : AnyStep) → Has self.new r }
     {

@@ -232,7 +232,7 @@ end_is_complete [] = refl
 end_is_complete (x ∷ []) = grind arith
 end_is_complete (x ∷ y ∷ xs) = end_is_complete (y ∷ xs)
 
--- the last record tells
+-- the last record says it
 pub end_pushed : (list : List Event) (x : Event) → end_in (list ++ x ∷ []) ≡ end_of x
 end_pushed [] x = refl
 end_pushed (y ∷ []) x = refl
@@ -250,7 +250,7 @@ none_more list x open_list isnt = grind (arith, end_pushed list x, end_is_comple
 
 -- ---- cut streams
 
--- the last record tells whether a stream was cut, since an end stands at no other place
+-- the last record says whether a stream was cut, since an end has no other place
 pub cut_if_end : (list : List Event) → end_in list ≡ Some true → EndsCut list
 cut_if_end [] e = cc
 cut_if_end (x ∷ []) e = (0, x, refl, grind arith)

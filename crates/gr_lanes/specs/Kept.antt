@@ -1,4 +1,4 @@
--- What is kept of a group's items: a lane of each, and of each instance of the group's barriers that is not forgotten what the first said that came to it.
+-- What is kept of a group's items: a lane for each item, and for each instance that is not forgotten what the first barrier said that came to it.
 use Rattle.std.specs.Prelude.{◌≡◌, ℕ, ◌<◌, ◌≤◌, List, [], ◌∷◌, ◌++◌, Bool, true, false, not, ◌||◌, ◌&&◌, ◌==◌, ◌⊎◌, nat_lt, Option, Some, None, drop, length, map, take, slice_get, slice_index_or, ◌+◌, ◌-◌, if◌then◌else◌}
 use Rattle.gr_model.specs.declared.event.Event.{Event}
 use Rattle.gr_lanes.specs.declared.bare.Bare.{Bare}
@@ -6,7 +6,7 @@ use Rattle.gr_model.specs.Barriers.{is_barrier}
 use Rattle.gr_model.specs.Streams.{Streams, is_complete, list_of, place_of, size_of}
 use Rattle.gr_lanes.specs.Indices.{Index, no_index, record_of, with_event}
 
--- what a record says beside its item and the releases that it names
+-- what a record says, without its item and the releases that it names
 abbrev pub bare_of : Event → Bare
 bare_of x = record { kind = x.kind; space = x.space; word = x.word }
 
@@ -19,13 +19,13 @@ pub record GroupIndex : Type 0 where
   pub indices : List Index
   pub forgotten : ℕ
 
--- so many items, none of which has an event
+-- this many items, all without events
 pub record HasNoEvents (size : ℕ) (g : GroupIndex) : Type 0 where
   pub count : length g.indices ≡ size
   pub none : (i : ℕ) → slice_index_or g.indices i no_index ≡ no_index
   pub whole : g.forgotten ≡ 0
 
--- as many items or more, or where there were fewer, so many without events
+-- the same, where there were at least this many items; else this many without events
 abbrev pub Begins : ℕ → GroupIndex → GroupIndex → Type 0
 Begins size old new = ((size ≤ length old.indices) × (new ≡ old)) ⊎ ((length old.indices < size) × HasNoEvents size new)
 
@@ -33,9 +33,9 @@ Begins size old new = ((size ≤ length old.indices) × (new ≡ old)) ⊎ ((len
 abbrev pub with_indices : GroupIndex → List Index → GroupIndex
 with_indices g l = record { indices = l; forgotten = g.forgotten }
 
--- what is kept of an item: its index, but for the places and the records of its barriers, which exist in proofs alone; the places of those
--- of its barriers whose instances are not forgotten; so many of its first barriers are forgotten or said what the firsts of their
--- instances did, and of those behind them what they said is kept
+-- what is kept of an item: its index, in which the places and the records of barriers exist only in proofs; the places of those
+-- barriers whose instances are not forgotten; how many of its first barriers are forgotten or said the same as the first of their
+-- instance; and what the barriers after those said
 pub record Kept : Type 0 where
   pub index : Index
   pub barriers : List ℕ
@@ -46,11 +46,11 @@ pub record Kept : Type 0 where
 abbrev pub nothing_kept : Kept
 nothing_kept = record { index = no_index; barriers = []; alike = 0; apart = [] }
 
--- an item's lane with an event more, which is a release if so told, and no barrier
+-- an item's lane with one more event, which is no barrier, and a release if the flag says so
 abbrev pub kept_with : Kept → Event → Bool → Kept
 kept_with k x release = record { index = with_event k.index x release false; barriers = k.barriers; alike = k.alike; apart = k.apart }
 
--- an item's lane with a barrier more, which said what the first of its instance did
+-- an item's lane with one more barrier, which said the same as the first of its instance
 abbrev pub alike_more : Kept → Event → Kept
 alike_more k x = record { index = with_event k.index x false true; barriers = k.barriers ++ k.index.count ∷ []; alike = k.alike + 1; apart = k.apart }
 
@@ -58,7 +58,7 @@ alike_more k x = record { index = with_event k.index x false true; barriers = k.
 abbrev pub apart_more : Kept → Event → Kept
 apart_more k x = record { index = with_event k.index x false true; barriers = k.barriers ++ k.index.count ∷ []; alike = k.alike; apart = k.apart ++ bare_of x ∷ [] }
 
--- an item's lane where so many instances were forgotten, and now one more is
+-- an item's lane where this many instances were forgotten, and now one more is
 abbrev pub forgetting_one : ℕ → Kept → Kept
 forgetting_one forgotten k = record {
   index = k.index;
@@ -67,7 +67,7 @@ forgetting_one forgotten k = record {
   apart = if k.alike == forgotten then drop 1 k.apart else k.apart;
 }
 
--- a lane keeps what an item's barriers were, but for the first so many; of the instances behind these the firsts said this
+-- a lane keeps an item's barriers without the forgotten ones, where the first barriers of the later instances said this
 pub record IsLane (forgotten : ℕ) (firsts : List Bare) (i : ℕ) (k : Kept) : Type 0 where
   pub places : k.barriers ≡ drop forgotten k.index.barriers
   pub saying : drop forgotten k.index.arrived ≡ map (of_item i) (take (k.alike - forgotten) firsts ++ k.apart)
@@ -77,7 +77,7 @@ pub record IsLane (forgotten : ℕ) (firsts : List Bare) (i : ℕ) (k : Kept) : 
   pub within : k.alike - forgotten ≤ length firsts
   pub few : length k.index.barriers ≤ k.index.count
 
--- a lane of which nothing more is asked than how many barriers the item has
+-- a lane that says no more than how many barriers the item has
 pub record HasNothing (k : Kept) : Type 0 where
   pub releases : k.index.releases ≡ []
   pub barriers : k.barriers ≡ []
@@ -85,11 +85,11 @@ pub record HasNothing (k : Kept) : Type 0 where
 abbrev pub AreLanes : ℕ → List Bare → List Kept → Type 0
 AreLanes forgotten firsts lanes = (i : ℕ) → i < length lanes → IsLane forgotten firsts i (slice_index_or lanes i nothing_kept)
 
--- whether a lane's barrier of a number that is not forgotten said what the first of its instance did, or is not there, where more may come
+-- whether a lane's barrier with a number that is not forgotten said the same as the first of its instance, or may still come
 abbrev pub is_as_first : ℕ → Bool → Kept → Bool
 is_as_first n ended k = nat_lt n k.alike || (not ended && not (nat_lt (n - k.alike) (length k.apart)))
 
--- an item came to an instance with this, or where more may come, it has not come
+-- an item came to an instance with this, or has not come and still may
 abbrev pub CameWith : Option Event → Option ℕ → Bool → ℕ → Bare → Type 0
 CameWith came place ended i b = (came ≡ Some (of_item i b)) ⊎ ((ended ≡ false) × (place ≡ None))
 
@@ -100,7 +100,7 @@ NoneDiffersIn lanes n ended = (b : Bare) × ((i : ℕ) → i < length lanes → 
 abbrev pub NoneDiffers : Streams → ℕ → ℕ → Type 0
 NoneDiffers s g n = (b : Bare) × ((i : ℕ) → i < size_of s g → CameWith (record_of s is_barrier (record { group = g; item = i }) n) (place_of s is_barrier (record { group = g; item = i }) n) (is_complete (list_of s g)) i b)
 
--- an item's lane has a barrier more, this one, and its instance has a first
+-- an item's lane has this barrier more, and the barrier's instance has a first
 pub record Arrives (forgotten : ℕ) (firsts firsts' : List Bare) (old new : Kept) (x : Event) : Type 0 where
   pub more : List Bare
   pub grown : firsts' ≡ firsts ++ more

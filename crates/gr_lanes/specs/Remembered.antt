@@ -1,4 +1,5 @@
--- What is remembered of a launch's streams: all that was taken, but for the first instances of each group's barriers, which are forgotten once all its items have passed them. Of these it is kept which are divergent.
+-- What is remembered of a launch's streams: all that was taken, without the first instances of each group's barriers. An instance is
+-- forgotten once all items of its group have passed it; it is kept which of the forgotten ones are divergent.
 -- Source: docs/MODEL.md, "Barriers".
 use Rattle.std.specs.Prelude.{◌≡◌, ℕ, ◌+◌, ◌<◌, ◌≤◌, List, [], ◌∷◌, ◌++◌, Some, length, slice_index_or, slice_set}
 use Rattle.gr_model.specs.declared.event.EventId.{EventId}
@@ -11,7 +12,7 @@ use Rattle.gr_model.specs.Instances.{Mark}
 use Rattle.gr_model.specs.Reports.{DivergenceBelow, IsDivergence, Lists}
 use Rattle.gr_model.specs.Streams.{Streams, place_of, size_of}
 
--- what was taken, of each group how many of its first instances are forgotten, and which of these are divergent
+-- what was taken; how many of the first instances of each group are forgotten, and which of those are divergent
 pub record Remembered : Type 0 where
   pub streams : Streams
   pub forgotten : List ℕ
@@ -34,27 +35,27 @@ pub record IsWhole (r : Remembered) : Type 0 where
   pub forgotten : (g : ℕ) → forgotten_of r g ≡ 0
   pub decided : (g : ℕ) → decided_of r g ≡ []
 
--- these streams, of which the same is forgotten
+-- these streams, with the same instances forgotten
 abbrev pub remembering : Remembered → Streams → Remembered
 remembering r s = record { streams = s; forgotten = r.forgotten; decided = r.decided }
 
--- a group comes that has so many items, and of which nothing is forgotten
+-- a group with this many items comes, and nothing of it is forgotten
 abbrev pub with_group : Remembered → ℕ → ℕ → Remembered
 with_group r g n = record { streams = model.with_group r.streams g n; forgotten = put 0 r.forgotten g 0; decided = put [] r.decided g [] }
 
--- one instance more of a group is forgotten, which is not divergent
+-- one more instance of a group is forgotten, which is not divergent
 abbrev pub forgetting : Remembered → ℕ → Remembered
 forgetting r g = record { streams = r.streams; forgotten = slice_set r.forgotten g (forgotten_of r g + 1); decided = r.decided }
 
--- one instance more of a group is forgotten, which is divergent
+-- one more instance of a group is forgotten, which is divergent
 abbrev pub deciding : Remembered → Divergence → Remembered
 deciding r d = record { streams = r.streams; forgotten = slice_set r.forgotten d.group (forgotten_of r d.group + 1); decided = slice_set r.decided d.group (decided_of r d.group ++ d ∷ []) }
 
--- where an item has a barrier of this number, its instance is not forgotten
+-- if an item has a barrier with this number, its instance is not forgotten
 abbrev pub IsRemembered : Remembered → ItemId → ℕ → Type 0
 IsRemembered r i k = (p : ℕ) → place_of r.streams is_barrier i k ≡ Some p → forgotten_of r i.group ≤ k
 
--- where an event is a barrier, its instance is not forgotten
+-- if an event is a barrier, its instance is not forgotten
 abbrev pub IsEventRemembered : Remembered → EventId → Type 0
 IsEventRemembered r e = (k : ℕ) → place_of r.streams is_barrier e.at k ≡ Some e.index → forgotten_of r e.at.group ≤ k
 
@@ -72,7 +73,7 @@ pub record IsDecided (r : Remembered) (g : ℕ) (d : Divergence) : Type 0 where
   pub group : d.group ≡ g
   pub below : d.instance < forgotten_of r g
 
--- to each instance that is forgotten all items came, and those that are divergent are kept
+-- all items came to each forgotten instance, and the divergent ones are kept
 pub record AreDecided (r : Remembered) : Type 0 where
   pub groups : IsOfGroups r
   pub came : (g k : ℕ) → k < forgotten_of r g → HaveAllCome r.streams g k

@@ -1,4 +1,4 @@
--- What is taken of a launch's streams: the records that have come of each work-group, one more at a time.
+-- What is taken of a launch's streams: the records of each work-group, one after the other.
 -- Source: docs/MODEL.md, "Streams and traces".
 use Rattle.std.specs.Prelude.{◌≡◌, ℕ, ◌<◌, ◌≤◌, List, [], ◌∷◌, ◌++◌, length, map, slice_set, IsTrue, false}
 use Rattle.gr_model.specs.declared.event.Event.{Event}
@@ -10,7 +10,7 @@ use Rattle.gr_model.specs.Streams.{Streams, list_of, size_of, trace_of, is_compl
 use Rattle.gr_lanes.specs.declared.seq_error.SeqError.{SeqError}
 use Rattle.gr_lanes.specs.declared.seq_error.SeqError.TheVariants.{UnknownGroup, AfterEnd, UnknownItem, Memory}
 
--- groups of these sizes, of which nothing was taken
+-- groups of these sizes, before their first records
 abbrev pub nothing_taken : List ℕ → Streams
 nothing_taken sizes = record { sizes = sizes; lists = map (λ n. []) sizes }
 
@@ -18,7 +18,7 @@ nothing_taken sizes = record { sizes = sizes; lists = map (λ n. []) sizes }
 abbrev pub with_record : Streams → ℕ → Event → Streams
 with_record s g x = record { sizes = s.sizes; lists = slice_set s.lists g (list_of s g ++ x ∷ []) }
 
--- the event that a record of a group is, where it is taken: the next of its item
+-- the event that a group's record becomes when it is taken: the next of its item
 abbrev pub next_of : Streams → ℕ → Event → EventId
 next_of s g x = record { at = record { group = g; item = x.item }; index = length (trace_of s (record { group = g; item = x.item })) }
 
@@ -39,7 +39,7 @@ pub record CanTake (s : Streams) (g : ℕ) (x : Event) : Type 0 where
   pub before_end : ¬ IsTrue (is_complete (list_of s g))
   pub item : x.item < size_of s g
 
--- why a record is not taken: each cause stands where none before it does
+-- why a record is not taken: the first cause that holds
 abbrev pub IsTakeFault : Streams → ℕ → Event → SeqError → Type 0
 IsTakeFault s g x UnknownGroup = length s.sizes ≤ g
 IsTakeFault s g x (AfterEnd h) = (h ≡ g) × (g < length s.sizes) × IsTrue (is_complete (list_of s g))

@@ -1,4 +1,4 @@
-//! What a barrier's record says beside its item. A barrier names no releases.
+//! What the record of a barrier says, without its item. A barrier names no releases.
 
 ghost use Rattle.std.specs.Prelude.{◌≡◌, ◌↔◌, IsTrue};
 ghost use Rattle.gr_lanes.specs.Kept as kept;
@@ -6,7 +6,7 @@ ghost use Rattle.gr_lanes.specs.Kept as kept;
 use gr_model::event::{Event, Kind, Space};
 use gr_model::names::Names;
 
-/// The record of a barrier without its item, and without the places for names.
+/// The record of a barrier, without its item and without the places for names.
 #[derive(Debug, Drop, Clone, Copy)]
 pub(crate) struct Bare {
     kind: Kind,
@@ -15,7 +15,7 @@ pub(crate) struct Bare {
 }
 
 impl Bare {
-    /// What a record says beside its item and the releases that it names.
+    /// What a record says, without its item and the releases that it names.
     pub(crate) fn of(event: &Event) -> Bare
         ensures { result ≡ kept.bare_of event.now }
     {
@@ -26,7 +26,7 @@ impl Bare {
         }
     }
 
-    /// The record, of this item.
+    /// The whole record, for this item.
     pub(crate) fn of_item(&self, item: u16) -> Event
         ensures { result ≡ kept.of_item item self.now }
     {
@@ -39,7 +39,7 @@ impl Bare {
         }
     }
 
-    /// Whether two say the same.
+    /// Whether both say the same.
     pub(crate) fn is(&self, other: &Bare) -> bool
         ensures { IsTrue result ↔ (self.now ≡ other.now) }
     {

@@ -1,8 +1,8 @@
-//! What was taken of one work-group: how many records, what its end says, and what is kept of its items.
+//! What was taken of one work-group: the number of its records, what its end says, and what is kept of its items.
 //!
-//! Invariant: the records are a prefix of a list that the group may have, and of each item the index of its events in it is
-//! kept. Once the end was taken, the last items may have gone: those that have no releases, and whose barriers are forgotten.
-//! The list itself exists in proofs alone.
+//! Invariant: the records are a prefix of a list that the group may have, and for each item an index of its events in that list
+//! is kept. After the end was taken, the last items may be gone, as far as they have no releases and all their barriers are
+//! forgotten. The list itself exists only in proofs.
 
 ghost use Rattle.std.specs.Prelude.{◌≢◌, ◌≡◌, ◌↔◌, ◌∷◌, ◌++◌, ◌<◌, ◌≤◌, ◌+◌, ℕ, [], true, Some, IsTrue, IfOk, OnOk, OnErr, filter, length, slice_get, slice_index_or};
 ghost use Rattle.gr_model.specs.declared.limits.TheConstants.{MOST_RECORDS};
@@ -24,7 +24,7 @@ use std::alloc::{Allocator, Global};
 use std::marker::Model;
 
 /// What was taken of a work-group. Contracts see how many items it has, its records, how many of its first instances are
-/// forgotten, and which of these are divergent.
+/// forgotten, and which of those are divergent.
 #[derive(Drop)]
 #[derive_where(Debug)]
 pub(crate) struct Group<A: Allocator = Global> {
@@ -32,10 +32,10 @@ pub(crate) struct Group<A: Allocator = Global> {
     size: u16,
     list: History<Event>,
     taken: u32,
-    /// Whether its stream was cut, once its end was taken.
+    /// Once its end was taken: whether its stream was cut.
     end: Option<bool>,
     items: Items<A>,
-    /// The divergent ones of the instances that are forgotten.
+    /// The divergent instances among the forgotten ones.
     decided: Vec<Divergence, A>,
 }
 
@@ -49,7 +49,7 @@ impl<A: Allocator> Model for Group<A> {
     ghost invariant = { λ g. IsKept g.size g.items.forgotten g.items.indices g.list g.taken g.end };
 }
 
-/// Whether a stream was cut whose end this record is, if it is an end.
+/// If a record is an end: whether it says that its stream was cut.
 fn end_of(event: &Event) -> Option<bool>
     ensures { result ≡ end_of event.now }
 {
@@ -75,7 +75,7 @@ fn says_cut(end: Option<bool>) -> bool
 }
 
 impl<A: Allocator + Copy> Group<A> {
-    /// A group of so many items of which nothing was taken. It takes no memory.
+    /// A group with this many items, before its first record. It takes no memory.
     pub(crate) fn new(alloc: A, size: u16) -> Group<A>
         ensures { result ≡ record { size = size; list = []; forgotten = 0; decided = [] } }
     {
@@ -111,7 +111,7 @@ impl<A: Allocator + Copy> Group<A> {
 }
 
 impl<A: Allocator> Group<A> {
-    /// How many records were taken of it.
+    /// How many of its records were taken.
     pub(crate) fn taken(&self) -> u32
         ensures { result ≡ length self.now.list }
     {
@@ -139,7 +139,7 @@ impl<A: Allocator> Group<A> {
         self.items.forgotten()
     }
 
-    /// The divergent ones of the instances that are forgotten.
+    /// The divergent instances among the forgotten ones.
     pub(crate) fn decided(&self) -> &[Divergence]
         ensures { result.now ≡ self.now.decided }
     {
@@ -176,7 +176,7 @@ impl<A: Allocator> Group<A> {
         self.items.barrier_event(item, number)
     }
 
-    /// Whether it is known that all items which came to an instance said the same, and that all came where the group has ended.
+    /// Whether it is known that all items that came to an instance said the same, and that all came if the group has ended.
     #[inline(always)]
     pub(crate) fn none_differs(&self, number: u32) -> bool
         requires { self.now.forgotten ≤ number }
@@ -186,14 +186,14 @@ impl<A: Allocator> Group<A> {
             && self.items.none_differs(number, self.is_complete())
     }
 
-    /// The number among an item's releases of the event with this index, or `None` where that is no release.
+    /// Which of an item's releases the event with this index is, or `None` where it is no release.
     pub(crate) fn release_number(&self, item: u16, index: u32) -> Option<u32>
         ensures { IsNumberAmong model.is_release self.now.list item index result }
     {
         self.items.release_number(item, index)
     }
 
-    /// The number among an item's barriers of the event with this index, or `None` where that is no barrier.
+    /// Which of an item's barriers the event with this index is, or `None` where it is no barrier.
     pub(crate) fn barrier_number(&self, item: u16, index: u32) -> Option<u32>
         requires { IsIndexKeptOf self.now.forgotten self.now.list item index }
         ensures { IsNumberAmong model_barriers.is_barrier self.now.list item index result }
@@ -226,7 +226,7 @@ impl<A: Allocator> Group<A> {
         self.taken += 1;
     }
 
-    /// Forgets the least instance that is not forgotten, to which all items came, and which is not divergent.
+    /// Forgets the first instance that is not forgotten yet. All items came to it, and it is not divergent.
     pub(crate) fn forget(&mut self)
         requires came { (i : ℕ) → i < self.old.size → (p : ℕ) × (slice_get (places_from model_barriers.is_barrier 0 (filter (is_of i) self.old.list)) self.old.forgotten ≡ Some p) }
         requires few { self.old.forgotten < MOST_RECORDS }
@@ -235,7 +235,7 @@ impl<A: Allocator> Group<A> {
         self.items.forget();
     }
 
-    /// Forgets the least instance that is not forgotten, to which all items came, and which is divergent.
+    /// Forgets the first instance that is not forgotten yet. All items came to it, and it is divergent.
     ///
     /// # Errors
     /// `Memory`: out of memory. The group is then as it was.
@@ -250,8 +250,7 @@ impl<A: Allocator> Group<A> {
         Ok(())
     }
 
-    /// Frees what is kept of the last items, where no more is taken of the group, and nothing more is asked of them than how many
-    /// barriers they have.
+    /// Once the end was taken: frees what is kept of the last items, as far as it says no more than how many barriers they have.
     pub(crate) fn close(&mut self)
         ensures { self.new ≡ self.old }
     {

@@ -1,5 +1,5 @@
-//! One instance of a work-group's barriers, as far as it was taken: the barriers with number k of the group's items are its
-//! instance k (docs/MODEL.md, "Barriers").
+//! One instance of a work-group's barriers, as far as it was taken. The k-th barriers of the group's items are its instance k
+//! (docs/MODEL.md, "Barriers").
 
 ghost use Rattle.std.specs.Prelude.{◌≡◌, ◌↔◌, ◌<◌, ◌≤◌, true, IsTrue, MatchOption, is_some, length};
 ghost use Rattle.gr_model.specs.Barriers.{IsDivergent, arrivals, mark_of};
@@ -13,7 +13,7 @@ use gr_barriers::summary::Summary;
 use gr_model::event::{Event, ItemId, Kind};
 use std::alloc::Allocator;
 
-/// The record of an item's barrier of this number, if it was taken.
+/// The record of an item's barrier with this number, if it was taken.
 /// Requires: its instance is not forgotten.
 pub fn barrier<A: Allocator>(lanes: &Lanes<A>, item: ItemId, number: u32) -> Option<Event>
     requires { IsRemembered lanes.now item number }
@@ -30,7 +30,8 @@ pub fn has_mark_of(mine: &Event, other: &Event) -> bool
     other.kind == mine.kind && other.word == mine.word
 }
 
-/// Whether an item came to an instance, which is not forgotten, with the mark of a barrier.
+/// Whether an item came to an instance with the mark of a barrier.
+/// Requires: the instance is not forgotten.
 pub fn came_with<A: Allocator>(lanes: &Lanes<A>, item: ItemId, number: u32, mine: &Event) -> bool
     requires mark { is_some (mark_of mine.now) ≡ true }
     requires remembered { IsRemembered lanes.now item number }
@@ -57,7 +58,7 @@ fn mark_of(event: &Event) -> Option<Mark>
     }
 }
 
-/// What an item brought to an instance, if it came.
+/// The mark that an item brought to an instance, if it came.
 /// Requires: the instance is not forgotten.
 fn arrival<A: Allocator>(lanes: &Lanes<A>, item: ItemId, number: u32) -> Option<Mark>
     requires { IsRemembered lanes.now item number }
@@ -69,7 +70,7 @@ fn arrival<A: Allocator>(lanes: &Lanes<A>, item: ItemId, number: u32) -> Option<
     }
 }
 
-/// What a group's items brought to an instance, in sum.
+/// The marks that a group's items brought to an instance, in sum.
 /// Requires: the instance is not forgotten.
 pub fn summary<A: Allocator>(lanes: &Lanes<A>, group: u16, number: u32) -> Summary
     requires group { group < length lanes.now.streams.sizes }
@@ -83,7 +84,7 @@ pub fn summary<A: Allocator>(lanes: &Lanes<A>, group: u16, number: u32) -> Summa
     summary
 }
 
-/// Whether an instance is divergent. Of one that is, no more items are looked at than show it.
+/// Whether an instance is divergent. It stops at the first item that shows it.
 /// Requires: it is not forgotten.
 pub fn is_divergent<A: Allocator>(lanes: &Lanes<A>, group: u16, number: u32) -> bool
     requires group { group < length lanes.now.streams.sizes }

@@ -1,7 +1,7 @@
 //! What is kept of the items of a work-group.
 //!
-//! Invariant: each item's lane keeps its barriers but for those that are forgotten, and each barrier that said what the first of
-//! its instance did has such a first.
+//! Invariant: each item's lane keeps all its barriers that are not forgotten. For each barrier that said the same as the first
+//! barrier of its instance, that first one is kept.
 
 ghost use Rattle.std.specs.Prelude.{◌≡◌, ◌≢◌, ◌<◌, ◌≤◌, ◌+◌, ℕ, [], true, Some, IsTrue, IfOk, MatchOption, OnOk, OnErr, length, map, slice_get, slice_index_or};
 ghost use Rattle.std.specs.List.{list_all};
@@ -19,13 +19,13 @@ use std::alloc::{Allocator, Global};
 use std::collections::VecDeque;
 use std::marker::Model;
 
-/// What is kept of a group's items. Contracts see the index of each item's events, and how many of the group's first instances are
+/// What is kept of a group's items. Contracts see an index of each item's events, and how many of the group's first instances are
 /// forgotten.
 #[derive(Drop)]
 #[derive_where(Debug)]
 pub(crate) struct Items<A: Allocator = Global> {
     lanes: Vec<Lane<A>, A>,
-    /// Of each instance of the group's barriers that is not forgotten, what the first said that came to it.
+    /// For each instance that is not forgotten: what the first barrier said that came to it.
     firsts: VecDeque<Bare, A>,
     forgotten: u32,
 }
@@ -41,7 +41,7 @@ impl<A: Allocator> Model for Items<A> {
     ghost invariant = { λ t. AreLanes t.forgotten t.firsts.items t.lanes.items };
 }
 
-/// Whether each lane is as the first of an instance is.
+/// Whether each lane agrees with the first of an instance (`Lane::is_as_first`).
 #[inline(always)]
 fn are_as_first<A: Allocator>(lanes: &[Lane<A>], number: u32, ended: bool) -> bool
     ensures { result ≡ list_all (λ k. is_as_first number ended k) lanes.now }
@@ -49,7 +49,7 @@ fn are_as_first<A: Allocator>(lanes: &[Lane<A>], number: u32, ended: bool) -> bo
     lanes.iter().all(|lane| lane.is_as_first(number, ended))
 }
 
-/// Of each lane the first barrier is forgotten that is not, where so many are.
+/// Forgets one more barrier of each lane, where this many are forgotten.
 fn forget_one<A: Allocator>(lanes: &mut [Lane<A>], forgotten: u32)
     requires few { forgotten < 4_294_967_295 }
     ensures { lanes.new ≡ map (forgetting_one forgotten) lanes.old }
@@ -59,7 +59,7 @@ fn forget_one<A: Allocator>(lanes: &mut [Lane<A>], forgotten: u32)
     }
 }
 
-/// How many lanes are left without the last ones that are spent.
+/// How many lanes are left without the spent ones at the end.
 fn lanes_left<A: Allocator>(lanes: &[Lane<A>]) -> usize
     ensures within { result ≤ length lanes.now }
     ensures spent { (i : ℕ) → result ≤ i → i < length lanes.now → HasNothing (slice_index_or lanes.now i nothing_kept) }
@@ -83,7 +83,7 @@ impl<A: Allocator + Copy> Items<A> {
         }
     }
 
-    /// So many items without events.
+    /// This many items without events.
     ///
     /// # Errors
     /// `Memory`: out of memory.
@@ -102,7 +102,7 @@ impl<A: Allocator + Copy> Items<A> {
         })
     }
 
-    /// Makes so many items without events, where there are fewer.
+    /// Makes this many items without events, where there are fewer.
     ///
     /// # Errors
     /// `Memory`: out of memory. The items are then as they were.
@@ -175,8 +175,8 @@ impl<A: Allocator> Items<A> {
         }
     }
 
-    /// Whether it is known that all items which came to an instance said the same, and that all came where the group has ended. It
-    /// may answer false where they did.
+    /// Whether it is known that all items that came to an instance said the same, and that all came if the group has ended. It may
+    /// answer false though they did.
     #[inline(always)]
     pub(crate) fn none_differs(&self, number: u32, ended: bool) -> bool
         requires { self.now.forgotten ≤ number }
@@ -185,7 +185,7 @@ impl<A: Allocator> Items<A> {
         are_as_first(&self.lanes, number, ended)
     }
 
-    /// The number among an item's releases of the event with this index, or `None` where that is no release.
+    /// Which of an item's releases the event with this index is, or `None` where it is no release.
     pub(crate) fn release_number(&self, item: u16, index: u32) -> Option<u32>
         requires few { length (slice_index_or self.now.indices item no_index).releases < 4_294_967_296 }
         requires rise { AreRising (slice_index_or self.now.indices item no_index).releases }
@@ -197,7 +197,7 @@ impl<A: Allocator> Items<A> {
         }
     }
 
-    /// The number among an item's barriers of the event with this index, or `None` where that is no barrier.
+    /// Which of an item's barriers the event with this index is, or `None` where it is no barrier.
     pub(crate) fn barrier_number(&self, item: u16, index: u32) -> Option<u32>
         requires few { length (slice_index_or self.now.indices item no_index).barriers < 4_294_967_296 }
         requires rise { AreRising (slice_index_or self.now.indices item no_index).barriers }
@@ -271,7 +271,7 @@ impl<A: Allocator> Items<A> {
         Ok(())
     }
 
-    /// Forgets the least instance that is not forgotten, to which all items came.
+    /// Forgets the first instance that is not forgotten yet. All items came to it.
     pub(crate) fn forget(&mut self)
         requires came { (i : ℕ) → i < length self.old.indices → (p : ℕ) × (slice_get (slice_index_or self.old.indices i no_index).barriers self.old.forgotten ≡ Some p) }
         requires few { self.old.forgotten < 4_294_967_295 }
@@ -282,7 +282,7 @@ impl<A: Allocator> Items<A> {
         self.forgotten += 1;
     }
 
-    /// Frees the lanes of the last items, of whom nothing more is asked than how many barriers they have.
+    /// Frees the lanes of the last items, as far as they say no more than how many barriers their items have.
     pub(crate) fn close(&mut self)
         ensures lanes { Closes self.old.forgotten self.old.indices self.new.indices }
         ensures forgotten { self.new.forgotten ≡ self.old.forgotten }

@@ -1,4 +1,4 @@
-//! What a record is.
+//! Which records are releases, barriers and mere accesses.
 
 ghost use Rattle.std.specs.Prelude.{◌≡◌, ◌↔◌, IsTrue};
 ghost use Rattle.gr_model.specs.Access as model;

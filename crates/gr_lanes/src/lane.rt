@@ -1,9 +1,9 @@
 //! What is kept of one work-item's events.
 //!
-//! A lane knows how many events an item has, and which of them are releases and barriers. Of its releases it has the records.
-//! Of its barriers it has the indices of those whose instances are not forgotten. Most barriers say what the first of their
-//! instance said, which the group keeps once: a lane counts how many of its first barriers do or are forgotten, and has what
-//! those behind them said.
+//! A lane knows how many events an item has, and which of them are releases and barriers. It has the records of its releases,
+//! and the indices of those barriers whose instances are not forgotten. Most barriers say the same as the first barrier of their
+//! instance, which the group keeps once. So a lane counts how many of its first barriers are forgotten or say that, and keeps what
+//! the later ones said.
 
 ghost use Rattle.std.specs.Prelude.{◌≡◌, ◌≢◌, ◌<◌, ◌≤◌, ◌-◌, ℕ, Some, None, [], false, true, IsTrue, MatchOption, OnOk, OnErr, length, map, slice_get};
 ghost use Rattle.gr_lanes.specs.Indices.{AreRising};
@@ -23,15 +23,15 @@ use std::marker::Model;
 #[derive_where(Debug)]
 pub(crate) struct Lane<A: Allocator = Global> {
     count: u32,
-    /// How many of its first barriers are forgotten, or said what the firsts of their instances did.
+    /// How many of its first barriers are forgotten, or said the same as the first of their instance.
     alike: u32,
     releases: Vec<u32, A>,
     released: Vec<Event, A>,
     /// The indices of its barriers that are not forgotten.
     barriers: VecDeque<u32, A>,
-    /// What the barriers behind those that are alike said.
+    /// What the barriers after the alike ones said.
     apart: VecDeque<Bare, A>,
-    /// The indices of all its barriers, and their records.
+    /// The indices and the records of all its barriers.
     seen: History<u32>,
     said: History<Event>,
 }
@@ -44,7 +44,7 @@ impl<A: Allocator> Model for Lane<A> {
     ghost view = { λ l. record { index = record { count = l.count; releases = l.releases.items; barriers = l.seen; released = l.released.items; arrived = l.said }; barriers = l.barriers.items; alike = l.alike; apart = l.apart.items } };
 }
 
-/// The place of an index in a rising list of indices.
+/// The place of an index in a rising list.
 fn number_of(places: &[u32], index: u32) -> Option<u32>
     requires few { length places.now < 4_294_967_296 }
     requires rise { AreRising places.now }
@@ -56,7 +56,7 @@ fn number_of(places: &[u32], index: u32) -> Option<u32>
     }
 }
 
-/// The record that one of these barriers is of this item.
+/// The record of one of these barriers, for this item.
 fn of_item<A: Allocator>(said: &VecDeque<Bare, A>, item: u16, place: u32) -> Option<Event>
     ensures { result ≡ slice_get (map (kept.of_item item) said.now.items) place }
 {
@@ -94,7 +94,7 @@ impl<A: Allocator> Lane<A> {
         self.releases.get(number as usize).copied()
     }
 
-    /// The number among the item's releases of the one with this index.
+    /// Which of the item's releases has this index.
     pub(crate) fn release_number(&self, index: u32) -> Option<u32>
         requires few { length self.now.index.releases < 4_294_967_296 }
         requires rise { AreRising self.now.index.releases }
@@ -117,7 +117,7 @@ impl<A: Allocator> Lane<A> {
         self.barriers.get(place as usize).copied()
     }
 
-    /// The place among the item's barriers that are not forgotten of the one with this index.
+    /// Which of the item's barriers that are not forgotten has this index.
     pub(crate) fn barrier_place(&self, index: u32) -> Option<u32>
         requires few { length self.now.barriers < 4_294_967_296 }
         requires rise { AreRising self.now.barriers }
@@ -145,8 +145,8 @@ impl<A: Allocator> Lane<A> {
         self.releases.is_empty() && self.barriers.is_empty()
     }
 
-    /// The record of the barrier with this number, of this item, where so many are forgotten and these are the firsts of the
-    /// instances behind them.
+    /// The record of this item's barrier with this number. So many are forgotten, and `firsts` are the first barriers of the
+    /// instances after them.
     pub(crate) fn barrier_event(
         &self,
         firsts: &VecDeque<Bare, A>,
@@ -164,7 +164,7 @@ impl<A: Allocator> Lane<A> {
         of_item(&self.apart, item, number - self.alike)
     }
 
-    /// Whether the barrier with this number said what the first of its instance did; or where more may come, is not there yet.
+    /// Whether the barrier with this number said the same as the first of its instance, or is not there yet and may still come.
     #[inline(always)]
     pub(crate) fn is_as_first(&self, number: u32, ended: bool) -> bool
         ensures { result ≡ kept.is_as_first number ended self.now }
@@ -199,7 +199,7 @@ impl<A: Allocator> Lane<A> {
         Ok(())
     }
 
-    /// Adds the item's next barrier, which says what the first of its instance does.
+    /// Adds the item's next barrier, which says the same as the first of its instance.
     fn add_alike(&mut self, event: &Event) -> Result<(), Memory>
         requires few { self.old.index.count < 4_294_967_295 }
         requires alike { self.old.alike ≤ self.old.index.count }
@@ -215,7 +215,7 @@ impl<A: Allocator> Lane<A> {
         Ok(())
     }
 
-    /// Adds the item's next barrier, and what it says.
+    /// Adds the item's next barrier, and keeps what it says.
     fn add_apart(&mut self, event: &Event) -> Result<(), Memory>
         requires few { self.old.index.count < 4_294_967_295 }
         ensures ok { OnOk result (self.new ≡ apart_more self.old event.now) }
@@ -252,7 +252,7 @@ impl<A: Allocator> Lane<A> {
         Ok(())
     }
 
-    /// Adds the item's next barrier. So many instances are forgotten, and the firsts are those of the instances behind them.
+    /// Adds the item's next barrier. So many instances are forgotten, and `firsts` are the first barriers of those after them.
     ///
     /// # Errors
     /// `Memory`: out of memory. All is then as it was.
@@ -285,7 +285,7 @@ impl<A: Allocator> Lane<A> {
         }
     }
 
-    /// Forgets the first of the item's barriers that are not forgotten, where so many are.
+    /// Forgets the first of the item's barriers that is not forgotten yet, where this many are.
     pub(crate) fn forget(&mut self, forgotten: u32)
         requires few { forgotten < 4_294_967_295 }
         ensures { self.new ≡ forgetting_one forgotten self.old }

@@ -1,6 +1,6 @@
 //! What was taken of a launch's streams.
 //!
-//! Invariant: there is a group for each of the shape so far, of its size, and each has a prefix of a list that it may have.
+//! Invariant: there is a group for each size of the shape, with that size, and each has a prefix of a list that it may have.
 
 ghost use Rattle.std.specs.Prelude.{[], ◌≡◌, ◌≢◌, ◌↔◌, ◌<◌, ◌≤◌, ℕ, Some, IsTrue, IfOk, IfErr, MatchOption, OnOk, OnErr, filter, length, option_and_then};
 ghost use Rattle.gr_model.specs.declared.limits.TheConstants.{MOST_RECORDS};
@@ -26,9 +26,8 @@ use gr_model::shape::Shape;
 use std::alloc::{Allocator, Global};
 use std::marker::Model;
 
-/// What was taken of a launch's streams. Contracts see the groups' sizes and one list of records for each group, in the
-/// order in which they were taken, how many of the first instances of each group's barriers are forgotten, and which of these
-/// are divergent.
+/// What was taken of a launch's streams. Contracts see the sizes of the groups, the records of each group in the order in which
+/// they were taken, how many of the first instances of each group's barriers are forgotten, and which of those are divergent.
 #[derive(Drop)]
 #[derive_where(Debug)]
 pub struct Lanes<A: Allocator = Global> {
@@ -48,7 +47,7 @@ impl<A: Allocator> Model for Lanes<A> {
 }
 
 impl<A: Allocator + Copy> Lanes<A> {
-    /// The groups of a launch of which none has come. They take no memory.
+    /// A launch of which no group has come. It takes no memory.
     pub fn without_groups(alloc: A) -> Lanes<A>
         ensures streams { result.streams ≡ nothing_taken [] }
         ensures whole { IsWhole result }
@@ -59,7 +58,7 @@ impl<A: Allocator + Copy> Lanes<A> {
         }
     }
 
-    /// The groups of a shape, of which nothing was taken.
+    /// The groups of a shape, before their first records.
     ///
     /// # Errors
     /// `Memory`: out of memory.
@@ -76,8 +75,8 @@ impl<A: Allocator + Copy> Lanes<A> {
         Ok(Lanes { shape, groups })
     }
 
-    /// The same, where a group comes that has so many items. The groups below it that were not there are there, without items.
-    /// Requires: the group has not come, and is one that a launch may have beside the others.
+    /// The same with one more group, which has this many items. Groups below it that were not there come too, without items.
+    /// Requires: the group has not come, and a launch may have it together with the others.
     ///
     /// # Errors
     /// `Memory`: out of memory.
@@ -93,7 +92,7 @@ impl<A: Allocator + Copy> Lanes<A> {
     }
 }
 
-/// Puts a group of so many items in its place, and where groups below it are not there, groups without items before it.
+/// Puts a group with this many items in its place. Groups below it that are not there come too, without items.
 ///
 /// # Errors
 /// `Memory`: out of memory.
@@ -122,7 +121,7 @@ impl<A: Allocator> Lanes<A> {
         &self.shape
     }
 
-    /// How many records were taken of a group; 0 of one that is not there.
+    /// How many records of a group were taken; 0 where there is no such group.
     pub fn taken(&self, group: u16) -> u32
         ensures { result ≡ length (list_of self.now.streams group) }
     {
@@ -152,7 +151,7 @@ impl<A: Allocator> Lanes<A> {
         }
     }
 
-    /// How many of the first instances of a group's barriers are forgotten; none of one that is not there.
+    /// How many of the first instances of a group's barriers are forgotten; 0 where there is no such group.
     #[inline(always)]
     pub fn forgotten(&self, group: u16) -> u32
         ensures { result ≡ forgotten_of self.now group }
@@ -163,7 +162,7 @@ impl<A: Allocator> Lanes<A> {
         }
     }
 
-    /// The divergent ones of a group's instances that are forgotten.
+    /// The divergent instances among the forgotten ones of a group.
     pub fn decided(&self, group: u16) -> &[Divergence]
         requires { group < length self.now.streams.sizes }
         ensures { result.now ≡ decided_of self.now group }
@@ -171,7 +170,7 @@ impl<A: Allocator> Lanes<A> {
         self.groups[usize::from(group)].decided()
     }
 
-    /// The index in its item's trace of the release of this name, or `None` where no such release was taken.
+    /// The index of the release of this name in its item's trace, or `None` where no such release was taken.
     pub fn release_at(&self, name: Name) -> Option<u32>
         ensures { result ≡ release_place self.now.streams name }
     {
@@ -201,7 +200,7 @@ impl<A: Allocator> Lanes<A> {
         }
     }
 
-    /// The record of an item's barrier of this number, counted from 0, or `None` where no such barrier was taken.
+    /// The record of an item's barrier with this number, counted from 0, or `None` where no such barrier was taken.
     /// Requires: its instance is not forgotten.
     pub fn barrier_event(&self, item: ItemId, number: u32) -> Option<Event>
         requires { IsRemembered self.now item number }
@@ -213,8 +212,8 @@ impl<A: Allocator> Lanes<A> {
         }
     }
 
-    /// Whether it is known that all items which came to an instance of a group's barriers did with one site and the same flags, and
-    /// that all came where the group has ended. It is quick, and may answer false where they did.
+    /// Whether it is known that all items that came to an instance came with one site and the same flags, and that all came if the
+    /// group has ended. It is quick, and may answer false though they did.
     #[inline(always)]
     pub fn none_differs(&self, group: u16, number: u32) -> bool
         requires group { group < length self.now.streams.sizes }
@@ -227,8 +226,8 @@ impl<A: Allocator> Lanes<A> {
         }
     }
 
-    /// The index in its item's trace of an item's barrier of this number, counted from 0, or `None` where no such barrier
-    /// was taken.
+    /// The index of an item's barrier with this number, counted from 0, in the item's trace, or `None` where no such barrier was
+    /// taken.
     /// Requires: its instance is not forgotten.
     pub fn barrier_at(&self, item: ItemId, number: u32) -> Option<u32>
         requires { IsRemembered self.now item number }
@@ -240,7 +239,7 @@ impl<A: Allocator> Lanes<A> {
         }
     }
 
-    /// The number among its item's releases of an event, or `None` where it is no release.
+    /// Which of its item's releases an event is, or `None` where it is no release.
     pub fn release_number(&self, event: EventId) -> Option<u32>
         ensures { MatchOption result ((k : ℕ) → place_of self.now.streams is_release event.at k ≢ Some event.index) (λ k. place_of self.now.streams is_release event.at k ≡ Some event.index) }
     {
@@ -250,7 +249,7 @@ impl<A: Allocator> Lanes<A> {
         }
     }
 
-    /// The number among its item's barriers of an event, or `None` where it is no barrier.
+    /// Which of its item's barriers an event is, or `None` where it is no barrier.
     /// Requires: its instance is not forgotten.
     pub fn barrier_number(&self, event: EventId) -> Option<u32>
         requires { IsEventRemembered self.now event }
@@ -291,7 +290,8 @@ impl<A: Allocator> Lanes<A> {
         None
     }
 
-    /// Takes the next record of a group, which may be taken, is a mere access and not its first record. It takes no memory.
+    /// Takes the next record of a group. It may be taken, and is a mere access and not the group's first record. This takes no
+    /// memory.
     pub fn take_access(&mut self, group: u16, event: &Event)
         requires can { CanTake self.old.streams group event.now }
         requires access { IsMereAccess event.now }
@@ -345,8 +345,7 @@ impl<A: Allocator> Lanes<A> {
         Ok(())
     }
 
-    /// Forgets the least instance of a group's barriers that is not forgotten, to which all its items came. It is told as one that
-    /// is not divergent.
+    /// Forgets the first instance of a group's barriers that is not forgotten yet. All items came to it. It counts as not divergent.
     pub fn forget(&mut self, group: u16)
         requires { HaveAllCome self.old.streams group (forgotten_of self.old group) }
         ensures forgotten { self.new ≡ forgetting self.old group }
@@ -354,7 +353,7 @@ impl<A: Allocator> Lanes<A> {
         self.groups[usize::from(group)].forget();
     }
 
-    /// Forgets the least instance of a group's barriers that is not forgotten, to which all its items came. It is kept as this
+    /// Forgets the first instance of a group's barriers that is not forgotten yet. All items came to it. It is kept as this
     /// divergence.
     ///
     /// # Errors
@@ -368,8 +367,8 @@ impl<A: Allocator> Lanes<A> {
         Ok(())
     }
 
-    /// Frees what is kept of a group's last items, where no more is taken of the group, and nothing more is asked of them than how
-    /// many barriers they have.
+    /// Once a group's end was taken: frees what is kept of its last items, as far as it says no more than how many barriers they
+    /// have.
     pub fn close(&mut self, group: u16)
         ensures { self.new ≡ self.old }
     {

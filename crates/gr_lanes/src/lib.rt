@@ -1,5 +1,5 @@
-//! What was taken of a launch's streams: how many records of each work-group, and of each work-item its releases and its
-//! barriers. Of other records nothing is kept.
+//! What was taken of a launch's streams: the number of records of each work-group, and the releases and barriers of each
+//! work-item. Nothing is kept of other records.
 #![tactic(auto)]
 
 mod bare;

@@ -7,7 +7,7 @@ use gr_model::memory::Memory;
 use std::alloc::AllocError;
 use thiserror::Error;
 
-/// Why a record is not taken: the first cause of these that is there.
+/// Why a record is not taken: the first of these causes that holds.
 #[derive(Clone, Copy, Debug, PartialEq, Eq, Error)]
 pub enum SeqError {
     #[error("no such group")]

@@ -108,12 +108,12 @@ module _ (s : Streams) where
         (λ u p. (p.0, before_more g i u.event.at p.1))
         (λ u p. grind (arith, before_cases g i u.event.at p.1, one_acquire s u v p.0 unmatched, at, p.0))
 
-    -- behind its last item a group is done
+    -- after its last item a group is done
     pub group_done : ArePrefixes s → size_of s g ≤ i → AreUnmatchedBefore s (g + 1) 0 us
     group_done prefixes all = listed_same UnmatchedBelow (Found g i) (Found (g + 1) 0) us found (λ u p. (p.0, grind (arith, p.1)))
         (λ u p. (p.0, grind (arith, p.1, item_of_event s prefixes u.event p.0.unmatched.event.0 p.0.unmatched.event.1)))
 
-    -- and behind the last group all are found
+    -- and after the last group all are found
     pub all_found : ArePrefixes s → length s.sizes ≤ g → Lists UnmatchedBelow (IsUnmatchedEntry s) us
     all_found prefixes all = listed_same UnmatchedBelow (Found g i) (IsUnmatchedEntry s) us found (λ u p. p.0)
         (λ u p. (p, inl (let lt : u.event.at.group < g = omega (arith, group_of_event s prefixes u.event p.unmatched.event.0 p.unmatched.event.1) in lt)))

@@ -1,4 +1,4 @@
--- A record that is taken and whose event is handled at once: the two steps, one behind the other.
+-- A record that is taken and whose event is handled at once: the two steps, one after the other.
 use Rattle.std.proofs.Common.{◌≡◌, ◌≢◌, ◌⊎◌, ℕ, ◌+◌, ◌<◌, false, List, [], ◌∷◌, ◌++◌, length, get_or, Some, None, drop, slice_get, not, refl, sym, ap, ◌∙◌, subst, arith, append-nil}
 use Rattle.std.proofs.lemmas.Grind.{common_steps}
 use Rattle.std.proofs.Math.ListN.{drop_of_length-le}

@@ -82,7 +82,7 @@ module _ (s : Streams) (order : List EventId) (frontier : Counts) (first_ones : 
           let b = barrier_of s g k a meeting.convergent i lt in
           b.1.place ∙ ap Some (index_of_barrier (record { at = item_at g i; index = b.0 }) b.1)
 
-  -- so it is told which instance may meet
+  -- so it is known which instance may meet
   pub meeting_of : (o : Option ℕ) → MatchOption o ((k : ℕ) → ¬ IsNextInstance s frontier g k) (λ k. IsNextInstance s frontier g k) → MatchOption o (¬ CanMeet s order g) (λ k. (a : Mark) × IsMeeting s order g k a)
   meeting_of None none = λ can. none can.0 (meets_next can.0 can.1 can.2)
   meeting_of (Some k) next = next_meets k next

@@ -45,7 +45,7 @@ module _ (old now : Counts) (g n : ℕ) (ticks : TicksItems old g n now) where
     others = λ j beyond. grind (arith, tick_stays tick j, ticks.others j);
   }
 
--- ---- what stands among the next events
+-- ---- what is among the next events
 
 module _ (frontier : Counts) (g n : ℕ) where
   pub next_count : length (next_events frontier g n) ≡ n
@@ -57,7 +57,7 @@ module _ (frontier : Counts) (g n : ℕ) where
   next_at : (i : ℕ) → i < n → slice_get (next_events frontier g n) i ≡ Some (next_event frontier (item_of g i))
   next_at i lt = grind (arith, gets, next_count, next_is i)
 
-  -- ---- the handled events and the clock behind them
+  -- ---- the handled events and the clock after them
 
   module _ (order : List EventId) (first : AreBelowFrontier order frontier) (new : Counts) (ticks : TicksItems frontier g n new) where
     count_here : (j : ItemId) → j.group ≡ g → j.item < n → count_of new j ≡ count_of frontier j + 1

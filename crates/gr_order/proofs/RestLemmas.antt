@@ -31,7 +31,7 @@ not_at_rest : (q : Sequence) (r : Ready) → CanMake q r → ¬ IsAtRest q.taken
 not_at_rest q (Item i) can rest = rest.handles i can
 not_at_rest q (Group g) can rest = rest.meets g can
 
--- b tells that no step can be made
+-- b says that no step can be made
 module _ (q : Sequence) where
   pub rest_if_none : (o : Option Ready) (b : Bool) → is_some o ≡ not b → MatchOption o (IsDone q) (λ r. CanMake q r) → IsTrue b ↔ IsAtRest q.taken q.handled
   rest_if_none o b e done = grind (arith, not_at_rest q)

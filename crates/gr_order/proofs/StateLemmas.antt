@@ -80,7 +80,7 @@ more_in order e d (inr same) = (length order + 0, at_behind order (e ∷ []) 0 d
 pub item_cases : (i j : ItemId) → (i ≡ j) ⊎ (i ≡ j → ⊥)
 item_cases i j = grind (arith, common_steps, same_items, same_true)
 
--- what a clock counts behind a tick
+-- what a clock counts after a tick
 module _ {old : Counts} {i : ItemId} {new : Counts} (tick : IsTick old i new) where
   pub tick_more : count_of new i ≡ count_of old i + 1
   tick_more = omega (arith, tick.counts i, tick_here i i refl)

@@ -119,7 +119,7 @@ items_put h sizes g n absent none =
     same : (k : ℕ) → group_sum h (put 0 sizes g n) k ≡ group_sum h sizes k
     same k = grind (arith, cases_eq k g, put_other 0 sizes g n k, total_none (λ i. h (item_of g i)) 0 (get_or (put 0 sizes g n) g 0) (λ i ge lt. none i))
 
--- a list that counts for nothing may stand between others
+-- a list that counts for nothing may be between others
 pub sum_put_again : {X : Type 0} (f : List X → ℕ) (xs : List (List X)) (g : ℕ) → f [] ≡ 0 → sum_by f (put [] xs g (get_or xs g [])) ≡ sum_by f xs
 sum_put_again f [] zero none = omega (arith, sum_by-cons f [] [], none)
 sum_put_again {X} f [] (suc g) none = let blank : List (List X) = [] in omega (arith, sum_put_again f blank g none, sum_by-cons f [] (put [] blank g []), none)

@@ -1,4 +1,4 @@
--- Which record's event can be handled as soon as it is taken.
+-- Which records' events can be handled as soon as they are taken.
 -- Source: docs/MODEL.md, "Steps".
 use Rattle.std.specs.Prelude.{◌≡◌, ◌≢◌, ℕ, []}
 use Rattle.gr_model.specs.declared.event.Event.{Event}
@@ -8,8 +8,8 @@ use Rattle.gr_model.specs.Streams.{IsEvent, list_of}
 use Rattle.gr_lanes.specs.Takes.{CanTake, IsMereAccess, next_of}
 use Rattle.gr_order.specs.Sequences.{Sequence}
 
--- a record of a group may be taken and is not its first, it is a mere access, and all that was taken of its item was handled: its event can
--- be handled at once
+-- a record of a group may be taken, is not its first, and is a mere access; and all events of its item were handled. So its event can be
+-- handled at once
 pub record GoesAtOnce (q : Sequence) (g : ℕ) (x : Event) : Type 0 where
   pub can : CanTake q.taken g x
   pub access : IsMereAccess x

@@ -1,4 +1,4 @@
--- What is looked at to tell whether an item's next event may be handled.
+-- What decides whether an item's next event may be handled.
 use Rattle.std.specs.Prelude.{◌≡◌, ℕ, ◌<◌, ◌⊎◌, All, Option, None, Some}
 use Rattle.gr_model.specs.declared.event.Event.{Event}
 use Rattle.gr_model.specs.declared.event.EventId.{EventId}
@@ -16,7 +16,7 @@ use Rattle.gr_clocks.specs.Counts.{Counts, count_of}
 abbrev pub CameAlike : Streams → ℕ → ℕ → Option Mark → ℕ → Type 0
 CameAlike s g k mine i = (arrivals s g k i ≡ mine) ⊎ (arrivals s g k i ≡ None)
 
--- an item's next event is its barrier of this number, and it came with this mark
+-- an item's next event is its barrier with this number, and it came with this mark
 pub record StandsNext (s : Streams) (frontier : Counts) (g k : ℕ) (mine : Option Mark) (i : ℕ) : Type 0 where
   pub place : place_of s is_barrier (record { group = g; item = i }) k ≡ Some (count_of frontier (record { group = g; item = i }))
   pub mark : arrivals s g k i ≡ mine
@@ -27,7 +27,7 @@ pub record IsNextInstance (s : Streams) (frontier : Counts) (g k : ℕ) : Type 0
   pub some : 0 < size_of s g
   pub each : (i : ℕ) → i < size_of s g → StandsNext s frontier g k (Some mark) i
 
--- each instance in which an event stands is divergent
+-- each instance to which an event belongs is divergent
 abbrev pub MayPass : Streams → EventId → Type 0
 MayPass s e = (g k : ℕ) → StandsIn s e g k → IsDivergent s g k
 
@@ -41,6 +41,6 @@ pub record IsReleased (s : Streams) (frontier : Counts) (group : ℕ) (x : Event
   pub word : event_word group x ≡ word_at s release
   pub handled : release.index < count_of frontier release.at
 
--- so is the release of each name that it has
+-- the release of each name of the event was handled, and has its word
 abbrev pub AreReleased : Streams → Counts → ℕ → Event → Type 0
 AreReleased s frontier group x = All (IsReleased s frontier group x) x.names

@@ -22,7 +22,7 @@ pub record IsSequence (q : Sequence) : Type 0 where
   pub prefixes : ArePrefixes q.taken
   pub lawful : IsLawful q.taken q.handled
 
--- groups of these sizes, of which nothing was taken
+-- groups of these sizes, before their first records
 abbrev pub nothing : List ℕ → Sequence
 nothing sizes = record { taken = nothing_taken sizes; handled = [] }
 
@@ -30,7 +30,7 @@ nothing sizes = record { taken = nothing_taken sizes; handled = [] }
 abbrev pub taking : Sequence → ℕ → Event → Sequence
 taking q g x = record { taken = with_record q.taken g x; handled = q.handled }
 
--- a group has so many items, and nothing more was taken or handled
+-- a group with this many items comes, and nothing more was taken or handled
 abbrev pub with_group : Sequence → ℕ → ℕ → Sequence
 with_group q g n = record { taken = model.with_group q.taken g n; handled = q.handled }
 
@@ -46,7 +46,7 @@ pub record MeetsInstance (old : Sequence) (g k : ℕ) (new : Sequence) : Type 0 
   pub taken : new.taken ≡ old.taken
   pub meets : Meets old.taken old.handled g k new.handled
 
--- and that is whichever of the group could meet
+-- whichever instance of the group could meet has met
 abbrev pub MeetsNext : Sequence → ℕ → Sequence → Type 0
 MeetsNext old g new = (k : ℕ) (a : Mark) → IsMeeting old.taken old.handled g k a → MeetsInstance old g k new
 
@@ -66,6 +66,6 @@ pub record IsDone (q : Sequence) : Type 0 where
 
 -- ---- what is counted
 
--- how many events were taken, ends aside
+-- how many events were taken, without ends
 abbrev pub event_count : Streams → ℕ
 event_count s = sum_by (λ list. length (filter (λ x. not (is_end x)) list)) s.lists

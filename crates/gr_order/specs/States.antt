@@ -1,4 +1,4 @@
--- How an order knows which events were handled: by how many of each item.
+-- How an order knows which events were handled: it counts those of each item.
 use Rattle.std.specs.Prelude.{◌≡◌, ◌↔◌, ℕ, ◌+◌, ◌<◌, List, length, map}
 use Rattle.std.specs.List.{range_with_len, sum_by}
 use Rattle.gr_model.specs.declared.event.EventId.{EventId}
@@ -17,7 +17,7 @@ counted_in frontier sizes = sum_by (λ i. count_of frontier i) (items_of sizes)
 abbrev pub AreBelowFrontier : List EventId → Counts → Type 0
 AreBelowFrontier handled frontier = (e : EventId) → IsIn handled e ↔ (e.index < count_of frontier e.at)
 
--- the clock counts the handled events, and held is how many were taken besides
+-- the clock counts the handled events, and held is the number of the others that were taken
 pub record IsOrderState (q : Sequence) (frontier : Counts) (held : ℕ) : Type 0 where
   pub sequence : IsSequence q
   pub shape : sizes_of frontier ≡ q.taken.sizes
@@ -35,7 +35,7 @@ next_event frontier i = record { at = i; index = count_of frontier i }
 abbrev pub next_events : Counts → ℕ → ℕ → List EventId
 next_events frontier g n = map (λ k. next_event frontier (item_of g k)) (range_with_len 0 n)
 
--- after counts one more event of each of the first n items of a group than before
+-- after counts one event more than before, for each of the first n items of a group
 pub record TicksItems (before : Counts) (g n : ℕ) (after : Counts) : Type 0 where
   pub shape : sizes_of after ≡ sizes_of before
   pub items : (k : ℕ) → k < n → count_of after (item_of g k) ≡ count_of before (item_of g k) + 1

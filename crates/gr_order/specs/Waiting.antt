@@ -19,12 +19,12 @@ is_at g x i = (i.group == g) && is_of i.item x
 abbrev pub added : ℕ → Event → ItemId → List Event
 added g x i = if is_at g x i then x ∷ [] else []
 
--- one record more of a group is kept, behind the others of its item
+-- one more record of a group is kept, after the others of its item
 pub record Keeps (old : Table) (g : ℕ) (x : Event) (new : Table) : Type 0 where
   pub shape : map length new ≡ map length old
   pub each : (i : ItemId) → window_of new i ≡ window_of old i ++ added g x i
 
--- of each item the same events wait
+-- the same events of each item wait
 pub record AreSame (old new : Table) : Type 0 where
   pub shape : map length new ≡ map length old
   pub each : (i : ItemId) → window_of new i ≡ window_of old i

@@ -1,7 +1,7 @@
-//! The acquires that are never reached though all before them in their items are.
+//! The acquires that are never reached, though all events before them in their items are.
 //!
-//! The events of each item that were handled are its first ones. Once they are the grounded ones, the only event of an item
-//! that can be unmatched is the next.
+//! The handled events of each item are its first ones. Once they are the grounded ones, only the next event of an item can be
+//! unmatched.
 
 ghost use Rattle.std.specs.Prelude.{◌≡◌, ◌≢◌, ◌↔◌, ◌<◌, ◌+◌, Any, IfOk, IsTrue, MatchOption, OnOk, Some, length};
 ghost use Rattle.gr_model.specs.declared.report.Unmatched.{Unmatched as Finding};
@@ -34,7 +34,7 @@ fn is_absent<B: Allocator>(lanes: &Lanes<B>, name: Name) -> bool
     lanes.release_at(name).is_none()
 }
 
-/// Whether the release of this name is there, with another word than this.
+/// Whether the release of this name is there, with a word other than this.
 fn is_elsewhere<B: Allocator>(lanes: &Lanes<B>, name: Name, word: Option<Word>) -> bool
     ensures { IsTrue result ↔ IsElsewhere lanes.now.streams word name }
 {
@@ -51,14 +51,14 @@ fn has_absent<B: Allocator>(lanes: &Lanes<B>, names: &[Name]) -> bool
     names.iter().any(|name| is_absent(lanes, *name))
 }
 
-/// Whether the release of one of these names is there, with another word than this.
+/// Whether the release of one of these names is there, with a word other than this.
 fn has_elsewhere<B: Allocator>(lanes: &Lanes<B>, names: &[Name], word: Option<Word>) -> bool
     ensures { IsTrue result ↔ Any (IsElsewhere lanes.now.streams word) names.now }
 {
     names.iter().any(|name| is_elsewhere(lanes, *name, word))
 }
 
-/// Why an acquire of these names that is never reached is unmatched.
+/// Why an acquire with these names is unmatched, if it is never reached.
 fn cause<B: Allocator>(
     lanes: &Lanes<B>,
     acquire: EventId,
@@ -78,7 +78,7 @@ fn cause<B: Allocator>(
     }
 }
 
-/// The unmatched acquire of an item, if it has one: it has one at most.
+/// The unmatched acquire of an item, if it has one. No item has more.
 fn unmatched_of<B: Allocator>(
     lanes: &Lanes<B>,
     frontier: &Tally<B>,
@@ -126,8 +126,8 @@ fn add_group<A: Allocator, B: Allocator>(
     Ok(())
 }
 
-/// The unmatched acquires with their causes, by group and then by item. The grounded events of each item are its first ones,
-/// as many as the frontier counts, and the others wait.
+/// The unmatched acquires with their causes, by group and then by item. The grounded events of each item are its first ones, as
+/// many as the frontier counts; the others wait.
 ///
 /// # Errors
 /// `Memory`: out of memory.

@@ -1,4 +1,4 @@
-//! Which instances of barriers are forgotten: of each group the least ones, once all its items have passed them.
+//! Which instances of barriers are forgotten: the first ones of each group, once all its items have passed them.
 
 ghost use Rattle.std.specs.Prelude.{◌≡◌, ◌<◌, ◌≤◌, ℕ, IsTrue, MatchOption, ⊤, length};
 ghost use Rattle.gr_model.specs.Streams.{size_of};
@@ -14,7 +14,7 @@ use gr_model::memory::Memory;
 use gr_model::report::Divergence;
 use std::alloc::Allocator;
 
-/// Forgets the instance of a group whose barriers are the next events of its items, if it is the least one remembered.
+/// Forgets the instance whose barriers are the next events of a group's items, if it is the first one remembered.
 pub(crate) fn forget_next<A: Allocator>(lanes: &mut Lanes<A>, frontier: &Tally<A>, group: u16)
     requires { (k : ℕ) × IsNextInstance lanes.old.streams frontier.now group k }
     ensures { ForgetsNext lanes.old frontier.now group lanes.new }
@@ -47,7 +47,7 @@ fn has_passed<A: Allocator>(
     }
 }
 
-/// The first item of a group, from this one on, that has not passed the least instance remembered, if there is one.
+/// The first item of a group, from this one on, that has not passed the first instance remembered, if there is one.
 fn first_behind<A: Allocator>(
     lanes: &Lanes<A>,
     frontier: &Tally<A>,
@@ -66,7 +66,7 @@ fn first_behind<A: Allocator>(
     None
 }
 
-/// Whether all items of a group have passed the least instance remembered, and there are some.
+/// Whether a group has items and all of them have passed the first instance remembered.
 fn have_all_passed<A: Allocator>(lanes: &Lanes<A>, frontier: &Tally<A>, group: u16) -> bool
     requires { group < length lanes.now.streams.sizes }
     ensures { IsTrue result → HaveAllPassed lanes.now.streams frontier.now group (forgotten_of lanes.now group) }
@@ -74,8 +74,8 @@ fn have_all_passed<A: Allocator>(lanes: &Lanes<A>, frontier: &Tally<A>, group: u
     lanes.shape().items(group) != 0 && first_behind(lanes, frontier, group, 0).is_none()
 }
 
-/// Forgets the least instance of a group that is remembered, if all its items have passed it. A divergent one for which there is
-/// no room stays.
+/// Forgets the first instance of a group that is remembered, if all items have passed it. A divergent one stays where memory is
+/// short.
 fn forget_passed<A: Allocator>(lanes: &mut Lanes<A>, frontier: &Tally<A>, group: u16)
     requires { group < length lanes.old.streams.sizes }
     ensures { ForgetsPassed lanes.old frontier.now group lanes.new }
@@ -99,8 +99,8 @@ fn forget_passed<A: Allocator>(lanes: &mut Lanes<A>, frontier: &Tally<A>, group:
     }
 }
 
-/// Forgets the least instance of a group that is remembered, once all its items have passed it. It begins to look at the item
-/// that had not when it last looked, so that it looks at each item once, and at all of them once more at the end.
+/// Forgets the first instance of a group that is remembered, once all items have passed it. It starts at the item that had not when
+/// it looked last. So it looks at each item once, and at all of them once more at the end.
 pub(crate) fn forget_if_passed<A: Allocator>(
     lanes: &mut Lanes<A>,
     frontier: &Tally<A>,

@@ -1,6 +1,6 @@
 //! The divergent instances of barriers.
 //!
-//! The barriers with number k of a group's items are its instance k (docs/MODEL.md, "Barriers").
+//! The k-th barriers of a group's items are its instance k (docs/MODEL.md, "Barriers").
 
 ghost use Rattle.std.specs.Prelude.{◌<◌, ◌≤◌, ◌+◌, IfOk, MatchOption, OnOk, length};
 ghost use Rattle.gr_model.specs.Barriers.{IsDivergent, arrivals};
@@ -29,9 +29,8 @@ pub fn cause<B: Allocator>(lanes: &Lanes<B>, group: u16, number: u32) -> Option<
     summary(lanes, group, number).cause(lanes.is_complete(group))
 }
 
-/// Adds the divergent instances of a group to those of the groups before it. Those that are
-/// forgotten are kept, no item has more barriers than its group has records, and behind an instance to which nobody came there
-/// is none.
+/// Adds the divergent instances of a group to those of the groups before it. The forgotten ones are kept. No item has more barriers
+/// than its group has records, and there is no instance after one to which nobody came.
 fn add_group<A: Allocator, B: Allocator>(
     lanes: &Lanes<B>,
     group: u16,
@@ -60,7 +59,7 @@ fn add_group<A: Allocator, B: Allocator>(
 }
 
 /// The divergent instances with their causes, by group and then by instance.
-/// Requires: of the instances that are forgotten the divergent ones are kept.
+/// Requires: the divergent ones among the forgotten instances are kept.
 ///
 /// # Errors
 /// `Memory`: out of memory.

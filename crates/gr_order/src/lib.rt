@@ -1,6 +1,6 @@
-//! The order in which a launch's events are handled: each after all that it waits for, and the barriers of a convergent
-//! instance together; and what of the report can be read off the lists that were taken and the counts of the handled events:
-//! cut streams, divergent barrier instances, unmatched acquires. Nothing here knows of what happens before what.
+//! The order in which a launch's events are handled: each after all that it waits for, and the barriers of a convergent instance
+//! together. Also those parts of the report that follow from the taken records and the counts of the handled events: cut streams,
+//! divergent barrier instances and unmatched acquires. Nothing here knows the happens-before relation.
 #![tactic(auto)]
 
 pub mod acquires;

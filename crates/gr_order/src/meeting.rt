@@ -27,7 +27,7 @@ pub(crate) fn add_next_events<A: Allocator>(
     }
 }
 
-/// Counts the next event of each of so many items of a group.
+/// Counts the next event of each of the first items of a group.
 pub(crate) fn count_next_events<A: Allocator>(frontier: &mut Tally<A>, group: u16, items: u16)
     requires group { group < length (sizes_of frontier.old) }
     requires items { items ≤ slice_index (sizes_of frontier.old) group }

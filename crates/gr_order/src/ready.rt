@@ -1,5 +1,4 @@
-//! What is looked at to tell whether an item's next event may be handled: the instance of a barrier, and the releases that
-//! an acquire names.
+//! Whether an item's next event may be handled. For a barrier its instance decides, for an acquire the releases that it names.
 
 ghost use Rattle.std.specs.Prelude.{◌≡◌, ◌↔◌, ◌<◌, ◌≤◌, [], true, false, IsTrue, MatchOption, Some, is_some, length, ℕ};
 ghost use Rattle.gr_model.specs.Barriers as model_barriers;
@@ -19,14 +18,14 @@ use gr_model::event::{Event, EventId, ItemId, Name, Word, word_of};
 use gr_windows::windows::Windows;
 use std::alloc::Allocator;
 
-/// Whether two events access one word, or neither is an access.
+/// Whether two events access the same word, or neither is an access.
 fn is_same(mine: Option<Word>, other: Option<Word>) -> bool
     ensures { IsTrue result ↔ (mine ≡ other) }
 {
     mine == other
 }
 
-/// Whether the release of a name was handled and has the word of the event that has the name.
+/// Whether the release of an acquire's name was handled and has the acquire's word.
 fn is_released<A: Allocator>(
     lanes: &Lanes<A>,
     frontier: &Tally<A>,
@@ -45,7 +44,7 @@ fn is_released<A: Allocator>(
     }
 }
 
-/// Whether each release that an event of a group names was handled and has its word.
+/// Whether each release that an event of a group names was handled and has the event's word.
 fn has_its_releases<A: Allocator>(
     lanes: &Lanes<A>,
     frontier: &Tally<A>,
@@ -98,7 +97,7 @@ pub(crate) fn is_ready<A: Allocator>(
     has_its_releases(lanes, frontier, event.at.group, taken) && may_pass(lanes, event, taken)
 }
 
-/// Whether an item, which came to an instance, did with the mark of another. It may be known that all who came did.
+/// Whether an item that came to an instance has the mark of `mine`. If `are_alike`, all who came have it.
 #[inline(always)]
 fn has_mark<A: Allocator>(
     lanes: &Lanes<A>,
@@ -116,7 +115,7 @@ fn has_mark<A: Allocator>(
     are_alike || came_with(lanes, item, number, mine)
 }
 
-/// Whether an item's next event is its barrier of this number, and has the mark of another. It may be known that all who came to that
+/// Whether an item's next event is its barrier with this number, and has the mark of `mine`. If `are_alike`, all who came to that
 /// instance have it.
 #[inline(always)]
 fn stands_next<A: Allocator>(
@@ -140,7 +139,7 @@ fn stands_next<A: Allocator>(
     }
 }
 
-/// Whether the next event of each item of a group is its barrier of this number, and has the mark of one of them.
+/// Whether the next event of each item of a group is its barrier with this number, and has the mark of `mine`, one of them.
 fn all_stand_next<A: Allocator>(
     lanes: &Lanes<A>,
     frontier: &Tally<A>,
@@ -163,7 +162,7 @@ fn all_stand_next<A: Allocator>(
     true
 }
 
-/// The instance of a group whose barriers are the next events of all its items, with one mark, if there is one.
+/// The instance of a group whose barriers are the next events of all items and have one mark, if there is one.
 pub(crate) fn next_instance<A: Allocator>(
     lanes: &Lanes<A>,
     frontier: &Tally<A>,

@@ -1,9 +1,8 @@
 //! What was taken of a launch's streams, and the order in which its events were handled.
 //!
-//! Invariant: the order is lawful, and the handled events of each item are its first ones. How many they are is counted by
-//! a tally, the frontier. Of each item the other events are kept, from the first that was not handled on, and no longer. The
-//! barriers of the instances that are forgotten were handled, and those of these that are divergent are kept. The order
-//! itself exists in proofs alone: no memory holds it, and no step needs any.
+//! Invariant: the order is lawful, and the handled events of each item are its first ones. A tally, the frontier, counts them. The
+//! other events of each item are kept until they are handled. All barriers of forgotten instances were handled, and the divergent
+//! ones among these instances are kept. The order itself exists only in proofs: no memory holds it, and no step needs any.
 
 ghost use Rattle.std.specs.Prelude.{[], ◌≡◌, ◌+◌, ◌<◌, IsOkUnless, IfOk, IfErr, IfSome, OnOk, MatchOption, OnErr, length, IsTrue, not, ◌↔◌};
 ghost use Rattle.gr_model.specs.declared.limits.TheConstants.{MOST_RECORDS};
@@ -52,7 +51,7 @@ pub struct Schedule<A: Allocator = Global> {
     frontier: Tally<A>,
     windows: Windows<A>,
     held: u64,
-    /// Of each group the item that had not passed the least instance remembered when that was last looked at.
+    /// For each group the item that had not passed the first instance remembered at the last look.
     lagging: Vec<u16, A>,
 }
 
@@ -75,7 +74,7 @@ fn is_event(event: &Event) -> bool
 }
 
 impl<A: Allocator + Copy> Schedule<A> {
-    /// The order of a launch of this shape, of which nothing was taken.
+    /// The order of a launch of this shape, before its first record.
     ///
     /// # Errors
     /// `Memory`: out of memory.
@@ -96,7 +95,7 @@ impl<A: Allocator + Copy> Schedule<A> {
         Schedule::of_lanes(alloc, Lanes::without_groups(alloc))
     }
 
-    /// The order of groups of which nothing was taken.
+    /// The order of these groups, before their first records.
     ///
     /// # Errors
     /// `Memory`: out of memory.
@@ -124,9 +123,8 @@ impl<A: Allocator + Copy> Schedule<A> {
         })
     }
 
-    /// The order, where a group comes that has so many items. The groups below it that were not there are there, without
-    /// items.
-    /// Requires: the group has not come, and is one that a launch may have beside the others.
+    /// The order with one more group, which has this many items. Groups below it that were not there come too, without items.
+    /// Requires: the group has not come, and a launch may have it together with the others.
     ///
     /// # Errors
     /// `Memory`: out of memory.
@@ -163,7 +161,7 @@ impl<A: Allocator + Copy> Schedule<A> {
 }
 
 impl<A: Allocator> Schedule<A> {
-    /// What was taken of the launch's streams. What is forgotten of it was handled.
+    /// What was taken of the launch's streams. All that is forgotten of it was handled.
     pub fn lanes(&self) -> &Lanes<A>
         ensures taken { result.now.streams ≡ self.now.taken }
         ensures forgets { ForgetsHandled result.now self.now.handled }
@@ -172,7 +170,7 @@ impl<A: Allocator> Schedule<A> {
         &self.lanes
     }
 
-    /// What was handled is a lawful order of events that were taken. It does nothing: a proof calls it for what it says.
+    /// What was handled is a lawful order of events that were taken. It does nothing: a proof uses its contract.
     #[inline(always)]
     pub fn sequence_holds(&self)
         ensures { IsSequence self.now }
@@ -181,7 +179,7 @@ impl<A: Allocator> Schedule<A> {
         let _ = &self.held;
     }
 
-    /// How many events of each item were handled: these are its first ones.
+    /// How many events of each item were handled; these are its first ones.
     pub fn frontier(&self) -> &Tally<A>
         ensures shape { sizes_of result.now ≡ self.now.taken.sizes }
         ensures first { AreBelowFrontier self.now.handled result.now }
@@ -189,7 +187,7 @@ impl<A: Allocator> Schedule<A> {
         &self.frontier
     }
 
-    /// Of each item the events that were taken and not handled.
+    /// The events of each item that were taken and not handled.
     pub fn windows(&self) -> &Windows<A>
         ensures { (c : Counts) → AreBelowFrontier self.now.handled c → AreWaiting self.now.taken c result.now }
     {
@@ -211,7 +209,7 @@ impl<A: Allocator> Schedule<A> {
         self.windows.waiting(event.at, 0)
     }
 
-    /// How many records were taken of a group; 0 of one that is not there.
+    /// How many records of a group were taken; 0 where there is no such group.
     pub fn taken(&self, group: u16) -> u32
         ensures { result ≡ length (list_of self.now.taken group) }
     {
@@ -250,8 +248,8 @@ impl<A: Allocator> Schedule<A> {
         }
     }
 
-    /// Whether an item's next event was taken, is no barrier and names no releases: then it may be handled. Others may be
-    /// handled too, which `next` tells.
+    /// Whether an item's next event was taken, is no barrier and names no releases: then it may be handled. `next` also finds the
+    /// others that may be.
     #[inline(always)]
     pub fn is_free(&self, item: ItemId) -> bool
         ensures { IsTrue result → CanHandle self.now.taken self.now.handled item }
@@ -273,7 +271,7 @@ impl<A: Allocator> Schedule<A> {
         next_instance(&self.lanes, &self.frontier, &self.windows, group)
     }
 
-    /// The instance of a group that may meet, where one may: told by the next event of its first item alone.
+    /// The instance of a group that may meet, where one may. The next event of the first item alone gives it.
     pub fn next_meeting(&self, group: u16) -> u32
         requires { CanMeet self.now.taken self.now.handled group }
         ensures meeting { (a : Mark) × IsMeeting self.now.taken self.now.handled group result a }
@@ -287,8 +285,8 @@ impl<A: Allocator> Schedule<A> {
         }
     }
 
-    /// The event that a record of a group is where it is taken, if it may be taken and its event can then be handled at once:
-    /// it is a mere access and not the group's first record, and no event of its item waits.
+    /// The event that a group's record becomes when it is taken, if it may be taken and its event can then be handled at once: it is
+    /// a mere access and not the group's first record, and no event of its item waits.
     #[inline(always)]
     pub fn at_once(&self, group: u16, event: &Event) -> Option<EventId>
         ensures goes { MatchOption result (¬ GoesAtOnce self.now group event.now) (λ e. GoesAtOnce self.now group event.now × (e ≡ next_of self.now.taken group event.now)) }
@@ -368,8 +366,8 @@ impl<A: Allocator> Schedule<A> {
         }
     }
 
-    /// Frees what is kept of a group and not asked for any more, once it has ended. Tells whether it has: its end was taken, and
-    /// no event of its items waits.
+    /// Once a group has ended, frees what is no longer needed of it. Says whether it has ended: its end was taken, and no event of
+    /// its items waits.
     #[inline(always)]
     pub fn close(&mut self, group: u16) -> bool
         ensures unchanged { self.new ≡ self.old }
@@ -382,7 +380,7 @@ impl<A: Allocator> Schedule<A> {
         has_ended
     }
 
-    /// Takes the next record of a group. It is one that some group may have, whatever its item.
+    /// Takes the next record of a group. It is a record that some group may have, whatever its item.
     ///
     /// # Errors
     /// The first of `UnknownGroup`, `AfterEnd` with the group, `UnknownItem` and `Memory` that is there. Nothing is then
@@ -403,8 +401,7 @@ impl<A: Allocator> Schedule<A> {
         Ok(())
     }
 
-    /// Handles an item's next event, where all that it waits for was handled and it is no barrier of a convergent or
-    /// waiting instance.
+    /// Handles an item's next event, if all that it waits for was handled and it is no barrier of a convergent or waiting instance.
     ///
     /// # Errors
     /// `NotReady`. Nothing is then handled.
@@ -446,7 +443,7 @@ impl<A: Allocator> Schedule<A> {
         self.held -= 1;
     }
 
-    /// Forgets the least instance of a group's barriers that is remembered, once all its items have passed it.
+    /// Forgets the first instance of a group that is remembered, once all items have passed it.
     fn forget_behind(&mut self, group: u16)
         requires { group < length self.old.taken.sizes }
         ensures unchanged { self.new ≡ self.old }
@@ -478,8 +475,8 @@ impl<A: Allocator> Schedule<A> {
         let _ = self.close(event.at.group);
     }
 
-    /// Handles the barriers of a group's least convergent instance that was not handled, where the event before each of
-    /// them was. Tells the number of the instance.
+    /// Handles the barriers of a group's first convergent instance that was not handled, if the event before each of them was. Gives
+    /// the number of the instance.
     ///
     /// # Errors
     /// `NotReady`. Nothing is then handled.

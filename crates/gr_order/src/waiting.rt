@@ -11,7 +11,7 @@ use gr_model::memory::Memory;
 use gr_windows::windows::Windows;
 use std::alloc::Allocator;
 
-/// Keeps a record of a group behind those of its item; an end is no item's event.
+/// Keeps a record of a group after those of its item; an end is no item's event.
 ///
 /// # Errors
 /// `Memory`: out of memory. Nothing is then kept.

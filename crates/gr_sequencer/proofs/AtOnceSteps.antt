@@ -55,7 +55,7 @@ next_at_once q is g x go good room known follows e same ready =
       names = go.access.names;
     }
 
--- what is known behind it: no snapshot is kept of it, as it is no release
+-- what is known after it: no snapshot is kept of it, as it is no release
 pub known_behind : (q : Sequence) (g : ℕ) (x : Event) (known : Known) (e : EventId) → IsNextAtOnce q g x known e → is_release x ≡ false → (now : Known) → now.snapshots ≡ known.snapshots
     → CountWhatIsKnown (with_record q.taken g x) (q.handled ++ e ∷ []) now.clocks → IsKnown (with_record q.taken g x) (q.handled ++ e ∷ []) now
 known_behind q g x known e is plain now same clocks = record {

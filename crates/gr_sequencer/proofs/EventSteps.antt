@@ -88,7 +88,7 @@ module _ (s : Streams) (order : List EventId) (known : Known) (e : EventId) (nex
   pub known_or_learned_alone : (m : Space) (c : Counts) → AreSources s e [] → c ≡ own_clock m → CountsJust c (KnowsOrLearns s order m e)
   known_or_learned_alone m c are same = known_or_learned_sources m c c [] are same (λ k d below. absurd (omega (arith, below))) (joined_none c)
 
-  -- ---- what is known behind it
+  -- ---- what is known after it
 
   module _ (sources : List ReleaseClock) (are : AreSources s e sources) where
     -- what the item's clock and the sources count together in a memory

@@ -76,7 +76,7 @@ module _ (s : Streams) (order : List EventId) (g k : ℕ) (clocks : ItemClocks) 
     barrier_sees : (m : Space) (b : EventId) → StandsIn s b g k → (n : ItemId → ℕ) → ((j : ItemId) → n j ≡ count_of (clock_in clocks m b.at) j + tick_at b.at j) → (d : EventId) → (d.index < n d.at) ↔ Sees s m b d
     barrier_sees m b h n behind = seen_count s m order b (is_next b h) (Knows s m order b.at) (known_handled s m order lawful b.at) (own_known s m order b.at) (count_of (clock_in clocks m b.at)) (counts m b h) (λ d. met_sees s m order new g k prefixes lawful met b d h) n behind
 
-    -- ---- what is known behind the meeting
+    -- ---- what is known after the meeting
 
     module _ (new_clocks : ItemClocks) (global local : Bool) (flags_global : global ≡ a.global) (flags_local : local ≡ a.local) (meets : MeetsClocks clocks g global local new_clocks) where
       -- in a memory that is flagged, all that the barriers see

@@ -1,4 +1,4 @@
--- What a sequencer answers of a step.
+-- What a sequencer gives for a step.
 -- Source: docs/MODEL.md, "Steps".
 use Rattle.std.specs.Prelude.{◌≡◌, ℕ}
 use Rattle.gr_model.specs.declared.event.ItemId.{ItemId}
@@ -7,7 +7,7 @@ use Rattle.gr_closure.specs.Accesses.{IsAccessOf}
 use Rattle.gr_sequencer.specs.declared.handled.Handled.{Handled}
 use Rattle.gr_sequencer.specs.declared.handled.Handled.TheVariants.{One, Meet}
 
--- the step leads from old to new: an event was handled, whose access is answered with it, or an instance has met
+-- the step leads from old to new: an event was handled and its access is given, or an instance has met
 abbrev pub IsStep : {Z : Type 0} → Sequence → Sequence → Handled Z → Type 0
 IsStep old new (One e access) = HandlesEvent old e new × IsAccessOf new.taken e access
 IsStep old new (Meet g k) = MeetsInstance old g k new

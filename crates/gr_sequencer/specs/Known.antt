@@ -1,4 +1,4 @@
--- What the clocks of the items and the snapshots of the releases say of the events that were handled.
+-- What the clocks of the items and the snapshots of the releases say of the handled events.
 -- Source: docs/MODEL.md, "Clocks".
 use Rattle.std.specs.Prelude.{◌≡◌, ◌⊎◌, ℕ, Bool, List, [], Option, Some, None, IsTrue, map, length}
 use Rattle.std.specs.Map.{lookup}
@@ -34,13 +34,13 @@ pub record Known : Type 0 where
   pub clocks : ItemClocks
   pub snapshots : Snapshots
 
--- each item's clock counts just what the item knows along the order
+-- each item's clock counts exactly what the item knows along the order
 pub record CountWhatIsKnown (s : Streams) (order : List EventId) (clocks : ItemClocks) : Type 0 where
   pub shape : clocks.sizes ≡ s.sizes
   pub tables : (m : Space) → map length (clocks_in clocks m) ≡ s.sizes
   pub counts : (m : Space) (i : ItemId) → HasItem s.sizes i → CountsJust (clock_in clocks m i) (Knows s m order i)
 
--- the snapshot of a release has its word, and counts just what is seen at the release in the word's memory
+-- the snapshot of a release has its word, and counts exactly what is seen at the release in the word's memory
 pub record IsSnapshotOf (s : Streams) (r : EventId) (snapshot : ReleaseClock) : Type 0 where
   pub word : word_at s r ≡ Some snapshot.word
   pub counts : CountsJust snapshot.clock (Sees s (memory_of snapshot.word) r)
@@ -59,14 +59,14 @@ pub record IsKnown (s : Streams) (order : List EventId) (known : Known) : Type 0
 
 -- ---- the next event
 
--- an event may be handled behind a lawful order of which this is known
+-- an event may be handled after a lawful order of which this is known
 pub record IsNext (s : Streams) (order : List EventId) (known : Known) (e : EventId) : Type 0 where
   pub prefixes : ArePrefixes s
   pub lawful : IsLawful s order
   pub follows : IsKnown s order known
   pub ready : IsReady s order e
 
--- behind the record of a group that is taken, its event may be handled next; it names nothing
+-- once a record of a group is taken, its event may be handled next; it names nothing
 pub record IsNextAtOnce (q : Sequence) (g : ℕ) (x : Event) (known : Known) (e : EventId) : Type 0 where
   pub next : IsNext (with_record q.taken g x) q.handled known e
   pub there : event_at (with_record q.taken g x) e ≡ Some x

@@ -25,13 +25,15 @@ pub record LearnsBy (s : Streams) (m : Space) (e : EventId) (n : Name) (d : Even
 abbrev pub LearnsNothing : Streams → EventId → Name → Type 0
 LearnsNothing s e n = (m : Space) (d : EventId) → ¬ LearnsBy s m e n d
 
--- what an event learns from the release of this name: it has the event's word, and counts just what is learned in the word's memory, where alone something is
+-- what an event learns from the release of this name: the release has the event's word, its clock counts exactly what is learned in the
+-- word's memory, and nothing is learned in the other memory
 pub record IsSource (s : Streams) (e : EventId) (n : Name) (source : ReleaseClock) : Type 0 where
   pub word : word_at s e ≡ Some source.word
   pub counts : CountsJust source.clock (LearnsBy s (memory_of source.word) e n)
   pub others : (m : Space) (d : EventId) → m ≢ memory_of source.word → ¬ LearnsBy s m e n d
 
--- what an event learns from the releases that it matches: all are on the event's word, and in each memory they count together just what is learned
+-- what an event learns from the releases that it matches: all have the event's word, and in each memory they count together exactly what is
+-- learned
 pub record AreSources (s : Streams) (e : EventId) (sources : List ReleaseClock) : Type 0 where
   pub words : All (λ l. word_at s e ≡ Some l.word) sources
   pub counts : (m : Space) (d : EventId) → (d.index < greatest_count (clocks_left m sources) d.at) ↔ Learns s m e d

@@ -8,7 +8,7 @@ use std::alloc::{Allocator, Global};
 #[derive(Drop)]
 #[derive_where(Debug)]
 pub enum Handled<A: Allocator = Global> {
-    /// An event was handled. It has its access where it is one; a barrier of a divergent instance has none.
+    /// An event was handled. If it is an access, that is given; a barrier of a divergent instance has none.
     One {
         event: EventId,
         access: Option<Access<A>>,

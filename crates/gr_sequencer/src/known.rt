@@ -1,4 +1,4 @@
-//! What the work-items know of the events that were handled: their clocks, and the snapshot of each handled release.
+//! What the work-items know of the handled events: their clocks, and the snapshot of each handled release.
 
 ghost use Rattle.std.specs.Prelude.{◌≡◌, ◌≢◌, ◌<◌, ◌++◌, ◌∷◌, [], Some, IfOk, OnErr, OnOk, IsTrue, length};
 ghost use Rattle.gr_model.specs.declared.event.EventId.{EventId as AnyEvent};
@@ -33,7 +33,7 @@ use std::marker::Model;
 /// The snapshots of releases, by the event.
 pub(crate) type Snapshots<A> = IndexMap<EventId, Snapshot<A>, BuildHasherDefault<FoldHasher>, A>;
 
-/// What the work-items know of the events that were handled: their clocks, and the snapshot of each handled release.
+/// What the work-items know of the handled events: their clocks, and the snapshot of each handled release.
 #[derive(Drop)]
 #[derive_where(Debug)]
 pub(crate) struct Known<A: Allocator = Global> {
@@ -50,7 +50,7 @@ impl<A: Allocator> Model for Known<A> {
 }
 
 impl<A: Allocator + Copy> Known<A> {
-    /// What is known where no group has come.
+    /// What is known before a group has come.
     pub(crate) fn without_groups(alloc: A) -> Known<A>
         ensures { IsKnown (nothing_taken []) [] result }
     {
@@ -60,7 +60,7 @@ impl<A: Allocator + Copy> Known<A> {
         }
     }
 
-    /// What is known where nothing was handled.
+    /// What is known before an event was handled.
     pub(crate) fn new(alloc: A, shape: &Shape<A>) -> Result<Known<A>, Memory>
         ensures { IfOk result (IsKnown (nothing_taken shape.now) []) }
     {
@@ -76,7 +76,7 @@ impl<A: Allocator + Copy> Known<A> {
 }
 
 impl<A: Allocator> Known<A> {
-    /// What is known, where a group comes that has so many items, who know nothing.
+    /// What is known after one more group came with this many items, which know nothing.
     ///
     /// # Errors
     /// `Memory`: out of memory.
@@ -94,7 +94,7 @@ impl<A: Allocator> Known<A> {
     }
 }
 
-/// The memories that the barriers of a convergent instance flag, of which none was handled: the global one, the local one.
+/// Whether the barriers of a convergent instance flag the global memory, and the local memory. None of them was handled.
 fn flags_of<A: Allocator>(order: &Schedule<A>, group: u16, instance: u32) -> (bool, bool)
     requires convergent { (a : Mark) × IsConvergent order.now.taken group instance a }
     requires fresh { ¬ HasMet order.now.taken order.now.handled group instance }
@@ -110,8 +110,8 @@ fn flags_of<A: Allocator>(order: &Schedule<A>, group: u16, instance: u32) -> (bo
 }
 
 impl<A: Allocator> Known<A> {
-    /// The clock, in its word's memory, of what the item of an event that may be handled next knows, joined with the event's
-    /// sources, before the event's own tick.
+    /// The clock of an event that may be handled next, in its word's memory and before its own tick: what its item knows, joined
+    /// with the event's sources.
     fn known_or_learned(
         &self,
         order: &Schedule<A>,
@@ -139,7 +139,7 @@ impl<A: Allocator> Known<A> {
         }
     }
 
-    /// The clock in its word's memory of an event that may be handled next and is an access.
+    /// The clock of an access that may be handled next, in its word's memory.
     fn clock_of(
         &self,
         order: &Schedule<A>,
@@ -164,7 +164,7 @@ impl<A: Allocator> Known<A> {
         }
     }
 
-    /// The access of an event that may be handled next, or `None` where it is no access.
+    /// The access of an event that may be handled next, or `None` where the event is no access.
     ///
     /// # Errors
     /// `Memory`: out of memory.
@@ -195,7 +195,7 @@ impl<A: Allocator> Known<A> {
         }
     }
 
-    /// Keeps what an event leaves, where it is a release.
+    /// Keeps a snapshot of an event, if it is a release.
     ///
     /// # Errors
     /// `Memory`: out of memory. What is known is then as before.
@@ -228,7 +228,7 @@ impl<A: Allocator> Known<A> {
         }
     }
 
-    /// Gives an event's item the clocks that it has behind the event, which may be handled next.
+    /// Gives an event's item the clocks that it has after the event, which may be handled next.
     ///
     /// # Errors
     /// `Memory`: out of memory. What is known is then as before.
@@ -287,8 +287,8 @@ impl<A: Allocator> Known<A> {
         }
     }
 
-    /// Gives the item of an access that is handled as soon as its record is taken the clocks that it has behind it, and tells
-    /// the access.
+    /// Handles an access as soon as its record is taken: gives its item the clocks that it has after the access, and returns the
+    /// access.
     ///
     /// # Errors
     /// `Memory`: out of memory. What is known is then as before.
@@ -324,8 +324,8 @@ impl<A: Allocator> Known<A> {
         }
     }
 
-    /// Gives the items of a group the clocks that they have after the barriers of a convergent instance, of which none was
-    /// handled. No clock of the group is at its limit.
+    /// Gives the items of a group the clocks that they have after the barriers of a convergent instance. None of these barriers was
+    /// handled, and no clock of the group is at its limit.
     ///
     /// # Errors
     /// `Memory`: out of memory. What is known is then as before.

@@ -1,5 +1,5 @@
-//! The sequencer: it takes the records of a launch and handles its events one step after another, each access with a clock
-//! that counts just what happens before it.
+//! The sequencer takes the records of a launch and handles its events step by step. Each access gets a clock that counts exactly
+//! what happens before it.
 #![tactic(auto)]
 
 pub mod handled;

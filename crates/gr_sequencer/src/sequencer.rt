@@ -1,7 +1,7 @@
 //! The sequencer.
 //!
-//! Invariant: each item's clock counts just what the item knows along the order of the handled events, and each handled
-//! release has a snapshot that counts just what is seen at it.
+//! Invariant: each item's clock counts exactly what the item knows along the order of the handled events, and each handled release
+//! has a snapshot that counts exactly what is seen at it.
 
 ghost use Rattle.std.specs.Prelude.{[], ◌≡◌, ◌↔◌, ◌+◌, ◌<◌, ℕ, IsTrue, IfOk, IfErr, IfNone, IfSome, OnOk, OnErr, MatchOption, length};
 ghost use Rattle.gr_model.specs.declared.limits.TheConstants.{MOST_RECORDS};
@@ -32,8 +32,8 @@ use gr_order::{acquires, groups, instances};
 use std::alloc::{Allocator, Global};
 use std::marker::Model;
 
-/// Takes the records of a launch and handles its events. Contracts see the lists that it took, and the events that it
-/// handled in their order.
+/// Takes the records of a launch and handles its events. Contracts see the records that it took, and the events that it handled, in
+/// their order.
 #[derive(Drop)]
 #[derive_where(Debug)]
 pub struct Sequencer<A: Allocator = Global> {
@@ -55,7 +55,7 @@ impl<A: Allocator> Model for Sequencer<A> {
 }
 
 impl<A: Allocator + Copy> Sequencer<A> {
-    /// A sequencer of a launch of this shape, of which nothing was taken.
+    /// A sequencer of a launch of this shape, before its first record.
     ///
     /// # Errors
     /// `Memory`: out of memory.
@@ -71,7 +71,7 @@ impl<A: Allocator + Copy> Sequencer<A> {
         })
     }
 
-    /// A sequencer of a launch of which no group has come: they come one after another, by `with_group`.
+    /// A sequencer of a launch of which no group has come. Groups come one after another, by `with_group`.
     ///
     /// # Errors
     /// `Memory`: out of memory.
@@ -87,9 +87,9 @@ impl<A: Allocator + Copy> Sequencer<A> {
         })
     }
 
-    /// The sequencer, where a group comes that has so many items: the shape of a launch need not be known before its first
-    /// records are taken. The groups below it that were not there are there, without items.
-    /// Requires: the group has not come, and is one that a launch may have beside the others.
+    /// The sequencer with one more group, which has this many items: the shape of a launch need not be known before its first
+    /// records are taken. Groups below it that were not there come too, without items.
+    /// Requires: the group has not come, and a launch may have it together with the others.
     ///
     /// # Errors
     /// `Memory`: out of memory.
@@ -155,7 +155,7 @@ impl<A: Allocator> Sequencer<A> {
         self.agenda.order()
     }
 
-    /// Takes the next record of a group. It is one that some group may have, whatever its item.
+    /// Takes the next record of a group. It is a record that some group may have, whatever its item.
     ///
     /// # Errors
     /// The first of `UnknownGroup`, `AfterEnd` with the group, `UnknownItem` and `Memory` that is there. Nothing is then
@@ -208,9 +208,8 @@ impl<A: Allocator> Sequencer<A> {
         })
     }
 
-    /// Takes the next record of a group as `take` does, and handles its event too where it is a mere access, one that
-    /// releases nothing and names nothing, and no event of its item waits: then it tells the step. An event that it does not
-    /// handle waits, as after `take`.
+    /// Takes the next record of a group as `take` does. If the record is a mere access, which releases nothing and names nothing, and no
+    /// event of its item waits, then it handles the event too, and gives the step. Else the event waits, as after `take`.
     ///
     /// # Errors
     /// The first of `UnknownGroup`, `AfterEnd` with the group, `UnknownItem` and `Memory` that is there. Nothing is then
@@ -253,7 +252,7 @@ impl<A: Allocator> Sequencer<A> {
         self.agenda.order().lanes().shape()
     }
 
-    /// How many records were taken of a group; 0 of one that is not there.
+    /// How many records of a group were taken; 0 where there is no such group.
     pub fn taken(&self, group: u16) -> u32
         ensures { result ≡ length (list_of self.now.taken group) }
     {
@@ -286,8 +285,7 @@ impl<A: Allocator> Sequencer<A> {
         Ok(Handled::One { event, access })
     }
 
-    /// Handles an item's next event, where all that it waits for was handled and it is no barrier of a convergent or
-    /// waiting instance.
+    /// Handles an item's next event, if all that it waits for was handled and it is no barrier of a convergent or waiting instance.
     ///
     /// # Errors
     /// `NotReady`, and else `Memory`. Nothing is then handled.
@@ -328,8 +326,7 @@ impl<A: Allocator> Sequencer<A> {
         Ok(Handled::Meet { group, instance })
     }
 
-    /// Handles the barriers of a group's least convergent instance that was not handled, where the event before each of
-    /// them was.
+    /// Handles the barriers of a group's first convergent instance that was not handled, if the event before each of them was.
     ///
     /// # Errors
     /// `NotReady`, and else `Memory`. Nothing is then handled.
@@ -387,8 +384,8 @@ impl<A: Allocator> Sequencer<A> {
         self.agenda.order().is_at_end()
     }
 
-    /// Frees what is kept of a group and not asked for any more, once it has ended. Tells whether it has: its end was taken, and
-    /// no event of its items waits.
+    /// Once a group has ended, frees what is no longer needed of it. Says whether it has ended: its end was taken, and no event of
+    /// its items waits.
     pub fn close(&mut self, group: u16) -> bool
         ensures { self.new ≡ self.old }
     {

@@ -1,4 +1,4 @@
-//! The sources of an acquire: the snapshots of the releases that it names with inclusive scope. Its clock joins them.
+//! The sources of an acquire: the snapshots of those releases that it names with inclusive scope. Its clock joins them.
 
 ghost use Rattle.std.specs.Prelude.{◌≡◌, ◌<◌, ◌++◌, ◌∷◌, [], Some, MatchOption, Contains, map, length};
 ghost use Rattle.gr_model.specs.declared.limits.TheConstants.{MOST_NAMES};
@@ -74,7 +74,7 @@ fn release_event<A: Allocator>(order: &Schedule<A>, name: Name, index: u32) -> O
     order.lanes().release_event(name)
 }
 
-/// The snapshot of the release of one of an event's names, where the two are of inclusive scope.
+/// The snapshot of the release that an event names, if the two are of inclusive scope.
 fn source<'a, A: Allocator>(
     order: &Schedule<A>,
     snapshots: &'a Snapshots<A>,
