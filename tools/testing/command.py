@@ -7,6 +7,7 @@ import pathlib
 import subprocess
 import sys
 
+from repository import BUILT
 from testing import gate, suite, transcript
 
 
@@ -64,7 +65,7 @@ def main(document, top):
         counts += gate.proved(top)
         if counts["failed"]:
             return ended(counts)
-        words.program = gate.PROGRAM
+        words.program = BUILT
     program = program_of(words, top)
     try:
         found = suite.groups(top, program)

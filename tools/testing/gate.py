@@ -6,8 +6,6 @@ import resource
 import subprocess
 import time
 
-# what rt ci builds
-PROGRAM = "crates/gr_cli/out/gr_cli"
 COUNTS = re.compile(rb"(\d+) passed, (\d+) failed")
 
 
