@@ -190,7 +190,7 @@ def options_of(words: List[str]) -> argparse.Namespace:
 def find_gpurace() -> str:
     """The program that judges: the one of this tree, the one that was installed with this command, or the one on the path. The one of the tree
     is run without its script, which takes longer to find it than it takes to judge."""
-    script, beside = (os.path.normpath(os.path.join(simulator.TOOLS, *up, "gpurace")) for up in ([".."], ["..", ".."]))
+    script, beside = (os.path.normpath(os.path.join(recording.TOOLS, *up, "gpurace")) for up in ([".."], ["..", ".."]))
     program = os.environ.get("GPURACE_PROGRAM") or ""
     try:
         if not program and os.path.exists(script):

@@ -24,6 +24,7 @@ ORDERS = {"rlx": "relaxed", "acq": "acquire", "rel": "release", "both": "acquire
 SCOPES = {"grp": "work-group scope", "dev": "device scope"}
 DIVERGENT = {"missing": "some work-items never reach it", "site": "the work-items are at different barriers",
              "flags": "the work-items give different flags"}
+NEW = "new"          # the state of a finding that is neither known nor suppressed
 NO_PLACE = "unknown place"
 MOST_KINDS = 200     # of races of a launch
 MOST_DIVERGENT = 100  # groups with divergent barriers that are looked at
@@ -99,9 +100,9 @@ class Map:
     """The racy words of a buffer, in all groups that have it; of words of no buffer the name is empty."""
     buffer: str
     space: str
-    words: int
+    words: int   # that the buffer has, racy or not
     groups: int
-    spans: List[Tuple[int, int]]
+    spans: List[Tuple[int, int]]  # the racy ones
 
 
 @dataclasses.dataclass
@@ -119,7 +120,7 @@ class Finding:
     maps: List[Map] = dataclasses.field(default_factory=list)
     is_equal: bool = False   # all stores to each of the words write the same value
     is_doubtful: bool = False
-    state: str = "new"       # or known, or suppressed; `why` says why
+    state: str = NEW         # or known, or suppressed; `why` says why
     why: str = ""
 
     def buffers(self) -> List[str]:

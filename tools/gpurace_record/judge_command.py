@@ -10,9 +10,8 @@ from .command import STATUSES, WRONG_WORDS, Parser, above_zero, add_outputs, con
 from .folders import end_streams
 from .judging import Launch, judged
 from .progress import Progress
-from .recording import Missing
+from .recording import TOOLS, Missing
 from .report import say, unrecorded
-from .simulator import TOOLS
 
 
 def launches_below(folder: str) -> Iterator[str]:

@@ -7,7 +7,7 @@ import subprocess
 import traceback
 from typing import Dict, Iterator, List, Optional, Tuple
 
-from .findings import Finding, Reader, out_of_bounds
+from .findings import NEW, Finding, Reader, out_of_bounds
 from .folders import Info, end_files, info_of, kept_of, streams_of, windows_of
 from .pipes import Piped
 from .sides import Texts, PLACE
@@ -54,7 +54,7 @@ class Launch:
                 tuple(sorted({reason.text for reason in self.reasons})))
 
     def decide(self) -> None:
-        new = [it for it in self.findings if it.state == "new"]
+        new = [it for it in self.findings if it.state == NEW]
         is_found = any(not it.is_doubtful for it in new)
         self.verdict = ("found" if is_found else "doubtful" if new else "incomplete" if self.reasons
                         else "known" if self.findings else "nothing")

@@ -10,10 +10,9 @@ from typing import Callable, Dict, List, Optional
 
 from .folders import info_of
 from . import recording
-from .recording import Missing, cache, missing_of
+from .recording import TOOLS, Missing, cache, missing_of
 from .report import unrecorded
 
-TOOLS = os.path.dirname(os.path.dirname(os.path.realpath(__file__)))
 RECORDER = os.path.join(os.path.dirname(TOOLS), "recorder")
 NEEDED = [("g++", "g++"), ("make", "make"), ("clang-15", "clang-15"), ("llvm-config-15", "llvm-15-dev"),
           ("/usr/include/CL/cl_layer.h", "opencl-headers"), ("ld", "binutils"),
@@ -39,7 +38,7 @@ def build(say: Callable[[str], None]) -> str:
 
 
 def environment(out: str, options: argparse.Namespace, folder: str, seed: Optional[int], is_judged: bool) -> Dict[str, str]:
-    """The program's environment: the layer, and its settings (README.md)."""
+    """The program's environment: the layer, and its settings (recorder/README.md)."""
     layers = os.path.join(out, "layer.so")
     if os.environ.get("OPENCL_LAYERS"):
         layers += ":" + os.environ["OPENCL_LAYERS"]

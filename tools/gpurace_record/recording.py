@@ -16,6 +16,7 @@ from typing import Callable, Dict, Iterator, List, Optional, Tuple
 from .folders import Info, info_of, kept_of, mapped, streams_in, streams_of
 from .judging import Reason, count
 
+TOOLS = os.path.dirname(os.path.dirname(os.path.realpath(__file__)))
 CLOSES = 10.0   # seconds that a program has to end after Ctrl-C or SIGTERM
 SHARED_MEMORY, LEAST_ROOM = "/dev/shm", 1 << 30
 ALL_NOTED = "all-noted"  # a file that the recorder removes, which takes no room, where it can't note a launch that it has not recorded

@@ -6,12 +6,11 @@ import os
 import sys
 from typing import Callable, Dict, Iterator, List, Optional, Tuple
 
-from .findings import Finding
+from .findings import NEW, Finding
 from .judging import FOUND, INCOMPLETE, Launch, Reason, count
 from .sources import Sources
 
 NAME = "gpurace-judge" if os.path.basename(sys.argv[0]) == "gpurace-judge" else "gpurace-record"  # who says it
-NEW = "new"
 NO_LAUNCH = {"gpurace-judge": "no launch was recorded there: no folder has an info.txt, or a file whose name ends in .gpurace",
              "gpurace-record": "no launch was recorded: the program launched no kernel, or none of that name or number"}
 MOST_SHOWN = 20    # findings of an outcome

@@ -7,15 +7,13 @@ import shutil
 from typing import Callable, Dict, List
 
 from . import recording
-from .recording import Missing, cache, missing_of
+from .recording import TOOLS, Missing, cache, missing_of
 
-TOOLS = os.path.dirname(os.path.dirname(os.path.realpath(__file__)))
 RECORDER = os.path.join(TOOLS, "recorder")
 NEEDED = [("g++", "g++"), ("make", "make"), ("llvm-config-14", "llvm-14-dev"),
           ("/usr/include/oclgrind/Plugin.h", "liboclgrind-dev"), ("/usr/include/CL/cl.h", "opencl-headers")]
 NEVER_ENDS = ("a launch that had not ended is not recorded; one whose groups wait for each other may never end on the simulator, which runs as "
               "many at once as there are processors: record it natively, without --simulator")
-
 NOT_BUILT = "perhaps a kernel did not build, since it has atomics of OpenCL 2.0: --opencl20 gives it these, and so does -cl-std=CL2.0 of the program"
 
 
