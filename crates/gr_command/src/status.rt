@@ -11,13 +11,13 @@ use gr_report::found;
 use gr_report::report::Report;
 use std::alloc::Allocator;
 
-/// Nothing was found, or help was asked for.
+/// Nothing was found, the input was rewritten, or help was written.
 pub const NOTHING: u8 = 0;
 
 /// A race, a divergent barrier or an unmatched acquire was found.
 pub const FOUND: u8 = 1;
 
-/// The trace was refused.
+/// The trace, its text or a side file was refused.
 pub const REFUSED: u8 = 2;
 
 /// The arguments are wrong.

@@ -21,7 +21,7 @@ fn named_value(alloc: Global, named: &Named) -> Made {
     json!(in alloc; {"events": events, "others": named.others})
 }
 
-/// Adds how an access is ordered to those above it.
+/// Adds how an access is ordered with respect to those above it.
 fn put_standing(
     alloc: Global,
     access: &mut Map<String, Value>,
@@ -34,7 +34,7 @@ fn put_standing(
     put(access, alloc, "unordered_with", unordered)
 }
 
-/// An access, its details, and how it is ordered to those above it. Then it is one of those above.
+/// An access, its details, and how it is ordered with respect to those above it. Then counts it among them.
 fn entry_value(
     alloc: Global,
     places: &PlaceIndex<'_>,

@@ -26,7 +26,7 @@ fn is_outside(fault: Fault) -> bool
 /// The launch whose streams these inputs are, one each.
 ///
 /// # Errors
-/// The first fault of the inputs, in the order of docs/OUTPUT.md, "Lines of faults"; `Memory`.
+/// The first fault of the inputs, in the order of docs/FORMATS.md, "Faults"; `Memory`.
 fn launch_of<A: Allocator + Copy>(alloc: A, inputs: &[Vec<u8, A>]) -> Result<Traces<A>, Fault>
     ensures launch { IfOk result (λ t. ReadsEach (inputs_of inputs.now) t) }
     ensures accepted { IfOk result (λ t. AreAccepted t) }

@@ -2,7 +2,7 @@
 //! crate also opens files by their names, writes the lines of their faults, and checks whether files are the streams of a launch: it
 //! counts the records of each kind, or says where the first fault is.
 //!
-//! docs/FORMATS.md, "Side files", has the form of their lines.
+//! docs/FORMATS.md, "Side files", has the form of the lines of side files.
 #![tactic(auto)]
 
 pub mod buffers;

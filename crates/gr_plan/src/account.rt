@@ -27,7 +27,7 @@ const MOST_STREAMS: usize = MOST_GROUPS + 1;
 pub struct Account {
     /// Whether all bytes of each record are checked.
     judges: bool,
-    /// The number of the last stream, from 0, if there is one. All bytes of its records are checked.
+    /// The number of the stream at whose end to stop, from 0, if one is given. All bytes of its records are checked.
     pub last: Option<u64>,
     /// Where each stream begins.
     pub starts: Vec<u64>,
@@ -150,7 +150,7 @@ impl Account {
         }
     }
 
-    /// Passes the header at this place, and gives how long it is. Its begin is noted once.
+    /// Passes the header at this place, and gives how long it is. Where it begins is noted once.
     fn pass_header(&mut self, at: usize, seen: &mut Seen) -> Result<usize, RecordError> {
         let is_noted = self.starts.last().copied() == Some(self.passed);
         if begins_stream(self.rest(at)) && !is_noted && self.starts.len() < MOST_STREAMS {

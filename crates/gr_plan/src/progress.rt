@@ -61,7 +61,7 @@ impl Progress {
         let _ = self.report(passed);
     }
 
-    /// Reports how much was read, `passed` milliseconds after the begin.
+    /// Reports how much was read, `passed` milliseconds after the start.
     fn report(&self, passed: u64) -> io::Result<()> {
         let hundred = self.bytes.load(Ordering::SeqCst).saturating_mul(100);
         let records = self.records.load(Ordering::SeqCst);

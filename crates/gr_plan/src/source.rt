@@ -61,7 +61,7 @@ impl Piece {
         Ok(Piece { bytes, at, end })
     }
 
-    /// The same bytes, for a reader.
+    /// The same bytes, for a reader. Fails if they are of a file that can't be opened.
     pub fn open(&self) -> io::Result<Piece> {
         if let Bytes::File(rt, path) = &self.bytes {
             File::open(rt, path.as_str())?;

@@ -1,4 +1,4 @@
-//! The causes of races.
+//! What the cause of a race is, and the causes of many races at once.
 
 ghost use Rattle.std.specs.Prelude.{◌≡◌, ◌↔◌, All, IfOk, IsTrue, map};
 ghost use Rattle.gr_model.specs.declared.event.EventId.{EventId as AnyEvent};

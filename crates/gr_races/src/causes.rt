@@ -1,4 +1,4 @@
-//! The causes of races.
+//! The causes of races, if they are asked for.
 
 ghost use Rattle.std.specs.Prelude.{◌≡◌, All, IfOk};
 ghost use Rattle.gr_races.specs.Causes.{IsPairOf};

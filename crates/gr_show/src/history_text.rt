@@ -36,7 +36,7 @@ fn put_standing<A: Allocator + Copy>(text: &mut String<A>, standing: &Standing<A
     put_named(text, " but", &standing.unordered)
 }
 
-/// Adds the details of an access, and how it is ordered to those above it. Then it is one of those above.
+/// Adds the details of an access, and how it is ordered with respect to those above it. Then counts it among them.
 fn put_access<A: Allocator + Copy>(
     alloc: A,
     text: &mut String<A>,

@@ -1,8 +1,8 @@
 //! The history of one word of a launch: the accesses to it that are not held, in an order in which they can be handled, each with those
 //! above it that happen before it; and how many accesses to it are held.
 //!
-//! And why an event is held. A held event waits for another held event, or names a release that is absent or on another word. So from any
-//! held event a chain of such reasons leads to a root, or back to an event of the chain.
+//! It also answers why an event is held. A held event waits for another held event, or names a release that is absent or on another
+//! word. So from any held event a chain of such reasons leads to a root, or back to an event of the chain.
 #![tactic(auto)]
 
 pub mod accesses;
