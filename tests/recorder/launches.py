@@ -10,7 +10,7 @@ from testing.launches import BUFFERS, PLACES, SIDES, info, put_launch
 from gpurace_record.findings import Finding, Reader, join
 from gpurace_record.folders import info_of
 from gpurace_record.judging import first_of, judged, replay
-from gpurace_record.sides import Run
+from gpurace_record.sides import Run, Texts
 
 INFO = info("sums", 7, 2)
 LOCAL = "nothing orders the two; a barrier with CLK_LOCAL_MEM_FENCE between them would"
@@ -320,6 +320,24 @@ race on global word 5
             for places in (at_one_line.replace("a.cl:4:5", "a.cl:5:5"), at_one_line.replace(f"{items[1]} 2 a.cl:4:5", f"{items[1]} 2 b.cl:4:5")):
                 launch = self.judged(streams, {"places": places})
                 self.assertEqual({it.message for it in launch.findings}, {said})
+
+    def test_items_that_swap_at_one_line(self):
+        """Each reads the word and another one, and writes it. Where the line's text has no update of it, that is no count."""
+        streams = ["group 0 items 2 launch 7\n" + "".join(f"{item} {step}\n" for item in (0, 1) for step in ("r g 5", "r g 9", "w g 5")) + "end\n"]
+        places = "".join(f"0 {item} {index} kernel.cl:1:9\n" for item in (0, 1) for index in (0, 2))
+        for line, message in (("t = *a; *a = *b; *b = t;", GLOBAL), ("SWAP(a[l], a[l + 1]);", GLOBAL), ("v[l] = v[l + 1];", GLOBAL),
+                              ("*a = *b + *a;", "use an atomic"), ("if (*b == 1) ++*a;", "use an atomic"), ("v[l] >>= *b;", "use an atomic")):
+            for it in self.judged(streams, {"places": places, "kernel.cl": line}).findings:
+                self.assertTrue(it.message.startswith(message), f"{line}: {it.message}")
+
+    def test_the_part_of_a_long_line(self):
+        """Its end, its start, and what is around a column; spaces before it are none of it."""
+        line = "".join(f"{number:9};" for number in range(40))  # 392 characters without the spaces before the first number
+        texts = Texts("")
+        texts.files["a.cl"] = [f"    {line.strip()}", line.strip()[:160]]
+        for place, shown in (("a.cl:1:5", line.strip()[:160] + " .."), ("a.cl:1:395", ".. " + line[-160:]),
+                             ("a.cl:1:205", ".. " + line.strip()[120:280] + " .."), ("a.cl:2:150", line.strip()[:160]), ("a.cl:3:1", "")):
+            self.assertEqual(texts.line(place), shown)
 
     def test_what_counts_by_its_type(self):
         """Two items count in element 1 of a buffer at one line: what is advised is there for its type."""

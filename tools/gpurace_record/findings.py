@@ -32,6 +32,7 @@ MOST_SECONDS = 60    # that looking for causes may take
 MOST_STEPS = 3       # of an item on each side of its access that are kept
 OUT_OF_BOUNDS = re.compile(r"(\d+) (.+?) (read|write|atomic) (\d+) (\d+) (\d+) (.*)")
 OUTSIDE = re.compile(r"(?:.* of |in )(.+?),? which has (?:\d+ bytes?|no memory)")
+UPDATE = re.compile(r"\+\+|--|(?:[-+*/%&|^]|<<|>>)=|(?:^|[;{})])\s*([^;{}=]+?)\s*=(?!=)[^;]*?(?<!\w)\1(?!\w)")  # in a line of source
 
 
 @dataclasses.dataclass
@@ -304,7 +305,7 @@ class Reader:
         release, acquire = next((both for both in hands if all(both)), hands[0])
         store, load = self.meeting(first, second) or self.meeting(second, first) or (None, None)
         return causes.Pair(said["space"], said["one_group"], one, other, self.barriers_between(first, second) if said["one_group"] else [],
-                           release, acquire, self.is_update(first) and self.is_update(second), self.is_line_of_updates(first, second), store, load)
+                           release, acquire, self.is_update(first) and self.is_update(second), self.is_line_of_updates(first, second, accesses[0].text), store, load)
 
     def is_update(self, event: Dict[str, Any]) -> bool:
         """Whether the event is one of a plain read of a word and the write to it that the item does next."""
@@ -314,9 +315,11 @@ class Reader:
         return other is not None and any((step.at - own.at, step.kind) == other and (step.space, step.word) == (own.space, own.word)
                                          for step in group.steps[item])
 
-    def is_line_of_updates(self, first: Dict[str, Any], second: Dict[str, Any]) -> bool:
+    def is_line_of_updates(self, first: Dict[str, Any], second: Dict[str, Any], text: str) -> bool:
+        """Whether both items update the word at one line, which has this text. One that swaps words, say, is none."""
         line = self.line_of_update(first)
-        return line != "" and line == self.line_of_update(second)
+        is_shown = not text or UPDATE.search(text) or (self.is_update(first) and self.is_update(second))
+        return line != "" and line == self.line_of_update(second) and bool(is_shown)
 
     def line_of_update(self, event: Dict[str, Any]) -> str:
         """The line at which an item reads the word of the event and writes it next, both plainly and with no barrier between; empty where it does

@@ -141,13 +141,16 @@ class Texts:
         self.files: Dict[str, List[str]] = {}
 
     def line(self, place: str) -> str:
-        """The line of a place that is no call's, or nothing."""
+        """The line of a place that is no call's, or nothing. Of a long one the part around the place's column."""
         at = PLACE.fullmatch(place)
         if not at:
             return ""
         lines, number = self.text(at[1]), int(at[2])
-        text = lines[number - 1].strip() if 0 < number <= len(lines) else ""
-        return text if len(text) <= MOST_COLUMNS else text[:MOST_COLUMNS] + " .."
+        line = lines[number - 1].rstrip() if 0 < number <= len(lines) else ""
+        text = line.lstrip()
+        column = int(at[3]) - 1 - (len(line) - len(text))
+        start = max(0, min(column - MOST_COLUMNS // 2, len(text) - MOST_COLUMNS))
+        return ".. " * (start > 0) + text[start:start + MOST_COLUMNS] + " .." * (start + MOST_COLUMNS < len(text))
 
     def text(self, file: str) -> List[str]:
         if file not in self.files:
