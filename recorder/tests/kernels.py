@@ -144,6 +144,12 @@ kernel void components_read_wrong(global int4 *both, global int *out) {
     const int l = get_global_id(0);
     if (l & 1) out[l] = both[l / 2].yz.y + both[l / 2].y; else both[l / 2].xy = (int2)(l, l);
 }
+// an item writes the component of a computed number, and reads one; the mistake is that another item writes that
+kernel void components_computed(global int4 *both, global int *out, int wrong) {
+    const int l = get_global_id(0);
+    both[l / 4][l % 4] = l;
+    out[l] = both[l / 4][(l + wrong) % 4];
+}
 kernel void component_single(global int4 *out) {
     const int l = get_global_id(0);
     switch (l & 3) { case 0: out[l / 4].x = l; break; case 1: out[l / 4].y = l; break; case 2: out[l / 4].z = l; break; default: out[l / 4].w = l; }
@@ -157,6 +163,10 @@ kernel void vectors_right(global const int *in, global int *out) {
 }
 kernel void vectors_wrong(global const int *in, global int *out) { // each writes one word of its neighbour
     vstore3(vload3(get_global_id(0), in), 0, out + 2 * get_global_id(0));
+}
+kernel void swaps(global int *out, int wrong) { // each item swaps two words; the mistake is that they overlap
+    global int *one = out + get_global_id(0) * (2 - wrong);
+    const int was = one[0]; one[0] = one[1]; one[1] = was;
 }
 kernel void copies_right(global const int *in, global int *out) {
     local int tile[64];
@@ -416,11 +426,15 @@ def cases():
     yield Case("components_wrong", [zeros * 2], ALL // 2)  # the component y of each vector
     yield Case("components_read_right", [zeros * 2, zeros], 0, {1: [0] * ALL})
     yield Case("components_read_wrong", [zeros * 2, zeros], ALL // 2)  # y again
+    yield Case("components_computed", [zeros, zeros, 0], 0, {0: list(range(ALL)), 1: list(range(ALL))})
+    yield Case("components_computed", [zeros, zeros, 1], ALL, {0: list(range(ALL))})
     yield Case("component_single", [zeros], 0, {0: list(range(ALL))})
     yield Case("bytes_right", [[0] * (ALL // 4), [0] * (ALL // 2)])
     yield Case("vectors_right", [zeros * 4, zeros * 4], 0, {1: [1] * 4 * ALL})
     yield Case("vectors_wrong", [zeros * 4, zeros * 4], ALL - 1)
     yield Case("copies_right", [list(range(2 * ALL)), zeros], 0, {1: [2 * (g * 64 + 63 - l) for g in range(GROUPS) for l in range(ITEMS)]})
+    yield Case("swaps", [list(range(2 * ALL)), 0], 0, {0: [at ^ 1 for at in range(2 * ALL)]})
+    yield Case("swaps", [list(range(2 * ALL)), 1], ALL - 1, unsaid="use an atomic")
     after = "nothing orders the two; wait_group_events after the copy would, or, if the copy comes last, a barrier before it"
     yield Case("copies_wrong", [list(range(ALL)), zeros], ALL, say=(after,))  # each word of each tile
     yield Case("copies_unwaited", [list(range(ALL)), zeros], ALL, say=(after,))

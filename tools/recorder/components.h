@@ -15,7 +15,16 @@ namespace gpurace::components {
 
 using namespace llvm;
 
-struct Component { unsigned number; Value *value; };
+struct Component { Value *number, *value; };
+
+// Where a component of the vector at a place is; its number may be computed.
+inline Value *place_of(IRBuilder<> &builder, Type *type, Value *vector, Value *number) {
+    return builder.CreateInBoundsGEP(type, vector, {builder.getInt64(0), number});
+}
+
+inline uint64_t component_bytes(const Instruction &at, VectorType *type) {
+    return at.getModule()->getDataLayout().getTypeStoreSize(type->getElementType());
+}
 
 // The load of the vector of which a store changes some components: that of the same place, in the same block.
 inline LoadInst *whole_of(StoreInst &store, Value *from) {
@@ -28,9 +37,7 @@ inline LoadInst *whole_of(StoreInst &store, Value *from) {
 inline std::vector<Component> changed_components(StoreInst &store) {
     std::vector<Component> changed;
     if (auto *insert = dyn_cast<InsertElementInst>(store.getValueOperand())) {
-        auto *index = dyn_cast<ConstantInt>(insert->getOperand(2));
-        if (index && whole_of(store, insert->getOperand(0)))
-            changed.push_back({unsigned(index->getZExtValue()), insert->getOperand(1)});
+        if (whole_of(store, insert->getOperand(0))) changed.push_back({insert->getOperand(2), insert->getOperand(1)});
     } else if (auto *shuffle = dyn_cast<ShuffleVectorInst>(store.getValueOperand())) {
         Value *whole = shuffle->getOperand(0), *others = shuffle->getOperand(1);
         const ArrayRef<int> mask = shuffle->getShuffleMask();
@@ -41,7 +48,7 @@ inline std::vector<Component> changed_components(StoreInst &store) {
             const int from = mask[size_t(at)];
             if (from == at || from < 0) continue;
             if (from < width) return {}; // a component that moves: all of the old value is read
-            changed.push_back({unsigned(at), builder.CreateExtractElement(others, uint64_t(from - width))});
+            changed.push_back({builder.getInt64(uint64_t(at)), builder.CreateExtractElement(others, uint64_t(from - width))});
         }
     }
     return changed;
@@ -58,11 +65,10 @@ inline bool is_idle(LoadInst &load) {
 
 inline void store_components(StoreInst &store, const std::vector<Component> &changed) {
     auto *type = cast<FixedVectorType>(store.getValueOperand()->getType());
-    const uint64_t bytes = store.getModule()->getDataLayout().getTypeStoreSize(type->getElementType());
+    const Align align = commonAlignment(store.getAlign(), component_bytes(store, type));
     IRBuilder<> builder(&store);
     for (const Component &component : changed) {
-        Value *place = builder.CreateConstInBoundsGEP2_32(type, store.getPointerOperand(), 0, component.number);
-        const Align align = commonAlignment(store.getAlign(), component.number * bytes);
+        Value *place = place_of(builder, type, store.getPointerOperand(), component.number);
         builder.CreateAlignedStore(component.value, place, align, store.isVolatile());
     }
     auto *value = cast<Instruction>(store.getValueOperand());
@@ -92,17 +98,35 @@ inline std::set<unsigned> used_components(const LoadInst &load) {
     return used;
 }
 
-inline void load_components(LoadInst &load, const std::set<unsigned> &used) {
+inline Value *load_component(IRBuilder<> &builder, LoadInst &load, Value *number) {
     auto *type = cast<FixedVectorType>(load.getType());
-    const uint64_t bytes = load.getModule()->getDataLayout().getTypeStoreSize(type->getElementType());
+    const Align align = commonAlignment(load.getAlign(), component_bytes(load, type));
+    Value *place = place_of(builder, type, load.getPointerOperand(), number);
+    return builder.CreateAlignedLoad(type->getElementType(), place, align, load.isVolatile());
+}
+
+inline void load_components(LoadInst &load, const std::set<unsigned> &used) {
     IRBuilder<> builder(&load);
-    Value *vector = UndefValue::get(type);
-    for (const unsigned number : used) {
-        Value *place = builder.CreateConstInBoundsGEP2_32(type, load.getPointerOperand(), 0, number);
-        Value *component = builder.CreateAlignedLoad(type->getElementType(), place, commonAlignment(load.getAlign(), number * bytes), load.isVolatile());
-        vector = builder.CreateInsertElement(vector, component, uint64_t(number));
-    }
+    Value *vector = UndefValue::get(load.getType());
+    for (const unsigned number : used)
+        vector = builder.CreateInsertElement(vector, load_component(builder, load, builder.getInt64(number)), uint64_t(number));
     load.replaceAllUsesWith(vector);
+    load.eraseFromParent();
+}
+
+// Where one component of a loaded vector is used, of a computed number, and nothing is written before that; else none.
+inline ExtractElementInst *computed_component(LoadInst &load) {
+    auto *extract = load.hasOneUse() ? dyn_cast<ExtractElementInst>(load.user_back()) : nullptr;
+    if (!extract || isa<Constant>(extract->getIndexOperand())) return nullptr;
+    for (Instruction *next = load.getNextNode(); next != extract; next = next->getNextNode())
+        if (!next || next->mayWriteToMemory()) return nullptr;
+    return extract;
+}
+
+inline void load_computed(LoadInst &load, ExtractElementInst &extract) {
+    IRBuilder<> builder(&extract);
+    extract.replaceAllUsesWith(load_component(builder, load, extract.getIndexOperand()));
+    extract.eraseFromParent();
     load.eraseFromParent();
 }
 
@@ -125,6 +149,7 @@ inline void narrow(Function &function) {
     for (LoadInst *load : loads) {
         const std::set<unsigned> used = used_components(*load);
         if (!used.empty() && used.size() < cast<FixedVectorType>(load->getType())->getNumElements()) load_components(*load, used);
+        else if (ExtractElementInst *extract = computed_component(*load)) load_computed(*load, *extract);
     }
 }
 

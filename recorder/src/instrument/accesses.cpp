@@ -54,7 +54,7 @@ private:
         else if (name.startswith("async_work_group_")) found.copies.push_back(&call);
         else if (name.startswith("vload") || name.startswith("vstore")) find_vector(call, name);
         else if (is_fence(name)) found.fences.push_back(&call);
-        else if (is_image_access(name)) found.images.push_back(&call);
+        else if (is_image_access(call)) found.images.push_back(&call);
         else if (const int operand = result_operand_of(call); operand >= 0) {
             const uint64_t bytes = size_of(pointee_of(call.getArgOperand(unsigned(operand))));
             add({&call, unsigned(operand), WRITE, bytes, std::min<uint64_t>(bytes, 4)});

@@ -115,6 +115,10 @@ int result_operand_of(const CallInst &call) {
 
 bool is_fence(StringRef name) { return name.endswith("mem_fence") || name == "atomic_work_item_fence"; }
 
-bool is_image_access(StringRef name) { return name.startswith("read_image") || name.startswith("write_image"); }
+bool is_image_access(const CallInst &call) {
+    if (!name_of(call).startswith("read_image")) return name_of(call).startswith("write_image");
+    const auto *image = dyn_cast<StructType>(pointee_of(call.getArgOperand(0)));
+    return !image || !image->getName().contains("_ro_t") || image->getName().contains("buffer");
+}
 
 } // namespace gpurace

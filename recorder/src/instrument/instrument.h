@@ -45,7 +45,8 @@ int number_row_of(llvm::StringRef name);
 int result_operand_of(const llvm::CallInst &call);
 
 bool is_fence(llvm::StringRef name);
-bool is_image_access(llvm::StringRef name);
+// An access of an image that may race: no kernel writes an image that it takes as `read_only`, but for one that is a buffer's.
+bool is_image_access(const llvm::CallInst &call);
 
 // The type that a pointer of a builtin points to.
 inline llvm::Type *pointee_of(const llvm::Value *pointer) {
