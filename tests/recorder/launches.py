@@ -292,11 +292,16 @@ race on global word 16
         self.assertEqual([(it.words, it.cause, it.message) for it in found], [(2, "", "the cause was not known after 1 s")])
 
     def test_a_plain_access_beside_atomics(self):
-        self.assert_report(["group 0 items 2 launch 7\n0 rmw g 5 dev rlx\n1 r g 5\nend\n"], {}, "found", """\
+        """In one group a barrier may be what is missing; none orders two groups."""
+        atomic, plain = "rmw g 5 dev rlx", "r g 5"
+        two_groups = [f"group {group} items 1 launch 7\n0 {step}\nend\n" for group, step in enumerate((atomic, plain))]
+        for streams, other, barrier in (([f"group 0 items 2 launch 7\n0 {atomic}\n1 {plain}\nend\n"], "group 0, item 1",
+                                         "put a barrier with CLK_GLOBAL_MEM_FENCE between the two, or "), (two_groups, "group 1, item 0", "")):
+            self.assert_report(streams, {}, "found", f"""\
 race on global word 5
     unknown place: atomic read-modify-write (relaxed, device scope) by group 0, item 0
-    unknown place: read by group 0, item 1
-    a plain read beside atomics: make it an atomic load (in OpenCL 1.2 an atomic_or with 0)
+    unknown place: read by {other}
+    a plain read beside atomics: {barrier}make it an atomic load (in OpenCL 1.2 an atomic_or with 0)
 """)
 
     def test_items_that_count(self):

@@ -89,7 +89,8 @@ def of_nothing(said: str, pair: Pair) -> str:
         return COPY
     for one, other in ((pair.first, pair.second), (pair.second, pair.first)):
         if one.what not in NAMES and other.what in NAMES:
-            return f"a plain {one.what} beside atomics: make it an atomic {OWN[one.what]}"
+            barrier = f"put a barrier with {FLAGS[pair.space][1]} between the two, or " if pair.is_one_group else ""
+            return f"a plain {one.what} beside atomics: {barrier}make it an atomic {OWN[one.what]}"
     if not pair.is_one_group and pair.release and pair.acquire and pair.release.place and pair.acquire.place:
         return f"{said}; the release at {pair.release.place} and the acquire at {pair.acquire.place} do not meet"
     weak = of_orders(pair.store, pair.load) if not pair.is_one_group and pair.store and pair.load else ""
