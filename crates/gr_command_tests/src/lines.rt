@@ -5,7 +5,7 @@ use gr_model::memory::Memory;
 use gr_places::buffers::{element_of, read_buffers};
 use gr_places::fault::SideFault;
 use gr_places::index::PlaceIndex;
-use gr_places::places::{Placed, place_of, read_places};
+use gr_places::places::{Placed, read_places};
 use refusing::growths::refuse_each;
 use std::alloc::{Allocator, Global};
 use std::test::Fail;
@@ -50,8 +50,9 @@ fn is_placed<A: Allocator + Copy>(alloc: A) -> Result<bool, SideFault> {
         },
         index: 4_294_967_295,
     };
-    let place = place_of(&lines, Placed::Event(greatest));
-    Ok(place == Some("a") && place_of(&lines, Placed::Site(1)) == Some("scan.cl:5000:3"))
+    let index = PlaceIndex::of(alloc, &lines)?;
+    let place = index.place_of(Placed::Event(greatest));
+    Ok(place == Some("a") && index.place_of(Placed::Site(1)) == Some("scan.cl:5000:3"))
 }
 
 /// Whether a word of a buffer has its name and its place there.
@@ -78,7 +79,7 @@ fn lines_are_read_and_each_refused_growth_is_want_of_memory(rt: HostRuntime) {
     let alloc = rt.alloc();
     let all = [
         refuse_each(alloc, 3, |heap| or_memory(is_indexed(heap))),
-        refuse_each(alloc, 1, |heap| or_memory(is_placed(heap))),
+        refuse_each(alloc, 3, |heap| or_memory(is_placed(heap))),
         refuse_each(alloc, 1, |heap| or_memory(is_named(heap))),
     ];
     for growths in all {

@@ -7,7 +7,8 @@ use crate::values::{
 };
 use gr_model::event::EventId;
 use gr_model::race::Race;
-use gr_places::places::{Placed, place_of};
+use gr_places::index::PlaceIndex;
+use gr_places::places::Placed;
 use gr_places::sides::Sides;
 use gr_races::by_kind::RacesByKind;
 use gr_races::cause::Cause;
@@ -16,31 +17,42 @@ use serde_json::json;
 use std::alloc::Global;
 
 /// An event, and where it is in the source.
-fn access_value(alloc: Global, sides: &Sides<'_>, event: EventId) -> Made {
+fn access_value(alloc: Global, places: &PlaceIndex<'_>, event: EventId) -> Made {
     json!(in alloc; {
         "group": event.at.group,
         "index": event.index,
         "item": event.at.item,
-        "place": text_value(alloc, place_of(sides.places, Placed::Event(event)))?
+        "place": text_value(alloc, places.place_of(Placed::Event(event)))?
     })
 }
 
 /// A race, its word and its buffer, and its cause if it is known.
-fn race_value(alloc: Global, sides: &Sides<'_>, race: &Race, cause: Option<Cause>) -> Made {
+fn race_value(
+    alloc: Global,
+    sides: &Sides<'_>,
+    places: &PlaceIndex<'_>,
+    race: &Race,
+    cause: Option<Cause>,
+) -> Made {
     let word = race.word;
     json!(in alloc; {
         "buffer": buffer_value(alloc, sides, word)?,
         "cause": or_null(cause, |it| {
             json!(in alloc; {"name": cause_name(it), "sentence": cause_sentence(word, it)})
         })?,
-        "first": access_value(alloc, sides, race.first)?,
-        "second": access_value(alloc, sides, race.second)?,
+        "first": access_value(alloc, places, race.first)?,
+        "second": access_value(alloc, places, race.second)?,
         "word": word_value(alloc, word)?
     })
 }
 
 /// A kind, the first of its races, and its words.
-fn entry_value(alloc: Global, sides: &Sides<'_>, entry: &KindEntry) -> Made {
+fn entry_value(
+    alloc: Global,
+    sides: &Sides<'_>,
+    places: &PlaceIndex<'_>,
+    entry: &KindEntry,
+) -> Made {
     let kind = entry.kind;
     json!(in alloc; {
         "kind": {
@@ -50,7 +62,9 @@ fn entry_value(alloc: Global, sides: &Sides<'_>, entry: &KindEntry) -> Made {
             "second": operation_name(kind.second.operation),
             "space": space_name(kind.space)
         },
-        "race": or_null(entry.races.first(), |race| race_value(alloc, sides, race, kind.cause))?,
+        "race": or_null(entry.races.first(), |race| {
+            race_value(alloc, sides, places, race, kind.cause)
+        })?,
         "runs": array_of(alloc, &entry.runs, |run| {
             json!(in alloc; {"first": word_value(alloc, run.first)?, "last": run.last})
         })?,
@@ -78,13 +92,14 @@ pub fn races_json(
         "type": "end",
         "unmatched": found.report.unmatched.as_slice().len()
     });
+    let places = PlaceIndex::of(alloc, sides.places)?;
     let mut text = Vec::new(alloc);
     let divergences = found.report.divergences.as_slice();
     push_objects(&mut text, divergences, |it| divergence_value(alloc, it))?;
     push_objects(
         &mut text,
         found.at_most(most),
-        |entry| entry_value(alloc, sides, entry),
+        |entry| entry_value(alloc, sides, &places, entry),
     )?;
     push_object(&mut text, end)?;
     Ok(text)

@@ -1,7 +1,6 @@
 //! Where in the source events and barriers are.
 
 ghost use Rattle.std.specs.Prelude.{◌≡◌, map};
-ghost use Rattle.std.specs.List.{find};
 ghost use Rattle.std.specs.Option.{option_map};
 ghost use Rattle.gr_places.specs.SideLines as spec;
 
@@ -103,19 +102,4 @@ pub fn read_places<A: Allocator>(alloc: A, text: &[u8]) -> Result<Vec<PlaceLine<
         rest = after;
     }
     Ok(lines)
-}
-
-/// The first line of an event or a site.
-fn line_of<'a>(lines: &[PlaceLine<'a>], placed: Placed) -> Option<PlaceLine<'a>>
-    ensures { result ≡ find (λ l. spec.same_placed l.of placed) lines.now }
-{
-    lines.iter().copied().find(|line| line.of == placed)
-}
-
-/// The place of an event or a site, by the first line that has it, or `None` if no line has it.
-pub fn place_of<'a>(lines: &[PlaceLine<'a>], placed: Placed) -> Option<&'a str>
-    ensures { option_map (λ text. text.now) result ≡ spec.place_of (map spec.place_line lines.now) placed }
-{
-    let line = line_of(lines, placed)?;
-    Some(line.text)
 }

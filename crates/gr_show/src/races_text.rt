@@ -3,7 +3,8 @@
 use crate::event_text::{Added, WordText, put_cause, put_race};
 use gr_json::names::{divergence_name, operation_name, space_name};
 use gr_model::memory::Memory;
-use gr_places::places::{Placed, place_of};
+use gr_places::index::PlaceIndex;
+use gr_places::places::Placed;
 use gr_places::sides::Sides;
 use gr_races::by_kind::RacesByKind;
 use gr_races::kinds::RaceKind;
@@ -47,7 +48,12 @@ fn put_words<A: Allocator>(text: &mut String<A>, entry: &KindEntry<A>) -> Added 
 }
 
 /// Adds a kind with its words, and the first of its races with what side files say, and with its cause if it is known.
-fn put_entry<A: Allocator>(text: &mut String<A>, sides: &Sides<'_>, entry: &KindEntry<A>) -> Added {
+fn put_entry<A: Allocator>(
+    text: &mut String<A>,
+    sides: &Sides<'_>,
+    places: &PlaceIndex<'_, A>,
+    entry: &KindEntry<A>,
+) -> Added {
     let kind = entry.kind;
     put_kind(text, kind, entry.races.len())?;
     put_words(text, entry)?;
@@ -56,7 +62,7 @@ fn put_entry<A: Allocator>(text: &mut String<A>, sides: &Sides<'_>, entry: &Kind
     };
     put_race(text, sides, race.word, (race.first, race.second))?;
     for (label, event) in [("first", race.first), ("second", race.second)] {
-        if let Some(place) = place_of(sides.places, Placed::Event(event)) {
+        if let Some(place) = places.place_of(Placed::Event(event)) {
             writeln!(text, "{label} {place}")?;
         }
     }
@@ -79,12 +85,13 @@ fn put_end<A: Allocator>(text: &mut String<A>, found: &RacesByKind<A>) -> Added 
 
 /// The text of the divergent barriers of a launch, its races kind by kind, at most `most` kinds, with what side files say about them,
 /// and an end that counts all of them.
-pub(crate) fn races_text<A: Allocator>(
+pub(crate) fn races_text<A: Allocator + Copy>(
     alloc: A,
     sides: &Sides<'_>,
     found: &RacesByKind<A>,
     most: Option<u32>,
 ) -> Result<Vec<u8, A>, Memory> {
+    let places = PlaceIndex::of(alloc, sides.places)?;
     let mut text = String::new(alloc);
     for divergence in found.report.divergences.as_slice() {
         let (group, instance) = (divergence.group, divergence.instance);
@@ -92,7 +99,7 @@ pub(crate) fn races_text<A: Allocator>(
         writeln!(text, "diverge {group} {instance} {cause}")?;
     }
     for entry in found.at_most(most) {
-        put_entry(&mut text, sides, entry)?;
+        put_entry(&mut text, sides, &places, entry)?;
     }
     put_end(&mut text, found)?;
     Ok(text.into_bytes())
