@@ -5,9 +5,7 @@ use Rattle.std.proofs.lemmas.Bool.{false_from_ne_true}
 use Rattle.std.proofs.lemmas.Str.{IsUtf8-from_is_utf8, is_utf8-from_IsUtf8}
 use Rattle.gr_model.specs.declared.event.Word.{Word}
 use Rattle.gr_places.specs.declared.buffers.BufferLine.{BufferLine}
-use Rattle.gr_places.specs.declared.places.Placed.{Placed}
-use Rattle.gr_places.specs.declared.places.PlaceLine.{PlaceLine}
-use Rattle.gr_places.specs.SideLines.{BufferSaid, ElementSaid, PlaceSaid, buffer_line, element_of, index_in, place_line, place_of, said_from, said_next, same_placed, text_said}
+use Rattle.gr_places.specs.SideLines.{BufferSaid, ElementSaid, buffer_line, element_of, index_in, said_next, text_said}
 
 -- what lines say, after what the lines before them said
 abbrev pub joined : {X : Type 0} → List X → Result (List X) ℕ → Result (List X) ℕ
@@ -47,9 +45,6 @@ text_read view Q bytes (Ok s) some m = ap (λ (t : List ℕ). Some t) m.0 ∙ sy
 text_read view Q bytes (Err e) some m = sym (text_other bytes m.0)
 
 -- ---- what is found in lines
-
-pub place_found : (lines : List PlaceLine) (p : Placed) (o : Option PlaceLine) → o ≡ find (λ (l : PlaceLine). same_placed l.of p) lines → option_map (λ (l : PlaceLine). l.text.now) o ≡ place_of (map place_line lines) p
-place_found lines p o is = grind (arith, find_viewed place_line (λ (l : PlaceSaid). same_placed l.of p) lines)
 
 -- the element of a word in a line
 abbrev pub with_index : Word → BufferSaid → Option ElementSaid

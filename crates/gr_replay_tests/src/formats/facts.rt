@@ -5,7 +5,8 @@ ghost use Rattle.gr_model.specs.Events.{IsEventOk};
 
 use gr_model::event::{Event, ItemId, Kind, Name, Order, Scope, Space, Word};
 use gr_model::names::Names;
-use gr_places::places::{PlaceLine, Placed, place_of};
+use gr_places::index::PlaceIndex;
+use gr_places::places::{PlaceLine, Placed};
 use gr_record::decoder::Decoder;
 use gr_record::encoding::{encode_event, encode_header};
 use gr_record::header::{Header, Version};
@@ -124,7 +125,7 @@ fn naming_of_names_out_of_order() {
 
 /// The first line of a site gives its place.
 #[test]
-fn place_of_a_site_with_two_lines() {
+fn place_of_a_site_with_two_lines(rt: HostRuntime) {
     let first = PlaceLine {
         of: Placed::Site(3),
         text: "a",
@@ -133,8 +134,10 @@ fn place_of_a_site_with_two_lines() {
         of: Placed::Site(3),
         text: "bb",
     };
-    let place = place_of(&[first, second], Placed::Site(3));
-    prove!(matches!(place, Some(text) if text.len() == 1));
+    if let Ok(index) = PlaceIndex::of(rt.alloc(), &[first, second]) {
+        let place = index.place_of(Placed::Site(3));
+        prove!(matches!(place, Some(text) if text.len() == 1));
+    }
 }
 
 /// Has a byte left, and fails at each read.
