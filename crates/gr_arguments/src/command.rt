@@ -237,7 +237,7 @@ Example:
   file group1.gpurace
   record 17 byte 352
   wrong: the record's work-item is not below the header's number of work-items
-  right: bytes 4 and 5 are the work-item by its place in the group, from 0; often it is the global number that was written";
+  right: bytes 4 and 5 are the work-item by its place in the group, from 0; often the global number was written in its place";
 
 const LONG_WHY_HELD: &str = "\
 Reports why an event is held, and so not judged: what it waits for, what that waits for, and so on, up to an acquire that names a

@@ -96,10 +96,10 @@ fn lines_of_faults_are_flushed(rt: HostRuntime) {
 }
 
 const CHECKED: &str = "gpurace: shape: no groups\nwrong: there is no stream\n\
-right: there is one stream at least; often the program before failed\n";
+right: there is at least one stream; often the program before failed\n";
 
 const CHECKED_JSON: &str = "{\"gpurace\":1,\"accepted\":false,\"place\":null,\
-\"right\":\"there is one stream at least; often the program before failed\",\
+\"right\":\"there is at least one stream; often the program before failed\",\
 \"type\":\"check\",\"wrong\":\"there is no stream\"}\n";
 
 #[test]

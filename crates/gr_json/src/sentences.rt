@@ -17,14 +17,14 @@ fn wrong_in_stream(error: RecordError) -> &'static str {
         }
         RecordError::BadOrder => "a load releases, or a store acquires",
         RecordError::BadName => {
-            "a name is out of range, not above the one before it, behind a place that is not used, or in a record that acquires nothing"
+            "a name is out of range, not above the one before it, after a place that is not used, or in a record that acquires nothing"
         }
         RecordError::UnknownItem => {
             "the record's work-item is not below the header's number of work-items"
         }
         RecordError::AfterEnd => "bytes follow the end of the stream",
         RecordError::Truncated => {
-            "the file is over before the header, this record or the end is whole"
+            "the file ends before the header, this record or the end is whole"
         }
         RecordError::TooManyRecords => "the record is one more than a stream may have",
         RecordError::Memory => "memory ran out",
@@ -50,7 +50,7 @@ pub fn wrong(fault: Fault) -> &'static str {
         Fault::MissingGroup(_) => "there is a stream of a greater group, and none of this one",
         Fault::Shape(error) => wrong_in_shape(error),
         Fault::BadLine(_) => "the line is not one that its place needs",
-        Fault::NoEnd => "the text is over inside a stream",
+        Fault::NoEnd => "the text ends inside a stream",
         Fault::LongStream(_) => "the line is one record more than a stream may have",
         Fault::Read => "the input could not be read, or a file could not be opened",
         Fault::Write => "the output could not be written",
@@ -63,7 +63,7 @@ pub fn wrong(fault: Fault) -> &'static str {
 fn right_at(place: u8) -> &'static str {
     match place {
         1 => {
-            "byte 1 is the memory of an access, 0 or 1; the flags of a barrier, 0 to 3; of an end 1 where records were lost, else 0"
+            "byte 1 is the memory of an access, 0 or 1; the flags of a barrier, 0 to 3; of an end 1 if records were lost, else 0"
         }
         2 => "byte 2 is the scope of an atomic access, 1 or 2, whatever its memory is, and else 0",
         3 => "byte 3 is the order of an atomic access, 1 to 4, and else 0",
@@ -84,35 +84,35 @@ fn right_in_stream(error: RecordError) -> &'static str {
             "groups count from 0, to 63 in GRT1 and GRT2 and to 65534 in GRT3 and GRT4; a group has 1 to 256 work-items there, and 1 to 1024 here"
         }
         RecordError::BadKind => {
-            "kinds are 0 to 6; often the records before it have not the length that the header's version has, 20 bytes in GRT1 and GRT3 and 44 in GRT2 and GRT4"
+            "kinds are 0 to 6; often the records before it do not have the length of the header's version, 20 bytes in GRT1 and GRT3 and 44 in GRT2 and GRT4"
         }
         RecordError::BadField(place) => right_at(place),
         RecordError::BadOrder => {
             "a load has order 1 or 2 and a store 1 or 3; an operation of memory_order_seq_cst is written as acquire, release or both, by what it does"
         }
         RecordError::BadName => {
-            "names stand in the first places, ascending by group, item and number, and only where the order is acquire or both; each place that is not used has eight bytes ff"
+            "names are in the first places, ascending by group, item and number, and only if the order is acquire or both; each place that is not used has eight bytes ff"
         }
         RecordError::UnknownItem => {
-            "bytes 4 and 5 are the work-item by its place in the group, from 0; often it is the global number that was written"
+            "bytes 4 and 5 are the work-item by its place in the group, from 0; often the global number was written in its place"
         }
         RecordError::AfterEnd => {
-            "behind the end of a stream the file is over, or the header of the next stream stands there"
+            "after the end of a stream the file ends, or the header of the next stream follows"
         }
         RecordError::Truncated => {
-            "the last record is an end, whose byte 1 is 1 where records were lost; often the producer was stopped, or is still writing"
+            "the last record is an end, whose byte 1 is 1 if records were lost; often the producer was stopped, or is still writing"
         }
         RecordError::TooManyRecords => {
-            "a stream has at most 16777216 records, its end included; where the rest is left out, byte 1 of the end is 1"
+            "a stream has at most 16777216 records, its end included; if the rest is left out, byte 1 of the end is 1"
         }
-        RecordError::Memory => "the same needs more memory",
+        RecordError::Memory => "more memory is needed",
     }
 }
 
 /// What would be right in the sizes of groups.
 fn right_in_shape(error: ShapeError) -> &'static str {
     match error {
-        ShapeError::NoGroups => "there is one stream at least; often the program before failed",
+        ShapeError::NoGroups => "there is at least one stream; often the program before failed",
         ShapeError::TooManyGroups => {
             "a launch has at most 65535 groups; a larger one is recorded with fewer groups"
         }
@@ -136,17 +136,17 @@ pub fn right(fault: Fault) -> &'static str {
             "all streams of a launch have the same launch number; often a file of an earlier launch was left among the others"
         }
         Fault::MissingGroup(_) => {
-            "the groups are 0, 1, 2 and so on without a gap, and each has a stream, also where it did nothing; often a file is not given"
+            "the groups are 0, 1, 2 and so on without a gap, and each has a stream, even if it did nothing; often a file is not given"
         }
         Fault::Shape(error) => right_in_shape(error),
         Fault::BadLine(_) => {
-            "a header stands first and after each end, and else a record; tokens are separated by one space"
+            "the first line and each line after an end are a header, and the others records; words are separated by one space"
         }
-        Fault::NoEnd => "each stream ends in a line end, or end cut where records were lost",
+        Fault::NoEnd => "the last line of each stream is end, or end cut if records were lost",
         Fault::LongStream(_) => "a stream has at most 16777216 records, its end included",
         Fault::Read => "each file is there and may be read",
         Fault::Write => "there is room for the output, and somebody reads it",
-        Fault::Memory => "the same needs more memory",
+        Fault::Memory => "more memory is needed",
         Fault::Threads => "the system allows more threads",
     }
 }

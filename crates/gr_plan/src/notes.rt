@@ -37,7 +37,7 @@ pub fn note(plan: &mut Plan, command: &str, errors: &mut Held) -> io::Result<()>
         (None, None) => match &plan.files.torn {
             Some(name) if is_missing => writeln!(
                 errors,
-                "gpurace: {name}: its last stream is truncated, and streams behind it may be lost"
+                "gpurace: {name}: its last stream is truncated, and streams after it may be lost"
             ),
             _ => Ok(()),
         },
@@ -127,7 +127,7 @@ fn put<W: Write>(
     if let Some(name) = name {
         write!(to, "gpurace: {name}: stream {stream}, ")?;
         if account.fault == Some(RecordError::AfterEnd) && !is_header {
-            writeln!(to, "behind its end")?;
+            writeln!(to, "after its end")?;
         } else if account.header.is_none() || is_header {
             writeln!(to, "at its header")?;
         } else {
@@ -194,10 +194,7 @@ fn note_stream<W: Write>(
 fn note_line<W: Write>(to: &mut W, plan: &Plan, number: u64) -> io::Result<()> {
     match &plan.reading.text {
         None => Ok(()),
-        Some(text) if begins_stream(text) => writeln!(
-            to,
-            "gpurace: the input is a trace already, and no text of one"
-        ),
+        Some(text) if begins_stream(text) => writeln!(to, "gpurace: the input is packed already"),
         Some(text) => put_bad_line(to, text, number),
     }
 }

@@ -187,10 +187,10 @@ fn put_bad_word<W: Write>(to: &mut W, line: &[u8], at: usize, due: Due) -> io::R
     write!(to, ", word {}: ", at.saturating_add(1))?;
     match word_at(line, at) {
         None => write!(to, "the line ends")?,
-        Some([]) => write!(to, "there is none, but a space")?,
+        Some([]) => write!(to, "a space too many")?,
         Some(word) => put_shown(to, word)?,
     }
-    write!(to, "; due is ")?;
+    write!(to, "; expected ")?;
     put_due(to, due)?;
     writeln!(to, "")
 }
