@@ -18,7 +18,7 @@ use std::sync::Arc;
 
 /// What a name means. A `File` may be read again; a `Pipe` is also a device.
 #[derive(Clone, Copy, PartialEq, Eq)]
-pub enum Kind {
+pub enum FileKind {
     Input,
     File,
     Folder,
@@ -27,15 +27,15 @@ pub enum Kind {
 }
 
 /// What a name means.
-pub fn kind_of(rt: HostRuntime, name: &str) -> Kind {
+pub fn file_kind(rt: HostRuntime, name: &str) -> FileKind {
     if name == "-" {
-        return Kind::Input;
+        return FileKind::Input;
     }
     match fs::metadata(&rt, name) {
-        Ok(metadata) if metadata.is_dir() => Kind::Folder,
-        Ok(metadata) if metadata.is_file() => Kind::File,
-        Ok(_) => Kind::Pipe,
-        Err(_) => Kind::Missing,
+        Ok(metadata) if metadata.is_dir() => FileKind::Folder,
+        Ok(metadata) if metadata.is_file() => FileKind::File,
+        Ok(_) => FileKind::Pipe,
+        Err(_) => FileKind::Missing,
     }
 }
 
@@ -105,7 +105,7 @@ pub fn launch_in(rt: HostRuntime, folder: &str) -> Result<Option<String>, Memory
 /// The path of a side file in a folder, if it is there.
 fn side_file(rt: HostRuntime, folder: &str, name: &str) -> Result<Option<String>, Memory> {
     let path = path_below(rt.alloc(), folder, name)?;
-    let is_there = kind_of(rt, path.as_str()) == Kind::File;
+    let is_there = file_kind(rt, path.as_str()) == FileKind::File;
     Ok(is_there.then_some(path))
 }
 
@@ -113,7 +113,7 @@ fn side_file(rt: HostRuntime, folder: &str, name: &str) -> Result<Option<String>
 pub fn buffers_of(line: &Line<'_>, names: &[&str]) -> Result<Option<String>, Memory> {
     let mut path = line.path_of("--buffers")?;
     for name in names {
-        if path.is_none() && kind_of(line.rt, name) == Kind::Folder {
+        if path.is_none() && file_kind(line.rt, name) == FileKind::Folder {
             path = side_file(line.rt, name, "buffers")?;
         }
     }
@@ -165,7 +165,10 @@ impl Files {
         self.takes_sides = line.takes_sides();
         self.places = line.path_of("--places")?;
         self.buffers = line.path_of("--buffers")?;
-        if names.iter().any(|name| kind_of(rt, name) == Kind::Missing) {
+        if names
+            .iter()
+            .any(|name| file_kind(rt, name) == FileKind::Missing)
+        {
             self.names = copies_of(rt.alloc(), names)?;
             return Ok(());
         }
@@ -200,15 +203,15 @@ impl Files {
     /// commands the whole pipe is read here.
     fn add(&mut self, line: &Line<'_>, name: &str) -> Result<(), Fault> {
         let rt = self.rt;
-        match kind_of(rt, name) {
-            Kind::Input => self.add_bytes(name, &mut rt.stdin()),
-            Kind::File => self.add_file(name),
-            Kind::Folder => self.add_folder(name),
-            Kind::Pipe if line.command != "run" => match File::open(&rt, name) {
+        match file_kind(rt, name) {
+            FileKind::Input => self.add_bytes(name, &mut rt.stdin()),
+            FileKind::File => self.add_file(name),
+            FileKind::Folder => self.add_folder(name),
+            FileKind::Pipe if line.command != "run" => match File::open(&rt, name) {
                 Err(_) => Ok(self.add_name(name)?),
                 Ok(mut pipe) => self.add_bytes(name, &mut pipe),
             },
-            Kind::Pipe | Kind::Missing => Ok(self.add_name(name)?),
+            FileKind::Pipe | FileKind::Missing => Ok(self.add_name(name)?),
         }
     }
 

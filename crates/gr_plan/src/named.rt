@@ -1,7 +1,7 @@
 //! A word of memory that is given by its name, such as `partial[10]`, and reports about names that no word has, or that words of several
 //! memories have.
 
-use crate::files::{Kind, buffers_of, kind_of, launch_in, read_file};
+use crate::files::{FileKind, buffers_of, file_kind, launch_in, read_file};
 use crate::line::{Line, Taking};
 use crate::notes::reason_of;
 use crate::plan::Refusal;
@@ -127,7 +127,7 @@ impl Naming<'_, '_> {
     fn refusal_without_buffers(&self) -> Result<Refusal, Memory> {
         let (rt, alloc) = (self.line.rt, self.line.rt.alloc());
         for name in self.files {
-            if kind_of(rt, name) == Kind::Missing
+            if file_kind(rt, name) == FileKind::Missing
                 && let Err(error) = fs::metadata(&rt, name)
             {
                 return Ok(Refusal::NoFile(reason_of(alloc, name, &error)?));

@@ -1,7 +1,7 @@
 //! What is added to the line of a fault: which file it is about, and where in the file.
 
 use crate::account::{Account, begins_stream};
-use crate::files::{Kind, kind_of, launch_in};
+use crate::files::{FileKind, file_kind, launch_in};
 use crate::held::Held;
 use crate::plan::Plan;
 use crate::seen::Seen;
@@ -52,7 +52,7 @@ fn number_in(text: &str, word: &str) -> Option<u64> {
 
 /// Opens a file, and reads of it if asked to. Pipes are left as they are.
 fn try_file(rt: HostRuntime, name: &str, is_read: bool) -> io::Result<()> {
-    if !matches!(kind_of(rt, name), Kind::Input | Kind::Pipe) {
+    if !matches!(file_kind(rt, name), FileKind::Input | FileKind::Pipe) {
         let mut file = File::open(&rt, name)?;
         if is_read {
             file.read(&mut [0u8; 1])?;
@@ -151,7 +151,7 @@ fn put<W: Write>(
 
 /// The account of a file's one stream, up to its first record at fault; none if it can't be read again, or memory runs out.
 fn account_again(plan: &Plan, name: &str) -> Option<Account> {
-    if !plan.files.has_piece(name) && kind_of(plan.rt, name) != Kind::File {
+    if !plan.files.has_piece(name) && file_kind(plan.rt, name) != FileKind::File {
         return None;
     }
     let mut source = plan.files.open(name).ok()?;

@@ -1,6 +1,6 @@
 //! How the words of a command line are done: the words for `gr_command`, its input, and what names open.
 
-use crate::files::{Files, Kind, copies_of, kind_of, paths_of_streams};
+use crate::files::{FileKind, Files, copies_of, file_kind, paths_of_streams};
 use crate::line::{Line, Taking, is_option, may_be_command, taking_of};
 use crate::named::{Naming, naming_by, spelling_of};
 use crate::progress::Progress;
@@ -121,7 +121,7 @@ impl Plan {
             let (before, names) = line.values.split_at(leading.min(line.values.len()));
             return Ok(self.take_each(&line, before, names)?);
         }
-        match naming_by(&line, |word| kind_of(line.rt, word) == Kind::Missing) {
+        match naming_by(&line, |word| file_kind(line.rt, word) == FileKind::Missing) {
             None => Ok(()),
             Some(naming) => naming.check(),
         }
@@ -180,7 +180,7 @@ fn asks_for_report(rt: HostRuntime, words: &[String]) -> bool {
     let mut words = words.iter().map(|word| word.as_str());
     words.find(|word| *word != "--json").is_none_or(|word| {
         let is_other = is_option(word) || word == "help" || taking_of(word).is_some();
-        !is_other && (!may_be_command(word) || kind_of(rt, word) != Kind::Missing)
+        !is_other && (!may_be_command(word) || file_kind(rt, word) != FileKind::Missing)
     })
 }
 
@@ -189,7 +189,7 @@ fn files_given(rt: HostRuntime, names: &[&str], keeping: Keeping) -> Result<Vec<
     let mut given = Vec::new(rt.alloc());
     for name in names {
         let mut paths = Vec::new(rt.alloc());
-        if keeping != Keeping::Text && kind_of(rt, name) == Kind::Folder {
+        if keeping != Keeping::Text && file_kind(rt, name) == FileKind::Folder {
             paths = paths_of_streams(rt, name)?;
         }
         if paths.is_empty() {
