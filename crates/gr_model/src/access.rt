@@ -14,30 +14,14 @@ use crate::event::{Event, Kind, Scope, word_of};
 fn is_access(kind: &Kind) -> bool
     ensures { result ≡ spec.is_access kind.now }
 {
-    match kind {
-        Kind::Read | Kind::Write | Kind::Load(_, _) | Kind::Store(_, _) | Kind::Rmw(_, _) => true,
-        Kind::Barrier {
-            global: _,
-            local: _,
-        }
-        | Kind::End { cut: _ } => false,
-    }
+    !matches!(kind, Kind::Barrier { .. } | Kind::End { .. })
 }
 
 /// Whether an access of this kind modifies its word.
 fn modifies(kind: &Kind) -> bool
     ensures { result ≡ model.modifies kind.now }
 {
-    match kind {
-        Kind::Write | Kind::Store(_, _) | Kind::Rmw(_, _) => true,
-        Kind::Read
-        | Kind::Load(_, _)
-        | Kind::Barrier {
-            global: _,
-            local: _,
-        }
-        | Kind::End { cut: _ } => false,
-    }
+    matches!(kind, Kind::Write | Kind::Store(_, _) | Kind::Rmw(_, _))
 }
 
 /// Whether an event of this kind is a release.
@@ -46,13 +30,7 @@ fn is_release(kind: &Kind) -> bool
 {
     match kind {
         Kind::Load(_, order) | Kind::Store(_, order) | Kind::Rmw(_, order) => order.releases(),
-        Kind::Read
-        | Kind::Write
-        | Kind::Barrier {
-            global: _,
-            local: _,
-        }
-        | Kind::End { cut: _ } => false,
+        Kind::Read | Kind::Write | Kind::Barrier { .. } | Kind::End { .. } => false,
     }
 }
 
@@ -62,13 +40,7 @@ fn scope_of(kind: &Kind) -> Option<Scope>
 {
     match kind {
         Kind::Load(scope, _) | Kind::Store(scope, _) | Kind::Rmw(scope, _) => Some(*scope),
-        Kind::Read
-        | Kind::Write
-        | Kind::Barrier {
-            global: _,
-            local: _,
-        }
-        | Kind::End { cut: _ } => None,
+        Kind::Read | Kind::Write | Kind::Barrier { .. } | Kind::End { .. } => None,
     }
 }
 

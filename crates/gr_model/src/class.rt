@@ -48,26 +48,6 @@ impl Class {
     }
 }
 
-/// The class of an atomic access that modifies its word.
-fn modifying(scope: Scope) -> Class
-    ensures { result ≡ spec.modifying scope }
-{
-    match scope {
-        Scope::Group => Class::GroupModify,
-        Scope::Device => Class::DeviceModify,
-    }
-}
-
-/// The class of an atomic access that only reads its word.
-fn reading(scope: Scope) -> Class
-    ensures { result ≡ spec.reading scope }
-{
-    match scope {
-        Scope::Group => Class::GroupRead,
-        Scope::Device => Class::DeviceRead,
-    }
-}
-
 /// The class of an access of this kind, or `None` for a barrier and an end.
 pub fn class_of(kind: &Kind) -> Option<Class>
     ensures { result ≡ spec.class_of kind.now }
@@ -75,13 +55,11 @@ pub fn class_of(kind: &Kind) -> Option<Class>
     match kind {
         Kind::Read => Some(Class::PlainRead),
         Kind::Write => Some(Class::PlainWrite),
-        Kind::Load(scope, _) => Some(reading(*scope)),
-        Kind::Store(scope, _) | Kind::Rmw(scope, _) => Some(modifying(*scope)),
-        Kind::Barrier {
-            global: _,
-            local: _,
-        }
-        | Kind::End { cut: _ } => None,
+        Kind::Load(Scope::Group, _) => Some(Class::GroupRead),
+        Kind::Load(Scope::Device, _) => Some(Class::DeviceRead),
+        Kind::Store(Scope::Group, _) | Kind::Rmw(Scope::Group, _) => Some(Class::GroupModify),
+        Kind::Store(Scope::Device, _) | Kind::Rmw(Scope::Device, _) => Some(Class::DeviceModify),
+        Kind::Barrier { .. } | Kind::End { .. } => None,
     }
 }
 

@@ -128,20 +128,14 @@ impl Order {
     pub fn acquires(self) -> bool
         ensures { result ≡ acquires self }
     {
-        match self {
-            Order::Acquire | Order::Both => true,
-            Order::Relaxed | Order::Release => false,
-        }
+        matches!(self, Order::Acquire | Order::Both)
     }
 
     /// Whether an operation of this order is a release.
     pub fn releases(self) -> bool
         ensures { result ≡ releases self }
     {
-        match self {
-            Order::Release | Order::Both => true,
-            Order::Relaxed | Order::Acquire => false,
-        }
+        matches!(self, Order::Release | Order::Both)
     }
 }
 
@@ -152,13 +146,7 @@ impl Kind {
     {
         match self {
             Kind::Load(_, order) | Kind::Store(_, order) | Kind::Rmw(_, order) => order.acquires(),
-            Kind::Read
-            | Kind::Write
-            | Kind::Barrier {
-                global: _,
-                local: _,
-            }
-            | Kind::End { cut: _ } => false,
+            Kind::Read | Kind::Write | Kind::Barrier { .. } | Kind::End { .. } => false,
         }
     }
 
@@ -166,7 +154,7 @@ impl Kind {
     pub fn is_end(self) -> bool
         ensures { result ≡ is_end_kind self }
     {
-        matches!(self, Kind::End { cut: _ })
+        matches!(self, Kind::End { .. })
     }
 }
 
@@ -212,11 +200,8 @@ fn kind_ok(kind: Kind, item: u16, space: Space, word: u32) -> bool
         Kind::Read | Kind::Write | Kind::Rmw(_, _) => true,
         Kind::Load(_, order) => !order.releases(),
         Kind::Store(_, order) => !order.acquires(),
-        Kind::Barrier {
-            global: _,
-            local: _,
-        } => space == Space::Global,
-        Kind::End { cut: _ } => item == 0 && space == Space::Global && word == 0,
+        Kind::Barrier { .. } => space == Space::Global,
+        Kind::End { .. } => item == 0 && space == Space::Global && word == 0,
     }
 }
 
@@ -235,18 +220,9 @@ pub fn event_ok(event: &Event, items: u16) -> bool
 pub fn word_of(group: u16, event: &Event) -> Option<Word>
     ensures { result ≡ event_word group event.now }
 {
-    let word = match event.space {
-        Space::Global => Word::Global(event.word),
-        Space::Local => Word::Local(group, event.word),
-    };
-    match event.kind {
-        Kind::Read | Kind::Write | Kind::Load(_, _) | Kind::Store(_, _) | Kind::Rmw(_, _) => {
-            Some(word)
-        }
-        Kind::Barrier {
-            global: _,
-            local: _,
-        }
-        | Kind::End { cut: _ } => None,
+    match (event.kind, event.space) {
+        (Kind::Barrier { .. } | Kind::End { .. }, _) => None,
+        (_, Space::Global) => Some(Word::Global(event.word)),
+        (_, Space::Local) => Some(Word::Local(group, event.word)),
     }
 }
