@@ -6,7 +6,7 @@
 ghost use Rattle.std.specs.Prelude.{◌≡◌, ◌↔◌, IsTrue};
 ghost use Rattle.gr_model.specs.Access.{acquires, releases, is_acquire_kind, event_word};
 ghost use Rattle.gr_model.specs.NameLists.{IsNameWithin};
-ghost use Rattle.gr_model.specs.Events.{IsNamingOk, IsKindOk, IsEventOk, end_of, is_end_kind};
+ghost use Rattle.gr_model.specs.Events.{IsKindOk, IsEventOk, end_of, is_end_kind};
 
 use crate::limits::MOST_RECORDS;
 use crate::names::Names;
@@ -185,13 +185,6 @@ impl Name {
     }
 }
 
-/// Whether a record of this kind may have these names.
-fn naming_ok(kind: Kind, names: Names) -> bool
-    ensures { IsTrue result ↔ IsNamingOk kind names }
-{
-    names.as_slice().is_empty() || kind.is_acquire()
-}
-
 /// Whether a record's order is one that its kind may have, and the fields that the kind leaves unused are 0 or `Global`.
 fn kind_ok(kind: Kind, item: u16, space: Space, word: u32) -> bool
     ensures { IsTrue result ↔ IsKindOk kind item space word }
@@ -212,7 +205,7 @@ pub fn event_ok(event: &Event, items: u16) -> bool
     ensures { IsTrue result ↔ IsEventOk event.now items }
 {
     event.item < items
-        && naming_ok(event.kind, event.names)
+        && (event.names.as_slice().is_empty() || event.kind.is_acquire())
         && kind_ok(event.kind, event.item, event.space, event.word)
 }
 

@@ -80,10 +80,8 @@ impl<A: Allocator> GrowingShape<A> {
     pub fn has(&self, item: ItemId) -> bool
         ensures { IsTrue result ↔ HasItem self.now item }
     {
-        match self.sizes.get(item.group as usize) {
-            None => false,
-            Some(size) => item.item < *size,
-        }
+        let size = self.sizes.get(item.group as usize);
+        size.is_some_and(|size| item.item < *size)
     }
 
     /// The sizes after a group with so many work-items has come.

@@ -163,10 +163,8 @@ impl<A: Allocator> Shape<A> {
     pub fn has(&self, item: ItemId) -> bool
         ensures { IsTrue result ↔ HasItem self.now item }
     {
-        match self.sizes.get(item.group as usize) {
-            None => false,
-            Some(size) => item.item < *size,
-        }
+        let size = self.sizes.get(item.group as usize);
+        size.is_some_and(|size| item.item < *size)
     }
 
     /// A copy of this shape.
