@@ -1,6 +1,7 @@
 -- Values of arguments ask for at most one thing.
 use Rattle.std.proofs.Common.{arith, ◌≡◌, ℕ, List, Some, sym, codes, refl, subst, Result, Ok, Err, ◌↔◌, IfOk, IsOk}
 use Rattle.std.specs.Result.{result_ok}
+use Rattle.clap.proofs.WalkLemmas.{first_value-rows, raw_values-rows}
 use Rattle.clap.specs.Walk.{Row, Text, first_of}
 use Rattle.gr_model.specs.declared.config.ConfigError.{ConfigError}
 use Rattle.gr_model.specs.declared.event.EventId.{EventId}
@@ -8,6 +9,9 @@ use Rattle.gr_model.specs.declared.event.Word.{Word}
 use Rattle.gr_model.specs.Configs.{IsConfig, Settings}
 use Rattle.gr_arguments.specs.Asked.{HasEvent, IsNumberOr, IsSetUp, IsTheOne, NamesWord}
 use Rattle.gr_arguments.specs.Naming.{Names}
+
+-- the values of an argument are those of its rows
+pub ruleset value_rows = (first_value-rows, raw_values-rows)
 
 -- ---- words of memory
 

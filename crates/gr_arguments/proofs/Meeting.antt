@@ -29,17 +29,17 @@ no_word_asks = record { taken = refl; asks = record { command = refl; values = r
 
 -- ---- a parse
 
-module _ (command : App) (is : command ≡ gpurace) (words : List Text) where
+module _ (command : App) (is : command ≡ gpurace) where
   -- the command that was built is simple, and has the program's faults
   pub is_free : is_simple_and_free command ≡ true
   is_free = ap is_simple_and_free is ∙ gpurace_is_simple.1
 
-  pub faults_are : fault_of command words ≡ faults words
+  pub faults_are : (words : List Text) → fault_of command words ≡ faults words
   unfolding faults
-  faults_are = ap (λ (a : App). fault_of a words) is
+  faults_are words = ap (λ (a : App). fault_of a words) is
 
   -- what the parse finds is what the words name, so it asks for the same
-  module _ (m : ArgMatches) (matches : HasMatchesOf command words m) where
+  module _ (words : List Text) (m : ArgMatches) (matches : HasMatchesOf command words m) where
     meets : subcommand_rows_of m ≡ command_of words
     unfolding command_of
     meets = (matches (ap is_simple is ∙ gpurace_is_simple.0)).1 ∙ ap (λ (a : App). subcommand_of a words) is

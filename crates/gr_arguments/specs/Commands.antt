@@ -1,5 +1,5 @@
 -- The commands of the program, and why the parser does not take words.
-use Rattle.std.specs.Prelude.{◌≡◌, ◌≢◌, ◌⊎◌, true, List, [], ◌∷◌, Option, Some, codes, if◌then◌else◌}
+use Rattle.std.specs.Prelude.{◌≡◌, ◌≢◌, ◌⊎◌, true, List, [], ◌∷◌, ◌++◌, Option, Some, codes, fold, if◌then◌else◌}
 use Rattle.std.specs.Option.{option_map_or}
 use Rattle.std.specs.Str.{bytes_eq}
 use Rattle.std.specs.List.{list_any}
@@ -22,10 +22,6 @@ name_of Upgrade = codes "upgrade"
 abbrev pub alone : Shape
 alone = record (new_app (codes "gpurace")).top { no_binary_name = true; has_version = true }
 
--- the program with its commands
-abbrev pub command_named : Text → Shape
-command_named name = (new_app name).top
-
 -- a value that must be given, and the files, at least one
 abbrev pub wanted : Text → Rule
 wanted id = record (new_rule id) { required = true }
@@ -41,57 +37,62 @@ flag_rule id = record (new_rule id) { long = Some id; action = Some SetTrue }
 abbrev pub option_rule : Text → Rule
 option_rule id = record (new_rule id) { long = Some id; value_names = 1 }
 
+-- a command with these rules
+abbrev pub command_with : Text → List Rule → Shape
+command_with name rules = (fold with_rule (new_app name) rules).top
+
 -- the command that reports on streams: whether as JSON
 abbrev pub replaying : Shape
-replaying = (with_rule (new_app (codes "replay")) (flag_rule (codes "json"))).top
+replaying = command_with (codes "replay") (flag_rule (codes "json") ∷ [])
 
 -- the command that writes streams as text: whether also what comes before a fault
 abbrev pub dumping : Shape
-dumping = (with_rule (new_app (codes "dump")) (flag_rule (codes "partial"))).top
+dumping = command_with (codes "dump") (flag_rule (codes "partial") ∷ [])
+
+-- the files of places and of buffers
+abbrev pub side_rules : List Rule
+side_rules = option_rule (codes "places") ∷ option_rule (codes "buffers") ∷ []
+
+-- a word of memory, and the files
+abbrev pub word_rules : List Rule
+word_rules = wanted (codes "SPACE") ∷ wanted (codes "WORD") ∷ wanted_files ∷ []
 
 -- the command that shows one word: whether in the long form, the side files, whether as JSON, the word, and the files
 abbrev pub explaining : Shape
-explaining =
-    (with_rule
-    (with_rule (with_rule (with_rule (with_rule (with_rule (with_rule (new_app (codes "explain")) (flag_rule (codes "long"))) (option_rule (codes "places"))) (option_rule (codes "buffers"))) (flag_rule (codes "json"))) (wanted (codes "SPACE"))) (wanted (codes "WORD")))
-    wanted_files).top
+explaining = command_with (codes "explain") (flag_rule (codes "long") ∷ side_rules ++ flag_rule (codes "json") ∷ word_rules)
 
 -- the command that shows all races: how many kinds at most, the side files, whether with causes and as JSON, and the files
 abbrev pub racing : Shape
 racing =
-    (with_rule
-    (with_rule (with_rule (with_rule (with_rule (with_rule (new_app (codes "races")) (option_rule (codes "most"))) (option_rule (codes "places"))) (option_rule (codes "buffers"))) (flag_rule (codes "causes"))) (flag_rule (codes "json")))
-    wanted_files).top
+    command_with (codes "races")
+    (option_rule (codes "most") ∷ side_rules ++ flag_rule (codes "causes") ∷ flag_rule (codes "json") ∷ wanted_files ∷ [])
 
 -- the command that lists all accesses to one word: the side files, whether as JSON, the word, and the files
 abbrev pub recalling : Shape
-recalling =
-    (with_rule
-    (with_rule (with_rule (with_rule (with_rule (with_rule (new_app (codes "history")) (option_rule (codes "places"))) (option_rule (codes "buffers"))) (flag_rule (codes "json"))) (wanted (codes "SPACE"))) (wanted (codes "WORD")))
-    wanted_files).top
+recalling = command_with (codes "history") (side_rules ++ flag_rule (codes "json") ∷ word_rules)
 
 -- the command that judges a launch in threads: how many workers and queues, the room of a queue, whether as JSON, and the files
 abbrev pub running : Shape
 running =
-    (with_rule (with_rule (with_rule (with_rule (with_rule (new_app (codes "run")) (option_rule (codes "workers"))) (option_rule (codes "queues"))) (option_rule (codes "capacity"))) (flag_rule (codes "json")))
-    wanted_files).top
+    command_with (codes "run")
+    (option_rule (codes "workers") ∷ option_rule (codes "queues") ∷ option_rule (codes "capacity") ∷ flag_rule (codes "json") ∷ wanted_files ∷ [])
 
 -- the command that checks files: whether as JSON, and the files
 abbrev pub checking : Shape
-checking = (with_rule (with_rule (new_app (codes "check")) (flag_rule (codes "json"))) wanted_files).top
+checking = command_with (codes "check") (flag_rule (codes "json") ∷ wanted_files ∷ [])
 
 -- the command that reports why an event is held: whether as JSON, the event, and the files
 abbrev pub inquiring : Shape
 inquiring =
-    (with_rule
-    (with_rule (with_rule (with_rule (with_rule (new_app (codes "why-held")) (flag_rule (codes "json"))) (wanted (codes "GROUP"))) (wanted (codes "ITEM"))) (wanted (codes "INDEX")))
-    wanted_files).top
+    command_with (codes "why-held")
+    (flag_rule (codes "json") ∷ wanted (codes "GROUP") ∷ wanted (codes "ITEM") ∷ wanted (codes "INDEX") ∷ wanted_files ∷ [])
 
-abbrev pub tasks : App
-tasks = with_subcommand (with_subcommand (with_subcommand (with_subcommand (record { top = alone; subs = [] }) replaying) (command_named (codes "pack"))) dumping) (command_named (codes "upgrade"))
-
+-- the program with its commands
 abbrev pub gpurace : App
-gpurace = with_subcommand (with_subcommand (with_subcommand (with_subcommand (with_subcommand (with_subcommand tasks explaining) racing) recalling) running) checking) inquiring
+gpurace =
+    fold with_subcommand (record { top = alone; subs = [] })
+    (replaying ∷ command_with (codes "pack") [] ∷ dumping ∷ command_with (codes "upgrade") []
+    ∷ explaining ∷ racing ∷ recalling ∷ running ∷ checking ∷ inquiring ∷ [])
 
 -- ---- the command that words name
 

@@ -1,5 +1,5 @@
 -- The commands and rules that the pages of the program define.
-use Rattle.std.specs.Prelude.{List, [], ◌∷◌}
+use Rattle.std.specs.Prelude.{List, fold}
 use Rattle.clap.specs.Words.{App, Rule, Shape, new_app, with_rule, with_subcommand}
 use Rattle.gr_arguments.specs.declared.command.Page.{Page}
 use Rattle.gr_arguments.specs.declared.command.Parameter.{Parameter}
@@ -15,8 +15,7 @@ rule_for Files = wanted_files
 
 -- a command with these parameters too
 abbrev pub with_rules : App → List Parameter → App
-with_rules app [] = app
-with_rules app (p ∷ ps) = with_rules (with_rule app (rule_for p)) ps
+with_rules app parameters = fold (λ a p. with_rule a (rule_for p)) app parameters
 
 -- the command of a page
 abbrev pub shape_for : Page → Shape
@@ -24,5 +23,4 @@ shape_for page = (with_rules (new_app page.name.now) page.parameters.now).top
 
 -- a program with the commands of these pages too
 unfoldable pub with_commands : App → List Page → App
-with_commands app [] = app
-with_commands app (page ∷ pages) = with_commands (with_subcommand app (shape_for page)) pages
+with_commands app pages = fold (λ a page. with_subcommand a (shape_for page)) app pages

@@ -474,6 +474,7 @@ fn command_of<'a>(alloc: Global, page: &Page) -> Result<Command<'a>, AllocError>
 }
 
 /// The program, with the commands of these pages too.
+#[tactic(auto, unfolding(crate::specs::Pages::with_commands))]
 fn with_pages<'a>(
     alloc: Global,
     mut command: Command<'a>,

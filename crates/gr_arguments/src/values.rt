@@ -14,6 +14,7 @@ use gr_model::event::{EventId, Word};
 use std::alloc::{AllocError, Global};
 
 /// The value of this name, if there is one.
+#[tactic(auto, using(crate::proofs::Asking::value_rows))]
 fn value_of<'a>(values: &ArgMatches<'a>, name: &str) -> Option<&'a str>
     ensures { option_map (λ s. s.now) result ≡ first_of name.now (rows_of (found_of values.now)) }
 {
@@ -21,6 +22,7 @@ fn value_of<'a>(values: &ArgMatches<'a>, name: &str) -> Option<&'a str>
 }
 
 /// The values of this name, if there are some.
+#[tactic(auto, using(crate::proofs::Asking::value_rows))]
 fn values_of<'a, 'b>(values: &'b ArgMatches<'a>, name: &str) -> Option<&'b [&'a str]>
     ensures { option_map (λ s. map (λ v. v.now) s.now) result ≡ all_of name.now (rows_of (found_of values.now)) }
 {
@@ -68,13 +70,9 @@ fn form_of(values: &ArgMatches<'_>) -> Option<bool>
 pub(crate) fn explain_of(values: &ArgMatches<'_>) -> Result<Query, Misuse>
     ensures { IsSaid (codes "explain") (rows_of (found_of values.now)) result }
 {
-    let Some(long) = form_of(values) else {
-        return Err(Misuse::SidesAlone);
-    };
-    match word_of(values) {
-        None => Err(Misuse::NoWordToExplain),
-        Some(word) => Ok(Query::Explain { long, word }),
-    }
+    let long = form_of(values).ok_or(Misuse::SidesAlone)?;
+    let word = word_of(values).ok_or(Misuse::NoWordToExplain)?;
+    Ok(Query::Explain { long, word })
 }
 
 /// What the values of the command `races` ask.
@@ -95,10 +93,8 @@ pub(crate) fn races_of(values: &ArgMatches<'_>) -> Result<Query, Misuse>
 pub(crate) fn history_of(values: &ArgMatches<'_>) -> Result<Query, Misuse>
     ensures { IsSaid (codes "history") (rows_of (found_of values.now)) result }
 {
-    match word_of(values) {
-        None => Err(Misuse::NoWordOfHistory),
-        Some(word) => Ok(Query::History { word }),
-    }
+    let word = word_of(values).ok_or(Misuse::NoWordOfHistory)?;
+    Ok(Query::History { word })
 }
 
 /// The number below 2^32 after an option, or `default` if the option is not there.
@@ -125,10 +121,8 @@ fn config_of(values: &ArgMatches<'_>) -> Option<Config>
 pub(crate) fn run_of(values: &ArgMatches<'_>) -> Result<Query, Misuse>
     ensures { IsSaid (codes "run") (rows_of (found_of values.now)) result }
 {
-    match config_of(values) {
-        None => Err(Misuse::NoSetUp),
-        Some(config) => Ok(Query::Run { config }),
-    }
+    let config = config_of(values).ok_or(Misuse::NoSetUp)?;
+    Ok(Query::Run { config })
 }
 
 /// The event that the values name, if they name one.
@@ -143,10 +137,8 @@ fn event_of(values: &ArgMatches<'_>) -> Option<EventId>
 pub(crate) fn why_held_of(values: &ArgMatches<'_>) -> Result<Query, Misuse>
     ensures { IsSaid (codes "why-held") (rows_of (found_of values.now)) result }
 {
-    match event_of(values) {
-        None => Err(Misuse::NoEvent),
-        Some(event) => Ok(Query::WhyHeld { event }),
-    }
+    let event = event_of(values).ok_or(Misuse::NoEvent)?;
+    Ok(Query::WhyHeld { event })
 }
 
 /// The name of a side file, if the query takes side files.

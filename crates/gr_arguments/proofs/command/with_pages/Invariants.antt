@@ -1,7 +1,7 @@
-use Rattle.std.proofs.Common.{◌≡◌, drop}
+use Rattle.std.proofs.Common.{◌≡◌, take}
 use Rattle.clap.specs.Words.{app_of}
 use Rattle.gr_arguments.specs.Pages.{with_commands}
 use Rattle.gr_arguments.proofs.command.with_pages.Given as goal
 
 abbrev pub invariant-loop-page : goal.invariant-loop-page
-invariant-loop-page l = with_commands (app_of l.command) (drop l.page-index l.pages) ≡ with_commands (app_of l.initial.command) l.pages
+invariant-loop-page l = app_of l.command ≡ with_commands (app_of l.initial.command) (take l.page-index l.pages)
