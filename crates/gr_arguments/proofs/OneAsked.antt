@@ -8,11 +8,11 @@ use Rattle.gr_arguments.specs.declared.request.Query.TheVariants.{Explain, Histo
 use Rattle.gr_arguments.specs.Asked.{Asked, Inquiry, IsAskedIn, IsInquiry, IsMisuse, IsQuery, ask, misuse_name, name_asked, query_name, refuse}
 use Rattle.gr_arguments.specs.Commands.{command_of, values_met}
 use Rattle.gr_arguments.specs.Plain.{WordsAskOnce}
-use Rattle.gr_arguments.proofs.Asking.{one_set_up, same_event, same_word}
+use Rattle.gr_arguments.proofs.Asking.{one_set_up}
 
 module _ (rows : List Row) where
   one_query : (q r : Query) → query_name q ≡ query_name r → IsQuery rows q → IsQuery rows r → q ≡ r
-  one_query q r same h k = grind (arith, same_word rows, one_set_up rows, same_event rows)
+  one_query q r same h k = grind (arith, one_set_up rows)
 
   -- values that ask a query do not misuse its command
   query_or_misuse : (q : Query) (m : Misuse) → query_name q ≡ misuse_name m → IsQuery rows q → IsMisuse rows m → ⊥

@@ -16,7 +16,6 @@ use Rattle.gr_arguments.specs.Naming.{IsNumber, Names as NamesWord}
 use Rattle.gr_arguments.specs.Asked.{Asked, AsksTo, IsAskedBy, IsInquiry, ask, refuse}
 use Rattle.gr_arguments.specs.Commands.{command_of, explaining, faults, gpurace, name_met, values_met}
 use Rattle.gr_arguments.specs.Plain.{about_word, ArePlain, IsPlain, LongWordsAsk, PlainWordsAsk, PlainWordsMisname}
-use Rattle.gr_arguments.proofs.Asking.{unnamed}
 
 -- ---- one word
 
@@ -264,4 +263,4 @@ long_words_ask = words_ask true
 pub plain_words_misname : PlainWordsMisname
 plain_words_misname space number file files none plain =
     plain_words_ask_by false space number file files plain.0 plain.1.0 plain.1.1 (refuse NoWordToExplain)
-    (record { command = refl; values = ((false, (refl, refl, refl)), unnamed (all_rows space number plain.0 plain.1.0 false (file ∷ files)) space number refl refl none) })
+    (record { command = refl; values = ((false, (refl, refl, refl)), λ w named. grind (arith, none w)) })

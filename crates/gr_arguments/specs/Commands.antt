@@ -75,7 +75,8 @@ recalling = command_with (codes "history") (side_rules ++ flag_rule (codes "json
 abbrev pub running : Shape
 running =
     command_with (codes "run")
-    (option_rule (codes "workers") ∷ option_rule (codes "queues") ∷ option_rule (codes "capacity") ∷ flag_rule (codes "json") ∷ wanted_files ∷ [])
+    (option_rule (codes "workers") ∷ option_rule (codes "queues") ∷ option_rule (codes "capacity")
+    ∷ flag_rule (codes "json") ∷ wanted_files ∷ [])
 
 -- the command that checks files: whether as JSON, and the files
 abbrev pub checking : Shape

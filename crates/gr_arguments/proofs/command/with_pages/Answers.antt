@@ -9,4 +9,5 @@ unfolding with_commands
 loop-page-preserved c =
     c.in_ok-command.ensures.shape c.in_ok-command_of.ensures.alone
     ∙ ap₂ with_subcommand c.loop-page.invariant c.in_ok-command_of.ensures.shape
-    ∙ sym (fold_more (λ a page. with_subcommand a (shape_for page)) (app_of c.args.command) c.args.pages.now c.loop-page.page-index _ c.loop-page-test.true)
+    ∙ sym (fold_more (λ a page. with_subcommand a (shape_for page)) (app_of c.args.command) c.args.pages.now
+    c.loop-page.page-index _ c.loop-page-test.true)
