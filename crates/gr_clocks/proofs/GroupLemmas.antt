@@ -1,11 +1,11 @@
 -- The clocks of one work-group: what its items keep, and what all of them count after a barrier.
-use Rattle.std.proofs.Common.{◌≡◌, ◌≢◌, ℕ, zero, suc, ◌+◌, ◌<◌, ◌≤◌, All, Bool, true, false, List, [], length, get_or, set, refl, sym, ◌∙◌, arith}
+use Rattle.std.proofs.Common.{◌≡◌, ◌≢◌, ℕ, zero, suc, ◌+◌, ◌<◌, ◌≤◌, All, Bool, false, ◌||◌, List, [], length, get_or, set, refl, sym, ◌∙◌, arith}
 use Rattle.std.proofs.lemmas.Bool.Decides.{nat_tests}
 use Rattle.std.proofs.lemmas.List.{get_or_past, get_or_read, length-set, get_or-set_same, get_or-set_other}
 use Rattle.std.proofs.lemmas.List.Elements.{All-get_or}
 use Rattle.gr_model.specs.declared.event.ItemId.{ItemId}
 use Rattle.gr_clocks.specs.Counts.{Counts, count_of, tick_at, CountSame, CountsOneMore, IsJoin}
-use Rattle.gr_clocks.specs.Groups.{item_of, greatest, GroupClocks, clock_in_group, Keeps, IsFirstLearned, IsGroup, IsGrown, MergesFirst, Merges, AreRaised, met_count, IsMetBase}
+use Rattle.gr_clocks.specs.Groups.{item_of, greatest, GroupClocks, clock_in_group, Keeps, IsFirstLearned, IsGroup, IsNext, MergesFirst, Merges, AreRaised, met_count, IsMetBase}
 use Rattle.gr_clocks.proofs.RowLemmas.{AreEach, each_set, one_item}
 use Rattle.gr_clocks.specs.Owned.{IsRaisedBy}
 use Rattle.gr_clocks.proofs.OwnLemmas.{not_ticked}
@@ -28,6 +28,12 @@ keeps_tick {i} keeps tick = record {
   most = λ off j other. omega (arith, keeps.most off j other, tick.counts j, not_ticked i j other);
 }
 
+keeps_next : {met : Counts} {i : ItemId} {learned : Bool} {c : Counts} {has : Bool} {after : Counts} → Keeps met i learned c → IsNext c i has after → Keeps met i (learned || has) after
+keeps_next {i} {learned} {has} keeps next = record {
+  least = λ j. omega (arith, keeps.least j, next.grown j);
+  most = λ off. let none : (learned ≡ false) × (has ≡ false) = grind (arith, nat_tests) in (keeps_tick keeps (next.tick none.1)).most none.0;
+}
+
 module _ {number : ℕ} {met : Counts} {clocks : List Counts} {learned : List Bool} (are : IsGroup number met clocks learned) where
   -- an item has another clock, and its mark may have changed
   group_with : (k : ℕ) (c : Counts) (marks : List Bool) → length marks ≡ length learned → ((m : ℕ) → m ≢ k → get_or marks m false ≡ get_or learned m false) → k < length clocks → Keeps met (item_of number k) (get_or marks k false) c → IsGroup number met (set clocks k c) marks
@@ -39,21 +45,20 @@ module _ {number : ℕ} {met : Counts} {clocks : List Counts} {learned : List Bo
         each = λ m below. each_set (λ q. Keeps met (item_of number q) (get_or marks q false)) [] clocks k c there keeps m (λ apart. rw (others m apart) (are.each m (omega (arith, below, size))));
       }
 
-  pub group_ticked : (k : ℕ) (c : Counts) → k < length clocks → CountsOneMore (get_or clocks k []) (item_of number k) c → IsGroup number met (set clocks k c) learned
-  group_ticked k c there tick = group_with k c learned refl (λ m apart. refl) there (keeps_tick (are.each k there) tick)
-
-  pub group_learned : (k : ℕ) (c : Counts) → k < length clocks → IsGrown (get_or clocks k []) c → IsGroup number met (set clocks k c) (set learned k true)
-  group_learned k c there grown =
-      let marked : get_or (set learned k true) k false ≡ true = get_or-set_same learned k true false (omega (arith, are.marks)) in
-      group_with k c (set learned k true) (length-set learned k true) (λ m apart. get_or-set_other learned k m true false apart) there
-      (rw marked (record { least = λ j. omega (arith, (are.each k there).least j, grown.counts j); most = λ off j other. cc }))
+  pub group_next : (k : ℕ) (c : Counts) (was has : Bool) → k < length clocks → was ≡ get_or learned k was → IsNext (get_or clocks k []) (item_of number k) has c → IsGroup number met (set clocks k c) (set learned k (was || has))
+  group_next k c was has there reads next =
+      let mark = was || has in
+      let marked : get_or (set learned k mark) k false ≡ mark = get_or-set_same learned k mark false (omega (arith, are.marks)) in
+      group_with k c (set learned k mark) (length-set learned k mark) (λ m apart. get_or-set_other learned k m mark false apart) there
+      (rw marked (keeps_next {learned = was} (rw (get_or_read learned k was (omega (arith, are.marks)) reads false) (are.each k there)) next))
 
   abbrev Whole : GroupClocks
   Whole = record { number = number; clocks = clocks }
 
   -- and is the one that was read there
   pub group_raised : (k : ℕ) (x c : Counts) → k < length clocks → x ≡ get_or clocks k x → CountsOneMore x (item_of number k) c → IsGroup number met (set clocks k c) learned
-  group_raised k x c there reads tick = group_ticked k c there (rw (← get_or_read clocks k x there reads []) tick)
+  group_raised k x c there reads tick =
+      group_with k c learned refl (λ m apart. refl) there (keeps_tick (are.each k there) (rw (← get_or_read clocks k x there reads []) tick))
 
   -- all clocks have ticked
   pub all_ticked : {after : List Counts} {marks : List Bool} {g : GroupClocks} (n : ℕ) → Whole ≡ g → marks ≡ learned → n ≡ length g.clocks → AreEach (λ k c. CountsOneMore (clock_in_group g k) (item_of g.number k) c) [] after n → IsGroup number met after marks

@@ -7,4 +7,3 @@ pub mod GroupLemmas
 pub mod JoinLemmas
 pub mod TableLemmas
 pub mod ReleaseLemmas
-pub mod StepLemmas

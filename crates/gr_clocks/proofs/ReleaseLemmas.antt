@@ -1,5 +1,5 @@
 -- What several releases left, in each memory.
-use Rattle.std.proofs.Common.{◌≡◌, ◌≢◌, ℕ, zero, suc, None, Some, slice_get, ◌<◌, ◌≤◌, max, ◌++◌, All, List, [], ◌∷◌, map, length, get_or, refl, sym, ◌∙◌, ap, arith}
+use Rattle.std.proofs.Common.{◌≡◌, ◌≢◌, ℕ, zero, suc, Some, slice_get, ◌<◌, ◌≤◌, max, ◌++◌, All, Bool, false, List, [], ◌∷◌, map, length, get_or, refl, ◌∙◌, ap, arith}
 use Rattle.std.proofs.lemmas.List.{get_or-map, length-map}
 use Rattle.std.proofs.lemmas.List.Elements.{All-tail}
 use Rattle.gr_model.specs.declared.event.Space.{Space}
@@ -8,8 +8,9 @@ use Rattle.gr_model.specs.declared.event.ItemId.{ItemId}
 use Rattle.gr_model.specs.Access.{memory_of}
 use Rattle.gr_clocks.specs.declared.clock.TheConstants.{LARGEST_COUNT}
 use Rattle.gr_clocks.specs.Counts.{Counts, count_of, greatest_count}
-use Rattle.gr_clocks.specs.Tables.{ClockTable, TicksItem, LearnsAndTicks}
-use Rattle.gr_clocks.specs.ItemClocks.{ItemClocks, ReleaseClock, Acquires, AreOfOneWord, AreSpent, Ticks, clocks_left, clocks_of}
+use Rattle.gr_clocks.specs.Groups.{IsNext}
+use Rattle.gr_clocks.specs.Tables.{ClockTable, clock_at, IsTickOfJoin, LearnsAndTicks, PutsClock, TicksItem}
+use Rattle.gr_clocks.specs.ItemClocks.{ItemClocks, ReleaseClock, Acquires, AreOfOneWord, AreSpent, Ticks, clocks_left}
 
 -- ---- releases on words of one memory
 
@@ -30,10 +31,6 @@ module _ {X : Type 0} (release : X → ReleaseClock) where
   word_of_first [] first is one k d below = absurd (omega (arith, below))
   word_of_first (y ∷ xs) first is one zero d below = cc
   word_of_first (y ∷ xs) first is one (suc k) d below = grind (arith, one k (release d), get_or-map release xs k d (release d), length-map xs release)
-
-  pub none_first : (xs : List X) → slice_get xs 0 ≡ None → map release xs ≡ []
-  none_first [] none = refl
-  none_first (x ∷ xs) none = cc
 
   -- where none is spent, there is room in all
   pub all_have_room : (xs : List X) (i : ItemId) → ¬ AreSpent (map release xs) i → All (λ x. count_of (release x).clock i ≢ LARGEST_COUNT) xs
@@ -81,23 +78,13 @@ pub each_memory : (P : Space → Type 0) → P Global → P Local → (m : Space
 each_memory P global local Global = global
 each_memory P global local Local = local
 
-module _ {X : Type 0} (release : X → ReleaseClock) (xs : List X) {i : ItemId} where
-  -- releases on words of the one memory
-  here : (m : Space) {old new : ClockTable} → All (λ x. memory_of (release x).word ≡ m) xs → LearnsAndTicks old i (clocks release xs) new → LearnsAndTicks old i (clocks_left m (map release xs)) new
-  here m words learns = rw (left_all release m xs (λ k d below. sym (words k d below))) learns
+-- an item that gets the clock which has learned
+pub learns : {old new : ClockTable} {i : ItemId} {clock : Counts} {theirs : List Counts} → PutsClock old i clock new → IsTickOfJoin (clock_at old i) theirs i clock → LearnsAndTicks old i theirs new
+learns puts tick = record { shape = puts.shape; item = rw puts.item tick; others = puts.others }
 
-  -- and what the other memory counts
-  away : (m n : Space) {old new : ClockTable} → m ≢ n → All (λ x. memory_of (release x).word ≡ m) xs → TicksItem old i new → LearnsAndTicks old i (clocks_left n (map release xs)) new
-  away m n other words ticks = rw (left_none release n xs (λ k d below same. other (sym (words k d below) ∙ sym same))) (tick_learns ticks)
-
-  pub acquires_global : {old_global old_local new_global new_local : ClockTable} → All (λ x. memory_of (release x).word ≡ Global) xs → LearnsAndTicks old_global i (clocks release xs) new_global → TicksItem old_local i new_local → Acquires (clocks_of old_global old_local) i (map release xs) (clocks_of new_global new_local)
-  acquires_global words learns ticks = record {
-    shape = learns.shape;
-    learns = each_memory _ (here Global words learns) (away Global Local (λ e. cc) words ticks);
-  }
-
-  pub acquires_local : {old_global old_local new_global new_local : ClockTable} → All (λ x. memory_of (release x).word ≡ Local) xs → TicksItem old_global i new_global → LearnsAndTicks old_local i (clocks release xs) new_local → Acquires (clocks_of old_global old_local) i (map release xs) (clocks_of new_global new_local)
-  acquires_local words ticks learns = record {
-    shape = ticks.shape;
-    learns = each_memory _ (away Local Global (λ e. cc) words ticks) (here Local words learns);
-  }
+-- a clock that learned nothing where there was nothing to learn
+pub next_of_join : {mine after : Counts} {theirs : List Counts} {i : ItemId} {learned : Bool} → (learned ≡ false → theirs ≡ []) → IsTickOfJoin mine theirs i after → IsNext mine i learned after
+next_of_join none tick = record {
+  grown = λ j. omega (arith, tick.counts j);
+  tick = λ off. record { counts = λ j. grind (arith, none off, tick.counts j) };
+}

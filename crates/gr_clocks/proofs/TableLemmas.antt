@@ -11,7 +11,7 @@ use Rattle.gr_model.proofs.PutLemmas.{map_put, put_other, put_same, puts_last, p
 use Rattle.gr_clocks.specs.declared.clock.TheConstants.{LARGEST_COUNT}
 use Rattle.gr_clocks.specs.Counts.{Counts, count_of, greatest_count, CountsOneMore, IsJoinOfAll}
 use Rattle.gr_clocks.specs.Groups.{GroupClocks, no_group, with_clock, IsShared, IsSameGroup, IsBehind}
-use Rattle.gr_clocks.specs.Tables.{AddsItems, ClockTable, clock_at, group_at, table_of, AreGroups, MeetsGroup, AreZero, TicksItem, IsTickOfJoin, LearnsAndTicks}
+use Rattle.gr_clocks.specs.Tables.{AddsItems, ClockTable, clock_at, group_at, table_of, AreGroups, MeetsGroup, AreZero, TicksItem, PutsClock}
 use Rattle.gr_clocks.proofs.RowLemmas.{AreEach, row_size, row_of_item, entry_same, entry_other}
 
 -- groups that have their places for their numbers
@@ -46,20 +46,17 @@ module _ (groups : List GroupClocks) {t : ClockTable} (are : AreGroups groups) (
     item_table : table_of (set groups i.group y) ≡ set t i.group (set (get_or t i.group []) i.item clock)
     item_table = put_table i.group y ∙ ap (λ (g : GroupClocks). set t i.group g.clocks) written_is
 
-    at_item : clock_at (table_of (set groups i.group y)) i ≡ clock
-    at_item = let there = row_of_item t i has in rw item_table (entry_same [] t i clock there.0 there.1)
-
-    at_other : (j : ItemId) → j ≢ i → clock_at (table_of (set groups i.group y)) j ≡ clock_at t j
-    at_other j other = rw item_table (entry_other [] t i clock j (row_of_item t i has).0 (λ (same : i ≡ j). other (sym same)))
-
-    same_sizes : map length (table_of (set groups i.group y)) ≡ map length t
-    same_sizes = rw item_table (map-set_same length t i.group _ [] (length-set (get_or t i.group []) i.item clock))
+    pub puts_clock : PutsClock t i clock (table_of (set groups i.group y))
+    puts_clock =
+        let there = row_of_item t i has in
+        rw item_table (record {
+          shape = map-set_same length t i.group _ [] (length-set (get_or t i.group []) i.item clock);
+          item = entry_same [] t i clock there.0 there.1;
+          others = λ j other. entry_other [] t i clock j there.0 (λ (same : i ≡ j). other (sym same));
+        })
 
     pub ticks_item : CountsOneMore (clock_at t i) i clock → TicksItem t i (table_of (set groups i.group y))
-    ticks_item tick = record { shape = same_sizes; item = rw at_item tick; others = at_other }
-
-    pub learns_and_ticks : (theirs : List Counts) → IsTickOfJoin (clock_at t i) theirs i clock → LearnsAndTicks t i theirs (table_of (set groups i.group y))
-    learns_and_ticks theirs tick = record { shape = same_sizes; item = rw at_item tick; others = at_other }
+    ticks_item tick = record { shape = puts_clock.shape; item = rw puts_clock.item tick; others = puts_clock.others }
 
 -- where none of them is full, the greatest of their counts is not the largest there is
 greatest_has_room : {X : Type 0} (clock : X → Counts) (theirs : List X) (i : ItemId) → All (λ x. count_of (clock x) i ≢ LARGEST_COUNT) theirs → greatest_count (map clock theirs) i ≢ LARGEST_COUNT
@@ -97,6 +94,9 @@ module _ (sizes : List ℕ) (zero : Counts) {groups : List GroupClocks} {n : ℕ
 
 -- ---- a barrier
 
+pub same_sizes : {group : ℕ} (old new : ClockTable) {y : GroupClocks} → IsSameGroup (group_at old group) y → new ≡ set old group y.clocks → map length new ≡ map length old
+same_sizes {group} old new {y} same is = rw is (map-set_same length old group y.clocks [] same.size)
+
 pub meets_group : (group : ℕ) (orders : Bool) (old new : ClockTable) (y : GroupClocks) → group < length old → IsBehind (group_at old group) orders y → new ≡ set old group y.clocks → MeetsGroup old group orders new
 meets_group group true old new y there met is = rw is (record {
   shape = map-set_same length old group y.clocks [] met.same.size;
@@ -109,10 +109,6 @@ meets_group group false old new y there ticked is = rw is (record {
   items = λ k below. rw (get_or-set_same old group y.clocks [] there) (ticked.each k (omega (arith, below, row_size old group)));
   others = λ j other. grind (arith, get_or-set_other);
 })
-
-pub behind_same : (g : GroupClocks) (orders : Bool) (y : GroupClocks) → IsBehind g orders y → IsSameGroup g y
-behind_same g true y met = met.same
-behind_same g false y ticked = ticked.same
 
 -- ---- a group gets its items
 

@@ -1,6 +1,6 @@
 -- The counts of one work-group's items.
 -- Source: docs/MODEL.md, "Clocks".
-use Rattle.std.specs.Prelude.{◌≡◌, ◌≢◌, ℕ, ◌<◌, ◌≤◌, max, slice_index, All, List, length}
+use Rattle.std.specs.Prelude.{◌≡◌, ◌≢◌, ℕ, ◌≤◌, max, slice_index, All, List}
 use Rattle.gr_clocks.specs.declared.clock.TheConstants.{LARGEST_COUNT}
 
 -- counts with a limit of their own
@@ -20,9 +20,3 @@ pub record IsRowJoin (mine theirs joined : List ℕ) : Type 0 where
 pub record IsRowWith (mine : List ℕ) (place count : ℕ) (changed : List ℕ) : Type 0 where
   pub here : slice_index changed place ≡ count
   pub others : (p : ℕ) → p ≢ place → slice_index changed p ≡ slice_index mine p
-
--- now has the greater count at each place below this one, and mine from it on
-pub record IsRowJoinBelow (below : ℕ) (mine theirs now : List ℕ) : Type 0 where
-  pub size : length now ≡ length mine
-  pub greater : (p : ℕ) → p < below → slice_index now p ≡ max (slice_index mine p) (slice_index theirs p)
-  pub same : (p : ℕ) → below ≤ p → slice_index now p ≡ slice_index mine p

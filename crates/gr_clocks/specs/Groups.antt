@@ -69,9 +69,10 @@ pub record TicksClock (old : GroupClocks) (k : ℕ) (new : GroupClocks) : Type 0
   pub group : new ≡ with_clock old k (clock_in_group new k)
   pub tick : CountsOneMore (clock_in_group old k) (item_of old.number k) (clock_in_group new k)
 
--- after counts no less than before
-pub record IsGrown (before after : Counts) : Type 0 where
-  pub counts : (j : ItemId) → count_of before j ≤ count_of after j
+-- after counts no less than before, and where item i learned nothing, just one more event of its own
+pub record IsNext (before : Counts) (i : ItemId) (learned : Bool) (after : Counts) : Type 0 where
+  pub grown : (j : ItemId) → count_of before j ≤ count_of after j
+  pub tick : learned ≡ false → CountsOneMore before i after
 
 -- ---- a barrier
 
@@ -109,14 +110,10 @@ met_count g j = greatest (length g.clocks) (λ k. count_of (clock_in_group g k) 
 pub record IsMetBase (g : GroupClocks) (base : Counts) : Type 0 where
   pub counts : (j : ItemId) → count_of base j ≡ met_count g j
 
--- each of the first n items ticks
-abbrev pub TickFirst : GroupClocks → ℕ → List Counts → Type 0
-TickFirst g n clocks = (k : ℕ) → k < n → CountsOneMore (clock_in_group g k) (item_of g.number k) (slice_index_or clocks k [])
-
 -- each item ticks
 pub record TicksEach (old new : GroupClocks) : Type 0 where
   pub same : IsSameGroup old new
-  pub each : TickFirst old (length old.clocks) new.clocks
+  pub each : (k : ℕ) → k < length old.clocks → CountsOneMore (clock_in_group old k) (item_of old.number k) (clock_in_group new k)
 
 -- each item counts what all of them do
 pub record MeetsEach (old new : GroupClocks) : Type 0 where

@@ -44,6 +44,12 @@ pub record TicksItem (old : ClockTable) (i : ItemId) (new : ClockTable) : Type 0
   pub item : CountsOneMore (clock_at old i) i (clock_at new i)
   pub others : (j : ItemId) → j ≢ i → clock_at new j ≡ clock_at old j
 
+-- the item gets this clock
+pub record PutsClock (old : ClockTable) (i : ItemId) (clock : Counts) (new : ClockTable) : Type 0 where
+  pub shape : map length new ≡ map length old
+  pub item : clock_at new i ≡ clock
+  pub others : (j : ItemId) → j ≢ i → clock_at new j ≡ clock_at old j
+
 -- after counts all that mine and all of theirs count, and one more event of item i
 pub record IsTickOfJoin (mine : Counts) (theirs : List Counts) (i : ItemId) (after : Counts) : Type 0 where
   pub counts : (j : ItemId) → count_of after j ≡ max (count_of mine j) (greatest_count theirs j) + tick_at i j

@@ -5,7 +5,7 @@ ghost use Rattle.gr_clocks.specs.declared.clock.ClockError.TheVariants.{Memory a
 ghost use Rattle.gr_model.specs.declared.event.ItemId.{ItemId as AnyItem};
 ghost use Rattle.gr_clocks.specs.Counts.{count_of, CountSame, IsJoin};
 ghost use Rattle.gr_clocks.specs.Owned.{IsRaisedBy, IsRaisedTo};
-ghost use Rattle.gr_clocks.specs.Pages.{page_of, page_at, in_page, whole};
+ghost use Rattle.gr_clocks.specs.Pages.{page_at, in_page, whole};
 
 use crate::clock::{ClockError, LARGEST_COUNT};
 use crate::page::Page;
@@ -45,48 +45,6 @@ fn reach<A: Allocator + Clone>(pages: &mut Pages<A>, count: usize) -> Result<(),
         }
     }
     Ok(())
-}
-
-/// The same pages once more, shared.
-fn copy_of<A: Allocator + Clone>(pages: &Pages<A>) -> Result<Pages<A>, ClockError>
-    ensures copy { IfOk result (λ p. p ≡ pages.now) }
-    ensures memory { IsOkUnless result ClockError.Memory }
-{
-    let mut copy = Pages::none(pages.alloc()?);
-    for place in 0..pages.len() {
-        copy.push(pages.shared(place)?)?;
-    }
-    Ok(copy)
-}
-
-/// The page with this count of an item, where it is greater than the one there.
-fn raised_to<A: Allocator + Clone>(
-    page: &Page<A>,
-    item: ItemId,
-    count: u32,
-) -> Result<Page<A>, ClockError>
-    requires { count ≤ LARGEST_COUNT }
-    ensures raised { IfOk result (λ p. IsRaisedTo page.now item count p) }
-    ensures memory { IsOkUnless result ClockError.Memory }
-{
-    let mut raised = page.copy()?;
-    raised.raise_to(item, count)?;
-    Ok(raised)
-}
-
-/// The page with these counts of a group's items, each where it is greater than the one there.
-fn raised_by<A: Allocator + Clone>(
-    page: &Page<A>,
-    group: u16,
-    counts: Vec<u32, A>,
-) -> Result<Page<A>, ClockError>
-    requires { All (λ n. n ≤ LARGEST_COUNT) counts.items }
-    ensures raised { IfOk result (λ p. IsRaisedBy page.now group counts.items p) }
-    ensures memory { IsOkUnless result ClockError.Memory }
-{
-    let mut raised = page.copy()?;
-    raised.raise_by(group, counts)?;
-    Ok(raised)
 }
 
 /// The page at a place, with the greater count of each item: one of the two pages, shared, where no count of the other is above it.
@@ -185,7 +143,10 @@ impl<A: Allocator> Base<A> {
         ensures copy { IfOk result (λ b. b ≡ self.now) }
         ensures memory { IsOkUnless result ClockError.Memory }
     {
-        let pages = copy_of(&self.pages)?;
+        let mut pages = Pages::none(self.alloc()?);
+        for place in 0..self.pages.len() {
+            pages.push(self.pages.shared(place)?)?;
+        }
         Ok(Base { pages })
     }
 
@@ -200,7 +161,8 @@ impl<A: Allocator> Base<A> {
     {
         let place = usize::from(item.group / 256);
         reach(&mut self.pages, place + 1)?;
-        let page = raised_to(self.pages.at(place), in_page(item), count)?;
+        let mut page = self.pages.at(place).copy()?;
+        page.raise_to(in_page(item), count)?;
         self.pages.put(place, page)
     }
 
@@ -215,7 +177,8 @@ impl<A: Allocator> Base<A> {
     {
         let place = usize::from(group / 256);
         reach(&mut self.pages, place + 1)?;
-        let page = raised_by(self.pages.at(place), group % 256, counts)?;
+        let mut page = self.pages.at(place).copy()?;
+        page.raise_by(group % 256, counts)?;
         self.pages.put(place, page)
     }
 

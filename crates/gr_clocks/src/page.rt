@@ -5,7 +5,7 @@ ghost use Rattle.std.specs.Prelude.{IsTrue, ◌≡◌, ◌<◌, ◌≤◌, All, 
 ghost use Rattle.gr_clocks.specs.declared.clock.ClockError.TheVariants.{Memory as OutOfMemory};
 ghost use Rattle.gr_model.specs.declared.event.ItemId.{ItemId as AnyItem};
 ghost use Rattle.gr_clocks.specs.Pages.{IsPageWithin};
-ghost use Rattle.gr_clocks.specs.Counts.{count_of, CountSame, IsZero, IsJoin};
+ghost use Rattle.gr_clocks.specs.Counts.{count_of, CountSame, IsJoin};
 ghost use Rattle.gr_clocks.specs.Owned.{IsRaisedBy, IsRaisedTo};
 
 use crate::block::Block;

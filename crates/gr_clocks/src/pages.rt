@@ -1,12 +1,12 @@
 //! The counts of all items in pages of 256 work-groups each, which clocks share: where one group's counts change, only its page
 //! is made anew.
 
-ghost use Rattle.std.specs.Prelude.{[], ◌≡◌, ◌+◌, ◌/◌, ◌∷◌, ◌++◌, ◌<◌, ◌≤◌, IfOk, OnOk, IsOkUnless, length, set};
+ghost use Rattle.std.specs.Prelude.{[], ◌≡◌, ◌+◌, ◌/◌, ◌∷◌, ◌++◌, ◌<◌, IfOk, OnOk, IsOkUnless, length, set};
 ghost use Rattle.gr_clocks.specs.declared.clock.ClockError.TheVariants.{Memory as OutOfMemory};
 ghost use Rattle.gr_clocks.specs.Counts.{Counts};
 ghost use Rattle.gr_clocks.specs.Pages.{in_page, page_at};
 
-use crate::clock::{ClockError, LARGEST_COUNT};
+use crate::clock::ClockError;
 use crate::page::Page;
 use gr_model::event::ItemId;
 use std::alloc::{Allocator, Global};

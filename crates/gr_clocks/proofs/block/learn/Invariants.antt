@@ -1,5 +1,9 @@
-use Rattle.gr_clocks.specs.Blocks.{IsRowJoinBelow}
+use Rattle.std.proofs.Common.{◌≡◌, ℕ, ◌<◌, ◌≤◌, max, length, slice_index}
 use Rattle.gr_clocks.proofs.block.learn.Given as goal
 
 abbrev pub invariant-loop-place : goal.invariant-loop-place
-invariant-loop-place l = IsRowJoinBelow l.place l.initial.mine l.theirs l.mine
+invariant-loop-place l = record {
+  size : length l.mine ≡ length l.initial.mine;
+  greater : (p : ℕ) → p < l.place → slice_index l.mine p ≡ max (slice_index l.initial.mine p) (slice_index l.theirs p);
+  same : (p : ℕ) → l.place ≤ p → slice_index l.mine p ≡ slice_index l.initial.mine p;
+}

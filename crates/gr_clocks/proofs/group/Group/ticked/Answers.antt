@@ -5,7 +5,8 @@ use Rattle.gr_clocks.proofs.RowLemmas.{more_are_each}
 use Rattle.gr_clocks.proofs.group.Group.ticked.Goals as goal
 
 pub loop-item-preserved : goal.loop-item-preserved
-loop-item-preserved g c = more_are_each c.loop-item.invariant c.in_ok-push.ensures.items c.in_ok-ticked_clock.ensures.tick
+loop-item-preserved g c =
+    more_are_each c.loop-item.invariant c.in_ok-push.ensures.items (rw (← c.clock.ensures, ← c.self.view_is) c.in_ok-ticked.ensures.tick)
 
 pub invariant_of-result : goal.invariant_of-result
 invariant_of-result g c =
