@@ -103,6 +103,7 @@ impl<A: Allocator> Page<A> {
     }
 
     /// Makes blocks until so many groups have one. The counts stay.
+    #[tactic(auto, using(crate::proofs::BlockLemmas::push_empty))]
     fn reach(&mut self, groups: usize) -> Result<(), ClockError>
     where
         A: Clone,
