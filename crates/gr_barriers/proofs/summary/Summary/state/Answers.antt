@@ -1,5 +1,4 @@
-use Rattle.std.proofs.Common.{◌∙◌, sym, true≢false}
-use Rattle.gr_barriers.specs.Summaries.{NobodyCame}
+use Rattle.std.proofs.lemmas.Bool.{iff_false}
 use Rattle.gr_barriers.proofs.SummaryLemmas.{converges, waits}
 use Rattle.gr_barriers.proofs.summary.Summary.state.Goals as goal
 
@@ -11,10 +10,10 @@ returns-then-is_divergent c n arrived is = (c.is_divergent.ensures n arrived is)
 
 pub returns-then-self : goal.returns-then-self
 returns-then-self c n arrived is =
-    let somebody : ¬ NobodyCame n arrived = λ none. true≢false (sym ((c.is_empty.ensures n arrived is).1 none) ∙ c.if-is_empty.false) in
-    waits n arrived c.args.self.now is somebody c.args.ended (λ divergent. true≢false (sym ((c.is_divergent.ensures n arrived is).1 divergent) ∙ c.if-is_divergent.false)) c.if-self.true
+    let somebody = iff_false (c.is_empty.ensures n arrived is) c.if-is_empty.false in
+    waits n arrived c.args.self.now is somebody c.args.ended (iff_false (c.is_divergent.ensures n arrived is) c.if-is_divergent.false) c.if-self.true
 
 pub returns-else-self : goal.returns-else-self
 returns-else-self c n arrived is =
-    let somebody : ¬ NobodyCame n arrived = λ none. true≢false (sym ((c.is_empty.ensures n arrived is).1 none) ∙ c.if-is_empty.false) in
-    converges n arrived c.args.self.now is somebody c.args.ended (λ divergent. true≢false (sym ((c.is_divergent.ensures n arrived is).1 divergent) ∙ c.if-is_divergent.false)) (λ lacks. true≢false (sym lacks ∙ c.if-self.false))
+    let somebody = iff_false (c.is_empty.ensures n arrived is) c.if-is_empty.false in
+    converges n arrived c.args.self.now is somebody c.args.ended (iff_false (c.is_divergent.ensures n arrived is) c.if-is_divergent.false) (λ lacks. cc)
