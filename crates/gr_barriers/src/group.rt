@@ -105,6 +105,7 @@ impl<A: Allocator> Group<A> {
     }
 
     /// How many marks an item has brought.
+    #[tactic(auto, using(crate::proofs::GroupLemmas::read_items))]
     pub(crate) fn count(&self, item: usize) -> usize
         ensures count { result ≡ length (marks_at self.now item) }
         ensures few { result ≤ MOST_RECORDS }
