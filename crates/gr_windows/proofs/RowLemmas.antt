@@ -41,16 +41,16 @@ begun_as size (w ∷ ws) whole = (⊎_elim (λ (none : (w ∷ ws) ≡ []). cc) (
 module _ {size busy : ℕ} {ws : List (List Event)} (kept : IsRowKept size busy ws) {s : List (List Event)} (view : padded size ws ≡ s) where
   -- where there are no windows they can come
   module _ {now : List (List Event)} (is : now ≡ begun size ws) where
-    pub begun_size : length now ≡ size
+    begun_size : length now ≡ size
     begun_size = ap length is ∙ (begun_as size ws kept.whole).0
 
-    pub begun_kept : IsRowKept size busy now
+    begun_kept : IsRowKept size busy now
     begun_kept = record { few = omega (arith, begun_size); whole = inr begun_size; count = kept.count ∙ (sym (begun_as size ws kept.whole).1.0 ∙ ap (sum_by waits) (sym is)) }
 
-    pub begun_view : padded size now ≡ s
+    begun_view : padded size now ≡ s
     begun_view = ap (padded size) is ∙ ((begun_as size ws kept.whole).1.1 ∙ view)
 
-    pub begun_there : {p item : ℕ} → p ≡ item → item < length s → p < length now
+    begun_there : {p item : ℕ} → p ≡ item → item < length s → p < length now
     begun_there {p} {item} same within =
         let whole : length (padded size now) ≡ size = length-append now (none_of (size - length now)) ∙ omega (arith, begun_size, length-replicate {A = List Event} (size - length now) []) in
         omega (arith, same, within, ap length begun_view, whole, begun_size)
@@ -69,11 +69,8 @@ module _ {size busy : ℕ} {ws : List (List Event)} (kept : IsRowKept size busy 
       old_is : old ≡ get_or ws p []
       old_is = get_or_read ws p old there reads []
 
-      pub same_read : {again : List Event} → again ≡ get_or ws p again → again ≡ old
-      same_read {again} is = get_or_read ws p again there is [] ∙ sym old_is
-
       -- the same list at an item
-      pub same_written : (new : List Event) → new ≡ old → set ws p new ≡ ws
+      same_written : (new : List Event) → new ≡ old → set ws p new ≡ ws
       same_written new is = ap (set ws p) (is ∙ reads) ∙ set-get_or ws p old
 
       -- another list at an item
@@ -88,10 +85,10 @@ module _ {size busy : ℕ} {ws : List (List Event)} (kept : IsRowKept size busy 
             count = omega (arith, changes, sum, kept.count, ap waits old_is);
           }
 
-      pub push_kept : (x : Event) (new : List Event) (b : ℕ) → new ≡ old ++ x ∷ [] → b ≡ from_bool (length old == 0) → IsRowKept size (busy + b) (set ws p new)
+      push_kept : (x : Event) (new : List Event) (b : ℕ) → new ≡ old ++ x ∷ [] → b ≡ from_bool (length old == 0) → IsRowKept size (busy + b) (set ws p new)
       push_kept x new b is first = set_kept (busy + b) new (grind (arith, nat_tests))
 
-      pub push_fits : (x : Event) (b : ℕ) → b ≡ from_bool (length old == 0) → busy + b ≤ size
+      push_fits : (x : Event) (b : ℕ) → b ≡ from_bool (length old == 0) → busy + b ≤ size
       push_fits x b first =
           let kept_then = push_kept x (old ++ x ∷ []) b refl first in
           omega (arith, kept_then.few, kept_then.count, waits_most (set ws p (old ++ x ∷ [])))
@@ -103,3 +100,23 @@ module _ {size busy : ℕ} {ws : List (List Event)} (kept : IsRowKept size busy 
 
       pub less_kept : (new : List Event) (b : ℕ) → length new ≡ length old - 1 → b ≡ from_bool (length old == 1) → IsRowKept size (busy - b) (set ws p new)
       less_kept new b less only = set_kept (busy - b) new (omega (arith, less_fits b only, less_waits old new less, only))
+
+-- an event is added, where the windows may first have come
+module _ {size busy : ℕ} {ws : List (List Event)} (kept : IsRowKept size busy ws) {s : List (List Event)} (view : padded size ws ≡ s) {now : List (List Event)} (is : now ≡ begun size ws) {p item : ℕ} (same : p ≡ item) (within : item < length s) {old : List Event} (reads : old ≡ get_or now p old) where
+  there : p < length now
+  there = begun_there kept view is same within
+
+  pub fits_more : (x : Event) (b : ℕ) → b ≡ from_bool (length old == 0) → busy + b ≤ size
+  fits_more = push_fits (begun_kept kept view is) (begun_view kept view is) same there reads
+
+  pub kept_more : (x : Event) (new : List Event) (b : ℕ) → new ≡ old ++ x ∷ [] → b ≡ from_bool (length old == 0) → IsRowKept size (busy + b) (set now p new)
+  kept_more = push_kept (begun_kept kept view is) (begun_view kept view is) same there reads
+
+  pub written_more : (x : Event) (new : List Event) → new ≡ old ++ x ∷ [] → padded size (set now p new) ≡ set s item (get_or s item [] ++ x ∷ [])
+  written_more x = written_at (begun_kept kept view is) (begun_view kept view is) same there reads (λ l. l ++ x ∷ [])
+
+  pub kept_still : (new : List Event) → new ≡ old → IsRowKept size busy (set now p new)
+  kept_still new unchanged = rw (same_written (begun_kept kept view is) (begun_view kept view is) same there reads new unchanged) (begun_kept kept view is)
+
+  pub written_still : (new : List Event) → new ≡ old → padded size (set now p new) ≡ s
+  written_still new unchanged = ap (padded size) (same_written (begun_kept kept view is) (begun_view kept view is) same there reads new unchanged) ∙ begun_view kept view is

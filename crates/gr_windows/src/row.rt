@@ -80,10 +80,8 @@ impl<A: Allocator + Copy> Row<A> {
         ensures err { OnErr result (self.new ≡ self.old) }
     {
         begin(&mut self.windows, self.size)?;
-        let place = usize::from(item);
-        let first = self.windows[place].is_empty();
-        self.windows[place].push(event)?;
-        self.busy += u16::from(first);
+        let only = self.windows[usize::from(item)].push(event)?;
+        self.busy += u16::from(only);
         Ok(())
     }
 }

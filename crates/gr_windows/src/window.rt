@@ -1,6 +1,6 @@
 //! The events of one work-item that wait, in their order.
 
-ghost use Rattle.std.specs.Prelude.{◌≡◌, ◌-◌, ◌==◌, ◌++◌, ◌∷◌, [], OnOk, OnErr, drop, length, slice_get, take};
+ghost use Rattle.std.specs.Prelude.{◌≡◌, ◌-◌, ◌==◌, ◌++◌, ◌∷◌, [], IfOk, OnOk, OnErr, drop, length, slice_get, take};
 
 use gr_model::event::Event;
 use gr_model::memory::Memory;
@@ -43,24 +43,19 @@ impl<A: Allocator> Window<A> {
         self.events.get(place as usize).copied()
     }
 
-    /// Whether no event waits.
-    pub(crate) fn is_empty(&self) -> bool
-        ensures { result ≡ (length self.now == 0) }
-    {
-        self.events.is_empty()
-    }
-
-    /// Adds an event after the others.
+    /// Adds an event after the others. Says whether it is the only one.
     ///
     /// # Errors
     /// `Memory`: out of memory. Nothing is then added.
-    pub(crate) fn push(&mut self, event: &Event) -> Result<(), Memory>
+    pub(crate) fn push(&mut self, event: &Event) -> Result<bool, Memory>
         ensures ok { OnOk result (self.new ≡ self.old ++ event.now ∷ []) }
+        ensures only { IfOk result (λ only. only ≡ (length self.old == 0)) }
         ensures err { OnErr result (self.new ≡ self.old) }
     {
         self.events.reserve(1)?;
+        let only = self.events.is_empty();
         self.events.push_back_reserved(*event);
-        Ok(())
+        Ok(only)
     }
 
     /// Forgets the first event. Says whether it was the only one.
