@@ -1,12 +1,14 @@
 -- What a lane keeps of an item's barriers.
-use Rattle.std.proofs.Common.{◌≡◌, ℕ, ◌+◌, ◌-◌, ◌<◌, ◌≤◌, ◌==◌, List, [], ◌∷◌, ◌++◌, length, map, take, drop, sym, ap, ◌∙◌, subst, arith, append-nil, append_assoc, cond, slice_get}
+use Rattle.std.proofs.Common.{◌≡◌, ℕ, ◌+◌, ◌-◌, ◌<◌, ◌≤◌, ◌==◌, Bool, false, true, List, [], ◌∷◌, ◌++◌, length, map, take, drop, sym, ap, ◌∙◌, subst, arith, append-nil, append_assoc, cond, slice_get}
 use Rattle.std.proofs.lemmas.Bool.Decides.{nat_tests}
 use Rattle.std.proofs.lemmas.Grind.{common_steps}
 use Rattle.std.proofs.lemmas.Option.{gets, slice_get-map}
 use Rattle.std.proofs.lemmas.List.{drop-append-le, drop-drop, drop-map, length-append, length-drop, length-map, length-take-le, length_push, map-append, take-append-le}
 use Rattle.gr_model.specs.declared.event.Event.{Event}
 use Rattle.gr_lanes.specs.declared.bare.Bare.{Bare}
-use Rattle.gr_lanes.specs.Kept.{Arrives, IsLane, Kept, apart_more, bare_of, forgetting_one, of_item}
+use Rattle.gr_lanes.specs.Indices.{taking, with_event}
+use Rattle.gr_lanes.specs.Takes.{IsMereAccess}
+use Rattle.gr_lanes.specs.Kept.{Arrives, IsLane, Kept, apart_more, bare_of, forgetting_one, kept_with, of_item}
 
 get-drop : {X : Type 0} (n : ℕ) (xs : List X) (k : ℕ) → slice_get (drop n xs) k ≡ slice_get xs (n + k)
 get-drop n xs k = grind (arith, common_steps, gets)
@@ -62,7 +64,7 @@ record_is : (x : Event) → x.names ≡ [] → of_item x.item (bare_of x) ≡ x
 record_is x bare = λ d. record { item = x.item; kind = x.kind; space = x.space; word = x.word; names = sym bare d }
 
 module _ {forgotten : ℕ} (x : Event) (bare : x.names ≡ []) {k : Kept} {firsts : List Bare} (lane : IsLane forgotten firsts x.item k) where
-  pub arrives_apart : {new : Kept} → new ≡ apart_more k x → Arrives forgotten firsts firsts k new x
+  pub arrives_apart : {new : Kept} → new ≡ apart_more k x → Arrives forgotten firsts firsts x.item (with_event k.index x false true) new
   arrives_apart is = record {
     more = [];
     grown = sym (append-nil firsts);
@@ -78,5 +80,17 @@ module _ {forgotten : ℕ} (x : Event) (bare : x.names ≡ []) {k : Kept} {first
       within = lane.within;
       few = omega (arith, lane.few, length_push k.index.barriers k.index.count);
     });
-    index = ap (λ (l : Kept). l.index) is;
+    index_is = ap (λ (l : Kept). l.index) is;
   }
+
+-- an event more that is no barrier
+pub arrives_other : {forgotten : ℕ} {firsts : List Bare} {i : ℕ} {k : Kept} → IsLane forgotten firsts i k → (x : Event) (release : Bool) {new : Kept} → new ≡ kept_with k x release → Arrives forgotten firsts firsts i (with_event k.index x release false) new
+arrives_other {forgotten} {firsts} {i} {k} lane x release is = record {
+  more = [];
+  grown = sym (append-nil firsts);
+  lane = subst (IsLane forgotten firsts i) (sym is) (record { places = lane.places; saying = lane.saying; records = lane.records; passed = lane.passed; least = lane.least; within = lane.within; few = omega (arith, lane.few) });
+  index_is = ap (λ (l : Kept). l.index) is;
+}
+
+pub arrives_access : {forgotten : ℕ} {firsts : List Bare} {i : ℕ} {k : Kept} → IsLane forgotten firsts i k → (x : Event) → IsMereAccess x → {new : Kept} → new ≡ kept_with k x false → Arrives forgotten firsts firsts i (taking k.index x) new
+arrives_access lane x mere is = rw (mere.ends, mere.barrier, mere.release) (arrives_other lane x false is)

@@ -2,5 +2,5 @@ pub mod IndexLemmas
 pub mod GroupLemmas
 pub mod Growth
 pub mod InstanceLemmas
-pub mod KeptLemmas
 pub mod LaneLemmas
+pub mod KeptLemmas

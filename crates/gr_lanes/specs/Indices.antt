@@ -1,5 +1,5 @@
 -- An index of each item's events in its group's list, and of its releases and barriers among its events.
-use Rattle.std.specs.Prelude.{◌≡◌, ◌≢◌, ◌⊎◌, ℕ, ◌<◌, ◌≤◌, ◌+◌, Option, Bool, List, [], ◌∷◌, ◌++◌, length, map, filter, false, true, MatchOption, None, Some, IsTrue, slice_get, slice_index, slice_index_or, slice_set, take, if◌then◌else◌}
+use Rattle.std.specs.Prelude.{◌≡◌, ◌≢◌, ℕ, ◌<◌, ◌≤◌, ◌+◌, Option, Bool, List, [], ◌∷◌, ◌++◌, length, map, filter, true, MatchOption, None, Some, slice_get, slice_index, if◌then◌else◌}
 use Rattle.gr_model.specs.declared.event.Event.{Event}
 use Rattle.gr_model.specs.declared.report.Divergence.{Divergence}
 use Rattle.gr_model.specs.declared.event.ItemId.{ItemId}
@@ -8,7 +8,7 @@ use Rattle.gr_model.specs.declared.event.Kind.TheVariants.{End}
 use Rattle.gr_model.specs.Access.{is_release}
 use Rattle.gr_model.specs.Barriers.{is_barrier}
 use Rattle.gr_model.specs.Events.{is_end}
-use Rattle.gr_model.specs.Streams.{Streams, ArePrefixes, IsPrefix, is_complete, is_of, places_from, trace_of}
+use Rattle.gr_model.specs.Streams.{Streams, ArePrefixes, is_of, places_from, trace_of}
 use Rattle.gr_lanes.specs.Remembered.{Remembered}
 
 -- how many events an item has, the places of its releases and its barriers among them, and the records of these
@@ -51,13 +51,9 @@ with_event i x release barrier = record {
   arrived = with_if barrier i.arrived x;
 }
 
--- the indices of a group's items with a record more: an end is no item's event
-abbrev pub indexed : List Index → Event → List Index
-indexed lanes x = if is_end x then lanes else slice_set lanes x.item (with_event (slice_index_or lanes x.item no_index) x (is_release x) (is_barrier x))
-
--- the indices of a group's items with a barrier more
-abbrev pub with_barrier : List Index → Event → List Index
-with_barrier lanes x = slice_set lanes x.item (with_event (slice_index_or lanes x.item no_index) x false true)
+-- the index with a record of the item more: an end is no event
+abbrev pub taking : Index → Event → Index
+taking i x = if is_end x then i else with_event i x (is_release x) (is_barrier x)
 
 -- the record of an item's k-th event that passes a test
 abbrev pub record_of : Streams → (Event → Bool) → ItemId → ℕ → Option Event
@@ -78,42 +74,17 @@ pub record GroupList : Type 0 where
 abbrev pub empty : ℕ → GroupList
 empty n = record { size = n; list = []; forgotten = 0; decided = [] }
 
--- where these places have one of this number, it is none of the first so many
-abbrev pub IsNumberKept : ℕ → List ℕ → ℕ → Type 0
-IsNumberKept forgotten places number = (p : ℕ) → slice_get places number ≡ Some p → forgotten ≤ number
-
--- where this is one of these places, it is none of the first so many
-abbrev pub IsPlaceKept : ℕ → List ℕ → ℕ → Type 0
-IsPlaceKept forgotten places place = (k : ℕ) → slice_get places k ≡ Some place → forgotten ≤ k
+-- the places of an item's barriers in its trace
+abbrev pub barriers_of : List Event → ℕ → List ℕ
+barriers_of list item = places_from is_barrier 0 (filter (is_of item) list)
 
 -- where an item has a barrier of this number, its instance is not forgotten
 abbrev pub IsKeptOf : ℕ → List Event → ℕ → ℕ → Type 0
-IsKeptOf forgotten list item number = IsNumberKept forgotten (places_from is_barrier 0 (filter (is_of item) list)) number
+IsKeptOf forgotten list item number = (p : ℕ) → slice_get (barriers_of list item) number ≡ Some p → forgotten ≤ number
 
 -- where an item's event with this index is a barrier, its instance is not forgotten
 abbrev pub IsIndexKeptOf : ℕ → List Event → ℕ → ℕ → Type 0
-IsIndexKeptOf forgotten list item index = IsPlaceKept forgotten (places_from is_barrier 0 (filter (is_of item) list)) index
-
--- an item of whom nothing more is asked than how many barriers it has: it has no releases, and all its barriers are forgotten
-pub record IsSpent (forgotten : ℕ) (i : Index) : Type 0 where
-  pub releases : i.releases ≡ []
-  pub barriers : length i.barriers ≡ forgotten
-
--- the group may have such a list, and each of its items has its index in it; the last ones may have gone, those that are spent, where no
--- more is taken of the group, and need not have come where nothing was
-pub record AreIndices (size forgotten : ℕ) (lanes : List Index) (list : List Event) : Type 0 where
-  pub prefix : IsPrefix size list
-  pub few : length lanes ≤ size
-  pub each : (i : ℕ) → i < length lanes → slice_index_or lanes i no_index ≡ index_of list i
-  pub gone : (i : ℕ) → length lanes ≤ i → i < size → IsSpent forgotten (index_of list i)
-  pub whole : ¬ IsTrue (is_complete list) → (length lanes ≡ size) ⊎ ((list ≡ []) × (forgotten ≡ 0))
-
--- the last ones of these have gone, all of them spent
-pub record Closes (forgotten : ℕ) (old new : List Index) : Type 0 where
-  pub count : ℕ
-  pub within : count ≤ length old
-  pub front : new ≡ take count old
-  pub spent : (i : ℕ) → count ≤ i → i < length old → IsSpent forgotten (slice_index_or old i no_index)
+IsIndexKeptOf forgotten list item index = (k : ℕ) → slice_get (barriers_of list item) k ≡ Some index → forgotten ≤ k
 
 -- what a kind of record says of its stream where it is an end: whether it was cut
 abbrev pub end_of_kind : Kind → Option Bool
@@ -128,12 +99,6 @@ abbrev pub end_in : List Event → Option Bool
 end_in [] = None
 end_in (x ∷ []) = end_of x
 end_in (x ∷ y ∷ xs) = end_in (y ∷ xs)
-
--- what is kept of a group of so many items: their indices, how many records were taken, and what its end says once it was taken
-pub record IsKept (size forgotten : ℕ) (lanes : List Index) (list : List Event) (taken : ℕ) (end : Option Bool) : Type 0 where
-  pub indices : AreIndices size forgotten lanes list
-  pub count : taken ≡ length list
-  pub ending : end ≡ end_in list
 
 -- some record of a list is an end that says that its stream was cut
 abbrev pub EndsCut : List Event → Type 0

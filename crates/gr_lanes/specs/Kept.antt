@@ -1,10 +1,11 @@
 -- What is kept of a group's items: a lane for each item, and for each instance that is not forgotten what the first barrier said that came to it.
-use Rattle.std.specs.Prelude.{◌≡◌, ℕ, ◌<◌, ◌≤◌, List, [], ◌∷◌, ◌++◌, Bool, true, false, not, ◌||◌, ◌&&◌, ◌==◌, ◌⊎◌, nat_lt, Option, Some, None, drop, length, map, take, slice_get, slice_index_or, ◌+◌, ◌-◌, if◌then◌else◌}
+use Rattle.std.specs.Prelude.{IsTrue, ◌≡◌, ℕ, ◌<◌, ◌≤◌, List, [], ◌∷◌, ◌++◌, Bool, true, false, not, ◌||◌, ◌&&◌, ◌==◌, ◌⊎◌, nat_lt, Option, Some, None, drop, filter, length, map, replicate, take, slice_index_or, ◌+◌, ◌-◌, if◌then◌else◌}
 use Rattle.gr_model.specs.declared.event.Event.{Event}
 use Rattle.gr_lanes.specs.declared.bare.Bare.{Bare}
 use Rattle.gr_model.specs.Barriers.{is_barrier}
-use Rattle.gr_model.specs.Streams.{Streams, is_complete, list_of, place_of, size_of}
-use Rattle.gr_lanes.specs.Indices.{Index, no_index, record_of, with_event}
+use Rattle.gr_model.specs.Access.{is_release}
+use Rattle.gr_model.specs.Streams.{IsPrefix, Streams, is_complete, is_of, list_of, place_of, places_from, size_of}
+use Rattle.gr_lanes.specs.Indices.{Index, barriers_of, end_in, index_of, no_index, record_of, with_event}
 
 -- what a record says, without its item and the releases that it names
 abbrev pub bare_of : Event → Bare
@@ -13,25 +14,6 @@ bare_of x = record { kind = x.kind; space = x.space; word = x.word }
 -- the record that says this of an item, and names no releases
 abbrev pub of_item : ℕ → Bare → Event
 of_item i b = record { item = i; kind = b.kind; space = b.space; word = b.word; names = [] }
-
--- the indices of a group's items, and how many of its first instances are forgotten
-pub record GroupIndex : Type 0 where
-  pub indices : List Index
-  pub forgotten : ℕ
-
--- this many items, all without events
-pub record HasNoEvents (size : ℕ) (g : GroupIndex) : Type 0 where
-  pub count : length g.indices ≡ size
-  pub none : (i : ℕ) → slice_index_or g.indices i no_index ≡ no_index
-  pub whole : g.forgotten ≡ 0
-
--- the same, where there were at least this many items; else this many without events
-abbrev pub Begins : ℕ → GroupIndex → GroupIndex → Type 0
-Begins size old new = ((size ≤ length old.indices) × (new ≡ old)) ⊎ ((length old.indices < size) × HasNoEvents size new)
-
--- other indices, and as many instances forgotten
-abbrev pub with_indices : GroupIndex → List Index → GroupIndex
-with_indices g l = record { indices = l; forgotten = g.forgotten }
 
 -- what is kept of an item: its index, in which the places and the records of barriers exist only in proofs; the places of those
 -- barriers whose instances are not forgotten; how many of its first barriers are forgotten or said the same as the first of their
@@ -82,9 +64,6 @@ pub record HasNothing (k : Kept) : Type 0 where
   pub releases : k.index.releases ≡ []
   pub barriers : k.barriers ≡ []
 
-abbrev pub AreLanes : ℕ → List Bare → List Kept → Type 0
-AreLanes forgotten firsts lanes = (i : ℕ) → i < length lanes → IsLane forgotten firsts i (slice_index_or lanes i nothing_kept)
-
 -- whether a lane's barrier with a number that is not forgotten said the same as the first of its instance, or may still come
 abbrev pub is_as_first : ℕ → Bool → Kept → Bool
 is_as_first n ended k = nat_lt n k.alike || (not ended && not (nat_lt (n - k.alike) (length k.apart)))
@@ -93,16 +72,40 @@ is_as_first n ended k = nat_lt n k.alike || (not ended && not (nat_lt (n - k.ali
 abbrev pub CameWith : Option Event → Option ℕ → Bool → ℕ → Bare → Type 0
 CameWith came place ended i b = (came ≡ Some (of_item i b)) ⊎ ((ended ≡ false) × (place ≡ None))
 
-abbrev pub NoneDiffersIn : List Index → ℕ → Bool → Type 0
-NoneDiffersIn lanes n ended = (b : Bare) × ((i : ℕ) → i < length lanes → CameWith (slice_get (slice_index_or lanes i no_index).arrived n) (slice_get (slice_index_or lanes i no_index).barriers n) ended i b)
-
--- the same, of the streams: all items that came to an instance said the same, and all came where the group has ended
+-- all items of a group that came to an instance said the same, and all came where the group has ended
 abbrev pub NoneDiffers : Streams → ℕ → ℕ → Type 0
 NoneDiffers s g n = (b : Bare) × ((i : ℕ) → i < size_of s g → CameWith (record_of s is_barrier (record { group = g; item = i }) n) (place_of s is_barrier (record { group = g; item = i }) n) (is_complete (list_of s g)) i b)
 
--- an item's lane has this barrier more, and the barrier's instance has a first
-pub record Arrives (forgotten : ℕ) (firsts firsts' : List Bare) (old new : Kept) (x : Event) : Type 0 where
+-- an item's lane comes to have this index, and each of its barriers an instance that has a first
+pub record Arrives (forgotten : ℕ) (firsts firsts' : List Bare) (i : ℕ) (index : Index) (new : Kept) : Type 0 where
   pub more : List Bare
   pub grown : firsts' ≡ firsts ++ more
-  pub lane : IsLane forgotten firsts' x.item new
-  pub index : new.index ≡ with_event old.index x false true
+  pub lane : IsLane forgotten firsts' i new
+  pub index_is : new.index ≡ index
+
+-- this many lanes of items without events, where there were fewer lanes
+abbrev pub begun : ℕ → List Kept → List Kept
+begun n ks = if nat_lt (length ks) n then replicate n nothing_kept else ks
+
+-- the lane of an item of a group that has this list
+pub record IsLaneOf (forgotten : ℕ) (firsts : List Bare) (list : List Event) (i : ℕ) (k : Kept) : Type 0 where
+  pub index : k.index ≡ index_of list i
+  pub lane : IsLane forgotten firsts i k
+  pub few : length list < 4_294_967_296
+
+-- an item that has no lane: it has no releases, and all its barriers are forgotten
+pub record IsGone (size forgotten : ℕ) (list : List Event) (i : ℕ) : Type 0 where
+  pub releases : places_from is_release 0 (filter (is_of i) list) ≡ []
+  pub released : filter is_release (filter (is_of i) list) ≡ []
+  pub barriers : length (barriers_of list i) ≡ (if nat_lt i size then forgotten else 0)
+
+-- what is kept of a group of so many items: their lanes, how many records were taken, and what its end says once it was taken. The last
+-- lanes may have gone where no more is taken of the group, and need not have come where nothing was
+pub record IsKept (size forgotten : ℕ) (firsts : List Bare) (ks : List Kept) (list : List Event) (taken : ℕ) (end : Option Bool) : Type 0 where
+  pub prefix : IsPrefix size list
+  pub few : length ks ≤ size
+  pub each : (i : ℕ) → i < length ks → IsLaneOf forgotten firsts list i (slice_index_or ks i nothing_kept)
+  pub gone : (i : ℕ) → length ks ≤ i → IsGone size forgotten list i
+  pub whole : ¬ IsTrue (is_complete list) → (length ks ≡ size) ⊎ ((list ≡ []) × (forgotten ≡ 0))
+  pub count : taken ≡ length list
+  pub ending : end ≡ end_in list

@@ -1,26 +1,30 @@
 //! What was taken of one work-group: the number of its records, what its end says, and what is kept of its items.
 //!
-//! Invariant: the records are a prefix of a list that the group may have, and for each item an index of its events in that list
-//! is kept. After the end was taken, the last items may be gone, as far as they have no releases and all their barriers are
-//! forgotten. The list itself exists only in proofs.
+//! Invariant: the records are a prefix of a list that the group may have. Each item has a lane, which keeps all its barriers that are
+//! not forgotten; for each barrier that said the same as the first barrier of its instance, that first one is kept. After the end was
+//! taken, the last lanes may be gone, as far as they have no releases and all their barriers are forgotten. The list itself exists only
+//! in proofs.
 
-ghost use Rattle.std.specs.Prelude.{◌≢◌, ◌≡◌, ◌↔◌, ◌∷◌, ◌++◌, ◌<◌, ◌≤◌, ◌+◌, ℕ, [], true, Some, IsTrue, IfOk, OnOk, OnErr, filter, length, slice_get, slice_index_or};
+ghost use Rattle.std.specs.Prelude.{◌≢◌, ◌≡◌, ◌↔◌, ◌∷◌, ◌++◌, ◌<◌, ◌≤◌, ◌+◌, ℕ, List, [], true, Some, IfOk, IsTrue, MatchOption, OnOk, OnErr, filter, length, map, replicate, slice_get, slice_index_or};
+ghost use Rattle.std.specs.List.{list_all};
 ghost use Rattle.gr_model.specs.declared.limits.TheConstants.{MOST_RECORDS};
 ghost use Rattle.gr_model.specs.Access as model;
 ghost use Rattle.gr_model.specs.Barriers as model_barriers;
 ghost use Rattle.gr_model.specs.Events.{IsEventOk};
 ghost use Rattle.gr_model.specs.Streams.{is_complete, is_of, places_from};
-ghost use Rattle.gr_lanes.specs.Indices.{EndsCut, IsIndexKeptOf, IsKeptOf, IsNumberAmong, end_of, no_index, indexed};
+ghost use Rattle.gr_lanes.specs.Indices.{EndsCut, IsIndexKeptOf, IsKeptOf, IsNumberAmong, end_of};
 ghost use Rattle.gr_lanes.specs.declared.bare.Bare.{Bare as BareOf};
-ghost use Rattle.gr_lanes.specs.Kept.{CameWith};
+ghost use Rattle.gr_lanes.specs.Kept.{CameWith, HasNothing, IsGone, IsLaneOf, begun, forgetting_one, is_as_first, nothing_kept};
 ghost use Rattle.gr_lanes.specs.Takes.{IsMereAccess};
 
-use crate::items::Items;
+use crate::bare::Bare;
+use crate::lane::Lane;
 use gr_model::event::{Event, Kind};
 use gr_model::history::History;
 use gr_model::memory::Memory;
 use gr_model::report::Divergence;
 use std::alloc::{Allocator, Global};
+use std::collections::VecDeque;
 use std::marker::Model;
 
 /// What was taken of a work-group. Contracts see how many items it has, its records, how many of its first instances are
@@ -34,19 +38,25 @@ pub(crate) struct Group<A: Allocator = Global> {
     taken: u32,
     /// Once its end was taken: whether its stream was cut.
     end: Option<bool>,
-    items: Items<A>,
+    /// What is kept of each item.
+    lanes: Vec<Lane<A>, A>,
+    /// For each instance that is not forgotten: what the first barrier said that came to it.
+    firsts: VecDeque<Bare, A>,
+    /// How many of its first instances are forgotten.
+    forgotten: u32,
     /// The divergent instances among the forgotten ones.
     decided: Vec<Divergence, A>,
 }
 
 impl<A: Allocator> Model for Group<A> {
-    ghost use Rattle.gr_lanes.specs.Indices.{GroupList, IsKept};
+    ghost use Rattle.gr_lanes.specs.Indices.{GroupList};
+    ghost use Rattle.gr_lanes.specs.Kept.{IsKept};
 
     ghost Value = { GroupList };
 
-    ghost view = { λ g. record { size = g.size; list = g.list; forgotten = g.items.forgotten; decided = g.decided.items } };
+    ghost view = { λ g. record { size = g.size; list = g.list; forgotten = g.forgotten; decided = g.decided.items } };
 
-    ghost invariant = { λ g. IsKept g.size g.items.forgotten g.items.indices g.list g.taken g.end };
+    ghost invariant = { λ g. IsKept g.size g.forgotten g.firsts.items g.lanes.items g.list g.taken g.end };
 }
 
 /// If a record is an end: whether it says that its stream was cut.
@@ -74,6 +84,58 @@ fn says_cut(end: Option<bool>) -> bool
     end == Some(true)
 }
 
+/// The lanes of this many items without events.
+fn lanes_of<A: Allocator + Copy>(alloc: A, items: u16) -> Result<Vec<Lane<A>, A>, Memory>
+    ensures { IfOk result (λ ks. ks.items ≡ replicate items nothing_kept) }
+{
+    let mut lanes = Vec::with_capacity(alloc, usize::from(items))?;
+    for _item in 0..items {
+        lanes.push(Lane::new(alloc))?;
+    }
+    Ok(lanes)
+}
+
+/// Makes this many lanes of items without events, where there are fewer lanes.
+fn begin<A: Allocator + Copy>(lanes: &mut Vec<Lane<A>, A>, items: u16) -> Result<(), Memory>
+    ensures ok { OnOk result (lanes.new.items ≡ begun items lanes.old.items) }
+    ensures err { OnErr result (lanes.new.items ≡ lanes.old.items) }
+{
+    if lanes.len() < usize::from(items) {
+        *lanes = lanes_of(*lanes.allocator(), items)?;
+    }
+    Ok(())
+}
+
+/// Whether each lane agrees with the first of an instance (`Lane::is_as_first`).
+#[inline(always)]
+fn are_as_first<A: Allocator>(lanes: &[Lane<A>], number: u32, ended: bool) -> bool
+    ensures { result ≡ list_all (λ k. is_as_first number ended k) lanes.now }
+{
+    lanes.iter().all(|lane| lane.is_as_first(number, ended))
+}
+
+/// Forgets one more barrier of each lane, where this many are forgotten.
+fn forget_one<A: Allocator>(lanes: &mut [Lane<A>], forgotten: u32)
+    requires few { forgotten < 4_294_967_295 }
+    ensures { lanes.new ≡ map (forgetting_one forgotten) lanes.old }
+{
+    for lane in lanes.iter_mut() {
+        lane.forget(forgotten);
+    }
+}
+
+/// How many lanes are left without the spent ones at the end.
+fn lanes_left<A: Allocator>(lanes: &[Lane<A>]) -> usize
+    ensures within { result ≤ length lanes.now }
+    ensures spent { (i : ℕ) → result ≤ i → i < length lanes.now → HasNothing (slice_index_or lanes.now i nothing_kept) }
+{
+    let mut left = lanes.len();
+    while left > 0 && lanes[left - 1].is_spent() {
+        left -= 1;
+    }
+    left
+}
+
 impl<A: Allocator + Copy> Group<A> {
     /// A group with this many items, before its first record. It takes no memory.
     pub(crate) fn new(alloc: A, size: u16) -> Group<A>
@@ -85,7 +147,9 @@ impl<A: Allocator + Copy> Group<A> {
             list,
             taken: 0,
             end: None,
-            items: Items::new(alloc),
+            lanes: Vec::new(alloc),
+            firsts: VecDeque::new(alloc),
+            forgotten: 0,
             decided: Vec::new(alloc),
         }
     }
@@ -101,8 +165,8 @@ impl<A: Allocator + Copy> Group<A> {
         ensures ok { OnOk result (self.new ≡ record { size = self.old.size; list = self.old.list ++ event.now ∷ []; forgotten = self.old.forgotten; decided = self.old.decided }) }
         ensures err { OnErr result (self.new ≡ self.old) }
     {
-        self.items.begin(self.size)?;
-        self.items.add(event)?;
+        begin(&mut self.lanes, self.size)?;
+        self.lanes[usize::from(event.item)].take(&mut self.firsts, self.forgotten, event)?;
         self.list.push(event);
         self.taken += 1;
         self.end = end_of(event);
@@ -136,7 +200,7 @@ impl<A: Allocator> Group<A> {
     pub(crate) fn forgotten(&self) -> u32
         ensures { result ≡ self.now.forgotten }
     {
-        self.items.forgotten()
+        self.forgotten
     }
 
     /// The divergent instances among the forgotten ones.
@@ -146,11 +210,19 @@ impl<A: Allocator> Group<A> {
         &self.decided
     }
 
+    /// The lane of an item, or `None` where it has none.
+    #[inline(always)]
+    fn lane(&self, item: u16) -> Option<&Lane<A>>
+        ensures { MatchOption result (IsGone self.now.size self.now.forgotten self.now.list item) (λ k. (firsts : List BareOf) × IsLaneOf self.now.forgotten firsts self.now.list item k.now) }
+    {
+        self.lanes.get(usize::from(item))
+    }
+
     /// The index of an item's release with this number.
     pub(crate) fn release_at(&self, item: u16, number: u32) -> Option<u32>
         ensures { result ≡ slice_get (places_from model.is_release 0 (filter (is_of item) self.now.list)) number }
     {
-        self.items.release_at(item, number)
+        self.lane(item)?.release(number)
     }
 
     /// The index of an item's barrier with this number.
@@ -158,14 +230,14 @@ impl<A: Allocator> Group<A> {
         requires { IsKeptOf self.now.forgotten self.now.list item number }
         ensures { result ≡ slice_get (places_from model_barriers.is_barrier 0 (filter (is_of item) self.now.list)) number }
     {
-        self.items.barrier_at(item, number)
+        self.lane(item)?.barrier(number - self.forgotten)
     }
 
     /// The record of an item's release with this number.
     pub(crate) fn release_event(&self, item: u16, number: u32) -> Option<Event>
         ensures { result ≡ slice_get (filter model.is_release (filter (is_of item) self.now.list)) number }
     {
-        self.items.release_event(item, number)
+        self.lane(item)?.release_event(number)
     }
 
     /// The record of an item's barrier with this number.
@@ -173,7 +245,8 @@ impl<A: Allocator> Group<A> {
         requires { IsKeptOf self.now.forgotten self.now.list item number }
         ensures { result ≡ slice_get (filter model_barriers.is_barrier (filter (is_of item) self.now.list)) number }
     {
-        self.items.barrier_event(item, number)
+        let lane = self.lanes.get(usize::from(item))?;
+        lane.barrier_event(&self.firsts, self.forgotten, item, number)
     }
 
     /// Whether it is known that all items that came to an instance said the same, and that all came if the group has ended.
@@ -182,15 +255,17 @@ impl<A: Allocator> Group<A> {
         requires { self.now.forgotten ≤ number }
         ensures { IsTrue result → (b : BareOf) × ((i : ℕ) → i < self.now.size → CameWith (slice_get (filter model_barriers.is_barrier (filter (is_of i) self.now.list)) number) (slice_get (places_from model_barriers.is_barrier 0 (filter (is_of i) self.now.list)) number) (is_complete self.now.list) i b) }
     {
-        self.items.len() == usize::from(self.size)
-            && self.items.none_differs(number, self.is_complete())
+        if self.lanes.len() != usize::from(self.size) {
+            return false;
+        }
+        are_as_first(&self.lanes, number, self.is_complete())
     }
 
     /// Which of an item's releases the event with this index is, or `None` where it is no release.
     pub(crate) fn release_number(&self, item: u16, index: u32) -> Option<u32>
         ensures { IsNumberAmong model.is_release self.now.list item index result }
     {
-        self.items.release_number(item, index)
+        self.lane(item)?.release_number(index)
     }
 
     /// Which of an item's barriers the event with this index is, or `None` where it is no barrier.
@@ -198,7 +273,8 @@ impl<A: Allocator> Group<A> {
         requires { IsIndexKeptOf self.now.forgotten self.now.list item index }
         ensures { IsNumberAmong model_barriers.is_barrier self.now.list item index result }
     {
-        self.items.barrier_number(item, index)
+        let place = self.lane(item)?.barrier_place(index)?;
+        Some(self.forgotten + place)
     }
 
     /// How many barriers of an item were taken.
@@ -206,10 +282,11 @@ impl<A: Allocator> Group<A> {
     pub(crate) fn barrier_count(&self, item: u16) -> u32
         ensures { result ≡ length (filter model_barriers.is_barrier (filter (is_of item) self.now.list)) }
     {
-        if item < self.size && self.items.len() <= usize::from(item) {
-            return self.items.forgotten();
+        match self.lane(item) {
+            Some(lane) => self.forgotten + lane.barrier_count(),
+            None if item < self.size => self.forgotten,
+            None => 0,
         }
-        self.items.barrier_count(item)
     }
 
     /// Takes the group's next record, a mere access that is not its first record. It takes no memory.
@@ -221,7 +298,7 @@ impl<A: Allocator> Group<A> {
         requires access { IsMereAccess event.now }
         ensures { self.new ≡ record { size = self.old.size; list = self.old.list ++ event.now ∷ []; forgotten = self.old.forgotten; decided = self.old.decided } }
     {
-        self.items.add_access(event);
+        self.lanes[usize::from(event.item)].add_access(event);
         self.list.push(event);
         self.taken += 1;
     }
@@ -232,7 +309,9 @@ impl<A: Allocator> Group<A> {
         requires few { self.old.forgotten < MOST_RECORDS }
         ensures { self.new ≡ record { size = self.old.size; list = self.old.list; forgotten = self.old.forgotten + 1; decided = self.old.decided } }
     {
-        self.items.forget();
+        forget_one(&mut self.lanes, self.forgotten);
+        let _ = self.firsts.pop_front();
+        self.forgotten += 1;
     }
 
     /// Forgets the first instance that is not forgotten yet. All items came to it, and it is divergent.
@@ -246,7 +325,7 @@ impl<A: Allocator> Group<A> {
         ensures err { OnErr result (self.new ≡ self.old) }
     {
         self.decided.push(divergence)?;
-        self.items.forget();
+        self.forget();
         Ok(())
     }
 
@@ -255,7 +334,9 @@ impl<A: Allocator> Group<A> {
         ensures { self.new ≡ self.old }
     {
         if self.end.is_some() {
-            self.items.close();
+            let left = lanes_left(&self.lanes);
+            self.lanes.truncate(left);
+            self.lanes.shrink_to_fit();
         }
     }
 }

@@ -6,11 +6,13 @@
 //! the later ones said.
 
 ghost use Rattle.std.specs.Prelude.{◌≡◌, ◌≢◌, ◌<◌, ◌≤◌, ◌-◌, ℕ, Some, None, [], false, true, IsTrue, MatchOption, OnOk, OnErr, length, map, slice_get};
-ghost use Rattle.gr_lanes.specs.Indices.{AreRising};
+ghost use Rattle.gr_model.specs.Barriers as model;
+ghost use Rattle.gr_lanes.specs.Indices.{AreRising, taking, with_event};
 ghost use Rattle.gr_lanes.specs.Kept as kept;
 ghost use Rattle.gr_lanes.specs.Kept.{alike_more, apart_more, Arrives, forgetting_one, HasNothing, IsLane, kept_with, nothing_kept};
 
 use crate::bare::Bare;
+use crate::kinds::{is_barrier, is_release};
 use gr_model::event::Event;
 use gr_model::history::History;
 use gr_model::memory::Memory;
@@ -172,6 +174,32 @@ impl<A: Allocator> Lane<A> {
         number < self.alike || (!ended && self.apart.len() <= (number - self.alike) as usize)
     }
 
+    /// Adds the item's next record; an end is no event. So many instances are forgotten, and `firsts` are the first barriers of those
+    /// after them.
+    ///
+    /// # Errors
+    /// `Memory`: out of memory. All is then as it was.
+    pub(crate) fn take(
+        &mut self,
+        firsts: &mut VecDeque<Bare, A>,
+        forgotten: u32,
+        event: &Event,
+    ) -> Result<(), Memory>
+        requires few { self.old.index.count < 4_294_967_295 }
+        requires lane { IsLane forgotten firsts.old.items event.now.item self.old }
+        requires bare { model.is_barrier event.now ≡ true → event.now.names ≡ [] }
+        ensures ok { OnOk result (Arrives forgotten firsts.old.items firsts.new.items event.now.item (taking self.old.index event.now) self.new) }
+        ensures err { OnErr result ((self.new ≡ self.old) × (firsts.new.items ≡ firsts.old.items)) }
+    {
+        if event.kind.is_end() {
+            return Ok(());
+        }
+        if is_barrier(event) {
+            return self.arrive(firsts, forgotten, event);
+        }
+        self.add(event, is_release(event))
+    }
+
     /// Adds the item's next event, which is neither a release nor a barrier. It takes no memory.
     pub(crate) fn add_access(&mut self, event: &Event)
         requires few { self.old.index.count < 4_294_967_295 }
@@ -184,7 +212,7 @@ impl<A: Allocator> Lane<A> {
     ///
     /// # Errors
     /// `Memory`: out of memory. The lane is then as it was.
-    pub(crate) fn add(&mut self, event: &Event, release: bool) -> Result<(), Memory>
+    fn add(&mut self, event: &Event, release: bool) -> Result<(), Memory>
         requires few { self.old.index.count < 4_294_967_295 }
         ensures ok { OnOk result (self.new ≡ kept_with self.old event.now release) }
         ensures err { OnErr result (self.new ≡ self.old) }
@@ -243,7 +271,7 @@ impl<A: Allocator> Lane<A> {
         requires bare { event.now.names ≡ [] }
         requires none { self.old.apart ≡ [] }
         requires first { self.old.alike - forgotten ≡ length firsts.old.items }
-        ensures ok { OnOk result (Arrives forgotten firsts.old.items firsts.new.items self.old self.new event.now) }
+        ensures ok { OnOk result (Arrives forgotten firsts.old.items firsts.new.items event.now.item (with_event self.old.index event.now false true) self.new) }
         ensures err { OnErr result ((self.new ≡ self.old) × (firsts.new.items ≡ firsts.old.items)) }
     {
         firsts.reserve(1)?;
@@ -256,7 +284,7 @@ impl<A: Allocator> Lane<A> {
     ///
     /// # Errors
     /// `Memory`: out of memory. All is then as it was.
-    pub(crate) fn arrive(
+    fn arrive(
         &mut self,
         firsts: &mut VecDeque<Bare, A>,
         forgotten: u32,
@@ -265,7 +293,7 @@ impl<A: Allocator> Lane<A> {
         requires few { self.old.index.count < 4_294_967_295 }
         requires lane { IsLane forgotten firsts.old.items event.now.item self.old }
         requires bare { event.now.names ≡ [] }
-        ensures ok { OnOk result (Arrives forgotten firsts.old.items firsts.new.items self.old self.new event.now) }
+        ensures ok { OnOk result (Arrives forgotten firsts.old.items firsts.new.items event.now.item (with_event self.old.index event.now false true) self.new) }
         ensures err { OnErr result ((self.new ≡ self.old) × (firsts.new.items ≡ firsts.old.items)) }
     {
         if !self.apart.is_empty() {

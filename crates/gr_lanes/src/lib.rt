@@ -5,7 +5,6 @@
 mod bare;
 mod group;
 pub mod instance;
-mod items;
 pub mod kinds;
 mod lane;
 pub mod lanes;

@@ -1,16 +1,23 @@
-use Rattle.gr_lanes.proofs.IndexLemmas.{barriers_ready, number_at, number_of, place_kept}
-use Rattle.std.proofs.Common.{arith}
-use Rattle.std.proofs.lemmas.Grind.{common_steps}
+use Rattle.std.proofs.Common.{◌∙◌, ◌+◌, ◌-◌, ap, arith}
+use Rattle.std.proofs.lemmas.Option.{slice_get_within}
+use Rattle.gr_model.specs.Barriers.{is_barrier}
+use Rattle.gr_lanes.specs.Indices.{GroupList}
+use Rattle.gr_lanes.proofs.KeptLemmas.{count_read, gone_number, place_read, places_few, rising}
 use Rattle.gr_lanes.proofs.group.Group.barrier_number.Goals as goal
 
-pub barrier_number-requires : goal.barrier_number-requires
-barrier_number-requires g c = record {
-  few = (barriers_ready c.self.invariant.indices c.args.item).0;
-  rise = (barriers_ready c.self.invariant.indices c.args.item).1;
-  remembered = place_kept c.self.invariant.indices c.args.item c.args.index (rw (← c.self.view_is) at c.requires);
-}
+pub returns-in_err-lane : goal.returns-in_err-lane
+returns-in_err-lane g c = rw c.from_residual.ensures (gone_number c.in_err-lane.ensures c.args.index c.requires)
+
+pub returns-in_err-place : goal.returns-in_err-place
+returns-in_err-place g c = rw c.from_residual-in_err-place.ensures
+    (λ k at. c.in_err-place.ensures (k - c.args.self.now.forgotten) (place_read c.in_ok-lane.ensures.1 k (c.requires k at) ∙ at))
+
+pub barrier_place-requires : goal.barrier_place-requires
+barrier_place-requires g c = record { few = omega (arith, places_few c.in_ok-lane.ensures.1 is_barrier, count_read c.in_ok-lane.ensures.1); rise = rising c.in_ok-lane.ensures.1 }
+
+pub overflow_add-result : goal.overflow_add-result
+overflow_add-result g c =
+    omega (arith, places_few c.in_ok-lane.ensures.1 is_barrier, count_read c.in_ok-lane.ensures.1, slice_get_within _ c.in_ok-place.place c.args.index c.in_ok-place.ensures, ap (λ (t : GroupList). t.forgotten) c.self.view_is)
 
 pub returns : goal.returns
-returns g c =
-    let kept = rw (← c.self.view_is) at c.requires in
-    grind (arith, common_steps, number_at c.self.invariant.indices c.args.item c.args.index kept, number_of c.self.invariant.indices c.args.item c.args.index kept)
+returns g c = grind (arith, ap (λ (t : GroupList). t.forgotten) c.self.view_is, place_read c.in_ok-lane.ensures.1 (c.self.inside.forgotten + c.in_ok-place.place))

@@ -1,19 +1,18 @@
-use Rattle.std.proofs.Common.{◌∙◌, arith, sym}
-use Rattle.std.proofs.lemmas.List.{length_push}
-use Rattle.gr_lanes.proofs.IndexLemmas.{all_there, few_events, indices_more, none_more}
+use Rattle.std.proofs.Common.{◌∙◌, sym}
+use Rattle.gr_lanes.proofs.IndexLemmas.{none_more}
+use Rattle.gr_lanes.proofs.KeptLemmas.{all_there, few_was, lane_was, taken_kept}
+use Rattle.gr_lanes.proofs.LaneLemmas.{arrives_access}
 use Rattle.gr_lanes.proofs.group.Group.take_access.Goals as goal
 
-pub add_access-requires-clause-few : goal.add_access-requires-clause-few
-add_access-requires-clause-few g c =
-    let all = all_there c.self.invariant.indices (rw (← c.self.view_is) at c.requires.before_end) (rw (← c.self.view_is) at c.requires.begun) in
-    few_events c.args.event.now c.self.invariant.indices (rw (← c.self.view_is) at c.requires.good) all
+pub add_access-requires : goal.add_access-requires
+add_access-requires g c =
+    record { few = few_was c.self.invariant (all_there c.self.invariant (rw (← c.self.view_is) at c.requires.before_end) (rw (← c.self.view_is) at c.requires.begun)) c.args.event.now (rw (← c.self.view_is) at c.requires.good) c.from.ensures c.index_mut.ensures.value }
 
 pub invariant_of-self : goal.invariant_of-self
 invariant_of-self g c =
     let open_list = rw (← c.self.view_is) at c.requires.before_end in
-    let all = all_there c.self.invariant.indices open_list (rw (← c.self.view_is) at c.requires.begun) in
-    rw (c.push.ensures, c.add_access.ensures) (record {
-      indices = indices_more c.args.event.now c.self.invariant.indices (rw (← c.self.view_is) at c.requires.good) all open_list (rw (← c.self.view_is) at c.requires.room);
-      count = omega (arith, c.self.invariant.count, length_push c.self.inside.list c.args.event.now);
-      ending = c.self.invariant.ending ∙ sym (none_more c.self.inside.list c.args.event.now open_list c.requires.access.ends);
-    })
+    let all = all_there c.self.invariant open_list (rw (← c.self.view_is) at c.requires.begun) in
+    let good = rw (← c.self.view_is) at c.requires.good in
+    let was = lane_was c.self.invariant all c.args.event.now good c.from.ensures c.index_mut.ensures.value in
+    rw c.push.ensures (taken_kept c.self.invariant all c.args.event.now good c.from.ensures c.index_mut.ensures.value open_list (rw (← c.self.view_is) at c.requires.room)
+    (arrives_access was.lane c.args.event.now c.requires.access c.add_access.ensures) (c.self.invariant.ending ∙ sym (none_more c.self.inside.list c.args.event.now open_list c.requires.access.ends)))
