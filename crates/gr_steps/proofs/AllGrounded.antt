@@ -44,7 +44,7 @@ module _ (s : Streams) (complete : AreComplete s) (matched : (e : EventId) → �
 
   -- the event before one is among those before it
   previous_in : (e d : EventId) → IsPassed e → IsPrevious d e → IsIn all d
-  previous_in e d passed p = subst (λ i. IsIn all (event_of i d.index)) (sym p.item) (passed d.index (omega (arith, p.next)))
+  previous_in e d passed p = grind (arith, p, passed d.index)
 
   -- an event is grounded where all before it are, and, unless it names something, what its instance has it wait for
   comes : (e : EventId) → IsEvent s e → IsPassed e → ((a : Mark) (b d : EventId) → Together s a e b → IsPrevious d b → IsIn all d) → ((a : Mark) (c d : EventId) → IsPrevious c e → Together s a c d → IsIn all d) → IsIn all e

@@ -24,13 +24,10 @@ places_from-find test i (y ∷ xs) (suc j) x at t =
     ]
 places_from-find test i xs j x at t = grind arith
 
-ordered_here : (i m n : ℕ) (rest : List ℕ) → ((l : ℕ) → slice_get rest l ≡ Some n → i < n) → ((k l : ℕ) → k < l → slice_get rest k ≡ Some m → slice_get rest l ≡ Some n → m < n) → (k l : ℕ) → k < l → slice_get (i ∷ rest) k ≡ Some m → slice_get (i ∷ rest) l ≡ Some n → m < n
-ordered_here i m n rest above later k l lt a b = grind arith
-
 -- an earlier number has an earlier place
 pub places_from-ordered : {X : Type 0} (test : X → Bool) (i : ℕ) (xs : List X) (k l m n : ℕ) → k < l → slice_get (places_from test i xs) k ≡ Some m → slice_get (places_from test i xs) l ≡ Some n → m < n
 places_from-ordered test i [] k l m n lt a b = cc
-places_from-ordered {X} test i (x ∷ xs) k l m n lt a b = grind (arith, ordered_here, places_from-there, places_from-ordered test (suc i) xs)
+places_from-ordered {X} test i (x ∷ xs) k l m n lt a b = grind (arith, places_from-there, places_from-ordered test (suc i) xs)
 
 -- so a place has one number
 pub places_from-once : {X : Type 0} (test : X → Bool) (i : ℕ) (xs : List X) (n k l : ℕ) → slice_get (places_from test i xs) k ≡ Some n → slice_get (places_from test i xs) l ≡ Some n → k ≡ l
@@ -46,13 +43,11 @@ barrier_there s e g k stands = grind (arith, places_from-there)
 pub standing : (s : Streams) (e : EventId) → Dec ((g k : ℕ) × StandsIn s e g k)
 standing s e =
     elim (event_at s e) as (λ o. (event_at s e ≡ o) → Dec ((g k : ℕ) × StandsIn s e g k)) [
-      | None ↦ λ none. no (λ h. grind (arith, none, barrier_there s e h.0 h.1 h.2))
+      | None ↦ λ none. grind (arith, none, barrier_there s e)
       | Some x ↦ λ at.
-          let decided : Dec ((is_barrier x ≡ true) × (e.at.item < size_of s e.at.group)) = grind arith in
-          by_cases decided
-          (λ t.
-          let found = places_from-find is_barrier 0 (trace_of s e.at) e.index x at t.0 in
-          yes (e.at.group, found.0, record { group = refl; item = t.1; place = grind (arith, found.1) }))
+          let found = places_from-find is_barrier 0 (trace_of s e.at) e.index x at in
+          let is_there : Dec ((is_barrier x ≡ true) × (e.at.item < size_of s e.at.group)) = grind arith in
+          by_cases is_there (λ t. yes (e.at.group, (found t.0).0, record { group = refl; item = t.1; place = grind (arith, found) }))
           (λ other. no (λ h. grind (arith, other, at, h.2, barrier_there s e h.0 h.1 h.2)))
     ] refl
 

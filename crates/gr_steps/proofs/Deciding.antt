@@ -17,9 +17,6 @@ dec_four p q r s = grind arith
 pub by_cases : {P G : Type 0} → Dec P → (P → G) → ((P → ⊥) → G) → G
 by_cases h some none = grind arith
 
-pub number_dec : (m n : ℕ) → Dec (m ≡ n)
-number_dec m n = grind arith
-
 pub option_dec : {X : Type 0} → ((x y : X) → Dec (x ≡ y)) → (a b : Option X) → Dec (a ≡ b)
 option_dec d (Some x) (Some y) = grind (arith, d x y)
 option_dec d a b = grind arith
@@ -38,11 +35,7 @@ IsLeastWithout P bound i = (i < bound) × (P i → ⊥) × ((j : ℕ) → j < i 
 
 pub all_below : (P : ℕ → Type 0) (bound : ℕ) → ((i : ℕ) → i < bound → Dec (P i)) → ((i : ℕ) → i < bound → P i) ⊎ ((i : ℕ) × IsLeastWithout P bound i)
 all_below P zero d = inl (λ i lt. absurd (omega arith))
-all_below P (suc n) d =
-    ⊎_elim
-    (λ all. grind (arith, d n (omega arith), all))
-    (λ (h : (i : ℕ) × IsLeastWithout P n i). inr (h.0, (omega (arith, h.1.0), h.1.1, h.1.2)))
-    (all_below P n (λ i lt. d i (omega arith)))
+all_below P (suc n) d = grind (arith, d n (omega arith), all_below P n (λ i lt. d i (omega arith)))
 
 -- where P or Q holds of each element of a list, P holds of all or Q of some
 pub all_or_some : {X : Type 0} (P Q : X → Type 0) (xs : List X) → ((x : X) → Contains xs x → P x ⊎ Q x) → ((x : X) → Contains xs x → P x) ⊎ ((x : X) × Contains xs x × Q x)

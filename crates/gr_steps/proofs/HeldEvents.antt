@@ -1,5 +1,5 @@
 -- How many events are held where no step is left.
-use Rattle.std.proofs.Common.{◌≡◌, ℕ, zero, suc, ◌-◌, ◌<◌, ◌≤◌, List, length, inl, ⊎_elim, arith, eq-or-lt_of_le, refl}
+use Rattle.std.proofs.Common.{ℕ, zero, suc, ◌-◌, ◌<◌, ◌≤◌, List, length, arith, refl}
 use Rattle.std.specs.List.{sum_by}
 use Rattle.std.proofs.lemmas.Option.{slice_get_within}
 use Rattle.gr_model.specs.declared.event.EventId.{EventId}
@@ -15,11 +15,7 @@ use Rattle.gr_steps.specs.Steps.{AreFirst, AreGrounded}
 -- what holds from c on, and not before it, holds below a bound as often as c is below it
 number_from : (P : ℕ → Type 0) (c bound : ℕ) → c ≤ bound → ((k : ℕ) → k < c → P k → ⊥) → ((k : ℕ) → c ≤ k → k < bound → P k) → IsNumberOf P bound (bound - c)
 number_from P c zero le before behind = omega arith
-number_from P c (suc b) le before behind =
-    ⊎_elim
-    (λ (same : c ≡ suc b). grind (arith, before b, number_from P b b (omega arith) (λ k lt. before k (omega arith)) (λ k ge lt. absurd (omega arith))))
-    (λ (lt : c < suc b). inl (b - c, omega arith, behind b (omega arith) (omega arith), number_from P c b (omega arith) before (λ k ge below. behind k ge (omega arith))))
-    (eq-or-lt_of_le le)
+number_from P c (suc b) le before behind = grind (arith, before, behind, number_from P b b, number_from P c b)
 
 module _ (s : Streams) (order : List EventId) (lawful : IsLawful s order) (grounded : AreGrounded s order) (c : ItemId → ℕ) (first : AreFirst order c) where
   pub held_at_rest : IsHeld s (sum_by (λ i. length (trace_of s i) - c i) (items_of s.sizes))

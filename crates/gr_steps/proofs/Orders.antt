@@ -1,5 +1,5 @@
 -- Places in an order and in a longer one, and what a lawful order has.
-use Rattle.std.proofs.Common.{◌≡◌, ◌⊎◌, ℕ, zero, suc, ◌+◌, ◌<◌, List, [], ◌∷◌, ◌++◌, length, Some, slice_get, refl, sym, ap, inl, inr, arith, ◌≤◌, ⊎_elim}
+use Rattle.std.proofs.Common.{◌≡◌, ◌⊎◌, ℕ, zero, suc, ◌+◌, ◌-◌, ◌<◌, List, [], ◌∷◌, ◌++◌, length, Some, slice_get, refl, sym, ap, inl, inr, arith, ◌≤◌, ⊎_elim}
 use Rattle.std.proofs.lemmas.Grind.{common_steps}
 use Rattle.std.proofs.lemmas.Option.{gets, slice_get_within}
 use Rattle.gr_model.specs.declared.event.EventId.{EventId}
@@ -26,11 +26,6 @@ there_is [] i lt = absurd (omega arith)
 there_is (x ∷ xs) zero lt = (x, refl)
 there_is (x ∷ xs) (suc i) lt = there_is xs i (omega arith)
 
--- the number before another
-pub number_before : (n : ℕ) → 0 < n → (m : ℕ) × (suc m ≡ n)
-number_before zero lt = absurd (omega arith)
-number_before (suc m) lt = (m, refl)
-
 -- ---- events
 
 -- an element of a list is its first, or comes after that
@@ -43,18 +38,14 @@ in_either x xs e (inr h) = (suc h.0, h.1)
 
 -- ---- lawful orders
 
--- with an event, the earlier ones of its item are in a lawful order
-pub handled_before : (s : Streams) (order : List EventId) → IsLawful s order → (d e : EventId) → d.at ≡ e.at → d.index < e.index → IsIn order e → IsIn order d
-handled_before s order lawful d e item below there =
-    let lower = below_in_item s (IsAt order) (lawful_descends s order lawful) there.0 d e there.1 item below in (lower.0, lower.2)
-
--- and so do it and they
+-- with an event, it and the earlier ones of its item are in a lawful order
 pub handled_upto : (s : Streams) (order : List EventId) → IsLawful s order → (d e : EventId) → d.at ≡ e.at → d.index ≤ e.index → IsIn order e → IsIn order d
-handled_upto s order lawful d e item upto there = grind (arith, same_event d e item, handled_before s order lawful d e item, there)
+handled_upto s order lawful d e item upto (p, at) =
+    grind (arith, same_event d e item, below_in_item s (IsAt order) (lawful_descends s order lawful) p d e at item, at)
 
 -- the event before another comes at or after each that is earlier than that
 pub previous_of : (e : EventId) (n : ℕ) → n < e.index → (p : EventId) × IsPrevious p e × (n ≤ p.index)
-previous_of e n lt = let m = number_before e.index (omega (arith, lt)) in (record { at = e.at; index = m.0 }, record { item = refl; next = m.1 }, omega (arith, m.1, lt))
+previous_of e n lt = (record { at = e.at; index = e.index - 1 }, record { item = refl; next = omega (arith, lt) }, omega (arith, lt))
 
 -- the order of no events is lawful
 pub lawful_empty : (s : Streams) → IsLawful s []
@@ -62,7 +53,7 @@ lawful_empty s = grind arith
 
 -- with a barrier, each that it meets is in a lawful order
 pub met_handled : (s : Streams) (order : List EventId) → IsLawful s order → (a : Mark) (e b : EventId) → IsIn order e → Together s a e b → IsIn order b
-met_handled s order lawful a e b h met = let there = lawful.together h.0 e b a h.1 met in (there.0, there.2)
+met_handled s order lawful a e b h met = grind (arith, h, lawful.together h.0 e b a h.1 met)
 
 -- events that may come after a lawful order: they wait only for what is in it
 pub record AreNext (s : Streams) (order next : List EventId) : Type 0 where
