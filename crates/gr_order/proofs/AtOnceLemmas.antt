@@ -4,6 +4,7 @@ use Rattle.std.proofs.lemmas.Grind.{common_steps}
 use Rattle.std.proofs.Math.ListN.{drop_of_length-le}
 use Rattle.std.proofs.lemmas.List.{length_push}
 use Rattle.std.proofs.lemmas.Option.{slice_get-get_or, slice_get_within}
+use Rattle.std.specs.Int.{from_bool}
 use Rattle.gr_model.specs.declared.event.Event.{Event}
 use Rattle.gr_model.specs.declared.event.EventId.{EventId}
 use Rattle.gr_model.specs.declared.event.ItemId.{ItemId}
@@ -26,7 +27,6 @@ use Rattle.gr_order.specs.Waiting.{IsKept}
 use Rattle.gr_order.proofs.HeldLemmas.{ready_can_count, taken_first}
 use Rattle.gr_order.proofs.ReadyLemmas.{ready_plain}
 use Rattle.gr_order.proofs.StateLemmas.{after_handle, item_cases, tick_more, tick_stays, took}
-use Rattle.gr_order.proofs.TakenLemmas.{one_if}
 use Rattle.gr_order.proofs.WaitLemmas.{adds_here, adds_none, trace_grows}
 
 -- the record is the event's, where it is taken
@@ -86,7 +86,7 @@ module _ {q : Sequence} {frontier : Counts} {windows : Table} {held : ℕ} (kept
     module _ (prefixes : ArePrefixes more) where
       -- the record was taken
       taken_state : IsOrderState (record { taken = more; handled = q.handled }) frontier (held + 1)
-      taken_state = took kept.state g x more prefixes go.can refl (held + 1) (ap (λ n. held + n) (sym (ap (λ b. one_if (not b)) go.access.ends)))
+      taken_state = took kept.state g x more prefixes go.can refl (held + 1) (ap (λ n. held + n) (sym (ap (λ b. from_bool (not b)) go.access.ends)))
 
       pub count_can_grow : count_of frontier e.at ≢ LARGEST_COUNT
       count_can_grow = ready_can_count taken_state e ready_at_once

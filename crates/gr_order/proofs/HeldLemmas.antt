@@ -15,11 +15,10 @@ use Rattle.gr_clocks.specs.Counts.{Counts, count_of, tick_at}
 use Rattle.gr_clocks.specs.Tables.{item_of}
 use Rattle.gr_steps.specs.Steps.{IsAtRest, IsReady}
 use Rattle.gr_steps.proofs.HeldEvents.{held_at_rest}
-use Rattle.gr_steps.proofs.NextEvents.{ready_is_next}
 use Rattle.gr_steps.proofs.Resting.{rest_grounded}
 use Rattle.gr_order.specs.Sequences.{Sequence}
 use Rattle.gr_order.specs.States.{IsOrderState}
-use Rattle.gr_order.proofs.StateLemmas.{item_cases, item_there, tick_here, tick_there}
+use Rattle.gr_order.proofs.StateLemmas.{index_is, item_cases, item_there, tick_here, tick_there}
 use Rattle.gr_order.proofs.SumLemmas.{group_more, item_more, items_at_most}
 use Rattle.gr_order.proofs.TakenLemmas.{events_most, taken_events, trace_most}
 
@@ -50,21 +49,15 @@ module _ {q : Sequence} {frontier : Counts} {held : ℕ} (state : IsOrderState q
 
   -- an event that is ready
   module _ (e : EventId) (ready : IsReady q.taken q.handled e) where
-    index_is : e.index ≡ counts e.at
-    index_is = ready_is_next q.taken q.handled state.sequence.lawful counts state.first e ready
-
     is_taken : e.index < traces e.at
     is_taken = slice_get_within (trace_of q.taken e.at) e.index ready.event.0 ready.event.1
 
-    ready_item : HasItem q.taken.sizes e.at
-    ready_item = item_there state e ready
-
     pub ready_can_count : count_of frontier e.at ≢ LARGEST_COUNT
-    ready_can_count full = grind (arith, common_steps, trace_most, ready_item, index_is, is_taken)
+    ready_can_count full = grind (arith, common_steps, trace_most, item_there state e ready, index_is state e ready, is_taken)
 
     pub ready_is_held : 1 ≤ held
-    ready_is_held = are_held (λ j. counts j + tick_at e.at j) 1 (λ j has. grind (arith, item_cases e.at j, tick_here, tick_there, index_is, is_taken, taken_first j))
-        (item_more counts (λ j. counts j + tick_at e.at j) q.taken.sizes e.at ready_item (omega (arith, tick_here e.at e.at refl)) (λ j apart. omega (arith, tick_there e.at j apart)))
+    ready_is_held = are_held (λ j. counts j + tick_at e.at j) 1 (λ j has. grind (arith, item_cases e.at j, tick_here, tick_there, index_is state e ready, is_taken, taken_first j))
+        (item_more counts (λ j. counts j + tick_at e.at j) q.taken.sizes e.at (item_there state e ready) (omega (arith, tick_here e.at e.at refl)) (λ j apart. omega (arith, tick_there e.at j apart)))
 
   -- the next events of a group
   module _ (g : ℕ) (there : g < length q.taken.sizes) (next : (k : ℕ) → k < size_of q.taken g → counts (item_of g k) < traces (item_of g k)) where

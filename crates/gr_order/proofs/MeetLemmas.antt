@@ -5,11 +5,11 @@ use Rattle.std.specs.Prelude.{MatchOption}
 use Rattle.std.proofs.lemmas.List.{get_or_past}
 use Rattle.gr_model.specs.declared.event.Event.{Event}
 use Rattle.gr_model.specs.declared.event.EventId.{EventId}
-use Rattle.gr_model.specs.declared.event.ItemId.{ItemId}
 use Rattle.gr_model.specs.Barriers.{IsConvergent, StandsIn, is_barrier, mark_of}
 use Rattle.gr_model.specs.Instances.{Mark}
 use Rattle.gr_model.specs.Streams.{ArePrefixes, Streams, event_at, place_of, size_of, trace_of}
 use Rattle.gr_clocks.specs.Counts.{Counts, count_of}
+use Rattle.gr_clocks.specs.Tables.{item_of}
 use Rattle.gr_steps.specs.Steps.{CanMeet, IsMeeting}
 use Rattle.gr_steps.proofs.BarrierPlaces.{barrier_of, places_from-once, stands_before}
 use Rattle.gr_steps.proofs.Orders.{previous_of}
@@ -17,34 +17,27 @@ use Rattle.gr_lanes.proofs.InstanceLemmas.{barrier_mark, some_mark}
 use Rattle.gr_steps.proofs.EventRecords.{item_of_event}
 use Rattle.gr_lanes.specs.Instances.{HasCome}
 use Rattle.gr_order.specs.Readiness.{IsNextInstance, StandsNext}
-use Rattle.gr_order.specs.States.{AreBelowFrontier}
+use Rattle.gr_order.specs.States.{AreBelowFrontier, next_event}
 use Rattle.gr_order.proofs.ReadyLemmas.{come_of}
-
--- the item of a group at a place, and its next event
-abbrev pub item_at : ℕ → ℕ → ItemId
-item_at g i = record { group = g; item = i }
-
-abbrev pub next_of : Counts → ItemId → EventId
-next_of frontier i = record { at = i; index = count_of frontier i }
 
 module _ (s : Streams) (frontier : Counts) (g : ℕ) where
   -- the first item's next event is there, and is a barrier of that number
-  pub first_there : (k : ℕ) → IsNextInstance s frontier g k → event_at s (next_of frontier (item_at g 0)) ≡ None → ⊥
-  first_there k h none = grind (arith, h.each 0 h.some, barrier_mark 0 (trace_of s (item_at g 0)) k (count_of frontier (item_at g 0)))
+  pub first_there : (k : ℕ) → IsNextInstance s frontier g k → event_at s (next_event frontier (item_of g 0)) ≡ None → ⊥
+  first_there k h none = grind (arith, h.each 0 h.some, barrier_mark 0 (trace_of s (item_of g 0)) k (count_of frontier (item_of g 0)))
 
-  module _ (prefixes : ArePrefixes s) (x : Event) (at : event_at s (next_of frontier (item_at g 0)) ≡ Some x) (number index : ℕ) (numbered : place_of s is_barrier (item_at g 0) number ≡ Some index) (count : index ≡ count_of frontier (item_at g 0)) where
-    place : place_of s is_barrier (item_at g 0) number ≡ Some (count_of frontier (item_at g 0))
+  module _ (prefixes : ArePrefixes s) (x : Event) (at : event_at s (next_event frontier (item_of g 0)) ≡ Some x) (number index : ℕ) (numbered : place_of s is_barrier (item_of g 0) number ≡ Some index) (count : index ≡ count_of frontier (item_of g 0)) where
+    place : place_of s is_barrier (item_of g 0) number ≡ Some (count_of frontier (item_of g 0))
     place = numbered ∙ ap Some count
 
     pub come : HasCome s g number x
-    come = come_of s prefixes (next_of frontier (item_at g 0)) x at number place
+    come = come_of s prefixes (next_event frontier (item_of g 0)) x at number place
 
     pub next_if : ((i : ℕ) → i < size_of s g → StandsNext s frontier g number (mark_of x) i) → IsNextInstance s frontier g number
     next_if all = let mark = some_mark (mark_of x) come.barrier in
-        record { mark = mark.0; some = item_of_event s prefixes (next_of frontier (item_at g 0)) x at; each = λ i lt. subst (λ o. StandsNext s frontier g number o i) mark.1 (all i lt) }
+        record { mark = mark.0; some = item_of_event s prefixes (next_event frontier (item_of g 0)) x at; each = λ i lt. subst (λ o. StandsNext s frontier g number o i) mark.1 (all i lt) }
 
     pub next_only : (k : ℕ) → IsNextInstance s frontier g k → (i : ℕ) → i < size_of s g → StandsNext s frontier g number (mark_of x) i
-    next_only k h i lt = grind (arith, h.each 0 h.some, h.each i lt, barrier_mark 0 (trace_of s (item_at g 0)) number (count_of frontier (item_at g 0)) place, at, places_from-once is_barrier 0 (trace_of s (item_at g 0)) (count_of frontier (item_at g 0)) k number)
+    next_only k h i lt = grind (arith, h.each 0 h.some, h.each i lt, barrier_mark 0 (trace_of s (item_of g 0)) number (count_of frontier (item_of g 0)) place, at, places_from-once is_barrier 0 (trace_of s (item_of g 0)) (count_of frontier (item_of g 0)) k number)
 
 -- ---- that instance is the one that may meet
 
@@ -61,9 +54,9 @@ module _ (s : Streams) (order : List EventId) (frontier : Counts) (first_ones : 
       least = λ l b lt c.
           let was = barrier_of s g l b c 0 h.some in
           let now = barrier_of s g k h.mark convergent 0 h.some in
-          let before = stands_before s (record { at = item_at g 0; index = was.0 }) (record { at = item_at g 0; index = now.0 }) g l k was.1 now.1 refl lt in
-          let index = stands_at k (record { at = item_at g 0; index = now.0 }) h now.1 in
-          (record { at = item_at g 0; index = was.0 }, was.1, (first_ones (record { at = item_at g 0; index = was.0 })).1 (omega arith));
+          let before = stands_before s (record { at = item_of g 0; index = was.0 }) (record { at = item_of g 0; index = now.0 }) g l k was.1 now.1 refl lt in
+          let index = stands_at k (record { at = item_of g 0; index = now.0 }) h now.1 in
+          (record { at = item_of g 0; index = was.0 }, was.1, (first_ones (record { at = item_of g 0; index = was.0 })).1 (omega arith));
       before = λ b d stands previous. (first_ones d).1 (grind (arith, stands_at k b h stands, previous.item, previous.next));
     },
   )
@@ -77,10 +70,10 @@ module _ (s : Streams) (order : List EventId) (frontier : Counts) (first_ones : 
       index_of_barrier : (b : EventId) → StandsIn s b g k → b.index ≡ count_of frontier b.at
       index_of_barrier b stands = grind (arith, meeting.fresh, meeting.before b, first_ones, previous_of b (count_of frontier b.at))
 
-      place : (i : ℕ) → i < size_of s g → place_of s is_barrier (item_at g i) k ≡ Some (count_of frontier (item_at g i))
+      place : (i : ℕ) → i < size_of s g → place_of s is_barrier (item_of g i) k ≡ Some (count_of frontier (item_of g i))
       place i lt =
           let b = barrier_of s g k a meeting.convergent i lt in
-          b.1.place ∙ ap Some (index_of_barrier (record { at = item_at g i; index = b.0 }) b.1)
+          b.1.place ∙ ap Some (index_of_barrier (record { at = item_of g i; index = b.0 }) b.1)
 
   -- so it is known which instance may meet
   pub meeting_of : (o : Option ℕ) → MatchOption o ((k : ℕ) → ¬ IsNextInstance s frontier g k) (λ k. IsNextInstance s frontier g k) → MatchOption o (¬ CanMeet s order g) (λ k. (a : Mark) × IsMeeting s order g k a)
@@ -92,11 +85,11 @@ module _ (s : Streams) (order : List EventId) (frontier : Counts) (first_ones : 
     next : IsNextInstance s frontier g can.0
     next = meets_next can.0 can.1 can.2
 
-    pub is_numbered : ((k : ℕ) → place_of s is_barrier (item_at g 0) k ≡ Some (count_of frontier (item_at g 0)) → ⊥) → ⊥
+    pub is_numbered : ((k : ℕ) → place_of s is_barrier (item_of g 0) k ≡ Some (count_of frontier (item_of g 0)) → ⊥) → ⊥
     is_numbered none = none can.0 (next.each 0 next.some).place
 
-    pub numbered_meets : (number : ℕ) → place_of s is_barrier (item_at g 0) number ≡ Some (count_of frontier (item_at g 0)) → (a : Mark) × IsMeeting s order g number a
-    numbered_meets number place = grind (arith, can, next.each 0 next.some, places_from-once is_barrier 0 (trace_of s (item_at g 0)) (count_of frontier (item_at g 0)) can.0 number)
+    pub numbered_meets : (number : ℕ) → place_of s is_barrier (item_of g 0) number ≡ Some (count_of frontier (item_of g 0)) → (a : Mark) × IsMeeting s order g number a
+    numbered_meets number place = grind (arith, can, next.each 0 next.some, places_from-once is_barrier 0 (trace_of s (item_of g 0)) (count_of frontier (item_of g 0)) can.0 number)
 
 pub no_group_meets : (s : Streams) (order : List EventId) (g : ℕ) → length s.sizes ≤ g → ¬ CanMeet s order g
 no_group_meets s order g past can = grind (arith, can.2.convergent.0, get_or_past s.sizes g 0 past)

@@ -41,9 +41,6 @@ module _ (s : Streams) (prefixes : ArePrefixes s) (e : EventId) (x : Event) (at 
   pub passes_if : (k : ℕ) → place_of s is_barrier e.at k ≡ Some e.index → IsDivergent s e.at.group k → MayPass s e
   passes_if k place divergent h l stands = grind (arith, same_instance s e e.at.group k, stands_there)
 
-  pub passes_only : (k : ℕ) → place_of s is_barrier e.at k ≡ Some e.index → MayPass s e → IsDivergent s e.at.group k
-  passes_only k place may = may e.at.group k (stands_there k place)
-
 -- ---- the release of a name
 
 module _ (s : Streams) (frontier : Counts) (group : ℕ) (x : Event) (n : Name) (index : ℕ) (place : release_place s n ≡ Some index) where

@@ -1,9 +1,10 @@
 -- An order stays one where a record is taken, and where an event is handled.
-use Rattle.std.proofs.Common.{◌≡◌, ◌⊎◌, ℕ, ◌+◌, ◌<◌, List, [], ◌∷◌, ◌++◌, length, Some, refl, sym, ap, ◌∙◌, subst, inl, inr, arith, true}
+use Rattle.std.proofs.Common.{◌≡◌, ◌⊎◌, ℕ, ◌+◌, ◌<◌, List, [], ◌∷◌, ◌++◌, length, get_or, Some, refl, sym, ap, ◌∙◌, subst, inl, inr, arith}
 use Rattle.std.proofs.lemmas.Grind.{common_steps}
 use Rattle.std.specs.Prelude.{not}
-use Rattle.std.proofs.lemmas.Bool.{eq-eqb}
 use Rattle.std.proofs.lemmas.List.{length_push}
+use Rattle.std.proofs.lemmas.List.Sums.{sum_by-le}
+use Rattle.std.specs.Int.{from_bool}
 use Rattle.gr_model.specs.Events.{is_end}
 use Rattle.gr_model.specs.declared.event.Event.{Event}
 use Rattle.gr_model.specs.declared.event.EventId.{EventId}
@@ -19,16 +20,15 @@ use Rattle.gr_steps.proofs.EventRecords.{group_of_event, item_of_event}
 use Rattle.gr_model.specs.Shapes.{HasItem, items_of}
 use Rattle.gr_model.proofs.Places.{slice_get-append}
 use Rattle.gr_model.proofs.Cuts.{same_event}
-use Rattle.gr_clocks.specs.Rows.{same_item}
 use Rattle.gr_clocks.specs.Counts.{Counts, IsTick, IsZero, count_of, tick_at}
 use Rattle.gr_clocks.specs.Tables.{IsBeyond}
-use Rattle.gr_clocks.proofs.RowLemmas.{same_items}
+use Rattle.gr_clocks.proofs.RowLemmas.{same_items, same_item_self}
 use Rattle.gr_lanes.specs.Takes.{CanTake, nothing_taken, with_record}
 use Rattle.gr_lanes.proofs.Growth.{record_grows}
 use Rattle.gr_order.specs.Sequences.{Sequence, event_count}
 use Rattle.gr_order.specs.States.{AreBelowFrontier, IsOrderState, counted_in}
-use Rattle.gr_order.proofs.SumLemmas.{item_more, sum_none}
-use Rattle.gr_order.proofs.TakenLemmas.{events_more, no_events, one_at_most, one_if}
+use Rattle.gr_order.proofs.SumLemmas.{item_more}
+use Rattle.gr_order.proofs.TakenLemmas.{events_more, no_events, one_at_most}
 
 -- nothing was taken
 pub new_state : (sizes : List ℕ) (taken : Streams) → taken ≡ nothing_taken sizes → ArePrefixes taken → (frontier : Counts) → IsZero sizes frontier → (items : List EventId) → items ≡ [] → IsOrderState (record { taken = taken; handled = items }) frontier 0
@@ -38,15 +38,15 @@ new_state sizes taken is prefixes frontier clock items none =
       sequence = record { prefixes = prefixes; lawful = subst (IsLawful taken) (sym none) (lawful_empty taken) };
       shape = clock.shape ∙ ap (λ (s : Streams). s.sizes) (sym is);
       first = λ e. (λ there. absurd (let at = rw none at there.1 in cc), λ lt. absurd (omega (arith, clock.zero e.at)));
-      counts = sum_none (λ i. count_of frontier i) (items_of taken.sizes) clock.zero ∙ sym size;
+      counts = omega (arith, size, sum_by-le (λ i. count_of frontier i) 0 (items_of taken.sizes) (λ k d lt. omega (arith, clock.zero (get_or (items_of taken.sizes) k d))));
       rest = omega arith;
     }
 
 -- a record is taken
 module _ {q : Sequence} {frontier : Counts} {held : ℕ} (state : IsOrderState q frontier held) where
-  pub took : (g : ℕ) (x : Event) (new : Streams) → ArePrefixes new → CanTake q.taken g x → new ≡ with_record q.taken g x → (more : ℕ) → more ≡ held + one_if (not (is_end x)) → IsOrderState (record { taken = new; handled = q.handled }) frontier more
+  pub took : (g : ℕ) (x : Event) (new : Streams) → ArePrefixes new → CanTake q.taken g x → new ≡ with_record q.taken g x → (more : ℕ) → more ≡ held + from_bool (not (is_end x)) → IsOrderState (record { taken = new; handled = q.handled }) frontier more
   took g x new prefixes can is more counts =
-      let events : event_count new ≡ event_count q.taken + one_if (not (is_end x)) = ap (λ (s : Streams). event_count s) is ∙ events_more q.taken g x state.sequence.prefixes can in
+      let events : event_count new ≡ event_count q.taken + from_bool (not (is_end x)) = ap (λ (s : Streams). event_count s) is ∙ events_more q.taken g x state.sequence.prefixes can in
       let rest = state.rest in
       let one = one_at_most (not (is_end x)) in record {
         sequence = record {
@@ -61,11 +61,8 @@ module _ {q : Sequence} {frontier : Counts} {held : ℕ} (state : IsOrderState q
 
 -- ---- an event is handled
 
-same_true : (i j : ItemId) → i ≡ j → same_item i j ≡ true
-same_true i j same = grind (arith, common_steps, eq-eqb)
-
 pub tick_here : (i j : ItemId) → i ≡ j → tick_at i j ≡ 1
-tick_here i j same = grind (arith, same_true i j same)
+tick_here i j same = grind (arith, same_item_self i, same)
 
 pub tick_there : (i j : ItemId) → (i ≡ j → ⊥) → tick_at i j ≡ 0
 tick_there i j apart = grind (arith, same_items i j)
@@ -78,7 +75,7 @@ more_in order e d (inl (p, at)) = (p, slice_get-append order (e ∷ []) p d at)
 more_in order e d (inr same) = (length order + 0, at_behind order (e ∷ []) 0 d (ap Some (sym same)))
 
 pub item_cases : (i j : ItemId) → (i ≡ j) ⊎ (i ≡ j → ⊥)
-item_cases i j = grind (arith, common_steps, same_items, same_true)
+item_cases i j = grind (arith, common_steps, same_items, same_item_self)
 
 -- what a clock counts after a tick
 module _ {old : Counts} {i : ItemId} {new : Counts} (tick : IsTick old i new) where
@@ -96,7 +93,7 @@ module _ {q : Sequence} {frontier : Counts} {held : ℕ} (state : IsOrderState q
   abbrev counts : ItemId → ℕ
   counts i = count_of frontier i
 
-  index_is : e.index ≡ count_of frontier e.at
+  pub index_is : e.index ≡ count_of frontier e.at
   index_is = ready_is_next q.taken q.handled state.sequence.lawful counts state.first e ready
 
   first_more : (new : Counts) → IsTick frontier e.at new → AreBelowFrontier (q.handled ++ e ∷ []) new

@@ -86,10 +86,6 @@ pub sum_add : {X : Type 0} (f h : X → ℕ) (xs : List X) → sum_by (λ x. f x
 sum_add f h [] = refl
 sum_add f h (x ∷ xs) = omega (arith, sum_add f h xs, sum_by-cons (λ y. f y + h y) x xs, sum_by-cons f x xs, sum_by-cons h x xs)
 
-pub sum_none : {X : Type 0} (f : X → ℕ) (xs : List X) → ((x : X) → f x ≡ 0) → sum_by f xs ≡ 0
-sum_none f [] none = refl
-sum_none f (x ∷ xs) none = omega (arith, sum_none f xs none, none x, sum_by-cons f x xs)
-
 -- what is at most so much at each item is in all at most so much
 pub items_at_most : (f h : ItemId → ℕ) (sizes : List ℕ) → ((i : ItemId) → HasItem sizes i → f i ≤ h i) → sum_by (λ i. h i - f i) (items_of sizes) + sum_by f (items_of sizes) ≡ sum_by h (items_of sizes)
 items_at_most f h sizes most =

@@ -22,30 +22,24 @@ use Rattle.gr_order.proofs.SumLemmas.{group_sum, items_sum, sum_places, total, t
 abbrev pub events_in : List Event → ℕ
 events_in list = length (filter (λ x. not (is_end x)) list)
 
-abbrev pub one_if : Bool → ℕ
-one_if b = from_bool b
-
-pub one_at_most : (b : Bool) → one_if b ≤ 1
+pub one_at_most : (b : Bool) → from_bool b ≤ 1
 one_at_most b = grind arith
 
-filter_one : (test : Event → Bool) (x : Event) (list : List Event) → length (filter test (x ∷ list)) ≡ one_if (test x) + length (filter test list)
+filter_one : (test : Event → Bool) (x : Event) (list : List Event) → length (filter test (x ∷ list)) ≡ from_bool (test x) + length (filter test list)
 filter_one test x list = grind arith
 
 -- an event is one of its item alone, and an end of none
-of_other : (x : Event) (i : ℕ) → (i ≡ x.item → ⊥) → one_if (is_of i x) ≡ 0
+of_other : (x : Event) (i : ℕ) → (i ≡ x.item → ⊥) → from_bool (is_of i x) ≡ 0
 of_other x i apart = grind (arith, common_steps, ne_eqb)
 
-of_item : (x : Event) → one_if (is_of x.item x) ≡ one_if (not (is_end x))
+of_item : (x : Event) → from_bool (is_of x.item x) ≡ from_bool (not (is_end x))
 of_item x = grind (arith, common_steps, eq-eqb)
 
 -- the events of a group are those of its items
-abbrev AreWithin : ℕ → List Event → Type 0
-AreWithin n list = (p : ℕ) (x : Event) → slice_get list p ≡ Some x → x.item < n
-
-pub group_events : (n : ℕ) (list : List Event) → AreWithin n list → total (λ i. length (filter (is_of i) list)) 0 n ≡ events_in list
+pub group_events : (n : ℕ) (list : List Event) → ((p : ℕ) (x : Event) → slice_get list p ≡ Some x → x.item < n) → total (λ i. length (filter (is_of i) list)) 0 n ≡ events_in list
 group_events n [] within = total_none (λ i. 0) 0 n (λ k ge lt. refl)
 group_events n (x ∷ list) within =
-    let more = total_more (λ i. length (filter (is_of i) list)) (λ i. length (filter (is_of i) (x ∷ list))) x.item (one_if (not (is_end x))) 0 n
+    let more = total_more (λ i. length (filter (is_of i) list)) (λ i. length (filter (is_of i) (x ∷ list))) x.item (from_bool (not (is_end x))) 0 n
     (omega (arith, filter_one (is_of x.item) x list, of_item x))
     (λ i apart. omega (arith, filter_one (is_of i) x list, of_other x i apart))
     (omega arith) (omega (arith, within 0 x refl)) in
@@ -62,7 +56,7 @@ taken_events s prefixes =
     omega (arith, groups, lists_of_groups s prefixes, items_sum (λ i. length (trace_of s i)) s.sizes)
 
 -- one record more
-pub events_more : (s : Streams) (g : ℕ) (x : Event) → ArePrefixes s → CanTake s g x → event_count (with_record s g x) ≡ event_count s + one_if (not (is_end x))
+pub events_more : (s : Streams) (g : ℕ) (x : Event) → ArePrefixes s → CanTake s g x → event_count (with_record s g x) ≡ event_count s + from_bool (not (is_end x))
 events_more s g x prefixes can = grind (arith, common_steps, filter-append, length-append, sum_by-set, filter_one)
 
 pub no_events : (sizes : List ℕ) → event_count (nothing_taken sizes) ≡ 0

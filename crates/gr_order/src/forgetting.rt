@@ -10,7 +10,6 @@ use crate::instances::cause;
 use gr_clocks::tally::Tally;
 use gr_lanes::lanes::Lanes;
 use gr_model::event::ItemId;
-use gr_model::memory::Memory;
 use gr_model::report::Divergence;
 use std::alloc::Allocator;
 
@@ -21,13 +20,10 @@ pub(crate) fn forget_next<A: Allocator>(lanes: &mut Lanes<A>, frontier: &Tally<A
 {
     let first = ItemId { group, item: 0 };
     let least = lanes.forgotten(group);
-    match lanes.barrier_at(first, least) {
-        None => {}
-        Some(index) => {
-            if index == frontier.get(first) {
-                lanes.forget(group);
-            }
-        }
+    if let Some(index) = lanes.barrier_at(first, least)
+        && index == frontier.get(first)
+    {
+        lanes.forget(group);
     }
 }
 
@@ -41,10 +37,9 @@ fn has_passed<A: Allocator>(
     requires { forgotten_of lanes.now item.group ≤ instance }
     ensures { IsTrue result → HasPassed lanes.now.streams frontier.now item.group instance item.item }
 {
-    match lanes.barrier_at(item, instance) {
-        None => false,
-        Some(index) => frontier.covers(item, index),
-    }
+    lanes
+        .barrier_at(item, instance)
+        .is_some_and(|index| frontier.covers(item, index))
 }
 
 /// The first item of a group, from this one on, that has not passed the first instance remembered, if there is one.
@@ -92,9 +87,7 @@ fn forget_passed<A: Allocator>(lanes: &mut Lanes<A>, frontier: &Tally<A>, group:
                 instance,
                 cause,
             };
-            match lanes.decide(divergence) {
-                Ok(()) | Err(Memory) => {}
-            }
+            let _ = lanes.decide(divergence);
         }
     }
 }

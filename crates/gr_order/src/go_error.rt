@@ -4,7 +4,6 @@ ghost use Rattle.std.specs.Prelude.{◌≡◌};
 ghost use Rattle.gr_order.specs.declared.go_error.GoError.TheVariants.{Memory as OutOfMemory};
 
 use gr_model::memory::Memory;
-use std::alloc::AllocError;
 use thiserror::Error;
 
 /// Why no event was handled, or no instance met.
@@ -21,14 +20,6 @@ impl From<Memory> for GoError {
     ghost from_gives = { λ _ e. e ≡ OutOfMemory };
 
     fn from(_error: Memory) -> GoError {
-        GoError::Memory
-    }
-}
-
-impl From<AllocError> for GoError {
-    ghost from_gives = { λ _ e. e ≡ OutOfMemory };
-
-    fn from(_error: AllocError) -> GoError {
         GoError::Memory
     }
 }

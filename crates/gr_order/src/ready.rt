@@ -97,24 +97,6 @@ pub(crate) fn is_ready<A: Allocator>(
     has_its_releases(lanes, frontier, event.at.group, taken) && may_pass(lanes, event, taken)
 }
 
-/// Whether an item that came to an instance has the mark of `mine`. If `are_alike`, all who came have it.
-#[inline(always)]
-fn has_mark<A: Allocator>(
-    lanes: &Lanes<A>,
-    item: ItemId,
-    number: u32,
-    mine: &Event,
-    are_alike: bool,
-) -> bool
-    requires mark { is_some (mark_of mine.now) ≡ true }
-    requires remembered { forgotten_of lanes.now item.group ≤ number }
-    requires there { (p : ℕ) × (model.place_of lanes.now.streams model_barriers.is_barrier item number ≡ Some p) }
-    requires alike { IsTrue are_alike → CameAlike lanes.now.streams item.group number (mark_of mine.now) item.item }
-    ensures { IsTrue result ↔ (model_barriers.arrivals lanes.now.streams item.group number item.item ≡ mark_of mine.now) }
-{
-    are_alike || came_with(lanes, item, number, mine)
-}
-
 /// Whether an item's next event is its barrier with this number, and has the mark of `mine`. If `are_alike`, all who came to that
 /// instance have it.
 #[inline(always)]
@@ -134,7 +116,7 @@ fn stands_next<A: Allocator>(
     match lanes.barrier_at(item, number) {
         None => false,
         Some(index) => {
-            index == frontier.get(item) && has_mark(lanes, item, number, mine, are_alike)
+            index == frontier.get(item) && (are_alike || came_with(lanes, item, number, mine))
         }
     }
 }

@@ -66,13 +66,6 @@ impl<A: Allocator> Model for Schedule<A> {
     ghost invariant = { λ o. IsOrder o.lanes o.handled o.frontier o.windows o.held };
 }
 
-/// Whether a record is an event of its item, and not the end of its stream.
-fn is_event(event: &Event) -> bool
-    ensures { result ≡ not (is_end event.now) }
-{
-    !event.kind.is_end()
-}
-
 impl<A: Allocator + Copy> Schedule<A> {
     /// The order of a launch of this shape, before its first record.
     ///
@@ -333,39 +326,6 @@ impl<A: Allocator> Schedule<A> {
         self.frontier.raise(at);
     }
 
-    /// Takes the next record of a group. No memory is freed.
-    ///
-    /// # Errors
-    /// The first of `UnknownGroup`, `AfterEnd` with the group, `UnknownItem` and `Memory` that is there. Nothing is then
-    /// taken.
-    fn take_next(&mut self, group: u16, event: Event) -> Result<(), SeqError>
-    where
-        A: Copy,
-        requires good { IsEventButItem event }
-        requires room { length (list_of self.old.taken group) < MOST_RECORDS }
-        ensures ok { OnOk result (CanTake self.old.taken group event × (self.new ≡ taking self.old group event)) }
-        ensures err { IfErr result (λ e. IsTakeFault self.old.taken group event e) }
-        ensures unchanged { OnErr result (self.new ≡ self.old) }
-        ensures sequence { IsSequence self.new }
-    {
-        match self.lanes.refusal(group, &event) {
-            None => {}
-            Some(refusal) => return Err(refusal),
-        }
-        let more = is_event(&event);
-        keep(&mut self.windows, group, &event)?;
-        match self.lanes.take_accepted(group, &event) {
-            Ok(()) => {
-                self.held += u64::from(more);
-                Ok(())
-            }
-            Err(Memory) => {
-                forget(&mut self.windows, group, &event);
-                Err(SeqError::Memory)
-            }
-        }
-    }
-
     /// Once a group has ended, frees what is no longer needed of it. Says whether it has ended: its end was taken, and no event of
     /// its items waits.
     #[inline(always)]
@@ -385,7 +345,6 @@ impl<A: Allocator> Schedule<A> {
     /// # Errors
     /// The first of `UnknownGroup`, `AfterEnd` with the group, `UnknownItem` and `Memory` that is there. Nothing is then
     /// taken.
-    #[inline(always)]
     pub fn take(&mut self, group: u16, event: Event) -> Result<(), SeqError>
     where
         A: Copy,
@@ -396,9 +355,22 @@ impl<A: Allocator> Schedule<A> {
         ensures unchanged { OnErr result (self.new ≡ self.old) }
         ensures sequence { IsSequence self.new }
     {
-        self.take_next(group, event)?;
-        let _ = self.close(group);
-        Ok(())
+        if let Some(refusal) = self.lanes.refusal(group, &event) {
+            return Err(refusal);
+        }
+        let more = !event.kind.is_end();
+        keep(&mut self.windows, group, &event)?;
+        match self.lanes.take_accepted(group, &event) {
+            Ok(()) => {
+                self.held += u64::from(more);
+                let _ = self.close(group);
+                Ok(())
+            }
+            Err(Memory) => {
+                forget(&mut self.windows, group, &event);
+                Err(SeqError::Memory)
+            }
+        }
     }
 
     /// Handles an item's next event, if all that it waits for was handled and it is no barrier of a convergent or waiting instance.
@@ -412,13 +384,11 @@ impl<A: Allocator> Schedule<A> {
         ensures unchanged { OnErr result (self.new ≡ self.old) }
         ensures sequence { IsSequence self.new }
     {
-        match self.next(item) {
-            None => Err(GoError::NotReady),
-            Some(event) => {
-                self.handle_event(event);
-                Ok(event)
-            }
-        }
+        let Some(event) = self.next(item) else {
+            return Err(GoError::NotReady);
+        };
+        self.handle_event(event);
+        Ok(event)
     }
 
     /// Whether an item's next event was taken and is a barrier.
@@ -446,14 +416,13 @@ impl<A: Allocator> Schedule<A> {
     /// Forgets the first instance of a group that is remembered, once all items have passed it.
     fn forget_behind(&mut self, group: u16)
         requires { group < length self.old.taken.sizes }
-        ensures unchanged { self.new ≡ self.old }
-        ensures sequence { IsSequence self.new }
+        ensures { self.new ≡ self.old }
     {
         forget_if_passed(&mut self.lanes, &self.frontier, &mut self.lagging, group);
     }
 
-    /// Handles an event that may be handled. No memory is freed.
-    fn handle_and_forget(&mut self, event: EventId)
+    /// Handles an event that may be handled.
+    pub fn handle_event(&mut self, event: EventId)
         requires { IsReady self.old.taken self.old.handled event }
         ensures step { HandlesEvent self.old event self.new }
         ensures sequence { IsSequence self.new }
@@ -463,15 +432,6 @@ impl<A: Allocator> Schedule<A> {
         if is_passed {
             self.forget_behind(event.at.group);
         }
-    }
-
-    /// Handles an event that may be handled.
-    pub fn handle_event(&mut self, event: EventId)
-        requires { IsReady self.old.taken self.old.handled event }
-        ensures step { HandlesEvent self.old event self.new }
-        ensures sequence { IsSequence self.new }
-    {
-        self.handle_and_forget(event);
         let _ = self.close(event.at.group);
     }
 
@@ -487,17 +447,15 @@ impl<A: Allocator> Schedule<A> {
         ensures unchanged { OnErr result (self.new ≡ self.old) }
         ensures sequence { IsSequence self.new }
     {
-        match self.meeting(group) {
-            None => Err(GoError::NotReady),
-            Some(instance) => {
-                self.meet_instance(group);
-                Ok(instance)
-            }
-        }
+        let Some(instance) = self.meeting(group) else {
+            return Err(GoError::NotReady);
+        };
+        self.meet_instance(group);
+        Ok(instance)
     }
 
-    /// Handles the barriers of a group's instance that may meet. No memory is freed.
-    fn meet_next(&mut self, group: u16)
+    /// Handles the barriers of a group's instance that may meet.
+    pub fn meet_instance(&mut self, group: u16)
         requires { CanMeet self.old.taken self.old.handled group }
         ensures step { MeetsNext self.old group self.new }
         ensures sequence { IsSequence self.new }
@@ -508,15 +466,6 @@ impl<A: Allocator> Schedule<A> {
         count_next_events(&mut self.frontier, group, size);
         self.windows.pop_group(group, size);
         self.held -= u64::from(size);
-    }
-
-    /// Handles the barriers of a group's instance that may meet.
-    pub fn meet_instance(&mut self, group: u16)
-        requires { CanMeet self.old.taken self.old.handled group }
-        ensures step { MeetsNext self.old group self.new }
-        ensures sequence { IsSequence self.new }
-    {
-        self.meet_next(group);
         let _ = self.close(group);
     }
 
@@ -527,9 +476,8 @@ impl<A: Allocator> Schedule<A> {
     {
         for item in 0..self.lanes.shape().items(group) {
             let at = ItemId { group, item };
-            match self.next(at) {
-                None => {}
-                Some(_) => return Some(Ready::Item(at)),
+            if self.next(at).is_some() {
+                return Some(Ready::Item(at));
             }
         }
         match self.meeting(group) {
@@ -544,9 +492,8 @@ impl<A: Allocator> Schedule<A> {
         ensures sequence { IsSequence self.now }
     {
         for group in 0..self.lanes.shape().groups() {
-            match self.ready_in(group) {
-                None => {}
-                Some(step) => return Some(step),
+            if let Some(step) = self.ready_in(group) {
+                return Some(step);
             }
         }
         None

@@ -28,8 +28,7 @@ pub(crate) fn keep<A: Allocator + Copy>(
         return Ok(());
     }
     let item = event.item;
-    windows.push(ItemId { group, item }, event)?;
-    Ok(())
+    windows.push(ItemId { group, item }, event)
 }
 
 /// Forgets the record of a group that was kept last.

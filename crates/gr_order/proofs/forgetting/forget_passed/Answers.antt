@@ -11,7 +11,3 @@ decide-requires g c = passed_came c.args.lanes.now.streams c.args.frontier.now c
 pub returns-in-Some : goal.returns-in-Some
 returns-in-Some g c =
     decides c.args.lanes.now c.decide.new.self c.args.frontier.now c.args.group c.forgotten-instance.result c.in-Some.cause c.decide.result c.requires (c.have_all_passed.ensures c.if-not-have_all_passed.false) c.forgotten-instance.ensures c.in-Some.ensures c.decide.ensures.ok c.decide.ensures.err
-
-pub returns-in-Some-2 : goal.returns-in-Some-2
-returns-in-Some-2 g c =
-    decides c.args.lanes.now c.decide.new.self c.args.frontier.now c.args.group c.forgotten-instance.result c.in-Some.cause c.decide.result c.requires (c.have_all_passed.ensures c.if-not-have_all_passed.false) c.forgotten-instance.ensures c.in-Some.ensures c.decide.ensures.ok c.decide.ensures.err

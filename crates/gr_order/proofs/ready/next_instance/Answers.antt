@@ -1,34 +1,35 @@
 use Rattle.std.proofs.Common.{arith, ◌∙◌, refl, sym, true≢false}
+use Rattle.gr_clocks.specs.Tables.{item_of}
 use Rattle.gr_order.proofs.ForgetLemmas.{next_remembered}
 use Rattle.gr_order.proofs.WaitLemmas.{first_is}
-use Rattle.gr_order.proofs.MeetLemmas.{come, first_there, item_at, next_if, next_only}
+use Rattle.gr_order.proofs.MeetLemmas.{come, first_there, next_if, next_only}
 use Rattle.gr_order.proofs.ready.next_instance.Goals as goal
 
 pub returns-in-None : goal.returns-in-None
 returns-in-None g c k h =
-    first_there c.args.lanes.now.streams c.args.frontier.now c.args.group k h (first_is c.requires.waiting (item_at c.args.group 0) refl c.in-None.ensures refl)
+    first_there c.args.lanes.now.streams c.args.frontier.now c.args.group k h (first_is c.requires.waiting (item_of c.args.group 0) refl c.in-None.ensures refl)
 
 pub barrier_number-requires : goal.barrier_number-requires
 barrier_number-requires g c =
-    next_remembered c.args.lanes.now c.args.frontier.now c.requires.forgets (record { at = item_at c.args.group 0; index = c.get-index.result }) (omega (arith, c.get-index.ensures.count))
+    next_remembered c.args.lanes.now c.args.frontier.now c.requires.forgets (record { at = item_of c.args.group 0; index = c.get-index.result }) (omega (arith, c.get-index.ensures.count))
 
 pub all_stand_next-requires-clause-remembered : goal.all_stand_next-requires-clause-remembered
 all_stand_next-requires-clause-remembered g c =
-    next_remembered c.args.lanes.now c.args.frontier.now c.requires.forgets (record { at = item_at c.args.group 0; index = c.get-index.result }) (omega (arith, c.get-index.ensures.count)) c.in-Some-barrier_number.number c.in-Some-barrier_number.ensures
+    next_remembered c.args.lanes.now c.args.frontier.now c.requires.forgets (record { at = item_of c.args.group 0; index = c.get-index.result }) (omega (arith, c.get-index.ensures.count)) c.in-Some-barrier_number.number c.in-Some-barrier_number.ensures
 
 pub all_stand_next-requires-clause-come : goal.all_stand_next-requires-clause-come
 all_stand_next-requires-clause-come g c =
-    let at = first_is c.requires.waiting (item_at c.args.group 0) refl c.in-Some.ensures refl in
+    let at = first_is c.requires.waiting (item_of c.args.group 0) refl c.in-Some.ensures refl in
     come c.args.lanes.now.streams c.args.frontier.now c.args.group c.requires.prefixes c.in-Some.mine at c.in-Some-barrier_number.number c.get-index.result c.in-Some-barrier_number.ensures c.get-index.ensures.count
 
 pub returns-then-all_stand_next : goal.returns-then-all_stand_next
 returns-then-all_stand_next g c =
-    let at = first_is c.requires.waiting (item_at c.args.group 0) refl c.in-Some.ensures refl in
+    let at = first_is c.requires.waiting (item_of c.args.group 0) refl c.in-Some.ensures refl in
     next_if c.args.lanes.now.streams c.args.frontier.now c.args.group c.requires.prefixes c.in-Some.mine at c.in-Some-barrier_number.number c.get-index.result c.in-Some-barrier_number.ensures c.get-index.ensures.count
     (c.all_stand_next.ensures.0 c.if-all_stand_next.true)
 
 pub returns-else-all_stand_next : goal.returns-else-all_stand_next
 returns-else-all_stand_next g c k h =
-    let at = first_is c.requires.waiting (item_at c.args.group 0) refl c.in-Some.ensures refl in
+    let at = first_is c.requires.waiting (item_of c.args.group 0) refl c.in-Some.ensures refl in
     let all = next_only c.args.lanes.now.streams c.args.frontier.now c.args.group c.requires.prefixes c.in-Some.mine at c.in-Some-barrier_number.number c.get-index.result c.in-Some-barrier_number.ensures c.get-index.ensures.count k h in
     true≢false (sym (c.all_stand_next.ensures.1 all) ∙ c.if-all_stand_next.false)

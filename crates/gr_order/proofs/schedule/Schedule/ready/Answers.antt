@@ -10,4 +10,4 @@ returns-clause-ready g c =
     rest_is_done c.args.self.now is (all_rest c.args.self.now is (λ n within. c.loop-group.invariant n (let lt = rw (← c.self.view_is) at within in omega (arith, lt, count))))
 
 pub loop-group-preserved : goal.loop-group-preserved
-loop-group-preserved g c = below_more _ _ c.loop-group.invariant c.in-None.ensures
+loop-group-preserved g c = below_more _ _ c.loop-group.invariant c.in_default.ensures
