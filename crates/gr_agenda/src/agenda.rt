@@ -3,14 +3,16 @@
 //! Invariant: each step that can be made is in the list, unless memory was too short. Each item whose next event names releases
 //! that were not handled is in the list, or waits for one of these releases. The instances noted as undiverged are not divergent.
 
-ghost use Rattle.std.specs.Prelude.{[], ◌≡◌, ◌↔◌, ◌<◌, IfOk, IfErr, IfSome, IsSomeAnd, OnOk, OnErr, IsTrue, MatchOption, All, Contains, Some, length, slice_get, ℕ};
+ghost use Rattle.std.specs.Prelude.{[], ◌≡◌, ◌↔◌, ◌<◌, All, Contains, IfErr, IfOk, IfSome, IsSomeAnd, IsTrue, MatchOption, OnErr, OnOk};
+ghost use Rattle.std.specs.Prelude.{Some, length, slice_get, ℕ};
 ghost use Rattle.gr_model.specs.declared.event.EventId.{EventId as AnyEvent};
 ghost use Rattle.gr_model.specs.declared.event.ItemId.{ItemId as AnyItem};
 ghost use Rattle.gr_model.specs.declared.event.Name.{Name as AnyName};
 ghost use Rattle.gr_model.specs.declared.limits.TheConstants.{MOST_RECORDS};
 ghost use Rattle.gr_model.specs.Groups.{CanAdd};
 ghost use Rattle.gr_model.specs.Names.{release_place};
-ghost use Rattle.gr_model.specs.Streams.{Streams, list_of, size_of};
+ghost use Rattle.gr_model.specs.Streams.{list_of, size_of};
+ghost use Rattle.gr_clocks.specs.Tables.{item_of};
 ghost use Rattle.gr_order.specs.declared.steps.Ready.TheVariants.{Group, Item};
 ghost use Rattle.gr_lanes.specs.Takes.{CanTake, IsEventButItem, IsTakeFault, next_of};
 ghost use Rattle.gr_steps.specs.Steps.{CanHandle, CanMeet, IsReady};
@@ -60,13 +62,11 @@ impl<A: Allocator> Model for Agenda<A> {
 fn name_of<A: Allocator>(order: &Schedule<A>, event: EventId) -> Option<Name>
     ensures { (n : AnyName) → n.at ≡ event.at → release_place order.now.taken n ≡ Some event.index → result ≡ Some n }
 {
-    match order.lanes().release_number(event) {
-        None => None,
-        Some(release) => Some(Name {
-            at: event.at,
-            release,
-        }),
-    }
+    let release = order.lanes().release_number(event)?;
+    Some(Name {
+        at: event.at,
+        release,
+    })
 }
 
 /// The lists for the items that wait.
@@ -94,17 +94,6 @@ fn filled<A: Allocator + Copy>(
     Ok(lists)
 }
 
-/// For each group no instance that is known not to be divergent.
-///
-/// # Errors
-/// `Memory`: out of memory.
-fn no_instances<A: Allocator + Copy>(alloc: A) -> Result<Vec<Option<u32>, A>, Memory>
-    ensures { IfOk result (λ v. (s : Streams) → AreUndiverged s v.items) }
-{
-    let undiverged = Vec::new(alloc);
-    Ok(undiverged)
-}
-
 /// Whether an item's next event is a barrier. It is one if an instance of its group may meet.
 fn is_at_barrier<A: Allocator>(order: &Schedule<A>, item: ItemId) -> bool
     ensures { CanMeet order.now.taken order.now.handled item.group → item.item < size_of order.now.taken item.group → IsTrue result }
@@ -119,7 +108,8 @@ fn is_at_barrier<A: Allocator>(order: &Schedule<A>, item: ItemId) -> bool
 
 /// Puts an item's group on the list, if the item's next event is a barrier.
 fn put_group<A: Allocator>(order: &Schedule<A>, worklist: &mut Worklist<A>, item: ItemId)
-    ensures there { CanMeet order.now.taken order.now.handled item.group → item.item < size_of order.now.taken item.group → Has worklist.new (Group item.group) }
+    ensures there { CanMeet order.now.taken order.now.handled item.group → item.item < size_of order.now.taken item.group
+        → Has worklist.new (Group item.group) }
     ensures keeps { KeepsSteps worklist.old worklist.new }
 {
     if is_at_barrier(order, item) {
@@ -140,7 +130,8 @@ fn is_handled<A: Allocator>(order: &Schedule<A>, name: Name) -> bool
 
 /// The first of an event's names whose release was not handled, if there is one.
 fn first_unhandled<A: Allocator>(order: &Schedule<A>, event: &Event) -> Option<Name>
-    ensures { MatchOption result (All (IsReleaseHandled order.now.taken order.now.handled) event.now.names) (λ n. Contains event.now.names n × ¬ IsReleaseHandled order.now.taken order.now.handled n) }
+    ensures { MatchOption result (All (IsReleaseHandled order.now.taken order.now.handled) event.now.names)
+        (λ n. Contains event.now.names n × ¬ IsReleaseHandled order.now.taken order.now.handled n) }
 {
     let names = event.names.as_slice();
     for name in names {
@@ -153,20 +144,20 @@ fn first_unhandled<A: Allocator>(order: &Schedule<A>, event: &Event) -> Option<N
 
 /// A name that holds up an item's next event, if there is one.
 fn named_by<A: Allocator>(order: &Schedule<A>, item: ItemId) -> Option<Name>
-    ensures { (d : AnyEvent) (n : AnyName) → IsHeldUp order.now.taken order.now.handled d n → d.at ≡ item → IsSomeAnd result (IsHeldUp order.now.taken order.now.handled d) }
+    ensures { (d : AnyEvent) (n : AnyName) → IsHeldUp order.now.taken order.now.handled d n → d.at ≡ item
+        → IsSomeAnd result (IsHeldUp order.now.taken order.now.handled d) }
 {
     // brings the order's frontier into the proof
     let _frontier = order.frontier();
-    match order.waiting(item) {
-        None => None,
-        Some(event) => first_unhandled(order, &event),
-    }
+    let event = order.waiting(item)?;
+    first_unhandled(order, &event)
 }
 
 /// Whether a step is of an item whose events were all handled. Then it can't be made, and nothing holds it up.
 fn is_idle<A: Allocator>(order: &Schedule<A>, step: Ready) -> bool
     ensures none { IsTrue result → ¬ CanMake order.now step }
-    ensures free { IsTrue result → (d : AnyEvent) (n : AnyName) → Item d.at ≡ step → ¬ IsHeldUp order.now.taken order.now.handled d n }
+    ensures free { IsTrue result → (d : AnyEvent) (n : AnyName) → Item d.at ≡ step
+        → ¬ IsHeldUp order.now.taken order.now.handled d n }
 {
     // brings the order's frontier into the proof
     let _frontier = order.frontier();
@@ -195,7 +186,7 @@ fn put_pending<A: Allocator>(
     group: u16,
     items: u16,
 )
-    ensures there { (k : ℕ) → k < items → IsPending order.now (record { group = group; item = k }) → Has worklist.new (Item (record { group = group; item = k })) }
+    ensures there { (k : ℕ) → k < items → IsPending order.now (item_of group k) → Has worklist.new (Item (item_of group k)) }
     ensures keeps { KeepsSteps worklist.old worklist.new }
 {
     for item in 0..items {
@@ -212,7 +203,8 @@ fn note<A: Allocator>(
     lists: &mut Vec<Vec<ItemId, A>, A>,
     step: Ready,
 ) -> Result<(), Memory>
-    ensures noted { OnOk result ((d : AnyEvent) (n : AnyName) → IsHeldUp order.now.taken order.now.handled d n → Item d.at ≡ step → IsNoted order.now.taken order.now.handled lists.new.items d) }
+    ensures noted { OnOk result ((d : AnyEvent) (n : AnyName) → IsHeldUp order.now.taken order.now.handled d n → Item d.at ≡ step
+        → IsNoted order.now.taken order.now.handled lists.new.items d) }
     ensures keeps { (n : AnyName) (i : AnyItem) → IsWaiting lists.old.items n i → IsWaiting lists.new.items n i }
 {
     match step {
@@ -256,10 +248,7 @@ fn is_next_barrier<A: Allocator>(order: &Schedule<A>, item: ItemId, number: u32)
 fn undiverged_of(undiverged: &[Option<u32>], group: u16) -> Option<u32>
     ensures { IfSome result (λ k. slice_get undiverged.now group ≡ Some (Some k)) }
 {
-    match undiverged.get(usize::from(group)) {
-        None => None,
-        Some(told) => *told,
-    }
+    *undiverged.get(usize::from(group))?
 }
 
 /// Notes that an instance of a group is not divergent.
@@ -285,12 +274,10 @@ fn mark_undiverged<A: Allocator>(
     ensures { AreUndiverged order.now.taken undiverged.old.items → AreUndiverged order.now.taken undiverged.new.items }
 {
     order.sequence_holds();
-    match step {
-        Ready::Group(_) => {}
-        Ready::Item(item) => match next_barrier(order, item) {
-            None => {}
-            Some(instance) => tell_undiverged(undiverged, item.group, instance),
-        },
+    if let Ready::Item(item) = step
+        && let Some(instance) = next_barrier(order, item)
+    {
+        tell_undiverged(undiverged, item.group, instance);
     }
 }
 
@@ -312,7 +299,8 @@ fn wake_group<A: Allocator>(
     group: u16,
 )
     requires { group < length order.now.taken.sizes }
-    ensures items { (k : ℕ) → k < size_of order.now.taken group → IsPending order.now (record { group = group; item = k }) → Has worklist.new (Item (record { group = group; item = k })) }
+    ensures items { (k : ℕ) → k < size_of order.now.taken group → IsPending order.now (item_of group k)
+        → Has worklist.new (Item (item_of group k)) }
     ensures group { Has worklist.new (Group group) }
     ensures keeps { KeepsSteps worklist.old worklist.new }
     ensures forgotten { IsForgotten undiverged.old.items group undiverged.new.items }
@@ -359,8 +347,8 @@ impl<A: Allocator + Copy> Agenda<A> {
         requires { order ≡ nothing order.taken.sizes }
         ensures { IfOk result (λ a. a ≡ order) }
     {
-        let undiverged = no_instances(alloc)?;
-        let worklist = Worklist::new(alloc)?;
+        let worklist = Worklist::new(alloc);
+        let undiverged = Vec::new(alloc);
         Ok(Agenda {
             order,
             worklist,
@@ -541,10 +529,7 @@ impl<A: Allocator> Agenda<A> {
         ensures found { IfSome result (λ r. CanMake self.old r) }
         ensures unchanged { self.new ≡ self.old }
     {
-        let step = match self.worklist.last() {
-            None => return None,
-            Some(step) => step,
-        };
+        let step = self.worklist.last()?;
         if is_idle(&self.order, step) {
             self.worklist.drop_last();
             return None;
@@ -568,9 +553,8 @@ impl<A: Allocator> Agenda<A> {
     {
         self.order.sequence_holds();
         for _ in 0..self.worklist.len() {
-            match self.try_last() {
-                None => {}
-                Some(step) => return Some(step),
+            if let Some(step) = self.try_last() {
+                return Some(step);
             }
         }
         if self.worklist.is_done() {

@@ -71,11 +71,8 @@ pub(crate) fn wake<A: Allocator>(
     ensures others { (n : AnyName) (i : AnyItem) → IsWaiting lists.old.items n i → Has worklist.new (Item i) ⊎ IsWaiting lists.new.items n i }
     ensures keeps { KeepsSteps worklist.old worklist.new }
 {
-    match lists.get_mut(bucket_of(named)) {
-        None => {}
-        Some(list) => {
-            put_all(list, worklist);
-            list.clear();
-        }
+    if let Some(list) = lists.get_mut(bucket_of(named)) {
+        put_all(list, worklist);
+        list.clear();
     }
 }

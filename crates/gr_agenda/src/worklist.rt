@@ -2,11 +2,10 @@
 //!
 //! Invariant: a marked step is in the list. A step may be there more than once, and without a mark.
 
-ghost use Rattle.std.specs.Prelude.{◌≡◌, [], ◌⊎◌, ◌≢◌, ℕ, true, Some, IsTrue, IfOk, MatchOption, slice_get};
+ghost use Rattle.std.specs.Prelude.{◌≡◌, [], ◌⊎◌, ◌≢◌, ℕ, true, Some, IsTrue, MatchOption, slice_get};
 ghost use Rattle.gr_order.specs.declared.steps.Ready.{Ready as AnyStep};
 ghost use Rattle.gr_agenda.specs.Lists.{Has, HasNone, IsLast, IsPlace, KeepsSteps};
 
-use gr_model::memory::Memory;
 use gr_order::steps::Ready;
 use std::alloc::{Allocator, Global};
 use std::marker::Model;
@@ -75,13 +74,10 @@ fn reach<A: Allocator>(marks: &mut Vec<bool, A>, count: usize)
 fn mark<A: Allocator>(marks: &mut Vec<bool, A>, step: Ready)
     ensures { (p : ℕ) → slice_get marks.new.items p ≡ Some true → IsPlace step p ⊎ (slice_get marks.old.items p ≡ Some true) }
 {
-    match place_of(step) {
-        None => {}
-        Some(place) => {
-            reach(marks, place + 1);
-            if place < marks.len() {
-                marks[place] = true;
-            }
+    if let Some(place) = place_of(step) {
+        reach(marks, place + 1);
+        if place < marks.len() {
+            marks[place] = true;
         }
     }
 }
@@ -91,25 +87,21 @@ fn unmark<A: Allocator>(marks: &mut Vec<bool, A>, step: Ready)
     ensures here { (p : ℕ) → IsPlace step p → slice_get marks.new.items p ≢ Some true }
     ensures others { (p : ℕ) → slice_get marks.new.items p ≡ Some true → slice_get marks.old.items p ≡ Some true }
 {
-    match place_of(step) {
-        None => {}
-        Some(place) => {
-            if place < marks.len() {
-                marks[place] = false;
-            }
-        }
+    if let Some(place) = place_of(step)
+        && place < marks.len()
+    {
+        marks[place] = false;
     }
 }
 
 impl<A: Allocator + Copy> Worklist<A> {
     /// The empty list.
-    pub(crate) fn new(alloc: A) -> Result<Worklist<A>, Memory> {
-        let marks = Vec::new(alloc);
-        Ok(Worklist {
+    pub(crate) fn new(alloc: A) -> Worklist<A> {
+        Worklist {
             steps: Vec::new(alloc),
-            marks,
+            marks: Vec::new(alloc),
             short: false,
-        })
+        }
     }
 }
 
@@ -159,9 +151,8 @@ impl<A: Allocator> Worklist<A> {
     pub(crate) fn drop_last(&mut self)
         ensures { (r : AnyStep) → Has self.old r → ¬ IsLast self.old r → Has self.new r }
     {
-        match self.steps.pop() {
-            None => {}
-            Some(step) => unmark(&mut self.marks, step),
+        if let Some(step) = self.steps.pop() {
+            unmark(&mut self.marks, step);
         }
     }
 }

@@ -4,5 +4,5 @@ use Rattle.gr_model.specs.Streams.{trace_of}
 use Rattle.gr_steps.proofs.BarrierPlaces.{places_from-once}
 use Rattle.gr_agenda.proofs.agenda.name_of.Goals as goal
 
-pub returns-in-Some : goal.returns-in-Some
-returns-in-Some g c n at place = grind (arith, c.lanes.ensures.taken, c.in-Some.ensures, places_from-once is_release 0 (trace_of c.args.order.now.taken c.args.event.at) c.args.event.index c.in-Some.release n.release)
+pub returns : goal.returns
+returns g c n at place = grind (arith, c.lanes.ensures.taken, c.in_ok-release.ensures, places_from-once is_release 0 (trace_of c.args.order.now.taken c.args.event.at) c.args.event.index c.in_ok-release.release n.release)
