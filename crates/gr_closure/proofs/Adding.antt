@@ -1,10 +1,6 @@
 -- The accesses along an order that has become longer.
-use Rattle.std.proofs.Common.{◌≡◌, ℕ, suc, true, List, [], ◌∷◌, ◌++◌, Some, None, is_some, slice_get, refl, append-nil, arith}
+use Rattle.std.proofs.Common.{◌≡◌, ℕ, suc, List, [], ◌∷◌, ◌++◌, Some, None, slice_get, refl, append-nil, arith}
 use Rattle.gr_model.specs.declared.event.EventId.{EventId}
-use Rattle.gr_model.specs.declared.event.Kind.{Kind}
-use Rattle.gr_model.specs.declared.event.Word.{Word}
-use Rattle.gr_model.specs.Access.{word_if_access}
-use Rattle.gr_model.specs.Barriers.{mark_of_kind}
 use Rattle.gr_model.specs.Streams.{Streams, word_at}
 use Rattle.gr_clocks.specs.declared.access.Access.{Access}
 use Rattle.gr_steps.specs.Steps.{Handles, Meets}
@@ -28,10 +24,6 @@ none_of : (s : Streams) (events : List EventId) → ((i : ℕ) (b : EventId) →
 none_of s [] no_words = of_none
 none_of s (b ∷ events) no_words = of_other (no_words 0 b refl) (none_of s events (λ i d at. no_words (suc i) d at))
 
--- barriers have no words
-kind_without_word : (k : Kind) (site : ℕ) (w : Word) → is_some (mark_of_kind k site) ≡ true → word_if_access k w ≡ None
-kind_without_word k site w is = grind arith
-
 -- ---- steps
 
 pub handled_adds : (s : Streams) (old new : List EventId) (e : EventId) (accesses : List ClockedAccess) (x : ClockedAccess) → Handles s old e new → AreAccesses s old accesses → IsAccess s e (bare x) → AreAccesses s new (accesses ++ x ∷ [])
@@ -43,5 +35,5 @@ others_add_none s old new e accesses step are none =
 
 pub met_add_none : (s : Streams) (old new : List EventId) (g k : ℕ) (accesses : List ClockedAccess) → Meets s old g k new → AreAccesses s old accesses → AreAccesses s new accesses
 met_add_none s old new g k accesses step are =
-    let barriers = none_of s step.barriers (λ i b at. grind (arith, step.are.each i b at, barrier_there, kind_without_word)) in
+    let barriers = none_of s step.barriers (λ i b at. grind (arith, step.are.each i b at, barrier_there)) in
     grind (arith, step.order, append-nil accesses, accesses_after s old step.barriers accesses [] are barriers)

@@ -3,12 +3,11 @@ use Rattle.std.proofs.Common.{◌≡◌, List, refl, inl, inr}
 use Rattle.gr_model.specs.declared.event.EventId.{EventId}
 use Rattle.gr_model.specs.declared.event.ItemId.{ItemId}
 use Rattle.gr_model.specs.declared.event.Space.{Space}
-use Rattle.gr_model.specs.Barriers.{Together}
 use Rattle.gr_model.specs.Counts.{Sees}
-use Rattle.gr_model.specs.Instances.{Mark}
 use Rattle.gr_model.specs.LawfulOrders.{IsAt, IsIn, IsLawful}
 use Rattle.gr_model.specs.Streams.{Streams}
 use Rattle.gr_model.proofs.Descent.{below_before, lawful_descends, together-swap}
+use Rattle.gr_steps.proofs.Orders.{met_handled}
 use Rattle.gr_closure.specs.Knowledge.{Knows, by_event, by_instance}
 
 module _ (s : Streams) (m : Space) (order : List EventId) where
@@ -17,13 +16,9 @@ module _ (s : Streams) (m : Space) (order : List EventId) where
   seen_handled lawful e d h (inr before) =
       let there = below_before s (IsAt order) (lawful_descends s order lawful) m d e before h.0 h.1 in (there.0, there.2)
 
-  -- the barriers that a handled barrier has met were handled
-  pub met_handled : IsLawful s order → (a : Mark) (c b : EventId) → IsIn order b → Together s a c b → IsIn order c
-  met_handled lawful a c b h met = let there = lawful.together h.0 b c a h.1 (together-swap met) in (there.0, there.2)
-
   pub known_handled : IsLawful s order → (i : ItemId) (d : EventId) → Knows s m order i d → IsIn order d
   known_handled lawful i d (by_event e h item seen) = seen_handled lawful e d h seen
-  known_handled lawful i d (by_instance a c b h item flagged met seen) = seen_handled lawful c d (met_handled lawful a c b h met) seen
+  known_handled lawful i d (by_instance a c b h item flagged met seen) = seen_handled lawful c d (met_handled s order lawful a b c h (together-swap met)) seen
 
   pub own_known : (i : ItemId) (d : EventId) → d.at ≡ i → IsIn order d → Knows s m order i d
   own_known i d item h = by_event d h item (inl refl)
