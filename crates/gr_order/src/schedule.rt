@@ -4,9 +4,8 @@
 //! other events of each item are kept until they are handled. All barriers of forgotten instances were handled, and the divergent
 //! ones among these instances are kept. The order itself exists only in proofs: no memory holds it, and no step needs any.
 
-ghost use Rattle.std.specs.Prelude.{[], ◌≡◌, ◌+◌, ◌<◌, IsOkUnless, IfOk, IfErr, IfSome, OnOk, MatchOption, OnErr, length, IsTrue, not, ◌↔◌};
+ghost use Rattle.std.specs.Prelude.{[], ◌≡◌, ◌+◌, ◌<◌, IsOkUnless, IfOk, IfErr, IfSome, OnOk, MatchOption, OnErr, length, IsTrue, ◌↔◌};
 ghost use Rattle.gr_model.specs.declared.limits.TheConstants.{MOST_RECORDS};
-ghost use Rattle.gr_model.specs.Events.{is_end};
 ghost use Rattle.gr_model.specs.Reports.{IsHeld};
 ghost use Rattle.gr_model.specs.Streams.{AreComplete, event_at, list_of};
 ghost use Rattle.gr_order.specs.declared.go_error.GoError.TheVariants.{NotReady};
