@@ -160,17 +160,11 @@ pub(crate) fn next_instance<A: Allocator>(
     let first = ItemId { group, item: 0 };
     let index = frontier.get(first);
     let event = EventId { at: first, index };
-    match windows.waiting(first, 0) {
-        None => None,
-        Some(mine) => match lanes.barrier_number(event) {
-            None => None,
-            Some(number) => {
-                if all_stand_next(lanes, frontier, group, number, &mine) {
-                    Some(number)
-                } else {
-                    None
-                }
-            }
-        },
+    let mine = windows.waiting(first, 0)?;
+    let number = lanes.barrier_number(event)?;
+    if all_stand_next(lanes, frontier, group, number, &mine) {
+        Some(number)
+    } else {
+        None
     }
 }

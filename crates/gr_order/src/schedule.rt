@@ -228,15 +228,11 @@ impl<A: Allocator> Schedule<A> {
     {
         let index = self.frontier.get(item);
         let event = EventId { at: item, index };
-        match self.windows.waiting(item, 0) {
-            None => None,
-            Some(taken) => {
-                if is_ready(&self.lanes, &self.frontier, event, &taken) {
-                    Some(event)
-                } else {
-                    None
-                }
-            }
+        let taken = self.windows.waiting(item, 0)?;
+        if is_ready(&self.lanes, &self.frontier, event, &taken) {
+            Some(event)
+        } else {
+            None
         }
     }
 

@@ -5,9 +5,9 @@ use Rattle.gr_order.proofs.WaitLemmas.{first_is}
 use Rattle.gr_order.proofs.MeetLemmas.{come, first_there, next_if, next_only}
 use Rattle.gr_order.proofs.ready.next_instance.Goals as goal
 
-pub returns-in-None : goal.returns-in-None
-returns-in-None g c k h =
-    first_there c.args.lanes.now.streams c.args.frontier.now c.args.group k h (first_is c.requires.waiting (item_of c.args.group 0) refl c.in-None.ensures refl)
+pub returns-in_err-mine : goal.returns-in_err-mine
+returns-in_err-mine g c = rw c.from_residual.ensures (λ k h.
+    first_there c.args.lanes.now.streams c.args.frontier.now c.args.group k h (first_is c.requires.waiting (item_of c.args.group 0) refl c.waiting.ensures c.in_err-mine.was))
 
 pub barrier_number-requires : goal.barrier_number-requires
 barrier_number-requires g c =
@@ -15,21 +15,21 @@ barrier_number-requires g c =
 
 pub all_stand_next-requires-clause-remembered : goal.all_stand_next-requires-clause-remembered
 all_stand_next-requires-clause-remembered g c =
-    next_remembered c.args.lanes.now c.args.frontier.now c.requires.forgets (record { at = item_of c.args.group 0; index = c.get-index.result }) (omega (arith, c.get-index.ensures.count)) c.in-Some-barrier_number.number c.in-Some-barrier_number.ensures
+    next_remembered c.args.lanes.now c.args.frontier.now c.requires.forgets (record { at = item_of c.args.group 0; index = c.get-index.result }) (omega (arith, c.get-index.ensures.count)) c.in_ok-number.number c.in_ok-number.ensures
 
 pub all_stand_next-requires-clause-come : goal.all_stand_next-requires-clause-come
 all_stand_next-requires-clause-come g c =
-    let at = first_is c.requires.waiting (item_of c.args.group 0) refl c.in-Some.ensures refl in
-    come c.args.lanes.now.streams c.args.frontier.now c.args.group c.requires.prefixes c.in-Some.mine at c.in-Some-barrier_number.number c.get-index.result c.in-Some-barrier_number.ensures c.get-index.ensures.count
+    let at = first_is c.requires.waiting (item_of c.args.group 0) refl c.waiting.ensures c.in_ok-mine.was in
+    come c.args.lanes.now.streams c.args.frontier.now c.args.group c.requires.prefixes c.in_ok-mine.mine at c.in_ok-number.number c.get-index.result c.in_ok-number.ensures c.get-index.ensures.count
 
 pub returns-then-all_stand_next : goal.returns-then-all_stand_next
 returns-then-all_stand_next g c =
-    let at = first_is c.requires.waiting (item_of c.args.group 0) refl c.in-Some.ensures refl in
-    next_if c.args.lanes.now.streams c.args.frontier.now c.args.group c.requires.prefixes c.in-Some.mine at c.in-Some-barrier_number.number c.get-index.result c.in-Some-barrier_number.ensures c.get-index.ensures.count
+    let at = first_is c.requires.waiting (item_of c.args.group 0) refl c.waiting.ensures c.in_ok-mine.was in
+    next_if c.args.lanes.now.streams c.args.frontier.now c.args.group c.requires.prefixes c.in_ok-mine.mine at c.in_ok-number.number c.get-index.result c.in_ok-number.ensures c.get-index.ensures.count
     (c.all_stand_next.ensures.0 c.if-all_stand_next.true)
 
 pub returns-else-all_stand_next : goal.returns-else-all_stand_next
 returns-else-all_stand_next g c k h =
-    let at = first_is c.requires.waiting (item_of c.args.group 0) refl c.in-Some.ensures refl in
-    let all = next_only c.args.lanes.now.streams c.args.frontier.now c.args.group c.requires.prefixes c.in-Some.mine at c.in-Some-barrier_number.number c.get-index.result c.in-Some-barrier_number.ensures c.get-index.ensures.count k h in
+    let at = first_is c.requires.waiting (item_of c.args.group 0) refl c.waiting.ensures c.in_ok-mine.was in
+    let all = next_only c.args.lanes.now.streams c.args.frontier.now c.args.group c.requires.prefixes c.in_ok-mine.mine at c.in_ok-number.number c.get-index.result c.in_ok-number.ensures c.get-index.ensures.count k h in
     true≢false (sym (c.all_stand_next.ensures.1 all) ∙ c.if-all_stand_next.false)
