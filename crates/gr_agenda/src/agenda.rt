@@ -94,25 +94,17 @@ fn filled<A: Allocator + Copy>(
     Ok(lists)
 }
 
-/// Whether an item's next event is a barrier. It is one if an instance of its group may meet.
-fn is_at_barrier<A: Allocator>(order: &Schedule<A>, item: ItemId) -> bool
-    ensures { CanMeet order.now.taken order.now.handled item.group → item.item < size_of order.now.taken item.group → IsTrue result }
-{
-    // brings the order's frontier into the proof
-    let _frontier = order.frontier();
-    match order.waiting(item) {
-        None => false,
-        Some(event) => is_barrier(&event),
-    }
-}
-
-/// Puts an item's group on the list, if the item's next event is a barrier.
+/// Puts an item's group on the list, if the item's next event is a barrier. It is one if an instance of the group may meet.
 fn put_group<A: Allocator>(order: &Schedule<A>, worklist: &mut Worklist<A>, item: ItemId)
     ensures there { CanMeet order.now.taken order.now.handled item.group → item.item < size_of order.now.taken item.group
         → Has worklist.new (Group item.group) }
     ensures keeps { KeepsSteps worklist.old worklist.new }
 {
-    if is_at_barrier(order, item) {
+    // brings the order's frontier into the proof
+    let _frontier = order.frontier();
+    if let Some(event) = order.waiting(item)
+        && is_barrier(&event)
+    {
         worklist.put(Ready::Group(item.group));
     }
 }
