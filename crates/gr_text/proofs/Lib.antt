@@ -1,6 +1,5 @@
 pub mod Splitting
 pub mod Steps
-pub mod Saying
 pub mod Streaming
 pub mod PackedStreams
 pub mod SpelledStreams

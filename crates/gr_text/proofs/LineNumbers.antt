@@ -33,10 +33,6 @@ each_some (Some x) P h = h x refl
 pub number_told : (word : List ℕ) → (number_of word ≡ number_of word) × IfSome (number_of word) (λ n. (word ≡ decimal n) × (n < 2 ^ 32))
 number_told word = (refl, each_some (number_of word) _ (number_found word))
 
-pub none_of : {X : Type 0} (o : Option X) → ((x : X) → o ≡ Some x → ⊥) → o ≡ None
-none_of o h = grind arith
-
 -- what is neither the text of the number that was parsed, nor of any other, says none
 pub number_none : (word : List ℕ) → ((n : ℕ) → n < 2 ^ 32 → word ≡ decimal n → ⊥) → number_of word ≡ None
-number_none word none =
-    none_of (number_of word) (λ n e. let f = number_found word n e in none n f.1 f.0)
+number_none word none = let told = number_told word in grind (arith, none)

@@ -1,12 +1,9 @@
 -- A line has no line feed, and no `@` but that of its site; with its site it is read from its text, and what is read has that text.
 use Rattle.std.proofs.Common.{◌≡◌, ℕ, suc, ◌^◌, ◌<◌, Bool, true, false, List, [], ◌∷◌, ◌++◌, All, refl, ap, arith, inl, inr, ◌+◌, ◌-◌, length, take, Some, None, append_assoc, append-nil, length-append, take_at, get_or-append-add}
-use Rattle.std.specs.Prelude.{IfSome, nat_lt, not, ◌==◌, ◌&&◌, codes, decimal, ⊤, slice_index}
+use Rattle.std.specs.Prelude.{IfSome, nat_lt, not, ◌==◌, ◌&&◌, decimal, ⊤, slice_index}
 use Rattle.std.proofs.lemmas.Bool.{and_parts, cases_Bool, eqb-true, eqb-false}
 use Rattle.std.proofs.lemmas.Bool.Decides.{nat_tests}
-use Rattle.gr_model.specs.declared.event.Scope.{Scope}
-use Rattle.gr_model.specs.declared.event.Order.{Order}
 use Rattle.gr_model.specs.declared.event.Kind.{Kind}
-use Rattle.gr_model.specs.declared.event.Kind.TheVariants.{Read, Write, Load, Store, Rmw, Barrier, End}
 use Rattle.gr_model.specs.declared.event.Name.{Name}
 use Rattle.gr_model.specs.declared.event.Event.{Event}
 use Rattle.gr_model.specs.Events.{IsNamingOk}
@@ -16,10 +13,10 @@ use Rattle.gr_record.proofs.Places.{each_in_range, header_group, header_items, i
 use Rattle.gr_text.specs.declared.line.Line.{Line}
 use Rattle.gr_text.specs.declared.line.Line.TheVariants as lines
 use Rattle.gr_text.specs.declared.line.SitedLine.{SitedLine}
-use Rattle.gr_text.specs.LineLaws.{IsSaid, IsSiteOf, SitedTextIsRead, SitedReadIsText}
-use Rattle.gr_text.specs.LineReading.{line_said, IsWithout, behind_mark, cut_at, unspaced, site_said, sited_said}
-use Rattle.gr_text.specs.LineText.{line_text, sited_text, site_text, name_words, names_words, atomic_words, first_word, later_words, later_text, header_words}
-use Rattle.gr_text.proofs.LineWords.{are, are-append, are_weaker, are_without, is_digit, decimal_digits, first_back, first_found, short_again}
+use Rattle.gr_text.specs.LineLaws.{IsSaid, IsSiteOf, IsSitedSaid, SitedTextIsRead, SitedReadIsText}
+use Rattle.gr_text.specs.LineReading.{line_said, IsWithout, cut_at, unspaced, site_said, sited_said}
+use Rattle.gr_text.specs.LineText.{line_text, sited_text, site_text, name_words, names_words, first_word, later_words, later_text, header_words}
+use Rattle.gr_text.proofs.LineWords.{are, are-append, are_weaker, are_without, is_digit, decimal_digits, first_back, cut_told, short_again}
 use Rattle.gr_record.specs.Versions.{has_sites}
 use Rattle.gr_text.proofs.LinesFound.{short_told, read_is_text}
 use Rattle.gr_text.proofs.LineNumbers.{each_some}
@@ -32,11 +29,8 @@ is_plain b = nat_lt 10 b && not (b == 64)
 abbrev ArePlain : List ℕ → Type 0
 ArePlain bytes = are is_plain bytes ≡ true
 
-digit_plain : (b : ℕ) → is_digit b ≡ true → is_plain b ≡ true
-digit_plain b h = grind (arith, nat_tests)
-
 number_plain : (n : ℕ) → n < 2 ^ 32 → ArePlain (decimal n)
-number_plain n lt = are_weaker is_digit is_plain digit_plain (decimal n) (decimal_digits n lt)
+number_plain n lt = are_weaker is_digit is_plain (λ b h. grind (arith, nat_tests)) (decimal n) (decimal_digits n lt)
 
 abbrev AreAllPlain : List (List ℕ) → Type 0
 AreAllPlain [] = ⊤
@@ -53,23 +47,16 @@ each_plain : (names : List Name) → All IsNameInRange names → AreAllPlain (na
 each_plain [] each = tt
 each_plain (n ∷ names) each = name_plain n (names_words names) (each 0 n (omega arith)) (each_plain names (λ k d lt. each (suc k) d (omega arith)))
 
-atomic_plain : (word : List ℕ) (kind : Kind) (scope : Scope) (order : Order) (e : Event) → ArePlain word → e.word < 2 ^ 32 → IsNamingOk kind e.names → AreAllPlain (atomic_words word scope order e)
-atomic_plain word kind scope order e is lt naming = (is, (grind arith, (number_plain e.word lt, (grind arith, (grind arith, each_plain e.names (each_in_range kind e.names naming))))))
+first_plain : (kind : Kind) (item : ℕ) → item < 1024 → ArePlain (first_word kind item)
+first_plain kind item lt = grind (arith, number_plain item (omega arith))
 
-event_plain : (kind : Kind) (e : Event) → e.item < 1024 → e.word < 2 ^ 32 → IsNamingOk kind e.names → ArePlain (first_word kind e.item ++ later_text (later_words kind e))
-event_plain Read e item word naming = are-append is_plain (decimal e.item) _ (number_plain e.item (omega arith)) (later_plain (later_words Read e) (refl, (grind arith, (number_plain e.word word, tt))))
-event_plain Write e item word naming = are-append is_plain (decimal e.item) _ (number_plain e.item (omega arith)) (later_plain (later_words Write e) (refl, (grind arith, (number_plain e.word word, tt))))
-event_plain (Load scope order) e item word naming = are-append is_plain (decimal e.item) _ (number_plain e.item (omega arith)) (later_plain (later_words (Load scope order) e) (atomic_plain (codes "ld") (Load scope order) scope order e refl word naming))
-event_plain (Store scope order) e item word naming = are-append is_plain (decimal e.item) _ (number_plain e.item (omega arith)) (later_plain (later_words (Store scope order) e) (atomic_plain (codes "st") (Store scope order) scope order e refl word naming))
-event_plain (Rmw scope order) e item word naming = are-append is_plain (decimal e.item) _ (number_plain e.item (omega arith)) (later_plain (later_words (Rmw scope order) e) (atomic_plain (codes "rmw") (Rmw scope order) scope order e refl word naming))
-event_plain (Barrier global local) e item word naming = are-append is_plain (decimal e.item) _ (number_plain e.item (omega arith)) (later_plain (later_words (Barrier global local) e) (refl, (number_plain e.word word, (grind arith, tt))))
-event_plain (End true) e item word naming = refl
-event_plain (End false) e item word naming = refl
+words_plain : (kind : Kind) (e : Event) → e.word < 2 ^ 32 → IsNamingOk kind e.names → AreAllPlain (later_words kind e)
+words_plain kind e word naming = let names = each_plain e.names (each_in_range kind e.names naming) in grind (arith, number_plain e.word word)
 
 pub line_plain : (v : Version) (x : Line) → IsSaid v x → ArePlain (line_text x)
 line_plain v (lines.Header h) ok =
     later_plain (header_words h) (number_plain h.group (omega (arith, header_group h ok)), (refl, (number_plain h.items (omega (arith, header_items h ok)), (refl, (number_plain h.launch ok.launch, grind arith)))))
-line_plain v (lines.Event e) (ok, range) = let few = items_within v in event_plain e.kind e (omega (arith, ok.ok.0)) ok.word ok.ok.1
+line_plain v (lines.Event e) (ok, range) = let few = items_within v in are-append is_plain (first_word e.kind e.item) _ (first_plain e.kind e.item (omega (arith, ok.ok.0))) (later_plain _ (words_plain e.kind e ok.word ok.ok.1))
 
 -- ---- with its site
 
@@ -113,8 +100,7 @@ unspaced_back front =
 -- ---- whole lines
 
 no_site : (v : Version) (l : Line) → IsSiteOf v l 0
-no_site v (lines.Header h) = refl
-no_site v (lines.Event e) = (omega arith, λ _. refl)
+no_site v l = grind arith
 
 plain_end : (v : Version) (l : Line) → IsSaid v l → sited_said v (line_text l) ≡ Some (record { line = l; site = 0 })
 unfolding sited_said
@@ -143,12 +129,12 @@ sited_text_is_read v l (said, ok) = by_site l.line l.site (l.site == 0) refl sai
           | inr none_has ↦ absurd (eqb-false site 0 is (ok.1 none_has))
         ]
 
-mark_told : (bytes : List ℕ) → (cut_at 64 bytes ≡ cut_at 64 bytes) × (bytes ≡ (cut_at 64 bytes).0 ++ behind_mark 64 (cut_at 64 bytes).1)
-mark_told bytes = (refl, first_found 64 bytes)
-
-line_told : (v : Version) (bytes : List ℕ) → (line_said v bytes ≡ line_said v bytes) × IfSome (line_said v bytes) (λ l. IsSaid v l × (bytes ≡ line_text l))
+pub line_told : (v : Version) (bytes : List ℕ) → (line_said v bytes ≡ line_said v bytes) × IfSome (line_said v bytes) (λ l. IsSaid v l × (bytes ≡ line_text l))
 line_told v bytes = (refl, each_some (line_said v bytes) _ (read_is_text v bytes))
 
 pub sited_read_is_text : SitedReadIsText
 unfolding sited_said site_said
-sited_read_is_text v bytes l h = grind (arith, mark_told, short_told, line_told, unspaced_told, no_site, append_assoc)
+sited_read_is_text v bytes l h = grind (arith, cut_told, short_told, line_told, unspaced_told, no_site, append_assoc)
+
+pub sited_told : (v : Version) (bytes : List ℕ) → (sited_said v bytes ≡ sited_said v bytes) × IfSome (sited_said v bytes) (λ l. IsSitedSaid v l × (bytes ≡ sited_text l))
+sited_told v bytes = (refl, each_some (sited_said v bytes) _ (sited_read_is_text v bytes))

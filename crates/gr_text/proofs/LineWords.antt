@@ -1,9 +1,12 @@
 -- Words of a line: what comes before the first byte of a kind, and numbers and keywords.
 use Rattle.std.proofs.Common.{◌≡◌, ℕ, zero, suc, ◌+◌, List, [], ◌∷◌, ◌++◌, take, drop, Option, Some, None, refl, ap, arith, ◌%◌, ◌^◌, ◌<◌, Bool, true, false, ◌∙◌, ◌==◌, nat_lt, nat_le, ◌&&◌, not, decimal, append-nil}
-use Rattle.std.proofs.lemmas.Bool.{eq-eqb, ne_eqb, lt-ltb, le-leb, and_parts, and_from, both_ways}
+use Rattle.std.specs.List.{list_all}
+use Rattle.std.proofs.lemmas.Bool.{eq-eqb, ne_eqb, lt-ltb, le-leb, and_from, both_ways}
 use Rattle.std.proofs.lemmas.Bool.Decides.{nat_tests}
 use Rattle.gr_text.specs.LineReading.{IsWithout, IsFirst, behind_mark, cut_at, same, short_of, IsWord, first_of, space_said, scope_said, order_said, flags_said}
 use Rattle.std.proofs.lemmas.Fmt.{decimal_by_steps}
+use Rattle.std.proofs.lemmas.List.Folds.{list_all-append}
+use Rattle.std.proofs.lemmas.List.Sums.{AllPass-from_list_all, list_all-from_AllPass}
 use Rattle.gr_model.specs.declared.event.Space.{Space}
 use Rattle.gr_model.specs.declared.event.Scope.{Scope}
 use Rattle.gr_model.specs.declared.event.Order.{Order}
@@ -37,25 +40,24 @@ module _ (mark : ℕ) where
   first_found [] = refl
   first_found (b ∷ bytes) = let ih = first_found bytes in grind (arith, nat_tests)
 
+  -- the same in a form that `grind` finds
+  pub cut_told : (bytes : List ℕ) → (cut_at mark bytes ≡ cut_at mark bytes) × (bytes ≡ (cut_at mark bytes).0 ++ behind_mark mark (cut_at mark bytes).1)
+  cut_told bytes = (refl, first_found bytes)
+
 -- ---- bytes of one kind
 
 -- each byte passes this test
 abbrev pub are : (ℕ → Bool) → List ℕ → Bool
-are p [] = true
-are p (b ∷ bytes) = p b && are p bytes
+are p bytes = list_all p bytes
 
 pub are-append : (p : ℕ → Bool) (a b : List ℕ) → are p a ≡ true → are p b ≡ true → are p (a ++ b) ≡ true
-are-append p [] b h k = k
-are-append p (x ∷ a) b h k = let t = and_parts _ _ h in and_from _ _ t.0 (are-append p a b t.1 k)
+are-append p a b h k = list_all-append p a b ∙ and_from _ _ h k
 
 pub are_weaker : (p q : ℕ → Bool) → ((b : ℕ) → p b ≡ true → q b ≡ true) → (bytes : List ℕ) → are p bytes ≡ true → are q bytes ≡ true
-are_weaker p q weaker [] h = refl
-are_weaker p q weaker (b ∷ bytes) h = let t = and_parts _ _ h in and_from _ _ (weaker b t.0) (are_weaker p q weaker bytes t.1)
+are_weaker p q weaker bytes h = list_all-from_AllPass q bytes (λ k d lt. weaker _ (AllPass-from_list_all p bytes h k d lt))
 
 pub are_without : (p : ℕ → Bool) (mark : ℕ) → p mark ≡ false → (bytes : List ℕ) → are p bytes ≡ true → IsWithout mark bytes
-are_without p mark isnt [] h k d lt = absurd (omega arith)
-are_without p mark isnt (b ∷ bytes) h zero d lt = λ e. both_ways _ (ap p e ∙ isnt) (and_parts _ _ h).0
-are_without p mark isnt (b ∷ bytes) h (suc k) d lt = are_without p mark isnt bytes (and_parts _ _ h).1 k d (omega arith)
+are_without p mark isnt bytes h k d lt = λ e. both_ways _ (ap p e ∙ isnt) (AllPass-from_list_all p bytes h k d lt)
 
 abbrev pub is_digit : ℕ → Bool
 is_digit b = nat_le 48 b && nat_lt b 58

@@ -19,10 +19,10 @@ use Rattle.gr_text.specs.declared.line.Line.TheVariants as lines
 use Rattle.gr_record.specs.Reading.{is_naming_ok, is_order_ok}
 use Rattle.gr_record.specs.Spelling.{IsHeader, AreNamesOf}
 use Rattle.gr_text.specs.LineText.{space_word, scope_word, order_word, version_words, names_words, first_word, later_words, later_text, line_text}
-use Rattle.gr_text.specs.LineReading.{same, number_of, short_of, cut_at, behind_space, first_of, ◌>>=◌, at_end, space_said, scope_said, order_said, flags_said, header_said, header_made, version_said, name_said, names_said, kind_said, atomic_said, barrier_said, event_said, checked, end_said, line_said}
+use Rattle.gr_text.specs.LineReading.{same, number_of, short_of, behind_space, first_of, ◌>>=◌, at_end, space_said, scope_said, order_said, flags_said, header_said, header_made, version_said, name_said, names_said, kind_said, atomic_said, barrier_said, event_said, checked, end_said, line_said}
 use Rattle.gr_text.specs.LineLaws.{IsSaid, ReadIsText}
 use Rattle.gr_text.proofs.LineNumbers.{each_some, number_told, same_is, same_told}
-use Rattle.gr_text.proofs.LineWords.{first_found}
+use Rattle.gr_text.proofs.LineWords.{cut_told, first_found}
 
 -- ---- steps that did not fail
 
@@ -50,15 +50,9 @@ short_found word n e = grind (arith, nat_tests, number_told)
 pub short_told : (word : List ℕ) → (short_of word ≡ short_of word) × IfSome (short_of word) (λ n. (word ≡ decimal n) × (n < 2 ^ 16))
 short_told word = (refl, each_some (short_of word) _ (short_found word))
 
-space_found : (word : List ℕ) (s : Space) → space_said word ≡ Some s → word ≡ space_word s
-unfolding space_said
-space_found word s e = grind (arith, same_told)
-
 space_told : (word : List ℕ) → (space_said word ≡ space_said word) × IfSome (space_said word) (λ s. word ≡ space_word s)
-space_told word = (refl, each_some (space_said word) _ (space_found word))
-
-first_told : (bytes : List ℕ) → (cut_at 32 bytes ≡ cut_at 32 bytes) × (bytes ≡ (cut_at 32 bytes).0 ++ behind_space (cut_at 32 bytes).1)
-first_told bytes = (refl, first_found 32 bytes)
+unfolding space_said
+space_told word = (refl, grind (arith, same_told))
 
 -- a word, and what comes after its space
 word_found : {X : Type 0} (bytes : List ℕ) (f : List ℕ → Option X) (x : X) → ((first_of bytes).1 >>= f) ≡ Some x → (rest : List ℕ) × (bytes ≡ (first_of bytes).0 ++ 32 ∷ rest) × (f rest ≡ Some x)
@@ -95,7 +89,7 @@ header_found bytes h e =
 
 name_found : (bytes : List ℕ) (x : Name × Option (List ℕ)) (words : List (List ℕ)) → name_said bytes ≡ Some x → behind_space x.1 ≡ later_text words → bytes ≡ codes "<" ++ later_text (decimal x.0.at.group ∷ decimal x.0.at.item ∷ decimal x.0.release ∷ words)
 unfolding name_said
-name_found bytes x words e behind = grind (arith, first_told, short_told, number_told, same_told)
+name_found bytes x words e behind = grind (arith, cut_told, short_told, number_told, same_told)
 
 names_found : (rest : Option (List ℕ)) (most : ℕ) (names : List Name) → names_said rest most ≡ Some names → behind_space rest ≡ later_text (names_words names)
 unfolding names_said
@@ -130,19 +124,19 @@ kind_ok : (key : List ℕ) (scope : Scope) (order : Order) (k : Kind) → kind_s
 unfolding kind_said
 kind_ok key scope order k h item space word ok = grind arith
 
-atomic_found : (key : List ℕ) (item : ℕ) (space : Space) (word : ℕ) (bytes : List ℕ) → word < 2 ^ 32 → (e : Event) → atomic_said key item space word bytes ≡ Some e → Said item (key ++ 32 ∷ (space_word space ++ 32 ∷ (decimal word ++ 32 ∷ bytes))) e
-unfolding atomic_said scope_said order_said Said
-atomic_found key item space word bytes lt e h =
-    let a : (s : Scope) × (o : Order) × (kind_said key s o ≡ Some e.kind) × (bytes ≡ scope_word s ++ later_text (order_word o ∷ names_words e.names)) × IsNamingOk e.kind e.names × (item ≡ e.item) × (space ≡ e.space) × (word ≡ e.word) = grind (arith, first_told, same_told, naming_told, names_told) in
-    (rw (a.3, a.5, a.6, a.7) (kind_found key a.0 a.1 e.kind a.2 e), rw a.7 at lt, a.4, kind_ok key a.0 a.1 e.kind a.2 e.item e.space e.word)
-
 atomic_told : (key : List ℕ) (item : ℕ) (space : Space) (word : ℕ) (bytes : List ℕ) → word < 2 ^ 32 → (atomic_said key item space word bytes ≡ atomic_said key item space word bytes) × IfSome (atomic_said key item space word bytes) (λ e. Said item (key ++ 32 ∷ (space_word space ++ 32 ∷ (decimal word ++ 32 ∷ bytes))) e)
-atomic_told key item space word bytes lt = (refl, each_some (atomic_said key item space word bytes) _ (atomic_found key item space word bytes lt))
+unfolding atomic_said scope_said order_said Said
+atomic_told key item space word bytes lt = (
+  refl,
+  each_some (atomic_said key item space word bytes) _ (λ e h.
+      let a : (s : Scope) × (o : Order) × (kind_said key s o ≡ Some e.kind) × (bytes ≡ scope_word s ++ later_text (order_word o ∷ names_words e.names)) × IsNamingOk e.kind e.names × (item ≡ e.item) × (space ≡ e.space) × (word ≡ e.word) = grind (arith, cut_told, same_told, naming_told, names_told) in
+      (rw (a.3, a.5, a.6, a.7) (kind_found key a.0 a.1 e.kind a.2 e), rw a.7 at lt, a.4, kind_ok key a.0 a.1 e.kind a.2 e.item e.space e.word)),
+)
 
 module _ (item : ℕ) (bytes key b c : List ℕ) (e : Event) (first : bytes ≡ key ++ 32 ∷ b) (second : b ≡ (first_of b).0 ++ 32 ∷ c) where
   bar_found : same key (codes "bar") ≡ true → at_end (first_of c).1 (barrier_said item (first_of b).0 (first_of c).0) ≡ Some e → Said item bytes e
   unfolding barrier_said flags_said Said
-  bar_found is h = grind (arith, first_told, number_told, same_told)
+  bar_found is h = grind (arith, cut_told, number_told, same_told)
 
   access_found : (space_said (first_of b).0 >>= λ space. number_of (first_of c).0 >>= λ word.
       cond (same key (codes "r")) (at_end (first_of c).1 (Some (record { item = item; kind = Read; space = space; word = word; names = [] })))

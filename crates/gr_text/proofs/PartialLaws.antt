@@ -1,5 +1,5 @@
 -- What bytes have before their first fault, as loops find it, and that their text is the text of that.
-use Rattle.std.proofs.Common.{◌≡◌, ℕ, suc, ◌+◌, List, [], ◌++◌, length, map, Option, Some, None, Result, Ok, Err, refl, sym, ap, ◌∙◌, append_assoc, arith, inl, inr, ◌⊎◌, zero, ◌∷◌, subst, IfSome, IsOk, flat_map, ◌==◌}
+use Rattle.std.proofs.Common.{◌≡◌, ℕ, suc, ◌+◌, List, [], ◌++◌, length, map, Option, Ok, Err, refl, sym, ap, ◌∙◌, append_assoc, arith, inl, inr, ◌⊎◌, zero, ◌∷◌, subst, IfSome, IsOk, flat_map, ◌==◌}
 use Rattle.std.proofs.lemmas.Bool.{cases_Bool}
 use Rattle.std.proofs.lemmas.List.{append-nil, nil_from_length}
 use Rattle.std.proofs.lemmas.List.Concat.{flat_map-append}
@@ -17,7 +17,6 @@ use Rattle.gr_text.specs.Texts.{header_line, record_line, whole_line, ◌>>=◌}
 use Rattle.gr_text.specs.Partial.{front_at, lines_before, text_before_fault, WholeStreamsStandWhole, IsRefusedAtHeader, IsRefusedBehind, StandsBefore, RefusedIsToldUpToItsFault}
 use Rattle.std.proofs.lemmas.List.Elements.{All-cons, All-nil}
 use Rattle.std.specs.Io.KnownBytes.{Appends}
-use Rattle.gr_record.specs.declared.fault.Fault.{Fault}
 use Rattle.gr_record.specs.declared.fault.Fault.TheVariants as faults
 use Rattle.gr_record.proofs.FoundPrefixes.{events_sited, records_found}
 use Rattle.gr_model.specs.Streams.{is_complete}
@@ -147,9 +146,4 @@ refused_is_told bytes place e fits k =
 
 -- the text before the fault is all, where known bytes have no fault
 pub all_written : (known : Option (List ℕ)) (bytes text : List ℕ) (old new : Option (List ℕ)) → IfSome known (λ b. bytes ≡ b) → IsOk (dumped bytes) → text ≡ text_before_fault bytes → Appends old new text → IfSome known (λ b. Writes (dumped b) old new)
-all_written None bytes text old new read good is written = tt
-all_written (Some b) bytes text old new read good is written = by_meaning (dumped b) refl (rw read at good)
-  where
-    by_meaning : (r : Result (List ℕ) Fault) → dumped b ≡ r → IsOk r → Writes (dumped b) old new
-    by_meaning (Err f) at ok = absurd cc
-    by_meaning (Ok out) at ok = (out, at, subst (Appends old new) (is ∙ ap text_before_fault read ∙ whole_streams_stand_whole b out at) written)
+all_written known bytes text old new read good is written = let whole = whole_streams_stand_whole bytes in grind (arith, whole)

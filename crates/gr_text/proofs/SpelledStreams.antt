@@ -1,8 +1,8 @@
 -- The bytes of whole streams are dumped and their text is packed; and what is packed is dumped again, what is dumped packed again.
 use Rattle.std.proofs.Common.{◌≡◌, ℕ, zero, suc, ◌+◌, ◌≤◌, false, List, [], ◌∷◌, ◌++◌, length, All, Ok, refl, sym, ap, ◌∙◌, append_assoc, arith, inl, inr, IsTrue, true≢false, ◌-◌, ◌^◌, ◌<◌, map, take_at, drop_at, length-append, append-nil, flat_map}
-use Rattle.std.specs.Prelude.{◌==◌, ⊤}
+use Rattle.std.specs.Prelude.{◌==◌}
 use Rattle.std.proofs.lemmas.Bool.{le-ltb, ne_eqb, cases_Bool, and_parts, ltb-true, lt-leb}
-use Rattle.std.proofs.lemmas.List.Elements.{All-head, All-tail}
+use Rattle.std.proofs.lemmas.List.Elements.{All-append, All-cons, All-head, All-nil, All-tail}
 use Rattle.gr_model.specs.declared.event.Event.{Event}
 use Rattle.gr_model.specs.declared.limits.TheConstants.{MOST_ITEMS_OF_A_GROUP, MOST_RECORDS}
 use Rattle.gr_model.specs.Events.{is_end}
@@ -109,33 +109,34 @@ line_before (b ∷ l) rest h =
     let p = and_parts _ _ h in
     rw (ne_eqb b 10 (λ e. absurd (omega (arith, ltb-true 10 b p.0))), line_before l rest p.1) refl
 
-abbrev AreSaid : List SitedLine → Type 0
-AreSaid [] = ⊤
-AreSaid (x ∷ xs) = (IsSaid Four x.line × (x.site < 2 ^ 16)) × AreSaid xs
+-- a line of some stream
+abbrev IsOfSome : SitedLine → Type 0
+IsOfSome x = IsSaid Four x.line × (x.site < 2 ^ 16)
 
-said-append : (xs ys : List SitedLine) → AreSaid xs → AreSaid ys → AreSaid (xs ++ ys)
-said-append [] ys h k = k
-said-append (x ∷ xs) ys h k = (h.0, said-append xs ys h.1 k)
-
-lines_back : (xs : List SitedLine) → AreSaid xs → lines_of (flat_map whole_line xs) ≡ map sited_text xs
+lines_back : (xs : List SitedLine) → All IsOfSome xs → lines_of (flat_map whole_line xs) ≡ map sited_text xs
 unfolding lines_of
 lines_back [] h = refl
-lines_back (x ∷ xs) h = line_before (sited_text x) (flat_map whole_line xs) (sited_above Four x h.0.0 h.0.1) ∙ ap (λ (v : List (List ℕ)). sited_text x ∷ v) (lines_back xs h.1)
+lines_back (x ∷ xs) h =
+    let said = All-head IsOfSome x xs h in
+    line_before (sited_text x) (flat_map whole_line xs) (sited_above Four x said.0 said.1) ∙ ap (λ (v : List (List ℕ)). sited_text x ∷ v) (lines_back xs (All-tail IsOfSome x xs h))
 
 event_said : (items most : ℕ) (e : Event) → items ≤ most → IsEvent items e → IsEvent most e
 event_said items most e few ok = record { ok = (omega (arith, ok.ok.0), ok.ok.1, ok.ok.2); word = ok.word }
 
-records_said : (h : Header) (rs : List Sited) → h.items ≤ MOST_ITEMS_OF_A_GROUP → Runs h rs → AreSaid (map record_line rs)
-records_said h [] few runs = tt
+records_said : (h : Header) (rs : List Sited) → h.items ≤ MOST_ITEMS_OF_A_GROUP → Runs h rs → All IsOfSome (map record_line rs)
+records_said h [] few runs = All-nil IsOfSome
 records_said h (r ∷ rs) few runs =
     let ok = runs.0.event in
-    (((event_said h.items MOST_ITEMS_OF_A_GROUP r.event few ok, each_in_range r.event.kind r.event.names ok.ok.1), runs.0.site.0), records_said h rs few runs.2)
+    All-cons IsOfSome (record_line r) (map record_line rs)
+    ((event_said h.items MOST_ITEMS_OF_A_GROUP r.event few ok, each_in_range r.event.kind r.event.names ok.ok.1), runs.0.site.0)
+    (records_said h rs few runs.2)
 
-streams_said : (ss : List WholeStream) → All IsWhole ss → AreSaid (flat_map parts_in ss)
-streams_said [] whole = tt
+streams_said : (ss : List WholeStream) → All IsWhole ss → All IsOfSome (flat_map parts_in ss)
+streams_said [] whole = All-nil IsOfSome
 streams_said (s ∷ ss) whole =
     let w = All-head IsWhole s ss whole in
-    ((w.prefix.header, omega arith), said-append (map record_line s.records) (flat_map parts_in ss) (records_said s.header s.records (header_items s.header w.prefix.header) w.prefix.runs) (streams_said ss (All-tail IsWhole s ss whole)))
+    let records = records_said s.header s.records (header_items s.header w.prefix.header) w.prefix.runs in
+    All-append IsOfSome (parts_in s) (flat_map parts_in ss) (All-cons IsOfSome _ _ (w.prefix.header, omega arith) records) (streams_said ss (All-tail IsWhole s ss whole))
 
 -- ---- line by line
 

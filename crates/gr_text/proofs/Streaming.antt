@@ -7,7 +7,6 @@ use Rattle.gr_model.specs.declared.event.Event.{Event}
 use Rattle.gr_model.specs.declared.limits.TheConstants.{MOST_RECORDS}
 use Rattle.gr_model.specs.Streams.{is_complete}
 use Rattle.gr_record.specs.declared.error.RecordError.{RecordError}
-use Rattle.gr_record.specs.declared.error.RecordError.TheVariants as errors
 use Rattle.gr_record.specs.declared.fault.Fault.{Fault}
 use Rattle.gr_record.specs.declared.fault.Fault.TheVariants as faults
 use Rattle.gr_record.specs.declared.header.Header.{Header}
@@ -20,7 +19,7 @@ use Rattle.gr_record.specs.Reading.{header_at}
 use Rattle.gr_record.specs.Sites.{all_sited}
 use Rattle.gr_record.specs.Spelling.{IsHeader, header_spelling, events_spelling}
 use Rattle.gr_record.specs.WholeStreams as record_spec
-use Rattle.gr_record.specs.WholeStreams.{behind_records_at, front_header_at, front_records_at, up_to, stream_spelling}
+use Rattle.gr_record.specs.WholeStreams.{front_header_at, front_records_at, stream_spelling}
 use Rattle.gr_record.proofs.Found.{read_header_is_spelled}
 use Rattle.gr_record.proofs.FoundPrefixes.{is_at_end, records_found, events_sited}
 use Rattle.gr_record.proofs.Places.{bytes_drop}
@@ -37,8 +36,7 @@ use Rattle.gr_text.specs.Wholes.{IsWhole, bytes_of, text_of, DumpedAreStreams}
 
 -- where memory suffices, the error in its place is that of the whole
 pub fault_at-fails : {X Y : Type 0} (place : ℕ) (e : RecordError) (read : Result X RecordError) (whole : Result Y Fault) → record_spec.Fails e read → (read ≡ Err e → whole ≡ Err (faults.Stream place e)) → Fails (stream_fault place e) whole
-fault_at-fails place errors.Memory read whole h go = tt
-fault_at-fails place e read whole h go = go h
+fault_at-fails place e read whole h go = grind arith
 
 -- ---- what is read is spelled so
 

@@ -9,7 +9,7 @@ use Rattle.gr_text.specs.declared.line.SitedLine.{SitedLine}
 use Rattle.gr_record.specs.Sites.{Sited, all_sited}
 use Rattle.gr_record.specs.declared.header.Header.{Header}
 use Rattle.gr_record.specs.declared.header.Version.{Version}
-use Rattle.gr_record.specs.declared.header.Version.TheVariants.{One, Two, Three, Four}
+use Rattle.gr_record.specs.declared.header.Version.TheVariants.{One, Two}
 use Rattle.gr_record.specs.Spelling.{header_spelling, event_spelling}
 use Rattle.gr_record.specs.WholeStreams.{front_header_at, front_records_at}
 use Rattle.gr_text.specs.declared.forming.Form.{Form}
@@ -52,9 +52,7 @@ streams_in bytes = streams_at (length bytes) 0 bytes
 -- the version that streams of this one are upgraded to: version 2 for version 1, and no other for the rest
 abbrev pub raised : Version → Version
 raised One = Two
-raised Two = Two
-raised Three = Three
-raised Four = Four
+raised v = v
 
 -- the header of the same stream, upgraded
 abbrev pub upgraded_header : Header → Header

@@ -54,13 +54,8 @@ atomic_words kind scope order e = kind ∷ space_word e.space ∷ decimal e.word
 
 -- the first word: the item, but for an end
 abbrev pub first_word : Kind → ℕ → List ℕ
-first_word Read item = decimal item
-first_word Write item = decimal item
-first_word (Load scope order) item = decimal item
-first_word (Store scope order) item = decimal item
-first_word (Rmw scope order) item = decimal item
-first_word (Barrier global local) item = decimal item
 first_word (End cut) item = codes "end"
+first_word _ item = decimal item
 
 -- the words after it
 abbrev pub later_words : Kind → Event → List (List ℕ)

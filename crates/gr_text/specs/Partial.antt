@@ -10,7 +10,7 @@ use Rattle.gr_record.specs.declared.error.RecordError.{RecordError}
 use Rattle.gr_record.specs.declared.fault.Fault.TheVariants as faults
 use Rattle.gr_record.specs.declared.header.Header.{Header}
 use Rattle.gr_record.specs.declared.stop.Stop.{Stop}
-use Rattle.gr_record.specs.declared.stop.Stop.TheVariants.{Inside, AtEnd, AtFault}
+use Rattle.gr_record.specs.declared.stop.Stop.TheVariants.{AtEnd}
 use Rattle.gr_record.specs.Fronts.{records_of}
 use Rattle.gr_record.specs.Laws.{AreBytes}
 use Rattle.gr_record.specs.PrefixLaws.{IsPrefix}
@@ -30,9 +30,8 @@ pub record Front : Type 0 where
 
 -- the bytes that are left after an end
 abbrev pub behind_end : Stop → List ℕ → Option (List ℕ)
-behind_end Inside rest = None
 behind_end AtEnd rest = Some rest
-behind_end (AtFault e) rest = None
+behind_end _ rest = None
 
 -- a stream from its header on, where one is read: its records as far as they are read
 abbrev pub front_behind : Result (Header × List ℕ) RecordError → Front

@@ -62,9 +62,8 @@ record_at n h left r =
 -- what line n says at a place, and the place after it: outside of streams a header is due, and in one a record
 abbrev pub said_at : ℕ → Place → Line → ℕ → Result (SitedLine × Place) Fault
 said_at n Outside (lines.Header h) site = Ok (record { line = lines.Header h; site = site }, Inside h MOST_RECORDS)
-said_at n Outside (lines.Event e) site = Err (faults.BadLine n)
-said_at n (Inside h left) (lines.Header g) site = Err (faults.BadLine n)
 said_at n (Inside h left) (lines.Event e) site = record_at n h left (record { event = e; site = site })
+said_at n _ _ site = Err (faults.BadLine n)
 
 abbrev pub line_at : ℕ → Place → Option SitedLine → Result (SitedLine × Place) Fault
 line_at n place None = Err (faults.BadLine n)

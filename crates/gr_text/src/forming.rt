@@ -81,9 +81,7 @@ fn upgrade_header(header: Header) -> Header
 {
     Header {
         version: raise(header.version),
-        group: header.group,
-        items: header.items,
-        launch: header.launch,
+        ..header
     }
 }
 

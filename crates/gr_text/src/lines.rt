@@ -7,14 +7,12 @@ use crate::words::split_at_mark;
 
 /// The first line of a text without its line feed, and the text after it.
 /// Requires: the text is not empty.
+#[tactic(auto, using(crate::proofs::Splitting::first_line))]
 pub fn split_line(text: &[u8]) -> (&[u8], &[u8])
     requires { 0 < length text.now }
     ensures lines { lines_of text.now ≡ result.0.now ∷ lines_of result.1.now }
     ensures shorter { length result.1.now < length text.now }
 {
     let (line, rest) = split_at_mark(text, b'\n');
-    match rest {
-        None => (line, &text[text.len()..]),
-        Some(rest) => (line, rest),
-    }
+    (line, rest.unwrap_or(&[]))
 }

@@ -2,7 +2,7 @@
 
 ghost use Rattle.std.specs.Prelude.{◌≡◌, ◌≢◌, ◌^◌, ◌<◌, ◌++◌, ℕ, List, Some, None, IfSome, MatchOption, All, decimal, ◌≤◌, take, []};
 ghost use Rattle.std.specs.Option.{option_map};
-ghost use Rattle.gr_text.specs.LineReading.{behind_space, space_said, scope_said, order_said, flags_said, header_made, header_said, version_said, name_said, names_said, kind_said, atomic_said, barrier_said, event_said, checked, line_said, unspaced, site_said, sited_said};
+ghost use Rattle.gr_text.specs.LineReading.{at_end, space_said, scope_said, order_said, flags_said, header_made, header_said, version_said, name_said, names_said, kind_said, atomic_said, barrier_said, event_said, checked, line_said, unspaced, site_said, sited_said};
 ghost use Rattle.gr_text.specs.declared.line.Line.{Line};
 ghost use Rattle.gr_text.specs.declared.line.SitedLine.{SitedLine};
 ghost use Rattle.gr_text.specs.LineText.{line_text, sited_text};
@@ -156,6 +156,7 @@ fn parse_name(bytes: &[u8]) -> Option<(Name, Option<&[u8]>)>
 }
 
 /// The names after an acquire's order, if there are some, and how many places of the array they take.
+#[tactic(auto, unfolding(crate::specs::LineReading::names_said))]
 fn parse_names(bytes: Option<&[u8]>) -> Option<([Name; MOST_NAMES], usize)>
     ensures few { IfSome result (λ x. x.1 ≤ MOST_NAMES) }
     ensures names { option_map (λ x. take x.1 x.0) result ≡ names_said (option_map (λ rest. rest.now) bytes.entry) MOST_NAMES }
@@ -212,21 +213,6 @@ fn parse_atomic(kind: &[u8], item: u16, space: Space, word: u32, bytes: &[u8]) -
     })
 }
 
-#[tactic(auto, unfolding(crate::specs::LineReading::barrier_said))]
-fn parse_barrier(item: u16, site: &[u8], flags: &[u8]) -> Option<Event>
-    ensures { result ≡ barrier_said item site.now flags.now }
-{
-    let word = parse_number(site)?;
-    let (global, local) = parse_flags(flags)?;
-    Some(Event {
-        item,
-        kind: Kind::Barrier { global, local },
-        space: Space::Global,
-        word,
-        names: Names::none(),
-    })
-}
-
 /// A record that carries no name.
 fn plain(item: u16, kind: Kind, space: Space, word: u32) -> Event
     ensures { result ≡ record { item = item; kind = kind; space = space; word = word; names = [] } }
@@ -240,6 +226,23 @@ fn plain(item: u16, kind: Kind, space: Space, word: u32) -> Event
     }
 }
 
+#[tactic(auto, unfolding(crate::specs::LineReading::barrier_said))]
+fn parse_barrier(item: u16, site: &[u8], flags: &[u8]) -> Option<Event>
+    ensures { result ≡ barrier_said item site.now flags.now }
+{
+    let word = parse_number(site)?;
+    let (global, local) = parse_flags(flags)?;
+    let kind = Kind::Barrier { global, local };
+    Some(plain(item, kind, Space::Global, word))
+}
+
+/// The event, if nothing comes after it.
+fn at_end(rest: Option<&[u8]>, event: Option<Event>) -> Option<Event>
+    ensures { result ≡ at_end (option_map (λ rest. rest.now) rest.entry) event }
+{
+    if rest.is_some() { None } else { event }
+}
+
 /// The record of a line, from the words after the item.
 #[tactic(auto, unfolding(crate::specs::LineReading::event_said))]
 fn parse_event(item: u16, bytes: &[u8]) -> Option<Event>
@@ -249,27 +252,15 @@ fn parse_event(item: u16, bytes: &[u8]) -> Option<Event>
     let (second, rest) = split_word(rest?);
     let (third, rest) = split_word(rest?);
     if is_word(kind, "bar") {
-        return if rest.is_some() {
-            None
-        } else {
-            parse_barrier(item, second, third)
-        };
+        return at_end(rest, parse_barrier(item, second, third));
     }
     let space = parse_space(second)?;
     let word = parse_number(third)?;
     if is_word(kind, "r") {
-        return if rest.is_some() {
-            None
-        } else {
-            Some(plain(item, Kind::Read, space, word))
-        };
+        return at_end(rest, Some(plain(item, Kind::Read, space, word)));
     }
     if is_word(kind, "w") {
-        return if rest.is_some() {
-            None
-        } else {
-            Some(plain(item, Kind::Write, space, word))
-        };
+        return at_end(rest, Some(plain(item, Kind::Write, space, word)));
     }
     parse_atomic(kind, item, space, word, rest?)
 }
@@ -336,7 +327,7 @@ fn parse_site(word: &[u8]) -> Option<u16>
 
 /// What a line of a stream of this version says, with the site at its end.
 #[tactic(auto, unfolding(crate::specs::LineReading::sited_said))]
-fn read_sited_line(version: Version, line: &[u8]) -> Option<SitedLine>
+pub(crate) fn read_sited_line(version: Version, line: &[u8]) -> Option<SitedLine>
     ensures { result ≡ sited_said version line.now }
 {
     let (before, behind) = split_at_mark(line, b'@');
@@ -370,6 +361,7 @@ pub fn parse_line(line: &[u8]) -> Option<Line>
 
 /// What a line says, given without its line feed, or `None` if the text form of a stream of this version has no such line
 /// (docs/FORMATS.md, "Text form"). A header is read whatever its own version is.
+#[tactic(auto, using(crate::proofs::LineSites::line_told, crate::proofs::LinesAgain::text_is_read))]
 pub fn parse_line_of(version: Version, line: &[u8]) -> Option<Line>
     // What is read has this line.
     ensures found { IfSome result (λ l. IsSaid version l × (line.now ≡ line_text l)) }
@@ -381,6 +373,7 @@ pub fn parse_line_of(version: Version, line: &[u8]) -> Option<Line>
 
 /// What a line says with its site, given without its line feed, or `None` if the text form of a stream of this version has
 /// no such line (docs/FORMATS.md, "Text form"). A header is read whatever its own version is, and has no site.
+#[tactic(auto, using(crate::proofs::LineSites::sited_told, crate::proofs::LineSites::sited_text_is_read))]
 pub fn parse_sited_line(version: Version, line: &[u8]) -> Option<SitedLine>
     // What is read has this line.
     ensures found { IfSome result (λ l. IsSitedSaid version l × (line.now ≡ sited_text l)) }

@@ -6,7 +6,7 @@ ghost use Rattle.gr_text.specs.LineReading.{sited_said};
 ghost use Rattle.gr_text.specs.Texts.{HasRoom, version_at, record_at, line_at};
 
 use crate::line::{Line, SitedLine};
-use crate::parsing::parse_sited_line;
+use crate::parsing::read_sited_line;
 use gr_model::event::Event;
 use gr_model::limits::MOST_RECORDS;
 use gr_record::fault::Fault;
@@ -94,10 +94,11 @@ fn take_said(
 /// # Errors
 /// `BadLine` with the number if the place needs another line; else `LongStream` with the number if the line is one
 /// record more than a stream may have.
+#[tactic(auto, using(crate::proofs::LineSites::sited_told, crate::proofs::Steps::line_at_told))]
 pub fn take_line(number: u64, place: Place, line: &[u8]) -> Result<(SitedLine, Place), Fault>
     ensures exact { result ≡ line_at number place (sited_said (version_at place) line.now) }
     ensures said { IfOk result (λ x. IsSitedSaid (version_at place) x.0) }
     ensures room { IfOk result (λ x. HasRoom (version_at place) x.0.line) }
 {
-    take_said(number, place, parse_sited_line(place.version(), line))
+    take_said(number, place, read_sited_line(place.version(), line))
 }

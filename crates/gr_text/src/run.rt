@@ -25,14 +25,8 @@ fn write_all<W: Write>(writer: &mut W, bytes: &[u8]) -> Result<(), Fault>
     ensures prefix { IfErr result (λ _. AppendsPrefix (W.contents writer.old) (W.contents writer.new) bytes.now) }
     ensures fault { IfErr result (λ f. f ≡ faults.Write) }
 {
-    match put(writer, bytes) {
-        Ok(()) => {}
-        Err(_) => return Err(Fault::Write),
-    }
-    match finish(writer) {
-        Ok(()) => Ok(()),
-        Err(_) => Err(Fault::Write),
-    }
+    put(writer, bytes).map_err(|_| Fault::Write)?;
+    finish(writer).map_err(|_| Fault::Write)
 }
 
 /// Reads a text to its end, and writes the bytes of its streams, one stream after another.

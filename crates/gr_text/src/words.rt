@@ -48,6 +48,7 @@ fn first_place(bytes: &[u8], mark: u8) -> Option<usize>
 }
 
 /// What comes before the first byte that is this one, and what comes after it, if there is one.
+#[tactic(auto, using(crate::proofs::LineWords::first_whole, crate::proofs::LineWords::first_cut, std::proofs::lemmas::List::take_rest))]
 pub(crate) fn split_at_mark(bytes: &[u8], mark: u8) -> (&[u8], Option<&[u8]>)
     ensures { (result.0.now, option_map (λ rest. rest.now) result.1) ≡ cut_at mark bytes.now }
 {

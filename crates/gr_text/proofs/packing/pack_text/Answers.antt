@@ -3,9 +3,8 @@ use Rattle.std.proofs.lemmas.Result.{err_from_is_err_and}
 use Rattle.gr_record.proofs.Outside.{fails}
 use Rattle.gr_text.specs.LineReading.{sited_said}
 use Rattle.gr_text.specs.Texts.{said_from, version_at}
-use Rattle.gr_text.proofs.Saying.{regroup}
 use Rattle.gr_text.proofs.Splitting.{no_line}
-use Rattle.gr_text.proofs.Steps.{line_at_ok}
+use Rattle.gr_text.proofs.Steps.{line_at_ok, regroup}
 use Rattle.gr_text.proofs.packing.pack_text.Goals as goal
 
 pub returns-in_err-said-clause-exact : goal.returns-in_err-said-clause-exact

@@ -1,7 +1,7 @@
 use Rattle.std.proofs.Common.{◌≡◌, ◌+◌, ◌≤◌, length}
 use Rattle.gr_text.specs.Lines.{lines_of}
 use Rattle.gr_text.specs.Texts.{version_at, said_from, packed}
-use Rattle.gr_text.proofs.Saying.{bytes_behind}
+use Rattle.gr_text.proofs.Steps.{bytes_behind}
 use Rattle.gr_text.proofs.packing.pack_text.Given as goal
 
 abbrev pub invariant-loop-rest : goal.invariant-loop-rest
