@@ -76,8 +76,7 @@ either_header (Some h) before = Some h
 -- the bytes that are kept for what is not whole yet
 abbrev pub held_at : Stop → List ℕ → List ℕ
 held_at Inside rest = rest
-held_at AtEnd rest = []
-held_at (AtFault e) rest = []
+held_at _ rest = []
 
 -- what is kept of the bytes of a stream
 abbrev pub standing : ℕ → Reading → Standing
@@ -128,8 +127,7 @@ pub record IsStanding (d : Standing) : Type 0 where
 -- the bytes that are missing to a whole header or record
 abbrev pub missing_at : Stop → Option Header → List ℕ → ℕ
 missing_at Inside header held = unit_length header - length held
-missing_at AtEnd header held = 0
-missing_at (AtFault e) header held = 0
+missing_at _ header held = 0
 
 abbrev pub missing : Standing → ℕ
 missing d = missing_at d.stop d.header d.held

@@ -118,13 +118,9 @@ names_at version bytes = names_in (places version) (drop 12 bytes)
 
 -- a load does not release, and a store does not acquire
 abbrev pub is_order_ok : Kind → Bool
-is_order_ok Read = true
-is_order_ok Write = true
 is_order_ok (Load scope order) = not (releases order)
 is_order_ok (Store scope order) = not (acquires order)
-is_order_ok (Rmw scope order) = true
-is_order_ok (Barrier global local) = true
-is_order_ok (End cut) = true
+is_order_ok _ = true
 
 -- a name that some launch could have whose streams are of this version
 abbrev pub is_in_range : Version → Name → Bool

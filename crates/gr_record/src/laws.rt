@@ -20,11 +20,13 @@ pub fn read_is_spelled()
 {}
 
 /// Bytes after a fault change neither the fault nor the parts before it.
+#[tactic(auto, using(crate::proofs::Resuming::fault_stays))]
 pub fn fault_stays()
     ensures { FaultStays }
 {}
 
 /// The bytes that spell a record are not the start of those that spell another, nor of those of another site.
+#[tactic(auto, using(crate::proofs::Spelled::no_spelling_begins_another))]
 pub fn no_spelling_begins_another()
     ensures { NoSpellingBeginsAnother }
 {}

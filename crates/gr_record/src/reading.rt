@@ -3,8 +3,8 @@
 //! A record's fields are judged from the left, so that the first fault is returned (docs/FORMATS.md, "Faults of a whole
 //! record").
 
-ghost use Rattle.std.specs.Prelude.{◌≡◌, ◌≤◌, ◌*◌, ◌||◌, ◌==◌, IsTrue, None, Some, if◌then◌else◌, [], length, nat_le, nat_lt, take};
-ghost use Rattle.gr_record.specs.Versions.{has_sites, record_length, most_groups, most_items};
+ghost use Rattle.std.specs.Prelude.{◌≡◌, ◌≤◌, ◌*◌, ◌||◌, ◌==◌, IsTrue, None, Some, if◌then◌else◌, [], length, take};
+ghost use Rattle.gr_record.specs.Versions.{has_sites, record_length};
 ghost use Rattle.gr_record.specs.Reading.{field, version_of, header_at, header_behind, is_field_ok, bad_field, site_at, space_of, scope_of, order_of, kind_of, space_at, are_unused, name_in, names_in, names_at, is_order_ok, naming, event_at};
 
 use crate::error::RecordError;
@@ -14,18 +14,6 @@ use byteorder::{ByteOrder, LittleEndian};
 use gr_model::event::{Event, ItemId, Kind, Name, Order, Scope, Space};
 use gr_model::limits::MOST_NAMES;
 use gr_model::names::Names;
-
-/// The bytes `GRT1` as one number.
-const MAGIC_ONE: u32 = 0x3154_5247;
-
-/// The bytes `GRT2` as one number.
-const MAGIC_TWO: u32 = 0x3254_5247;
-
-/// The bytes `GRT3` as one number.
-const MAGIC_THREE: u32 = 0x3354_5247;
-
-/// The bytes `GRT4` as one number.
-const MAGIC_FOUR: u32 = 0x3454_5247;
 
 const READ: u8 = 0;
 
@@ -47,15 +35,15 @@ const UNUSED: Name = Name {
     release: 0,
 };
 
-/// The version of a stream that begins with these four bytes.
+/// The version of a stream that begins with these four bytes: `GRT1` to `GRT4`, each as one number.
 fn read_version(magic: u32) -> Option<Version>
     ensures { result ≡ version_of magic }
 {
     match magic {
-        MAGIC_ONE => Some(Version::One),
-        MAGIC_TWO => Some(Version::Two),
-        MAGIC_THREE => Some(Version::Three),
-        MAGIC_FOUR => Some(Version::Four),
+        0x3154_5247 => Some(Version::One),
+        0x3254_5247 => Some(Version::Two),
+        0x3354_5247 => Some(Version::Three),
+        0x3454_5247 => Some(Version::Four),
         _ => None,
     }
 }
@@ -73,13 +61,6 @@ pub(crate) fn read_header(bytes: &[u8]) -> Result<Header, RecordError>
     read_launch(version, bytes)
 }
 
-/// Whether no launch of this version has a group of this number, or none with so many items.
-fn is_out_of_range(version: Version, group: u16, items: u16) -> bool
-    ensures { result ≡ nat_le (most_groups version) group || (items == 0) || nat_lt (most_items version) items }
-{
-    usize::from(group) >= version.most_groups() || items == 0 || items > version.most_items()
-}
-
 /// The header of this version in these bytes, or its fault.
 /// Requires: there are at least `HEADER_LENGTH` bytes.
 fn read_launch(version: Version, bytes: &[u8]) -> Result<Header, RecordError>
@@ -89,7 +70,7 @@ fn read_launch(version: Version, bytes: &[u8]) -> Result<Header, RecordError>
     let group = LittleEndian::read_u16(&bytes[4..]);
     let items = LittleEndian::read_u16(&bytes[6..]);
     let launch = LittleEndian::read_u32(&bytes[8..]);
-    if is_out_of_range(version, group, items) {
+    if usize::from(group) >= version.most_groups() || items == 0 || items > version.most_items() {
         return Err(RecordError::BadHeader);
     }
     Ok(Header {
@@ -127,6 +108,7 @@ fn has_good_site(version: Version, bytes: &[u8]) -> bool
 
 /// Whether this is no end and each byte from 1 to 11 is good, as in nearly all records.
 /// Requires: there are at least `RECORD_LENGTH` bytes.
+#[tactic(auto, using(crate::proofs::Fields::no_bad_field, std::proofs::lemmas::Bool::Decides::nat_tests))]
 fn has_good_fields(version: Version, bytes: &[u8]) -> bool
     requires { RECORD_LENGTH ≤ length bytes.now }
     ensures { IsTrue result → bad_field version bytes.now ≡ None }
@@ -142,6 +124,7 @@ fn has_good_fields(version: Version, bytes: &[u8]) -> bool
 /// The place of the first bad byte, found place by place.
 /// Requires: there are at least `RECORD_LENGTH` bytes.
 #[cold]
+#[tactic(auto, unfolding(crate::specs::Reading::bad_field_from))]
 fn find_bad_field(version: Version, bytes: &[u8]) -> Option<u8>
     requires { RECORD_LENGTH ≤ length bytes.now }
     ensures { result ≡ bad_field version bytes.now }
@@ -236,6 +219,7 @@ fn space_in(bytes: &[u8]) -> Space
 
 /// Whether the first `count` places for names are unused.
 /// Requires: there are that many places.
+#[tactic(auto, unfolding(crate::specs::Reading::are_unused))]
 fn are_unused(bytes: &[u8], count: usize) -> bool
     requires { NAME_LENGTH * count ≤ length bytes.now }
     ensures { result ≡ are_unused count bytes.now }
@@ -268,6 +252,7 @@ fn read_name(bytes: &[u8]) -> Name
 
 /// What the first `count` places have, up to those that are unused, and how many places those before them are.
 /// Requires: there are that many places, at most `MOST_NAMES`.
+#[tactic(auto, using(crate::proofs::Places::names_none), unfolding(crate::specs::Reading::names_in))]
 fn read_names(bytes: &[u8], count: usize) -> ([Name; MOST_NAMES], usize)
     requires places { NAME_LENGTH * count ≤ length bytes.now }
     requires few { count ≤ MOST_NAMES }
@@ -293,14 +278,7 @@ pub fn order_fits(kind: Kind) -> bool
     match kind {
         Kind::Load(_, order) => !order.releases(),
         Kind::Store(_, order) => !order.acquires(),
-        Kind::Read
-        | Kind::Write
-        | Kind::Rmw(_, _)
-        | Kind::Barrier {
-            global: _,
-            local: _,
-        }
-        | Kind::End { cut: _ } => true,
+        Kind::Read | Kind::Write | Kind::Rmw(..) | Kind::Barrier { .. } | Kind::End { .. } => true,
     }
 }
 

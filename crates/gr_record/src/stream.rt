@@ -18,7 +18,7 @@ use std::alloc::Allocator;
 /// # Errors
 /// The first of these that is there: `Truncated` if there are fewer bytes than a header has; `BadMagic`; `BadHeader`.
 /// It takes no memory.
-#[tactic(auto, unfolding(crate::specs::WholeStreams::front_header_at))]
+#[tactic(auto, using(crate::proofs::Judging::header_apart), unfolding(crate::specs::WholeStreams::front_header_at))]
 pub fn read_front_header(bytes: &[u8]) -> Result<(Header, &[u8]), RecordError>
     ensures exact { Gives (λ x. (x.0, x.1.now)) result (front_header_at bytes.now) }
     ensures memory { IfErr result (λ e. e ≢ errors.Memory) }

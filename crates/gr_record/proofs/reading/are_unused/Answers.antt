@@ -1,13 +1,7 @@
-use Rattle.std.proofs.Common.{◌≡◌, ◌+◌, ◌-◌, suc, sym, ◌∙◌, arith, eq-eqb, ne_eqb}
+use Rattle.std.proofs.Common.{◌≡◌, ◌+◌, ◌-◌, suc, sym, ◌∙◌, arith, eq-eqb}
 use Rattle.std.proofs.lemmas.List.{length-drop, take_rest}
 use Rattle.gr_record.specs.Reading.{are_unused}
 use Rattle.gr_record.proofs.reading.are_unused.Goals as goal
-
-pub returns-then-read_u64 : goal.returns-then-read_u64
-unfolding are_unused
-returns-then-read_u64 c =
-    let k : c.args.count - c.loop.counter ≡ suc (c.args.count - (c.loop.counter + 1)) = omega (arith, c.loop-test.true) in
-    rw (k, ne_eqb _ _ (λ e. c.if-read_u64.true (c.read_u64.ensures ∙ e))) at c.loop.invariant.1
 
 pub loop-preserved : goal.loop-preserved
 unfolding are_unused
@@ -15,9 +9,3 @@ loop-preserved c =
     let k : c.args.count - c.loop.counter ≡ suc (c.args.count - (c.loop.counter + 1)) = omega (arith, c.loop-test.true) in
     rw (take_rest c.loop.rest.now 8)
     (omega (arith, length-drop 8 c.loop.rest.now), rw (k, eq-eqb _ _ (sym c.read_u64.ensures ∙ c.if-read_u64.false)) at c.loop.invariant.1)
-
-pub returns : goal.returns
-unfolding are_unused
-returns c =
-    let k : c.args.count - c.loop.counter ≡ 0 = omega (arith, c.loop-test.false) in
-    rw k at c.loop.invariant.1

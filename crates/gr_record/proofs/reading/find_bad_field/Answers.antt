@@ -13,9 +13,3 @@ unfolding bad_field_from
 returns-then-not-may_stand c =
     let k : 12 - c.loop-place.place ≡ suc (12 - (c.loop-place.place + 1)) = omega arith in
     sym (rw (k, sym c.may_stand.ensures ∙ c.if-not-may_stand.true) at c.loop-place.invariant)
-
-pub returns : goal.returns
-unfolding bad_field_from
-returns c =
-    let k : 12 - c.loop-place.place ≡ 0 = omega arith in
-    sym (rw k at c.loop-place.invariant)
