@@ -27,8 +27,7 @@ pub fn put<W: Write>(writer: &mut W, bytes: &[u8]) -> Result<(), WriteFault>
     let mut rest = bytes;
     while !rest.is_empty() {
         match writer.write(rest) {
-            Err(_) => return Err(WriteFault),
-            Ok(0) => return Err(WriteFault),
+            Err(_) | Ok(0) => return Err(WriteFault),
             Ok(n) => rest = &rest[n..],
         }
     }
@@ -66,8 +65,5 @@ pub(crate) fn put_line<W: Write, N: Integer>(
 pub fn finish<W: Write>(writer: &mut W) -> Result<(), WriteFault>
     ensures { Keeps (W.contents writer.old) (W.contents writer.new) }
 {
-    match writer.flush() {
-        Ok(()) => Ok(()),
-        Err(_) => Err(WriteFault),
-    }
+    writer.flush().map_err(|_| WriteFault)
 }
