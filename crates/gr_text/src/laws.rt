@@ -50,6 +50,7 @@ pub fn streams_are_upgraded()
 /// The text of refused bytes is that of the whole streams before the fault, as many as the fault's place says, and of the
 /// start of the stream at fault: nothing, where its header is refused; else its header and the records before the refused
 /// one. Bytes without a fault have all of their text.
+#[tactic(auto, using(crate::proofs::PartialLaws::refused_is_told, crate::proofs::PartialLaws::whole_streams_stand_whole))]
 pub fn refused_is_told_up_to_its_fault()
     ensures refused { RefusedIsToldUpToItsFault }
     ensures whole { WholeStreamsStandWhole }
