@@ -171,6 +171,7 @@ pub(crate) fn push_records<'a, A: Allocator + Copy>(
 }
 
 /// Adds in a form the stream at the start of the bytes, whose place in the input is this, and returns the bytes after it.
+#[tactic(auto, unfolding(crate::specs::Dumps::stream_at, gr_record::specs::WholeStreams::front_records_at))]
 fn push_stream<'a, A: Allocator + Copy>(
     alloc: A,
     form: Form,

@@ -1,5 +1,5 @@
-use Rattle.std.proofs.Common.{arith, append_assoc}
-use Rattle.gr_record.specs.WholeStreams.{behind_records_at, front_header_at, front_records_at}
+use Rattle.std.proofs.Common.{arith}
+use Rattle.gr_record.specs.WholeStreams.{behind_records_at, front_header_at}
 use Rattle.gr_text.specs.Dumps.{stream_at}
 use Rattle.gr_text.proofs.Streaming.{fault_at-fails, header_found}
 use Rattle.gr_text.proofs.forming.push_stream.Goals as goal
@@ -13,14 +13,6 @@ push_first-requires g c = (header_found c.args.bytes.now (λ i. let b = c.type_i
 
 pub push_records-requires : goal.push_records-requires
 push_records-requires g c = (header_found c.args.bytes.now (λ i. let b = c.type_inv.bytes i in omega arith) _ _ c.in-Ok.ensures.exact).header
-
-pub returns-in-Some-clause-exact : goal.returns-in-Some-clause-exact
-unfolding stream_at front_records_at
-returns-in-Some-clause-exact g c = grind (arith, append_assoc)
-
-pub returns-in-Ok-skip_front_records-clause-exact : goal.returns-in-Ok-skip_front_records-clause-exact
-unfolding stream_at front_records_at
-returns-in-Ok-skip_front_records-clause-exact g c = grind (arith, append_assoc)
 
 pub returns-in-Err-skip_front_records-clause-exact : goal.returns-in-Err-skip_front_records-clause-exact
 unfolding stream_at
