@@ -1,6 +1,5 @@
 //! Launches with a reader for each stream.
 
-mod growths;
 mod inputs;
 mod launches;
 mod runs;

@@ -19,10 +19,33 @@ pub fn came(counter: &AtomicU64, least: u64) -> bool {
     false
 }
 
-/// Counts races.
+/// Waits until a counter is at least so great, and counts the waits in which it does not become so great.
+fn wait(counter: &AtomicU64, least: u64, missed: &AtomicU64) {
+    if !came(counter, least) {
+        missed.fetch_add(1, Ordering::SeqCst);
+    }
+}
+
+/// Counts races, and the waits for one that failed.
 #[derive(Drop)]
 pub struct Races {
     pub seen: AtomicU64,
+    pub missed: AtomicU64,
+}
+
+impl Races {
+    /// Nothing was seen.
+    pub fn new() -> Races {
+        Races {
+            seen: AtomicU64::new(0),
+            missed: AtomicU64::new(0),
+        }
+    }
+
+    /// Waits until a race is seen.
+    pub fn wait(&self) {
+        wait(&self.seen, 1, &self.missed);
+    }
 }
 
 impl Watch for Races {
@@ -48,8 +71,8 @@ impl Watch for Apart {
     fn at_access(&self, worker: u16) {
         if worker == 1 {
             self.seconds.fetch_add(1, Ordering::SeqCst);
-        } else if !came(&self.seconds, 1) {
-            self.missed.fetch_add(1, Ordering::SeqCst);
+        } else {
+            wait(&self.seconds, 1, &self.missed);
         }
     }
 
@@ -66,25 +89,16 @@ pub struct Turns {
     pub missed: AtomicU64,
 }
 
-impl Turns {
-    /// Waits until a counter is at least so great, and notes if it does not become so great.
-    fn wait(&self, counter: &AtomicU64, least: u64) {
-        if !came(counter, least) {
-            self.missed.fetch_add(1, Ordering::SeqCst);
-        }
-    }
-}
-
 impl Watch for Turns {
     fn at_take(&self, _group: u16) {
         if self.takes.fetch_add(1, Ordering::SeqCst) == 0 {
-            self.wait(&self.sent, 1);
+            wait(&self.sent, 1, &self.missed);
         }
     }
 
     fn at_access(&self, _worker: u16) {
         if self.accesses.fetch_add(1, Ordering::SeqCst) == 0 {
-            self.wait(&self.takes, 2);
+            wait(&self.takes, 2, &self.missed);
         }
     }
 

@@ -2,14 +2,13 @@
 
 ghost use Rattle.gr_threads_tests.specs.Senders.{IsSender, IsSameSender};
 
-use crate::detector::runs::{Plan, Summary, begin_one, summary_of_one};
+use crate::detector::runs::{Ended, Plan, begin, finish_with, pop_last};
 use crate::detector::senders::close;
 use gr_detector::Watch;
 use gr_detector::running::Running;
 use gr_threads::sender::Sender;
 use std::alloc::Global;
 use std::sync::{Arc, Wait};
-use std::test::Fail;
 use std::thread::Threads;
 use std::time::Clock;
 
@@ -20,8 +19,8 @@ pub trait Sends {
         ensures { IsSameSender sender.old sender.new };
 }
 
-/// How a run went: whether all was sent and seen, and a summary of the report.
-pub type Went = (bool, Option<Summary>);
+/// How a run went: whether all was sent and seen, and of the report how many records and races there are, and whether the group was cut.
+pub type Went = (bool, (u64, usize, bool));
 
 /// Sends with the sender of a run, closes it, and sums up the report.
 fn went<R: Threads + Wait + Clock, W: Sends>(
@@ -31,21 +30,29 @@ fn went<R: Threads + Wait + Clock, W: Sends>(
     sender: Sender,
     watch: &W,
     cut: bool,
-) -> Went
+) -> Result<Went, Ended>
     requires { IsSender running sender }
 {
     let mut sender = sender;
     let is_sent = watch.send_under(rt, &mut sender);
     let receipt = close(rt, sender, cut);
-    (is_sent, summary_of_one(rt, alloc, running, receipt))
+    let report = finish_with(rt, running, Vec::new(alloc), receipt)?;
+    let is_cut = report.cut.as_slice() == [0].as_slice();
+    Ok((
+        is_sent,
+        (report.records, report.races.as_slice().len(), is_cut),
+    ))
 }
 
 /// Runs one sender under a watch, and closes it, as cut or not.
 pub fn run_one<
     R: Threads + Wait + Clock + Copy + Send + 'static,
     W: Watch + Sends + Send + Sync + Drop + 'static,
->(rt: R, alloc: Global, plan: Plan<'_>, watch: &Arc<W, Global>, cut: bool) -> Result<Went, Fail> {
-    let theirs = Arc::try_clone(watch)?;
-    let (sender, running) = begin_one(rt, alloc, plan, theirs)?;
-    Ok(went(&rt, alloc, running, sender, &**watch, cut))
+>(rt: R, alloc: Global, plan: Plan<'_>, watch: &Arc<W, Global>, cut: bool) -> Result<Went, Ended> {
+    let theirs = Arc::try_clone(watch).map_err(|_| Ended::NotStarted)?;
+    let (mut senders, running) = begin(rt, alloc, plan, theirs)?;
+    let Some(sender) = pop_last(&running, &mut senders) else {
+        return Err(Ended::Wrongly);
+    };
+    went(&rt, alloc, running, sender, &**watch, cut)
 }

@@ -23,12 +23,9 @@ impl Sends for Races {
 
 #[test]
 fn a_race_is_seen_before_any_stream_ends(rt: HostRuntime) -> Result<(), Fail> {
-    let races = Races {
-        seen: AtomicU64::new(0),
-    };
-    let watch = Arc::new(rt.alloc(), races)?;
-    let went = run_one(rt, rt.alloc(), (&[2], 1, 1, 4), &watch, false)?;
-    assert_eq!(rt; went, (true, Some((3, 1, false))));
+    let watch = Arc::new(rt.alloc(), Races::new())?;
+    let went = run_one(rt, rt.alloc(), (&[2], 1, 1, 4), &watch, false);
+    assert_eq!(rt; went, Ok((true, (3, 1, false))));
     Ok(())
 }
 
@@ -46,13 +43,10 @@ fn two_workers_are_at_work_at_once(rt: HostRuntime) -> Result<(), Fail> {
         missed: AtomicU64::new(0),
     };
     let watch = Arc::new(rt.alloc(), apart)?;
-    let went = run_one(rt, rt.alloc(), (&[1], 2, 1, 4), &watch, false)?;
+    let went = run_one(rt, rt.alloc(), (&[1], 2, 1, 4), &watch, false);
     let seconds = watch.seconds.load(Ordering::SeqCst);
     let missed = watch.missed.load(Ordering::SeqCst);
-    assert_eq!(rt;
-        (went, seconds, missed),
-        ((true, Some((3, 0, false))), 1, 0)
-    );
+    assert_eq!(rt; (went, seconds, missed), (Ok((true, (3, 0, false))), 1, 0));
     Ok(())
 }
 
@@ -77,8 +71,8 @@ fn the_sequencer_and_a_worker_wait_for_what_comes_later(rt: HostRuntime) -> Resu
         missed: AtomicU64::new(0),
     };
     let watch = Arc::new(rt.alloc(), turns)?;
-    let went = run_one(rt, rt.alloc(), (&[1], 1, 1, 4), &watch, false)?;
+    let went = run_one(rt, rt.alloc(), (&[1], 1, 1, 4), &watch, false);
     let missed = watch.missed.load(Ordering::SeqCst);
-    assert_eq!(rt; (went, missed), ((true, Some((3, 0, false))), 0));
+    assert_eq!(rt; (went, missed), (Ok((true, (3, 0, false))), 0));
     Ok(())
 }

@@ -25,36 +25,16 @@ fn run_calls<R: Threads + Wait + Clock + Copy + Send + 'static>(
     run_inputs(rt, alloc, inputs, (1, 1, 1))
 }
 
-/// Whether all of the race is read in so many calls, and its report is written.
-fn is_read<R: Threads + Wait + Clock + Copy + Send + 'static>(
-    rt: R,
-    alloc: Global,
-    calls: usize,
-) -> Result<bool, Fail> {
-    let (_, _, lines) = RACE;
-    let outcome = run_calls(rt, alloc, calls)?;
-    Ok(is_accepted(&outcome, &report_with(alloc, lines)?))
-}
-
-/// Whether the fault of a reader that fails after so many calls is reported, and nothing is written.
-fn fails_to_read<R: Threads + Wait + Clock + Copy + Send + 'static>(
-    rt: R,
-    alloc: Global,
-    calls: usize,
-) -> Result<bool, Fail> {
-    let outcome = run_calls(rt, alloc, calls)?;
-    Ok(is_refused(&outcome, Fault::Read))
-}
-
 #[test]
 fn a_reader_that_fails_is_a_read_fault(rt: HostRuntime) -> Result<(), Fail> {
+    let (_, _, lines) = RACE;
+    let report = report_with(rt.alloc(), lines)?;
     for calls in 0..73 {
-        assert!(rt;
-            fails_to_read(rt, rt.alloc(), calls)?,
-            "after {calls} calls"
-        );
+        let outcome = run_calls(rt, rt.alloc(), calls)?;
+        assert!(rt; is_refused(&outcome, Fault::Read), "after {calls} calls");
     }
-    assert!(rt; is_read(rt, rt.alloc(), 73)?, "all is read");
+    let outcome = run_calls(rt, rt.alloc(), 73)?;
+    assert!(rt; is_accepted(&outcome, &report), "all is read");
     Ok(())
 }
 
@@ -71,26 +51,17 @@ fn fault_of<R: Threads + Wait + Clock + Copy + Send + 'static>(
     Ok(run_streams(rt, alloc, inputs, config, watch, output).err())
 }
 
-/// Whether the fault of a writer that takes so many bytes, and no flush, is reported, and it has as many bytes of the report.
-fn fails_to_write<R: Threads + Wait + Clock + Copy + Send + 'static>(
-    rt: R,
-    alloc: Global,
-    room: usize,
-    report: &[u8],
-) -> Result<bool, Fail> {
-    let mut output = FailingWriter::within(alloc, report, room);
-    let fault = fault_of(rt, alloc, &mut output)?;
-    Ok(fault == Some(Fault::Write) && output.has_front(report, room))
-}
-
+/// A writer that fails takes no flush, and has as much of the report as there was room for.
 #[test]
 fn a_writer_that_fails_is_a_write_fault(rt: HostRuntime) -> Result<(), Fail> {
     let (_, _, lines) = RACE;
     let report = report_with(rt.alloc(), lines)?;
     assert_eq!(rt; report.len(), 93);
     for room in 0..94 {
+        let mut output = FailingWriter::within(rt.alloc(), &report, room);
+        let fault = fault_of(rt, rt.alloc(), &mut output)?;
         assert!(rt;
-            fails_to_write(rt, rt.alloc(), room, &report)?,
+            fault == Some(Fault::Write) && output.has_front(&report, room),
             "after {room} bytes"
         );
     }

@@ -1,71 +1,68 @@
 //! Each growth is refused in turn. The answer is then `Memory`, or the right one.
 
-use crate::streams::growths::{Heap, run_on};
+use crate::detector::gates::Races;
+use crate::streams::inputs::Input;
 use crate::streams::launches::{LAUNCHES, packed_all, report_with};
-use crate::streams::runs::Plan;
+use gr_model::config::Config;
+use gr_model::memory::Memory;
 use gr_record::fault::Fault;
+use gr_streams::run_streams;
 use refusing::Refusing;
-use std::alloc::Global;
-use std::sync::Wait;
+use refusing::growths::refuse_each;
+use std::alloc::{AllocError, Global};
+use std::sync::{Arc, Wait};
 use std::test::*;
 use std::thread::Threads;
 use std::time::Clock;
 
-/// Refuses each growth in turn, until none is refused. Gives the first whose answer is wrong, if there is one.
-fn first_wrong_growth<R: Threads + Wait + Clock + Copy + Send + 'static>(
-    rt: R,
-    alloc: Global,
+/// Readers of streams. Each gives its whole stream at once.
+fn readers_of(
+    heap: &'static Refusing<Global>,
     streams: &[Vec<u8>],
-    plan: Plan,
-    wanted: &[u8],
-) -> Result<Option<u64>, Fail> {
-    for at in 0..10_000_u64 {
-        let heap: Heap = Box::leak(Box::new(alloc, Refusing::new(alloc, at))?);
-        let copies = copies_of(alloc, streams)?;
-        let (answer, text, free) = run_on(rt, heap, copies, plan, Vec::new(alloc))?;
-        let due = match answer {
-            Ok(()) => text.as_slice() == wanted,
-            Err(fault) => fault == Fault::Memory && text.is_empty() && heap.refused(),
-        };
-        if !due || !free {
-            return Ok(Some(at));
-        }
-        if !heap.refused() {
-            return Ok(if at > 20 { None } else { Some(at) });
-        }
-    }
-    Ok(Some(10_000))
-}
-
-/// Copies of streams.
-fn copies_of(alloc: Global, streams: &[Vec<u8>]) -> Result<Vec<Vec<u8>>, Fail> {
-    let mut copies = Vec::new(alloc);
+) -> Result<Vec<Input, &'static Refusing<Global>>, AllocError> {
+    let mut readers = Vec::with_capacity(heap, streams.len())?;
     for stream in streams {
-        copies.push(Vec::from_slice(alloc, stream.as_slice())?)?;
+        readers.push(Input::whole(stream.clone()?))?;
     }
-    Ok(copies)
+    Ok(readers)
 }
 
-/// Whether each refused growth of a launch gives `Memory`, and the report has these lines if none is refused.
-fn are_growths_reported<R: Threads + Wait + Clock + Copy + Send + 'static>(
+/// Whether a run over streams writes this text, or memory runs out with nothing written. Its threads have then dropped the watch.
+fn is_reported<R: Threads + Wait + Clock + Copy + Send + 'static>(
     rt: R,
     alloc: Global,
-    texts: &[&str],
-    lines: &str,
-) -> Result<bool, Fail> {
-    let streams = packed_all(alloc, texts)?;
-    let report = report_with(alloc, lines)?;
-    let wrong = first_wrong_growth(rt, alloc, &streams, (2, 2, 1), &report)?;
-    Ok(wrong.is_none())
+    heap: &'static Refusing<Global>,
+    streams: &[Vec<u8>],
+    due: &[u8],
+) -> Result<bool, Memory> {
+    let readers = readers_of(heap, streams)?;
+    let watch = Arc::new(heap, Races::new())?;
+    let theirs = Arc::try_clone(&watch)?;
+    let Ok(config) = Config::new(2, 2, 1) else {
+        return Ok(false);
+    };
+    let mut text = Vec::new(alloc);
+    let answer = run_streams(rt, heap, readers, config, theirs, &mut text);
+    let is_free = Arc::strong_count(&watch) == 1;
+    match answer {
+        Ok(_) => Ok(is_free && text.as_slice() == due),
+        Err(Fault::Memory) if is_free && text.is_empty() => Err(Memory),
+        Err(_) => Ok(false),
+    }
 }
 
 #[test]
 fn each_refused_growth_is_want_of_memory(rt: HostRuntime) -> Result<(), Fail> {
+    let alloc = rt.alloc();
     for &(name, texts, lines) in &LAUNCHES {
-        assert!(rt;
-            are_growths_reported(rt, rt.alloc(), texts, lines)?,
-            "{name}"
+        let streams = packed_all(alloc, texts)?;
+        let due = report_with(alloc, lines)?;
+        let growths = refuse_each(
+            alloc,
+            21,
+            |heap| is_reported(rt, alloc, heap, &streams, &due),
         );
+        assert!(rt; growths.is_ok(), "{name}: {growths:?}");
     }
     Ok(())
 }

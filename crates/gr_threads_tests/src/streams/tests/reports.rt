@@ -1,6 +1,7 @@
 //! What is seen while a stream is still being read.
 
-use crate::streams::inputs::{Input, Races};
+use crate::detector::gates::Races;
+use crate::streams::inputs::Input;
 use crate::streams::launches::{RACE, packed, report_with};
 use crate::streams::runs::config_of;
 use gr_streams::run_streams;
@@ -11,23 +12,15 @@ use std::test::*;
 use std::thread::Threads;
 use std::time::Clock;
 
-/// The race's stream. Its end is given only after a race was seen.
-fn gated_inputs(alloc: Global, races: &Arc<Races>) -> Result<Vec<Input>, Fail> {
-    let (_, texts, _) = RACE;
-    let bytes = packed(alloc, texts[0])?;
-    let mut inputs = Vec::new(alloc);
-    inputs.push(Input::gated(bytes, 52, Arc::try_clone(races)?))?;
-    Ok(inputs)
-}
-
-/// Whether a run over `gated_inputs` is accepted, and writes the report of the race.
+/// Whether a run over the race is accepted whose end is read only after the race was seen, and writes its report.
 fn is_gated_race_reported<R: Threads + Wait + Clock + Copy + Send + 'static>(
     rt: R,
     alloc: Global,
     races: &Arc<Races>,
 ) -> Result<bool, Fail> {
-    let (_, _, lines) = RACE;
-    let inputs = gated_inputs(alloc, races)?;
+    let (_, texts, lines) = RACE;
+    let input = Input::gated(packed(alloc, texts[0])?, 52, Arc::try_clone(races)?);
+    let inputs = vec![in alloc; input]?;
     let theirs = Arc::try_clone(races)?;
     let config = config_of((1, 1, 4))?;
     let mut text = Vec::new(alloc);
