@@ -1,10 +1,10 @@
 //! The calls of a sequencer, each tried twice: a try without memory must change nothing, and then the second try
-//! counts. `None`: the first try changed something, or both had no memory.
+//! counts. `None`: the first try changed something, or the second failed too.
 
 ghost use Rattle.std.specs.Prelude.{IsTrue};
 ghost use Rattle.gr_lanes.specs.Takes.{IsEventButItem};
 
-use gr_lanes::seq_error::SeqError;
+use crate::rows::{Record, event_of};
 use gr_model::event::{Event, ItemId, event_ok};
 use gr_model::memory::Memory;
 use gr_model::shape::Shape;
@@ -32,6 +32,16 @@ pub(crate) fn shape_of<A: Allocator + Copy>(alloc: A, sizes: &[u16]) -> Result<S
     }
 }
 
+/// What is made, tried twice.
+pub(crate) fn twice<T, F: Fn() -> Result<T, Memory>>(make: F) -> Option<T>
+    requires { F.IsAlwaysCallable make }
+{
+    match make() {
+        Ok(made) => Some(made),
+        Err(Memory) => make().ok(),
+    }
+}
+
 fn new_once<A: Allocator + Copy>(alloc: A, sizes: &[u16]) -> Result<Sequencer<A>, Memory> {
     let shape = shape_of(alloc, sizes)?;
     Sequencer::new(alloc, shape)
@@ -39,10 +49,7 @@ fn new_once<A: Allocator + Copy>(alloc: A, sizes: &[u16]) -> Result<Sequencer<A>
 
 /// A sequencer of a launch of these sizes.
 pub(crate) fn new<A: Allocator + Copy>(alloc: A, sizes: &[u16]) -> Option<Sequencer<A>> {
-    match new_once(alloc, sizes) {
-        Ok(sequencer) => Some(sequencer),
-        Err(_) => new_once(alloc, sizes).ok(),
-    }
+    twice(|| new_once(alloc, sizes))
 }
 
 /// What a sequencer says of itself: how many records it took of each of three groups, how many events it holds, and
@@ -55,77 +62,68 @@ fn state<A: Allocator>(sequencer: &Sequencer<A>) -> ([u32; 3], u64, bool) {
     )
 }
 
+/// The answer of a call, tried twice.
+fn tried<A: Allocator, T, F: Fn(&mut Sequencer<A>) -> Result<T, Memory>>(
+    sequencer: &mut Sequencer<A>,
+    call: F,
+) -> Option<T>
+    requires { F.IsAlwaysCallable call }
+{
+    let before = state(sequencer);
+    match call(sequencer) {
+        Err(Memory) if state(sequencer) == before => call(sequencer).ok(),
+        answer => answer.ok(),
+    }
+}
+
 fn take_once<A: Allocator + Copy>(
     sequencer: &mut Sequencer<A>,
-    group: u16,
-    event: &Event,
-) -> Result<(), SeqError> {
-    if is_lawful(event) && sequencer.taken(group) < 16_777_216 {
-        sequencer.take(group, *event)
+    record: &Record,
+) -> Result<(), Memory> {
+    let event = event_of(record);
+    if is_lawful(&event) && sequencer.taken(record.0) < 16_777_216 {
+        sequencer.take(record.0, event).map_err(|_| Memory)
     } else {
-        Err(SeqError::Memory)
+        Err(Memory)
     }
 }
 
 pub(crate) fn take<A: Allocator + Copy>(
     sequencer: &mut Sequencer<A>,
-    group: u16,
-    event: Event,
-) -> Option<Result<(), SeqError>> {
-    let before = state(sequencer);
-    let mut answer = take_once(sequencer, group, &event);
-    if answer == Err(SeqError::Memory) {
-        if state(sequencer) != before {
-            return None;
-        }
-        answer = take_once(sequencer, group, &event);
-    }
-    if answer == Err(SeqError::Memory) {
-        return None;
-    }
-    Some(answer)
+    record: &Record,
+) -> Option<()> {
+    tried(sequencer, |sequencer| take_once(sequencer, record))
 }
 
 fn take_and_handle_once<A: Allocator + Copy>(
     sequencer: &mut Sequencer<A>,
-    group: u16,
-    event: &Event,
-) -> Result<Option<Handled<A>>, SeqError> {
-    if is_lawful(event) && sequencer.taken(group) < 16_777_216 {
-        sequencer.take_and_handle(group, *event)
+    record: &Record,
+) -> Result<Option<Handled<A>>, Memory> {
+    let event = event_of(record);
+    if is_lawful(&event) && sequencer.taken(record.0) < 16_777_216 {
+        sequencer
+            .take_and_handle(record.0, event)
+            .map_err(|_| Memory)
     } else {
-        Err(SeqError::Memory)
+        Err(Memory)
     }
 }
 
 /// The step, or `None` if the event waits.
 pub(crate) fn take_and_handle<A: Allocator + Copy>(
     sequencer: &mut Sequencer<A>,
-    group: u16,
-    event: Event,
+    record: &Record,
 ) -> Option<Option<Handled<A>>> {
-    let before = state(sequencer);
-    match take_and_handle_once(sequencer, group, &event) {
-        Err(SeqError::Memory) if state(sequencer) == before => {
-            take_and_handle_once(sequencer, group, &event).ok()
-        }
-        answer => answer.ok(),
-    }
+    tried(
+        sequencer,
+        |sequencer| take_and_handle_once(sequencer, record),
+    )
 }
 
 pub(crate) fn step<A: Allocator + Copy>(
     sequencer: &mut Sequencer<A>,
 ) -> Option<Option<Handled<A>>> {
-    let before = state(sequencer);
-    match sequencer.step() {
-        Ok(made) => Some(made),
-        Err(_) => {
-            if state(sequencer) != before {
-                return None;
-            }
-            sequencer.step().ok()
-        }
-    }
+    tried(sequencer, |sequencer| sequencer.step())
 }
 
 /// The step, or `None` if it is not ready.
@@ -133,11 +131,7 @@ pub(crate) fn handle<A: Allocator + Copy>(
     sequencer: &mut Sequencer<A>,
     item: ItemId,
 ) -> Option<Option<Handled<A>>> {
-    let before = state(sequencer);
-    match sequencer.handle(item) {
-        Err(GoError::Memory) if state(sequencer) == before => judged(sequencer.handle(item)),
-        answer => judged(answer),
-    }
+    tried(sequencer, |sequencer| judged(sequencer.handle(item)))
 }
 
 /// The step, or `None` if it is not ready.
@@ -145,17 +139,13 @@ pub(crate) fn meet<A: Allocator + Copy>(
     sequencer: &mut Sequencer<A>,
     group: u16,
 ) -> Option<Option<Handled<A>>> {
-    let before = state(sequencer);
-    match sequencer.meet(group) {
-        Err(GoError::Memory) if state(sequencer) == before => judged(sequencer.meet(group)),
-        answer => judged(answer),
-    }
+    tried(sequencer, |sequencer| judged(sequencer.meet(group)))
 }
 
-fn judged<A: Allocator>(answer: Result<Handled<A>, GoError>) -> Option<Option<Handled<A>>> {
+fn judged<A: Allocator>(answer: Result<Handled<A>, GoError>) -> Result<Option<Handled<A>>, Memory> {
     match answer {
-        Ok(handled) => Some(Some(handled)),
-        Err(GoError::NotReady) => Some(None),
-        Err(GoError::Memory) => None,
+        Ok(handled) => Ok(Some(handled)),
+        Err(GoError::NotReady) => Ok(None),
+        Err(GoError::Memory) => Err(Memory),
     }
 }

@@ -5,13 +5,13 @@ ghost use Rattle.gr_model.specs.Shapes.{HasItem};
 ghost use Rattle.gr_lanes.specs.Remembered.{IsWhole};
 
 use crate::calls::{is_lawful, shape_of, take};
-use crate::rows::{ACQUIRE, BARRIER, END, FIRST_0_0, READ, RELEASE, Record, event_of};
+use crate::rows::{ACQUIRE, BARRIER, END, GLOBAL, READ, RELEASE, Record, event_of};
 use crate::trials::{Trial, holds_always};
 use gr_agenda::agenda::Agenda;
 use gr_lanes::instance::{barrier, has_mark_of, is_divergent};
 use gr_lanes::lanes::Lanes;
 use gr_lanes::seq_error::SeqError;
-use gr_model::event::{Event, ItemId, Name, Space};
+use gr_model::event::{Event, ItemId};
 use gr_model::growing::GrowingShape;
 use gr_model::memory::Memory;
 use gr_model::report::{Divergence, DivergenceCause};
@@ -30,34 +30,23 @@ const FIRST: ItemId = ItemId { group: 0, item: 0 };
 const SECOND: ItemId = ItemId { group: 0, item: 1 };
 
 /// Records of the first group, on one word or site.
-const READS: Record = (0, 0, READ, Space::Global, 4, &[]);
+const READS: Record = (0, 0, READ, GLOBAL, 4, &[]);
 
-const RELEASES: Record = (0, 0, RELEASE, Space::Global, 4, &[]);
+const RELEASES: Record = (0, 0, RELEASE, GLOBAL, 4, &[]);
 
-const ENDS: Record = (0, 0, END, Space::Global, 0, &[]);
+const ENDS: Record = (0, 0, END, GLOBAL, 0, &[]);
 
-const COMES: Record = (0, 0, BARRIER, Space::Global, 4, &[]);
+const COMES: Record = (0, 0, BARRIER, GLOBAL, 4, &[]);
 
-const COMES_ELSEWHERE: Record = (0, 1, BARRIER, Space::Global, 8, &[]);
+const COMES_ELSEWHERE: Record = (0, 1, BARRIER, GLOBAL, 8, &[]);
 
-/// The first two releases of the first item.
-const TWO_NAMES: &[Name] = &[
-    Name {
-        at: FIRST,
-        release: 0,
-    },
-    Name {
-        at: FIRST,
-        release: 1,
-    },
-];
-
-const ACQUIRES: Record = (0, 1, ACQUIRE, Space::Global, 4, TWO_NAMES);
+/// Names the first two releases of the first item.
+const ACQUIRES: Record = (0, 1, ACQUIRE, GLOBAL, 4, &[(0, 0, 0), (0, 0, 1)]);
 
 /// Acquires of two groups, which wait for the first release of the first item.
 const WAIT: [Record; 2] = [
-    (1, 0, ACQUIRE, Space::Global, 4, FIRST_0_0),
-    (2, 0, ACQUIRE, Space::Global, 4, FIRST_0_0),
+    (1, 0, ACQUIRE, GLOBAL, 4, &[(0, 0, 0)]),
+    (2, 0, ACQUIRE, GLOBAL, 4, &[(0, 0, 0)]),
 ];
 
 /// The first event of an item goes, and so the second becomes its first.
@@ -420,7 +409,7 @@ struct StepOfRelease;
 
 impl Trial for StepOfRelease {
     fn holds<A: Allocator + Copy>(&self, sequencer: &mut Sequencer<A>) -> bool {
-        take(sequencer, 0, event_of(&RELEASES)) == Some(Ok(()))
+        take(sequencer, &RELEASES).is_some()
             && (step_of_an_access(sequencer) || step_of_an_access(sequencer))
     }
 }

@@ -1,18 +1,25 @@
 //! The worked rows: the records of a launch, and its summary after all of them were taken and no step is left.
 
-use gr_model::event::{Event, EventId, ItemId, Kind, Name, Order, Scope, Space, Word};
+use gr_model::event::{Event, ItemId, Kind, Name, Order, Scope, Space, Word};
 use gr_model::names::Names;
-use gr_model::report::{AcquireCause, Divergence, DivergenceCause, Unmatched};
+use gr_model::report::{AcquireCause, DivergenceCause};
 
-/// A record: its group, its item, its kind, its memory, its word or site, and the releases that it names.
-pub(crate) type Record = (u16, u16, Kind, Space, u32, &'static [Name]);
+/// A record: its group, its item, its kind, its memory, its word or site, and the releases that it names, two at most: of each its group,
+/// its item and its number.
+pub(crate) type Record = (u16, u16, Kind, Space, u32, &'static [(u16, u16, u32)]);
+
+/// A divergent instance: its group, its number, and the cause.
+pub(crate) type Diverges = (u16, u32, DivergenceCause);
+
+/// An unmatched acquire: its group, its item, its place among the item's events, and the cause.
+pub(crate) type Unmatches = (u16, u16, u32, AcquireCause);
 
 /// The summary at the end: the first two of each list, and the numbers.
 #[derive(Clone, Copy, Debug, PartialEq, Eq)]
 pub(crate) struct Told {
     pub(crate) races: (Option<Word>, Option<Word>),
-    pub(crate) divergences: (Option<Divergence>, Option<Divergence>),
-    pub(crate) unmatched: (Option<Unmatched>, Option<Unmatched>),
+    pub(crate) divergences: (Option<Diverges>, Option<Diverges>),
+    pub(crate) unmatched: (Option<Unmatches>, Option<Unmatches>),
     pub(crate) cut: (Option<u16>, Option<u16>),
     pub(crate) held: u64,
     pub(crate) groups: u16,
@@ -35,19 +42,28 @@ pub(crate) const NOTHING: Told = Told {
 /// A row: its name, the sizes of its groups, its records, and its summary at the end.
 pub(crate) type Row = (&'static str, &'static [u16], &'static [Record], Told);
 
+fn name_of(release: (u16, u16, u32)) -> Name {
+    let (group, item, release) = release;
+    Name {
+        at: ItemId { group, item },
+        release,
+    }
+}
+
 /// The record as an event.
 pub(crate) fn event_of(record: &Record) -> Event {
     let (_, item, kind, space, word, names) = *record;
-    let names = match Names::new(names) {
-        None => Names::none(),
-        Some(names) => names,
+    let names = match names {
+        [] => None,
+        [only] => Names::new(&[name_of(*only)]),
+        [first, second, ..] => Names::new(&[name_of(*first), name_of(*second)]),
     };
     Event {
         item,
         kind,
         space,
         word,
-        names,
+        names: names.unwrap_or(Names::none()),
     }
 }
 
@@ -72,45 +88,6 @@ pub(crate) const END: Kind = Kind::End { cut: false };
 
 const CUT: Kind = Kind::End { cut: true };
 
-/// The first release of item 0 of group 0.
-pub(crate) const FIRST_0_0: &[Name] = &[Name {
-    at: ItemId { group: 0, item: 0 },
-    release: 0,
-}];
-
-const FIRST_0_0_AND_0_1: &[Name] = &[
-    Name {
-        at: ItemId { group: 0, item: 0 },
-        release: 0,
-    },
-    Name {
-        at: ItemId { group: 0, item: 1 },
-        release: 0,
-    },
-];
-
-const FIRST_0_2: &[Name] = &[Name {
-    at: ItemId { group: 0, item: 2 },
-    release: 0,
-}];
-
-const FIRST_1_0: &[Name] = &[Name {
-    at: ItemId { group: 1, item: 0 },
-    release: 0,
-}];
-
-/// The first event of item 0 of group 0.
-const EVENT_0_0: EventId = EventId {
-    at: ItemId { group: 0, item: 0 },
-    index: 0,
-};
-
-/// The first event of item 0 of group 1.
-const EVENT_1_0: EventId = EventId {
-    at: ItemId { group: 1, item: 0 },
-    index: 0,
-};
-
 const MISSING_ITEM: Row = (
     "an item never comes to the second barrier",
     &[3],
@@ -126,14 +103,7 @@ const MISSING_ITEM: Row = (
     ],
     Told {
         races: (Some(Word::Global(16)), None),
-        divergences: (
-            Some(Divergence {
-                group: 0,
-                instance: 1,
-                cause: DivergenceCause::Missing,
-            }),
-            None,
-        ),
+        divergences: (Some((0, 1, DivergenceCause::Missing)), None),
         items: 3,
         records: 8,
         ..NOTHING
@@ -149,14 +119,7 @@ const TWO_SITES: Row = (
         (0, 0, END, GLOBAL, 0, &[]),
     ],
     Told {
-        divergences: (
-            Some(Divergence {
-                group: 0,
-                instance: 0,
-                cause: DivergenceCause::Site,
-            }),
-            None,
-        ),
+        divergences: (Some((0, 0, DivergenceCause::Site)), None),
         items: 2,
         records: 3,
         ..NOTHING
@@ -168,7 +131,7 @@ const NO_SUCH_RELEASE: Row = (
     &[1, 3],
     &[
         (0, 0, CUT, GLOBAL, 0, &[]),
-        (1, 0, ACQUIRE, GLOBAL, 20, FIRST_0_0),
+        (1, 0, ACQUIRE, GLOBAL, 20, &[(0, 0, 0)]),
         (1, 0, WRITE, GLOBAL, 16, &[]),
         (1, 1, WRITE, GLOBAL, 24, &[]),
         (1, 2, READ, GLOBAL, 24, &[]),
@@ -177,13 +140,7 @@ const NO_SUCH_RELEASE: Row = (
     ],
     Told {
         races: (Some(Word::Global(24)), None),
-        unmatched: (
-            Some(Unmatched {
-                event: EVENT_1_0,
-                cause: AcquireCause::Absent,
-            }),
-            None,
-        ),
+        unmatched: (Some((1, 0, 0, AcquireCause::Absent)), None),
         cut: (Some(0), None),
         held: 2,
         groups: 2,
@@ -197,8 +154,8 @@ const CROSSED_NAMES: Row = (
     "two acquires that wait for one another",
     &[1, 1],
     &[
-        (1, 0, ACQUIRE, GLOBAL, 24, FIRST_0_0),
-        (0, 0, ACQUIRE, GLOBAL, 20, FIRST_1_0),
+        (1, 0, ACQUIRE, GLOBAL, 24, &[(0, 0, 0)]),
+        (0, 0, ACQUIRE, GLOBAL, 20, &[(1, 0, 0)]),
         (1, 0, RELEASE, GLOBAL, 20, &[]),
         (0, 0, RELEASE, GLOBAL, 24, &[]),
         (1, 0, END, GLOBAL, 0, &[]),
@@ -206,14 +163,8 @@ const CROSSED_NAMES: Row = (
     ],
     Told {
         unmatched: (
-            Some(Unmatched {
-                event: EVENT_0_0,
-                cause: AcquireCause::Behind,
-            }),
-            Some(Unmatched {
-                event: EVENT_1_0,
-                cause: AcquireCause::Behind,
-            }),
+            Some((0, 0, 0, AcquireCause::Behind)),
+            Some((1, 0, 0, AcquireCause::Behind)),
         ),
         held: 4,
         groups: 2,
@@ -229,12 +180,12 @@ const TWO_HANDS: Row = (
     &[
         (0, 0, WRITE, LOCAL, 16, &[]),
         (0, 0, RELEASE, LOCAL, 20, &[]),
-        (0, 1, ACQUIRE, LOCAL, 20, FIRST_0_0),
+        (0, 1, ACQUIRE, LOCAL, 20, &[(0, 0, 0)]),
         (0, 1, READ, LOCAL, 16, &[]),
-        (0, 2, ACQUIRE, LOCAL, 20, FIRST_0_0),
+        (0, 2, ACQUIRE, LOCAL, 20, &[(0, 0, 0)]),
         (0, 2, READ, LOCAL, 16, &[]),
         (0, 2, RELEASE, LOCAL, 24, &[]),
-        (0, 0, ACQUIRE, LOCAL, 24, FIRST_0_2),
+        (0, 0, ACQUIRE, LOCAL, 24, &[(0, 2, 0)]),
         (0, 0, WRITE, LOCAL, 16, &[]),
         (0, 0, END, GLOBAL, 0, &[]),
     ],
@@ -250,7 +201,7 @@ const TWO_NAMES: Row = (
     "an acquire of two releases in another group, which comes before both",
     &[2, 1],
     &[
-        (1, 0, ACQUIRE, GLOBAL, 20, FIRST_0_0_AND_0_1),
+        (1, 0, ACQUIRE, GLOBAL, 20, &[(0, 0, 0), (0, 1, 0)]),
         (0, 0, WRITE, GLOBAL, 16, &[]),
         (1, 0, READ, GLOBAL, 16, &[]),
         (0, 0, RELEASE, GLOBAL, 20, &[]),

@@ -2,7 +2,7 @@
 //! after each record, or in one call with it if that is possible; by `step`, or by `handle` and `meet`.
 
 use crate::calls::{handle, meet, step, take, take_and_handle};
-use crate::rows::{ROWS, Record, Row, Told, event_of};
+use crate::rows::{ROWS, Record, Row, Told};
 use crate::told::told;
 use crate::trials::{Trial, holds_always};
 use gr_model::event::ItemId;
@@ -39,15 +39,14 @@ fn take_record<A: Allocator + Copy>(
     record: &Record,
     way: Way,
 ) -> Option<()> {
-    let event = event_of(record);
     match way {
-        Way::Last | Way::ByCalls => take(sequencer, record.0, event)?.ok(),
+        Way::Last | Way::ByCalls => take(sequencer, record),
         Way::Behind => {
-            take(sequencer, record.0, event)?.ok()?;
+            take(sequencer, record)?;
             rest(sequencer)
         }
         Way::Together => {
-            let _step = take_and_handle(sequencer, record.0, event)?;
+            let _step = take_and_handle(sequencer, record)?;
             Some(())
         }
     }

@@ -1,6 +1,8 @@
 //! The summary of a sequencer at its end.
 
-use crate::rows::{NOTHING, Told};
+use crate::calls::twice;
+use crate::rows::{Diverges, NOTHING, Told, Unmatches};
+use gr_model::memory::Memory;
 use gr_model::report::{Divergence, Unmatched};
 use gr_sequencer::sequencer::Sequencer;
 use std::alloc::Allocator;
@@ -10,46 +12,51 @@ pub(crate) fn two<T: Copy>(list: &[T]) -> (Option<T>, Option<T>) {
     (list.get(0).copied(), list.get(1).copied())
 }
 
-/// The first divergent instances, their list tried twice.
-fn divergences<A: Allocator + Copy>(
-    sequencer: &Sequencer<A>,
-) -> Option<(Option<Divergence>, Option<Divergence>)> {
-    let list = match sequencer.divergences() {
-        Ok(list) => list,
-        Err(_) => sequencer.divergences().ok()?,
-    };
-    Some(two(&list))
+/// A divergence as the rows have it.
+fn diverges(it: Divergence) -> Diverges {
+    (it.group, it.instance, it.cause)
 }
 
-/// The first unmatched acquires, their list tried twice; `None` before the end.
-fn unmatched<A: Allocator + Copy>(
+/// An unmatched acquire as the rows have it.
+fn unmatches(it: Unmatched) -> Unmatches {
+    (
+        it.event.at.group,
+        it.event.at.item,
+        it.event.index,
+        it.cause,
+    )
+}
+
+/// The first two divergent instances.
+pub(crate) fn two_divergent(list: &[Divergence]) -> (Option<Diverges>, Option<Diverges>) {
+    let (first, second) = two(list);
+    (first.map(diverges), second.map(diverges))
+}
+
+/// The first two unmatched acquires.
+pub(crate) fn two_unmatched(list: &[Unmatched]) -> (Option<Unmatches>, Option<Unmatches>) {
+    let (first, second) = two(list);
+    (first.map(unmatches), second.map(unmatches))
+}
+
+/// The unmatched acquires; none are told before the end.
+fn unmatched_once<A: Allocator + Copy>(
     sequencer: &Sequencer<A>,
-) -> Option<(Option<Unmatched>, Option<Unmatched>)> {
-    if !sequencer.at_end() {
-        return None;
+) -> Result<Vec<Unmatched, A>, Memory> {
+    if sequencer.at_end() {
+        sequencer.unmatched()
+    } else {
+        Err(Memory)
     }
-    let list = match sequencer.unmatched() {
-        Ok(list) => list,
-        Err(_) => sequencer.unmatched().ok()?,
-    };
-    Some(two(&list))
 }
 
-/// The first cut groups, their list tried twice.
-fn cut<A: Allocator + Copy>(sequencer: &Sequencer<A>) -> Option<(Option<u16>, Option<u16>)> {
-    let list = match sequencer.cut() {
-        Ok(list) => list,
-        Err(_) => sequencer.cut().ok()?,
-    };
-    Some(two(&list))
-}
-
-/// The summary of a sequencer, without races; `None` before its end.
+/// The summary of a sequencer, without races, each list tried twice; `None` before its end.
 pub(crate) fn told<A: Allocator + Copy>(sequencer: &Sequencer<A>) -> Option<Told> {
+    let unmatched = twice(|| unmatched_once(sequencer))?;
     Some(Told {
-        divergences: divergences(sequencer)?,
-        unmatched: unmatched(sequencer)?,
-        cut: cut(sequencer)?,
+        divergences: two_divergent(&twice(|| sequencer.divergences())?),
+        unmatched: two_unmatched(&unmatched),
+        cut: two(&twice(|| sequencer.cut())?),
         held: sequencer.held(),
         groups: sequencer.shape().groups(),
         items: sequencer.shape().total(),

@@ -1,9 +1,8 @@
 //! Barriers that are taken one by one, with all steps made after each.
 
 use crate::calls::{step, take};
-use crate::rows::{BARRIER, event_of};
+use crate::rows::{BARRIER, GLOBAL};
 use crate::trials::{Trial, holds_always};
-use gr_model::event::Space;
 use gr_sequencer::handled::Handled;
 use gr_sequencer::sequencer::Sequencer;
 use std::alloc::Allocator;
@@ -75,8 +74,7 @@ fn seen<A: Allocator + Copy>(
 ) -> Option<[Done; 4]> {
     let mut all = [(0, false); 4];
     for (done, (item, site)) in all.iter_mut().zip(barriers.iter()) {
-        let barrier = event_of(&(0, *item, BARRIER, Space::Global, *site, &[]));
-        let _taken = take(sequencer, 0, barrier)?.ok()?;
+        take(sequencer, &(0, *item, BARRIER, GLOBAL, *site, &[]))?;
         *done = steps(sequencer)?;
     }
     Some(all)

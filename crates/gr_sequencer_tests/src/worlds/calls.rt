@@ -1,7 +1,7 @@
 //! The calls of a world, each tried twice: a try without memory must change nothing, and then the second try
 //! counts. `None`: the first try changed something, or both had no memory.
 
-use crate::calls::shape_of;
+use crate::calls::{shape_of, twice};
 use gr_model::config::Config;
 use gr_model::memory::Memory;
 use gr_world::step::{Step, StepError};
@@ -28,10 +28,7 @@ pub(crate) fn new<A: Allocator + Copy>(
 ) -> Option<World<A>> {
     let (workers, queues, capacity) = numbers;
     let config = Config::new(workers, queues, capacity).ok()?;
-    match new_once(alloc, sizes, config) {
-        Ok(world) => Some(world),
-        Err(_) => new_once(alloc, sizes, config).ok(),
-    }
+    twice(|| new_once(alloc, sizes, config))
 }
 
 /// The answer to a step.
@@ -40,16 +37,9 @@ pub(crate) fn step<A: Allocator + Copy>(
     step: Step,
 ) -> Option<Result<(), StepError>> {
     let before = world.at_rest();
-    let tried = &step;
-    let mut answer = world.step(*tried);
-    if answer == Err(StepError::Memory) {
-        if world.at_rest() != before {
-            return None;
-        }
-        answer = world.step(*tried);
+    let mut answer = world.step(step);
+    if answer == Err(StepError::Memory) && world.at_rest() == before {
+        answer = world.step(step);
     }
-    if answer == Err(StepError::Memory) {
-        return None;
-    }
-    Some(answer)
+    (answer != Err(StepError::Memory)).then_some(answer)
 }

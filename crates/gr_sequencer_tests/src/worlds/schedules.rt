@@ -3,11 +3,12 @@
 
 use crate::rows::{ROWS, Row};
 use crate::worlds::calls::{Numbers, new, step};
-use crate::worlds::steps::{Way, of_sequencer, of_workers, sends_of};
+use crate::worlds::steps::{MOST_GROUPS, Way, sends_of};
 use crate::worlds::told::reported;
+use gr_model::event::ItemId;
 use gr_world::step::{Step, StepError};
 use gr_world::world::World;
-use std::alloc::{AllocError, Global};
+use std::alloc::Global;
 use std::collections::VecDeque;
 use std::test::Fail;
 
@@ -22,28 +23,6 @@ const ALL_NUMBERS: [Numbers; 8] = [
     (3, 2, 1),
     (3, 2, 4),
 ];
-
-/// A schedule: what is still to be sent, and what sequencer and workers try again and again.
-#[derive(Drop)]
-struct Schedule {
-    sends: VecDeque<Step>,
-    of_sequencer: Vec<Step>,
-    of_workers: Vec<Step>,
-}
-
-/// The schedule of a row.
-fn schedule_of(
-    alloc: Global,
-    row: &Row,
-    way: Way,
-    numbers: Numbers,
-) -> Result<Schedule, AllocError> {
-    Ok(Schedule {
-        sends: sends_of(alloc, row, way)?,
-        of_sequencer: of_sequencer(alloc, row, numbers)?,
-        of_workers: of_workers(alloc, numbers)?,
-    })
-}
 
 /// Tries a step. Returns whether it was made; `None` if no later try could do better.
 fn is_made(world: &mut World, tried: Step) -> Option<bool> {
@@ -68,39 +47,58 @@ fn send(world: &mut World, sends: &mut VecDeque<Step>) -> Option<()> {
     Some(())
 }
 
-/// Tries each of the steps once.
-fn try_each(world: &mut World, steps: &[Step]) -> Option<()> {
-    for tried in steps {
-        let _made = is_made(world, *tried)?;
+/// Tries once what the sequencer may do in a group: its items' events, and its instances.
+fn try_group(world: &mut World, group: u16, items: u16) -> Option<()> {
+    for item in 0..items {
+        let _made = is_made(world, Step::Handle(ItemId { group, item }))?;
     }
+    let _met = is_made(world, Step::Meet(group))?;
     Some(())
 }
 
-/// Follows a schedule to its end: three sends are tried, then each step of the sequencer, and every third time each of
-/// the workers.
-fn follow(world: &mut World, schedule: &mut Schedule) -> Option<()> {
-    for turn in 0..100_u32 {
-        send(world, &mut schedule.sends)?;
-        send(world, &mut schedule.sends)?;
-        send(world, &mut schedule.sends)?;
-        try_each(world, &schedule.of_sequencer)?;
-        if turn % 3 == 2 {
-            try_each(world, &schedule.of_workers)?;
+/// Tries once what the sequencer may do in each group of these sizes.
+fn try_groups(world: &mut World, sizes: &[u16]) -> Option<()> {
+    for group in 0..MOST_GROUPS {
+        if let Some(items) = sizes.get(usize::from(group)) {
+            try_group(world, group, *items)?;
         }
     }
     Some(())
 }
 
-/// Follows the schedule of a row to its end.
-fn follow_row(
-    alloc: Global,
-    world: &mut World,
-    row: &Row,
-    way: Way,
-    numbers: Numbers,
-) -> Option<()> {
-    let mut schedule = schedule_of(alloc, row, way, numbers).ok()?;
-    follow(world, &mut schedule)
+/// Tries to take from each queue.
+fn try_takes(world: &mut World, queues: u16) -> Option<()> {
+    for queue in 0..queues {
+        let _taken = is_made(world, Step::Take(queue))?;
+    }
+    Some(())
+}
+
+/// Tries what each worker may do.
+fn try_works(world: &mut World, workers: u16) -> Option<()> {
+    for worker in 0..workers {
+        let _taken = is_made(world, Step::WorkTake(worker))?;
+    }
+    Some(())
+}
+
+/// Follows the schedule of a row to its end: three sends are tried, then each step of the sequencer, and every third time each of
+/// the workers.
+fn follow(alloc: Global, world: &mut World, row: &Row, way: Way, numbers: Numbers) -> Option<()> {
+    let (workers, queues, _) = numbers;
+    let mut sends = sends_of(alloc, row, way).ok()?;
+    for turn in 0..100_u32 {
+        send(world, &mut sends)?;
+        send(world, &mut sends)?;
+        send(world, &mut sends)?;
+        try_groups(world, row.1)?;
+        let _passed = is_made(world, Step::Pass)?;
+        try_takes(world, queues)?;
+        if turn % 3 == 2 {
+            try_works(world, workers)?;
+        }
+    }
+    Some(())
 }
 
 /// Whether the schedule of a row leads a world to the row's report.
@@ -111,7 +109,7 @@ fn leads_to_its_report(
     way: Way,
     numbers: Numbers,
 ) -> bool {
-    follow_row(alloc, world, row, way, numbers).is_some() && reported(world) == Some(row.3)
+    follow(alloc, world, row, way, numbers).is_some() && reported(world) == Some(row.3)
 }
 
 /// Whether the report of a row's world, however many workers and queues there are, is the row's.

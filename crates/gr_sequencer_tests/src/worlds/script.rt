@@ -46,8 +46,6 @@ pub(crate) struct Script {
     pub(crate) sizes: &'static [u16],
     pub(crate) numbers: Numbers,
     pub(crate) lines: &'static [Line],
-    /// How many of the steps are refused.
-    pub(crate) refused: u64,
     /// What is reported at the end, or `None` where the world is not at rest then.
     pub(crate) told: Option<Told>,
 }

@@ -1,11 +1,11 @@
 //! The answer to each step of a script, and the report at its end.
 
-use crate::rows::{BARRIER, END, FIRST_0_0, GLOBAL, LOCAL, NOTHING, READ, Told, WRITE};
+use crate::rows::{BARRIER, END, GLOBAL, LOCAL, NOTHING, READ, Told, WRITE};
 use crate::worlds::calls::new;
 use crate::worlds::script::{Script, Tried, steps_of, went};
 use crate::worlds::told::reported;
 use gr_model::event::{ItemId, Kind, Order, Scope, Word};
-use gr_model::report::{Divergence, DivergenceCause};
+use gr_model::report::DivergenceCause;
 use gr_world::step::StepError;
 use refusing::growths::refuse_each;
 use std::alloc::Global;
@@ -64,7 +64,6 @@ const ONE_PLACE: Script = Script {
         (Tried::Close(1, false), OK),
         (Tried::Take(0), OK),
     ],
-    refused: 4,
     told: Some(Told {
         races: (Some(Word::Global(16)), None),
         groups: 2,
@@ -87,7 +86,6 @@ const NEW_WORLD: Script = Script {
         (Tried::Meet(0), NOT_READY),
         (Tried::Send((0, 0, END, GLOBAL, 0, &[])), BAD),
     ],
-    refused: 7,
     told: None,
 };
 
@@ -106,7 +104,7 @@ const BAD_STEPS: Script = Script {
         (Tried::Send((0, 1, READ, GLOBAL, 16, &[])), BAD),
         (Tried::Send((0, 0, RELEASING_LOAD, GLOBAL, 16, &[])), BAD),
         (
-            Tried::Send((0, 0, RELAXED_LOAD, GLOBAL, 20, FIRST_0_0)),
+            Tried::Send((0, 0, RELAXED_LOAD, GLOBAL, 20, &[(0, 0, 0)])),
             BAD,
         ),
         (Tried::Send((0, 0, WRITE, GLOBAL, 16, &[])), OK),
@@ -139,7 +137,6 @@ const BAD_STEPS: Script = Script {
         (Tried::Handle(OTHER), NOT_READY),
         (Tried::WorkTake(0), OK),
     ],
-    refused: 29,
     told: Some(Told {
         cut: (Some(1), None),
         groups: 2,
@@ -190,16 +187,8 @@ const BARRIERS: Script = Script {
         (Tried::Close(0, false), OK),
         (Tried::Take(0), OK),
     ],
-    refused: 11,
     told: Some(Told {
-        divergences: (
-            Some(Divergence {
-                group: 0,
-                instance: 1,
-                cause: DivergenceCause::Site,
-            }),
-            None,
-        ),
+        divergences: (Some((0, 1, DivergenceCause::Site)), None),
         items: 2,
         records: 7,
         ..NOTHING
@@ -233,7 +222,6 @@ const TWO_QUEUES: Script = Script {
         (Tried::Take(1), OK),
         (Tried::Take(0), OK),
     ],
-    refused: 6,
     told: Some(Told {
         cut: (Some(0), None),
         groups: 2,
@@ -257,7 +245,6 @@ const LEFT_OVER: Script = Script {
         (Tried::Pass, OK),
         (Tried::WorkTake(0), OK),
     ],
-    refused: 0,
     told: Some(Told {
         records: 2,
         ..NOTHING
@@ -275,7 +262,6 @@ const ENDS: Script = Script {
         (Tried::Close(0, false), OK),
         (Tried::Take(0), OK),
     ],
-    refused: 0,
     told: Some(Told {
         groups: 2,
         items: 2,
@@ -289,17 +275,18 @@ static SCRIPTS: [Script; 7] = [
 ];
 
 /// How many steps of a script `run` refuses, and what is reported at the end; `None` if out of memory.
-fn ran(alloc: Global, script: &Script) -> Option<(u64, Option<Told>)> {
+fn ran(alloc: Global, script: &Script) -> Option<(usize, Option<Told>)> {
     let steps = steps_of(alloc, script)?;
     let mut world = new(alloc, script.sizes, script.numbers)?;
-    Some((world.run(&steps), reported(&world)))
+    Some((world.run(&steps) as usize, reported(&world)))
 }
 
 /// The name of the first script that goes otherwise, step by step or by `run`, if there is one.
 fn first_wrong_script(alloc: Global, scripts: &[Script]) -> Option<&'static str> {
     for script in scripts {
         let went_well = went(alloc, script) == Some((None, script.told));
-        if !went_well || ran(alloc, script) != Some((script.refused, script.told)) {
+        let refused = script.lines.iter().filter(|line| line.1.is_err()).count();
+        if !went_well || ran(alloc, script) != Some((refused, script.told)) {
             return Some(script.name);
         }
     }

@@ -1,11 +1,11 @@
-//! The steps of a schedule: what senders send, and what sequencer and workers try again and again.
+//! What the senders of a schedule send.
 
 use crate::rows::{Record, Row, event_of};
-use crate::worlds::calls::Numbers;
-use gr_model::event::{ItemId, Kind};
+use gr_model::event::Kind;
 use gr_world::step::Step;
 use std::alloc::{AllocError, Global};
 use std::collections::VecDeque;
+use std::ops::Range;
 
 /// In which order the groups send.
 #[derive(Clone, Copy, Debug, PartialEq, Eq)]
@@ -17,7 +17,7 @@ pub(crate) enum Way {
 }
 
 /// No row has more groups.
-const MOST_GROUPS: u16 = 2;
+pub(crate) const MOST_GROUPS: u16 = 2;
 
 /// The step that sends a record.
 fn send_of(record: &Record) -> Step {
@@ -27,77 +27,29 @@ fn send_of(record: &Record) -> Step {
     }
 }
 
-/// The steps that send the greatest group first.
-fn greatest_first(alloc: Global, records: &[Record]) -> Result<VecDeque<Step>, AllocError> {
-    let mut steps = VecDeque::new(alloc);
-    for group in (0..MOST_GROUPS).rev() {
-        for record in records {
-            if record.0 == group {
-                steps.push_back(send_of(record))?;
-            }
+/// Adds the steps that send the records of these groups, in their order.
+fn add_sends(
+    steps: &mut VecDeque<Step>,
+    records: &[Record],
+    groups: Range<u16>,
+) -> Result<(), AllocError> {
+    for record in records {
+        if groups.contains(&record.0) {
+            steps.push_back(send_of(record))?;
         }
     }
-    Ok(steps)
-}
-
-/// The steps that send the records in their order.
-fn as_listed(alloc: Global, records: &[Record]) -> Result<VecDeque<Step>, AllocError> {
-    let mut steps = VecDeque::new(alloc);
-    for record in records {
-        steps.push_back(send_of(record))?;
-    }
-    Ok(steps)
+    Ok(())
 }
 
 /// The steps that send a row's records.
 pub(crate) fn sends_of(alloc: Global, row: &Row, way: Way) -> Result<VecDeque<Step>, AllocError> {
+    let mut steps = VecDeque::new(alloc);
     match way {
-        Way::AsListed => as_listed(alloc, row.2),
-        Way::GreatestFirst => greatest_first(alloc, row.2),
-    }
-}
-
-/// Adds what the sequencer does in a group: its items' events, and its instances.
-fn add_group(steps: &mut Vec<Step>, group: u16, items: u16) -> Result<(), AllocError> {
-    for item in 0..items {
-        steps.push(Step::Handle(ItemId { group, item }))?;
-    }
-    steps.push(Step::Meet(group))?;
-    Ok(())
-}
-
-/// All that the sequencer may do, but taking records.
-fn goes_of(alloc: Global, row: &Row) -> Result<Vec<Step>, AllocError> {
-    let mut steps = Vec::new(alloc);
-    for group in 0..MOST_GROUPS {
-        if let Some(items) = row.1.get(usize::from(group)) {
-            add_group(&mut steps, group, *items)?;
+        Way::AsListed => add_sends(&mut steps, row.2, 0..MOST_GROUPS)?,
+        Way::GreatestFirst => {
+            add_sends(&mut steps, row.2, 1..MOST_GROUPS)?;
+            add_sends(&mut steps, row.2, 0..1)?;
         }
-    }
-    Ok(steps)
-}
-
-/// All that the sequencer may do.
-pub(crate) fn of_sequencer(
-    alloc: Global,
-    row: &Row,
-    numbers: Numbers,
-) -> Result<Vec<Step>, AllocError> {
-    let (_, queues, _) = numbers;
-    let mut steps = goes_of(alloc, row)?;
-    steps.push(Step::Pass)?;
-    for queue in 0..queues {
-        steps.push(Step::Take(queue))?;
-    }
-    Ok(steps)
-}
-
-/// All that the workers may do.
-pub(crate) fn of_workers(alloc: Global, numbers: Numbers) -> Result<Vec<Step>, AllocError> {
-    let (workers, _, _) = numbers;
-    let mut steps = Vec::new(alloc);
-    for worker in 0..workers {
-        steps.push(Step::WorkTake(worker))?;
     }
     Ok(steps)
 }
