@@ -59,15 +59,11 @@ fn arrive<A: Allocator>(
     ensures sizes { sizes_of instances.new ≡ sizes_of instances.old }
 {
     let before = states(instances);
-    let answer = arrive_once(instances, place, site, so_far);
-    match answer {
-        Err(BarrierError::Memory) => {
-            if states(instances) != before {
-                return answer;
-            }
-            arrive_once(instances, place, site, so_far)
-        }
-        _ => answer,
+    match arrive_once(instances, place, site, so_far) {
+        Err(BarrierError::Memory) if states(instances) == before => arrive_once(
+            instances, place, site, so_far,
+        ),
+        answer => answer,
     }
 }
 

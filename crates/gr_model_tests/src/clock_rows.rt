@@ -3,7 +3,7 @@
 ghost use Rattle.std.specs.Prelude.{◌≡◌, ◌<◌, ◌∷◌, [], IfSome};
 
 use crate::launch::{item, two_items};
-use gr_clocks::clock::Clock;
+use gr_clocks::clock::{Clock, ClockError};
 use gr_clocks::clocks::Clocks;
 use gr_clocks::snapshot::Snapshot;
 use gr_model::event::{Scope, Space, Word};
@@ -45,83 +45,57 @@ fn all_known<A: Allocator>(clocks: &Clocks<A>) -> [[u32; 2]; 4]
     ]
 }
 
-fn access<A: Allocator + Copy>(clocks: &mut Clocks<A>, place: u16) -> bool
-    requires sizes { clocks.old.sizes ≡ 2 ∷ [] }
-    requires place { place < 2 }
-    ensures { clocks.new.sizes ≡ 2 ∷ [] }
-{
-    let before = all_known(clocks);
-    if clocks.access(item(place)).is_ok() {
-        return true;
-    }
-    let stay = all_known(clocks) == before;
-    clocks.access(item(place)).is_ok() && stay
+/// A call for an item, or for its group.
+#[derive(Drop)]
+enum Call<'a, A: Allocator> {
+    Access,
+    Release(Word),
+    Acquire(&'a Snapshot<A>),
+    AcquireRelease(&'a Snapshot<A>, Word),
+    /// A barrier for global memory.
+    Meet,
 }
 
-fn release<A: Allocator + Copy>(
+/// Makes a call. Gives the snapshot that a release leaves.
+fn make_once<A: Allocator + Copy>(
     clocks: &mut Clocks<A>,
     place: u16,
-    word: Word,
-) -> Option<Snapshot<A>>
+    call: &Call<'_, A>,
+) -> Result<Option<Snapshot<A>>, ClockError>
     requires sizes { clocks.old.sizes ≡ 2 ∷ [] }
     requires place { place < 2 }
     ensures { clocks.new.sizes ≡ 2 ∷ [] }
 {
-    let before = all_known(clocks);
-    if let Ok(snapshot) = clocks.release(item(place), word, Scope::Device) {
-        return Some(snapshot);
+    let item = item(place);
+    match *call {
+        Call::Access => clocks.access(item).map(|()| None),
+        Call::Release(word) => clocks.release(item, word, Scope::Device).map(Some),
+        Call::Acquire(left) => clocks.acquire(item, &[left]).map(|()| None),
+        Call::AcquireRelease(left, word) => clocks
+            .acquire_release(item, &[left], word, Scope::Device)
+            .map(Some),
+        Call::Meet => clocks.meet(0, true, false).map(|()| None),
     }
-    if all_known(clocks) != before {
-        return None;
-    }
-    clocks.release(item(place), word, Scope::Device).ok()
 }
 
-fn acquire<A: Allocator + Copy>(clocks: &mut Clocks<A>, place: u16, snapshot: &Snapshot<A>) -> bool
-    requires sizes { clocks.old.sizes ≡ 2 ∷ [] }
-    requires place { place < 2 }
-    ensures { clocks.new.sizes ≡ 2 ∷ [] }
-{
-    let before = all_known(clocks);
-    if clocks.acquire(item(place), &[snapshot]).is_ok() {
-        return true;
-    }
-    let stay = all_known(clocks) == before;
-    clocks.acquire(item(place), &[snapshot]).is_ok() && stay
-}
-
-fn acquire_release<A: Allocator + Copy>(
+/// Makes a call, again where a growth was refused, which changes nothing.
+fn make<A: Allocator + Copy>(
     clocks: &mut Clocks<A>,
     place: u16,
-    snapshot: &Snapshot<A>,
-    word: Word,
-) -> Option<Snapshot<A>>
+    call: &Call<'_, A>,
+) -> Option<Option<Snapshot<A>>>
     requires sizes { clocks.old.sizes ≡ 2 ∷ [] }
     requires place { place < 2 }
     ensures { clocks.new.sizes ≡ 2 ∷ [] }
 {
     let before = all_known(clocks);
-    if let Ok(left) = clocks.acquire_release(item(place), &[snapshot], word, Scope::Device) {
+    if let Ok(left) = make_once(clocks, place, call) {
         return Some(left);
     }
     if all_known(clocks) != before {
         return None;
     }
-    clocks
-        .acquire_release(item(place), &[snapshot], word, Scope::Device)
-        .ok()
-}
-
-fn meet<A: Allocator + Copy>(clocks: &mut Clocks<A>, global: bool, local: bool) -> bool
-    requires { clocks.old.sizes ≡ 2 ∷ [] }
-    ensures { clocks.new.sizes ≡ 2 ∷ [] }
-{
-    let before = all_known(clocks);
-    if clocks.meet(0, global, local).is_ok() {
-        return true;
-    }
-    let stay = all_known(clocks) == before;
-    clocks.meet(0, global, local).is_ok() && stay
+    make_once(clocks, place, call).ok()
 }
 
 /// What each step of the row shows: the first snapshot, item 1's clocks after the acquire, the second snapshot, and all
@@ -137,25 +111,22 @@ fn acquire_twice_and_meet<A: Allocator + Copy>(
     requires { clocks.old.sizes ≡ 2 ∷ [] }
     ensures { clocks.new.sizes ≡ 2 ∷ [] }
 {
-    if !acquire(clocks, 1, first) {
-        return None;
-    }
+    let _none = make(clocks, 1, &Call::Acquire(first))?;
     let acquired = [
         known(clocks, 1, Space::Global),
         known(clocks, 1, Space::Local),
     ];
-    let second = counts(acquire_release(clocks, 1, first, Word::Global(24))?.clock());
-    meet(clocks, true, false).then_some((acquired, second))
+    let second = make(clocks, 1, &Call::AcquireRelease(first, Word::Global(24)))??;
+    let _none = make(clocks, 0, &Call::Meet)?;
+    Some((acquired, counts(second.clock())))
 }
 
 /// An access and a release of item 0, an acquire of item 1, one that releases too, and a barrier for global memory.
 fn steps_of_two_items<A: Allocator + Copy>(clocks: &mut Clocks<A>) -> Option<Seen>
     requires { clocks.old.sizes ≡ 2 ∷ [] }
 {
-    if !access(clocks, 0) {
-        return None;
-    }
-    let first = release(clocks, 0, Word::Global(20))?;
+    let _none = make(clocks, 0, &Call::Access)?;
+    let first = make(clocks, 0, &Call::Release(Word::Global(20)))??;
     let (acquired, second) = acquire_twice_and_meet(clocks, &first)?;
     Some((counts(first.clock()), acquired, second, all_known(clocks)))
 }

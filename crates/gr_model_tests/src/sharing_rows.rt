@@ -1,10 +1,10 @@
 //! The worked row of clocks that share their counts: what one of them counts from then on, its copy does not.
 
+use crate::launch::shape_of;
 use gr_clocks::clock::Clock;
 use gr_model::event::ItemId;
 use gr_model::memory::Memory;
-use gr_model::shape::Shape;
-use refusing::growths::refuse_each;
+use refusing::growths::{refuse_each, tried};
 use std::alloc::Allocator;
 
 /// The counts of three groups of two items.
@@ -23,29 +23,13 @@ fn counts<A: Allocator>(clock: &Clock<A>) -> Counts {
 }
 
 fn new_clock<A: Allocator + Copy>(alloc: A) -> Option<Clock<A>> {
-    let sizes = vec![in alloc; 2_u16, 2, 2].ok()?;
-    let shape = Shape::new(sizes).ok()?;
+    let shape = shape_of(alloc, &[2, 2, 2]).ok()?;
     Clock::new(alloc, &shape).ok()
 }
 
-/// Ticks an item, again where a growth was refused, which changes nothing.
-fn tick<A: Allocator + Copy>(clock: &mut Clock<A>, item: ItemId) -> bool {
-    let before = counts(clock);
-    if clock.tick(item).is_ok() {
-        return true;
-    }
-    let stays = counts(clock) == before;
-    clock.tick(item).is_ok() && stays
-}
-
-/// Joins a clock, again where a growth was refused, which changes nothing.
-fn join<A: Allocator + Copy>(clock: &mut Clock<A>, other: &Clock<A>) -> bool {
-    let before = counts(clock);
-    if clock.join(other).is_ok() {
-        return true;
-    }
-    let stays = counts(clock) == before;
-    clock.join(other).is_ok() && stays
+/// Ticks an item, tried twice.
+fn tick<A: Allocator + Copy>(clock: &mut Clock<A>, item: ItemId) -> Option<()> {
+    tried(clock, counts, |clock| clock.tick(item).map_err(|_| Memory))
 }
 
 /// A tick of a clock and of its copy, and a join of the clock into the copy: what both count then.
@@ -53,16 +37,20 @@ fn tick_and_join<A: Allocator + Copy>(
     first: &mut Clock<A>,
     copied: &mut Clock<A>,
 ) -> Option<(Counts, Counts)> {
-    let done = tick(copied, at(1, 1)) && tick(first, at(0, 0)) && join(copied, first);
-    done.then_some((counts(first), counts(copied)))
+    tick(copied, at(1, 1))?;
+    tick(first, at(0, 0))?;
+    tried(
+        copied,
+        counts,
+        |clock| clock.join(first).map_err(|_| Memory),
+    )?;
+    Some((counts(first), counts(copied)))
 }
 
 /// Three ticks of a clock, a copy, a tick of each, and a join of the clock into the copy.
 fn tick_and_copy<A: Allocator + Copy>(first: &mut Clock<A>) -> Option<(Counts, Counts)> {
     for _time in 0..3 {
-        if !tick(first, at(1, 1)) {
-            return None;
-        }
+        tick(first, at(1, 1))?;
     }
     let mut copied = first.copy().ok()?;
     tick_and_join(first, &mut copied)

@@ -1,7 +1,7 @@
 //! Records, texts and reports: values that no file gives, growths that are refused, readers and writers that fail.
 
 mod facts;
-pub(crate) mod failing;
-mod growths;
+mod failing;
+pub(crate) mod growths;
 mod reports;
-mod works;
+pub(crate) mod works;

@@ -6,11 +6,7 @@ mod each;
 #[cfg(test)]
 mod facts;
 #[cfg(test)]
-mod failures;
-#[cfg(test)]
 mod formats;
-#[cfg(test)]
-mod growths;
 #[cfg(test)]
 mod launches;
 #[cfg(test)]

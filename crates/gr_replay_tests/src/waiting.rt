@@ -1,7 +1,9 @@
 //! Streams with so many records that wait for a later stream that they are kept aside.
 
-use crate::growths::replay_refused;
+use crate::formats::growths::is_done;
+use crate::formats::works::{Work, done};
 use crate::launches::{packed, report};
+use refusing::growths::refuse_each;
 use std::alloc::{AllocError, Global};
 use std::test::Fail;
 
@@ -25,10 +27,12 @@ const LINES: &str =
 
 #[test]
 fn each_refused_growth_is_want_of_memory_where_records_wait(rt: HostRuntime) -> Result<(), Fail> {
-    let waits = waits(rt.alloc())?;
-    let due = report(rt.alloc(), LINES)?;
-    let bytes = packed(rt.alloc(), &format!(in rt.alloc(); "{waits}{RELEASES}")?)?;
-    let growths = replay_refused(rt.alloc(), &bytes, due.as_bytes());
+    let alloc = rt.alloc();
+    let waits = waits(alloc)?;
+    let due = report(alloc, LINES)?;
+    let bytes = packed(alloc, &format!(in alloc; "{waits}{RELEASES}")?)?;
+    let case = done(alloc, Work::Replay, &bytes, due.as_bytes())?;
+    let growths = refuse_each(alloc, 5, |heap| is_done(heap, alloc, &case));
     assert!(rt; growths.is_ok(), "{growths:?}");
     Ok(())
 }

@@ -11,6 +11,7 @@ use gr_model::shape::Shape;
 use gr_order::go_error::GoError;
 use gr_sequencer::handled::Handled;
 use gr_sequencer::sequencer::Sequencer;
+use refusing::growths::tried;
 use std::alloc::Allocator;
 
 /// Whether some group may have the event.
@@ -62,20 +63,6 @@ fn state<A: Allocator>(sequencer: &Sequencer<A>) -> ([u32; 3], u64, bool) {
     )
 }
 
-/// The answer of a call, tried twice.
-fn tried<A: Allocator, T, F: Fn(&mut Sequencer<A>) -> Result<T, Memory>>(
-    sequencer: &mut Sequencer<A>,
-    call: F,
-) -> Option<T>
-    requires { F.IsAlwaysCallable call }
-{
-    let before = state(sequencer);
-    match call(sequencer) {
-        Err(Memory) if state(sequencer) == before => call(sequencer).ok(),
-        answer => answer.ok(),
-    }
-}
-
 fn take_once<A: Allocator + Copy>(
     sequencer: &mut Sequencer<A>,
     record: &Record,
@@ -92,7 +79,7 @@ pub(crate) fn take<A: Allocator + Copy>(
     sequencer: &mut Sequencer<A>,
     record: &Record,
 ) -> Option<()> {
-    tried(sequencer, |sequencer| take_once(sequencer, record))
+    tried(sequencer, state, |sequencer| take_once(sequencer, record))
 }
 
 fn take_and_handle_once<A: Allocator + Copy>(
@@ -116,6 +103,7 @@ pub(crate) fn take_and_handle<A: Allocator + Copy>(
 ) -> Option<Option<Handled<A>>> {
     tried(
         sequencer,
+        state,
         |sequencer| take_and_handle_once(sequencer, record),
     )
 }
@@ -123,7 +111,7 @@ pub(crate) fn take_and_handle<A: Allocator + Copy>(
 pub(crate) fn step<A: Allocator + Copy>(
     sequencer: &mut Sequencer<A>,
 ) -> Option<Option<Handled<A>>> {
-    tried(sequencer, |sequencer| sequencer.step())
+    tried(sequencer, state, |sequencer| sequencer.step())
 }
 
 /// The step, or `None` if it is not ready.
@@ -131,7 +119,7 @@ pub(crate) fn handle<A: Allocator + Copy>(
     sequencer: &mut Sequencer<A>,
     item: ItemId,
 ) -> Option<Option<Handled<A>>> {
-    tried(sequencer, |sequencer| judged(sequencer.handle(item)))
+    tried(sequencer, state, |sequencer| judged(sequencer.handle(item)))
 }
 
 /// The step, or `None` if it is not ready.
@@ -139,7 +127,7 @@ pub(crate) fn meet<A: Allocator + Copy>(
     sequencer: &mut Sequencer<A>,
     group: u16,
 ) -> Option<Option<Handled<A>>> {
-    tried(sequencer, |sequencer| judged(sequencer.meet(group)))
+    tried(sequencer, state, |sequencer| judged(sequencer.meet(group)))
 }
 
 fn judged<A: Allocator>(answer: Result<Handled<A>, GoError>) -> Result<Option<Handled<A>>, Memory> {

@@ -47,3 +47,20 @@ pub fn refuse_each<'a, F: Fn(&'a Refusing<Global>) -> Result<bool, Memory>>(
     }
     Err(MOST)
 }
+
+/// The answer of a call, tried twice: a try without memory must change nothing of the state, and then the second try counts.
+pub fn tried<V, S: PartialEq + Drop, T, G: Fn(&V) -> S, F: Fn(&mut V) -> Result<T, Memory>>(
+    subject: &mut V,
+    state: G,
+    call: F,
+) -> Option<T>
+    requires state { G.IsAlwaysCallable state }
+    requires call { F.IsAlwaysCallable call }
+{
+    let before = state(subject);
+    match call(subject) {
+        Ok(answer) => Some(answer),
+        Err(Memory) if state(subject) == before => call(subject).ok(),
+        Err(Memory) => None,
+    }
+}

@@ -3,10 +3,10 @@
 ghost use Rattle.std.specs.Prelude.{◌≡◌, ◌∷◌, [], IfOk, map};
 ghost use Rattle.gr_barriers.specs.Arrived.{fresh_group};
 
+use crate::launch::shape_of;
 use gr_barriers::instances::{BarrierError, Instances, State};
 use gr_model::event::ItemId;
 use gr_model::memory::Memory;
-use gr_model::shape::Shape;
 use std::alloc::Allocator;
 
 /// The first item of the group.
@@ -16,11 +16,7 @@ const FIRST: ItemId = ItemId { group: 0, item: 0 };
 fn new_instances<A: Allocator + Copy>(alloc: A) -> Result<Instances<A>, Memory>
     ensures { IfOk result (λ v. v ≡ map fresh_group (2 ∷ [])) }
 {
-    let sizes = vec![in alloc; 2]?;
-    match Shape::new(sizes) {
-        Ok(shape) => Instances::new(alloc, &shape),
-        Err(_) => Err(Memory),
-    }
+    Instances::new(alloc, &shape_of(alloc, &[2])?)
 }
 
 /// No barrier comes after the end of its group.
@@ -35,6 +31,7 @@ fn arrive_behind_the_end(rt: HostRuntime) -> Result<(), BarrierError> {
 
 /// While its group goes on no instance lacks an item for good.
 #[test]
+#[tactic(auto, using(crate::proofs::States::waits))]
 fn state_of_an_instance_that_waits(rt: HostRuntime) -> Result<(), BarrierError> {
     let mut instances = new_instances(rt.alloc())?;
     instances.arrive(FIRST, 7, true, false)?;

@@ -3,10 +3,10 @@
 ghost use Rattle.std.specs.Prelude.{◌≡◌, ◌∷◌, [], IfOk};
 ghost use Rattle.gr_clocks.specs.ItemClocks.{AreNew};
 
+use crate::launch::shape_of;
 use gr_clocks::clock::{Clock, ClockError};
 use gr_clocks::clocks::Clocks;
 use gr_model::event::{ItemId, Scope, Space, Word};
-use gr_model::shape::Shape;
 use std::alloc::Allocator;
 
 /// The first item of group 1.
@@ -19,25 +19,17 @@ const OTHER: ItemId = ItemId { group: 1, item: 1 };
 fn new_clocks<A: Allocator + Copy>(alloc: A) -> Result<Clocks<A>, ClockError>
     ensures { IfOk result (AreNew (1 ∷ 2 ∷ [])) }
 {
-    let sizes = vec![in alloc; 1, 2]?;
-    match Shape::new(sizes) {
-        Ok(shape) => Clocks::new(alloc, &shape),
-        Err(_) => Err(ClockError::Memory),
-    }
+    let shape = shape_of(alloc, &[1, 2])?;
+    Clocks::new(alloc, &shape)
 }
 
 /// A clock that counts an event of this item, and one of an item of another group.
 fn ticked<A: Allocator + Copy>(alloc: A, item: ItemId) -> Result<Clock<A>, ClockError> {
-    let sizes = vec![in alloc; 1, 2]?;
-    match Shape::new(sizes) {
-        Ok(shape) => {
-            let mut clock = Clock::new(alloc, &shape)?;
-            clock.tick(item)?;
-            clock.tick(ItemId { group: 0, item: 0 })?;
-            Ok(clock)
-        }
-        Err(_) => Err(ClockError::Memory),
-    }
+    let shape = shape_of(alloc, &[1, 2])?;
+    let mut clock = Clock::new(alloc, &shape)?;
+    clock.tick(item)?;
+    clock.tick(ItemId { group: 0, item: 0 })?;
+    Ok(clock)
 }
 
 /// The clock of an access counts it.
@@ -93,6 +85,7 @@ fn lacks_no_group_that_it_counts(rt: HostRuntime) -> Result<(), ClockError> {
 
 /// A barrier that flags global memory orders no local memory.
 #[test]
+#[tactic(auto, using(crate::proofs::States::orders_nothing))]
 fn meet_of_global_memory(rt: HostRuntime) -> Result<(), ClockError> {
     let mut clocks = new_clocks(rt.alloc())?;
     clocks.meet(1, true, false)?;

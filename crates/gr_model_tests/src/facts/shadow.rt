@@ -5,12 +5,12 @@ ghost use Rattle.gr_model.specs.declared.event.ItemId.{ItemId as AnyItem};
 ghost use Rattle.gr_model.specs.declared.event.Word.TheVariants.{Global as GlobalWord};
 ghost use Rattle.gr_clocks.specs.Counts.{count_of};
 
+use crate::launch::shape_of;
 use gr_clocks::access::Access;
 use gr_clocks::clock::{Clock, ClockError};
 use gr_model::class::Class;
 use gr_model::event::{ItemId, Word};
 use gr_model::memory::Memory;
-use gr_model::shape::Shape;
 use gr_shadow::merge::merge;
 use gr_shadow::shadows::Shadows;
 use std::alloc::Allocator;
@@ -34,17 +34,14 @@ fn access<A: Allocator + Copy>(
     ensures class { IfOk result (λ x. x.class ≡ class) }
     ensures clock { IfOk result (λ x. (j : AnyItem) → count_of x.clock j ≡ 0) }
 {
-    let sizes = vec![in alloc; 1, 1]?;
-    match Shape::new(sizes) {
-        Ok(shape) => Ok(Access {
-            word: Word::Global(4),
-            item,
-            index,
-            class,
-            clock: Clock::new(alloc, &shape)?,
-        }),
-        Err(_) => Err(ClockError::Memory),
-    }
+    let shape = shape_of(alloc, &[1, 1])?;
+    Ok(Access {
+        word: Word::Global(4),
+        item,
+        index,
+        class,
+        clock: Clock::new(alloc, &shape)?,
+    })
 }
 
 /// A read of the other item, which counts three events of the first.

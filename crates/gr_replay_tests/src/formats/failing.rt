@@ -1,6 +1,8 @@
 //! Readers that fail, and writers that fail.
 
-use crate::formats::works::{Case, TEXTS, cases, do_work};
+use crate::formats::works::{Case, TEXTS, Work, cases, do_work, done};
+use crate::launches::{RACE, packed};
+use gr_record::error::RecordError;
 use gr_record::fault::Fault;
 use refusing::failing::FailingReader;
 use std::alloc::Global;
@@ -106,7 +108,7 @@ fn tells_of(alloc: Global, case: &Case, writer: &mut FailingWriter) -> bool {
 #[test]
 fn a_writer_that_fails_has_a_prefix(rt: HostRuntime) -> Result<(), Fail> {
     let alloc = rt.alloc();
-    for case in &cases(alloc, &TEXTS[..1])? {
+    for case in &cases(alloc, &TEXTS[..1], &[RACE])? {
         let failed = fail_each(alloc, &case.output, |writer| tells_of(alloc, case, writer));
         assert!(rt; failed.is_ok(), "{:?}: {failed:?}", case.work);
     }
@@ -126,7 +128,7 @@ fn after_calls(alloc: Global, case: &Case, calls: usize) -> (Result<(), Fault>, 
 
 #[test]
 fn a_reader_that_fails_is_a_read_fault(rt: HostRuntime) -> Result<(), Fail> {
-    for case in &cases(rt.alloc(), &TEXTS[..1])? {
+    for case in &cases(rt.alloc(), &TEXTS[..1], &[RACE])? {
         let end = case.input.len();
         for calls in 0..end.saturating_add(1) {
             let (answer, written) = after_calls(rt.alloc(), case, calls);
@@ -141,6 +143,26 @@ fn a_reader_that_fails_is_a_read_fault(rt: HostRuntime) -> Result<(), Fail> {
             answer == case.answer && written == case.output,
             "{:?}: all calls",
             case.work
+        );
+    }
+    Ok(())
+}
+
+#[test]
+fn a_fault_comes_before_a_failure_behind_it(rt: HostRuntime) -> Result<(), Fail> {
+    let mut bytes = packed(rt.alloc(), RACE.0)?;
+    if let Some(space) = bytes.get_mut(13) {
+        *space = 2;
+    }
+    let case = done(rt.alloc(), Work::Replay, &bytes, &[])?;
+    for (calls, due) in [
+        (31, Fault::Read),
+        (32, Fault::Stream(0, RecordError::BadField(1))),
+    ] {
+        let (answer, written) = after_calls(rt.alloc(), &case, calls);
+        assert!(rt;
+            answer == Err(due) && written.is_empty(),
+            "after {calls} calls"
         );
     }
     Ok(())

@@ -1,6 +1,7 @@
 //! Each growth is refused in turn: the result is then out of memory, with nothing written, or what is expected.
 
-use crate::formats::works::{Case, TEXTS, cases, do_work};
+use crate::formats::works::{Case, TEXTS, Work, cases, do_work};
+use crate::launches::{HAND_OVERS, LINES, RACE};
 use gr_model::event::{Event, event_ok};
 use gr_model::limits::MOST_ITEMS_OF_A_GROUP;
 use gr_model::memory::Memory;
@@ -17,7 +18,11 @@ use std::alloc::{Allocator, Global};
 use std::test::Fail;
 
 /// Whether the work gives what is expected, or memory ran out with nothing written.
-fn is_done<A: Allocator + Copy>(alloc: A, ample: Global, case: &Case) -> Result<bool, Memory> {
+pub(crate) fn is_done<A: Allocator + Copy>(
+    alloc: A,
+    ample: Global,
+    case: &Case,
+) -> Result<bool, Memory> {
     let mut written = Vec::new(ample);
     let mut reader = case.input.as_slice();
     match do_work(alloc, case.work, &mut reader, &mut written) {
@@ -29,15 +34,16 @@ fn is_done<A: Allocator + Copy>(alloc: A, ample: Global, case: &Case) -> Result<
 #[test]
 fn each_refused_growth_of_work_is_out_of_memory(rt: HostRuntime) -> Result<(), Fail> {
     let alloc = rt.alloc();
-    for case in &cases(alloc, &TEXTS)? {
-        let growths = refuse_each(alloc, 2, |heap| is_done(heap, alloc, case));
+    for case in &cases(alloc, &TEXTS, &[RACE, LINES, HAND_OVERS])? {
+        let least = if case.work == Work::Replay { 5 } else { 2 };
+        let growths = refuse_each(alloc, least, |heap| is_done(heap, alloc, case));
         assert!(rt; growths.is_ok(), "{:?}: {growths:?}", case.work);
     }
     Ok(())
 }
 
 /// A line of each kind of record.
-static LINES: [&str; 8] = [
+static RECORDS: [&str; 8] = [
     "0 w g 16",
     "1 r g 16",
     "end",
@@ -69,7 +75,7 @@ fn line_of<A: Allocator>(alloc: A, event: &Event) -> Result<String<A>, Memory> {
 
 #[test]
 fn each_refused_growth_of_a_line_is_out_of_memory(rt: HostRuntime) -> Result<(), Fail> {
-    for &line in &LINES {
+    for &line in &RECORDS {
         let event = event_of(line).ok_or("no event")?;
         let growths = refuse_each(
             rt.alloc(),
@@ -118,7 +124,7 @@ fn is_read<A: Allocator>(alloc: A, event: &Event, bytes: &[u8; 20]) -> bool {
 
 #[test]
 fn a_decoder_goes_on_once_there_is_memory(rt: HostRuntime) -> Result<(), Fail> {
-    for &line in &LINES {
+    for &line in &RECORDS {
         let event = event_of(line).ok_or("no event")?;
         let bytes = bytes_of(&event).ok_or("no bytes")?;
         let growths = refuse_each(rt.alloc(), 1, |heap| Ok(is_read(heap, &event, &bytes)));

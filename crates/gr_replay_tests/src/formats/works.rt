@@ -1,7 +1,9 @@
 //! Texts of streams, what is done with them, and the expected result.
 
+use crate::launches::{Launch, packed, report};
 use gr_record::error::RecordError;
 use gr_record::fault::Fault;
+use gr_replay::replay;
 use gr_text::{dump, dump_partial, pack, upgrade};
 use std::alloc::{AllocError, Allocator, Global};
 use std::io::{Read, Write};
@@ -14,6 +16,7 @@ pub(crate) enum Work {
     Dump,
     DumpPartial,
     Upgrade,
+    Replay,
 }
 
 /// Does the work on an input.
@@ -28,6 +31,7 @@ pub(crate) fn do_work<A: Allocator + Copy, R: Read, W: Write>(
         Work::Dump => dump(alloc, reader, writer),
         Work::DumpPartial => dump_partial(alloc, reader, writer),
         Work::Upgrade => upgrade(alloc, reader, writer),
+        Work::Replay => replay(alloc, reader, writer).map(|_| ()),
     }
 }
 
@@ -67,15 +71,13 @@ pub(crate) static TEXTS: [Text; 4] = [
     ),
 ];
 
-/// The bytes of the streams of a text.
-fn packed(alloc: Global, text: &str) -> Result<Vec<u8>, Fail> {
-    let mut bytes = Vec::new(alloc);
-    pack(alloc, &mut text.as_bytes(), &mut bytes).map_err(|_| "not packed")?;
-    Ok(bytes)
-}
-
 /// Work that goes well.
-fn done(alloc: Global, work: Work, input: &[u8], output: &[u8]) -> Result<Case, AllocError> {
+pub(crate) fn done(
+    alloc: Global,
+    work: Work,
+    input: &[u8],
+    output: &[u8],
+) -> Result<Case, AllocError> {
     Ok(Case {
         work,
         input: input.to_vec(alloc)?,
@@ -98,8 +100,18 @@ fn broken(alloc: Global) -> Result<Case, Fail> {
     })
 }
 
-/// Each work on each of these texts, and one that ends with a fault.
-pub(crate) fn cases(alloc: Global, texts: &[Text]) -> Result<Vec<Case>, Fail> {
+/// Adds the replays of launches.
+fn add_replays(alloc: Global, cases: &mut Vec<Case>, launches: &[Launch]) -> Result<(), Fail> {
+    for &(text, lines) in launches {
+        let bytes = packed(alloc, text)?;
+        let output = report(alloc, lines)?;
+        cases.push(done(alloc, Work::Replay, &bytes, output.as_bytes())?)?;
+    }
+    Ok(())
+}
+
+/// Each work on each of these texts, and one that ends with a fault. Of launches the replay.
+pub(crate) fn cases(alloc: Global, texts: &[Text], launches: &[Launch]) -> Result<Vec<Case>, Fail> {
     let mut cases = vec![in alloc; broken(alloc)?]?;
     for &(text, long) in texts {
         let (bytes, long) = (packed(alloc, text)?, packed(alloc, long)?);
@@ -109,5 +121,6 @@ pub(crate) fn cases(alloc: Global, texts: &[Text]) -> Result<Vec<Case>, Fail> {
         cases.push(done(alloc, Work::DumpPartial, &bytes, text)?)?;
         cases.push(done(alloc, Work::Upgrade, &bytes, &long)?)?;
     }
+    add_replays(alloc, &mut cases, launches)?;
     Ok(cases)
 }

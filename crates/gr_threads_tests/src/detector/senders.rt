@@ -3,8 +3,8 @@
 ghost use Rattle.std.specs.Prelude.{◌≡◌, IfSome};
 ghost use Rattle.gr_threads_tests.specs.Senders.{IsReceiptOf, IsSameSender};
 
-use gr_model::event::{Event, Kind, Space};
-use gr_model::names::Names;
+use crate::route::three_senders::write;
+use gr_model::event::{Event, Kind};
 use gr_threads::receipt::Receipt;
 use gr_threads::sender::Sender;
 use std::alloc::Allocator;
@@ -17,9 +17,7 @@ pub fn plain(item: u16, kind: Kind, word: u32) -> Event {
     Event {
         item,
         kind,
-        space: Space::Global,
-        word,
-        names: Names::none(),
+        ..write(word)
     }
 }
 

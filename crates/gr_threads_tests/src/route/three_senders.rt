@@ -215,23 +215,6 @@ fn run_to_end<R: Threads + Wait + Clock + Sync>(
     Ok(Some(all))
 }
 
-/// Makes three senders over a queue, and runs them and a taker. `None` if a sender refused.
-fn run_over<R: Threads + Wait + Clock + Sync>(
-    rt: &R,
-    alloc: Global,
-    queue: &Arc<Intake, Global>,
-    taker: TakerSeat,
-    count: u32,
-) -> Result<Option<Vec<Sent>>, Memory>
-    requires queue { taker.queue ≡ (arc_value queue.now).queue }
-    requires fresh { (taker.popped ≡ []) × (taker.sizes ≡ no_sizes) }
-    ensures { IfOk result (λ done. IfSome done (λ all. (g : ℕ) → g < 3 → events_of g all.items ≡ stream_of count)) }
-{
-    let mut taker = taker;
-    let senders = senders_of(queue, &mut taker)?;
-    run_to_end(rt, alloc, queue, taker, senders, count)
-}
-
 /// An empty queue that can be shared, and the seat that pops.
 pub(crate) fn shared_queue(
     alloc: Global,
@@ -256,6 +239,7 @@ pub fn three_senders<R: Threads + Wait + Clock + Sync>(
     requires { (0 < capacity) × (capacity ≤ MOST_PLACES) }
     ensures { IfOk result (λ done. IfSome done (λ all. (g : ℕ) → g < 3 → events_of g all.items ≡ stream_of count)) }
 {
-    let (queue, taker) = shared_queue(alloc, capacity)?;
-    run_over(rt, alloc, &queue, taker, count)
+    let (queue, mut taker) = shared_queue(alloc, capacity)?;
+    let senders = senders_of(&queue, &mut taker)?;
+    run_to_end(rt, alloc, &queue, taker, senders, count)
 }

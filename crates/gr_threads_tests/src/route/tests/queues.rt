@@ -199,26 +199,14 @@ fn split_give_and_join<R: Wait, A: Allocator + Copy>(
     Some((popped, [refused, queue.split(worker).is_none()]))
 }
 
-/// What an empty queue of one place gives for a write; `None` if the first split is refused.
-fn give_write<R: Wait, A: Allocator + Copy>(
-    rt: &R,
-    alloc: A,
-    queue: &WorkQueue<A>,
-    worker: &mut WorkerSeat<A>,
-) -> Result<Option<WorkAnswers>, Memory>
-    requires { worker.old.queue ≡ queue.now.queue }
-{
-    let access = write_by_one(alloc, 7)?;
-    Ok(split_give_and_join(rt, queue, worker, access))
-}
-
-/// What a queue of one place gives; `None` if the first split is refused.
+/// What a queue of one place gives for a write; `None` if the first split is refused.
 fn work_answers<R: Wait, A: Allocator + Copy>(
     rt: &R,
     alloc: A,
 ) -> Result<Option<WorkAnswers>, Memory> {
+    let access = write_by_one(alloc, 7)?;
     let (queue, mut worker) = WorkQueue::new(alloc, 1)?;
-    give_write(rt, alloc, &queue, &mut worker)
+    Ok(split_give_and_join(rt, &queue, &mut worker, access))
 }
 
 /// Whether a work queue of one place gives what it should.
