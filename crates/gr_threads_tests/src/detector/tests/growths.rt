@@ -4,9 +4,8 @@ use crate::detector::notes::{Noted, Notes};
 use crate::detector::runs::Ended;
 use crate::detector::tests::two_senders::run_two;
 use gr_model::memory::Memory;
-use refusing::Refusing;
 use refusing::growths::refuse_each;
-use std::alloc::Global;
+use std::alloc::{Allocator, Global};
 use std::sync::atomic::Ordering;
 use std::sync::{Arc, Wait};
 use std::test::*;
@@ -14,22 +13,20 @@ use std::thread::Threads;
 use std::time::Clock;
 
 /// Runs the two senders under a watch. Gives whether the report is right, or why there is none.
-fn answer_of<R: Threads + Wait + Clock + Copy + Send + Sync + 'static>(
-    rt: R,
-    heap: &'static Refusing<Global>,
-    watch: Noted,
-) -> Result<bool, Ended> {
+fn answer_of<
+    R: Threads + Wait + Clock + Copy + Send + Sync + 'static,
+    A: Allocator + Copy + Send + Sync + Drop + 'static,
+>(rt: R, heap: A, watch: Noted) -> Result<bool, Ended> {
     let watch = Arc::new(heap, watch).map_err(|_| Ended::NotStarted)?;
     run_two(rt, heap, watch)
 }
 
 /// Whether the report of the two senders is right, or memory ran out, in the run or before its start. All records are taken in a run that
 /// was started, and its watch is dropped once.
-fn is_reported<R: Threads + Wait + Clock + Copy + Send + Sync + 'static>(
-    rt: R,
-    alloc: Global,
-    heap: &'static Refusing<Global>,
-) -> Result<bool, Memory> {
+fn is_reported<
+    R: Threads + Wait + Clock + Copy + Send + Sync + 'static,
+    A: Allocator + Copy + Send + Sync + Drop + 'static,
+>(rt: R, alloc: Global, heap: A) -> Result<bool, Memory> {
     let notes = Arc::new(alloc, Notes::new())?;
     let watch = Noted {
         notes: Arc::try_clone(&notes)?,

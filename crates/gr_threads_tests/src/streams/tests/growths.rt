@@ -7,19 +7,15 @@ use gr_model::config::Config;
 use gr_model::memory::Memory;
 use gr_record::fault::Fault;
 use gr_streams::run_streams;
-use refusing::Refusing;
 use refusing::growths::refuse_each;
-use std::alloc::{AllocError, Global};
+use std::alloc::{AllocError, Allocator, Global};
 use std::sync::{Arc, Wait};
 use std::test::*;
 use std::thread::Threads;
 use std::time::Clock;
 
 /// Readers of streams. Each gives its whole stream at once.
-fn readers_of(
-    heap: &'static Refusing<Global>,
-    streams: &[Vec<u8>],
-) -> Result<Vec<Input, &'static Refusing<Global>>, AllocError> {
+fn readers_of<A: Allocator>(heap: A, streams: &[Vec<u8>]) -> Result<Vec<Input, A>, AllocError> {
     let mut readers = Vec::with_capacity(heap, streams.len())?;
     for stream in streams {
         readers.push(Input::whole(stream.clone()?))?;
@@ -28,13 +24,10 @@ fn readers_of(
 }
 
 /// Whether a run over streams writes this text, or memory runs out with nothing written. Its threads have then dropped the watch.
-fn is_reported<R: Threads + Wait + Clock + Copy + Send + 'static>(
-    rt: R,
-    alloc: Global,
-    heap: &'static Refusing<Global>,
-    streams: &[Vec<u8>],
-    due: &[u8],
-) -> Result<bool, Memory> {
+fn is_reported<
+    R: Threads + Wait + Clock + Copy + Send + 'static,
+    A: Allocator + Copy + Send + Sync + Drop + 'static,
+>(rt: R, alloc: Global, heap: A, streams: &[Vec<u8>], due: &[u8]) -> Result<bool, Memory> {
     let readers = readers_of(heap, streams)?;
     let watch = Arc::new(heap, Races::new())?;
     let theirs = Arc::try_clone(&watch)?;
