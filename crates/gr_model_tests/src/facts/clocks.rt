@@ -85,7 +85,6 @@ fn lacks_no_group_that_it_counts(rt: HostRuntime) -> Result<(), ClockError> {
 
 /// A barrier that flags global memory orders no local memory.
 #[test]
-#[tactic(auto, using(crate::proofs::States::orders_nothing))]
 fn meet_of_global_memory(rt: HostRuntime) -> Result<(), ClockError> {
     let mut clocks = new_clocks(rt.alloc())?;
     clocks.meet(1, true, false)?;

@@ -4,7 +4,7 @@ use crate::detector::notes::{Noted, Notes};
 use crate::detector::runs::Ended;
 use crate::detector::tests::two_senders::run_two;
 use gr_model::memory::Memory;
-use refusing::growths::refuse_each;
+use refusing::Refusing;
 use std::alloc::{Allocator, Global};
 use std::sync::atomic::Ordering;
 use std::sync::{Arc, Wait};
@@ -41,12 +41,29 @@ fn is_reported<
     }
 }
 
+/// Whether the answer is right with the growth of this number refused, and whether there is such a growth.
+fn is_due_without<R: Threads + Wait + Clock + Copy + Send + Sync + 'static>(
+    rt: R,
+    alloc: Global,
+    at: u64,
+) -> Result<(bool, bool), Fail> {
+    let heap: &'static Refusing<Global> = Box::leak(Box::new(alloc, Refusing::new(alloc, at))?);
+    let is_due = match is_reported(rt, alloc, heap) {
+        Ok(is_right) => is_right,
+        Err(Memory) => heap.refused(),
+    };
+    Ok((is_due, heap.refused()))
+}
+
 #[test]
-fn each_refused_growth_is_want_of_memory(rt: HostRuntime) {
-    let alloc = rt.alloc();
-    let growths = refuse_each(alloc, 21, |heap| is_reported(rt, alloc, heap));
-    assert!(rt;
-        growths.is_ok(),
-        "queues, clocks and shadows grow: {growths:?}"
-    );
+fn each_refused_growth_is_want_of_memory(rt: HostRuntime) -> Result<(), Fail> {
+    for at in 0..10_000_u64 {
+        let (is_due, is_refused) = is_due_without(rt, rt.alloc(), at)?;
+        assert!(rt; is_due, "the growth numbered {at}");
+        if !is_refused {
+            assert!(rt; at > 20, "queues, clocks and shadows grow");
+            return Ok(());
+        }
+    }
+    Err("a growth was refused each time")?
 }

@@ -7,7 +7,7 @@ use gr_model::config::Config;
 use gr_model::memory::Memory;
 use gr_record::fault::Fault;
 use gr_streams::run_streams;
-use refusing::growths::refuse_each;
+use refusing::Refusing;
 use std::alloc::{AllocError, Allocator, Global};
 use std::sync::{Arc, Wait};
 use std::test::*;
@@ -44,18 +44,36 @@ fn is_reported<
     }
 }
 
+/// Refuses each growth in turn, until none is refused. Gives the first whose answer is wrong, if there is one.
+fn first_wrong_growth<R: Threads + Wait + Clock + Copy + Send + 'static>(
+    rt: R,
+    alloc: Global,
+    streams: &[Vec<u8>],
+    due: &[u8],
+) -> Result<Option<u64>, Fail> {
+    for at in 0..10_000_u64 {
+        let heap: &'static Refusing<Global> = Box::leak(Box::new(alloc, Refusing::new(alloc, at))?);
+        let is_due = match is_reported(rt, alloc, heap, streams, due) {
+            Ok(is_right) => is_right,
+            Err(Memory) => heap.refused(),
+        };
+        if !is_due {
+            return Ok(Some(at));
+        }
+        if !heap.refused() {
+            return Ok(if at > 20 { None } else { Some(at) });
+        }
+    }
+    Ok(Some(10_000))
+}
+
 #[test]
 fn each_refused_growth_is_want_of_memory(rt: HostRuntime) -> Result<(), Fail> {
-    let alloc = rt.alloc();
     for &(name, texts, lines) in &LAUNCHES {
-        let streams = packed_all(alloc, texts)?;
-        let due = report_with(alloc, lines)?;
-        let growths = refuse_each(
-            alloc,
-            21,
-            |heap| is_reported(rt, alloc, heap, &streams, &due),
-        );
-        assert!(rt; growths.is_ok(), "{name}: {growths:?}");
+        let streams = packed_all(rt.alloc(), texts)?;
+        let due = report_with(rt.alloc(), lines)?;
+        let wrong = first_wrong_growth(rt, rt.alloc(), &streams, &due)?;
+        assert!(rt; wrong.is_none(), "{name}: {wrong:?}");
     }
     Ok(())
 }
