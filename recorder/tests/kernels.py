@@ -405,7 +405,8 @@ def sums_before():
 def cases():
     zeros, whole = [0] * ALL, sum(numbers())
     yield Case("matmul_right", [matrix(), matrix(), [0] * 64, 8], 0, {2: product()}, (8, 8), (4, 4))
-    yield Case("matmul_wrong", [matrix(), matrix(), [0] * 64, 8], 4 * 32, {}, (8, 8), (4, 4))  # all words of two tiles of four groups
+    tiles = ("race on s[0][0]..[3][3] of 4 groups (64 words); on s[", "race on t[0][0]..[3][3] of 4 groups (64 words); on t[")
+    yield Case("matmul_wrong", [matrix(), matrix(), [0] * 64, 8], 4 * 32, {}, (8, 8), (4, 4), say=tiles)
     yield Case("tree_right", [numbers(), [0] * GROUPS, Local(4 * ITEMS)], 0, {})
     yield Case("tree_wrong", [numbers(), [0] * GROUPS, Local(4 * ITEMS)], 7 * GROUPS)  # words 1 to 7: the last four steps
     yield Case("histogram_right", [numbers(), [0] * 16], 0, {1: [sum(n & 15 == b for n in numbers()) for b in range(16)]})

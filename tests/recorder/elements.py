@@ -16,10 +16,10 @@ DECLARATIONS = """kernel void k(global float4 *vectors, global const double *dou
 
 
 class ElementsOfWords(unittest.TestCase):
-    def elements(self, text, kernel):
+    def elements(self, text, kernel, *arrays):
         with tempfile.TemporaryDirectory() as folder:
             (pathlib.Path(folder) / "kernel.cl").write_text(text)
-            return Elements(folder, kernel)
+            return Elements(folder, kernel, arrays)
 
     def test_words_and_what_they_are_of(self):
         elements = self.elements(DECLARATIONS, "k")
@@ -29,6 +29,15 @@ class ElementsOfWords(unittest.TestCase):
                 ("pairs", 6, 7, "pairs[1].y"), ("bytes", 2, 2, "bytes[2]"), ("bytes.byte", 5, 5, "bytes[1].y"), ("small", 3, 3, "small[12..15]"),
                 ("small.byte", 3, 3, "small[3]"), ("threes", 6, 6, "threes[1].z"), ("threes", 7, 7, "threes[1]"), ("wide", 17, 19, "wide[1].s1..s3"),
                 ("wide", 31, 31, "wide[1].sf"), ("shorts.half", 3, 3, "shorts[1].y"), ("count", 0, 0, "count[0]"), ("tile", 5, 5, "tile[5]")):
+            self.assertEqual(span_of(elements.of(name), first, last), name_of, name)
+
+    def test_arrays_of_arrays(self):
+        elements = self.elements("kernel void k() { local float tile[3][4]; local float4 cube[2][3][5]; local uchar small[9][2]; }", "k",
+                                 "tile 3 4", "cube 2 3 5", "small 9 2")
+        for name, first, last, name_of in (
+                ("tile", 5, 5, "tile[1][1]"), ("tile", 4, 7, "tile[1][0..3]"), ("tile", 3, 4, "tile[0][3]..[1][0]"), ("tile", 0, 11, "tile[0][0]..[2][3]"),
+                ("cube", 85, 85, "cube[1][1][1].y"), ("cube", 84, 91, "cube[1][1][1..2]"), ("cube", 59, 60, "cube[0][2][4].w..[1][0][0].x"),
+                ("small.byte", 3, 3, "small[1][1]"), ("small", 1, 1, "small[2][0]..[3][1]")):
             self.assertEqual(span_of(elements.of(name), first, last), name_of, name)
 
     def test_a_type_that_is_not_said_in_one_way(self):

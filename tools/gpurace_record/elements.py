@@ -3,7 +3,7 @@ from __future__ import annotations
 
 import os
 import re
-from typing import NamedTuple, Optional, Tuple
+from typing import Iterable, NamedTuple, Optional, Tuple
 
 BYTES = {"char": 1, "uchar": 1, "short": 2, "ushort": 2, "half": 2, "int": 4, "uint": 4, "float": 4, "atomic_int": 4, "atomic_uint": 4,
          "atomic_float": 4, "atomic_flag": 4, "long": 8, "ulong": 8, "double": 8, "atomic_long": 8, "atomic_ulong": 8}
@@ -19,6 +19,7 @@ class Element(NamedTuple):
     components: int
     stored: int        # components, as memory has them
     kind: str          # of a component
+    rows: Tuple[int, ...] = ()  # the sizes of arrays in an array, the outermost first
 
 
 def text_of_kernel(text: str, kernel: str) -> str:
@@ -31,7 +32,9 @@ def text_of_kernel(text: str, kernel: str) -> str:
 
 
 class Elements:
-    def __init__(self, folder: str, kernel: str):
+    def __init__(self, folder: str, kernel: str, arrays: Iterable[str] = ()):
+        """Of arrays of arrays there are the name and the sizes."""
+        self.rows = {name: tuple(map(int, rows)) for name, _, *rows in map(str.split, arrays)}
         path = os.path.join(folder, "kernel.cl")
         with open(path if os.path.isfile(path) else os.devnull, encoding="utf-8", errors="replace") as given:
             self.text = text_of_kernel(re.sub(r"//[^\n]*|/\*.*?\*/", " ", given.read(), flags=re.S), kernel)
@@ -47,11 +50,29 @@ class Elements:
         kind, number = types.pop()
         components = int(number or 1)
         stored = 4 if components == 3 else components
-        return Element(plain, BYTES[kind] * stored / GRAINS.get(grain if plain != name else "", 4), components, stored, kind)
+        return Element(plain, BYTES[kind] * stored / GRAINS.get(grain if plain != name else "", 4), components, stored, kind, self.rows.get(plain, ()))
 
 
 def component(number: int, components: int) -> str:
     return "xyzw"[number] if components <= 4 else f"s{number:x}"
+
+
+def index(element: Element, number: int) -> str:
+    """The indices of an element, each in brackets."""
+    rows = ""
+    for size in reversed(element.rows):
+        number, at = divmod(number, size)
+        rows = f"[{at}]{rows}"
+    return f"[{number}]{rows}"
+
+
+def indices(element: Element, low: int, high: int) -> str:
+    """Those of the elements from the first to the last one: of one row `[1][2..5]`, else `[1][2]..[3][0]`."""
+    first, last = index(element, low), index(element, high)
+    row = first.rindex("[") + 1
+    if low == high:
+        return first
+    return f"{first[:-1]}..{last[row:]}" if first[:row] == last[:row] else f"{first}..{last}"
 
 
 def span_of(element: Element, first: int, last: int) -> str:
@@ -59,13 +80,13 @@ def span_of(element: Element, first: int, last: int) -> str:
     low, high, most = int(first // element.words), int(((last + 1) / element.words) - 1e-9), element.components - 1
     start, end = parts_at(element, first)[0], min(parts_at(element, last)[1], most)
     if most == 0 or element.words <= 1 or (start == 0 and end == most) or start > most:
-        return f"{element.name}[{low}]" if low == high else f"{element.name}[{low}..{high}]"
+        return element.name + indices(element, low, high)
     names = [component(at, element.components) for at in (start, end)]
     if low != high:
-        return f"{element.name}[{low}].{names[0]}..[{high}].{names[1]}"
+        return f"{element.name}{index(element, low)}.{names[0]}..{index(element, high)}.{names[1]}"
     if most > 3:
-        return f"{element.name}[{low}].{'..'.join(dict.fromkeys(names))}"
-    return f"{element.name}[{low}]." + "xyzw"[start:end + 1]
+        return f"{element.name}{index(element, low)}.{'..'.join(dict.fromkeys(names))}"
+    return f"{element.name}{index(element, low)}." + "xyzw"[start:end + 1]
 
 
 def parts_at(element: Element, word: int) -> Tuple[int, int]:

@@ -183,7 +183,7 @@ class Reader:
 
     def __init__(self, program: str, folder: str, info: Info, report: List[str], most_seconds: int = MOST_SECONDS):
         self.kernel = info["kernel"][0] if info["kernel"] else ""
-        self.elements = Elements(folder, self.kernel)
+        self.elements = Elements(folder, self.kernel, info["array"])
         self.shape, self.texts, self.buffers, self.equal = Shape(info), Texts(folder), buffers_of(folder), equal_of(folder)
         self.waits = {int(site) for site in info["wait"]}
         lines = [line.split() for line in report]

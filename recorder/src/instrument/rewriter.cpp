@@ -3,7 +3,8 @@
 //   kernel NAME NAMES COPIES ARGUMENTS      NAMES: it has atomics that may acquire; COPIES: it has asynchronous copies
 //   site NUMBER KIND SPACE BYTES ENTRY PLACE   ENTRY: what it accesses, or -1 where that is not known
 //   argument NUMBER KIND                    B buffer, C constant buffer, L local memory, I image, S sampler, V value
-//   entry NUMBER ARGUMENT SPACE BYTES GRAIN ATOMIC NAME   a buffer that is an argument, or a variable (ARGUMENT is -1)
+//   entry NUMBER ARGUMENT SPACE BYTES GRAIN ATOMIC NAME SIZES   a buffer that is an argument, or a variable (ARGUMENT
+//                                           is -1); SIZES: of an array of arrays, the outermost first
 //   note TEXT                               what is not recorded
 #include "instrument.h"
 
@@ -52,6 +53,16 @@ Value *stored_of(const Access &access) {
     auto *call = dyn_cast<CallInst>(access.instruction); // of vstore, but for those of half
     return call && access.kind == WRITE && access.index_operand == 1 && !name_of(*call).contains("half")
                ? call->getArgOperand(0) : nullptr;
+}
+
+// How many elements a variable that is an array of arrays has, the outermost first; nothing of another one.
+std::string sizes_of(const Value &object) {
+    std::string sizes;
+    const auto *variable = dyn_cast<GlobalVariable>(&object);
+    const auto *type = variable ? dyn_cast<ArrayType>(variable->getValueType()) : nullptr;
+    if (!type || !type->getElementType()->isArrayTy()) return sizes;
+    for (; type; type = dyn_cast<ArrayType>(type->getElementType())) sizes += std::to_string(type->getNumElements()) + ' ';
+    return sizes;
 }
 
 char kind_of(const Argument &argument) {
@@ -178,8 +189,8 @@ private:
         });
         const int number = int(entries_.size());
         entries_[&object] = number;
-        sites_ << "entry " << number << ' ' << argument << ' ' << (space == LOCAL_SPACE) << ' ' << bytes
-               << ' ' << grains.of(&object) << ' ' << has_atomics << ' ' << (name.empty() ? "unnamed" : name) << '\n';
+        sites_ << "entry " << number << ' ' << argument << ' ' << (space == LOCAL_SPACE) << ' ' << bytes << ' ' << grains.of(&object)
+               << ' ' << has_atomics << ' ' << (name.empty() ? "unnamed" : name) << ' ' << sizes_of(object) << '\n';
     }
 
     // Local variables are where the item's state says.

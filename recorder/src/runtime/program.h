@@ -23,7 +23,7 @@ struct Entry {
     uint64_t bytes = 0;
     uint32_t grain = 4;       // the bytes of a word of it in the trace
     bool has_atomics = false;
-    std::string name;
+    std::string name, sizes;  // the sizes of an array of arrays, or a space
     uint64_t address = 0;     // of global memory
 };
 
