@@ -164,6 +164,12 @@ kernel void vectors_right(global const int *in, global int *out) {
 kernel void vectors_wrong(global const int *in, global int *out) { // each writes one word of its neighbour
     vstore3(vload3(get_global_id(0), in), 0, out + 2 * get_global_id(0));
 }
+kernel void rows(global int *out) { // all read what one writes
+    local int row[4], tile[2][3][4];
+    row[get_local_id(0)] = 0;
+    tile[1][2][get_local_id(0)] = get_local_id(0);
+    out[get_global_id(0)] = tile[1][2][0] + row[get_local_id(0)];
+}
 kernel void swaps(global int *out, int wrong) { // each item swaps two words; the mistake is that they overlap
     global int *one = out + get_global_id(0) * (2 - wrong);
     const int was = one[0]; one[0] = one[1]; one[1] = was;
@@ -405,8 +411,7 @@ def sums_before():
 def cases():
     zeros, whole = [0] * ALL, sum(numbers())
     yield Case("matmul_right", [matrix(), matrix(), [0] * 64, 8], 0, {2: product()}, (8, 8), (4, 4))
-    tiles = ("race on s[0][0]..[3][3] of 4 groups (64 words); on s[", "race on t[0][0]..[3][3] of 4 groups (64 words); on t[")
-    yield Case("matmul_wrong", [matrix(), matrix(), [0] * 64, 8], 4 * 32, {}, (8, 8), (4, 4), say=tiles)
+    yield Case("matmul_wrong", [matrix(), matrix(), [0] * 64, 8], 4 * 32, {}, (8, 8), (4, 4))  # all words of two tiles of four groups
     yield Case("tree_right", [numbers(), [0] * GROUPS, Local(4 * ITEMS)], 0, {})
     yield Case("tree_wrong", [numbers(), [0] * GROUPS, Local(4 * ITEMS)], 7 * GROUPS)  # words 1 to 7: the last four steps
     yield Case("histogram_right", [numbers(), [0] * 16], 0, {1: [sum(n & 15 == b for n in numbers()) for b in range(16)]})
@@ -434,6 +439,7 @@ def cases():
     yield Case("vectors_right", [zeros * 4, zeros * 4], 0, {1: [1] * 4 * ALL})
     yield Case("vectors_wrong", [zeros * 4, zeros * 4], ALL - 1)
     yield Case("copies_right", [list(range(2 * ALL)), zeros], 0, {1: [2 * (g * 64 + 63 - l) for g in range(GROUPS) for l in range(ITEMS)]})
+    yield Case("rows", [[0] * 4], 1, size=(4,), local=(4,), say=("race on tile[1][2][0] of group 0",))
     yield Case("swaps", [list(range(2 * ALL)), 0], 0, {0: [at ^ 1 for at in range(2 * ALL)]})
     yield Case("swaps", [list(range(2 * ALL)), 1], ALL - 1, unsaid="use an atomic")
     after = "nothing orders the two; wait_group_events after the copy would, or, if the copy comes last, a barrier before it"

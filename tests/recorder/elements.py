@@ -32,16 +32,18 @@ class ElementsOfWords(unittest.TestCase):
             self.assertEqual(span_of(elements.of(name), first, last), name_of, name)
 
     def test_arrays_of_arrays(self):
-        elements = self.elements("kernel void k() { local float tile[3][4]; local float4 cube[2][3][5]; local uchar small[9][2]; }", "k",
+        elements = self.elements("kernel void k() { local float tile[3][4]; local float4 cube[2][3][5]; local uchar small[9][2], *p, large[3]; }", "k",
                                  "tile 3 4", "cube 2 3 5", "small 9 2")
         for name, first, last, name_of in (
                 ("tile", 5, 5, "tile[1][1]"), ("tile", 4, 7, "tile[1][0..3]"), ("tile", 3, 4, "tile[0][3]..[1][0]"), ("tile", 0, 11, "tile[0][0]..[2][3]"),
                 ("cube", 85, 85, "cube[1][1][1].y"), ("cube", 84, 91, "cube[1][1][1..2]"), ("cube", 59, 60, "cube[0][2][4].w..[1][0][0].x"),
-                ("small.byte", 3, 3, "small[1][1]"), ("small", 1, 1, "small[2][0]..[3][1]")):
+                ("small.byte", 3, 3, "small[1][1]"), ("small", 1, 1, "small[2][0]..[3][1]"), ("large.byte", 2, 2, "large[2]")):
             self.assertEqual(span_of(elements.of(name), first, last), name_of, name)
 
     def test_a_type_that_is_not_said_in_one_way(self):
         self.assertIsNone(self.elements(DECLARATIONS, "k").of("unknown"))
         self.assertIsNone(self.elements(DECLARATIONS, "k").of("vectors=pairs"))
+        self.assertIsNone(self.elements("kernel void k(int a, global real *b, float c[2], struct s *d) { int e = b; }", "k").of("b"))
+        self.assertIsNone(self.elements("kernel void k(int a, global real *b, float c[2], struct s *d) { int e = b; }", "k").of("d"))
         self.assertIsNone(self.elements(KERNEL + DECLARATIONS.replace("vectors", "input"), "nowhere").of("input"))  # int and float4
         self.assertEqual(self.elements(KERNEL + DECLARATIONS.replace("vectors", "input"), "sums").of("input").components, 1)

@@ -9,7 +9,8 @@ BYTES = {"char": 1, "uchar": 1, "short": 2, "ushort": 2, "half": 2, "int": 4, "u
          "atomic_float": 4, "atomic_flag": 4, "long": 8, "ulong": 8, "double": 8, "atomic_long": 8, "atomic_ulong": 8}
 GRAINS = {"byte": 1, "half": 2}
 KERNEL = re.compile(r"\b(?:__)?kernel\b")
-DECLARED = r"\b({types})(2|3|4|8|16)?\s*(?:(?:\*|\b(?:const|volatile|restrict|(?:__)?global|(?:__)?local)\b)\s*)*(?<!\w){name}\b"
+DECLARED = (r"\b({types})(2|3|4|8|16)?\s*(?:(?:\*|\b(?:const|volatile|restrict|(?:__)?global|(?:__)?local)\b)\s*)*"
+            r"(?:\w+\s*(?:\[[^\]]*\]\s*)*,[\s*]*)*(?<!\w){name}\b")  # after other names of the same type
 
 
 class Element(NamedTuple):
