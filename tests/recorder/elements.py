@@ -32,10 +32,11 @@ class ElementsOfWords(unittest.TestCase):
             self.assertEqual(span_of(elements.of(name), first, last), name_of, name)
 
     def test_arrays_of_arrays(self):
-        elements = self.elements("kernel void k() { local float tile[3][4]; local float4 cube[2][3][5]; local uchar small[9][2], *p, large[3]; }", "k",
-                                 "tile 3 4", "cube 2 3 5", "small 9 2")
+        text = "kernel void k() { local float tile[3][4]; local float4 cube[2][3][5]; local uchar small[9][2], *p, large[3]; }"
+        elements = self.elements(text, "k", "tile 3 4", "cube 2 3 5", "small 9 2")
         for name, first, last, name_of in (
-                ("tile", 5, 5, "tile[1][1]"), ("tile", 4, 7, "tile[1][0..3]"), ("tile", 3, 4, "tile[0][3]..[1][0]"), ("tile", 0, 11, "tile[0][0]..[2][3]"),
+                ("tile", 5, 5, "tile[1][1]"), ("tile", 4, 7, "tile[1][0..3]"), ("tile", 3, 4, "tile[0][3]..[1][0]"),
+                ("tile", 0, 11, "tile[0][0]..[2][3]"),
                 ("cube", 85, 85, "cube[1][1][1].y"), ("cube", 84, 91, "cube[1][1][1..2]"), ("cube", 59, 60, "cube[0][2][4].w..[1][0][0].x"),
                 ("small.byte", 3, 3, "small[1][1]"), ("small", 1, 1, "small[2][0]..[3][1]"), ("large.byte", 2, 2, "large[2]")):
             self.assertEqual(span_of(elements.of(name), first, last), name_of, name)

@@ -295,8 +295,9 @@ race on global word 16
         """In one group a barrier may be what is missing; none orders two groups."""
         atomic, plain = "rmw g 5 dev rlx", "r g 5"
         two_groups = [f"group {group} items 1 launch 7\n0 {step}\nend\n" for group, step in enumerate((atomic, plain))]
-        for streams, other, barrier in (([f"group 0 items 2 launch 7\n0 {atomic}\n1 {plain}\nend\n"], "group 0, item 1",
-                                         "put a barrier with CLK_GLOBAL_MEM_FENCE between the two, or "), (two_groups, "group 1, item 0", "")):
+        one_group = [f"group 0 items 2 launch 7\n0 {atomic}\n1 {plain}\nend\n"]
+        mend = "put a barrier with CLK_GLOBAL_MEM_FENCE between the two, or "
+        for streams, other, barrier in ((one_group, "group 0, item 1", mend), (two_groups, "group 1, item 0", "")):
             self.assert_report(streams, {}, "found", f"""\
 race on global word 5
     unknown place: atomic read-modify-write (relaxed, device scope) by group 0, item 0
@@ -328,10 +329,12 @@ race on global word 5
 
     def test_items_that_swap_at_one_line(self):
         """Each reads the word and another one, and writes it. Where the line's text has no update of it, that is no count."""
-        streams = ["group 0 items 2 launch 7\n" + "".join(f"{item} {step}\n" for item in (0, 1) for step in ("r g 5", "r g 9", "w g 5")) + "end\n"]
+        steps = "".join(f"{item} {step}\n" for item in (0, 1) for step in ("r g 5", "r g 9", "w g 5"))
+        streams = [f"group 0 items 2 launch 7\n{steps}end\n"]
         places = "".join(f"0 {item} {index} kernel.cl:1:9\n" for item in (0, 1) for index in (0, 2))
         for line, message in (("t = *a; *a = *b; *b = t;", GLOBAL), ("SWAP(a[l], a[l + 1]);", GLOBAL), ("v[l] = v[l + 1];", GLOBAL),
-                              ("*a = *b + *a;", "use an atomic"), ("if (*b == 1) ++*a;", "use an atomic"), ("v[l] >>= *b;", "use an atomic")):
+                              ("*a = *b + *a;", "use an atomic"), ("if (*b == 1) ++*a;", "use an atomic"),
+                              ("v[l] >>= *b;", "use an atomic")):
             for it in self.judged(streams, {"places": places, "kernel.cl": line}).findings:
                 self.assertTrue(it.message.startswith(message), f"{line}: {it.message}")
 

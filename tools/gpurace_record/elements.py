@@ -51,7 +51,8 @@ class Elements:
         kind, number = types.pop()
         components = int(number or 1)
         stored = 4 if components == 3 else components
-        return Element(plain, BYTES[kind] * stored / GRAINS.get(grain if plain != name else "", 4), components, stored, kind, self.rows.get(plain, ()))
+        words = BYTES[kind] * stored / GRAINS.get(grain if plain != name else "", 4)
+        return Element(plain, words, components, stored, kind, self.rows.get(plain, ()))
 
 
 def component(number: int, components: int) -> str:

@@ -305,7 +305,8 @@ class Reader:
         release, acquire = next((both for both in hands if all(both)), hands[0])
         store, load = self.meeting(first, second) or self.meeting(second, first) or (None, None)
         return causes.Pair(said["space"], said["one_group"], one, other, self.barriers_between(first, second) if said["one_group"] else [],
-                           release, acquire, self.is_update(first) and self.is_update(second), self.is_line_of_updates(first, second, accesses[0].text), store, load)
+                           release, acquire, self.is_update(first) and self.is_update(second),
+                           self.is_line_of_updates(first, second, accesses[0].text), store, load)
 
     def is_update(self, event: Dict[str, Any]) -> bool:
         """Whether the event is one of a plain read of a word and the write to it that the item does next."""
