@@ -50,6 +50,7 @@ pub fn text_before_fault<A: Allocator + Copy>(alloc: A, bytes: &[u8]) -> Result<
 }
 
 /// The text of the headers and records before the first fault, and that fault, if there is one.
+#[tactic(auto, using(crate::proofs::PartialLaws::whole_streams_stand_whole))]
 pub(crate) fn partial_text<A: Allocator + Copy>(
     alloc: A,
     bytes: &[u8],
