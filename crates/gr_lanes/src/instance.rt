@@ -64,10 +64,7 @@ fn arrival<A: Allocator>(lanes: &Lanes<A>, item: ItemId, number: u32) -> Option<
     requires { IsRemembered lanes.now item number }
     ensures { result ≡ arrivals lanes.now.streams item.group number item.item }
 {
-    match barrier(lanes, item, number) {
-        None => None,
-        Some(taken) => mark_of(&taken),
-    }
+    mark_of(&barrier(lanes, item, number)?)
 }
 
 /// The marks that a group's items brought to an instance, in sum.

@@ -174,30 +174,23 @@ impl<A: Allocator> Lanes<A> {
     pub fn release_at(&self, name: Name) -> Option<u32>
         ensures { result ≡ release_place self.now.streams name }
     {
-        match self.groups.get(usize::from(name.at.group)) {
-            None => None,
-            Some(group) => group.release_at(name.at.item, name.release),
-        }
+        let group = self.groups.get(usize::from(name.at.group))?;
+        group.release_at(name.at.item, name.release)
     }
 
     /// The record of the release of this name, or `None` where no such release was taken.
     pub fn release_event(&self, name: Name) -> Option<Event>
         ensures { result ≡ record_of self.now.streams is_release name.at name.release }
     {
-        match self.groups.get(usize::from(name.at.group)) {
-            None => None,
-            Some(group) => group.release_event(name.at.item, name.release),
-        }
+        let group = self.groups.get(usize::from(name.at.group))?;
+        group.release_event(name.at.item, name.release)
     }
 
     /// The word of the release of this name, or `None` where no such release was taken.
     pub fn release_word(&self, name: Name) -> Option<Word>
         ensures { result ≡ option_and_then (event_word name.at.group) (record_of self.now.streams is_release name.at name.release) }
     {
-        match self.release_event(name) {
-            None => None,
-            Some(release) => word_of(name.at.group, &release),
-        }
+        word_of(name.at.group, &self.release_event(name)?)
     }
 
     /// The record of an item's barrier with this number, counted from 0, or `None` where no such barrier was taken.
@@ -206,10 +199,8 @@ impl<A: Allocator> Lanes<A> {
         requires { IsRemembered self.now item number }
         ensures { result ≡ record_of self.now.streams is_barrier item number }
     {
-        match self.groups.get(usize::from(item.group)) {
-            None => None,
-            Some(group) => group.barrier_event(item.item, number),
-        }
+        let group = self.groups.get(usize::from(item.group))?;
+        group.barrier_event(item.item, number)
     }
 
     /// Whether it is known that all items that came to an instance came with one site and the same flags, and that all came if the
@@ -233,20 +224,16 @@ impl<A: Allocator> Lanes<A> {
         requires { IsRemembered self.now item number }
         ensures { result ≡ place_of self.now.streams is_barrier item number }
     {
-        match self.groups.get(usize::from(item.group)) {
-            None => None,
-            Some(group) => group.barrier_at(item.item, number),
-        }
+        let group = self.groups.get(usize::from(item.group))?;
+        group.barrier_at(item.item, number)
     }
 
     /// Which of its item's releases an event is, or `None` where it is no release.
     pub fn release_number(&self, event: EventId) -> Option<u32>
         ensures { MatchOption result ((k : ℕ) → place_of self.now.streams is_release event.at k ≢ Some event.index) (λ k. place_of self.now.streams is_release event.at k ≡ Some event.index) }
     {
-        match self.groups.get(usize::from(event.at.group)) {
-            None => None,
-            Some(group) => group.release_number(event.at.item, event.index),
-        }
+        let group = self.groups.get(usize::from(event.at.group))?;
+        group.release_number(event.at.item, event.index)
     }
 
     /// Which of its item's barriers an event is, or `None` where it is no barrier.
@@ -255,10 +242,8 @@ impl<A: Allocator> Lanes<A> {
         requires { IsEventRemembered self.now event }
         ensures { MatchOption result ((k : ℕ) → place_of self.now.streams is_barrier event.at k ≢ Some event.index) (λ k. place_of self.now.streams is_barrier event.at k ≡ Some event.index) }
     {
-        match self.groups.get(usize::from(event.at.group)) {
-            None => None,
-            Some(group) => group.barrier_number(event.at.item, event.index),
-        }
+        let group = self.groups.get(usize::from(event.at.group))?;
+        group.barrier_number(event.at.item, event.index)
     }
 
     /// How many barriers of an item were taken.
