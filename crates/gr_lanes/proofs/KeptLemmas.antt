@@ -1,5 +1,5 @@
 -- What is kept of a group's items: as it is read, as a record is taken, an instance is forgotten or lanes go.
-use Rattle.std.proofs.Common.{◌≡◌, ◌≢◌, ℕ, ◌+◌, ◌-◌, ◌<◌, ◌≤◌, Bool, true, false, List, [], ◌∷◌, ◌++◌, ◌⊎◌, Option, None, length, map, filter, get_or, set, drop, take, replicate, refl, sym, ap, ◌∙◌, subst, arith, inl, inr, ⊎_elim, ltb, Some, slice_get, IsTrue, is_some}
+use Rattle.std.proofs.Common.{◌≡◌, ◌≢◌, ℕ, ◌+◌, ◌-◌, ◌<◌, ◌≤◌, Bool, true, List, [], ◌∷◌, ◌++◌, ◌⊎◌, Option, None, length, map, filter, get_or, set, drop, take, replicate, refl, sym, ap, ◌∙◌, subst, arith, inl, inr, ⊎_elim, ltb, Some, slice_get, IsTrue, is_some}
 use Rattle.std.specs.List.{list_all}
 use Rattle.std.specs.Borrow.{Bor}
 use Rattle.std.specs.Prelude.{IfSome, MatchOption}
