@@ -134,6 +134,10 @@ private:
         const auto image = value_of<cl_mem>(value);
         std::unique_ptr<Image> &made = images_[image];
         if (made) return set_value(value, static_cast<const void *>(made.get())); // it is two arguments
+        const bool is_of_buffer = info_of<cl_mem>(driver.clGetMemObjectInfo, image, CL_MEM_ASSOCIATED_MEMOBJECT);
+        const auto type = info_of<cl_mem_object_type>(driver.clGetMemObjectInfo, image, CL_MEM_TYPE);
+        // the kernel's accesses of the buffer would be recorded, and its reads of the image would not
+        if (is_of_buffer && type != CL_MEM_OBJECT_IMAGE1D_BUFFER) reason_ = "an image in a buffer's memory is not recorded";
         const auto format = info_of<cl_image_format>(driver.clGetImageInfo, image, CL_IMAGE_FORMAT);
         const int32_t channels = channels_of(format.image_channel_order);
         made.reset(new Image{nullptr, image_size(image, CL_IMAGE_WIDTH), image_size(image, CL_IMAGE_HEIGHT),
