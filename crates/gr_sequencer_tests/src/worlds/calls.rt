@@ -37,9 +37,10 @@ pub(crate) fn step<A: Allocator + Copy>(
     step: Step,
 ) -> Option<Result<(), StepError>> {
     let before = world.at_rest();
-    let mut answer = world.step(step);
+    let tried = &step;
+    let mut answer = world.step(*tried);
     if answer == Err(StepError::Memory) && world.at_rest() == before {
-        answer = world.step(step);
+        answer = world.step(*tried);
     }
     (answer != Err(StepError::Memory)).then_some(answer)
 }
