@@ -164,6 +164,14 @@ kernel void vectors_right(global const int *in, global int *out) {
 kernel void vectors_wrong(global const int *in, global int *out) { // each writes one word of its neighbour
     vstore3(vload3(get_global_id(0), in), 0, out + 2 * get_global_id(0));
 }
+typedef float real;
+typedef struct { float4 position; real mass; int links[2]; } particle;
+kernel void members(global particle *p, global int (*m)[8], global real *r) { // each item writes all four
+    p[1].position.y = 1;
+    p[1].links[1] = 2;
+    m[1][2] = 3;
+    r[3]++;
+}
 kernel void rows(global int *out) { // all read what one writes
     local int row[4], tile[2][3][4];
     row[get_local_id(0)] = 0;
@@ -440,6 +448,8 @@ def cases():
     yield Case("vectors_wrong", [zeros * 4, zeros * 4], ALL - 1)
     yield Case("copies_right", [list(range(2 * ALL)), zeros], 0, {1: [2 * (g * 64 + 63 - l) for g in range(GROUPS) for l in range(ITEMS)]})
     yield Case("rows", [[0] * 4], 1, size=(4,), local=(4,), say=("race on tile[1][2][0] of group 0",))
+    yield Case("members", [[0] * 16, [0] * 16, (0.0,) * 8], 4, size=(4,), local=(4,), say=(
+        "race on p[1].position.y", "race on p[1].links[1]", "race on m[1][2]", "race on r[3]", "OpenCL C has no atomic_add of float"))
     yield Case("swaps", [list(range(2 * ALL)), 0], 0, {0: [at ^ 1 for at in range(2 * ALL)]})
     yield Case("swaps", [list(range(2 * ALL)), 1], ALL - 1, unsaid="use an atomic")
     after = "nothing orders the two; wait_group_events after the copy would, or, if the copy comes last, a barrier before it"

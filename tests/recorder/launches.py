@@ -351,13 +351,14 @@ race on global word 5
         """Two items count in element 1 of a buffer at one line: what is advised is there for its type."""
         streams = ["group 0 items 2 launch 7\n" + "".join(f"{item} {kind} g 5\n" for item in (0, 1) for kind in "rw") + "end\n"]
         places = "".join(f"0 {item} {index} kernel.cl:1:9\n" for item in (0, 1) for index in (0, 1))
-        for kind, advice in (("uint", "use an atomic, such as atomic_inc, atomic_add or atomic_fetch_add: "), ("atomic_int", "use an atomic (of an int, "),
-                             ("ulong", "use an atomic, such as atom_inc or atom_add (of cl_khr_int64_base_atomics) or atomic_fetch_add: "),
-                             ("float4", "use a loop of atomic_cmpxchg on the bits, begun by an atomic read (OpenCL C has no atomic_add of float), or give each item "),
-                             ("double", "use a loop of atom_cmpxchg on the bits, begun by an atomic read (OpenCL C has no atomic_add of double), or give each item "),
-                             ("short", "use an atomic of an int, such as atomic_inc or atomic_add (OpenCL C has none of short): "),
-                             ("real", "use an atomic (of an int, such as atomic_inc or atomic_add; of a float, a loop of atomic_cmpxchg): ")):
-            files = {"info.txt": INFO, "places": places, "buffers": "g 4 9 bins\n", "kernel.cl": f"kernel void sums(global {kind} *bins) {{ bins[1]++; }}\n"}
+        for kind, advice in (('"uint"', "use an atomic, such as atomic_inc, atomic_add or atomic_fetch_add: "), ('[2,{"bytes":4,"members":[[0,"count","short"]]}]',
+                              "use an atomic of an int, such as atomic_inc or atomic_add (OpenCL C has none of short): "),
+                             ('"ulong"', "use an atomic, such as atom_inc or atom_add (of cl_khr_int64_base_atomics) or atomic_fetch_add: "),
+                             ('"float4"', "use a loop of atomic_cmpxchg on the bits, begun by an atomic read (OpenCL C has no atomic_add of float), or give each item "),
+                             ('"double"', "use a loop of atom_cmpxchg on the bits, begun by an atomic read (OpenCL C has no atomic_add of double), or give each item "),
+                             ('"short"', "use an atomic of an int, such as atomic_inc or atomic_add (OpenCL C has none of short): "),
+                             ("0", "use an atomic (of an int, such as atomic_inc or atomic_add; of a float, a loop of atomic_cmpxchg): ")):
+            files = {"info.txt": INFO + f"element bins {kind}\n", "places": places, "buffers": "g 4 9 bins\n", "kernel.cl": "bins[1]++;\n"}
             for it in self.judged(streams, files).findings:
                 self.assertTrue(it.message.startswith(advice), it.message)
 
@@ -494,12 +495,11 @@ reason window: only groups 2 to 3 of 4 were recorded
 
     def test_elements_of_their_types(self):
         """Word 5 of l_data is the component y of its second float4, and words 8 to 11 are all of the third; byte 6 of marks is its seventh element.
-        The type of `other` is a macro, and `size` is no type of a buffer: their words are shown as words."""
-        text = ("kernel void first(global int2 *l_data) {}\nkernel void sums(global uchar *marks, local float4 *l_data, global T *other, int size)\n"
-                "{ /* int *other */ }\n")
+        The type of `other` is not known: its words are shown as words."""
+        elements = 'element marks "uchar"\nelement l_data "float4"\n'
         streams = ["group 0 items 2 launch 7\n0 w l 5\n1 w l 5\n0 w l 8\n1 w l 8\n0 w l 9\n1 w l 9\n0 w l 10\n1 w l 10\n0 w l 11\n1 w l 11\n"
                    "0 w g 6\n1 r g 6\n0 r g 40\n1 w g 40\nend\n", "group 1 items 2 launch 7\nend\n"]
-        launch = self.judged(streams, {"info.txt": INFO, "kernel.cl": text, "buffers": "g 0 16 marks.byte\ng 32 16 other\nl 0 0 64 l_data\n"})
+        launch = self.judged(streams, {"info.txt": INFO + elements, "buffers": "g 0 16 marks.byte\ng 32 16 other\nl 0 0 64 l_data\n"})
         self.assertEqual(sorted(it.title for it in launch.findings), [
             "race on l_data[1].y, l_data[2] (5 words)", "race on marks[6], other[8] (2 words)"])
 

@@ -1,97 +1,128 @@
-"""Words of a buffer as elements of its type: `l_data[1].x`, where the kernel's text says the type in so many words."""
+"""Words of a buffer as elements of its type: `l_data[1].x`, where lines `element NAME TYPE` of info.txt say the type (tools/recorder/types.h)."""
 from __future__ import annotations
 
-import os
+import json
 import re
-from typing import Iterable, NamedTuple, Optional, Tuple
+from typing import Any, Dict, Iterable, NamedTuple, Optional, Tuple
 
-BYTES = {"char": 1, "uchar": 1, "short": 2, "ushort": 2, "half": 2, "int": 4, "uint": 4, "float": 4, "atomic_int": 4, "atomic_uint": 4,
-         "atomic_float": 4, "atomic_flag": 4, "long": 8, "ulong": 8, "double": 8, "atomic_long": 8, "atomic_ulong": 8}
+BYTES = {"char": 1, "uchar": 1, "short": 2, "ushort": 2, "half": 2, "int": 4, "uint": 4, "float": 4, "long": 8, "ulong": 8, "double": 8}
 GRAINS = {"byte": 1, "half": 2}
-KERNEL = re.compile(r"\b(?:__)?kernel\b")
-DECLARED = (r"\b({types})(2|3|4|8|16)?\s*(?:(?:\*|\b(?:const|volatile|restrict|(?:__)?global|(?:__)?local)\b)\s*)*"
-            r"(?:\w+\s*(?:\[[^\]]*\]\s*)*,[\s*]*)*(?<!\w){name}\b")  # after other names of the same type
+NUMBERS = re.compile(r"([a-z]+)(\d*)")
+Type = Any  # as JSON has it
 
 
 class Element(NamedTuple):
-    """How many words an element has, and each of its components; parts of a word where it is smaller than one."""
-    name: str          # of the buffer, without its grain
-    words: float
-    components: int
-    stored: int        # components, as memory has them
-    kind: str          # of a component
-    rows: Tuple[int, ...] = ()  # the sizes of arrays in an array, the outermost first
+    name: str   # of the buffer, without its grain
+    type: Type
+    grain: int  # the bytes of a word
 
+    def kind_of(self, word: int) -> str:
+        """The kind of number that a word has; empty where it has none."""
+        return step(self.type, word * self.grain % bytes_of(self.type))[1]
 
-def text_of_kernel(text: str, kernel: str) -> str:
-    """The text from the head of the kernel to that of the next one; all of it where the head is not found."""
-    starts = [at.start() for at in KERNEL.finditer(text)] + [len(text)]
-    for start, end in zip(starts, starts[1:]):
-        if re.match(rf"(?:__)?kernel\b[^{{;]*?\b{re.escape(kernel)}\s*\(", text[start:end]):
-            return text[start:end]
-    return text
+    def span(self, first: int, last: int) -> str:
+        """The name of these words."""
+        return self.name + span_of_elements(self.type, first * self.grain, (last + 1) * self.grain - 1)
 
 
 class Elements:
-    def __init__(self, folder: str, kernel: str, arrays: Iterable[str] = ()):
-        """Of arrays of arrays there are the name and the sizes."""
-        self.rows = {name: tuple(map(int, rows)) for name, _, *rows in map(str.split, arrays)}
-        path = os.path.join(folder, "kernel.cl")
-        with open(path if os.path.isfile(path) else os.devnull, encoding="utf-8", errors="replace") as given:
-            self.text = text_of_kernel(re.sub(r"//[^\n]*|/\*.*?\*/", " ", given.read(), flags=re.S), kernel)
+    def __init__(self, lines: Iterable[str]):
+        """By lines `NAME TYPE`."""
+        self.types: Dict[str, Type] = {name: json.loads(type) for name, _, type in (line.partition(" ") for line in lines)}
 
-    def of(self, name: str) -> Optional[Element]:
-        """The element of a buffer; None where its type is not said, or not in one way."""
-        plain, _, grain = name.rpartition(".")
-        plain = plain if grain in GRAINS and plain else name
-        pattern = DECLARED.format(types="|".join(BYTES), name=re.escape(plain))
-        types = set(re.findall(pattern, self.text)) if re.fullmatch(r"\w+", plain) else set()
-        if len(types) != 1:
-            return None
-        kind, number = types.pop()
-        components = int(number or 1)
-        stored = 4 if components == 3 else components
-        words = BYTES[kind] * stored / GRAINS.get(grain if plain != name else "", 4)
-        return Element(plain, words, components, stored, kind, self.rows.get(plain, ()))
+    def of(self, buffer: str) -> Optional[Element]:
+        """The element of a buffer; None where its type is not known."""
+        name, _, grain = buffer.rpartition(".")
+        name, grain = (name, grain) if grain in GRAINS and name else (buffer, "")
+        return Element(name, self.types[name], GRAINS.get(grain, 4)) if bytes_of(self.types.get(name, 0)) else None
+
+
+def numbers_of(type: str) -> Tuple[str, int]:
+    """The kind of the numbers of a vector, and how many there are; 1 of a number."""
+    kind, count = NUMBERS.fullmatch(type).groups()  # type: ignore[union-attr]
+    return kind, int(count or 1)
+
+
+def bytes_of(type: Type) -> int:
+    if isinstance(type, str):
+        kind, count = numbers_of(type)
+        return BYTES[kind] * (4 if count == 3 else count)
+    if isinstance(type, list):
+        return type[0] * bytes_of(type[1])
+    return type["bytes"] if isinstance(type, dict) else type
 
 
 def component(number: int, components: int) -> str:
     return "xyzw"[number] if components <= 4 else f"s{number:x}"
 
 
-def index(element: Element, number: int) -> str:
+def member_at(type: Type, byte: int) -> Tuple[int, str, Type]:
+    """The member of a struct that has a byte, or, of what is between two, the one before it."""
+    return [it for it in type["members"] if it[0] <= byte][-1]
+
+
+def step(type: Type, byte: int) -> Tuple[str, str]:
+    """The name of the number that has a byte of a value, and its kind."""
+    if isinstance(type, list):
+        at, inner = divmod(byte, bytes_of(type[1]))
+        name, kind = step(type[1], inner)
+        return f"[{at}]{name}", kind
+    if isinstance(type, dict):
+        start, member, inner = member_at(type, byte)
+        name, kind = step(inner, min(byte - start, bytes_of(inner) - 1))
+        return f".{member}{name}", kind
+    if not isinstance(type, str):
+        return "", ""
+    kind, count = numbers_of(type)
+    return "" if count == 1 else f".{component(min(byte // BYTES[kind], count - 1), count)}", kind
+
+
+def is_whole(type: Type, first: int, last: int) -> bool:
+    """Whether these bytes have the first number of a value and the last one, or are none of its numbers."""
+    is_filling = isinstance(type, str) and numbers_of(type)[1] == 3 and first >= bytes_of(type) * 3 // 4
+    return is_filling or (step(type, first) == step(type, 0) and step(type, last) == step(type, bytes_of(type) - 1))
+
+
+def span_of(type: Type, first: int, last: int) -> str:
+    """What of a value these bytes are."""
+    if isinstance(type, list):
+        return span_of_elements(type[1], first, last)
+    if is_whole(type, first, last):
+        return ""
+    if isinstance(type, dict):
+        (start, name, inner), (other, _, _) = member_at(type, first), member_at(type, last)
+        if start == other:
+            return f".{name}{span_of(inner, first - start, min(last - start, bytes_of(inner) - 1))}"
+        return f"{step(type, first)[0]}..{step(type, last)[0][1:]}"
+    low, high = step(type, first)[0][1:], step(type, last)[0][1:]
+    return f".{low}" if low == high else f".{low}..{high}" if numbers_of(type)[1] > 4 else "." + "xyzw"["xyzw".index(low):"xyzw".index(high) + 1]
+
+
+def rows_of(type: Type) -> Tuple[Tuple[int, ...], Type]:
+    """The sizes of arrays in arrays, the outermost first, and what is in them."""
+    if not isinstance(type, list):
+        return (), type
+    rows, inner = rows_of(type[1])
+    return (type[0], *rows), inner
+
+
+def index(rows: Tuple[int, ...], number: int) -> str:
     """The indices of an element, each in brackets."""
-    rows = ""
-    for size in reversed(element.rows):
+    text = ""
+    for size in reversed(rows):
         number, at = divmod(number, size)
-        rows = f"[{at}]{rows}"
-    return f"[{number}]{rows}"
+        text = f"[{at}]{text}"
+    return f"[{number}]{text}"
 
 
-def indices(element: Element, low: int, high: int) -> str:
-    """Those of the elements from the first to the last one: of one row `[1][2..5]`, else `[1][2]..[3][0]`."""
-    first, last = index(element, low), index(element, high)
-    row = first.rindex("[") + 1
+def span_of_elements(type: Type, first: int, last: int) -> str:
+    """These bytes of values of a type, one after another: of one row `[1][2..5]`, else `[1][2]..[3][0]`."""
+    rows, inner = rows_of(type)
+    size = bytes_of(inner)
+    low, high = index(rows, first // size), index(rows, last // size)
     if low == high:
-        return first
-    return f"{first[:-1]}..{last[row:]}" if first[:row] == last[:row] else f"{first}..{last}"
-
-
-def span_of(element: Element, first: int, last: int) -> str:
-    """The elements of the words from the first to the last one, and of parts of elements the components."""
-    low, high, most = int(first // element.words), int(((last + 1) / element.words) - 1e-9), element.components - 1
-    start, end = parts_at(element, first)[0], min(parts_at(element, last)[1], most)
-    if most == 0 or element.words <= 1 or (start == 0 and end == most) or start > most:
-        return element.name + indices(element, low, high)
-    names = [component(at, element.components) for at in (start, end)]
-    if low != high:
-        return f"{element.name}{index(element, low)}.{names[0]}..{index(element, high)}.{names[1]}"
-    if most > 3:
-        return f"{element.name}{index(element, low)}.{'..'.join(dict.fromkeys(names))}"
-    return f"{element.name}{index(element, low)}." + "xyzw"[start:end + 1]
-
-
-def parts_at(element: Element, word: int) -> Tuple[int, int]:
-    """The first and the last component that a word has."""
-    within, each = word % element.words, element.words / element.stored
-    return int(within // each), int((within + 1) / each - 1e-9)
+        return low + span_of(inner, first % size, last % size)
+    if not (is_whole(inner, first % size, size - 1) and is_whole(inner, 0, last % size)):
+        return f"{low}{step(inner, first % size)[0]}..{high}{step(inner, last % size)[0]}"
+    row = low.rindex("[") + 1
+    return f"{low[:-1]}..{high[row:]}" if low[:row] == high[:row] else f"{low}..{high}"

@@ -183,7 +183,7 @@ class Reader:
 
     def __init__(self, program: str, folder: str, info: Info, report: List[str], most_seconds: int = MOST_SECONDS):
         self.kernel = info["kernel"][0] if info["kernel"] else ""
-        self.elements = Elements(folder, self.kernel, info["array"])
+        self.elements = Elements(info["element"])
         self.shape, self.texts, self.buffers, self.equal = Shape(info), Texts(folder), buffers_of(folder), equal_of(folder)
         self.waits = {int(site) for site in info["wait"]}
         lines = [line.split() for line in report]
@@ -244,11 +244,11 @@ class Reader:
             any(it.first <= run.first and run.last <= it.last for it in self.equal.get(run.group, ())) for run in runs)
         buffer = race["buffer"]
         element = self.elements.of(buffer["name"]) if buffer else None
+        number = buffer["index"] if buffer else race["word"]["number"]
         pair = self.pair(said, race, accesses)
         if pair:
             self.put_marks((race["first"], race["second"]), accesses)
-            finding.message = causes.sentence(finding.cause, finding.message, pair._replace(kind=element.kind if element else ""))
-        number = buffer["index"] if buffer else race["word"]["number"]
+            finding.message = causes.sentence(finding.cause, finding.message, pair._replace(kind=element.kind_of(number) if element else ""))
         shown = name_of(buffer["name"] if buffer else "", said["space"], [(number, number)], 1, element)
         finding.shown = shown + ("" if group is None else f" of {self.shape.group_name(group)}")
         return finding

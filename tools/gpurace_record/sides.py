@@ -7,7 +7,7 @@ import re
 import subprocess
 from typing import Dict, Iterable, Iterator, List, NamedTuple, Optional, Set, Tuple
 
-from .elements import Element, span_of
+from .elements import Element
 from .folders import Info, windows_of
 from .records import Group
 
@@ -90,7 +90,7 @@ def name_of(name: str, space: str, runs: Spans, groups: int, element: Optional[E
     """The words of one buffer, or of none, of so many groups where they are local; as elements, where these are known."""
     numbers = [str(low) if low == high else f"{low}..{high}" for low, high in runs[:MOST_RUNS]]
     if element:
-        shown = ", ".join(span_of(element, *run) for run in runs[:MOST_RUNS])
+        shown = ", ".join(element.span(*run) for run in runs[:MOST_RUNS])
     elif name:
         shown = ", ".join(f"{name}[{number}]" for number in numbers)
     else:

@@ -224,6 +224,7 @@ struct Launch {
     std::mutex mutex;                    // of all below, while groups run
     std::map<uint32_t, Group> group;     // those that have begun, by their numbers in the launch
     Buffers buffers;
+    std::map<std::string, std::string> types; // of the elements of each buffer, by its name
     Places reached;                      // of all groups
     std::vector<std::string> places;     // the texts of those
     std::map<uint32_t, uint64_t> sites;  // of those that are barriers, the sites

@@ -5,6 +5,7 @@
 #include "components.h"
 #include "launch.h"
 #include "places.h"
+#include "types.h"
 
 #include "oclgrind/Context.h"
 #include "oclgrind/Kernel.h"
@@ -94,7 +95,10 @@ public:
         launch_->window = settings_.groups.within(launch_->groups.count());
         launch_->has_atomics = has_atomics(*kernel->getFunction()->getParent());
         const std::string refusal = launch_->refusal();
-        if (refusal.empty()) return name_global_buffers(kernel);
+        if (refusal.empty()) {
+            note_types(*kernel->getFunction());
+            return name_global_buffers(kernel);
+        }
         write_launch(*launch_, settings_, refusal);
         launch_.reset();
     }
@@ -185,6 +189,16 @@ private:
         return call && std::any_of(call->arg_begin(), call->arg_end(), is_constant);
     }
 
+    // The types of the elements of what the kernel may access: its arguments, and the variables that it has.
+    void note_types(const llvm::Function &kernel) {
+        const auto note = [this](llvm::StringRef name, const std::string &type) {
+            if (!type.empty()) launch_->types[name.substr(name.rfind('.') + 1).str()] = type;
+        };
+        for (const llvm::GlobalVariable &variable : kernel.getParent()->globals())
+            if (variable.getName().startswith(kernel.getName().str() + ".")) note(variable.getName(), types::of_variable(variable));
+        for (const llvm::Argument &argument : kernel.args())
+            if (argument.getType()->isPointerTy()) note(argument.getName(), types::of_argument(kernel.getSubprogram(), argument.getArgNo()));
+    }
     void name_global_buffers(const Kernel *kernel) {
         const Memory *memory = m_context->getGlobalMemory();
         for (auto value = kernel->values_begin(); value != kernel->values_end(); ++value) {

@@ -230,6 +230,7 @@ private:
         }
         if (launch_.window.count() < launch_.groups.count()) out << launch_.window.lines();
         out << "items " << items_ << "\nrecords " << records_ << '\n';
+        for (const auto &[name, type] : launch_.types) out << "element " << name << ' ' << type << '\n';
         for (const uint32_t group : cut_) out << "cut " << group << '\n';
         for (const auto &[number, group] : launch_.group)
             if (group.is_kept && group.has_copies)

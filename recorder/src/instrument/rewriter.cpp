@@ -3,13 +3,14 @@
 //   kernel NAME NAMES COPIES ARGUMENTS      NAMES: it has atomics that may acquire; COPIES: it has asynchronous copies
 //   site NUMBER KIND SPACE BYTES ENTRY PLACE   ENTRY: what it accesses, or -1 where that is not known
 //   argument NUMBER KIND                    B buffer, C constant buffer, L local memory, I image, S sampler, V value
-//   entry NUMBER ARGUMENT SPACE BYTES GRAIN ATOMIC NAME SIZES   a buffer that is an argument, or a variable (ARGUMENT
-//                                           is -1); SIZES: of an array of arrays, the outermost first
+//   entry NUMBER ARGUMENT SPACE BYTES GRAIN ATOMIC NAME TYPE   a buffer that is an argument, or a variable (ARGUMENT
+//                                           is -1); TYPE: of its elements (tools/recorder/types.h), if it is known
 //   note TEXT                               what is not recorded
 #include "instrument.h"
 
 #include "../../../tools/recorder/components.h"
 #include "../../../tools/recorder/places.h"
+#include "../../../tools/recorder/types.h"
 
 #include "llvm/IR/IRBuilder.h"
 #include "llvm/IR/InstIterator.h"
@@ -53,16 +54,6 @@ Value *stored_of(const Access &access) {
     auto *call = dyn_cast<CallInst>(access.instruction); // of vstore, but for those of half
     return call && access.kind == WRITE && access.index_operand == 1 && !name_of(*call).contains("half")
                ? call->getArgOperand(0) : nullptr;
-}
-
-// How many elements a variable that is an array of arrays has, the outermost first; nothing of another one.
-std::string sizes_of(const Value &object) {
-    std::string sizes;
-    const auto *variable = dyn_cast<GlobalVariable>(&object);
-    const auto *type = variable ? dyn_cast<ArrayType>(variable->getValueType()) : nullptr;
-    if (!type || !type->getElementType()->isArrayTy()) return sizes;
-    for (; type; type = dyn_cast<ArrayType>(type->getElementType())) sizes += std::to_string(type->getNumElements()) + ' ';
-    return sizes;
 }
 
 char kind_of(const Argument &argument) {
@@ -189,8 +180,10 @@ private:
         });
         const int number = int(entries_.size());
         entries_[&object] = number;
+        const auto *variable = dyn_cast<GlobalVariable>(&object);
+        const std::string type = variable ? types::of_variable(*variable) : types::of_argument(function_->getSubprogram(), unsigned(argument));
         sites_ << "entry " << number << ' ' << argument << ' ' << (space == LOCAL_SPACE) << ' ' << bytes << ' ' << grains.of(&object)
-               << ' ' << has_atomics << ' ' << (name.empty() ? "unnamed" : name) << ' ' << sizes_of(object) << '\n';
+               << ' ' << has_atomics << ' ' << (name.empty() ? "unnamed" : name) << ' ' << type << '\n';
     }
 
     // Local variables are where the item's state says.

@@ -165,7 +165,7 @@ bool read_sites(const std::string &path, Program &program) {
         } else if (word == "entry" && kernel) {
             Entry entry;
             words >> number >> entry.argument >> entry.space >> entry.bytes >> entry.grain >> entry.has_atomics;
-            std::getline(words >> entry.name, entry.sizes);
+            std::getline(words >> entry.name, entry.type);
             program.has_variables = program.has_variables || (entry.argument < 0 && entry.space == GLOBAL);
             kernel->entries.push_back(entry);
         } else if (word == "site") {

@@ -22,7 +22,7 @@ std::string shape_of(const Request &request) {
     for (uint64_t group = 0; request.kernel->has_copies && group < request.window.count(); group++)
         text += "copying-item " + std::to_string(group) + ' ' + std::to_string(range.items_of_group()) + '\n';
     for (const Entry &entry : request.kernel->entries)
-        if (entry.sizes.size() > 1) text += "array " + entry.name + entry.sizes + '\n';
+        if (entry.type.size() > 1) text += "element " + entry.name + entry.type + '\n';
     for (size_t site = 0; site < request.program->sites.size(); site++)
         if (request.program->sites[site].kind == WAIT) text += "wait " + std::to_string(site) + '\n';
     return text;

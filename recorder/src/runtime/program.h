@@ -23,7 +23,7 @@ struct Entry {
     uint64_t bytes = 0;
     uint32_t grain = 4;       // the bytes of a word of it in the trace
     bool has_atomics = false;
-    std::string name, sizes;  // the sizes of an array of arrays, or a space
+    std::string name, type;   // of its elements, after a space; empty if it is not known
     uint64_t address = 0;     // of global memory
 };
 
