@@ -7,7 +7,8 @@ import unittest
 
 from testing.launches import BUFFERS, PLACES, SIDES, info, put_launch
 
-from gpurace_record.findings import Finding, Reader, join
+from gpurace_record.finding import Finding, join
+from gpurace_record.findings import Reader
 from gpurace_record.folders import info_of
 from gpurace_record.judging import first_of, judged, replay
 from gpurace_record.sides import Run, Texts
@@ -17,6 +18,7 @@ LOCAL = "nothing orders the two; a barrier with CLK_LOCAL_MEM_FENCE between them
 GLOBAL = "nothing orders the two; a barrier with CLK_GLOBAL_MEM_FENCE between them would"
 GROUPS = ("nothing orders the two, and a barrier never orders two groups; a second kernel, a word for each group, or a release that an acquire takes, "
           "at memory_scope_device, would mend it")
+ONE_WRITE = "both items write it at this place: let one of them do so, or give each a word of its own; a barrier would order only rounds of a loop"
 HAND_OVER = "nothing orders the two; a release that an acquire takes, at memory_scope_device, would"
 
 
@@ -129,7 +131,7 @@ race on flag[0]
 race on flag[0]
     a.cl:2:13: write by group 0, item 0
     a.cl:2:13: write by group 0, item 1
-    {GLOBAL}
+    {ONE_WRITE}
 """)
 
     def test_a_word_of_two_kinds_is_one_word(self):
@@ -296,13 +298,13 @@ race on global word 16
         atomic, plain = "rmw g 5 dev rlx", "r g 5"
         two_groups = [f"group {group} items 1 launch 7\n0 {step}\nend\n" for group, step in enumerate((atomic, plain))]
         one_group = [f"group 0 items 2 launch 7\n0 {atomic}\n1 {plain}\nend\n"]
-        mend = "put a barrier with CLK_GLOBAL_MEM_FENCE between the two, or "
-        for streams, other, barrier in ((one_group, "group 0, item 1", mend), (two_groups, "group 1, item 0", "")):
+        for streams, other, mend in ((one_group, "group 0, item 1", "put a barrier with CLK_GLOBAL_MEM_FENCE between the two"),
+                                     (two_groups, "group 1, item 0", "put one of them in a second kernel")):
             self.assert_report(streams, {}, "found", f"""\
 race on global word 5
     unknown place: atomic read-modify-write (relaxed, device scope) by group 0, item 0
     unknown place: read by {other}
-    a plain read beside atomics: {barrier}make it an atomic load (in OpenCL 1.2 an atomic_or with 0)
+    a plain read beside atomics: {mend}, or, if they may come in any order, make it an atomic load (in OpenCL 1.2 an atomic_or with 0)
 """)
 
     def test_items_that_count(self):
@@ -325,7 +327,8 @@ race on global word 5
             self.assertEqual({it.message for it in launch.findings}, {f"{atomic} {said}"})
             for places in (at_one_line.replace("a.cl:4:5", "a.cl:5:5"), at_one_line.replace(f"{items[1]} 2 a.cl:4:5", f"{items[1]} 2 b.cl:4:5")):
                 launch = self.judged(streams, {"places": places})
-                self.assertEqual({it.message for it in launch.findings}, {said})
+                of_one_place = {ONE_WRITE} if said == GLOBAL and "b.cl" not in places else set()
+                self.assertEqual({it.message for it in launch.findings}, {said} | of_one_place)
 
     def test_items_that_swap_at_one_line(self):
         """Each reads the word and another one, and writes it. Where the line's text has no update of it, that is no count."""
@@ -379,7 +382,7 @@ race on global word 5
         places = "".join(f"0 {item} {at} a.cl:4:9\n" for item in (0, 1) for at in (0, 2))
         launch = self.judged(["group 0 items 2 launch 7\n" + "".join(f"{item} r g 5\n{item} bar 3 g\n{item} w g 5\n" for item in (0, 1)) + "end\n"],
                              {"places": places})
-        self.assertEqual({it.message for it in launch.findings}, {GLOBAL})
+        self.assertEqual({it.message for it in launch.findings}, {ONE_WRITE})
 
     def test_the_first_lines_of_a_report(self):
         lines = [f"race global {number}" for number in range(5)]
@@ -409,6 +412,47 @@ race on input[0]
     unknown place: read by group 0, item 0
     the barrier at kernel.cl:3:1 between the two is divergent, and orders nothing
 """)
+
+    def test_divergent_barriers_of_one_text(self):
+        """The first barriers are at lines 2 and 4, whose text is the same; only line 4 has the second and third ones, which differ in their items."""
+        streams = ["group 0 items 3 launch 7 v2\n0 bar 1 l\n1 bar 2 l\n0 bar 2 l\n0 bar 2 l\n1 bar 2 l\nend\n"]
+        self.assert_report(streams, {"kernel.cl": "if (a)\n  barrier(F);\nif (b)\n  barrier(F);\n", "places": "1 kernel.cl:2:3\n2 kernel.cl:4:3\n"}, "found", """\
+divergent barrier, number 0 of group 0
+    kernel.cl:2:3: item 0
+        barrier(F);
+    kernel.cl:4:3: item 1
+        barrier(F);
+    no barrier: item 2
+    some work-items never reach it
+divergent barrier, number 1 of group 0, and 1 more alike
+    kernel.cl:4:3: 2 work-items, the first is item 0
+        barrier(F);
+    no barrier: item 2
+    some work-items never reach it
+""")
+
+    def test_the_last_barrier_before_both(self):
+        """In the second round of a loop item 0 writes what item 1 has read in the first one: there is a barrier in the text between the two lines."""
+        streams = ["group 0 items 2 launch 7\n0 w g 5\n0 bar 3 g\n1 bar 3 g\n1 r g 5\n0 w g 5\nend\n"]
+        places = "3 kernel.cl:3:1\n0 0 0 kernel.cl:2:9\n0 0 2 kernel.cl:2:9\n0 1 1 kernel.cl:4:9\n"
+        launch = self.judged(streams, {"places": places})
+        self.assertEqual([it.message for it in launch.findings], [f"{GLOBAL}; the last barrier before both is at kernel.cl:3:1"])
+
+    def test_a_lock_of_atomics_that_are_relaxed(self):
+        """Items of one group, and of two, add to a word between two atomics of another word. A barrier is no mend within a lock."""
+        steps = "rmw g 9 dev rlx", "r g 5", "w g 5", "rmw g 9 dev rlx"
+        one_group = ["group 0 items 2 launch 7\n" + "".join(f"{item} {step}\n" for item in (0, 1) for step in steps) + "end\n"]
+        two_groups = [f"group {group} items 1 launch 7\n" + "".join(f"0 {step}\n" for step in steps) + "end\n" for group in (0, 1)]
+        old = "while (atomic_cmpxchg(lock, 0, 1)) ;\n*total += 1;\natomic_xchg(lock, 0);\n"
+        new = old.replace("cmpxchg(", "exchange_explicit(").replace("xchg(", "store_explicit(")
+        why = " (atomics of OpenCL 1.x are relaxed, and those of OpenCL C 2.0 that end in _explicit take an order)"
+        in_group = "nothing orders the two; a release that an acquire takes would"
+        for streams, items, said in ((one_group, ("0 0", "0 1"), in_group), (two_groups, ("0 0", "1 0"), HAND_OVER)):
+            places = "".join(f"{item} {index} kernel.cl:{line}:1\n" for item in items for index, line in enumerate((1, 2, 2, 3)))
+            for text, ending in ((old, why), (new, "")):
+                message = self.judged(streams, {"places": places, "kernel.cl": text}).findings[0].message
+                self.assertEqual(message, f"{said}: the read-modify-write at kernel.cl:3:1 is no release and the read-modify-write at kernel.cl:1:1 is no "
+                                 f"acquire{ending}; or make each item's read and write of the word one atomic operation")
 
     def test_more_divergent_barriers_than_are_looked_at(self):
         launch = self.judged([f"group {group} items 2 launch 7 v3\n0 bar 1 l\nend\n" for group in range(102)], {})

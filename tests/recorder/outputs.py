@@ -9,7 +9,7 @@ import xml.etree.ElementTree as xml
 from testing.launches import BUFFERS, KERNEL, info, put_launch, put_racy, put_right
 from testing.program import TOP, RoomTest, python_with
 
-from gpurace_record.findings import Finding
+from gpurace_record.finding import Finding
 from gpurace_record.judging import Launch
 from gpurace_record.known import Baseline, entry_of
 from gpurace_record.outputs import write
@@ -63,6 +63,17 @@ class Statuses(Outputs):
         self.assertEqual([line for line in lines if line.startswith("launch")], [
             "launch 0, sums: FOUND (1 group of 2 work-items, 9 records), and 2 launches alike", "launch 3, right: nothing found (1 group of 2 work-items, 9 records)"])
         self.assertIn("gpurace-judge: 4 launches: 3 with findings, 1 without, 0 not judged whole", lines[-1])
+
+    def test_races_of_one_buffer_and_one_cause(self):
+        """Item 0 writes tile[0..4] at a line each, and item 1 reads them at line 9: three are shown whole, and of the others a line each."""
+        steps = "".join(f"0 w l {word}\n" for word in range(5)) + "".join(f"1 r l {word}\n" for word in range(5))
+        places = "".join(f"0 0 {word} a.cl:{word + 1}:1\n0 1 {word} a.cl:9:1\n" for word in range(5))
+        put_launch(self.kept / "000-steps", [f"group 0 items 2 launch 0\n{steps}end\n"], {
+            "info.txt": info("steps", 0), "places": places, "buffers": "l 0 0 16 tile\n"})
+        races = [line.strip().partition(", at ") for line in self.judge(status=1) if "race on" in line]
+        self.assertEqual([head for head, _, _ in races], [f"race on tile[{word}] of group 0{':' if word < 3 else ''}" for word in range(5)])
+        self.assertEqual([set(rest.replace(" and ", ": ").split(": ")) for _, _, rest in races[3:]],
+                         [{f"a.cl:{word + 1}:1", "a.cl:9:1", "likewise"} for word in (3, 4)])
 
     def test_what_keeps_a_launch_from_being_an_answer_comes_first_in_the_summary(self):
         put_right(self.kept, more="fence 2 kernel.cl:3:5\n")

@@ -10,7 +10,7 @@ from testing.launches import KERNEL, SIDES, info, put_launch, put_racy, put_righ
 from testing.program import TOP, RoomTest, python_with
 
 from gpurace_record import picture
-from gpurace_record.findings import Map, Mark
+from gpurace_record.finding import Map, Mark
 
 PYTHON = python_with("jinja2", "pygments")
 BROWSER = ["chromium", "--headless=new", "--no-sandbox", "--disable-gpu", "--disable-dev-shm-usage", "--enable-logging=stderr", "--dump-dom"]

@@ -1,6 +1,7 @@
 """What would order the two accesses of a race: the cause is gpurace's, the names and places beside it are of the records."""
 from __future__ import annotations
 
+import re
 from typing import List, NamedTuple, Optional
 
 DEVICE, GROUP = "`memory_scope_device`", "`memory_scope_work_group`"
@@ -16,6 +17,10 @@ ADVICE = {"int": WHOLE, "uint": WHOLE, "long": LONG, "ulong": LONG, "float": REA
           "double": REAL.format("atom_cmpxchg", "double"), **{kind: NARROW.format(kind) for kind in ("char", "uchar", "short", "ushort", "half")}}
 UNKNOWN = "use an atomic (of an int, such as atomic_inc or atomic_add; of a float, a loop of atomic_cmpxchg)"
 OWN = {"read": "load (in OpenCL 1.2 an atomic_or with 0)", "write": "store (in OpenCL 1.2 an atomic_xchg)"}
+ONE_WRITE = "both items write it at this place: let one of them do so, or give each a word of its own; a barrier would order only rounds of a loop"
+HAND_OVER = "nothing orders the two; a release that an acquire takes would"  # in one group
+OLD = re.compile(r"\batom(?:ic)?_(?:add|sub|xchg|inc|dec|cmpxchg|min|max|and|or|xor)\b")  # an atomic of OpenCL 1.x
+RELAXED = "atomics of OpenCL 1.x are relaxed, and those of OpenCL C 2.0 that end in _explicit take an order"
 FLAGS = {"global": (1, "CLK_GLOBAL_MEM_FENCE"), "local": (2, "CLK_LOCAL_MEM_FENCE")}
 
 
@@ -26,6 +31,7 @@ class At(NamedTuple):
     scope: str = ""
     is_copy: bool = False  # of the item that does asynchronous copies
     order: str = ""
+    text: str = ""         # the line of the source
 
 
 class Barrier(NamedTuple):
@@ -43,12 +49,15 @@ class Pair(NamedTuple):
     first: At
     second: At
     barriers: List[Barrier]
+    before: str            # the place of the last barrier before both, if none is between
     release: Optional[At]  # after the first access
     acquire: Optional[At]  # before the second one
     are_updates: bool = False  # both items read the word and write it next, as `++` does
     is_one_line: bool = False  # both items read the word and write it at one line, the same
     store: Optional[At] = None  # an atomic of a word after the one access, and one of the same word before the other
     load: Optional[At] = None
+    are_one_write: bool = False  # both are the same write of the text, with the same calls that lead there
+    is_locked: bool = False     # there are such atomics in both directions, as of a lock
     kind: str = ""              # the type of the word, where the kernel's text says it
 
 
@@ -89,17 +98,21 @@ def of_nothing(said: str, pair: Pair) -> str:
         return COPY
     for one, other in ((pair.first, pair.second), (pair.second, pair.first)):
         if one.what not in NAMES and other.what in NAMES:
-            barrier = f"put a barrier with {FLAGS[pair.space][1]} between the two, or " if pair.is_one_group else ""
-            return f"a plain {one.what} beside atomics: {barrier}make it an atomic {OWN[one.what]}"
+            order = f"put a barrier with {FLAGS[pair.space][1]} between the two" if pair.is_one_group else "put one of them in a second kernel"
+            return f"a plain {one.what} beside atomics: {order}, or, if they may come in any order, make it an atomic {OWN[one.what]}"
     if not pair.is_one_group and pair.release and pair.acquire and pair.release.place and pair.acquire.place:
         return f"{said}; the release at {pair.release.place} and the acquire at {pair.acquire.place} do not meet"
-    weak = of_orders(pair.store, pair.load) if not pair.is_one_group and pair.store and pair.load else ""
+    weak = of_orders(pair.store, pair.load) if (pair.is_locked or not pair.is_one_group) and pair.store and pair.load else ""
     if weak:
-        said += f": {weak}"
+        said = f"{HAND_OVER if pair.is_one_group else said}: {weak}"
     elif pair.is_one_line:
         return f"{ADVICE.get(pair.kind, UNKNOWN)}: each item reads the word and writes it at this line; without it {said if pair.is_one_group else GROUPS}"
     if pair.are_updates:
         return f"{said}; or make each item's read and write of the word one atomic operation"
+    if pair.is_one_group and pair.are_one_write:
+        return ONE_WRITE
+    if pair.before and not weak:
+        return f"{said}; the last barrier before both is at {pair.before}"
     return said if weak else ""
 
 
@@ -111,4 +124,5 @@ def of_orders(store: At, load: At) -> str:
     """Which of two atomics of one word hands nothing over."""
     weak = [f"the {NAMES[at.what]} at {at.place} is no {lacks}" for at, orders, lacks in ((store, ("rel", "both"), "release"), (load, ("acq", "both"), "acquire"))
             if at.order not in orders]
-    return " and ".join(weak) if store.place and load.place else ""
+    why = f" ({RELAXED})" if weak and any(OLD.search(at.text) for at in (store, load)) else ""
+    return " and ".join(weak) + why if store.place and load.place else ""

@@ -1,4 +1,4 @@
-"""Words of a buffer as elements of its type: `l_data[1].x`, where lines `element NAME TYPE` of info.txt say the type (tools/recorder/types.h)."""
+"""Words of a buffer as elements of its type: `l_data[1].x`, where a line `element NAME TYPE` of info.txt says it (tools/recorder/types.h)."""
 from __future__ import annotations
 
 import json
@@ -95,7 +95,8 @@ def span_of(type: Type, first: int, last: int) -> str:
             return f".{name}{span_of(inner, first - start, min(last - start, bytes_of(inner) - 1))}"
         return f"{step(type, first)[0]}..{step(type, last)[0][1:]}"
     low, high = step(type, first)[0][1:], step(type, last)[0][1:]
-    return f".{low}" if low == high else f".{low}..{high}" if numbers_of(type)[1] > 4 else "." + "xyzw"["xyzw".index(low):"xyzw".index(high) + 1]
+    between = f"{low}..{high}" if numbers_of(type)[1] > 4 else "xyzw"["xyzw".index(low):"xyzw".index(high) + 1]
+    return "." + (low if low == high else between)
 
 
 def rows_of(type: Type) -> Tuple[Tuple[int, ...], Type]:

@@ -7,7 +7,8 @@ import subprocess
 import traceback
 from typing import Dict, Iterator, List, Optional, Tuple
 
-from .findings import NEW, Finding, Reader, out_of_bounds
+from .finding import NEW, Finding
+from .findings import Reader, out_of_bounds
 from .folders import Info, end_files, info_of, kept_of, streams_of, windows_of
 from .pipes import Piped
 from .sides import Texts, PLACE

@@ -7,7 +7,7 @@ import json
 import os
 from typing import Any, Dict, Iterator, List
 
-from .findings import Finding, fingerprint_of
+from .finding import Finding, fingerprint_of
 from .judging import count
 from .report import Filter, Report
 

@@ -10,7 +10,7 @@ import xml.etree.ElementTree as xml
 from typing import Any, Callable, Dict, List, Tuple
 
 from . import page
-from .findings import Access, Finding
+from .finding import Access, Finding
 from .judging import Launch
 from .known import Baseline, Suppressions
 from .report import NEW, Entry, Report
@@ -48,7 +48,7 @@ def launch_object(launch: Launch, kept: bool) -> Dict[str, Any]:
 def finding_object(mark: str, entry: Entry) -> Dict[str, Any]:
     it = entry.finding
     accesses = [{key: value or None if key in ("place", "text", "scope", "order") else value
-                 for key, value in dataclasses.asdict(access).items() if key != "marks"} for access in it.accesses]
+                 for key, value in dataclasses.asdict(access).items() if key not in ("marks", "nth")} for access in it.accesses]
     return {"fingerprint": mark, "kind": it.kind, "kernel": it.kernel, "title": it.title, "cause": it.cause, "message": it.message,
             "words": it.words, "shown": it.shown or None, "buffers": [dataclasses.asdict(buffer) for buffer in it.maps], "accesses": accesses,
             "is_equal": it.is_equal, "is_doubtful": it.is_doubtful, "state": entry.state, "why": entry.why or None,

@@ -10,7 +10,7 @@ import shlex
 from typing import Any, Dict, List, Tuple
 
 from . import picture
-from .findings import Finding
+from .finding import Finding
 from .judging import Launch, count
 from .recording import Missing
 from .report import HEADS, NEW, Entry, Report

@@ -6,7 +6,7 @@ import itertools
 import textwrap
 from typing import Dict, List, NamedTuple, Optional, Sequence, Tuple
 
-from .findings import Access, Finding, Map, Mark
+from .finding import Access, Finding, Map, Mark
 
 WIDTH, LANES = 400, (104, 296)  # of the picture, and the middles of the lanes
 BOX, ROW, LINE = 180, 50, 15    # a node's width, a row's height, a line's

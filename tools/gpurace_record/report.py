@@ -6,7 +6,7 @@ import os
 import sys
 from typing import Callable, Dict, Iterator, List, Optional, Tuple
 
-from .findings import NEW, Finding
+from .finding import NEW, Finding
 from .judging import FOUND, INCOMPLETE, Launch, Reason, count
 from .sources import Sources
 
@@ -14,7 +14,7 @@ NAME = "gpurace-judge" if os.path.basename(sys.argv[0]) == "gpurace-judge" else 
 NO_LAUNCH = {"gpurace-judge": "no launch was recorded there: no folder has an info.txt, or a file whose name ends in .gpurace",
              "gpurace-record": "no launch was recorded: the program launched no kernel, or none of that name or number"}
 MOST_SHOWN = 20    # findings of an outcome
-MOST_ALIKE = 3     # reasons of one name, and kernels of a reason, that are shown
+MOST_ALIKE = 3     # reasons of one name, kernels of a reason, and races of one buffer and one cause that are shown
 HEADS = {"found": "FOUND", "doubtful": "doubtful", "incomplete": "nothing found in what was recorded", "nothing": "nothing found",
          "known": "nothing new found"}
 
@@ -144,12 +144,18 @@ class Report:
         yield f"{self.name(launch)}: {head}{size}" + (f", and {count(number - 1, 'launch')} alike" if number > 1 else "")
         if launch.findings:
             yield f"    {launch.end}" + (f", in {launch.folder}" if self.kept else "")
+        alike: Dict[Tuple[str, ...], int] = {}
         for finding in launch.findings[:MOST_SHOWN]:
+            mistake = (finding.kind, finding.message, *finding.buffers())
+            alike[mistake] = alike.get(mistake, 0) + 1
             state = "" if finding.state == NEW else f" ({finding.state}{': ' if finding.why else ''}{finding.why})"
             first = named.setdefault(finding.fingerprint(), self.name(launch))
             title, *lines = finding.lines()
             if finding.state != NEW:  # so that what is new is seen
                 yield f"    {title}{state}{self.places_of(finding)}"
+                continue
+            if finding.kind == "race" and alike[mistake] > MOST_ALIKE:  # as where items of a group are taken to run in step
+                yield f"    {finding.title}{self.places_of(finding)}: likewise"
                 continue
             yield f"    {title}" + (f": as in {first}" if first != self.name(launch) else ":" if lines else "")
             yield from (f"    {line}" for line in (lines if first == self.name(launch) else []))

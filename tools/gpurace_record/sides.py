@@ -86,6 +86,12 @@ def joined(spans: Iterable[Tuple[int, int]]) -> Spans:
     return runs
 
 
+def words_in(runs: Iterable[Run]) -> int:
+    """How many words there are in runs that may overlap."""
+    spans = [joined((run.first, run.last) for run in of_group) for of_group in by_group(runs).values()]
+    return sum(last - first + 1 for of_group in spans for first, last in of_group)
+
+
 def name_of(name: str, space: str, runs: Spans, groups: int, element: Optional[Element]) -> str:
     """The words of one buffer, or of none, of so many groups where they are local; as elements, where these are known."""
     numbers = [str(low) if low == high else f"{low}..{high}" for low, high in runs[:MOST_RUNS]]
@@ -151,6 +157,12 @@ class Texts:
         column = int(at[3]) - 1 - (len(line) - len(text))
         start = max(0, min(column - MOST_COLUMNS // 2, len(text) - MOST_COLUMNS))
         return ".. " * (start > 0) + text[start:start + MOST_COLUMNS] + " .." * (start + MOST_COLUMNS < len(text))
+
+    def nth(self, place: str) -> int:
+        """Which one of the lines of its text in its file the line of a place is, from 1."""
+        at = PLACE.fullmatch(place)
+        lines = [line.strip() for line in self.text(at[1])[:int(at[2])]] if at else []
+        return max(1, lines.count(lines[-1])) if lines else 1
 
     def text(self, file: str) -> List[str]:
         if file not in self.files:

@@ -65,7 +65,7 @@ expect "a flag is missing" 1 "races 32 diverge 0 unmatched 0 held 0" "the barrie
     -- "$work/sum_tiles" sum_tiles.cl 2
 # after the first barrier only items below 8, 4, 2 and 1 come: four divergent barriers a group, and tile[1..7] race
 expect "barriers in a branch" 1 "races 28 diverge 16 unmatched 0 held 0" "race on tile\[1..7\] of 4 groups (28 words)" \
-    "divergent barrier, number 1 of group 0, and 3 more alike:" "some work-items never reach it; 28 races follow from it" "kernel.cl:21:[0-9]*: 8 work-items, the first is item 0" \
+    "divergent barrier, number 1 of group 0, and 15 more alike:" "some work-items never reach it; 28 races follow from it" "kernel.cl:21:[0-9]*: 8 work-items, the first is item 0" \
     "no barrier: 8 work-items, the first is item 8" -- "$work/sum_tiles" sum_tiles.cl 3
 expect "a window" 1 "races 16 diverge 0" "only groups 1 to 2 of 4 were recorded" \
     -- --groups 1:2 "$work/sum_tiles" sum_tiles.cl 1

@@ -38,8 +38,8 @@ inline std::string members(const llvm::DICompositeType &type) {
     for (const llvm::DINode *node : type.getElements()) {
         const auto *member = llvm::dyn_cast<llvm::DIDerivedType>(node);
         if (!member || member->isBitField() || member->getName().empty()) return "";
-        text += (text.empty() ? "" : ",") + std::string("[") + std::to_string(member->getOffsetInBits() / 8) + ",\"" + member->getName().str() +
-                "\"," + text_of(member->getBaseType()) + "]";
+        const std::string name = member->getName().str(), place = std::to_string(member->getOffsetInBits() / 8);
+        text += (text.empty() ? "[" : ",[") + place + ",\"" + name + "\"," + text_of(member->getBaseType()) + "]";
     }
     return text;
 }

@@ -181,7 +181,8 @@ private:
         const int number = int(entries_.size());
         entries_[&object] = number;
         const auto *variable = dyn_cast<GlobalVariable>(&object);
-        const std::string type = variable ? types::of_variable(*variable) : types::of_argument(function_->getSubprogram(), unsigned(argument));
+        const std::string type = variable ? types::of_variable(*variable)
+                                          : types::of_argument(function_->getSubprogram(), unsigned(argument));
         sites_ << "entry " << number << ' ' << argument << ' ' << (space == LOCAL_SPACE) << ' ' << bytes << ' ' << grains.of(&object)
                << ' ' << has_atomics << ' ' << (name.empty() ? "unnamed" : name) << ' ' << type << '\n';
     }

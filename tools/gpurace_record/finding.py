@@ -1,0 +1,143 @@
+"""A finding: a mistake in a launch, in the kernel's own terms, with what is shown of it."""
+from __future__ import annotations
+
+import dataclasses
+import hashlib
+import json
+from typing import Iterator, List, Tuple
+
+from .sides import CALLED, Run, Texts, joined, words_in
+
+WHAT = {"load": "atomic load", "store": "atomic store", "rmw": "atomic read-modify-write"}
+ORDERS = {"rlx": "relaxed", "acq": "acquire", "rel": "release", "both": "acquire and release"}
+SCOPES = {"grp": "work-group scope", "dev": "device scope"}
+NEW = "new"          # the state of a finding that is neither known nor suppressed
+NO_PLACE = "unknown place"
+
+
+@dataclasses.dataclass
+class Mark:
+    """A record of an item of a race, for the picture: a barrier, a release, an acquire, or an access to the word."""
+    what: str
+    place: str = ""
+    scope: str = ""
+    order: str = ""
+    instance: int = -1  # of a barrier
+    flags: int = 0
+    is_wait: bool = False  # for copies, which is recorded as a barrier of no memory
+    is_racing: bool = False
+    key: Tuple[int, ...] = ()                # of a release: the group and the item of the trace, and its number
+    takes: Tuple[Tuple[int, ...], ...] = ()  # of an acquire: such releases
+
+
+@dataclasses.dataclass
+class Call:
+    """A call that leads to a place, and the line of the source."""
+    place: str
+    text: str
+
+
+@dataclasses.dataclass
+class Access:
+    """Something that an item did, or several did alike, and its place."""
+    what: str
+    who: str
+    place: str = ""
+    text: str = ""  # the line of the source
+    nth: int = 1    # of the lines of this text in its file
+    calls: List[Call] = dataclasses.field(default_factory=list)  # the innermost one first
+    scope: str = ""
+    order: str = ""
+    group: int = 0
+    item: int = 0
+    index: int = 0
+    marks: List[Mark] = dataclasses.field(default_factory=list)
+
+    def lines(self) -> Iterator[str]:
+        if self.what in ("barrier", "no barrier"):
+            yield f"{self.place or self.what}: {self.who}"
+        else:
+            yield self.sentence()
+        yield from [f"    {self.text}"] if self.text else []
+        for call in self.calls:
+            yield f"    called at {call.place}" + (f": {call.text}" if call.text else "")
+
+    def put_at(self, place: str, texts: Texts) -> Access:
+        """Gives it its place, which may name the calls that lead there."""
+        self.place, *calls = place.split(CALLED)
+        self.text, self.calls = texts.line(self.place), [Call(call, texts.line(call)) for call in calls]
+        self.nth = texts.nth(self.place)
+        return self
+
+    def where(self) -> str:
+        """The lines of the source; where these are not known the places, and else what is done."""
+        return " < ".join([self.text or self.place or self.what, *(call.text or call.place for call in self.calls)])
+
+    def sentence(self) -> str:
+        how = ", ".join(word for word in (ORDERS.get(self.order), SCOPES.get(self.scope)) if word)
+        return f"{self.place or NO_PLACE}: {WHAT.get(self.what, self.what)}{' (' + how + ')' if how else ''} by {self.who}"
+
+
+@dataclasses.dataclass
+class Map:
+    """The racy words of a buffer, in all groups that have it; of words of no buffer the name is empty."""
+    buffer: str
+    space: str
+    words: int   # that the buffer has, racy or not
+    groups: int
+    spans: List[Tuple[int, int]]  # the racy ones
+
+
+@dataclasses.dataclass
+class Finding:
+    """A mistake. Two are the same where their fingerprints are."""
+    kind: str                # race, divergence, out-of-bounds, unmatched
+    kernel: str
+    title: str
+    cause: str = ""          # its name
+    message: str = ""        # a sentence
+    words: int = 0           # of a race, how many
+    runs: List[Run] = dataclasses.field(default_factory=list)  # these words, of which several races may have one
+    shown: str = ""          # the word that the two accesses race on
+    accesses: List[Access] = dataclasses.field(default_factory=list)
+    maps: List[Map] = dataclasses.field(default_factory=list)
+    is_equal: bool = False   # all stores to each of the words write the same value
+    is_doubtful: bool = False
+    state: str = NEW         # or known, or suppressed; `why` says why
+    why: str = ""
+
+    def buffers(self) -> List[str]:
+        return sorted({it.buffer for it in self.maps} - {""})
+
+    def texts(self) -> List[str]:
+        """Of a divergent barrier it counts which one of several of one text it is."""
+        return sorted({it.where() + (f" #{it.nth}" if self.kind == "divergence" and it.nth > 1 else "") for it in self.accesses})
+
+    def fingerprint(self) -> str:
+        """Survives lines that are added elsewhere: it has the kernel, the buffers, the cause and the lines' texts."""
+        return fingerprint_of(self.kind, self.kernel, self.buffers(), self.cause, self.texts())
+
+    def lines(self) -> Iterator[str]:
+        yield self.title + (f"; on {self.shown}" if self.words > 1 else "") + (" (doubtful)" if self.is_doubtful else "")
+        for access in self.accesses:
+            yield from (f"    {line}" for line in access.lines())
+        yield from [f"    {self.message}"] if self.message else []
+        if self.is_equal:
+            yield f"    all stores to {'it' if self.words == 1 else 'each of them'} write the same value"
+
+
+def fingerprint_of(kind: str, kernel: str, buffers: List[str], cause: str, texts: List[str]) -> str:
+    return hashlib.sha256(json.dumps([kind, kernel, buffers, cause, texts]).encode()).hexdigest()[:32]
+
+
+def join(one: Finding, other: Finding) -> None:
+    """Puts what another finding of one fingerprint has to the first one."""
+    one.runs += other.runs
+    one.words = words_in(one.runs)
+    one.is_equal = one.is_equal and other.is_equal
+    for it in other.maps:
+        same = next((mine for mine in one.maps if (mine.buffer, mine.space) == (it.buffer, it.space)), None)
+        if same:
+            same.spans, same.groups = joined(same.spans + it.spans), max(same.groups, it.groups)
+        else:
+            one.maps.append(it)

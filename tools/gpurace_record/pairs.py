@@ -1,0 +1,145 @@
+"""The two accesses of a race, and what their items did around them."""
+from __future__ import annotations
+
+import re
+from typing import Any, Dict, List, Optional, Set, Tuple
+
+from . import causes
+from .finding import Access, Mark
+from .records import Group, Step
+from .sides import CALLED, PLACE, Places, Shape, Texts
+
+MOST_STEPS = 3       # of an item on each side of its access that are kept
+UPDATE = re.compile(r"\+\+|--|(?:[-+*/%&|^]|<<|>>)=|(?:^|[;{})])\s*([^;{}=]+?)\s*=(?!=)[^;]*?(?<!\w)\1(?!\w)")  # in a line of source
+
+
+def line_of(place: str) -> str:
+    """The file and the line of a place; empty where it is none."""
+    at = PLACE.fullmatch(place)
+    return f"{at[1]}:{at[2]}" if at else ""
+
+
+class Pairs:
+    """What is between two accesses, each an event of gpurace's answer, by the records of their groups."""
+
+    def __init__(self, groups: Dict[int, Group], places: Places, shape: Shape, texts: Texts, divergent: Set[Tuple[int, int]], waits: Set[int]):
+        self.groups, self.places, self.shape, self.texts, self.divergent, self.waits = groups, places, shape, texts, divergent, waits
+
+    def put_marks(self, events: Tuple[Dict[str, Any], Dict[str, Any]], accesses: List[Access]) -> None:
+        """Gives both accesses the steps around them. Of two items of a group the same barriers are shown: from the one before the first of the
+        two to the one after the last; of many those at both ends."""
+        number, group = events[0]["group"], self.groups[events[0]["group"]]
+        shown: Optional[Set[int]] = None
+        if number == events[1]["group"]:
+            low, high = sorted(group.phase(event["item"], event["index"]) for event in events)
+            shown = {*range(low - 1, min(high, low + MOST_STEPS) + 1), *range(max(low, high - MOST_STEPS), high + 1)}
+        for event, access in zip(events, accesses):
+            access.marks = self.marks(event["group"], event["item"], event["index"], shown)
+
+    def marks(self, group: int, item: int, index: int, shown: Optional[Set[int]]) -> List[Mark]:
+        """The access of this index and the steps around it; of barriers those that are shown, or are near."""
+        racing, steps = self.groups[group].step(item, index), self.groups[group].steps[item]
+        word = (racing.space, racing.word)
+        near = [step for step in steps if step.is_release() or step.is_acquire()
+                or (shown is None if step.kind == "barrier" else (step.space, step.word) == word)]
+        at = near.index(racing)
+        near = near[max(0, at - MOST_STEPS):at + MOST_STEPS + 1]
+        if shown is not None:
+            near = [step for step in near if self.groups[group].phase(item, step.at) - 1 in shown or step is racing]
+            near += [step for number, step in enumerate(self.groups[group].barriers[item]) if number in shown]
+        return [self.mark(group, item, step, step is racing) for step in sorted(near)]
+
+    def mark(self, group: int, item: int, step: Step, is_racing: bool) -> Mark:
+        if step.kind != "barrier":
+            key = (group, item, step.release) if step.is_release() else ()
+            place = self.places.event(group, item, step.at).split(CALLED)[0]
+            return Mark(step.kind, place, step.scope, step.order, is_racing=is_racing, key=key, takes=step.names)
+        return Mark("barrier", self.places.site(step.word).split(CALLED)[0], instance=self.groups[group].phase(item, step.at), flags=step.space,
+                    is_wait=step.word in self.waits)
+
+    def between(self, said: Dict[str, Any], race: Dict[str, Any], accesses: List[Access]) -> Optional[causes.Pair]:
+        """The two accesses with what is between them; None if their records were not read."""
+        first, second = race["first"], race["second"]
+        if first["group"] not in self.groups or second["group"] not in self.groups:
+            return None
+        one, other = (causes.At(access.what, access.place, access.scope, self.shape.is_copying(event["group"], event["item"]))
+                      for access, event in zip(accesses, (first, second)))
+        hands = [self.hand_over(first, second), self.hand_over(second, first)]  # the order of the two says nothing of time
+        release, acquire = next((both for both in hands if all(both)), hands[0])
+        meetings = [self.meeting(first, second), self.meeting(second, first)]
+        store, load = meetings[0] or meetings[1] or (None, None)
+        barriers, before = ([], "") if not said["one_group"] else (self.barriers_between(first, second), self.barrier_before(first, second))
+        return causes.Pair(said["space"], said["one_group"], one, other, barriers, before, release, acquire,
+                           self.is_update(first) and self.is_update(second), self.is_line_of_updates(first, second, accesses[0].text),
+                           store, load, are_one_write=self.are_one_write(*accesses), is_locked=all(meetings))
+
+    @staticmethod
+    def are_one_write(first: Access, second: Access) -> bool:
+        return first.what == second.what == "write" and first.place != "" and (first.place, first.calls) == (second.place, second.calls)
+
+    def is_update(self, event: Dict[str, Any]) -> bool:
+        """Whether the event is one of a plain read of a word and the write to it that the item does next."""
+        group, item = self.groups[event["group"]], event["item"]
+        own = group.step(item, event["index"])
+        other = {"read": (1, "write"), "write": (-1, "read")}.get(own.kind)
+        return other is not None and any((step.at - own.at, step.kind) == other and (step.space, step.word) == (own.space, own.word)
+                                         for step in group.steps[item])
+
+    def is_line_of_updates(self, first: Dict[str, Any], second: Dict[str, Any], text: str) -> bool:
+        """Whether both items update the word at one line, which has this text. One that swaps words, say, is none."""
+        line = self.line_of_update(first)
+        is_shown = not text or UPDATE.search(text) or (self.is_update(first) and self.is_update(second))
+        return line != "" and line == self.line_of_update(second) and bool(is_shown)
+
+    def line_of_update(self, event: Dict[str, Any]) -> str:
+        """The line at which an item reads the word of the event and writes it next, both plainly and with no barrier between; empty where it does
+        not, or the line is not known."""
+        number, item = event["group"], event["item"]
+        group = self.groups[number]
+        own = group.step(item, event["index"])
+        steps = [step for step in group.steps[item] if step.kind != "barrier" and (step.space, step.word) == (own.space, own.word)]
+        at = steps.index(own) - (own.kind == "write")
+        update = steps[at:at + 2] if at >= 0 else []
+        if [step.kind for step in update] != ["read", "write"] or len({group.phase(item, step.at) for step in update}) > 1:
+            return ""
+        lines = {line_of(self.places.event(number, item, step.at).split(CALLED)[0]) for step in update}
+        return lines.pop() if len(lines) == 1 else ""
+
+    def hand_over(self, one: Dict[str, Any], other: Dict[str, Any]) -> Tuple[Optional[causes.At], Optional[causes.At]]:
+        """The release of an event's item after it, and the acquire of another event's item before that one, where there are such. What waits for
+        copies is none: the item that copies hands nothing else over."""
+        after = [step for step in self.groups[one["group"]].steps[one["item"]] if step.at > one["index"] and step.is_release()
+                 and not self.shape.is_copying(one["group"], one["item"])]
+        before = [step for step in self.groups[other["group"]].steps[other["item"]] if step.at < other["index"] and step.is_acquire()
+                  and not any(self.shape.is_copying(group, item) for group, item, _ in step.names)]
+        return self.at(one, after[0]) if after else None, self.at(other, before[-1]) if before else None
+
+    def meeting(self, one: Dict[str, Any], other: Dict[str, Any]) -> Optional[Tuple[causes.At, causes.At]]:
+        """An atomic that stores, of an event's item after it, and one that loads the same word, of another event's item before that one."""
+        stores, loads = (self.groups[event["group"]].atomics[event["item"]] for event in (one, other))
+        words = [word for word, step in stores.stores.items()
+                 if step.at > one["index"] and word in loads.loads and loads.loads[word].at < other["index"]]
+        if not words:
+            return None
+        word = min(words, key=lambda word: stores.stores[word].at)
+        return self.at(one, stores.stores[word]), self.at(other, loads.loads[word])
+
+    def at(self, event: Dict[str, Any], step: Step) -> causes.At:
+        place = self.places.event(event["group"], event["item"], step.at).split(CALLED)[0]
+        return causes.At(step.kind, place, step.scope, order=step.order, text=self.texts.line(place))
+
+    def barrier_before(self, first: Dict[str, Any], second: Dict[str, Any]) -> str:
+        """The place of the last barrier that both items have passed, if no other one is between the two; else nothing."""
+        group = self.groups[first["group"]]
+        at, other = (group.phase(event["item"], event["index"]) - 1 for event in (first, second))
+        step = group.barriers[first["item"]][at] if at == other >= 0 else None
+        is_one = step is not None and step.word not in self.waits and (first["group"], at) not in self.divergent
+        place = self.places.site(step.word).split(CALLED)[0] if step and is_one else ""
+        return place if PLACE.fullmatch(place) else ""
+
+    def barriers_between(self, first: Dict[str, Any], second: Dict[str, Any]) -> List[causes.Barrier]:
+        number, group = first["group"], self.groups[first["group"]]
+        phases = sorted((group.phase(event["item"], event["index"]), event["item"]) for event in (first, second))
+        steps = group.barriers[phases[1][1]]
+        return [causes.Barrier(self.places.site(steps[at].word), steps[at].space, (number, at) in self.divergent, steps[at].word in self.waits)
+                for at in range(phases[0][0], phases[1][0])]
