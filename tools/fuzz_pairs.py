@@ -18,55 +18,15 @@ from collections import defaultdict
 
 sys.dont_write_bytecode = True
 
-from fuzz_launches import Event, as_text, grounded_of, may_race, random_launch, reached, relate  # noqa: E402
+from launch_model import as_text, events_of, grounded_of, launch_of, races_of, random_launch, relate  # noqa: E402
 
 TOP = pathlib.Path(__file__).resolve().parent.parent
 OPERATIONS = {"r": "read", "w": "write", "ld": "load", "st": "store", "rmw": "rmw"}
 
 
-def launch_of(text):
-    """The sizes of the groups of a trace, and of each item its events."""
-    sizes, traces, group = {}, defaultdict(list), 0
-    for line in text.splitlines():
-        words = line.partition("@")[0].split()
-        if not words or words[0] == "end":
-            continue
-        if words[0] == "group":
-            group = int(words[1])
-            sizes[group] = int(words[3])
-            continue
-        at = (group, int(words[0]))
-        trace = traces[at]
-        if words[1] == "bar":
-            trace.append(Event(at, len(trace), "bar", words[3], int(words[2])))
-            continue
-        kind, memory, word, more = words[1], words[2], int(words[3]), words[4:]
-        scope, order = more[:2] if kind in ("ld", "st", "rmw") else ("", "")
-        names = [more[place + 1:place + 4] for place, text in enumerate(more) if text == "<"]
-        names = tuple(((int(name[0]), int(name[1])), int(name[2])) for name in names)
-        trace.append(Event(at, len(trace), kind, memory, word, scope, order, names))
-    return [sizes[group] for group in sorted(sizes)], traces
-
-
 def side_of(event, places):
     """What an access does, and where."""
     return OPERATIONS[event.kind], places.get((*event.at, event.index))
-
-
-def races_of(sizes, traces):
-    """Of each word the pairs of events that race on it."""
-    events = [event for trace in traces.values() for event in trace]
-    pairs, _ = relate(sizes, traces)
-    words = defaultdict(list)
-    for event in grounded_of(events):
-        if event.kind != "bar":
-            words[event.location()].append(event)
-    races = defaultdict(list)
-    for word, accesses in words.items():
-        after = {event: reached(pairs[event.memory], event) for event in accesses}
-        races[word] += [(one, other) for one in accesses for other in accesses
-                        if may_race(one, other) and other not in after[one] and one not in after[other]]
-    return {word: found for word, found in races.items() if found}
 
 
 def word_of(said):
@@ -118,7 +78,9 @@ def judge(program, name, text, sizes, traces, places):
         words = [program, "races", "--json", "--places", f"{folder}/side", str(packed)]
         run = subprocess.run(words, capture_output=True, check=False)
     said = run.stdout.decode()
-    why = wrong([json.loads(line) for line in said.splitlines()], races_of(sizes, traces), places) if run.returncode < 2 else run.stderr.decode()
+    pairs, _ = relate(sizes, traces)
+    races = races_of(grounded_of(events_of(traces)), pairs)
+    why = wrong([json.loads(line) for line in said.splitlines()], races, places) if run.returncode < 2 else run.stderr.decode()
     if why:
         pathlib.Path("different").write_text(f"{name}: {why}\n\nplaces:\n{lines}\nsaid:\n{said}\n{text}", encoding="utf-8")
         sys.exit(f"{name}: {why} (see the file `different`)")
@@ -138,8 +100,7 @@ def main():
         choose = random.Random(seed)
         sizes, traces = random_launch(choose, 1, 6)
         text = as_text(choose, sizes, traces)
-        events = [event for trace in traces.values() for event in trace]
-        places = {(*event.at, event.index): f"kernel.cl:{choose.randrange(4)}" for event in events if choose.random() < 0.8}
+        places = {(*event.at, event.index): f"kernel.cl:{choose.randrange(4)}" for event in events_of(traces) if choose.random() < 0.8}
         judge(arguments.program, f"seed {seed}", text, sizes, traces, places)
     print(f"{len(examples)} examples and {arguments.launches} launches: each pair that races is shown, and no other")
 

@@ -454,6 +454,14 @@ divergent barrier, number 1 of group 0, and 1 more alike
                 self.assertEqual(message, f"{said}: the read-modify-write at kernel.cl:3:1 is no release and the read-modify-write at kernel.cl:1:1 is no "
                                  f"acquire{ending}; or make each item's read and write of the word one atomic operation")
 
+    def test_a_hand_over_in_a_group_by_atomics_that_are_relaxed(self):
+        """A counter in the place of the load is no hand-over: there a barrier is missing."""
+        places = "0 0 0 a.cl:1:1\n0 0 1 a.cl:2:1\n0 1 0 a.cl:3:1\n0 1 1 a.cl:4:1\n"
+        weak = ", or a release that an acquire takes: the store at a.cl:2:1 is no release and the load at a.cl:3:1 is no acquire"
+        for load, more in (("ld", weak), ("rmw", "")):
+            streams = [f"group 0 items 2 launch 7\n0 w g 5\n0 st g 9 grp rlx\n1 {load} g 9 grp rlx\n1 r g 5\nend\n"]
+            self.assertEqual([it.message for it in self.judged(streams, {"places": places}).findings], [GLOBAL + more])
+
     def test_more_divergent_barriers_than_are_looked_at(self):
         launch = self.judged([f"group {group} items 2 launch 7 v3\n0 bar 1 l\nend\n" for group in range(102)], {})
         self.assertEqual([it.title for it in launch.findings],

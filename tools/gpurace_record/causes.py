@@ -5,7 +5,7 @@ import re
 from typing import List, NamedTuple, Optional
 
 DEVICE, GROUP = "`memory_scope_device`", "`memory_scope_work_group`"
-NAMES = {"load": "load", "store": "store", "rmw": "read-modify-write"}  # of atomics
+ATOMICS = {"load": "load", "store": "store", "rmw": "read-modify-write"}
 COPY = "nothing orders the two; wait_group_events after the copy would, or, if the copy comes last, a barrier before it"
 GROUPS = ("nothing orders the two, and a barrier never orders two groups; a second kernel, a word for each group, or a release that an acquire takes, "
           "at memory_scope_device, would mend it")
@@ -97,14 +97,17 @@ def of_nothing(said: str, pair: Pair) -> str:
     if pair.is_one_group and (pair.first.is_copy or pair.second.is_copy):
         return COPY
     for one, other in ((pair.first, pair.second), (pair.second, pair.first)):
-        if one.what not in NAMES and other.what in NAMES:
+        if one.what not in ATOMICS and other.what in ATOMICS:
             order = f"put a barrier with {FLAGS[pair.space][1]} between the two" if pair.is_one_group else "put one of them in a second kernel"
             return f"a plain {one.what} beside atomics: {order}, or, if they may come in any order, make it an atomic {OWN[one.what]}"
     if not pair.is_one_group and pair.release and pair.acquire and pair.release.place and pair.acquire.place:
         return f"{said}; the release at {pair.release.place} and the acquire at {pair.acquire.place} do not meet"
-    weak = of_orders(pair.store, pair.load) if (pair.is_locked or not pair.is_one_group) and pair.store and pair.load else ""
+    weak = of_orders(pair.store, pair.load) if pair.store and pair.load else ""
+    if pair.is_one_group and not pair.is_locked:  # atomics that modify, as counters, may stand beside a barrier that is missing
+        weak = weak if pair.load and pair.load.what == "load" else ""
     if weak:
-        said = f"{HAND_OVER if pair.is_one_group else said}: {weak}"
+        lead = HAND_OVER if pair.is_locked else f"{said}, or a release that an acquire takes"
+        said = f"{lead if pair.is_one_group else said}: {weak}"
     elif pair.is_one_line:
         return f"{ADVICE.get(pair.kind, UNKNOWN)}: each item reads the word and writes it at this line; without it {said if pair.is_one_group else GROUPS}"
     if pair.are_updates:
@@ -122,7 +125,7 @@ def of_groups(said: str, pair: Pair) -> str:
 
 def of_orders(store: At, load: At) -> str:
     """Which of two atomics of one word hands nothing over."""
-    weak = [f"the {NAMES[at.what]} at {at.place} is no {lacks}" for at, orders, lacks in ((store, ("rel", "both"), "release"), (load, ("acq", "both"), "acquire"))
+    weak = [f"the {ATOMICS[at.what]} at {at.place} is no {lacks}" for at, orders, lacks in ((store, ("rel", "both"), "release"), (load, ("acq", "both"), "acquire"))
             if at.order not in orders]
     why = f" ({RELAXED})" if weak and any(OLD.search(at.text) for at in (store, load)) else ""
     return " and ".join(weak) + why if store.place and load.place else ""

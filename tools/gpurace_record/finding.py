@@ -6,11 +6,13 @@ import hashlib
 import json
 from typing import Iterator, List, Tuple
 
+from .causes import ATOMICS
 from .sides import CALLED, Run, Texts, joined, words_in
 
-WHAT = {"load": "atomic load", "store": "atomic store", "rmw": "atomic read-modify-write"}
+KINDS = {"divergence": "divergent barrier", "out-of-bounds": "out of bounds", "race": "race", "unmatched": "unmatched acquire"}  # as shown, in order
+WHAT = {kind: f"atomic {name}" for kind, name in ATOMICS.items()}
 ORDERS = {"rlx": "relaxed", "acq": "acquire", "rel": "release", "both": "acquire and release"}
-SCOPES = {"grp": "work-group scope", "dev": "device scope"}
+SCOPES = {"grp": "work-group", "dev": "device"}
 NEW = "new"          # the state of a finding that is neither known nor suppressed
 NO_PLACE = "unknown place"
 
@@ -74,7 +76,7 @@ class Access:
         return " < ".join([self.text or self.place or self.what, *(call.text or call.place for call in self.calls)])
 
     def sentence(self) -> str:
-        how = ", ".join(word for word in (ORDERS.get(self.order), SCOPES.get(self.scope)) if word)
+        how = ", ".join(word for word in (ORDERS.get(self.order), self.scope and f"{SCOPES[self.scope]} scope") if word)
         return f"{self.place or NO_PLACE}: {WHAT.get(self.what, self.what)}{' (' + how + ')' if how else ''} by {self.who}"
 
 

@@ -7,7 +7,7 @@ import subprocess
 import traceback
 from typing import Dict, Iterator, List, Optional, Tuple
 
-from .finding import NEW, Finding
+from .finding import KINDS, NEW, Finding
 from .findings import Reader, out_of_bounds
 from .folders import Info, end_files, info_of, kept_of, streams_of, windows_of
 from .pipes import Piped
@@ -15,7 +15,6 @@ from .sides import Texts, PLACE
 
 FOUND, INCOMPLETE = 1, 2
 MOST_PLACES = 3  # of one kind that are shown
-KINDS = ("divergence", "out-of-bounds", "race", "unmatched")  # of findings, in the order in which they are shown
 NOT_ALL_KEPT = "only its first records are shown, but all are counted, since it has more than are kept; --keep DIR shows all"
 
 
@@ -131,7 +130,7 @@ def judge(program: str, launch: Launch, info: Info, piped: Optional[Piped]) -> N
     is_doubtful = any(reason.name in ("fences", "hand-overs", "orders") for reason in launch.reasons)
     for finding in found:
         finding.is_doubtful = finding.is_doubtful or (finding.kind == "race" and is_doubtful)
-    launch.findings = sorted([*found, *out_of_bounds(info, launch.folder)], key=lambda it: KINDS.index(it.kind))
+    launch.findings = sorted([*found, *out_of_bounds(info, launch.folder)], key=lambda it: list(KINDS).index(it.kind))
     launch.texts = texts_of(launch)
 
 

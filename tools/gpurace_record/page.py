@@ -10,7 +10,7 @@ import shlex
 from typing import Any, Dict, List, Tuple
 
 from . import picture
-from .finding import Finding
+from .finding import KINDS, SCOPES, Finding
 from .judging import Launch, count
 from .recording import Missing
 from .report import HEADS, NEW, Entry, Report
@@ -19,7 +19,6 @@ from .sides import PLACE
 AROUND = 6         # lines that are shown around a marked one
 MOST_WHOLE = 160   # lines of a text that is shown whole
 Marks = Dict[int, Dict[Tuple[str, str], List[str]]]
-KINDS = {"race": "race", "divergence": "divergent barrier", "out-of-bounds": "out of bounds", "unmatched": "unmatched acquire"}
 
 
 def needed() -> None:
@@ -87,9 +86,9 @@ def marks_of(shown: List[Shown], file: str) -> Marks:
                 if step.what == "barrier":
                     mark(step.place, "═", "barrier", "barrier")
                 elif step.order in ("rel", "both") and not step.is_racing:
-                    mark(step.place, "↑", f"release ({picture.SCOPES[step.scope]} scope)", "release")
+                    mark(step.place, "↑", f"release ({SCOPES[step.scope]} scope)", "release")
                 elif step.order == "acq" and not step.is_racing:
-                    mark(step.place, "↓", f"acquire ({picture.SCOPES[step.scope]} scope)", "acquire")
+                    mark(step.place, "↓", f"acquire ({SCOPES[step.scope]} scope)", "acquire")
     return found
 
 

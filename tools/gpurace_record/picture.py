@@ -6,15 +6,13 @@ import itertools
 import textwrap
 from typing import Dict, List, NamedTuple, Optional, Sequence, Tuple
 
-from .finding import Access, Finding, Map, Mark
+from .finding import ORDERS, SCOPES, WHAT, Access, Finding, Map, Mark
 
 WIDTH, LANES = 400, (104, 296)  # of the picture, and the middles of the lanes
 BOX, ROW, LINE = 180, 50, 15    # a node's width, a row's height, a line's
 COLUMNS, PLACE = 52, 26         # of the sentence, and of a place
 FLAGS = {0: "no flag", 1: "global", 2: "local", 3: "global and local"}
-WORDS = {"load": "atomic load", "store": "atomic store", "rmw": "atomic rmw"}
-ORDERS = {"rlx": "relaxed", "acq": "acquire", "rel": "release", "both": "acq_rel"}
-SCOPES = {"grp": "work-group", "dev": "device"}
+SHORT = {"rmw": "atomic rmw", "both": "acq_rel"}
 
 
 class Row(NamedTuple):
@@ -84,7 +82,7 @@ def label(mark: Mark) -> Tuple[str, str]:
     place = mark.place if len(mark.place) <= PLACE else ".." + mark.place[-PLACE:]
     if mark.what == "barrier":
         return "wait_group_events" if mark.is_wait else f"barrier {mark.instance} ({FLAGS[mark.flags]})", place
-    what, order, scope = WORDS.get(mark.what, mark.what), ORDERS.get(mark.order), SCOPES.get(mark.scope)
+    what, order, scope = {**WHAT, **SHORT}.get(mark.what, mark.what), {**ORDERS, **SHORT}.get(mark.order), SCOPES.get(mark.scope)
     return what + (f", {order}" if order else ""), f"{scope}, {place}" if scope and place else scope or place
 
 

@@ -7,9 +7,9 @@ from typing import Dict, Iterator, List, NamedTuple, Set, Tuple
 from .folders import HEADER, RECORD_FORMS, mapped, streams_in, streams_of
 
 BARRIER, END = 5, 6
-KINDS = ["read", "write", "load", "store", "rmw", "barrier"]
-SCOPES, ORDERS = ["", "grp", "dev"], ["", "rlx", "acq", "rel", "both"]
-NAME = struct.Struct("<HHI")
+KIND_OF = ["read", "write", "load", "store", "rmw", "barrier"]
+SCOPE_OF, ORDER_OF = ["", "grp", "dev"], ["", "rlx", "acq", "rel", "both"]
+RELEASE = struct.Struct("<HHI")  # that an acquire names
 NAMES_AT = 12         # in a record
 NO_NAME = (0xffff, 0xffff, 0xffffffff)
 MOST_BYTES = 1 << 27  # of a stream that is read
@@ -70,10 +70,10 @@ class Group:
             elif item in wanted and kind != END and (order > 1 or (space, word) in wanted[item]):
                 start = HEADER.size + at * record.size
                 names = names_in(stream[start + NAMES_AT:start + record.size]) if order in (2, 4) else ()
-                self.steps[item].append(Step(count[item], KINDS[kind], space, SCOPES[scope], ORDERS[order], word,
+                self.steps[item].append(Step(count[item], KIND_OF[kind], space, SCOPE_OF[scope], ORDER_OF[order], word,
                                              releases[item] if order > 2 else -1, names, site))
             if order and item in wanted:
-                self.atomics[item].note(Step(count[item], KINDS[kind], space, SCOPES[scope], ORDERS[order], word, site=site))
+                self.atomics[item].note(Step(count[item], KIND_OF[kind], space, SCOPE_OF[scope], ORDER_OF[order], word, site=site))
             count[item] += 1
             releases[item] += order > 2
 
@@ -91,7 +91,7 @@ class Group:
 
 
 def names_in(places: memoryview) -> Tuple[Tuple[int, int, int], ...]:
-    return tuple((name[0], name[1], name[2]) for name in NAME.iter_unpack(places) if name != NO_NAME)
+    return tuple((name[0], name[1], name[2]) for name in RELEASE.iter_unpack(places) if name != NO_NAME)
 
 
 def groups_of(folder: str, wanted: Dict[int, Wanted]) -> Dict[int, Group]:

@@ -37,7 +37,7 @@ inline std::string members(const llvm::DICompositeType &type) {
     std::string text;
     for (const llvm::DINode *node : type.getElements()) {
         const auto *member = llvm::dyn_cast<llvm::DIDerivedType>(node);
-        if (!member || member->isBitField() || member->getName().empty()) return "";
+        if (!member || member->getName().empty()) return "";
         const std::string name = member->getName().str(), place = std::to_string(member->getOffsetInBits() / 8);
         text += (text.empty() ? "[" : ",[") + place + ",\"" + name + "\"," + text_of(member->getBaseType()) + "]";
     }
