@@ -552,8 +552,9 @@ reason window: only groups 2 to 3 of 4 were recorded
         streams = ["group 0 items 2 launch 7\n0 w l 5\n1 w l 5\n0 w l 8\n1 w l 8\n0 w l 9\n1 w l 9\n0 w l 10\n1 w l 10\n0 w l 11\n1 w l 11\n"
                    "0 w g 6\n1 r g 6\n0 r g 40\n1 w g 40\nend\n", "group 1 items 2 launch 7\nend\n"]
         launch = self.judged(streams, {"info.txt": INFO + elements, "buffers": "g 0 16 marks.byte\ng 32 16 other\nl 0 0 64 l_data\n"})
-        self.assertEqual(sorted(it.title for it in launch.findings), [
-            "race on l_data[1].y, l_data[2] (5 words)", "race on marks[6], other[8] (2 words)"])
+        self.assertEqual(sorted(next(it.lines()) for it in launch.findings), [
+            "race on l_data[1].y, l_data[2] (5 words); on l_data[1].y of group 0, which is word l_data[5]",
+            "race on marks[6], other[8] (2 words); on marks[6], which is word marks.byte[6]"])
 
     def test_the_text_of_a_file_that_is_included(self):
         with tempfile.TemporaryDirectory() as folder:

@@ -101,6 +101,7 @@ class Finding:
     words: int = 0           # of a race, how many
     runs: List[Run] = dataclasses.field(default_factory=list)  # these words, of which several races may have one
     shown: str = ""          # the word that the two accesses race on
+    word: str = ""           # its name to `gpurace explain`, if that is another one
     accesses: List[Access] = dataclasses.field(default_factory=list)
     maps: List[Map] = dataclasses.field(default_factory=list)
     is_equal: bool = False   # all stores to each of the words write the same value
@@ -120,7 +121,8 @@ class Finding:
         return fingerprint_of(self.kind, self.kernel, self.buffers(), self.cause, self.texts())
 
     def lines(self) -> Iterator[str]:
-        yield self.title + (f"; on {self.shown}" if self.words > 1 else "") + (" (doubtful)" if self.is_doubtful else "")
+        on = (f"; on {self.shown}" if self.words > 1 else "") + (f", which is word {self.word}" if self.word else "")
+        yield self.title + on + (" (doubtful)" if self.is_doubtful else "")
         for access in self.accesses:
             yield from (f"    {line}" for line in access.lines())
         yield from [f"    {self.message}"] if self.message else []

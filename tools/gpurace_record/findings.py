@@ -119,8 +119,9 @@ class Reader:
         if pair:
             self.pairs.put_marks((race["first"], race["second"]), accesses)
             finding.message = causes.sentence(finding.cause, finding.message, pair._replace(kind=element.kind_of(number) if element else ""))
-        shown = name_of(buffer["name"] if buffer else "", said["space"], [(number, number)], 1, element)
+        shown, word = (name_of(buffer["name"] if buffer else "", said["space"], [(number, number)], 1, it) for it in (element, None))
         finding.shown = shown + ("" if group is None else f" of {self.shape.group_name(group)}")
+        finding.word = word if word != shown else ""
         return finding
 
     def access(self, what: str, event: Dict[str, Any]) -> Access:
