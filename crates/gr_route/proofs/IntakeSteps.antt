@@ -271,19 +271,13 @@ pub record Hands (t : Taker) (q : TakerPass) (s : List ℕ) (r b : List Sent) : 
   pub some : seen q s r ≡ record t { popped = t.popped ++ b }
   pub delivery : IsDelivery (record t { popped = t.popped ++ b })
 
-hands : (t : Taker) (q : TakerPass) (s : List ℕ) (r b : List Sent) → IsTakerPass q s r → seen q s r ≡ record t { popped = t.popped ++ b } → Hands t q s r b
-hands t q s r b is some = record { is = is; some = some; delivery = subst IsDelivery some (delivery q s r is) }
+pub hands : (t : Taker) (p q : TakerPass) (s : List ℕ) (r0 r1 b batch : List Sent) → IsTakerPass p s r0 → seen p s r0 ≡ t → r0 ++ batch ≡ b ++ r1 → IsSamePass p q → Pops (view p) batch (view q) → Hands t q s r1 b
+hands t p q s r0 r1 b batch is was first same learned =
+    let old = front (view p).popped r0 in
+    let all : (view q).popped ≡ (old ++ b) ++ r1 = grind (arith, learned.0, is.left, first, append_assoc old r0 batch, append_assoc old b r1) in
+    let now : IsTakerPass q s r1 = record { idle = same.2 ∙ is.idle; known = cc (learned.0, is.known); places = is.places; left = front_left (view q).popped (old ++ b) r1 all; agrees = learned.1 } in
+    let some : seen q s r1 ≡ record t { popped = t.popped ++ b } = grind (arith, was, same, learned.0, front_of (view q).popped (old ++ b) r1 all) in
+    record { is = now; some = some; delivery = subst IsDelivery some (delivery q s r1 now) }
 
 pub hands_left : (t : Taker) (p : TakerPass) (s : List ℕ) (r0 r1 b : List Sent) → IsTakerPass p s r0 → seen p s r0 ≡ t → r0 ≡ b ++ r1 → Hands t p s r1 b
-hands_left t p s r0 r1 b is was first =
-    let old = front (view p).popped r0 in
-    let all : (view p).popped ≡ (old ++ b) ++ r1 = grind (arith, is.left, first, append_assoc old b r1) in
-    let now : IsTakerPass p s r1 = record { idle = is.idle; known = is.known; places = is.places; left = front_left _ _ _ all; agrees = is.agrees } in
-    hands t p s r1 b now (grind (arith, was, front_of (view p).popped (old ++ b) r1 all))
-
-pub hands_popped : (t : Taker) (p q : TakerPass) (s : List ℕ) (r0 r1 b batch : List Sent) → IsTakerPass p s r0 → seen p s r0 ≡ t → r0 ≡ [] → batch ≡ b ++ r1 → IsSamePass p q → Pops (view p) batch (view q) → Hands t q s r1 b
-hands_popped t p q s r0 r1 b batch is was none first same learned =
-    let old = front (view p).popped r0 in
-    let all : (view q).popped ≡ (old ++ b) ++ r1 = grind (arith, learned.0, is.left, none, first, append-nil old, append_assoc old b r1) in
-    let now : IsTakerPass q s r1 = record { idle = same.2 ∙ is.idle; known = cc (learned.0, is.known); places = is.places; left = front_left (view q).popped (old ++ b) r1 all; agrees = learned.1 } in
-    hands t q s r1 b now (grind (arith, was, same, learned.0, front_of (view q).popped (old ++ b) r1 all))
+hands_left t p s r0 r1 b is was first = hands t p p s r0 r1 b [] is was (append-nil r0 ∙ first) (refl, refl, refl) (grind (arith, is.known, append-nil (view p).popped), is.agrees)

@@ -202,19 +202,13 @@ module _ {A : Type 0} where
     pub some : seen q s r ≡ record w { popped = w.popped ++ b }
     pub delivery : IsDelivery (record w { popped = w.popped ++ b })
 
-  hands : (w : Worker A) (q : WorkerPass A) (s : Bool) (r b : List (Work A)) → IsWorkerPass q s r → seen q s r ≡ record w { popped = w.popped ++ b } → Hands w q s r b
-  hands w q s r b is some = record { is = is; some = some; delivery = subst IsDelivery some (delivery q s r is) }
+  pub hands : (w : Worker A) (p q : WorkerPass A) (s : Bool) (r0 r1 b batch : List (Work A)) → IsWorkerPass p s r0 → seen p s r0 ≡ w → r0 ++ batch ≡ b ++ r1 → IsSamePass p q → Pops (view p) batch (view q) → Hands w q s r1 b
+  hands w p q s r0 r1 b batch is was first same learned =
+      let old = front (view p).popped r0 in
+      let all : (view q).popped ≡ (old ++ b) ++ r1 = grind (arith, learned.0, is.left, first, append_assoc old r0 batch, append_assoc old b r1) in
+      let now : IsWorkerPass q s r1 = record { idle = same.2 ∙ is.idle; known = cc (learned.0, is.known); left = front_left (view q).popped (old ++ b) r1 all; agrees = learned.1 } in
+      let some : seen q s r1 ≡ record w { popped = w.popped ++ b } = grind (arith, was, same, learned.0, front_of (view q).popped (old ++ b) r1 all) in
+      record { is = now; some = some; delivery = subst IsDelivery some (delivery q s r1 now) }
 
   pub hands_left : (w : Worker A) (p : WorkerPass A) (s : Bool) (r0 r1 b : List (Work A)) → IsWorkerPass p s r0 → seen p s r0 ≡ w → r0 ≡ b ++ r1 → Hands w p s r1 b
-  hands_left w p s r0 r1 b is was first =
-      let old = front (view p).popped r0 in
-      let all : (view p).popped ≡ (old ++ b) ++ r1 = grind (arith, is.left, first, append_assoc old b r1) in
-      let now : IsWorkerPass p s r1 = record { idle = is.idle; known = is.known; left = front_left _ _ _ all; agrees = is.agrees } in
-      hands w p s r1 b now (grind (arith, was, front_of (view p).popped (old ++ b) r1 all))
-
-  pub hands_popped : (w : Worker A) (p q : WorkerPass A) (s : Bool) (r0 r1 b batch : List (Work A)) → IsWorkerPass p s r0 → seen p s r0 ≡ w → r0 ≡ [] → batch ≡ b ++ r1 → IsSamePass p q → Pops (view p) batch (view q) → Hands w q s r1 b
-  hands_popped w p q s r0 r1 b batch is was none first same learned =
-      let old = front (view p).popped r0 in
-      let all : (view q).popped ≡ (old ++ b) ++ r1 = grind (arith, learned.0, is.left, none, first, append-nil old, append_assoc old b r1) in
-      let now : IsWorkerPass q s r1 = record { idle = same.2 ∙ is.idle; known = cc (learned.0, is.known); left = front_left (view q).popped (old ++ b) r1 all; agrees = learned.1 } in
-      hands w q s r1 b now (grind (arith, was, same, learned.0, front_of (view q).popped (old ++ b) r1 all))
+  hands_left w p s r0 r1 b is was first = hands w p p s r0 r1 b [] is was (append-nil r0 ∙ first) (refl, refl, refl) (grind (arith, is.known, append-nil (view p).popped), is.agrees)

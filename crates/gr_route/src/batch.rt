@@ -68,10 +68,7 @@ impl<T: Drop, A: Allocator> Batch<T, A> {
     pub fn with_ended(self, ended: Option<Vec<u16, A>>) -> Batch<T, A>
         ensures { result ≡ self }
     {
-        Batch {
-            content: self.content,
-            ended,
-        }
+        Batch { ended, ..self }
     }
 
     /// The work-groups that have ended.
@@ -110,10 +107,7 @@ impl<T: Drop, A: Allocator> Batch<T, A> {
     {
         match &self.content {
             Content::One(value) => value,
-            Content::Several(values) => match values.last() {
-                Some(value) => value,
-                None => unreachable!(),
-            },
+            Content::Several(values) => values.last().unwrap(),
         }
     }
 
@@ -136,13 +130,7 @@ impl<T: Drop, A: Allocator> Batch<T, A> {
         let Batch { content, ended: _ } = self;
         match content {
             Content::One(value) => value,
-            Content::Several(values) => {
-                let mut values = values.into_iter();
-                match values.next() {
-                    Some(first) => first,
-                    None => unreachable!(),
-                }
-            }
+            Content::Several(values) => values.into_iter().next().unwrap(),
         }
     }
 
@@ -157,10 +145,7 @@ impl<T: Drop, A: Allocator> Batch<T, A> {
             Content::One(value) => value,
             Content::Several(values) => {
                 rest.values = values.into_iter();
-                match rest.values.next() {
-                    Some(first) => first,
-                    None => unreachable!(),
-                }
+                rest.values.next().unwrap()
             }
         }
     }

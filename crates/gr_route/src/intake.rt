@@ -15,8 +15,8 @@ ghost use Rattle.gr_route.specs.Batches.{all_of};
 ghost use Rattle.gr_route.specs.IntakeRule.{BatchesAgree, after_split, events_in, no_sizes, seat_of};
 ghost use Rattle.gr_route.specs.IntakeSeats.{AgreesWithSeat, AgreesWithTaker, IsDelivered, IsDelivery, IsNextPopped, popped_of};
 
-use crate::batch::Batch;
-use crate::group_batch::{GroupBatch, GroupRest};
+use crate::batch::{Batch, Rest};
+use crate::group_batch::GroupBatch;
 use crate::intake_rule::{
     IntakeRule, IntakeView, JoinStep, NamesGroup, PopStep, PushStep, SplitStep,
 };
@@ -94,20 +94,21 @@ pub struct TakerSeat<A: Allocator = Global> {
     // The number of items of each group that has had a seat, and 0 for the others. There is a place for every group, so a split
     // takes no memory.
     sizes: Vec<u16, A>,
-    // What is left of the batch that was popped last.
-    rest: GroupRest<A>,
+    // The group of the batch that was popped last, and what is left of that.
+    group: u16,
+    rest: Rest<Event, A>,
 }
 
 impl<A: Allocator> Model for TakerSeat<A> {
     ghost use Rattle.crossbeam_queue.specs.Passes.{view as known};
-    ghost use Rattle.gr_route.specs.Batches.{front};
+    ghost use Rattle.gr_route.specs.Batches.{front, sent_by};
     ghost use Rattle.gr_route.specs.IntakeSeats.{IsTakerPass, Taker};
 
     ghost Value = { Taker };
 
-    ghost view = { λ s. record { queue = s.pass.table_id; popped = front (known s.pass).popped s.rest; sizes = s.sizes.items; joined = (known s.pass).joined } };
+    ghost view = { λ s. record { queue = s.pass.table_id; popped = front (known s.pass).popped (sent_by s.group s.rest); sizes = s.sizes.items; joined = (known s.pass).joined } };
 
-    ghost invariant = { λ s. IsTakerPass s.pass s.sizes.items s.rest };
+    ghost invariant = { λ s. IsTakerPass s.pass s.sizes.items (sent_by s.group s.rest) };
 }
 
 /// So many zeros.
@@ -119,9 +120,9 @@ fn zeros<A: Allocator>(alloc: A, count: usize) -> Result<Vec<u16, A>, Memory>
 }
 
 /// The sizes when no group has had a seat.
+#[tactic(auto, unfolding(crate::specs::IntakeRule::no_sizes))]
 fn none_seated<A: Allocator>(alloc: A) -> Result<Vec<u16, A>, Memory>
-    ensures sizes { IfOk result (λ v. v.items ≡ no_sizes) }
-    ensures places { IfOk result (λ v. length v.items ≡ MOST_GROUPS) }
+    ensures { IfOk result (λ v. v.items ≡ no_sizes) }
 {
     zeros(alloc, MOST_GROUPS)
 }
@@ -174,8 +175,13 @@ impl<A: Allocator + Copy> Intake<A> {
             spares: Spares::new(alloc)?,
             leads: Leads::new(alloc)?,
         };
-        let rest = GroupRest::none(alloc);
-        Ok((intake, TakerSeat { pass, sizes, rest }))
+        let seat = TakerSeat {
+            pass,
+            sizes,
+            group: 0,
+            rest: Rest::none(alloc),
+        };
+        Ok((intake, seat))
     }
 }
 
@@ -239,6 +245,7 @@ impl<A: Allocator> Intake<A> {
     ///
     /// # Errors
     /// `Full` with the events, only if the queue was full at some moment of the call. The seat is then unchanged.
+    #[tactic(auto, using(crate::proofs::BatchLemmas::events_of_sent))]
     pub fn push_all<R: Wait>(
         &self,
         rt: &R,
@@ -274,13 +281,19 @@ impl<A: Allocator> Intake<A> {
 
         ensures delivery { IsDelivery taker.new }
     {
-        if let Some(sent) = taker.rest.next() {
-            return Some(sent);
+        if let Some(event) = taker.rest.next() {
+            return Some(Sent {
+                group: taker.group,
+                event,
+            });
         }
-        match self.queue.pop_as::<PopStep, R>(rt, &mut taker.pass) {
-            None => None,
-            Some(batch) => Some(batch.open(&mut taker.rest)),
-        }
+        let batch = self.queue.pop_as::<PopStep, R>(rt, &mut taker.pass)?;
+        let (group, events) = batch.into_events();
+        taker.group = group;
+        Some(Sent {
+            group,
+            event: events.open(&mut taker.rest),
+        })
     }
 
     /// Pops a batch of events, or one event if `pop` has left some of the last batch. Gives `None` only if the queue was empty
@@ -296,8 +309,8 @@ impl<A: Allocator> Intake<A> {
 
         ensures delivery { IsDelivery taker.new }
     {
-        if let Some(sent) = taker.rest.next() {
-            return Some(GroupBatch::new(sent.group, Batch::one(sent.event)));
+        if let Some(event) = taker.rest.next() {
+            return Some(GroupBatch::new(taker.group, Batch::one(event)));
         }
         let batch = self.queue.pop_as::<PopStep, R>(rt, &mut taker.pass)?;
         Some(batch)

@@ -14,6 +14,7 @@ pub fn end_makes_whole()
 {}
 
 /// Once `Stop` of a work queue was popped, all that was pushed was popped.
+#[tactic(auto, using(crate::proofs::WorkSteps::stop_makes_whole))]
 pub fn stop_makes_whole<A: Allocator>()
     ensures { StopMakesWhole A }
 {}
@@ -25,6 +26,7 @@ pub fn intake_seats_tell()
 {}
 
 /// What a work queue holds, if it agrees with the seat that pushes or with the seat that pops.
+#[tactic(auto, using(crate::proofs::WorkSteps::giver_tells, crate::proofs::WorkSteps::worker_tells))]
 pub fn work_seats_tell<A: Allocator>()
     ensures giver { GiverTells A }
     ensures worker { WorkerTells A }

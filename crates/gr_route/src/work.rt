@@ -140,6 +140,7 @@ impl<A: Allocator> WorkQueue<A> {
     ///
     /// # Errors
     /// `Full` with the work, only if the queue was full at some moment of the call. The seat is then unchanged.
+    #[tactic(auto, using(crate::proofs::WorkSteps::stops_push))]
     pub fn push<R: Wait>(
         &self,
         rt: &R,
@@ -154,12 +155,9 @@ impl<A: Allocator> WorkQueue<A> {
         ensures unchanged { IfErr result (λ back. (back.0 ≡ work) × (giver.new ≡ giver.old)) }
         ensures full { IfErr result (λ _. Held self.now.places (λ batches. AgreesWithGiver giver.old (all_of batches))) }
     {
-        match self
-            .queue
-            .push_as::<PushStep, R>(rt, &mut giver.pass, Batch::one(work))
-        {
+        match self.push_all(rt, giver, Batch::one(work)) {
             Ok(()) => Ok(()),
-            Err(back) => Err(Full(back.into_first())),
+            Err(back) => Err(Full(back.0.into_first())),
         }
     }
 
@@ -182,13 +180,9 @@ impl<A: Allocator> WorkQueue<A> {
         ensures unchanged { IfErr result (λ back. (back.0 ≡ batch) × (giver.new ≡ giver.old)) }
         ensures full { IfErr result (λ _. Held self.now.places (λ batches. AgreesWithGiver giver.old (all_of batches))) }
     {
-        match self
-            .queue
+        self.queue
             .push_as::<PushStep, R>(rt, &mut giver.pass, batch)
-        {
-            Ok(()) => Ok(()),
-            Err(back) => Err(Full(back)),
-        }
+            .map_err(|back| Full(back))
     }
 
     /// Pops the first work that was not popped yet. Gives `None` only if the queue was empty at some moment of the call.
@@ -207,10 +201,8 @@ impl<A: Allocator> WorkQueue<A> {
         if let Some(work) = worker.rest.next() {
             return Some(work);
         }
-        match self.queue.pop_as::<PopStep, R>(rt, &mut worker.pass) {
-            None => None,
-            Some(batch) => Some(batch.open(&mut worker.rest)),
-        }
+        let batch = self.queue.pop_as::<PopStep, R>(rt, &mut worker.pass)?;
+        Some(batch.open(&mut worker.rest))
     }
 
     /// Pops a batch of work, or one piece of work if `pop` has left some of the last batch. Gives `None` only if the queue was

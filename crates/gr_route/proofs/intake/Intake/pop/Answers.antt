@@ -1,12 +1,14 @@
-use Rattle.std.proofs.Common.{[], ◌∷◌, rules}
-use Rattle.gr_route.proofs.IntakeSteps.{Hands, delivery, hands_left, hands_popped, next, pops_as}
+use Rattle.std.proofs.Common.{[], ◌∷◌, ◌++◌, ◌∙◌, List, ap, rules}
+use Rattle.gr_model.specs.declared.event.Sent.{Sent}
+use Rattle.gr_route.specs.Batches.{sent_by}
+use Rattle.gr_route.proofs.IntakeSteps.{Hands, delivery, hands, hands_left, next, pops_as}
 use Rattle.gr_route.proofs.intake.Intake.pop.Given.{Over}
 use Rattle.gr_route.proofs.intake.Intake.pop.Goals as goal
 
 -- ---- an event that was left
 
-left_over : (g : Over) (c : goal.In-Some g) → Hands c.args.taker.now c.taker.inside.pass c.taker.inside.sizes.items c.next.new.self (c.in-Some.sent ∷ [])
-left_over g c = hands_left _ _ _ _ _ _ c.taker.invariant c.taker.view_is c.in-Some.ensures.some
+left_over : (g : Over) (c : goal.In-Some g) → Hands c.args.taker.now c.taker.inside.pass c.taker.inside.sizes.items (sent_by c.taker.inside.group c.next.new.self) (record { group = c.taker.inside.group; event = c.in-Some.event } ∷ [])
+left_over g c = hands_left _ _ _ _ _ _ c.taker.invariant c.taker.view_is (ap (sent_by c.taker.inside.group) c.in-Some.ensures.some)
 
 pub invariant_of-taker : goal.invariant_of-taker
 invariant_of-taker g c = (left_over g c).is
@@ -25,20 +27,22 @@ returns-in-Some-clause-next g c = next _ _ (left_over g c).delivery
 pub pop_as-requires-clause-rule : goal.pop_as-requires-clause-rule
 pop_as-requires-clause-rule g c = pops_as _ _ _ c.taker.invariant.known
 
-pub returns-in-None-clause-delivery : goal.returns-in-None-clause-delivery
-returns-in-None-clause-delivery g c = delivery c.pop_as.new.pass c.taker.inside.sizes.items c.next.new.self (search rules)
+pub returns-in_err-batch-clause-delivery : goal.returns-in_err-batch-clause-delivery
+returns-in_err-batch-clause-delivery g c = delivery c.pop_as.new.pass c.taker.inside.sizes.items (sent_by c.taker.inside.group c.next.new.self) (search rules)
 
-first_of_batch : (g : Over) (c : goal.After-open g) → Hands c.args.taker.now c.pop_as.new.pass c.taker.inside.sizes.items c.open.new.rest (c.open.result ∷ [])
-first_of_batch g c = hands_popped _ _ _ _ _ _ _ _ c.taker.invariant c.taker.view_is c.in_default.ensures.none.0 c.open.ensures c.pop_as.ensures.queue c.in-Some-pop_as.ensures.rule
+first_of_batch : (g : Over) (c : goal.After-open g) → Hands c.args.taker.now c.pop_as.new.pass c.taker.inside.sizes.items (sent_by c.into_events-group.result.0 c.open.new.rest) (record { group = c.into_events-group.result.0; event = c.open.result } ∷ [])
+first_of_batch g c =
+    let first = ap (λ (l : List Sent). l ++ c.in_ok-batch.batch) (ap (sent_by c.taker.inside.group) c.in_default.ensures.none.0) ∙ c.into_events-group.ensures ∙ ap (sent_by c.into_events-group.result.0) c.open.ensures in
+    hands _ _ _ _ _ _ _ _ c.taker.invariant c.taker.view_is first c.pop_as.ensures.queue c.in_ok-batch.ensures.rule
 
-pub invariant_of-taker-in-Some-pop_as : goal.invariant_of-taker-in-Some-pop_as
-invariant_of-taker-in-Some-pop_as g c = (first_of_batch g c).is
+pub invariant_of-taker-2 : goal.invariant_of-taker-2
+invariant_of-taker-2 g c = (first_of_batch g c).is
 
-pub returns-in-Some-pop_as-clause-some : goal.returns-in-Some-pop_as-clause-some
-returns-in-Some-pop_as-clause-some g c = (first_of_batch g c).some
+pub returns-clause-some : goal.returns-clause-some
+returns-clause-some g c = (first_of_batch g c).some
 
-pub returns-in-Some-pop_as-clause-delivery : goal.returns-in-Some-pop_as-clause-delivery
-returns-in-Some-pop_as-clause-delivery g c = delivery _ _ _ (first_of_batch g c).is
+pub returns-clause-delivery : goal.returns-clause-delivery
+returns-clause-delivery g c = delivery _ _ _ (first_of_batch g c).is
 
-pub returns-in-Some-pop_as-clause-next : goal.returns-in-Some-pop_as-clause-next
-returns-in-Some-pop_as-clause-next g c = next _ _ (first_of_batch g c).delivery
+pub returns-clause-next : goal.returns-clause-next
+returns-clause-next g c = next _ _ (first_of_batch g c).delivery

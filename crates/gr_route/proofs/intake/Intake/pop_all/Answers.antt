@@ -1,12 +1,17 @@
-use Rattle.std.proofs.Common.{arith, rules, append-nil}
-use Rattle.gr_route.proofs.IntakeSteps.{Hands, delivery, hands_left, hands_popped, pops_as}
+use Rattle.std.proofs.Common.{◌++◌, ◌∙◌, List, ap, append-nil, rules, sym}
+use Rattle.gr_model.specs.declared.event.Sent.{Sent}
+use Rattle.gr_route.specs.Batches.{sent_by}
+use Rattle.gr_route.proofs.IntakeSteps.{Hands, delivery, hands, hands_left, pops_as}
 use Rattle.gr_route.proofs.intake.Intake.pop_all.Given.{Over}
 use Rattle.gr_route.proofs.intake.Intake.pop_all.Goals as goal
 
 -- ---- an event that was left
 
-left_over : (g : Over) (c : goal.After-new g) → Hands c.args.taker.now c.taker.inside.pass c.taker.inside.sizes.items c.next.new.self c.new.result
-left_over g c = hands_left _ _ _ _ _ _ c.taker.invariant c.taker.view_is (grind (arith, c.in-Some.ensures.some, c.new.ensures, c.one.ensures))
+left_over : (g : Over) (c : goal.After-new g) → Hands c.args.taker.now c.taker.inside.pass c.taker.inside.sizes.items (sent_by c.taker.inside.group c.next.new.self) c.new.result
+left_over g c =
+    let group = c.taker.inside.group in
+    let first = ap (sent_by group) c.in-Some.ensures.some ∙ sym (ap (λ (l : List Sent). l ++ sent_by group c.next.new.self) (c.new.ensures ∙ ap (sent_by group) c.one.ensures)) in
+    hands_left _ _ _ _ _ _ c.taker.invariant c.taker.view_is first
 
 pub invariant_of-taker : goal.invariant_of-taker
 invariant_of-taker g c = (left_over g c).is
@@ -23,18 +28,12 @@ pub pop_as-requires-clause-rule : goal.pop_as-requires-clause-rule
 pop_as-requires-clause-rule g c = pops_as _ _ _ c.taker.invariant.known
 
 pub returns-in_err-batch-clause-delivery : goal.returns-in_err-batch-clause-delivery
-returns-in_err-batch-clause-delivery g c = delivery c.pop_as.new.pass c.taker.inside.sizes.items c.next.new.self (search rules)
-
-all_of_it : (g : Over) (c : goal.In_ok-batch g) → Hands c.args.taker.now c.pop_as.new.pass c.taker.inside.sizes.items c.next.new.self c.in_ok-batch.batch
-all_of_it g c =
-    let none = c.in_default.ensures.none in
-    hands_popped _ _ _ _ _ _ _ _ c.taker.invariant c.taker.view_is none.0 (grind (arith, none, append-nil c.in_ok-batch.batch)) c.pop_as.ensures.queue c.in_ok-batch.ensures.rule
-
-pub invariant_of-taker-2 : goal.invariant_of-taker-2
-invariant_of-taker-2 g c = (all_of_it g c).is
-
-pub returns-clause-some : goal.returns-clause-some
-returns-clause-some g c = (all_of_it g c).some
+returns-in_err-batch-clause-delivery g c = delivery c.pop_as.new.pass c.taker.inside.sizes.items (sent_by c.taker.inside.group c.next.new.self) (search rules)
 
 pub returns-clause-delivery : goal.returns-clause-delivery
-returns-clause-delivery g c = delivery _ _ _ (all_of_it g c).is
+returns-clause-delivery g c =
+    let none = c.in_default.ensures.none in
+    let group = c.taker.inside.group in
+    let batch = c.in_ok-batch.batch in
+    let first = ap (λ (l : List Sent). l ++ batch) (ap (sent_by group) none.0) ∙ sym (ap (λ (l : List Sent). batch ++ l) (ap (sent_by group) none.1) ∙ append-nil batch) in
+    delivery c.pop_as.new.pass _ _ (hands _ _ _ _ _ (sent_by group c.next.new.self) batch batch c.taker.invariant c.taker.view_is first c.pop_as.ensures.queue c.in_ok-batch.ensures.rule).is

@@ -8,9 +8,6 @@ use Rattle.gr_route.proofs.intake.Intake.push_all.Goals as goal
 pub push_as-requires-clause-rule : goal.push_as-requires-clause-rule
 push_as-requires-clause-rule g c = pushes_as _ _ _ _ _ _ _ c.seat.invariant.known c.new-batch.ensures (λ _. subst (λ (s : Seat). IsPrefix s.items (s.pushed ++ c.args.events)) (sym c.seat.view_is) c.requires.stream)
 
-pub returns-clause-ok : goal.returns-clause-ok
-returns-clause-ok g c = grind (arith, c.in_default.ensures.rule, c.new-batch.ensures, events_of_sent c.seat.inside.group c.args.events, c.push_as.ensures.queue, c.seat.view_is)
-
 pub returns-in-Err-clause-unchanged : goal.returns-in-Err-clause-unchanged
 returns-in-Err-clause-unchanged g c =
     let back = events_of_sent c.into_events.result.0 c.into_events.result.1 in

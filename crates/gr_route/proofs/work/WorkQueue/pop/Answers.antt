@@ -1,5 +1,5 @@
-use Rattle.std.proofs.Common.{[], ◌∷◌, rules}
-use Rattle.gr_route.proofs.WorkSteps.{Hands, delivery, hands_left, hands_popped, pops_as, unstopped_before}
+use Rattle.std.proofs.Common.{[], ◌∷◌, ◌++◌, ◌∙◌, ap, rules}
+use Rattle.gr_route.proofs.WorkSteps.{Hands, delivery, hands, hands_left, pops_as, unstopped_before}
 use Rattle.gr_route.proofs.work.WorkQueue.pop.Given.{Over}
 use Rattle.gr_route.proofs.work.WorkQueue.pop.Goals as goal
 
@@ -25,20 +25,22 @@ returns-in-Some-clause-next g c = unstopped_before _ _ (left_over g c).delivery.
 pub pop_as-requires-clause-rule : goal.pop_as-requires-clause-rule
 pop_as-requires-clause-rule g c = pops_as _ _ _ c.worker.invariant.known
 
-pub returns-in-None-clause-delivery : goal.returns-in-None-clause-delivery
-returns-in-None-clause-delivery g c = delivery c.pop_as.new.pass c.worker.inside.split c.next.new.self (search rules)
+pub returns-in_err-batch-clause-delivery : goal.returns-in_err-batch-clause-delivery
+returns-in_err-batch-clause-delivery g c = delivery c.pop_as.new.pass c.worker.inside.split c.next.new.self (search rules)
 
 first_of_batch : (g : Over) (c : goal.After-open g) → Hands {A = g.row.A.Denot} c.args.worker.now c.pop_as.new.pass c.worker.inside.split c.open.new.rest (c.open.result ∷ [])
-first_of_batch g c = hands_popped _ _ _ _ _ _ _ _ c.worker.invariant c.worker.view_is c.in_default.ensures.none.0 c.open.ensures c.pop_as.ensures.queue c.in-Some-pop_as.ensures.rule
+first_of_batch g c =
+    let first = ap (λ l. l ++ c.in_ok-batch.batch) c.in_default.ensures.none.0 ∙ c.open.ensures in
+    hands _ _ _ _ _ _ _ _ c.worker.invariant c.worker.view_is first c.pop_as.ensures.queue c.in_ok-batch.ensures.rule
 
-pub invariant_of-worker-in-Some-pop_as : goal.invariant_of-worker-in-Some-pop_as
-invariant_of-worker-in-Some-pop_as g c = (first_of_batch g c).is
+pub invariant_of-worker-2 : goal.invariant_of-worker-2
+invariant_of-worker-2 g c = (first_of_batch g c).is
 
-pub returns-in-Some-pop_as-clause-some : goal.returns-in-Some-pop_as-clause-some
-returns-in-Some-pop_as-clause-some g c = (first_of_batch g c).some
+pub returns-clause-some : goal.returns-clause-some
+returns-clause-some g c = (first_of_batch g c).some
 
-pub returns-in-Some-pop_as-clause-delivery : goal.returns-in-Some-pop_as-clause-delivery
-returns-in-Some-pop_as-clause-delivery g c = delivery _ _ _ (first_of_batch g c).is
+pub returns-clause-delivery : goal.returns-clause-delivery
+returns-clause-delivery g c = delivery _ _ _ (first_of_batch g c).is
 
-pub returns-in-Some-pop_as-clause-next : goal.returns-in-Some-pop_as-clause-next
-returns-in-Some-pop_as-clause-next g c = unstopped_before _ _ (first_of_batch g c).delivery.stops
+pub returns-clause-next : goal.returns-clause-next
+returns-clause-next g c = unstopped_before _ _ (first_of_batch g c).delivery.stops

@@ -1,5 +1,5 @@
 use Rattle.std.proofs.Common.{arith, rules, append-nil}
-use Rattle.gr_route.proofs.WorkSteps.{Hands, delivery, hands_left, hands_popped, pops_as}
+use Rattle.gr_route.proofs.WorkSteps.{Hands, delivery, hands, hands_left, pops_as}
 use Rattle.gr_route.proofs.work.WorkQueue.pop_all.Given.{Over}
 use Rattle.gr_route.proofs.work.WorkQueue.pop_all.Goals as goal
 
@@ -25,16 +25,8 @@ pop_as-requires-clause-rule g c = pops_as _ _ _ c.worker.invariant.known
 pub returns-in_err-batch-clause-delivery : goal.returns-in_err-batch-clause-delivery
 returns-in_err-batch-clause-delivery g c = delivery c.pop_as.new.pass c.worker.inside.split c.next.new.self (search rules)
 
-all_of_it : (g : Over) (c : goal.In_ok-batch g) → Hands {A = g.row.A.Denot} c.args.worker.now c.pop_as.new.pass c.worker.inside.split c.next.new.self c.in_ok-batch.batch
-all_of_it g c =
-    let none = c.in_default.ensures.none in
-    hands_popped _ _ _ _ _ _ _ _ c.worker.invariant c.worker.view_is none.0 (grind (arith, none, append-nil c.in_ok-batch.batch)) c.pop_as.ensures.queue c.in_ok-batch.ensures.rule
-
-pub invariant_of-worker-2 : goal.invariant_of-worker-2
-invariant_of-worker-2 g c = (all_of_it g c).is
-
-pub returns-clause-some : goal.returns-clause-some
-returns-clause-some g c = (all_of_it g c).some
-
 pub returns-clause-delivery : goal.returns-clause-delivery
-returns-clause-delivery g c = delivery _ _ _ (all_of_it g c).is
+returns-clause-delivery g c =
+    let none = c.in_default.ensures.none in
+    let batch = c.in_ok-batch.batch in
+    delivery c.pop_as.new.pass _ _ (hands _ _ _ _ _ c.next.new.self batch batch c.worker.invariant c.worker.view_is (grind (arith, none, append-nil batch)) c.pop_as.ensures.queue c.in_ok-batch.ensures.rule).is
