@@ -1,5 +1,5 @@
 -- A world in which an event was handled, an instance met, or an access went on, is a world.
-use Rattle.std.proofs.Common.{◌≡◌, ◌≢◌, ℕ, ◌<◌, ◌≤◌, true≢false, IsFalse, IsTrue, Bool, true, false, List, [], ◌∷◌, ◌++◌, length, get_or, set, Option, Some, None, Result, Ok, Err, refl, sym, ap, ◌∙◌, subst, arith, append_assoc, append-nil, eq-eqb, ne_eqb, mod-lt, option_map, IfErr, IsErrAnd, is_some}
+use Rattle.std.proofs.Common.{◌≡◌, ◌≢◌, ℕ, ◌<◌, ◌≤◌, true≢false, IsFalse, IsTrue, Bool, true, false, List, [], ◌∷◌, ◌++◌, length, get_or, set, Option, Some, None, refl, sym, ap, ◌∙◌, subst, arith, append_assoc, append-nil, eq-eqb, ne_eqb, mod-lt, option_map, is_some}
 use Rattle.std.proofs.lemmas.List.{get_or_default, length-set, set-get_or}
 use Rattle.std.proofs.lemmas.List.Elements.{filter-append}
 use Rattle.gr_model.specs.declared.event.EventId.{EventId}
@@ -20,13 +20,9 @@ use Rattle.gr_order.specs.declared.go_error.GoError.TheVariants.{NotReady as Ord
 use Rattle.gr_shadow.specs.Clashes.{ClockedAccess, clocked}
 use Rattle.gr_world.specs.declared.step.Step.TheVariants.{Handle, Meet, Pass, WorkTake}
 use Rattle.gr_steps.specs.Steps.{CanHandle, CanMeet}
-use Rattle.gr_world.specs.declared.step.Step.{Step}
 use Rattle.gr_world.specs.declared.step.StepError.{StepError}
-use Rattle.gr_world.specs.declared.step.StepError.TheVariants.{Empty, NotReady, Memory}
-use Rattle.gr_world.specs.Errors.{Becomes}
-use Rattle.gr_world.specs.Queues.{HasRoom, Work, no_work, queueing, receiving}
-use Rattle.gr_world.specs.Workers.{Receives}
-use Rattle.gr_world.specs.Steps.{IsStepRefusal, IsWorldStep, IsInFlightFull, IsInFlightOf}
+use Rattle.gr_world.specs.Steps.{Becomes, IsAllowed, IsInFlightFull, IsInFlightOf, IsStepRefusal, IsWorldStep}
+use Rattle.gr_world.specs.Queues.{HasRoom, Receives, Work, no_work, queueing, receiving}
 use Rattle.gr_world.specs.Worlds.{AreDelivered, ArePassedOn, IsPassedOn, IsWorld, World, accesses_for, going_on, passing, work_at, worker_of, working}
 use Rattle.gr_world.proofs.Changes.{where_set}
 
@@ -91,16 +87,8 @@ receiving_is_world w world k x rest there front = working_is_world w world k (re
     (simp (front, append_assoc))
     (λ j apart. refl)
 
--- ---- a refusal
-
-refuses : {R : Type 0} (w : World) (step : Step) (result : Result R StepError) (error : StepError) → IsErrAnd result (λ f. f ≡ error) → IsStepRefusal w step error → IfErr result (IsStepRefusal w step)
-refuses w step (Ok x) error is refusal = absurd is
-refuses w step (Err f) error is refusal = subst (IsStepRefusal w step) (sym is) refusal
-
--- ---- a worker, where an equation says what it has
-
 -- an access goes on to its worker's queue
-module _ (w v : World) (world : IsWorld w) (view : w ≡ v) (x : ClockedAccess) (k : ℕ) (b : Work) (in_flight : w.in_flight ≡ Some x) (same : k ≡ worker_of w x) (at : b ≡ get_or w.workers k b) where
+module _ (w : World) (world : IsWorld w) (x : ClockedAccess) (k : ℕ) (b : Work) (in_flight : w.in_flight ≡ Some x) (same : k ≡ worker_of w x) (at : b ≡ get_or w.workers k b) where
   now_there : b ≡ work_at w (worker_of w x)
   now_there = at ∙ ap (λ n. get_or w.workers n b) same ∙ get_or_default w.workers (worker_of w x) b (no_work 0) (let there = word_below w world x.word in omega (arith, there, world.worker_count))
 
@@ -111,53 +99,48 @@ module _ (w v : World) (world : IsWorld w) (view : w ≡ v) (x : ClockedAccess) 
     pub passed_is_world : IsWorld (record w { in_flight = o; workers = set w.workers k work })
     passed_is_world = subst IsWorld (sym passed_is) (passing_is_world w world x in_flight)
 
-    pub passed_is_step : HasRoom b.queue → IsWorldStep v Pass (record w { in_flight = o; workers = set w.workers k work })
+    pub passed_is_step : HasRoom b.queue → IsWorldStep w Pass (record w { in_flight = o; workers = set w.workers k work })
     passed_is_step room =
         let free : ¬ IsInFlightFull w w.in_flight = λ full. (rw (in_flight, ← now_there) at full) room in
         let some : w.in_flight ≢ None = λ none. absurd (cc) in
-        rw (← view) (record { allowed = search; leads = (x, in_flight, passed_is) })
+        record { allowed = search; leads = (x, in_flight, passed_is) }
 
 -- a worker looks at its queue
-module _ (w v : World) (world : IsWorld w) (view : w ≡ v) (k n : ℕ) (from : k ≡ n) (b : Work) (at : b ≡ get_or w.workers k b) (there : k < length w.workers) where
+module _ (w : World) (world : IsWorld w) (k : ℕ) (b : Work) (at : b ≡ get_or w.workers k b) (there : k < length w.workers) where
   now_here : b ≡ work_at w k
   now_here = at ∙ get_or_default w.workers k b (no_work 0) there
 
   good : ¬ (w.config.workers ≤ k)
   good bad = omega (arith, bad, there, world.worker_count)
 
-  pub receive_refused : {R : Type 0} (result : Result R StepError) → IsErrAnd result (λ f. f ≡ Memory) → ¬ (b.queue.items ≡ []) → IfErr result (IsStepRefusal v (WorkTake n))
-  receive_refused result is some =
+  pub receive_allowed : ¬ (b.queue.items ≡ []) → IsAllowed w (WorkTake k)
+  receive_allowed some =
+      let fine = good in
       let full : (work_at w k).queue.items ≢ [] = rw (now_here) at some in
-      rw (← view, ← from) (refuses w (WorkTake k) result Memory is (let fine = good in search))
+      search
 
-  module _ (work : Work) (f : Bool) (receives : Receives b f work) where
-    pub none_refused : f ≡ false → IsStepRefusal v (WorkTake n) Empty
-    none_refused none = rw (← view, ← from) (good, rw (← now_here) ((subst (λ t. Receives b t work) none receives).0))
+  module _ (work : Work) (f : Bool) (receives : Receives b f work) (some : f ≡ true) where
+    received : Receives (work_at w k) true work
+    received = subst (λ y. Receives y true work) now_here (subst (λ t. Receives b t work) some receives)
 
-    module _ (some : f ≡ true) where
-      received : Receives (work_at w k) true work
-      received = subst (λ y. Receives y true work) now_here (subst (λ t. Receives b t work) some receives)
+    received_is : record w { workers = set w.workers k work } ≡ working w k received.0 received.1
+    received_is = λ i. record w { workers = set w.workers k (received.3 i) }
 
-      received_is : record w { workers = set w.workers k work } ≡ working w k received.0 received.1
-      received_is = λ i. record w { workers = set w.workers k (received.3 i) }
+    pub received_is_world : IsWorld (record w { workers = set w.workers k work })
+    received_is_world = subst IsWorld (sym received_is) (receiving_is_world w world k received.0 received.1 (omega (arith, there, world.worker_count)) received.2)
 
-      pub received_is_world : IsWorld (record w { workers = set w.workers k work })
-      received_is_world = subst IsWorld (sym received_is) (receiving_is_world w world k received.0 received.1 (omega (arith, there, world.worker_count)) received.2)
+    pub received_is_step : IsWorldStep w (WorkTake k) (record w { workers = set w.workers k work })
+    received_is_step =
+        let fine = good in
+        let full : (work_at w k).queue.items ≢ [] = λ empty. let is = received.2 in absurd (cc) in
+        record { allowed = search; leads = (received.0, received.1, received.2, received_is) }
 
-      pub received_is_step : IsWorldStep v (WorkTake n) (record w { workers = set w.workers k work })
-      received_is_step =
-          let fine = good in
-          let full : (work_at w k).queue.items ≢ [] = λ empty. let is = received.2 in absurd (cc) in
-          rw (← view, ← from) (record { allowed = search; leads = (received.0, received.1, received.2, received_is) })
-
+-- if the worker does not change, the world does not
 pub unreceived : {b : Work} (work : Work) (f : Bool) → Receives b f work → f ≡ false → work ≡ b
 unreceived {b = b} work f receives none = (subst (λ t. Receives b t work) none receives).1
 
--- if the worker does not change, the world does not
-pub worker_back : (w v : World) → IsWorld w → w ≡ v → (k : ℕ) (b old : Work) → b ≡ old → old ≡ get_or w.workers k old → (record w { workers = set w.workers k b } ≡ v) × IsWorld (record w { workers = set w.workers k b })
-worker_back w v world view k b old is at =
-    let same : record w { workers = set w.workers k b } ≡ w = λ i. record w { workers = (ap (set w.workers k) (is ∙ at) ∙ set-get_or w.workers k old) i } in
-    (same ∙ view, subst IsWorld (sym same) world)
+pub worker_back : (w : World) (k : ℕ) (b old : Work) → b ≡ old → old ≡ get_or w.workers k old → record w { workers = set w.workers k b } ≡ w
+worker_back w k b old is at = λ i. record w { workers = (ap (set w.workers k) (is ∙ at) ∙ set-get_or w.workers k old) i }
 
 -- ---- what is seen of an access that is on its way
 
@@ -171,35 +154,31 @@ in_flight_of s e (Some a) is = bare_access s e a is
 
 -- ---- steps
 
-module _ (w v : World) (view : w ≡ v) where
-  module _ (i : ItemId) (has : HasItem v.sent.sizes i) (free : v.in_flight ≡ None) where
-    there : HasItem w.sent.sizes i
-    there = rw view has
+module _ (w : World) (i : ItemId) (there : HasItem w.sent.sizes i) (free : w.in_flight ≡ None) where
+  not_busy : ¬ IsTrue (is_some w.in_flight)
+  not_busy = rw free (λ busy. true≢false (sym busy))
 
-    not_busy : ¬ IsTrue (is_some w.in_flight)
-    not_busy = rw (view, free) (λ busy. true≢false (sym busy))
+  pub handled_is_step : (e : EventId) (sequence : Sequence) (in_flight : Option ClockedAccess) → e.at ≡ i → HandlesEvent w.sequence e sequence → IsInFlightOf sequence.taken e in_flight → IsWorldStep w (Handle i) (going_on w sequence in_flight)
+  handled_is_step e sequence in_flight at h is =
+      let idle = not_busy in
+      let here = there in
+      let ready : CanHandle w.sequence.taken w.sequence.handled i = (e, at, h.handles.ready) in
+      record { allowed = search; leads = (e, in_flight, sequence, at, h, is, refl) }
 
-    pub handled_is_step : (e : EventId) (sequence : Sequence) (in_flight : Option ClockedAccess) (new : World) → e.at ≡ i → HandlesEvent w.sequence e sequence → IsInFlightOf sequence.taken e in_flight → new ≡ going_on w sequence in_flight → IsWorldStep v (Handle i) new
-    handled_is_step e sequence in_flight new at h is leads =
-        let idle = not_busy in
-        let here = there in
-        let ready : CanHandle w.sequence.taken w.sequence.handled i = (e, at, h.handles.ready) in
-        rw (← view) (record { allowed = search; leads = (e, in_flight, sequence, at, h, is, leads) })
+  pub handle_refused : (e : GoError) (f : StepError) → Becomes e f → IsHandleFault w.sequence i e → IsStepRefusal w (Handle i) f
+  handle_refused OrderNotReady f is fault = rw (is) ((λ bad. bad there), not_busy, λ can. fault can)
+  handle_refused OrderMemory f is fault = let idle = not_busy in let here = there in rw (is) (search)
 
-    pub handle_refused : {R : Type 0} (result : Result R StepError) (e : GoError) → IsErrAnd result (Becomes e) → IsHandleFault w.sequence i e → IfErr result (IsStepRefusal v (Handle i))
-    handle_refused result OrderNotReady is fault = rw (← view) (refuses w (Handle i) result NotReady is ((λ bad. bad there), not_busy, λ can. fault can))
-    handle_refused result OrderMemory is fault = rw (← view) (refuses w (Handle i) result Memory is (let idle = not_busy in let here = there in search))
+module _ (w : World) (g : ℕ) (there : g < length w.sent.sizes) where
+  group_good : ¬ (length w.sent.sizes ≤ g)
+  group_good bad = omega (arith, bad, there)
 
-  module _ (g : ℕ) (there : g < length w.sent.sizes) where
-    group_good : ¬ (length w.sent.sizes ≤ g)
-    group_good bad = omega (arith, bad, there)
+  pub met_is_step : (k : ℕ) (sequence : Sequence) → MeetsInstance w.sequence g k sequence → IsWorldStep w (Meet g) (going_on w sequence w.in_flight)
+  met_is_step k sequence h =
+      let fine = group_good in
+      let ready : CanMeet w.sequence.taken w.sequence.handled g = (k, h.meets.mark, h.meets.meeting) in
+      record { allowed = search; leads = (k, sequence, h, refl) }
 
-    pub met_is_step : (k : ℕ) (sequence : Sequence) → MeetsInstance w.sequence g k sequence → IsWorldStep v (Meet g) (going_on w sequence w.in_flight)
-    met_is_step k sequence h =
-        let fine = group_good in
-        let ready : CanMeet w.sequence.taken w.sequence.handled g = (k, h.meets.mark, h.meets.meeting) in
-        rw (← view) (record { allowed = search; leads = (k, sequence, h, refl) })
-
-    pub meet_refused : {R : Type 0} (result : Result R StepError) (e : GoError) → IsErrAnd result (Becomes e) → IsMeetFault w.sequence g e → IfErr result (IsStepRefusal v (Meet g))
-    meet_refused result OrderNotReady is fault = rw (← view) (refuses w (Meet g) result NotReady is (group_good, (λ none. none), λ can. fault can))
-    meet_refused result OrderMemory is fault = rw (← view) (refuses w (Meet g) result Memory is (let fine = group_good in search))
+  pub meet_refused : (e : GoError) (f : StepError) → Becomes e f → IsMeetFault w.sequence g e → IsStepRefusal w (Meet g) f
+  meet_refused OrderNotReady f is fault = rw (is) (group_good, (λ none. none), λ can. fault can)
+  meet_refused OrderMemory f is fault = let fine = group_good in rw (is) (search)

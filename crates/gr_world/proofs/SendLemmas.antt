@@ -76,12 +76,12 @@ module _ (w : World) (world : IsWorld w) (g : ℕ) (x : Event) (there : g < leng
       assumption (prefixes, room_left, queues, places, delivered, passed, world)
 
 -- the same, where equations say what the stream and the queue are
-module _ (w v : World) (world : IsWorld w) (view : w ≡ v) (g q : ℕ) (same : q ≡ queue_of w g) (b : Bounded Sent) (at : b ≡ get_or w.intakes q b) where
-  pub may_put : ¬ IsTrue (is_complete (list_of w.sent g)) → HasRoom b → MayPut v g
-  may_put unclosed room = rw (← view) (record { unclosed = unclosed; room = subst HasRoom (at_queue w world g q b same at) room })
+module _ (w : World) (world : IsWorld w) (g q : ℕ) (same : q ≡ queue_of w g) (b : Bounded Sent) (at : b ≡ get_or w.intakes q b) where
+  pub may_put : ¬ IsTrue (is_complete (list_of w.sent g)) → HasRoom b → MayPut w g
+  may_put unclosed room = record { unclosed = unclosed; room = subst HasRoom (at_queue w world g q b same at) room }
 
-  pub put_full : ¬ IsTrue (is_complete (list_of w.sent g)) → ¬ HasRoom b → IsPutFault v g Full
-  put_full unclosed full = rw (← view) (unclosed, λ room. full (subst HasRoom (sym (at_queue w world g q b same at)) room))
+  pub put_full : ¬ IsTrue (is_complete (list_of w.sent g)) → ¬ HasRoom b → IsPutFault w g Full
+  put_full unclosed full = (unclosed, λ room. full (subst HasRoom (sym (at_queue w world g q b same at)) room))
 
   module _ (x : Event) (s : Streams) (queue : Bounded Sent) (is : s ≡ with_record w.sent g x) (now : queue ≡ pushed b (record { group = g; event = x })) where
     sent_is : record w { sent = s; intakes = set w.intakes q queue } ≡ sending w g x
@@ -89,8 +89,8 @@ module _ (w v : World) (world : IsWorld w) (view : w ≡ v) (g q : ℕ) (same : 
         let all : queue ≡ pushed (intake_at w (queue_of w g)) (record { group = g; event = x }) = now ∙ ap (λ (c : Bounded Sent). pushed c (record { group = g; event = x })) (at_queue w world g q b same at) in
         λ k. record w { sent = is k; intakes = set w.intakes (same k) (all k) }
 
-    pub sent_is_put : MayPut v g → Queues v g x (record w { sent = s; intakes = set w.intakes q queue })
-    sent_is_put may = record { may = may; sends = rw (← view) sent_is }
+    pub sent_is_put : MayPut w g → Queues w g x (record w { sent = s; intakes = set w.intakes q queue })
+    sent_is_put may = record { may = may; sends = sent_is }
 
-    pub sent_is_world : ArePrefixes s → g < length v.sent.sizes → (IsFalse (is_end x) → length (list_of v.sent g) + 1 < MOST_RECORDS) → IsWorld (record w { sent = s; intakes = set w.intakes q queue })
-    sent_is_world prefixes there room = subst IsWorld (sym sent_is) (sending_is_world w world g x (rw view there) (rw view room) (subst ArePrefixes is prefixes))
+    pub sent_is_world : ArePrefixes s → g < length w.sent.sizes → (IsFalse (is_end x) → length (list_of w.sent g) + 1 < MOST_RECORDS) → IsWorld (record w { sent = s; intakes = set w.intakes q queue })
+    sent_is_world prefixes there room = subst IsWorld (sym sent_is) (sending_is_world w world g x there room (subst ArePrefixes is prefixes))

@@ -2,7 +2,7 @@
 use Rattle.std.proofs.Common.{◌≡◌, ◌≢◌, ℕ, ◌<◌, ◌≤◌, List, [], ◌∷◌, ◌++◌, length, get_or, set, Option, Some, None, refl, sym, ap, ◌∙◌, subst, ⊎_elim, arith, append_assoc, true≢false, Contains, MatchOption}
 use Rattle.std.proofs.Math.ListN.{get_or-eq_default}
 use Rattle.std.proofs.lemmas.Bool.{cases_lt}
-use Rattle.std.proofs.lemmas.List.{get_or_default, length-append, length-set, set-get_or}
+use Rattle.std.proofs.lemmas.List.{get_or_default, length-append, length-set}
 use Rattle.std.proofs.lemmas.List.Elements.{Contains-append_right}
 use Rattle.gr_model.specs.declared.event.Event.{Event}
 use Rattle.gr_model.specs.declared.event.Sent.{Sent}
@@ -16,9 +16,8 @@ use Rattle.gr_lanes.specs.Takes.{CanTake}
 use Rattle.gr_lanes.proofs.Growth.{record_grows}
 use Rattle.gr_order.specs.Sequences.{IsSequence, Sequence, taking}
 use Rattle.gr_world.specs.declared.step.Step.TheVariants.{Take}
-use Rattle.gr_world.specs.declared.step.StepError.TheVariants.{Empty}
 use Rattle.gr_world.specs.Queues.{Bounded, leaving}
-use Rattle.gr_world.specs.Steps.{IsAllowed, IsStepRefusal, IsWorldStep}
+use Rattle.gr_world.specs.Steps.{IsAllowed, IsWorldStep}
 use Rattle.gr_world.specs.Worlds.{AreDelivered, ArePassedOn, IsWorld, World, intake_at, no_queue, queue_of, taking_front}
 use Rattle.gr_world.proofs.Changes.{where_set}
 
@@ -27,7 +26,7 @@ popped_is : {T : Type 0} (old new : Bounded T) (result : Option T) (x : T) (rest
 popped_is old new None x rest front h = absurd (let e : x ∷ rest ≡ [] = sym front ∙ h.0 in cc)
 popped_is old new (Some y) x rest front h = let e : y ∷ new.items ≡ x ∷ rest = sym h.0 ∙ front in h.1 ∙ ap (leaving old) (cc)
 
-module _ (w v : World) (world : IsWorld w) (view : w ≡ v) (q n : ℕ) (from : q ≡ n) (s : Sent) (rest : List Sent) (b : Bounded Sent) (at : b ≡ get_or w.intakes q b) (there : q < length w.intakes) (first : b.items ≡ s ∷ rest) where
+module _ (w : World) (world : IsWorld w) (q : ℕ) (s : Sent) (rest : List Sent) (b : Bounded Sent) (at : b ≡ get_or w.intakes q b) (there : q < length w.intakes) (first : b.items ≡ s ∷ rest) where
   now : b ≡ intake_at w q
   now = at ∙ get_or_default w.intakes q b no_queue there
 
@@ -107,11 +106,11 @@ module _ (w v : World) (world : IsWorld w) (view : w ≡ v) (q n : ℕ) (from : 
       } in
       assumption (sequence, queues, places, delivered, passed, world)
 
-  pub take_allowed : IsAllowed v (Take n)
+  pub take_allowed : IsAllowed w (Take q)
   take_allowed =
       let good : ¬ (w.config.queues ≤ q) = λ bad. omega (arith, bad, there, world.queues) in
       let some : (intake_at w q).items ≢ [] = λ empty. let e : s ∷ rest ≡ [] = sym front ∙ empty in absurd (cc) in
-      rw (← view, ← from) (search)
+      search
 
   -- the same, where equations say what the sequence and the queue are
   module _ (sequence : Sequence) (left : Bounded Sent) (is : sequence ≡ taking w.sequence s.group s.event) (result : Option Sent) (popped : MatchOption result ((b.items ≡ []) × (left ≡ b)) (λ y. (b.items ≡ y ∷ left.items) × (left ≡ leaving b left.items))) where
@@ -123,13 +122,5 @@ module _ (w v : World) (world : IsWorld w) (view : w ≡ v) (q n : ℕ) (from : 
     pub taken_is_world : IsSequence sequence → IsWorld (record w { intakes = set w.intakes q left; sequence = sequence })
     taken_is_world lawful = subst IsWorld (sym taken_is) (taking_is_world (subst IsSequence is lawful))
 
-    pub taken_is_step : IsWorldStep v (Take n) (record w { intakes = set w.intakes q left; sequence = sequence })
-    taken_is_step = record { allowed = take_allowed; leads = rw (← view, ← from) (s, rest, front, taken_is) }
-
--- if a queue is empty nothing changes
-
-pub intake_back : (w : World) → IsWorld w → (q : ℕ) (b : Bounded Sent) → b ≡ get_or w.intakes q b → IsWorld (record w { intakes = set w.intakes q b })
-intake_back w world q b at = subst IsWorld (λ k. record w { intakes = sym (ap (set w.intakes q) at ∙ set-get_or w.intakes q b) k }) world
-
-pub take_refused : (w v : World) → IsWorld w → w ≡ v → (q n : ℕ) → q ≡ n → (b : Bounded Sent) → b ≡ get_or w.intakes q b → q < length w.intakes → b.items ≡ [] → IsStepRefusal v (Take n) Empty
-take_refused w v world view q n from b at there empty = rw (← view, ← from) ((λ bad. omega (arith, bad, there, world.queues)), ap (λ (c : Bounded Sent). c.items) (sym (at ∙ get_or_default w.intakes q b no_queue there)) ∙ empty)
+    pub taken_is_step : IsWorldStep w (Take q) (record w { intakes = set w.intakes q left; sequence = sequence })
+    taken_is_step = record { allowed = take_allowed; leads = (s, rest, front, taken_is) }

@@ -1,7 +1,8 @@
--- Bounded queues, and what a worker has.
+-- Bounded queues, what a worker has, and what it receives.
 -- Source: docs/MODEL.md, "The world".
-use Rattle.std.specs.Prelude.{ℕ, ◌<◌, List, [], ◌∷◌, ◌++◌, length}
-use Rattle.gr_shadow.specs.Clashes.{ClockedAccess}
+use Rattle.std.specs.Prelude.{◌≡◌, ℕ, ◌<◌, Bool, true, false, List, [], ◌∷◌, ◌++◌, length, map}
+use Rattle.gr_clocks.specs.declared.access.Access.{Access}
+use Rattle.gr_shadow.specs.Clashes.{ClockedAccess, clocked}
 
 -- a queue: the number of its places, and the values that it holds, the front first
 pub record Bounded (T : Type 0) : Type 0 where
@@ -36,3 +37,16 @@ queueing k x = record { queue = pushed k.queue x; received = k.received }
 -- the access at the front is received
 abbrev pub receiving : Work → ClockedAccess → List ClockedAccess → Work
 receiving k x rest = record { queue = leaving k.queue rest; received = k.received ++ x ∷ [] }
+
+-- the access at the front was received, or there was none
+abbrev pub Receives : Work → Bool → Work → Type 0
+Receives old false new = (old.queue.items ≡ []) × (new ≡ old)
+Receives old true new = (x : ClockedAccess) × (rest : List ClockedAccess) × (old.queue.items ≡ x ∷ rest) × (new ≡ receiving old x rest)
+
+-- accesses without their allocators
+abbrev pub all_clocked : {Z : Type 0} → List (Access Z) → List ClockedAccess
+all_clocked accesses = map clocked accesses
+
+-- what a worker with this queue has that received these
+abbrev pub work_of : {Z : Type 0} → Bounded (Access Z) → List (Access Z) → Work
+work_of queue received = record { queue = record { places = queue.places; items = all_clocked queue.items }; received = all_clocked received }

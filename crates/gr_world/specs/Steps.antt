@@ -11,6 +11,8 @@ use Rattle.gr_model.specs.Streams.{Streams, is_complete, list_of, size_of, word_
 use Rattle.gr_steps.specs.Steps.{CanHandle, CanMeet}
 use Rattle.gr_closure.specs.Accesses.{IsAccess}
 use Rattle.gr_clocks.specs.ClockedAccess.{bare}
+use Rattle.gr_order.specs.declared.go_error.GoError.{GoError}
+use Rattle.gr_order.specs.declared.go_error.GoError.TheVariants.{NotReady as OrderNotReady, Memory as OrderMemory}
 use Rattle.gr_order.specs.Sequences.{HandlesEvent, MeetsInstance, Sequence}
 use Rattle.gr_shadow.specs.Clashes.{ClockedAccess}
 use Rattle.gr_world.specs.declared.step.Step.{Step}
@@ -21,6 +23,11 @@ use Rattle.gr_world.specs.Queues.{HasRoom}
 use Rattle.gr_world.specs.Worlds.{World, going_on, intake_at, passing, queue_of, sending, taking_front, work_at, worker_of, working}
 
 -- ---- why a step is refused
+
+-- which cause comes from one of the sequencer
+abbrev pub Becomes : GoError → StepError → Type 0
+Becomes OrderNotReady f = f ≡ NotReady
+Becomes OrderMemory f = f ≡ Memory
 
 -- the event is an end, or is not allowed in the group, or leaves no room for the end of the stream
 abbrev pub IsBadEvent : World → ℕ → Event → Type 0

@@ -1,8 +1,10 @@
 -- The world of a run: what was sent, taken, handled, passed on and received; and what holds in every world.
 -- Source: docs/MODEL.md, "The world".
-use Rattle.std.specs.Prelude.{◌≡◌, ◌==◌, ℕ, ◌<◌, ◌%◌, List, [], ◌++◌, length, filter, replicate, slice_index_or, slice_set, Option, None, Contains, IsTrue}
+use Rattle.std.specs.Prelude.{◌≡◌, ◌==◌, ℕ, ◌<◌, ◌%◌, List, [], ◌++◌, length, filter, replicate, slice_index_or, slice_set, Option, None, All, Contains, IsTrue}
+use Rattle.std.specs.Option.{option_map}
 use Rattle.gr_model.specs.declared.event.Event.{Event}
 use Rattle.gr_model.specs.declared.event.Sent.{Sent}
+use Rattle.gr_model.specs.declared.event.Word.{Word}
 use Rattle.gr_model.specs.Configs.{IsConfig, Settings, worker_number}
 use Rattle.gr_model.specs.declared.limits.TheConstants.{MOST_RECORDS}
 use Rattle.gr_model.specs.Shapes.{IsShape}
@@ -10,7 +12,8 @@ use Rattle.gr_model.specs.Streams.{AreComplete, ArePrefixes, Streams, events_of,
 use Rattle.gr_steps.specs.Steps.{IsAtRest}
 use Rattle.gr_lanes.specs.Takes.{nothing_taken, with_record}
 use Rattle.gr_order.specs.Sequences.{IsSequence, Sequence, nothing, taking}
-use Rattle.gr_shadow.specs.Clashes.{ClockedAccess}
+use Rattle.gr_clocks.specs.declared.access.Access.{Access}
+use Rattle.gr_shadow.specs.Clashes.{ClockedAccess, IsHitIn, clocked}
 use Rattle.gr_closure.specs.AccessesAlong.{AreAccesses, in_flight_list}
 use Rattle.gr_world.specs.Queues.{Bounded, Work, empty_queue, leaving, no_work, pushed, queueing, receiving}
 
@@ -25,6 +28,18 @@ pub record World : Type 0 where
   -- the access that was handled and is not yet in a queue
   pub in_flight : Option ClockedAccess
   pub workers : List Work
+
+-- a world as contracts see it, made from the fields of the type
+abbrev pub world_of : {Z : Type 0} → Settings → Streams → List (Bounded Sent) → Sequence → Option (Access Z) → List Work → World
+world_of config sent intakes sequence in_flight workers =
+    record {
+      config = config;
+      sent = sent;
+      intakes = intakes;
+      sequence = sequence;
+      in_flight = option_map clocked in_flight;
+      workers = workers;
+    }
 
 abbrev pub no_queue : Bounded Sent
 no_queue = empty_queue 0
@@ -59,62 +74,28 @@ new_world sizes config =
 -- a group sent one more record
 abbrev pub sending : World → ℕ → Event → World
 sending w g x =
-    record {
-      config = w.config;
+    record w {
       sent = with_record w.sent g x;
       intakes = slice_set w.intakes (queue_of w g) (pushed (intake_at w (queue_of w g)) (record { group = g; event = x }));
-      sequence = w.sequence;
-      in_flight = w.in_flight;
-      workers = w.workers;
     }
 
 -- the record at the front of a queue was taken, and these remain in it
 abbrev pub taking_front : World → ℕ → Sent → List Sent → World
 taking_front w q s rest =
-    record {
-      config = w.config;
-      sent = w.sent;
-      intakes = slice_set w.intakes q (leaving (intake_at w q) rest);
-      sequence = taking w.sequence s.group s.event;
-      in_flight = w.in_flight;
-      workers = w.workers;
-    }
+    record w { intakes = slice_set w.intakes q (leaving (intake_at w q) rest); sequence = taking w.sequence s.group s.event }
 
 -- the sequence went on, and this access is on its way
 abbrev pub going_on : World → Sequence → Option ClockedAccess → World
-going_on w sequence in_flight =
-    record {
-      config = w.config;
-      sent = w.sent;
-      intakes = w.intakes;
-      sequence = sequence;
-      in_flight = in_flight;
-      workers = w.workers;
-    }
+going_on w sequence in_flight = record w { sequence = sequence; in_flight = in_flight }
 
 -- the access on its way was queued for its word's worker
 abbrev pub passing : World → ClockedAccess → World
 passing w x =
-    record {
-      config = w.config;
-      sent = w.sent;
-      intakes = w.intakes;
-      sequence = w.sequence;
-      in_flight = None;
-      workers = slice_set w.workers (worker_of w x) (queueing (work_at w (worker_of w x)) x);
-    }
+    record w { in_flight = None; workers = slice_set w.workers (worker_of w x) (queueing (work_at w (worker_of w x)) x) }
 
 -- a worker received the access at the front of its queue, and these remain in it
 abbrev pub working : World → ℕ → ClockedAccess → List ClockedAccess → World
-working w k x rest =
-    record {
-      config = w.config;
-      sent = w.sent;
-      intakes = w.intakes;
-      sequence = w.sequence;
-      in_flight = w.in_flight;
-      workers = slice_set w.workers k (receiving (work_at w k) x rest);
-    }
+working w k x rest = record w { workers = slice_set w.workers k (receiving (work_at w k) x rest) }
 
 -- ---- what holds in every world
 
@@ -156,10 +137,22 @@ pub record IsWorld (w : World) : Type 0 where
 
 -- ---- when nothing remains to do
 
+-- all intake queues are empty
+abbrev pub AreEmpty : List (Bounded Sent) → Type 0
+AreEmpty intakes = All (λ q. q.items ≡ []) intakes
+
+-- the queues of all workers are empty
+abbrev pub AreIdle : List Work → Type 0
+AreIdle workers = All (λ k. k.queue.items ≡ []) workers
+
 -- all streams have ended, all queues are empty, no access is on its way, and the sequencer can make no step
 pub record IsWorldAtRest (w : World) : Type 0 where
   pub closed : AreComplete w.sent
-  pub intakes : (q : ℕ) → (intake_at w q).items ≡ []
+  pub intakes : AreEmpty w.intakes
   pub in_flight : w.in_flight ≡ None
-  pub work : (k : ℕ) → (work_at w k).queue.items ≡ []
+  pub work : AreIdle w.workers
   pub rest : IsAtRest w.sequence.taken w.sequence.handled
+
+-- a word is hit in what some worker received
+abbrev pub IsHitAtWork : List Work → Word → Type 0
+IsHitAtWork workers w = (k : Work) × Contains workers k × IsHitIn k.received w

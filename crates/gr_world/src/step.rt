@@ -1,7 +1,7 @@
 //! The steps of a world, and the causes for which a step is refused.
 
 ghost use Rattle.std.specs.Prelude.{◌≡◌};
-ghost use Rattle.gr_world.specs.Errors.{Becomes};
+ghost use Rattle.gr_world.specs.Steps.{Becomes};
 ghost use Rattle.gr_world.specs.declared.step.StepError.TheVariants.{Memory as OutOfMemory};
 
 use gr_model::event::{Event, ItemId};

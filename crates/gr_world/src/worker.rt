@@ -5,8 +5,7 @@
 ghost use Rattle.std.specs.Prelude.{◌≡◌, ◌↔◌, [], IsTrue, IfOk, OnErr};
 ghost use Rattle.gr_model.specs.Reports.{Lists, WordBelow};
 ghost use Rattle.gr_shadow.specs.Clashes.{IsHitIn, clocked};
-ghost use Rattle.gr_world.specs.Queues.{HasRoom, no_work, queueing};
-ghost use Rattle.gr_world.specs.Workers.{Receives};
+ghost use Rattle.gr_world.specs.Queues.{HasRoom, Receives, no_work, queueing};
 
 use crate::queue::Queue;
 use gr_clocks::access::Access;
@@ -28,8 +27,7 @@ pub struct Worker<A: Allocator = Global> {
 
 impl<A: Allocator> Model for Worker<A> {
     ghost use Rattle.gr_shadow.specs.StandsFor.{StandsFor};
-    ghost use Rattle.gr_world.specs.Queues.{Work};
-    ghost use Rattle.gr_world.specs.Workers.{all_clocked, work_of};
+    ghost use Rattle.gr_world.specs.Queues.{Work, all_clocked, work_of};
 
     ghost Value = { Work };
 

@@ -4,10 +4,9 @@
 //! queue, are the records that were sent. Of each worker, the accesses that it received, followed by those in its queue and by
 //! the one on its way to it, are all accesses of the handled events that go to this worker.
 
-ghost use Rattle.std.specs.Prelude.{◌≡◌, ◌≢◌, ◌↔◌, ◌<◌, ◌+◌, IsTrue, IsFalse, IfOk, IfErr, OnOk, OnErr, None, length, replicate};
+ghost use Rattle.std.specs.Prelude.{◌≡◌, ◌≢◌, ◌↔◌, ◌<◌, ◌+◌, IsTrue, IsFalse, IfOk, IfErr, OnOk, OnErr, length, replicate};
 ghost use Rattle.gr_model.specs.declared.limits.TheConstants.{MOST_RECORDS};
 ghost use Rattle.gr_model.specs.Events.{IsEventOk, is_end};
-ghost use Rattle.gr_model.specs.Shapes.{HasItem};
 ghost use Rattle.std.specs.List.{sum_by};
 ghost use Rattle.gr_model.specs.Reports.{IsReportOf, Lists, WordBelow};
 ghost use Rattle.gr_model.specs.Streams.{list_of, size_of};
@@ -17,15 +16,13 @@ ghost use Rattle.gr_world.specs.declared.step.Step.TheVariants as steps;
 ghost use Rattle.gr_world.specs.Putting.{IsPutFault, Queues};
 ghost use Rattle.gr_world.specs.Queues.{empty_queue, no_work};
 ghost use Rattle.gr_world.specs.Steps.{IsBadEvent, IsStepRefusal, IsWorldStep, Runs};
-ghost use Rattle.gr_world.specs.Resting.{AreEmpty, AreIdle, IsHitAtWork};
-ghost use Rattle.gr_world.specs.Worlds.{IsWorld, IsWorldAtRest, new_world};
+ghost use Rattle.gr_world.specs.Worlds.{AreEmpty, AreIdle, IsHitAtWork, IsWorld, IsWorldAtRest, new_world};
 
 use crate::queue::Queue;
 use crate::step::{Step, StepError};
 use crate::worker::Worker;
 use gr_clocks::access::Access;
 use gr_lanes::lanes::Lanes;
-use gr_lanes::seq_error::SeqError;
 use gr_model::config::{Config, queue_of, worker_of};
 use gr_model::event::{Event, ItemId, Sent, Word, event_ok};
 use gr_model::limits::MOST_RECORDS;
@@ -55,8 +52,7 @@ pub struct World<A: Allocator = Global> {
 }
 
 impl<A: Allocator> Model for World<A> {
-    ghost use Rattle.gr_world.specs.Views.{world_of};
-    ghost use Rattle.gr_world.specs.Worlds.{IsWorld, World as WorldLists};
+    ghost use Rattle.gr_world.specs.Worlds.{IsWorld, World as WorldLists, world_of};
 
     ghost Value = { WorldLists };
 
@@ -198,26 +194,10 @@ impl<A: Allocator + Copy> World<A> {
         if self.in_flight.is_some() {
             return Err(StepError::Busy);
         }
-        self.handle_next(item)
-    }
-
-    /// Does the same, once it is known that the item exists and that no access is on its way.
-    fn handle_next(&mut self, item: ItemId) -> Result<(), StepError>
-    where
-        A: Copy,
-        requires there { HasItem self.old.sent.sizes item }
-        requires free { self.old.in_flight ≡ None }
-        ensures step { OnOk result (IsWorldStep self.old (steps.Handle item) self.new) }
-        ensures err { IfErr result (IsStepRefusal self.old (steps.Handle item)) }
-        ensures unchanged { OnErr result (self.new ≡ self.old) }
-    {
-        match self.sequencer.handle(item)? {
-            Handled::One { event: _, access } => self.in_flight = access,
-            Handled::Meet {
-                group: _,
-                instance: _,
-            } => unreachable!(),
-        }
+        let Handled::One { event: _, access } = self.sequencer.handle(item)? else {
+            unreachable!();
+        };
+        self.in_flight = access;
         Ok(())
     }
 
@@ -242,9 +222,8 @@ impl<A: Allocator + Copy> World<A> {
         ensures err { IfErr result (IsStepRefusal self.old (steps.WorkTake worker)) }
         ensures unchanged { OnErr result (self.new ≡ self.old) }
     {
-        let worker = match self.workers.get_mut(usize::from(worker)) {
-            None => return Err(StepError::BadStep),
-            Some(worker) => worker,
+        let Some(worker) = self.workers.get_mut(usize::from(worker)) else {
+            return Err(StepError::BadStep);
         };
         if !worker.receive()? {
             return Err(StepError::Empty);
@@ -378,13 +357,8 @@ impl<A: Allocator> World<A> {
         if !self.intakes[queue].has_room() {
             return Err(StepError::Full);
         }
-        let sent = Sent { group, event };
-        match self.sent.take(group, sent.event) {
-            Ok(()) => {}
-            Err(SeqError::Memory) => return Err(StepError::Memory),
-            Err(_) => unreachable!(),
-        }
-        self.intakes[queue].push(sent);
+        self.sent.take_accepted(group, &event)?;
+        self.intakes[queue].push(Sent { group, event });
         Ok(())
     }
 
@@ -396,18 +370,16 @@ impl<A: Allocator> World<A> {
         ensures err { IfErr result (IsStepRefusal self.old (steps.Take queue)) }
         ensures unchanged { OnErr result (self.new ≡ self.old) }
     {
-        let intake = match self.intakes.get_mut(usize::from(queue)) {
-            None => return Err(StepError::BadStep),
-            Some(intake) => intake,
+        let Some(intake) = self.intakes.get_mut(usize::from(queue)) else {
+            return Err(StepError::BadStep);
         };
-        let front = match intake.front() {
-            None => return Err(StepError::Empty),
-            Some(sent) => *sent,
+        let Some(&Sent { group, event }) = intake.front() else {
+            return Err(StepError::Empty);
         };
-        match self.sequencer.take(front.group, front.event) {
+        match self.sequencer.take(group, event) {
             Ok(()) => {}
-            Err(SeqError::Memory) => return Err(StepError::Memory),
-            Err(_) => unreachable!(),
+            // A record that was sent can be taken, so only memory can be wanting.
+            Err(_) => return Err(StepError::Memory),
         }
         let _taken = intake.pop();
         Ok(())

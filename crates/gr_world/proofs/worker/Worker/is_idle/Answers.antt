@@ -1,7 +1,6 @@
 use Rattle.std.proofs.Common.{◌≡◌, ◌∙◌, List, [], ◌∷◌, ap, refl, sym}
 use Rattle.gr_clocks.specs.declared.access.Access.{Access}
-use Rattle.gr_world.specs.Queues.{Work}
-use Rattle.gr_world.specs.Workers.{all_clocked}
+use Rattle.gr_world.specs.Queues.{Work, all_clocked}
 use Rattle.gr_world.proofs.worker.Worker.is_idle.Goals as goal
 
 none_clocked : {Z : Type 0} (xs : List (Access Z)) → all_clocked xs ≡ [] → xs ≡ []

@@ -1,8 +1,7 @@
 use Rattle.std.proofs.Common.{◌<◌, refl, arith, length, subst, sym}
 use Rattle.std.proofs.lemmas.List.{length-map, map-append}
 use Rattle.gr_shadow.specs.Clashes.{clocked}
-use Rattle.gr_world.specs.Queues.{HasRoom, Work}
-use Rattle.gr_world.specs.Workers.{all_clocked}
+use Rattle.gr_world.specs.Queues.{HasRoom, Work, all_clocked}
 use Rattle.gr_world.proofs.worker.Worker.push.Goals as goal
 
 pub push-requires : goal.push-requires

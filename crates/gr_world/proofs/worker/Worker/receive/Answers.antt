@@ -2,8 +2,7 @@ use Rattle.std.proofs.Common.{◌≡◌, ◌∙◌, ◌∷◌, [], ◌++◌, ap,
 use Rattle.std.proofs.lemmas.List.{map-append}
 use Rattle.gr_shadow.specs.Clashes.{clocked}
 use Rattle.gr_shadow.specs.StandsFor.{StandsFor}
-use Rattle.gr_world.specs.Queues.{Work}
-use Rattle.gr_world.specs.Workers.{all_clocked, work_of}
+use Rattle.gr_world.specs.Queues.{Work, all_clocked, work_of}
 use Rattle.gr_world.proofs.worker.Worker.receive.Goals as goal
 
 pub invariant_of-self-in-Some-pop : goal.invariant_of-self-in-Some-pop

@@ -1,13 +1,7 @@
-use Rattle.std.proofs.Common.{rules, sym, true≢false}
-use Rattle.gr_world.proofs.RestLemmas.{all_empty, all_idle, grounded, rests}
+use Rattle.std.proofs.Common.{rules}
+use Rattle.gr_world.proofs.RestLemmas.{grounded, rests}
 use Rattle.gr_world.proofs.InFlightLemmas.{no_in_flight}
 use Rattle.gr_world.proofs.world.World.at_rest.Goals as goal
-
-pub returns-then-not-is_drained-clause-rest : goal.returns-then-not-is_drained-clause-rest
-returns-then-not-is_drained-clause-rest g c = (λ yes. absurd (true≢false (sym yes)), λ rest. c.if-not-is_drained.ensures.1 (all_empty c.args.self.now rest.intakes))
-
-pub returns-then-not-is_idle-clause-rest : goal.returns-then-not-is_idle-clause-rest
-returns-then-not-is_idle-clause-rest g c = (λ yes. absurd (true≢false (sym yes)), λ rest. c.if-not-is_idle.ensures.1 (all_idle c.args.self.now rest.work))
 
 pub returns-clause-rest : goal.returns-clause-rest
 returns-clause-rest g c =

@@ -1,7 +1,6 @@
 use Rattle.std.proofs.Common.{◌<◌, ap, arith, length, rules, subst}
 use Rattle.gr_model.specs.Streams.{size_of}
-use Rattle.gr_world.specs.Views.{world_of}
-use Rattle.gr_world.specs.Worlds.{World}
+use Rattle.gr_world.specs.Worlds.{World, world_of}
 use Rattle.gr_world.proofs.world.World.close.Goals as goal
 
 pub put-requires-clause-good : goal.put-requires-clause-good

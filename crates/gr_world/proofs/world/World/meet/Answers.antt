@@ -1,4 +1,5 @@
 use Rattle.std.proofs.Common.{ℕ, rules, subst}
+use Rattle.std.proofs.lemmas.Result.{err_from_is_err_and}
 use Rattle.gr_order.specs.Sequences.{MeetsInstance, Sequence}
 use Rattle.gr_sequencer.specs.Answers.{IsOfGroup, IsStep as IsSequencerStep}
 use Rattle.gr_sequencer.specs.declared.handled.Handled.{Handled}
@@ -19,8 +20,9 @@ invariant_of-self-2 g c =
 pub returns-clause-step : goal.returns-clause-step
 returns-clause-step g c =
     let meets = met c.self.inside.sequencer c.meet.new.self c.args.group c.in_ok-_met._met c.in_ok-_met.ensures.step c.in_ok-_met.ensures.group in
-    met_is_step _ _ c.self.view_is c.args.group (search rules) meets.0 c.meet.new.self meets.1
+    rw (← c.self.view_is) (met_is_step _ c.args.group (search rules) meets.0 c.meet.new.self meets.1)
 
 pub returns-in_err-_met-clause-err : goal.returns-in_err-_met-clause-err
 returns-in_err-_met-clause-err g c =
-    meet_refused _ _ c.self.view_is c.args.group (search rules) c.from_residual.result c.in_err-_met.field-0.0 c.from_residual.ensures.1 c.in_err-_met.ensures.err
+    let p = err_from_is_err_and c.from_residual.result c.from_residual.ensures.1 in
+    rw (← c.self.view_is, p.1) (meet_refused _ c.args.group (search rules) c.in_err-_met.field-0.0 p.0 p.2 c.in_err-_met.ensures.err)

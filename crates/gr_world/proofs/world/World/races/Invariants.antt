@@ -1,6 +1,7 @@
+use Rattle.std.proofs.Common.{take}
 use Rattle.gr_model.specs.Reports.{Lists, WordBelow}
-use Rattle.gr_world.proofs.RestLemmas.{IsHitBelow}
+use Rattle.gr_world.specs.Worlds.{IsHitAtWork}
 use Rattle.gr_world.proofs.world.World.races.Given as goal
 
 abbrev pub invariant-loop-worker : goal.invariant-loop-worker
-invariant-loop-worker g l = Lists WordBelow (IsHitBelow l.worker-items l.worker-index) l.races.items
+invariant-loop-worker g l = Lists WordBelow (IsHitAtWork (take l.worker-index l.worker-items)) l.races.items
