@@ -13,12 +13,12 @@ use Rattle.gr_places.specs.Files.{IsShowFault}
 
 module _ {T E : Type 0} (remaining : T → Option (List ℕ)) (Gives : List ℕ → Result T E → Type 0) (named : Pair (List ℕ)) (names : List (List ℕ)) (sides : Pair T) (files : List T) (opened : AreAllOpened Gives named names sides files) where
   pub unread : (f : Fault) → IsOutside f → IsSidesFault remaining Gives named names (Run f)
-  unread f outside = inr (inl (record { sides = sides; files = files; opened = opened; outside = outside }))
+  unread f outside = inr (inl (record { sides = sides; files = files; opened = opened; holds = outside }))
 
   pub places_refused : (bytes : List ℕ) → IfSome (known_of remaining sides.places) (λ known. bytes ≡ known) → (f : SidesFault) → RefusesPlaces bytes f → IsSidesFault remaining Gives named names f
   places_refused bytes read (Run f) memory = inl (inl memory)
   places_refused bytes read (Places line) h =
-      record { sides = sides; files = files; opened = opened; first = at_known (known_of remaining sides.places) bytes (λ known. places_in known ≡ Err line) read h }
+      record { sides = sides; files = files; opened = opened; holds = at_known (known_of remaining sides.places) bytes (λ known. places_in known ≡ Err line) read h }
   places_refused bytes read (Buffers line) h = absurd h
 
 module _ {T E : Type 0} (remaining : T → Option (List ℕ)) (Gives : List ℕ → Result T E → Type 0) (named : Pair (List ℕ)) (names : List (List ℕ)) (sides : Pair T) (files : List T) (opened : AreAllOpened Gives named names sides files) (place_bytes : List ℕ) (places_read : IfSome (known_of remaining sides.places) (λ bytes. place_bytes ≡ bytes)) (places : List PlaceSaid) (places_said : places_in place_bytes ≡ Ok places) (buffer_bytes : List ℕ) (buffers_read : IfSome (known_of remaining sides.buffers) (λ bytes. buffer_bytes ≡ bytes)) where
@@ -30,8 +30,7 @@ module _ {T E : Type 0} (remaining : T → Option (List ℕ)) (Gives : List ℕ 
         sides = sides;
         files = files;
         opened = opened;
-        places = at_known (known_of remaining sides.places) place_bytes (λ bytes. (said : List PlaceSaid) × (places_in bytes ≡ Ok said)) places_read (places, places_said);
-        first = at_known (known_of remaining sides.buffers) buffer_bytes (λ bytes. buffers_in bytes ≡ Err line) buffers_read h;
+        holds = (at_known (known_of remaining sides.places) place_bytes (λ bytes. (said : List PlaceSaid) × (places_in bytes ≡ Ok said)) places_read (places, places_said), at_known (known_of remaining sides.buffers) buffer_bytes (λ bytes. buffers_in bytes ≡ Err line) buffers_read h);
       }
 
   module _ (buffers : List BufferSaid) (buffers_said : buffers_in buffer_bytes ≡ Ok buffers) where

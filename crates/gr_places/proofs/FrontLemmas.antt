@@ -1,33 +1,31 @@
 -- The records that are accepted at the front of bytes, counted one by one.
-use Rattle.std.proofs.Common.{◌≡◌, ℕ, suc, ◌+◌, ◌-◌, ◌<◌, ◌≤◌, true, false, List, [], ◌∷◌, ◌++◌, length, take, drop, Result, Ok, Err, refl, sym, ap, ◌∙◌, arith, inl, inr, append-nil, length-append}
+use Rattle.std.proofs.Common.{◌≡◌, ℕ, suc, ◌+◌, ◌-◌, ◌<◌, ◌≤◌, true, false, List, [], ◌∷◌, length, take, drop, Result, Ok, Err, ap, subst, ◌∙◌, arith, inl, inr}
 use Rattle.std.proofs.lemmas.Bool.{cases_lt}
 use Rattle.gr_model.specs.declared.event.Event.{Event}
 use Rattle.gr_model.specs.Events.{is_end}
 use Rattle.gr_record.specs.declared.error.RecordError.{RecordError}
 use Rattle.gr_record.specs.Fronts.{Records, step, records_at}
-use Rattle.gr_record.proofs.Loop.{next, regroup, short, too_many, with_prefix}
+use Rattle.gr_record.proofs.Loop.{next, short, too_many}
 
--- how many records are read, and what is left
-pub record IsAt (n : ℕ) (left : List ℕ) (r : Records) : Type 0 where
-  pub number : n ≡ length r.events
-  pub rest : left ≡ r.rest
+-- n records and then these events are all that are read, and this is left
+pub record IsWhole (n : ℕ) (events : List Event) (rest : List ℕ) (whole : Records) : Type 0 where
+  pub number : n + length events ≡ length whole.events
+  pub rest_is : rest ≡ whole.rest
 
-module _ (size : ℕ) (read : List ℕ → Result Event RecordError) (prefix : List Event) (i most : ℕ) (bytes : List ℕ) (whole : Records) (counted : length prefix ≡ i) (so_far : with_prefix prefix (records_at size read (most - i) bytes) ≡ whole) where
+module _ (size : ℕ) (read : List ℕ → Result Event RecordError) (i most : ℕ) (bytes : List ℕ) (whole : Records) (so_far : IsWhole i (records_at size read (most - i) bytes).events (records_at size read (most - i) bytes).rest whole) where
+  gives : (r : Records) → records_at size read (most - i) bytes ≡ r → IsWhole i r.events r.rest whole
+  gives r is = subst (λ (x : Records). IsWhole i x.events x.rest whole) is so_far
+
   -- nothing more is read
-  stays : (r : Records) → records_at size read (most - i) bytes ≡ r → r.events ≡ [] → r.rest ≡ bytes → IsAt i bytes whole
-  stays r is none left =
-      let all = rw is at so_far in
-      record { number = sym counted ∙ ap (λ (es : List Event). length es) (rw (none, append-nil prefix) at (ap (λ (x : Records). x.events) all)); rest = sym left ∙ ap (λ (x : Records). x.rest) all }
+  pub stops_short : length bytes < size → IsWhole i [] bytes whole
+  stops_short lt = gives _ (short size read (most - i) bytes lt)
 
-  pub stops_short : length bytes < size → IsAt i bytes whole
-  stops_short lt = stays _ (short size read (most - i) bytes lt) refl refl
-
-  pub none_left : most ≤ i → IsAt i bytes whole
+  pub none_left : most ≤ i → IsWhole i [] bytes whole
   none_left le =
       let k : most - i ≡ 0 = omega arith in
       elim (cases_lt (length bytes) size) [
         | inl lt ↦ stops_short lt
-        | inr long ↦ stays _ (ap (λ (n : ℕ). records_at size read n bytes) k ∙ too_many size read bytes long) refl refl
+        | inr long ↦ gives _ (ap (λ (n : ℕ). records_at size read n bytes) k ∙ too_many size read bytes long)
       ]
 
   module _ (lt : i < most) (long : size ≤ length bytes) where
@@ -35,20 +33,13 @@ module _ (size : ℕ) (read : List ℕ → Result Event RecordError) (prefix : L
     one_more x is = let k : most - i ≡ suc (most - (i + 1)) = omega arith in rw (k, ← is) (next size read (most - (i + 1)) bytes long)
 
     -- a record at fault
-    pub refused : (d : RecordError) → read (take size bytes) ≡ Err d → IsAt i bytes whole
-    refused d is = stays _ (one_more (Err d) is) refl refl
+    pub refused : (d : RecordError) → read (take size bytes) ≡ Err d → IsWhole i [] bytes whole
+    refused d is = gives _ (one_more (Err d) is)
 
     -- the end
-    pub ended : (e : Event) → read (take size bytes) ≡ Ok e → is_end e ≡ true → IsAt (i + 1) (drop size bytes) whole
-    ended e is end =
-        let at = rw end at (one_more (Ok e) is) in
-        let same : with_prefix prefix (record { events = e ∷ []; rest = drop size bytes; stop = _ }) ≡ whole = ap (with_prefix prefix) (sym at) ∙ so_far in
-        let count : length (prefix ++ e ∷ []) ≡ i + 1 = length-append prefix (e ∷ []) ∙ ap (λ (n : ℕ). n + 1) counted in
-        record { number = sym count ∙ ap (λ (x : Records). length x.events) same; rest = ap (λ (x : Records). x.rest) same }
+    pub ended : (e : Event) → read (take size bytes) ≡ Ok e → is_end e ≡ true → IsWhole i (e ∷ []) (drop size bytes) whole
+    ended e is end = gives _ (rw end at (one_more (Ok e) is))
 
     -- any other record
-    pub goes_on : (e : Event) → read (take size bytes) ≡ Ok e → is_end e ≡ false → (p : List Event) × (length p ≡ i + 1) × (with_prefix p (records_at size read (most - (i + 1)) (drop size bytes)) ≡ whole)
-    goes_on e is end =
-        let at = rw end at (one_more (Ok e) is) in
-        let count : length (prefix ++ e ∷ []) ≡ i + 1 = length-append prefix (e ∷ []) ∙ ap (λ (n : ℕ). n + 1) counted in
-        (prefix ++ e ∷ [], count, sym (regroup prefix e (records_at size read (most - (i + 1)) (drop size bytes))) ∙ (ap (with_prefix prefix) (sym at) ∙ so_far))
+    pub goes_on : (e : Event) → read (take size bytes) ≡ Ok e → is_end e ≡ false → IsWhole (i + 1) (records_at size read (most - (i + 1)) (drop size bytes)).events (records_at size read (most - (i + 1)) (drop size bytes)).rest whole
+    goes_on e is end = let all = gives _ (rw end at (one_more (Ok e) is)) in record { number = omega (arith, all.number); rest_is = all.rest_is }

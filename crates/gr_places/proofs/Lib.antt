@@ -3,6 +3,7 @@ pub mod Reading
 pub mod OpeningLemmas
 pub mod FileLemmas
 pub mod NamingLemmas
+mod CountLemmas
 mod FrontLemmas
 mod LawLemmas
 mod NeighbourLemmas

@@ -1,8 +1,9 @@
 -- Texts of the form NAME[INDEX], and the words of buffers that they name.
-use Rattle.std.proofs.Common.{◌≡◌, ◌≢◌, ℕ, suc, ◌+◌, ◌-◌, ◌^◌, ◌<◌, Bool, Bor, true, false, List, [], ◌∷◌, ◌++◌, Option, Some, None, refl, sym, ap, subst, ◌∙◌, length, arith, nat_eq, take, drop, get_or, map, MatchOption, decimal, find, is_some, option_map, option_and_then}
+use Rattle.std.proofs.Common.{◌≡◌, ◌≢◌, ℕ, suc, ◌+◌, ◌-◌, ◌^◌, ◌<◌, Bool, Bor, true, false, List, [], ◌∷◌, ◌++◌, Option, Some, None, refl, sym, ap, subst, ◌∙◌, length, arith, nat_eq, take, drop, get_or, map, MatchOption, decimal, find, is_some, option_map}
 use Rattle.std.specs.Cmp.Lexicographic.{pointwise, same_text, other_text}
 use Rattle.std.proofs.lemmas.Bool.Decides.{nat_tests}
 use Rattle.std.proofs.lemmas.Bool.{and_parts, cond_both, eq-eqb, eqb-true}
+use Rattle.std.proofs.lemmas.Option.{option_and_then_some}
 use Rattle.std.proofs.lemmas.List.{append_cancel_left, append_cancel_right, drop_at, length-append, take-append-drop, take_at}
 use Rattle.gr_text.specs.LineReading as reading
 use Rattle.gr_text.proofs.LineNumbers.{number_back, number_found, same_is, same_self}
@@ -88,12 +89,6 @@ same_element (Some it) name k e =
     let p = and_parts _ _ e in
     rw (same_is it.name.now name p.1, eqb-true it.index k p.0) refl
 
--- the test of both parts
-pub same_when : (o : Option Element) (it : Element) (name : List ℕ) (k : ℕ) (r : Bool) → o ≡ Some it → nat_eq it.index k ≡ true → r ≡ pointwise nat_eq it.name.now name → r ≡ is_same o name k
-unfolding reading.same
-same_when None it name k r e i is = absurd cc
-same_when (Some x) it name k r e i is = let same : x ≡ it = cc in subst (λ (y : Element). r ≡ is_same (Some y) name k) (sym same) (rw i is)
-
 -- the element passes the test
 pub element_same : (o : Option Element) (name : List ℕ) (k : ℕ) → option_map element o ≡ Some (record { name = name; index = k }) → is_same o name k ≡ true
 element_same None name k e = absurd cc
@@ -119,9 +114,6 @@ read_index name text digits (Some n) is only whole = let found = number_found di
 
 -- ---- the word of a line
 
-pub no_index : (lines : List BufferSaid) (line : BufferSaid) (text : List ℕ) → ((k : ℕ) → k < 2 ^ 32 → ¬ IsText line.name k text) → (w : Word) → ¬ IsSaidIn lines line text w
-no_index lines line text none w s = none s.index (small_index line w s.index s.at_index s.small) s.is_text
-
 pub no_word : (lines : List BufferSaid) (line : BufferSaid) (text : List ℕ) (k : ℕ) → k < 2 ^ 32 → IsText line.name k text → word_at line k ≡ None → (w : Word) → ¬ IsSaidIn lines line text w
 no_word lines line text k lt t none w s =
     let same = one_index line.name text s.index k (small_index line w s.index s.at_index s.small) lt s.is_text t in
@@ -142,22 +134,17 @@ this_word lines line text k v o t at found same =
 
 -- ---- the word of all lines
 
-and_then_some : {X Y : Type 0} (f : X → Option Y) (o : Option X) (y : Y) → option_and_then f o ≡ Some y → (x : X) × (o ≡ Some x) × (f x ≡ Some y)
-and_then_some f None y e = absurd cc
-and_then_some f (Some x) y e = (x, refl, e)
-
 abbrev has : Word → BufferLine → Bool
 has w l = is_some (index_in (buffer_line l) w)
 
 pub said_in_line : (lines : List BufferLine) (text : List ℕ) (w : Word) → IsSaid (map buffer_line lines) text w → (b : BufferLine) × (j : ℕ) × (j < length lines) × IsSaidIn (map buffer_line lines) (buffer_line (get_or lines j b)) text w
 said_in_line lines text w s =
-    let found = and_then_some (made w) (find (has w) lines) s.said (element_found lines w (find (has w) lines) refl ∙ s.is_element) in
-    let b = found.0 in
-    let at = from_map (λ (k : ℕ). record { name = b.name.now; index = k }) (index_in (buffer_line b) w) s.said found.2 in
-    let line = found_line (has w) lines b found.1 in
+    option_and_then_some (made w) (find (has w) lines) s.said (element_found lines w (find (has w) lines) refl ∙ s.is_element) (λ b found is.
+    let at = from_map (λ (k : ℕ). record { name = b.name.now; index = k }) (index_in (buffer_line b) w) s.said is in
+    let line = found_line (has w) lines b found in
     let here : IsSaidIn (map buffer_line lines) (buffer_line b) text w =
     record { index = at.0; at_index = at.1; is_element = s.is_element ∙ ap (λ (e : ElementSaid). Some e) (sym at.2); is_text = subst (λ (e : ElementSaid). IsText e.name e.index text) (sym at.2) s.is_text; small = s.small } in
-    (b, line.0, line.1, subst (λ (l : BufferLine). IsSaidIn (map buffer_line lines) (buffer_line l) text w) (sym (line.2 b)) here)
+    (b, line.0, line.1, subst (λ (l : BufferLine). IsSaidIn (map buffer_line lines) (buffer_line l) text w) (sym (line.2 b)) here))
 
 pub no_option : {X : Type 0} (o : Option X) → is_some o ≡ false → o ≡ None
 no_option None e = refl

@@ -1,19 +1,16 @@
 -- What the lines of a file say, as a loop reads them, and how something is found in them.
-use Rattle.std.proofs.Common.{◌≡◌, ℕ, ◌+◌, Bool, List, [], ◌∷◌, ◌++◌, Option, Some, None, Result, Ok, Err, refl, sym, ap, map, ◌∙◌, append_assoc, length, arith, find, is_some, option_and_then, option_map, IsUtf8, append-nil}
+use Rattle.std.proofs.Common.{◌≡◌, ℕ, Bool, List, [], ◌∷◌, ◌++◌, Option, Some, None, Result, Ok, Err, refl, ap, map, length, arith, find, is_some, option_and_then, option_map, IsUtf8, append-nil}
 use Rattle.std.specs.Result.{MatchResult, result_ok}
 use Rattle.std.proofs.lemmas.Bool.{false_from_ne_true}
 use Rattle.std.proofs.lemmas.Str.{IsUtf8-from_is_utf8, is_utf8-from_IsUtf8}
 use Rattle.gr_model.specs.declared.event.Word.{Word}
 use Rattle.gr_places.specs.declared.buffers.BufferLine.{BufferLine}
-use Rattle.gr_places.specs.SideLines.{BufferSaid, ElementSaid, buffer_line, element_of, index_in, said_next, text_said}
+use Rattle.gr_places.specs.SideLines.{BufferSaid, ElementSaid, buffer_line, element_of, index_in, text_said}
 
 -- what lines say, after what the lines before them said
 abbrev pub joined : {X : Type 0} → List X → Result (List X) ℕ → Result (List X) ℕ
 joined done (Ok xs) = Ok (done ++ xs)
 joined done (Err f) = Err f
-
-pub joined_more : {X : Type 0} (done : List X) (n : ℕ) (x : X) (rest : Result (List X) ℕ) → joined done (said_next n (Some x) rest) ≡ joined (done ++ x ∷ []) rest
-joined_more done n x rest = grind (arith, append_assoc)
 
 pub joined_all : {X : Type 0} (done : List X) → joined done (Ok []) ≡ Ok done
 joined_all done = ap (λ (ys : List _). Ok ys) (append-nil done)
@@ -30,19 +27,11 @@ unfolding text_said
 text_none [] none = refl
 text_none (b ∷ bytes) none = absurd (omega (arith, none))
 
-text_some : (bytes : List ℕ) → (length bytes ≡ 0 → ⊥) → IsUtf8 bytes → text_said bytes ≡ Some bytes
-unfolding text_said
-text_some [] some is = absurd (some refl)
-text_some (b ∷ bytes) some is = rw (is_utf8-from_IsUtf8 (b ∷ bytes) is) refl
-
-text_other : (bytes : List ℕ) → ¬ IsUtf8 bytes → text_said bytes ≡ None
-unfolding text_said
-text_other [] other = refl
-text_other (b ∷ bytes) other = rw (false_from_ne_true _ (λ t. other (IsUtf8-from_is_utf8 (b ∷ bytes) t))) refl
-
 pub text_read : {S E : Type 0} (view : S → List ℕ) (Q : E → Type 0) (bytes : List ℕ) (r : Result S E) → (length bytes ≡ 0 → ⊥) → MatchResult r (λ s. (view s ≡ bytes) × IsUtf8 bytes) (λ e. ¬ IsUtf8 bytes × Q e) → option_map view (result_ok r) ≡ text_said bytes
-text_read view Q bytes (Ok s) some m = ap (λ (t : List ℕ). Some t) m.0 ∙ sym (text_some bytes some m.1)
-text_read view Q bytes (Err e) some m = sym (text_other bytes m.0)
+unfolding text_said
+text_read view Q [] r some m = absurd (some refl)
+text_read view Q (b ∷ bytes) (Ok s) some m = rw (is_utf8-from_IsUtf8 (b ∷ bytes) m.1) (ap (λ (t : List ℕ). Some t) m.0)
+text_read view Q (b ∷ bytes) (Err e) some m = rw (false_from_ne_true _ (λ t. m.0 (IsUtf8-from_is_utf8 (b ∷ bytes) t))) refl
 
 -- ---- what is found in lines
 

@@ -16,7 +16,7 @@ use Rattle.gr_places.specs.declared.spot.Spot.TheVariants as spots
 use Rattle.gr_places.specs.Spots.{behind_header, spot}
 
 -- if memory sufficed, an error is what the bytes mean
-pub is_error : {Y : Type 0} (e : RecordError) (meaning : Result Y RecordError) → e ≢ errors.Memory → Fails e meaning → meaning ≡ Err e
+is_error : {Y : Type 0} (e : RecordError) (meaning : Result Y RecordError) → e ≢ errors.Memory → Fails e meaning → meaning ≡ Err e
 is_error errors.Memory meaning some h = absurd (some refl)
 is_error e meaning some h = h
 
@@ -67,8 +67,8 @@ module _ (bytes : List ℕ) where
             rw (le-ltb (length bytes) HEADER_LENGTH long, own_bytes long) (refused_by (header_at bytes) e r)
       ]
 
-  pub nothing_read : (error e : RecordError) → front_header_at bytes ≡ Err e → spots.Header ≡ spot error bytes
-  nothing_read error e is = rw (header_refused e is).0 refl
+  pub nothing_read : (error e : RecordError) → e ≢ errors.Memory → Fails e (front_header_at bytes) → spots.Header ≡ spot error bytes
+  nothing_read error e some fails = rw (header_refused e (is_error e _ some fails)).0 refl
 
   pub header_stops : (e : RecordError) → front_header_at bytes ≡ Err e → last_answer (reading MOST_RECORDS bytes).stop ≡ Err e
   header_stops e is = (header_refused e is).1

@@ -67,27 +67,12 @@ module _ {T E : Type 0} (remaining : T → Option (List ℕ)) (Gives : List ℕ 
     pub say : Say remaining sides said
     pub shown : Holds (all_known (map remaining files)) said
 
-  -- the files are open, and this line of the places is the first that is out of form
-  pub record IsPlacesFault (line : ℕ) : Type 0 where
+  -- the files are open, and this holds of the side files
+  pub record HoldsOfSides (Holds : Pair T → Type 0) : Type 0 where
     pub sides : Pair T
     pub files : List T
     pub opened : AreAllOpened Gives named names sides files
-    pub first : IfSome (known_of remaining sides.places) (λ bytes. places_in bytes ≡ Err line)
-
-  -- the places are in form, and this line of the buffers is the first that is not
-  pub record IsBuffersFault (line : ℕ) : Type 0 where
-    pub sides : Pair T
-    pub files : List T
-    pub opened : AreAllOpened Gives named names sides files
-    pub places : IfSome (known_of remaining sides.places) (λ bytes. (said : List _) × (places_in bytes ≡ Ok said))
-    pub first : IfSome (known_of remaining sides.buffers) (λ bytes. buffers_in bytes ≡ Err line)
-
-  -- the files are open, and a side file can't be read, or there is no memory
-  pub record IsReadingFault (f : Fault) : Type 0 where
-    pub sides : Pair T
-    pub files : List T
-    pub opened : AreAllOpened Gives named names sides files
-    pub outside : IsOutside f
+    pub holds : Holds sides
 
   -- the side files are in form, but the streams are not a launch, or the writer failed
   pub record IsStreamsFault (f : Fault) : Type 0 where
@@ -98,8 +83,11 @@ module _ {T E : Type 0} (remaining : T → Option (List ℕ)) (Gives : List ℕ 
     pub say : Say remaining sides said
     pub fault : IfSome (all_known (map remaining files)) (λ inputs. IsShowFault inputs f)
 
-  -- why there is no answer: a file can't be opened; a side file can't be read, or is out of form; the streams are not a launch; or the writer failed
+  -- why there is no answer: a file can't be opened, a side file can't be read, the streams are not a launch, the writer failed, or there is no
+  -- memory; this line of the places is the first that is out of form; or the places are in form, and this is the first line of the buffers
+  -- that is not
   abbrev pub IsSidesFault : SidesFault → Type 0
-  IsSidesFault (Run f) = IsOpeningFault Gives (all_names named names) f ⊎ IsReadingFault f ⊎ IsStreamsFault f
-  IsSidesFault (Places line) = IsPlacesFault line
-  IsSidesFault (Buffers line) = IsBuffersFault line
+  IsSidesFault (Run f) = IsOpeningFault Gives (all_names named names) f ⊎ HoldsOfSides (λ sides. IsOutside f) ⊎ IsStreamsFault f
+  IsSidesFault (Places line) = HoldsOfSides (λ sides. IfSome (known_of remaining sides.places) (λ bytes. places_in bytes ≡ Err line))
+  IsSidesFault (Buffers line) =
+      HoldsOfSides (λ sides. IfSome (known_of remaining sides.places) (λ bytes. (said : List _) × (places_in bytes ≡ Ok said)) × IfSome (known_of remaining sides.buffers) (λ bytes. buffers_in bytes ≡ Err line))

@@ -26,7 +26,7 @@ place_said (places.Beside stream file other) = beside stream (option_map (λ s. 
 place_said (places.Missing group other) = missing group (option_map (λ s. s.now) other)
 place_said places.Nothing = nothing
 
--- what a fault is about, where the inputs come from files of these names
+-- what a fault is about, if the inputs come from files of these names
 abbrev pub place_of : List (List ℕ) → List (List ℕ) → Fault → PlaceSaid
 place_of names inputs (faults.Stream place e) = in_stream place (slice_get names place) (option_map (spot e) (slice_get inputs place))
 place_of names inputs (faults.SameGroup place) = beside place (slice_get names place) (first_like names inputs place)

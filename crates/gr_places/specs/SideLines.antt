@@ -5,7 +5,6 @@ use Rattle.std.specs.List.{find, position_from}
 use Rattle.std.specs.Option.{is_some, option_and_then, option_map}
 use Rattle.std.specs.Str.{is_utf8}
 use Rattle.gr_text.specs.LineReading.{◌>>=◌, first_of, number_of, same, short_of}
-use Rattle.gr_model.specs.declared.event.EventId.{EventId}
 use Rattle.gr_model.specs.declared.event.Word.{Word}
 use Rattle.gr_model.specs.declared.event.Word.TheVariants.{Global, Local}
 use Rattle.gr_text.specs.Lines.{lines_of}
@@ -82,12 +81,9 @@ place_line_said line =
 abbrev pub places_in : List ℕ → Result (List PlaceSaid) ℕ
 places_in text = said_from place_line_said 1 (lines_of text)
 
-abbrev pub same_event : EventId → EventId → Bool
-same_event e f = (e.at.group == f.at.group) && (e.at.item == f.at.item) && (e.index == f.index)
-
 -- the same event, or the same site
 abbrev pub same_placed : Placed → Placed → Bool
-same_placed (Event e) (Event f) = same_event e f
+same_placed (Event e) (Event f) = (e.at.group == f.at.group) && (e.at.item == f.at.item) && (e.index == f.index)
 same_placed (Site s) (Site t) = s == t
 same_placed (Event e) (Site t) = false
 same_placed (Site s) (Event f) = false
@@ -123,10 +119,6 @@ words_said bytes =
     number_of first.0 >>= λ f. number_of words.0 >>= λ n. words.1 >>= λ c. text_said c >>= λ t.
     Some (f, n, t)
 
--- a buffer in global memory, by the bytes after g
-unfoldable pub global_said : List ℕ → Option BufferSaid
-global_said bytes = words_said bytes >>= λ x. Some (record { first = Global x.0; words = x.1; name = x.2 })
-
 -- a buffer in local memory, by the bytes after l
 unfoldable pub local_said : List ℕ → Option BufferSaid
 local_said bytes =
@@ -136,7 +128,7 @@ local_said bytes =
 unfoldable pub buffer_line_said : List ℕ → Option BufferSaid
 buffer_line_said line =
     let space = first_of line in space.1 >>= λ bytes.
-    (if same space.0 (codes "g") then global_said bytes
+    (if same space.0 (codes "g") then (words_said bytes >>= λ x. Some (record { first = Global x.0; words = x.1; name = x.2 }))
     else if same space.0 (codes "l") then local_said bytes
     else None)
 

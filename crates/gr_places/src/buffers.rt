@@ -6,10 +6,8 @@ ghost use Rattle.std.specs.Option.{is_some, option_map};
 ghost use Rattle.gr_places.specs.SideLines as spec;
 
 use crate::fault::SideFault;
-use crate::lines::keep;
-use crate::words::parse_text;
+use crate::lines::{SideLine, parse_text, read_lines};
 use gr_model::event::Word;
-use gr_text::lines::split_line;
 use gr_text::words::{is_word, parse_number, parse_short, split_word};
 use std::alloc::Allocator;
 
@@ -69,16 +67,6 @@ fn parse_words(bytes: &[u8]) -> Option<(u32, u32, &str)>
     Some((first, words, name))
 }
 
-/// A buffer in global memory, by the bytes of its line after the memory.
-#[tactic(auto, unfolding(crate::specs::SideLines::global_said))]
-fn parse_global(bytes: &[u8]) -> Option<BufferLine<'_>>
-    ensures { option_map spec.buffer_line result ≡ spec.global_said bytes.now }
-{
-    let (first, words, name) = parse_words(bytes)?;
-    let first = Word::Global(first);
-    Some(BufferLine { first, words, name })
-}
-
 /// A buffer in a group's local memory, by the bytes of its line after the memory.
 #[tactic(auto, unfolding(crate::specs::SideLines::local_said))]
 fn parse_local(bytes: &[u8]) -> Option<BufferLine<'_>>
@@ -91,19 +79,28 @@ fn parse_local(bytes: &[u8]) -> Option<BufferLine<'_>>
     Some(BufferLine { first, words, name })
 }
 
-/// What a line says, without its line feed, or `None` if it does not have the form of a line of buffers.
-#[tactic(auto, unfolding(crate::specs::SideLines::buffer_line_said))]
-fn parse_line(line: &[u8]) -> Option<BufferLine<'_>>
-    ensures { option_map spec.buffer_line result ≡ spec.buffer_line_said line.now }
-{
-    let (space, rest) = split_word(line);
-    let bytes = rest?;
-    if is_word(space, "g") {
-        parse_global(bytes)
-    } else if is_word(space, "l") {
-        parse_local(bytes)
-    } else {
-        None
+impl<'a> SideLine<'a> for BufferLine<'a> {
+    ghost use Rattle.gr_places.specs.SideLines.{BufferSaid, buffer_line, buffer_line_said};
+
+    ghost Said = { BufferSaid };
+
+    ghost said = { buffer_line };
+
+    ghost said_in = { buffer_line_said };
+
+    #[tactic(auto, unfolding(crate::specs::SideLines::buffer_line_said))]
+    fn parse(line: &'a [u8]) -> Option<BufferLine<'a>> {
+        let (space, rest) = split_word(line);
+        let bytes = rest?;
+        if is_word(space, "g") {
+            let (first, words, name) = parse_words(bytes)?;
+            let first = Word::Global(first);
+            Some(BufferLine { first, words, name })
+        } else if is_word(space, "l") {
+            parse_local(bytes)
+        } else {
+            None
+        }
     }
 }
 
@@ -117,19 +114,7 @@ pub fn read_buffers<A: Allocator>(
 ) -> Result<Vec<BufferLine<'_>, A>, SideFault>
     ensures { spec.Answers (λ lines. map spec.buffer_line lines.items) result (spec.buffers_in text.now) }
 {
-    let mut lines = Vec::new(alloc);
-    let mut number: u64 = 0;
-    let mut rest = text;
-    while !rest.is_empty() {
-        number += 1;
-        let (line, after) = split_line(rest);
-        let Some(said) = parse_line(line) else {
-            return Err(SideFault::BadLine(number));
-        };
-        keep(&mut lines, said)?;
-        rest = after;
-    }
-    Ok(lines)
+    read_lines(alloc, text)
 }
 
 /// The first line that has a word.

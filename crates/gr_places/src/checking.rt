@@ -1,6 +1,6 @@
 //! Whether inputs are the streams of a launch.
 
-ghost use Rattle.std.specs.Prelude.{◌≡◌, IfErr, IfOk, IsFalse, IsTrue, map};
+ghost use Rattle.std.specs.Prelude.{◌≡◌, IfErr, IfOk, map};
 ghost use Rattle.gr_record.specs.InputFaults.{IsOutside};
 ghost use Rattle.gr_model.specs.Streams.{AreAccepted};
 ghost use Rattle.gr_record.specs.Faults.{IsOfValues};
@@ -14,14 +14,6 @@ use gr_record::fault::Fault;
 use gr_replay::each::read_only_streams;
 use gr_replay::launch::traces_of;
 use std::alloc::Allocator;
-
-/// Whether a fault is one of reading or of memory, which no bytes determine.
-fn is_outside(fault: Fault) -> bool
-    ensures outside { IsTrue result → IsOutside fault }
-    ensures inside { IsFalse result → ¬ IsOutside fault }
-{
-    matches!(fault, Fault::Memory | Fault::Read)
-}
 
 /// The launch whose streams these inputs are, one each.
 ///
@@ -51,10 +43,7 @@ impl Checked<'_> {
     pub fn is_accepted(&self) -> bool
         ensures { result ≡ is_accepted (checked_said self.now) }
     {
-        match self {
-            Checked::Accepted(_) => true,
-            Checked::Refused { fault: _, place: _ } => false,
-        }
+        matches!(self, Checked::Accepted(_))
     }
 }
 
@@ -69,10 +58,8 @@ pub(crate) fn check<'a, A: Allocator + Copy>(
 {
     match launch_of(alloc, inputs) {
         Ok(traces) => Ok(Checked::Accepted(counts_of(&traces))),
+        Err(fault) if matches!(fault, Fault::Memory | Fault::Read) => Err(fault),
         Err(fault) => {
-            if is_outside(fault) {
-                return Err(fault);
-            }
             let place = place_of(names, inputs, fault);
             Ok(Checked::Refused { fault, place })
         }

@@ -46,11 +46,8 @@ fn is_of_kind(wanted: RecordKind, kind: Kind) -> bool
         Kind::Load(_, _) => wanted == RecordKind::Load,
         Kind::Store(_, _) => wanted == RecordKind::Store,
         Kind::Rmw(_, _) => wanted == RecordKind::Rmw,
-        Kind::Barrier {
-            global: _,
-            local: _,
-        } => wanted == RecordKind::Barrier,
-        Kind::End { cut: _ } => wanted == RecordKind::End,
+        Kind::Barrier { .. } => wanted == RecordKind::Barrier,
+        Kind::End { .. } => wanted == RecordKind::End,
     }
 }
 
@@ -64,6 +61,7 @@ fn count_in(wanted: RecordKind, list: &[Event]) -> usize
 }
 
 /// How many records of this kind a launch has.
+#[tactic(auto, using(crate::proofs::CountLemmas::not_more, std::proofs::lemmas::List::Sums::sum_by_more))]
 fn count_of<A: Allocator>(wanted: RecordKind, traces: &Traces<A>) -> u64
     ensures { result ≡ count_of wanted traces.now }
 {

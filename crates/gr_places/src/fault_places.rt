@@ -39,10 +39,7 @@ pub enum FaultPlace<'a> {
 fn spot_in<A: Allocator>(inputs: &[Vec<u8, A>], place: u64, error: RecordError) -> Option<Spot>
     ensures { result ≡ option_map (spot error) (slice_get (inputs_of inputs.now) place) }
 {
-    match inputs.get(place as usize) {
-        None => None,
-        Some(input) => Some(spot_of(error, input.as_slice())),
-    }
+    Some(spot_of(error, inputs.get(place as usize)?.as_slice()))
 }
 
 /// What this fault is about. The inputs come from files of these names.

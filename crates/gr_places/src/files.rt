@@ -1,6 +1,6 @@
 //! Opening and reading side files.
 
-ghost use Rattle.std.specs.Prelude.{◌≡◌, ◌<◌, ◌++◌, false, IfErr, IfOk, IfSome, IsOk, IsTrue, OnOk, length, map};
+ghost use Rattle.std.specs.Prelude.{◌≡◌, ◌<◌, ◌++◌, false, IfErr, IfOk, IfSome, IsOk, IsTrue, length, map};
 ghost use Rattle.std.specs.Fn.{FnReturnsAt};
 ghost use Rattle.std.specs.Option.{is_some};
 ghost use Rattle.gr_record.specs.InputFaults.{IsOutside};
@@ -39,19 +39,6 @@ pub struct Opened<T: Drop, A: Allocator> {
     pub streams: Vec<T, A>,
 }
 
-/// Adds a name, if there is one.
-fn keep_name<'a, A: Allocator>(
-    names: &mut Vec<&'a str, A>,
-    name: Option<&'a str>,
-) -> Result<(), Memory>
-    ensures { OnOk result (names.new.items ≡ names.old.items ++ spec.listed name.entry) }
-{
-    if let Some(name) = name {
-        names.push(name)?;
-    }
-    Ok(())
-}
-
 /// All names, in the order in which the files are opened: places, buffers, streams.
 fn all_names<'a, A: Allocator>(
     alloc: A,
@@ -61,8 +48,8 @@ fn all_names<'a, A: Allocator>(
     ensures { IfOk result (λ all. map (λ s. s.now) all.items ≡ spec.all_names (spec.side_names sides.now) (map (λ s. s.now) names.now)) }
 {
     let mut all = Vec::new(alloc);
-    keep_name(&mut all, sides.places)?;
-    keep_name(&mut all, sides.buffers)?;
+    all.extend_from_slice(sides.places.as_slice())?;
+    all.extend_from_slice(sides.buffers.as_slice())?;
     all.extend_from_slice(names)?;
     Ok(all)
 }

@@ -71,6 +71,7 @@ impl<'a, A: Allocator> PlaceIndex<'a, A> {
 
     /// The number of the place of an event or a site, or `None` if no line has it: how many lines come before the first line
     /// with the same text.
+    #[tactic(auto, unfolding(gr_text::specs::LineReading::same))]
     pub fn number_of(&self, placed: Placed) -> Option<usize>
         ensures { result ≡ spec.number_at self.now placed }
     {

@@ -22,4 +22,3 @@ pub mod places;
 pub mod sides;
 pub mod sides_fault;
 pub mod spot;
-mod words;

@@ -41,6 +41,7 @@ fn word_at(line: &BufferLine<'_>, index: u32) -> Option<Word>
 }
 
 /// Whether there is a word of a buffer, with this name and this index.
+#[tactic(auto, unfolding(gr_text::specs::LineReading::same))]
 fn is_element(found: Option<Element<'_>>, name: &str, index: u32) -> bool
     ensures { result ≡ spec.is_same found.entry name.now index }
 {

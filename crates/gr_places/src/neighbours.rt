@@ -12,10 +12,8 @@ use std::alloc::Allocator;
 fn group_of(bytes: &[u8]) -> Option<u16>
     ensures { result ≡ group_at bytes.now }
 {
-    match read_front_header(bytes) {
-        Ok((header, _)) => Some(header.group),
-        Err(_) => None,
-    }
+    let (header, _) = read_front_header(bytes).ok()?;
+    Some(header.group)
 }
 
 /// Whether there is a group, and it is from `least` to `most`.

@@ -5,10 +5,8 @@ ghost use Rattle.std.specs.Option.{option_map};
 ghost use Rattle.gr_places.specs.SideLines as spec;
 
 use crate::fault::SideFault;
-use crate::lines::keep;
-use crate::words::{is_digit_first, parse_text};
+use crate::lines::{SideLine, is_digit_first, parse_text, read_lines};
 use gr_model::event::{EventId, ItemId};
-use gr_text::lines::split_line;
 use gr_text::words::{parse_number, parse_short, split_word};
 use std::alloc::Allocator;
 
@@ -68,17 +66,24 @@ fn parse_site<'a>(site: &[u8], bytes: &'a [u8]) -> Option<PlaceLine<'a>>
     Some(PlaceLine { of, text })
 }
 
-/// What a line says, without its line feed, or `None` if it does not have the form of a line of places.
-#[tactic(auto, unfolding(crate::specs::SideLines::place_line_said))]
-fn parse_line(line: &[u8]) -> Option<PlaceLine<'_>>
-    ensures { option_map spec.place_line result ≡ spec.place_line_said line.now }
-{
-    let (first, rest) = split_word(line);
-    let bytes = rest?;
-    if is_digit_first(bytes) {
-        parse_event(first, bytes)
-    } else {
-        parse_site(first, bytes)
+impl<'a> SideLine<'a> for PlaceLine<'a> {
+    ghost use Rattle.gr_places.specs.SideLines.{PlaceSaid, place_line, place_line_said};
+
+    ghost Said = { PlaceSaid };
+
+    ghost said = { place_line };
+
+    ghost said_in = { place_line_said };
+
+    #[tactic(auto, unfolding(crate::specs::SideLines::place_line_said))]
+    fn parse(line: &'a [u8]) -> Option<PlaceLine<'a>> {
+        let (first, rest) = split_word(line);
+        let bytes = rest?;
+        if is_digit_first(bytes) {
+            parse_event(first, bytes)
+        } else {
+            parse_site(first, bytes)
+        }
     }
 }
 
@@ -89,17 +94,5 @@ fn parse_line(line: &[u8]) -> Option<PlaceLine<'_>>
 pub fn read_places<A: Allocator>(alloc: A, text: &[u8]) -> Result<Vec<PlaceLine<'_>, A>, SideFault>
     ensures { spec.Answers (λ lines. map spec.place_line lines.items) result (spec.places_in text.now) }
 {
-    let mut lines = Vec::new(alloc);
-    let mut number: u64 = 0;
-    let mut rest = text;
-    while !rest.is_empty() {
-        number += 1;
-        let (line, after) = split_line(rest);
-        let Some(said) = parse_line(line) else {
-            return Err(SideFault::BadLine(number));
-        };
-        keep(&mut lines, said)?;
-        rest = after;
-    }
-    Ok(lines)
+    read_lines(alloc, text)
 }

@@ -61,6 +61,7 @@ fn behind_header(error: RecordError, number: u64, byte: u64) -> Spot
 
 /// Where this fault is in a stream of these bytes: at the header, if it can't be read; else at the first record that is not
 /// accepted, or after the end.
+#[tactic(auto, using(crate::proofs::SpotLemmas::nothing_read, crate::proofs::SpotLemmas::records_read, crate::proofs::SpotLemmas::rest_is_short))]
 pub(crate) fn spot_of(error: RecordError, bytes: &[u8]) -> Spot
     ensures { result ≡ spot error bytes.now }
 {

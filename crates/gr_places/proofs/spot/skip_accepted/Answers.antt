@@ -1,5 +1,4 @@
 use Rattle.std.proofs.Common.{◌≡◌, sym, ◌∙◌, take, Ok, Err, arith, rules, length-drop}
-use Rattle.gr_model.specs.declared.limits.TheConstants.{MOST_RECORDS}
 use Rattle.gr_record.specs.Reading.{event_at}
 use Rattle.gr_record.specs.Versions.{record_length}
 use Rattle.gr_places.proofs.FrontLemmas.{ended, goes_on, none_left, refused, stops_short}
@@ -7,29 +6,29 @@ use Rattle.gr_places.proofs.spot.skip_accepted.Goals as goal
 
 pub returns-then-rest-size : goal.returns-then-rest-size
 returns-then-rest-size c =
-    let at = stops_short (record_length c.args.header.version) (event_at c.args.header) c.loop-number.invariant.0 c.loop-number.number MOST_RECORDS c.loop-number.rest.now _ c.loop-number.invariant.1 c.loop-number.invariant.2 (rw c.record_length-size.ensures.length at c.if-rest-size.true) in
-    record { number = at.number; rest = at.rest; few = search rules }
+    let at = stops_short _ _ _ _ _ _ c.loop-number.invariant.whole (rw c.record_length-size.ensures.length at c.if-rest-size.true) in
+    record { number = omega (arith, at.number); rest = at.rest_is; few = search rules }
 
 pub returns-in-Err : goal.returns-in-Err
 returns-in-Err c =
     let h : event_at c.args.header (take (record_length c.args.header.version) c.loop-number.rest.now) ≡ Err c.in-Err.field-0 = rw (← c.record_length-size.ensures.length, ← c.split_at.ensures.front) (sym c.in-Err.ensures) in
-    let at = refused (record_length c.args.header.version) (event_at c.args.header) c.loop-number.invariant.0 c.loop-number.number MOST_RECORDS c.loop-number.rest.now _ c.loop-number.invariant.1 c.loop-number.invariant.2 c.loop-number-test.true (rw c.record_length-size.ensures.length at c.if-rest-size.false) _ h in
-    record { number = at.number; rest = at.rest; few = search rules }
+    let at = refused _ _ _ _ _ _ c.loop-number.invariant.whole c.loop-number-test.true (rw c.record_length-size.ensures.length at c.if-rest-size.false) _ h in
+    record { number = omega (arith, at.number); rest = at.rest_is; few = search rules }
 
 pub returns-then-is_end : goal.returns-then-is_end
 returns-then-is_end c =
     let h : event_at c.args.header (take (record_length c.args.header.version) c.loop-number.rest.now) ≡ Ok c.in-Ok.event = rw (← c.record_length-size.ensures.length, ← c.split_at.ensures.front) (sym c.in-Ok.ensures) in
-    let at = ended (record_length c.args.header.version) (event_at c.args.header) c.loop-number.invariant.0 c.loop-number.number MOST_RECORDS c.loop-number.rest.now _ c.loop-number.invariant.1 c.loop-number.invariant.2 c.loop-number-test.true (rw c.record_length-size.ensures.length at c.if-rest-size.false) _ h (sym c.is_end.ensures ∙ c.if-is_end.true) in
-    record { number = at.number; rest = rw (c.split_at.ensures.back, c.record_length-size.ensures.length) at.rest; few = search rules }
+    let at = ended _ _ _ _ _ _ c.loop-number.invariant.whole c.loop-number-test.true (rw c.record_length-size.ensures.length at c.if-rest-size.false) _ h (sym c.is_end.ensures ∙ c.if-is_end.true) in
+    record { number = omega (arith, at.number); rest = rw (c.split_at.ensures.back, c.record_length-size.ensures.length) at.rest_is; few = search rules }
 
 pub loop-number-preserved : goal.loop-number-preserved
 loop-number-preserved c =
     let h : event_at c.args.header (take (record_length c.args.header.version) c.loop-number.rest.now) ≡ Ok c.in-Ok.event = rw (← c.record_length-size.ensures.length, ← c.split_at.ensures.front) (sym c.in-Ok.ensures) in
-    let on = goes_on (record_length c.args.header.version) (event_at c.args.header) c.loop-number.invariant.0 c.loop-number.number MOST_RECORDS c.loop-number.rest.now _ c.loop-number.invariant.1 c.loop-number.invariant.2 c.loop-number-test.true (rw c.record_length-size.ensures.length at c.if-rest-size.false) _ h (sym c.is_end.ensures ∙ c.if-is_end.false) in
+    let on = goes_on _ _ _ _ _ _ c.loop-number.invariant.whole c.loop-number-test.true (rw c.record_length-size.ensures.length at c.if-rest-size.false) _ h (sym c.is_end.ensures ∙ c.if-is_end.false) in
     rw (c.split_at.ensures.back, c.record_length-size.ensures.length)
-    (on.0, on.1, on.2, omega (arith, length-drop (record_length c.args.header.version) c.loop-number.rest.now, c.loop-number.invariant.3))
+    (record { whole = on; few = omega (arith, length-drop (record_length c.args.header.version) c.loop-number.rest.now, c.loop-number.invariant.few) })
 
 pub returns : goal.returns
 returns c =
-    let at = none_left (record_length c.args.header.version) (event_at c.args.header) c.loop-number.invariant.0 c.loop-number.number MOST_RECORDS c.loop-number.rest.now _ c.loop-number.invariant.1 c.loop-number.invariant.2 c.loop-number-test.false in
-    record { number = omega (arith, at.number, c.loop-number-test.false, c.loop-number.auto.number-end); rest = at.rest; few = search rules }
+    let at = none_left _ _ _ _ _ _ c.loop-number.invariant.whole c.loop-number-test.false in
+    record { number = omega (arith, at.number, c.loop-number-test.false, c.loop-number.auto.number-end); rest = at.rest_is; few = search rules }

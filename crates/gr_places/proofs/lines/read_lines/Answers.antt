@@ -1,7 +1,7 @@
 use Rattle.std.proofs.Common.{eqb-true, sym, ◌∙◌}
 use Rattle.gr_text.proofs.Splitting.{no_line}
 use Rattle.gr_places.proofs.Reading.{joined_all}
-use Rattle.gr_places.proofs.places.read_places.Goals as goal
+use Rattle.gr_places.proofs.lines.read_lines.Goals as goal
 
 pub returns : goal.returns
 returns g c =
