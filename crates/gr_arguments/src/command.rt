@@ -442,35 +442,22 @@ fn arg_of<'a>(alloc: Global, parameter: Parameter) -> Arg<'a>
     }
 }
 
-/// The command, with these parameters too.
-fn with_parameters<'a>(
-    alloc: Global,
-    mut command: Command<'a>,
-    parameters: &[Parameter],
-) -> Result<Command<'a>, AllocError>
-    requires alone { (fields_of command).has_globals ≡ false }
-    ensures app { IfOk result (λ c. app_of c ≡ with_rules (app_of command.entry) parameters.now) }
-    ensures alone { IfOk result (λ c. (fields_of c).has_globals ≡ false) }
-{
-    for parameter in parameters {
-        command = command.arg(arg_of(alloc, *parameter))?;
-    }
-    Ok(command)
-}
-
 /// The command of a page.
 fn command_of<'a>(alloc: Global, page: &Page) -> Result<Command<'a>, AllocError>
     ensures shape { IfOk result (λ c. shape_of c ≡ shape_for page.now) }
     ensures alone { IfOk result (λ c. (fields_of c).has_globals ≡ false) }
 {
-    let command = Command::new(alloc, page.name)
+    let mut command = Command::new(alloc, page.name)
         .override_usage(page.usage)
         .about(page.about)
         .after_help(page.example);
-    match page.long_about {
-        None => with_parameters(alloc, command, page.parameters),
-        Some(text) => with_parameters(alloc, command.long_about(text), page.parameters),
+    if let Some(text) = page.long_about {
+        command = command.long_about(text);
     }
+    for parameter in page.parameters {
+        command = command.arg(arg_of(alloc, *parameter))?;
+    }
+    Ok(command)
 }
 
 /// The program, with the commands of these pages too.

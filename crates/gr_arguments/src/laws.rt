@@ -3,6 +3,7 @@
 ghost use Rattle.gr_arguments.specs.Plain.{LongWordsAsk, NamesAsk, NoWordAsks, PlainWordsAsk, PlainWordsMisname, WordsAskOnce};
 
 /// Words ask for at most one thing.
+#[tactic(auto, using(crate::proofs::OneAsked::words_ask_once))]
 pub fn words_ask_for_one_thing()
     ensures { WordsAskOnce }
 {}

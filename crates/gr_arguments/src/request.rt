@@ -117,7 +117,7 @@ fn request_by<'a>(
 
 /// What the command that was parsed asks for with its values; a report if there is no command.
 fn request_in<'a>(alloc: Global, matches: &ArgMatches<'a>) -> Result<Request<'a>, AllocError>
-    ensures { IfOk result (λ r. IsAskedBy (name_met (subcommand_rows_of matches.now)) (values_met (subcommand_rows_of matches.now)) (asked_of r)) }
+    ensures { let met = subcommand_rows_of matches.now in IfOk result (λ r. IsAskedBy (name_met met) (values_met met) (asked_of r)) }
 {
     match matches.subcommand() {
         None => Ok(Request::Perform(Task::Replay { json: false })),

@@ -4,7 +4,8 @@ ghost use Rattle.std.specs.Prelude.{◌≡◌, IfOk, codes, map, option_map};
 ghost use Rattle.clap.specs.Walk.{Text, all_of, first_of, rows_of};
 ghost use Rattle.clap.specs.Words.{found_of};
 ghost use Rattle.gr_arguments.specs.Asked as asked;
-ghost use Rattle.gr_arguments.specs.Asked.{HasEvent, IsAskedBy, IsForm, IsNumberOr, IsSaid, IsSetUp, IsTheOne, NamesWord, asked_of, has_flag};
+ghost use Rattle.gr_arguments.specs.Asked.{HasEvent, IsAskedBy, IsForm, IsNumberOr, IsSaid, IsSetUp, IsTheOne, NamesWord};
+ghost use Rattle.gr_arguments.specs.Asked.{asked_of, has_flag};
 
 use crate::request::{Arguments, Misuse, Query, Request};
 use crate::words::{event_named, number_of, word_named};
@@ -80,13 +81,11 @@ pub(crate) fn races_of(values: &ArgMatches<'_>) -> Result<Query, Misuse>
     ensures { IsSaid (codes "races") (rows_of (found_of values.now)) result }
 {
     let causes = asks_for(values, "causes");
-    let Some(text) = value_of(values, "most") else {
-        return Ok(Query::Races { most: None, causes });
+    let most = match value_of(values, "most") {
+        None => None,
+        Some(text) => Some(number_of(text).ok_or(Misuse::NoCount)?),
     };
-    match number_of(text) {
-        None => Err(Misuse::NoCount),
-        most => Ok(Query::Races { most, causes }),
-    }
+    Ok(Query::Races { most, causes })
 }
 
 /// What the values of the command `history` ask.
@@ -101,10 +100,7 @@ pub(crate) fn history_of(values: &ArgMatches<'_>) -> Result<Query, Misuse>
 fn number_or(values: &ArgMatches<'_>, option: &str, default: u32) -> Option<u32>
     ensures { IsTheOne (IsNumberOr (rows_of (found_of values.now)) option.now default) result }
 {
-    match value_of(values, option) {
-        None => Some(default),
-        Some(text) => number_of(text),
-    }
+    value_of(values, option).map_or(Some(default), number_of)
 }
 
 /// How the values of the command `run` set up a run.
@@ -159,7 +155,8 @@ pub(crate) fn ask<'a>(
     said: Result<Query, Misuse>,
     values: &ArgMatches<'a>,
 ) -> Result<Request<'a>, AllocError>
-    ensures { (name : Text) → IsSaid name (rows_of (found_of values.now)) said → IfOk result (λ r. IsAskedBy name (rows_of (found_of values.now)) (asked_of r)) }
+    ensures { (name : Text) → IsSaid name (rows_of (found_of values.now)) said
+        → IfOk result (λ r. IsAskedBy name (rows_of (found_of values.now)) (asked_of r)) }
 {
     let query = match said {
         Ok(query) => query,

@@ -1,8 +1,0 @@
-use Rattle.std.proofs.Common.{◌≡◌, take, false}
-use Rattle.clap.specs.declared.builder.command.Command.TheViews.{out-Command as fields_of}
-use Rattle.clap.specs.Words.{app_of}
-use Rattle.gr_arguments.specs.Pages.{with_rules}
-use Rattle.gr_arguments.proofs.command.with_parameters.Given as goal
-
-abbrev pub invariant-loop-parameter : goal.invariant-loop-parameter
-invariant-loop-parameter l = (app_of l.command ≡ with_rules (app_of l.initial.command) (take l.parameter-index l.parameters)) × ((fields_of l.command).has_globals ≡ false)
