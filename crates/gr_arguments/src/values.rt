@@ -41,10 +41,7 @@ pub(crate) fn asks_for(values: &ArgMatches<'_>, flag: &str) -> bool
 fn files_of<'a>(alloc: Global, values: &ArgMatches<'a>) -> Result<Vec<&'a str>, AllocError>
     ensures { IfOk result (λ v. map (λ s. s.now) v.items ≡ asked.files_of (rows_of (found_of values.now))) }
 {
-    match values_of(values, "FILE") {
-        None => Ok(Vec::new(alloc)),
-        Some(files) => Vec::from_slice(alloc, files),
-    }
+    Vec::from_slice(alloc, values_of(values, "FILE").unwrap_or(&[]))
 }
 
 /// The word of memory that the values name, if they name one.

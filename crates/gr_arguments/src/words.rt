@@ -38,8 +38,7 @@ pub fn word_named(space: &str, number: &str) -> Option<Word>
     if space == "g" {
         return Some(Word::Global(number));
     }
-    let group = group_of(space)?;
-    Some(Word::Local(group, number))
+    Some(Word::Local(group_of(space)?, number))
 }
 
 /// The number below 2^16, in the same form.

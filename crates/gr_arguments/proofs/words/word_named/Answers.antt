@@ -8,7 +8,7 @@ unnamed : (space number : List ℕ) → (space ≡ codes "g" → ⊥) → ((g : 
 unnamed space number no_global no_group (Global n) named = no_global named.0
 unnamed space number no_global no_group (Local g n) named = no_group g named.0
 
-pub returns-in_err-group : goal.returns-in_err-group
-returns-in_err-group c =
+pub returns-in_err-group_of : goal.returns-in_err-group_of
+returns-in_err-group_of c =
     let no_global : c.args.space.now ≡ codes "g" → ⊥ = λ e. let yes : c.eq.result ≡ true = rw e at c.eq.ensures in absurd cc in
-    rw c.from_residual-in_err-group.ensures (unnamed c.args.space.now c.args.number.now no_global c.in_err-group.ensures)
+    rw c.from_residual-in_err-group_of.ensures (unnamed c.args.space.now c.args.number.now no_global c.in_err-group_of.ensures)
