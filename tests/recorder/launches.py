@@ -431,6 +431,13 @@ divergent barrier, number 1 of group 0, and 1 more alike
     some work-items never reach it
 """)
 
+    def test_a_read_and_a_write_of_one_line(self):
+        """Between the two there is room for a barrier once the line is two; between two writes of one line that is no matter."""
+        split = "; since both are at one line, read into a private variable before it and write after it"
+        for steps, more in (("0 r g 5\n1 w g 5\n", split), ("0 w g 5\n1 w g 5\n", "")):
+            launch = self.judged([f"group 0 items 2 launch 7\n{steps}end\n"], {"places": "0 0 0 a.cl:4:20\n0 1 0 a.cl:4:9\n"})
+            self.assertEqual([it.message for it in launch.findings], [GLOBAL + more])
+
     def test_the_last_barrier_before_both(self):
         """In the second round of a loop item 0 writes what item 1 has read in the first one: there is a barrier in the text between the two lines."""
         streams = ["group 0 items 2 launch 7\n0 w g 5\n0 bar 3 g\n1 bar 3 g\n1 r g 5\n0 w g 5\nend\n"]

@@ -18,6 +18,7 @@ ADVICE = {"int": WHOLE, "uint": WHOLE, "long": LONG, "ulong": LONG, "float": REA
 UNKNOWN = "use an atomic (of an int, such as atomic_inc or atomic_add; of a float, a loop of atomic_cmpxchg)"
 OWN = {"read": "load (in OpenCL 1.2 an atomic_or with 0)", "write": "store (in OpenCL 1.2 an atomic_xchg)"}
 ONE_WRITE = "both items write it at this place: let one of them do so, or give each a word of its own; a barrier would order only rounds of a loop"
+SPLIT = "; since both are at one line, read into a private variable before it and write after it"
 HAND_OVER = "nothing orders the two; a release that an acquire takes would"  # in one group
 OLD = re.compile(r"\batom(?:ic)?_(?:add|sub|xchg|inc|dec|cmpxchg|min|max|and|or|xor)\b")  # an atomic of OpenCL 1.x
 RELAXED = "atomics of OpenCL 1.x are relaxed, and those of OpenCL C 2.0 that end in _explicit take an order"
@@ -57,6 +58,7 @@ class Pair(NamedTuple):
     store: Optional[At] = None  # an atomic of a word after the one access, and one of the same word before the other
     load: Optional[At] = None
     are_one_write: bool = False  # both are the same write of the text, with the same calls that lead there
+    are_at_one_line: bool = False  # with the same calls that lead there
     is_locked: bool = False     # there are such atomics in both directions, as of a lock
     kind: str = ""              # the type of the word, where the kernel's text says it
 
@@ -114,9 +116,10 @@ def of_nothing(said: str, pair: Pair) -> str:
         return f"{said}; or make each item's read and write of the word one atomic operation"
     if pair.is_one_group and pair.are_one_write:
         return ONE_WRITE
-    if pair.before and not weak:
-        return f"{said}; the last barrier before both is at {pair.before}"
-    return said if weak else ""
+    is_split = pair.is_one_group and pair.are_at_one_line and pair.first.what != pair.second.what
+    more = SPLIT if is_split and not weak else ""
+    more += f"; the last barrier before both is at {pair.before}" if pair.before and not weak else ""
+    return said + more if more or weak else ""
 
 
 def of_groups(said: str, pair: Pair) -> str:

@@ -71,11 +71,16 @@ class Pairs:
         barriers, before = ([], "") if not said["one_group"] else (self.barriers_between(first, second), self.barrier_before(first, second))
         return causes.Pair(said["space"], said["one_group"], one, other, barriers, before, release, acquire,
                            self.is_update(first) and self.is_update(second), self.is_line_of_updates(first, second, accesses[0].text),
-                           store, load, are_one_write=self.are_one_write(*accesses), is_locked=all(meetings))
+                           store, load, are_one_write=self.are_one_write(*accesses), are_at_one_line=self.are_at_one_line(*accesses),
+                           is_locked=all(meetings))
 
     @staticmethod
     def are_one_write(first: Access, second: Access) -> bool:
         return first.what == second.what == "write" and first.place != "" and (first.place, first.calls) == (second.place, second.calls)
+
+    @staticmethod
+    def are_at_one_line(first: Access, second: Access) -> bool:
+        return line_of(first.place) != "" and (line_of(first.place), first.calls) == (line_of(second.place), second.calls)
 
     def is_update(self, event: Dict[str, Any]) -> bool:
         """Whether the event is one of a plain read of a word and the write to it that the item does next."""
