@@ -1,10 +1,10 @@
 //! A check of files as JSON.
 
-use crate::sentences::{right, wrong};
 use crate::values::{Made, Text, line_of, text_value};
 use gr_places::checking::Checked;
 use gr_places::counts::Counts;
 use gr_places::fault_places::FaultPlace;
+use gr_places::sentences::{right, wrong};
 use gr_places::spot::Spot;
 use serde_json::{Value, json};
 use std::alloc::Global;

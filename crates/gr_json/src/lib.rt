@@ -6,9 +6,7 @@
 pub mod check;
 pub mod held;
 pub mod history;
-pub mod names;
 pub mod race;
 pub mod races;
 pub mod report;
-pub mod sentences;
 mod values;

@@ -1,7 +1,6 @@
 //! The least racing pair of a word as JSON, alone or with what its accesses are, what is between them, the cause of their race, and
 //! what side files say.
 
-use crate::names::{cause_name, operation_name};
 use crate::values::{
     Made, Text, array_of, buffer_value, details_value, event_value, line_of, or_null, text_value,
     word_value,
@@ -13,6 +12,7 @@ use gr_places::sides::Sides;
 use gr_races::account::Account;
 use gr_races::between::{Between, Crossing};
 use gr_races::kinds::{KindedRace, Operation};
+use gr_races::names::{cause_name, operation_name};
 use serde_json::json;
 use std::alloc::Global;
 

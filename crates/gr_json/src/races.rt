@@ -1,6 +1,5 @@
 //! The races of a launch kind by kind as JSON.
 
-use crate::names::{cause_name, cause_sentence, operation_name, space_name};
 use crate::report::divergence_value;
 use crate::values::{
     Made, Text, array_of, buffer_value, or_null, push_object, push_objects, text_value, word_value,
@@ -13,6 +12,7 @@ use gr_places::sides::Sides;
 use gr_races::by_kind::RacesByKind;
 use gr_races::cause::Cause;
 use gr_races::listing::KindEntry;
+use gr_races::names::{cause_name, cause_sentence, operation_name, space_name};
 use serde_json::json;
 use std::alloc::Global;
 

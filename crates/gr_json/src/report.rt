@@ -1,9 +1,9 @@
 //! The report of a launch as JSON: a line for how large the launch is, a line for each finding, and the end.
 
-use crate::names::{acquire_name, divergence_name};
 use crate::values::{Made, Text, event_value, push_object, push_objects, word_value};
 use gr_model::memory::Memory;
 use gr_model::report::Divergence;
+use gr_races::names::{acquire_name, divergence_name};
 use gr_report::report::Report;
 use serde_json::json;
 use std::alloc::{Allocator, Global};

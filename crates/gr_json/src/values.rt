@@ -1,12 +1,12 @@
 //! The parts of answers, and lines of them, as JSON.
 
-use crate::names::{atomic_of, kind_name, order_name, scope_name};
 use gr_model::event::{EventId, Kind, Word};
 use gr_model::memory::Memory;
 use gr_places::buffers::element_of;
 use gr_places::index::PlaceIndex;
 use gr_places::places::Placed;
 use gr_places::sides::Sides;
+use gr_races::names::{atomic_of, kind_name, order_name, scope_name};
 use gr_timeline::details::Details;
 use serde_json::{Map, Value, json, put};
 use std::alloc::{AllocError, Global};

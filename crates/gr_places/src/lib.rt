@@ -19,6 +19,7 @@ pub mod naming;
 mod neighbours;
 pub mod opening;
 pub mod places;
+pub mod sentences;
 pub mod sides;
 pub mod sides_fault;
 pub mod spot;

@@ -14,6 +14,7 @@ pub mod causes;
 pub mod kinds;
 pub mod laws;
 pub mod listing;
+pub mod names;
 mod parting;
 mod place_tags;
 pub mod relaxing;

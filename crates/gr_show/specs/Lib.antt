@@ -1,4 +1,3 @@
 pub mod Told
 pub mod Rendering
-pub mod Explanations
 pub mod Shown

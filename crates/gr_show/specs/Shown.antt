@@ -22,7 +22,7 @@ use Rattle.gr_races.specs.Listing.{Entry, entry_of}
 use Rattle.gr_races.specs.Shown.{AreListedRaces}
 use Rattle.gr_timeline.specs.declared.word_history.HistoryAnswer.{HistoryAnswer}
 use Rattle.gr_timeline.specs.Histories.{IsHistory, Line, lines_of}
-use Rattle.gr_show.specs.Explanations.{explanation_line}
+use Rattle.gr_plain.specs.Explanations.{explanation_line}
 
 -- the least racing pair of the word, or none exactly where the word is not racy
 abbrev pub IsExplanation : Streams → Word → Option Pair → Type 0

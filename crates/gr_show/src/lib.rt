@@ -1,20 +1,13 @@
-//! From the files of a launch to the text that answers a question about it: one frame for every question, the questions, and their
-//! texts.
+//! From the files of a launch to the text that answers a question about it: one frame for every question, and the questions.
 //!
-//! A contract says that an answer is right. Its text is a rendering: nothing is proved about it, except for the line of `explain`.
-//! docs/OUTPUT.md, from "explain" on, describes the texts.
+//! A contract says that an answer is right. Its text is a rendering, in plain text or JSON: nothing is proved about it, except for the
+//! line of `explain`.
 #![tactic(auto)]
 
-mod account_text;
-pub mod check_text;
-mod event_text;
 pub mod files;
-mod history_text;
 pub mod question;
 pub mod questions;
-mod races_text;
 mod streams;
-mod why_text;
 pub mod writing;
 
 pub use files::tell_files;

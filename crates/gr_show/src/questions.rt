@@ -1,21 +1,15 @@
 //! The questions.
 
-ghost use Rattle.std.specs.Prelude.{◌≡◌, IfOk, option_map};
+ghost use Rattle.std.specs.Prelude.{option_map};
 ghost use Rattle.gr_places.specs.SideLines.{place_number};
 ghost use Rattle.gr_races.specs.Accounts.{IsAccountOf, account_said};
 ghost use Rattle.gr_races.specs.Shown.{HasRace};
 ghost use Rattle.gr_timeline.specs.Racy.{IsRacyIn};
 ghost use Rattle.gr_timeline.specs.Why.{IsWhy, answer_of};
-ghost use Rattle.gr_show.specs.Explanations.{explanation_line};
 ghost use Rattle.gr_show.specs.Rendering.{Renders};
 ghost use Rattle.gr_show.specs.Shown.{AreRaces, IsExplanation, IsHeldIn, IsLine, IsToldOf, history_said, races_said};
 
-use crate::account_text::account_text;
-use crate::event_text::{EventText, WordText};
-use crate::history_text::history_text;
 use crate::question::{JsonQuestion, OrMemory, Question, Text};
-use crate::races_text::races_text;
-use crate::why_text::why_text;
 use gr_explain::explain::explain;
 use gr_json::held::why_json;
 use gr_json::history::history_json;
@@ -24,6 +18,10 @@ use gr_json::races::races_json;
 use gr_model::event::{EventId, Word};
 use gr_model::traces::Traces;
 use gr_places::sides::Sides;
+use gr_plain::held::why_text;
+use gr_plain::history::history_text;
+use gr_plain::race::{account_text, race_text};
+use gr_plain::races::races_text;
 use gr_races::account::{Account, account_of};
 use gr_races::by_kind::{RacesByKind, races_by_kind};
 use gr_timeline::why::{WhyHeld, why_held};
@@ -58,21 +56,6 @@ pub struct Races {
     pub causes: bool,
 }
 
-/// The line of a word and its least racing pair, or that it has none.
-fn line_of<A: Allocator>(alloc: A, word: Word, pair: Option<Pair>) -> Text<A>
-    ensures { IfOk result (λ text. text.items ≡ explanation_line word pair) }
-{
-    let word = WordText(word);
-    let text = match pair {
-        None => format!(in alloc; "no race {word}\n"),
-        Some((first, second)) => {
-            let (first, second) = (EventText(first), EventText(second));
-            format!(in alloc; "race {word}: {first} with {second}\n")
-        }
-    };
-    Ok(text?.into_bytes())
-}
-
 impl<A: Allocator + Copy> Question<A> for LeastRace {
     type Answer = Option<Pair>;
 
@@ -91,7 +74,7 @@ impl<A: Allocator + Copy> Question<A> for LeastRace {
     }
 
     fn text(&self, alloc: A, pair: &Option<Pair>, _: &Sides<'_>) -> Text<A> {
-        line_of(alloc, self.0, *pair)
+        race_text(alloc, self.0, *pair)
     }
 }
 

@@ -2,4 +2,4 @@ use Rattle.std.proofs.lemmas.Result.{IfOk-weaker}
 use Rattle.gr_show.proofs.questions.LeastRaceQuestion.text.Goals as goal
 
 pub returns : goal.returns
-returns g c = IfOk-weaker c.line_of.result _ _ (λ text is launch least. record { pair = c.args.pair.now; least = least; is = is }) c.line_of.ensures
+returns g c = IfOk-weaker c.race_text.result _ _ (λ text is launch least. record { pair = c.args.pair.now; least = least; is = is }) c.race_text.ensures

@@ -1,6 +1,6 @@
 //! The text of the history of a word.
 
-use crate::event_text::{Added, AtText, EventText, ToldText, put_buffer};
+use crate::parts::{Added, AtText, DetailsText, EventText, put_buffer};
 use gr_model::class::class_of;
 use gr_model::event::Word;
 use gr_model::memory::Memory;
@@ -44,7 +44,7 @@ fn put_access<A: Allocator + Copy>(
     entry: &Entry<A>,
     details: &Details,
 ) -> Result<(), Memory> {
-    write!(text, " {}", ToldText(*details))?;
+    write!(text, " {}", DetailsText(*details))?;
     if let Some(class) = class_of(&details.kind) {
         let standing = above.add(alloc, entry, class)?;
         put_standing(text, &standing)?;
@@ -53,7 +53,10 @@ fn put_access<A: Allocator + Copy>(
 }
 
 /// The text of the history of a word, with what side files say.
-pub(crate) fn history_text<A: Allocator + Copy>(
+///
+/// # Errors
+/// `Memory`: out of memory.
+pub fn history_text<A: Allocator + Copy>(
     alloc: A,
     sides: &Sides<'_>,
     word: Word,

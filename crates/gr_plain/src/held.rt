@@ -1,8 +1,8 @@
 //! The text of why an event is held.
 
-use crate::event_text::{Added, EventText};
-use crate::question::Text;
+use crate::parts::{Added, EventText};
 use gr_model::event::{EventId, Name};
+use gr_model::memory::Memory;
 use gr_timeline::reason::{Link, Reason};
 use gr_timeline::why::WhyHeld;
 use std::alloc::Allocator;
@@ -25,7 +25,14 @@ fn put_link<A: Allocator>(text: &mut String<A>, link: &Link) -> Added {
 }
 
 /// The text of why an event is held, or that it is not.
-pub(crate) fn why_text<A: Allocator>(alloc: A, event: EventId, why: &WhyHeld<A>) -> Text<A> {
+///
+/// # Errors
+/// `Memory`: out of memory.
+pub fn why_text<A: Allocator>(
+    alloc: A,
+    event: EventId,
+    why: &WhyHeld<A>,
+) -> Result<Vec<u8, A>, Memory> {
     let mut text = String::new(alloc);
     match why {
         WhyHeld::NoRecord => writeln!(text, "no record {}", EventText(event))?,

@@ -1,10 +1,10 @@
 //! The text of a check.
 
-use gr_json::sentences::{right, wrong};
 use gr_model::memory::Memory;
 use gr_places::checking::Checked;
 use gr_places::counts::Counts;
 use gr_places::fault_places::FaultPlace;
+use gr_places::sentences::{right, wrong};
 use gr_places::spot::Spot;
 use gr_record::fault::Fault;
 use gr_report::put_fault;

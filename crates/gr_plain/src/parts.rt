@@ -1,13 +1,13 @@
 //! Words, events, places and the details of an access, as text.
 
 ghost use Rattle.std.specs.Prelude.{Some};
-ghost use Rattle.gr_show.specs.Explanations.{event_text, word_text};
+ghost use Rattle.gr_plain.specs.Explanations.{event_text, word_text};
 
-use gr_json::names::{atomic_of, cause_name, cause_sentence, kind_name, order_name, scope_name};
 use gr_model::event::{EventId, Word};
 use gr_places::buffers::element_of;
 use gr_places::sides::Sides;
 use gr_races::cause::Cause;
+use gr_races::names::{atomic_of, cause_name, cause_sentence, kind_name, order_name, scope_name};
 use gr_timeline::details::Details;
 use std::alloc::{AllocError, Allocator};
 use std::fmt::{self, Display, Formatter};
@@ -58,9 +58,9 @@ impl Display for AtText<'_> {
 
 /// The details of an access.
 #[derive(Clone, Copy)]
-pub(crate) struct ToldText(pub(crate) Details);
+pub(crate) struct DetailsText(pub(crate) Details);
 
-impl Display for ToldText {
+impl Display for DetailsText {
     fn fmt<W: fmt::Write>(&self, f: &mut Formatter<W>) -> fmt::Result {
         let details = self.0;
         write!(f, "{}", kind_name(details.kind))?;

@@ -1,9 +1,9 @@
 //! The words in texts and JSON for the parts of answers.
 
+use crate::cause::Cause;
+use crate::kinds::Operation;
 use gr_model::event::{Kind, Order, Scope, Space, Word};
 use gr_model::report::{AcquireCause, DivergenceCause};
-use gr_races::cause::Cause;
-use gr_races::kinds::Operation;
 
 /// The name of a memory.
 pub fn space_name(space: Space) -> &'static str {
@@ -75,7 +75,7 @@ pub fn divergence_name(cause: DivergenceCause) -> &'static str {
 }
 
 /// The name of why an acquire is unmatched.
-pub(crate) fn acquire_name(cause: AcquireCause) -> &'static str {
+pub fn acquire_name(cause: AcquireCause) -> &'static str {
     match cause {
         AcquireCause::Absent => "absent",
         AcquireCause::OtherWord => "otherword",

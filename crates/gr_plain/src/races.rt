@@ -1,7 +1,6 @@
 //! The text of races, kind by kind.
 
-use crate::event_text::{Added, WordText, put_cause, put_race};
-use gr_json::names::{divergence_name, operation_name, space_name};
+use crate::parts::{Added, WordText, put_cause, put_race};
 use gr_model::memory::Memory;
 use gr_places::index::PlaceIndex;
 use gr_places::places::Placed;
@@ -9,6 +8,7 @@ use gr_places::sides::Sides;
 use gr_races::by_kind::RacesByKind;
 use gr_races::kinds::RaceKind;
 use gr_races::listing::KindEntry;
+use gr_races::names::{divergence_name, operation_name, space_name};
 use gr_races::runs::number_of;
 use std::alloc::Allocator;
 
@@ -85,7 +85,10 @@ fn put_end<A: Allocator>(text: &mut String<A>, found: &RacesByKind<A>) -> Added 
 
 /// The text of the divergent barriers of a launch, its races kind by kind, at most `most` kinds, with what side files say about them,
 /// and an end that counts all of them.
-pub(crate) fn races_text<A: Allocator + Copy>(
+///
+/// # Errors
+/// `Memory`: out of memory.
+pub fn races_text<A: Allocator + Copy>(
     alloc: A,
     sides: &Sides<'_>,
     found: &RacesByKind<A>,

@@ -1,7 +1,10 @@
-//! The text of the long form of `explain`, with what side files say.
+//! The text of the least racing pair of a word, alone or with what its accesses are, what is between them, the cause of their race, and
+//! what side files say.
 
-use crate::event_text::{Added, AtText, EventText, ToldText, WordText, put_cause, put_race};
-use gr_json::names::operation_name;
+ghost use Rattle.std.specs.Prelude.{◌≡◌, IfOk};
+ghost use Rattle.gr_plain.specs.Explanations.{explanation_line};
+
+use crate::parts::{Added, AtText, DetailsText, EventText, WordText, put_cause, put_race};
 use gr_model::event::{EventId, Word};
 use gr_model::memory::Memory;
 use gr_places::index::PlaceIndex;
@@ -10,6 +13,7 @@ use gr_places::sides::Sides;
 use gr_races::account::Account;
 use gr_races::between::{Crossing, DetailedEvent};
 use gr_races::kinds::{KindedRace, Operation};
+use gr_races::names::operation_name;
 use gr_timeline::details::Details;
 use std::alloc::Allocator;
 
@@ -33,7 +37,7 @@ impl<A: Allocator> PlacedText<'_, A> {
     /// Adds a label, the details of an access, and where it is in the source.
     fn put_details(&mut self, label: &str, event: EventId, details: &Details) -> Added {
         let at = AtText(self.places.place_of(Placed::Event(event)));
-        writeln!(self.text, "{label} {}{at}", ToldText(*details))
+        writeln!(self.text, "{label} {}{at}", DetailsText(*details))
     }
 
     fn put_crossings(&mut self, crossings: &[Crossing]) -> Added {
@@ -72,9 +76,34 @@ impl<A: Allocator> PlacedText<'_, A> {
     }
 }
 
+/// The line of a word and its racing pair, or that it has none.
+///
+/// # Errors
+/// `Memory`: out of memory.
+pub fn race_text<A: Allocator>(
+    alloc: A,
+    word: Word,
+    pair: Option<(EventId, EventId)>,
+) -> Result<Vec<u8, A>, Memory>
+    ensures { IfOk result (λ text. text.items ≡ explanation_line word pair) }
+{
+    let word = WordText(word);
+    let text = match pair {
+        None => format!(in alloc; "no race {word}\n"),
+        Some((first, second)) => {
+            let (first, second) = (EventText(first), EventText(second));
+            format!(in alloc; "race {word}: {first} with {second}\n")
+        }
+    };
+    Ok(text?.into_bytes())
+}
+
 /// The text of a word and its least racing pair: what the two accesses are, what is between them, the cause of their race and the
 /// word's other races, with what side files say; or that the word has no race.
-pub(crate) fn account_text<A: Allocator + Copy>(
+///
+/// # Errors
+/// `Memory`: out of memory.
+pub fn account_text<A: Allocator + Copy>(
     alloc: A,
     sides: &Sides<'_>,
     word: Word,
