@@ -46,7 +46,7 @@ fn link_value(alloc: Global, link: &Link) -> Made {
 /// # Errors
 /// `Memory`: out of memory.
 pub fn why_json<A: Allocator>(alloc: Global, event: EventId, why: &WhyHeld<A>) -> Text {
-    let told = match why {
+    let line = match why {
         WhyHeld::NoRecord => "no record",
         WhyHeld::Judged => "judged",
         WhyHeld::Held(links) => {
@@ -57,6 +57,6 @@ pub fn why_json<A: Allocator>(alloc: Global, event: EventId, why: &WhyHeld<A>) -
     };
     line_of(
         alloc,
-        json!(in alloc; {"event": event_value(alloc, event)?, "type": told}),
+        json!(in alloc; {"event": event_value(alloc, event)?, "type": line}),
     )
 }

@@ -56,12 +56,12 @@ fn entry_value(
 }
 
 /// The word, its buffer, how many accesses there are, how many others are held, and whether some of them race.
-fn end_value(alloc: Global, sides: &Sides<'_>, word: Word, told: &HistoryAnswer) -> Made {
+fn end_value(alloc: Global, sides: &Sides<'_>, word: Word, history: &HistoryAnswer) -> Made {
     json!(in alloc; {
-        "accesses": told.entries.len(),
+        "accesses": history.entries.len(),
         "buffer": buffer_value(alloc, sides, word)?,
-        "held": told.held,
-        "races": told.racy,
+        "held": history.held,
+        "races": history.racy,
         "type": "end",
         "word": word_value(alloc, word)?
     })
@@ -71,14 +71,14 @@ fn end_value(alloc: Global, sides: &Sides<'_>, word: Word, told: &HistoryAnswer)
 ///
 /// # Errors
 /// `Memory`: out of memory.
-pub fn history_json(alloc: Global, sides: &Sides<'_>, word: Word, told: &HistoryAnswer) -> Text {
+pub fn history_json(alloc: Global, sides: &Sides<'_>, word: Word, history: &HistoryAnswer) -> Text {
     let places = PlaceIndex::of(alloc, sides.places)?;
     let mut above = Above::new(alloc);
     let mut text = Vec::new(alloc);
-    for entry in &told.entries {
-        let access = entry_value(alloc, &places, &mut above, &told.known, entry)?;
+    for entry in &history.entries {
+        let access = entry_value(alloc, &places, &mut above, &history.known, entry)?;
         push_object(&mut text, Ok(access))?;
     }
-    push_object(&mut text, end_value(alloc, sides, word, told))?;
+    push_object(&mut text, end_value(alloc, sides, word, history))?;
     Ok(text)
 }

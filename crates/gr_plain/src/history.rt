@@ -60,25 +60,28 @@ pub fn history_text<A: Allocator + Copy>(
     alloc: A,
     sides: &Sides<'_>,
     word: Word,
-    told: &HistoryAnswer<A>,
+    history: &HistoryAnswer<A>,
 ) -> Result<Vec<u8, A>, Memory> {
     let places = PlaceIndex::of(alloc, sides.places)?;
     let mut above = Above::new(alloc);
     let mut text = String::new(alloc);
     put_buffer(&mut text, sides, word)?;
-    for entry in &told.entries {
+    for entry in &history.entries {
         write!(text, "access {}", EventText(entry.event))?;
-        if let Some(details) = told.known.get(&entry.event) {
+        if let Some(details) = history.known.get(&entry.event) {
             put_access(alloc, &mut text, &mut above, entry, details)?;
         }
         let at = AtText(places.place_of(Placed::Event(entry.event)));
         writeln!(text, "{at}")?;
     }
-    let (accesses, races) = (told.entries.len(), if told.racy { "yes" } else { "no" });
+    let (accesses, races) = (
+        history.entries.len(),
+        if history.racy { "yes" } else { "no" },
+    );
     writeln!(
         text,
         "end accesses {accesses} held {} races {races}",
-        told.held
+        history.held
     )?;
     Ok(text.into_bytes())
 }

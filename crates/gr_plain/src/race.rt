@@ -116,13 +116,13 @@ pub fn account_text<A: Allocator + Copy>(
     };
     put_race(&mut text, sides, word, (account.first, account.second))?;
     let places = PlaceIndex::of(alloc, sides.places)?;
-    let mut told = PlacedText { text, places };
-    told.put_details("first", account.first, &account.first_details)?;
-    told.put_details("second", account.second, &account.second_details)?;
-    told.put_crossings(account.between.crossings.as_slice())?;
-    told.put_half("release behind first", account.between.release)?;
-    told.put_half("acquire before second", account.between.acquire)?;
-    put_cause(&mut told.text, word, account.cause)?;
-    told.put_others(&account.others)?;
-    Ok(told.text.into_bytes())
+    let mut placed = PlacedText { text, places };
+    placed.put_details("first", account.first, &account.first_details)?;
+    placed.put_details("second", account.second, &account.second_details)?;
+    placed.put_crossings(account.between.crossings.as_slice())?;
+    placed.put_half("release behind first", account.between.release)?;
+    placed.put_half("acquire before second", account.between.acquire)?;
+    put_cause(&mut placed.text, word, account.cause)?;
+    placed.put_others(&account.others)?;
+    Ok(placed.text.into_bytes())
 }

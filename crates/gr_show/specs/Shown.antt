@@ -67,7 +67,7 @@ abbrev pub history_said : {Z : Type 0} → HistoryAnswer Z → HistorySaid
 history_said t = record { known = t.known.entries; lines = lines_of t.entries.items; held = t.held; racy = t.racy }
 
 -- the history of a word of a launch
-pub record IsToldOf (s : Streams) (w : Word) (h : HistorySaid) : Type 0 where
+pub record IsHistoryOf (s : Streams) (w : Word) (h : HistorySaid) : Type 0 where
   pub known : AreAccesses s w h.known
   pub history : IsHistory s w h.lines
   pub held : IsHeldCount s w h.held

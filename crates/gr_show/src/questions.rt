@@ -7,7 +7,7 @@ ghost use Rattle.gr_races.specs.Shown.{HasRace};
 ghost use Rattle.gr_timeline.specs.Racy.{IsRacyIn};
 ghost use Rattle.gr_timeline.specs.Why.{IsWhy, answer_of};
 ghost use Rattle.gr_show.specs.Rendering.{Renders};
-ghost use Rattle.gr_show.specs.Shown.{AreRaces, IsExplanation, IsHeldIn, IsLine, IsToldOf, history_said, races_said};
+ghost use Rattle.gr_show.specs.Shown.{AreRaces, IsExplanation, IsHeldIn, IsLine, IsHistoryOf, history_said, races_said};
 
 use crate::question::{JsonQuestion, OrMemory, Question, Text};
 use gr_explain::explain::explain;
@@ -124,30 +124,30 @@ impl JsonQuestion for LongRace {
 impl<A: Allocator + Copy> Question<A> for WordHistory {
     type Answer = HistoryAnswer<A>;
 
-    ghost is_answer = { λ q said launch told. IsToldOf launch q.0 (history_said told) };
+    ghost is_answer = { λ q said launch history. IsHistoryOf launch q.0 (history_said history) };
 
     ghost is_found = { λ q. IsRacyIn q.0 };
 
-    ghost is_text = { λ q said launch. Renders (IsToldOf launch q.0) };
+    ghost is_text = { λ q said launch. Renders (IsHistoryOf launch q.0) };
 
     fn answer(&self, alloc: A, launch: &Traces<A>, _: &Sides<'_>) -> OrMemory<HistoryAnswer<A>> {
         word_history_of(alloc, launch, self.0)
     }
 
-    fn found(&self, told: &HistoryAnswer<A>) -> bool {
-        told.racy
+    fn found(&self, history: &HistoryAnswer<A>) -> bool {
+        history.racy
     }
 
-    fn text(&self, alloc: A, told: &HistoryAnswer<A>, sides: &Sides<'_>) -> Text<A> {
-        history_text(alloc, sides, self.0, told)
+    fn text(&self, alloc: A, history: &HistoryAnswer<A>, sides: &Sides<'_>) -> Text<A> {
+        history_text(alloc, sides, self.0, history)
     }
 }
 
 impl JsonQuestion for WordHistory {
-    ghost is_json = { λ q said launch. Renders (IsToldOf launch q.0) };
+    ghost is_json = { λ q said launch. Renders (IsHistoryOf launch q.0) };
 
-    fn json(&self, alloc: Global, told: &HistoryAnswer, sides: &Sides<'_>) -> Text {
-        history_json(alloc, sides, self.0, told)
+    fn json(&self, alloc: Global, history: &HistoryAnswer, sides: &Sides<'_>) -> Text {
+        history_json(alloc, sides, self.0, history)
     }
 }
 
