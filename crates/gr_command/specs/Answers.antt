@@ -33,7 +33,7 @@ use Rattle.gr_places.specs.Sides.{SidesSaid}
 use Rattle.gr_places.specs.Files.{HoldsOfFiles, IsOpeningFault}
 use Rattle.gr_show.specs.Told.{IsShown, ShowsPrefix}
 use Rattle.gr_show.specs.Rendering.{Renders}
-use Rattle.gr_show.specs.Shown.{AreRaces, IsExplanation, IsHeldIn, IsLine, IsToldOf}
+use Rattle.gr_show.specs.Shown.{AreRaces, IsExplanation, IsHeldIn, IsLine, IsHistoryOf}
 use Rattle.gr_report.specs.Putting.{AppendsPrefix}
 use Rattle.gr_streams.specs.Streams.{IsRunFault}
 use Rattle.gr_command.specs.declared.status.TheConstants.{NOTHING, USAGE, WANTING}
@@ -168,7 +168,7 @@ module _ {T X : Type 0} (remaining : T → Option (List ℕ)) (Gives : List ℕ 
     IsAnswerTo (Explain false w) = IsAnswered (in_form a.json (λ said s. Renders (IsExplanation s w)) (λ said. IsLine w)) (IsRacyIn w)
     IsAnswerTo (Explain true w) = IsAnswered (in_both a.json (λ said s. Renders (IsAccountOf s (place_number said.places) w))) (IsRacyIn w)
     IsAnswerTo (Races most causes) = IsAnswered (in_both a.json (λ said s. Renders (AreRaces said causes s))) HasRace
-    IsAnswerTo (History w) = IsAnswered (in_both a.json (λ said s. Renders (IsToldOf s w))) (IsRacyIn w)
+    IsAnswerTo (History w) = IsAnswered (in_both a.json (λ said s. Renders (IsHistoryOf s w))) (IsRacyIn w)
     IsAnswerTo (query.Run config) = IsRunAnswer
     IsAnswerTo Check = IsCheckOutcome
     IsAnswerTo (WhyHeld e) = IsAnswered (in_both a.json (λ said s. Renders (IsWhy s e))) (IsHeldIn e)
