@@ -52,6 +52,31 @@ fn put_access<A: Allocator + Copy>(
     Ok(())
 }
 
+/// Adds the accesses of a history, each with where it is in the source.
+fn put_accesses<A: Allocator + Copy>(
+    alloc: A,
+    text: &mut String<A>,
+    places: &PlaceIndex<'_, A>,
+    above: &mut Above<A>,
+    history: &HistoryAnswer<A>,
+) -> Result<(), Memory> {
+    for entry in &history.entries {
+        write!(text, "access {}", EventText(entry.event))?;
+        if let Some(details) = history.known.get(&entry.event) {
+            put_access(alloc, text, above, entry, details)?;
+        }
+        let at = AtText(places.place_of(Placed::Event(entry.event)));
+        writeln!(text, "{at}")?;
+    }
+    Ok(())
+}
+
+fn put_end<A: Allocator>(text: &mut String<A>, history: &HistoryAnswer<A>) -> Added {
+    let (accesses, held) = (history.entries.len(), history.held);
+    let races = if history.racy { "yes" } else { "no" };
+    writeln!(text, "end accesses {accesses} held {held} races {races}")
+}
+
 /// The text of the history of a word, with what side files say.
 ///
 /// # Errors
@@ -66,22 +91,7 @@ pub fn history_text<A: Allocator + Copy>(
     let mut above = Above::new(alloc);
     let mut text = String::new(alloc);
     put_buffer(&mut text, sides, word)?;
-    for entry in &history.entries {
-        write!(text, "access {}", EventText(entry.event))?;
-        if let Some(details) = history.known.get(&entry.event) {
-            put_access(alloc, &mut text, &mut above, entry, details)?;
-        }
-        let at = AtText(places.place_of(Placed::Event(entry.event)));
-        writeln!(text, "{at}")?;
-    }
-    let (accesses, races) = (
-        history.entries.len(),
-        if history.racy { "yes" } else { "no" },
-    );
-    writeln!(
-        text,
-        "end accesses {accesses} held {} races {races}",
-        history.held
-    )?;
+    put_accesses(alloc, &mut text, &places, &mut above, history)?;
+    put_end(&mut text, history)?;
     Ok(text.into_bytes())
 }

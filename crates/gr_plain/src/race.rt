@@ -64,6 +64,17 @@ impl<A: Allocator> PlacedText<'_, A> {
         writeln!(self.text, "{label} {}{at}", operation_name(operation))
     }
 
+    /// Adds what the accesses of a word's racing pair are, what is between them, the cause, and the word's other races.
+    fn put_account(&mut self, word: Word, account: &Account<A>) -> Added {
+        self.put_details("first", account.first, &account.first_details)?;
+        self.put_details("second", account.second, &account.second_details)?;
+        self.put_crossings(account.between.crossings.as_slice())?;
+        self.put_half("release behind first", account.between.release)?;
+        self.put_half("acquire before second", account.between.acquire)?;
+        put_cause(&mut self.text, word, account.cause)?;
+        self.put_others(&account.others)
+    }
+
     /// Adds the other races of a word: the two accesses of each, what they do, and where they are in the source.
     fn put_others(&mut self, others: &[KindedRace]) -> Added {
         for KindedRace { kind, race } in others {
@@ -117,12 +128,6 @@ pub fn account_text<A: Allocator + Copy>(
     put_race(&mut text, sides, word, (account.first, account.second))?;
     let places = PlaceIndex::of(alloc, sides.places)?;
     let mut placed = PlacedText { text, places };
-    placed.put_details("first", account.first, &account.first_details)?;
-    placed.put_details("second", account.second, &account.second_details)?;
-    placed.put_crossings(account.between.crossings.as_slice())?;
-    placed.put_half("release behind first", account.between.release)?;
-    placed.put_half("acquire before second", account.between.acquire)?;
-    put_cause(&mut placed.text, word, account.cause)?;
-    placed.put_others(&account.others)?;
+    placed.put_account(word, account)?;
     Ok(placed.text.into_bytes())
 }

@@ -2,6 +2,7 @@
 
 use crate::parts::{Added, WordText, put_cause, put_race};
 use gr_model::memory::Memory;
+use gr_model::report::Divergence;
 use gr_places::index::PlaceIndex;
 use gr_places::places::Placed;
 use gr_places::sides::Sides;
@@ -75,6 +76,27 @@ fn put_entry<A: Allocator>(
     }
 }
 
+fn put_divergences<A: Allocator>(text: &mut String<A>, divergences: &[Divergence]) -> Added {
+    for divergence in divergences {
+        let (group, instance) = (divergence.group, divergence.instance);
+        let cause = divergence_name(divergence.cause);
+        writeln!(text, "diverge {group} {instance} {cause}")?;
+    }
+    Ok(())
+}
+
+fn put_entries<A: Allocator>(
+    text: &mut String<A>,
+    sides: &Sides<'_>,
+    places: &PlaceIndex<'_, A>,
+    entries: &[KindEntry<A>],
+) -> Added {
+    for entry in entries {
+        put_entry(text, sides, places, entry)?;
+    }
+    Ok(())
+}
+
 fn put_end<A: Allocator>(text: &mut String<A>, found: &RacesByKind<A>) -> Added {
     let (kinds, races, held) = (found.kinds.len(), found.races, found.report.held);
     let diverge = found.report.divergences.as_slice().len();
@@ -96,14 +118,8 @@ pub fn races_text<A: Allocator + Copy>(
 ) -> Result<Vec<u8, A>, Memory> {
     let places = PlaceIndex::of(alloc, sides.places)?;
     let mut text = String::new(alloc);
-    for divergence in found.report.divergences.as_slice() {
-        let (group, instance) = (divergence.group, divergence.instance);
-        let cause = divergence_name(divergence.cause);
-        writeln!(text, "diverge {group} {instance} {cause}")?;
-    }
-    for entry in found.at_most(most) {
-        put_entry(&mut text, sides, &places, entry)?;
-    }
+    put_divergences(&mut text, found.report.divergences.as_slice())?;
+    put_entries(&mut text, sides, &places, found.at_most(most))?;
     put_end(&mut text, found)?;
     Ok(text.into_bytes())
 }
