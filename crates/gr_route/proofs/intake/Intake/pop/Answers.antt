@@ -13,14 +13,8 @@ left_over g c = hands_left _ _ _ _ _ _ c.taker.invariant c.taker.view_is (ap (se
 pub invariant_of-taker : goal.invariant_of-taker
 invariant_of-taker g c = (left_over g c).is
 
-pub returns-in-Some-clause-some : goal.returns-in-Some-clause-some
-returns-in-Some-clause-some g c = (left_over g c).some
-
-pub returns-in-Some-clause-delivery : goal.returns-in-Some-clause-delivery
-returns-in-Some-clause-delivery g c = delivery _ _ _ (left_over g c).is
-
-pub returns-in-Some-clause-next : goal.returns-in-Some-clause-next
-returns-in-Some-clause-next g c = next _ _ (left_over g c).delivery
+pub returns-in-Some : goal.returns-in-Some
+returns-in-Some g c = let h = left_over g c in record { some = h.some; next = next _ _ h.delivery; unchanged = tt; empty = tt; delivery = delivery _ _ _ h.is }
 
 -- ---- nothing was left
 
@@ -38,11 +32,5 @@ first_of_batch g c =
 pub invariant_of-taker-2 : goal.invariant_of-taker-2
 invariant_of-taker-2 g c = (first_of_batch g c).is
 
-pub returns-clause-some : goal.returns-clause-some
-returns-clause-some g c = (first_of_batch g c).some
-
-pub returns-clause-delivery : goal.returns-clause-delivery
-returns-clause-delivery g c = delivery _ _ _ (first_of_batch g c).is
-
-pub returns-clause-next : goal.returns-clause-next
-returns-clause-next g c = next _ _ (first_of_batch g c).delivery
+pub returns : goal.returns
+returns g c = let h = first_of_batch g c in record { some = h.some; next = next _ _ h.delivery; unchanged = tt; empty = tt; delivery = delivery _ _ _ h.is }

@@ -16,11 +16,8 @@ left_over g c =
 pub invariant_of-taker : goal.invariant_of-taker
 invariant_of-taker g c = (left_over g c).is
 
-pub returns-in-Some-clause-some : goal.returns-in-Some-clause-some
-returns-in-Some-clause-some g c = (left_over g c).some
-
-pub returns-in-Some-clause-delivery : goal.returns-in-Some-clause-delivery
-returns-in-Some-clause-delivery g c = delivery _ _ _ (left_over g c).is
+pub returns-in-Some : goal.returns-in-Some
+returns-in-Some g c = let h = left_over g c in record { some = h.some; unchanged = tt; empty = tt; delivery = delivery _ _ _ h.is }
 
 -- ---- nothing was left
 

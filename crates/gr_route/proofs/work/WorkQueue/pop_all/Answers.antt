@@ -11,11 +11,8 @@ left_over g c = hands_left _ _ _ _ _ _ c.worker.invariant c.worker.view_is (grin
 pub invariant_of-worker : goal.invariant_of-worker
 invariant_of-worker g c = (left_over g c).is
 
-pub returns-in-Some-clause-some : goal.returns-in-Some-clause-some
-returns-in-Some-clause-some g c = (left_over g c).some
-
-pub returns-in-Some-clause-delivery : goal.returns-in-Some-clause-delivery
-returns-in-Some-clause-delivery g c = delivery _ _ _ (left_over g c).is
+pub returns-in-Some : goal.returns-in-Some
+returns-in-Some g c = let h = left_over g c in record { some = h.some; unchanged = tt; empty = tt; delivery = delivery _ _ _ h.is }
 
 -- ---- nothing was left
 
