@@ -1,12 +1,12 @@
 -- What a sender keeps over a push.
-use Rattle.std.proofs.Common.{◌≡◌, ℕ, ◌+◌, ◌<◌, Bool, List, [], ◌∷◌, ◌++◌, length, sym, ◌∙◌, subst, arith, length-append, IsFalse}
+use Rattle.std.proofs.Common.{◌≡◌, ℕ, ◌+◌, ◌<◌, Bool, [], ◌∷◌, ◌++◌, length, sym, ◌∙◌, subst, arith, length-append, IsFalse}
 use Rattle.gr_model.specs.declared.event.Event.{Event}
 use Rattle.gr_model.specs.Streams.{is_complete}
 use Rattle.gr_model.specs.Events.{is_end}
 use Rattle.gr_model.proofs.Sending.{is_complete-push}
 use Rattle.gr_route.specs.IntakeSeats.{Seat}
 use Rattle.gr_route.specs.Rooms.{Room}
-use Rattle.gr_threads.specs.Senders.{IsSender, MayPush, Sending}
+use Rattle.gr_threads.specs.Senders.{IsSender}
 
 pub after_push : (queue : Room) (seat seat' : Seat) (group items records sent : ℕ) (closed closed' : Bool) (e : Event) → IsSender queue seat group items records sent closed
     → closed' ≡ is_end e → (IsFalse (is_end e) → length seat.pushed + 1 < records) → seat' ≡ record seat { pushed = seat.pushed ++ e ∷ [] } → IsSender queue seat' group items records (sent + 1) closed'

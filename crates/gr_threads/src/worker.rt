@@ -2,7 +2,7 @@
 //!
 //! Invariant of its end: it popped `Stop`, and unless memory ran out, its shadows are those of all accesses that it popped.
 
-ghost use Rattle.std.specs.Prelude.{◌≡◌, ◌<◌, ◌++◌, ◌∷◌, [], true, false, IfOk, IfSome, List, MatchOption};
+ghost use Rattle.std.specs.Prelude.{◌≡◌, ◌<◌, ◌++◌, ◌∷◌, [], true, false, IfOk, IfSome, List, MatchOption, OnOk};
 ghost use Rattle.std.specs.Arc.{arc_value};
 ghost use Rattle.gr_clocks.specs.ClockedAccess.{ClockedAccess};
 ghost use Rattle.gr_model.specs.Reports.{Lists, WordBelow};
@@ -83,50 +83,42 @@ impl<A: Allocator> Worker<A> {
     }
 }
 
-/// Applies work to the shadows, unless memory ran out before. They are lost if it runs out now.
+/// Applies work to the shadows.
 fn shade<A: Allocator + Copy, W: Watch>(
-    shadows: Option<LaunchShadows<A>>,
+    shadows: &mut LaunchShadows<A>,
     number: u16,
     work: &Work<A>,
     watch: &Arc<W, A>,
-) -> Option<LaunchShadows<A>>
-    ensures { (accesses : List ClockedAccess) → IfSome shadows (StandsForLaunch accesses) → IfSome result (StandsForLaunch (accesses ++ accesses_in (work.now ∷ []))) }
+) -> Result<(), Memory>
+    ensures { (accesses : List ClockedAccess) → StandsForLaunch accesses shadows.old → OnOk result (StandsForLaunch (accesses ++ accesses_in (work.now ∷ [])) shadows.new) }
 {
     let Work::Access(access) = work else {
-        return shadows;
+        return Ok(());
     };
-    let mut shadows = shadows?;
     watch.at_access(number);
-    match shadows.apply(access) {
-        Ok(None) => Some(shadows),
-        Ok(Some(word)) => {
-            watch.at_race(number, &word);
-            Some(shadows)
-        }
-        Err(Memory) => None,
+    if let Some(word) = shadows.apply(access)? {
+        watch.at_race(number, &word);
     }
+    Ok(())
 }
 
 /// Applies all work of a batch.
 fn shade_all<A: Allocator + Copy, W: Watch>(
-    shadows: Option<LaunchShadows<A>>,
+    shadows: &mut LaunchShadows<A>,
     number: u16,
     batch: &Batch<Work<A>, A>,
     watch: &Arc<W, A>,
-) -> Option<LaunchShadows<A>>
-    ensures { (accesses : List ClockedAccess) → IfSome shadows (StandsForLaunch accesses) → IfSome result (StandsForLaunch (accesses ++ accesses_in batch.now)) }
+) -> Result<(), Memory>
+    ensures { (accesses : List ClockedAccess) → StandsForLaunch accesses shadows.old → OnOk result (StandsForLaunch (accesses ++ accesses_in batch.now) shadows.new) }
 {
-    let mut shadows = shadows;
     for place in 0..batch.len() {
-        match batch.get(place) {
-            Some(work) => shadows = shade(shadows, number, work, watch),
-            None => unreachable!(),
-        }
+        shade(shadows, number, batch.get(place).unwrap(), watch)?;
     }
-    shadows
+    Ok(())
 }
 
-/// Applies all work of a batch, and then drops the shadows of the local words of the groups that it reports as ended.
+/// Applies all work of a batch, unless memory ran out before. Then drops the shadows of the local words of the groups that it
+/// reports as ended. All shadows are lost if memory runs out now.
 fn shade_batch<A: Allocator + Copy, W: Watch>(
     shadows: Option<LaunchShadows<A>>,
     number: u16,
@@ -135,7 +127,10 @@ fn shade_batch<A: Allocator + Copy, W: Watch>(
 ) -> Option<LaunchShadows<A>>
     ensures { (accesses : List ClockedAccess) → IfSome shadows (StandsForLaunch accesses) → IfSome result (StandsForLaunch (accesses ++ accesses_in batch.now)) }
 {
-    let mut shadows = shade_all(shadows, number, batch, watch)?;
+    let mut shadows = shadows?;
+    if let Err(Memory) = shade_all(&mut shadows, number, batch, watch) {
+        return None;
+    }
     for group in batch.ended() {
         shadows.close(*group);
     }
@@ -204,9 +199,6 @@ impl<A: Allocator + Copy> WorkerEnd<A> {
             shadows,
         } = self;
         queue.join_back(&mut seat, giver);
-        match shadows {
-            None => Err(Memory),
-            Some(shadows) => shadows.racy(),
-        }
+        shadows.ok_or(Memory)?.racy()
     }
 }
