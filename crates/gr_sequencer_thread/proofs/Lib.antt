@@ -2,5 +2,4 @@ pub mod Changes
 pub mod WayLemmas
 pub mod TakeLemmas
 pub mod StepLemmas
-pub mod SameRuns
 pub mod BeginLemmas

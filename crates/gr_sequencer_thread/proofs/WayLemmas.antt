@@ -2,7 +2,6 @@
 use Rattle.std.proofs.Common.{◌≡◌, true≢false, List, [], ◌∷◌, ◌++◌, ◌||◌, Option, None, Some, sym, ap, ◌∙◌, append_assoc, append-nil, IsFalse}
 use Rattle.std.proofs.lemmas.Bool.{or_from, or_parts}
 use Rattle.gr_route.specs.declared.work.Work.{Work}
-use Rattle.gr_route.specs.Batches.{all_of}
 use Rattle.gr_route.specs.WorkRule.{StopsLast, is_stopped}
 use Rattle.gr_route.proofs.BatchLemmas.{all_of_push}
 use Rattle.gr_threads.proofs.Givens.{more_stops}
@@ -24,8 +23,8 @@ module _ {A : Type 0} where
   -- ---- work more is on its way
 
   pub way_more : (refused : Option (List (Work A))) (batches : List (List (Work A))) (waiting more : List (Work A)) → work_on_way refused batches (waiting ++ more) ≡ work_on_way refused batches waiting ++ more
-  way_more None batches waiting more = sym (append_assoc (all_of batches) waiting more)
-  way_more (Some b) batches waiting more = ap (λ l. b ++ l) (sym (append_assoc (all_of batches) waiting more)) ∙ sym (append_assoc b (all_of batches ++ waiting) more)
+  way_more None batches waiting more = simp append_assoc
+  way_more (Some b) batches waiting more = simp append_assoc
 
   -- what waited is a batch
   pub way_batched : (refused : Option (List (Work A))) (batches : List (List (Work A))) (b : List (Work A)) → work_on_way refused (batches ++ b ∷ []) [] ≡ work_on_way refused batches b

@@ -124,17 +124,8 @@ pub record IsFresh {A : Type 0} (config : Settings) (sizes : List ℕ) (takers :
   pub queues : length takers ≡ config.queues
   pub worker_count : length givers ≡ config.workers
   pub seated : AreSeated config sizes takers
-  pub popped : (q : ℕ) (d : Taker) → q < config.queues → (slice_index_or takers q d).popped ≡ []
-  pub pushed : (k : ℕ) (d : Giver A) → k < config.workers → (slice_index_or givers k d).pushed ≡ []
-
--- ---- how it goes on
-
--- the seats are of the same queues, and the configuration is as before
-pub record IsSameRun {A : Type 0} (old new : Feed A) : Type 0 where
-  pub config : new.config ≡ old.config
-  pub sizes : new.sizes ≡ old.sizes
-  pub intakes : intakes_of new.takers ≡ intakes_of old.takers
-  pub works : works_of new.givers ≡ works_of old.givers
+  pub popped : All (λ t. t.popped ≡ []) takers
+  pub pushed : All (λ g. g.pushed ≡ []) givers
 
 -- ---- where it ends
 

@@ -58,17 +58,12 @@ fn next_of<A: Allocator>(batch: &Option<Batch<Event, A>>, taken: &mut usize) -> 
     ensures some { IfSome result (λ event. left_of batch.now taken.old ≡ event ∷ left_of batch.now taken.new) }
     ensures none { IfNone result ((left_of batch.now taken.old ≡ []) × (taken.new ≡ taken.old)) }
 {
-    match batch {
-        None => None,
-        Some(events) if *taken >= events.len() => None,
-        Some(events) => match events.get(*taken) {
-            None => unreachable!(),
-            Some(event) => {
-                *taken += 1;
-                Some(*event)
-            }
-        },
-    }
+    let events = batch.as_ref()?;
+    // For the proof: a batch has no more events than a `usize` counts.
+    let _ = events.len();
+    let event = *events.get(*taken)?;
+    *taken += 1;
+    Some(event)
 }
 
 impl<A: Allocator> Backlog<A> {
@@ -105,17 +100,8 @@ impl<A: Allocator> Backlog<A> {
     {
         for _ in 0..self.emptied.len() {
             if let Some(list) = self.emptied.pop_front() {
-                inlet.give_back(rt, list);
+                inlet.queue.spares.put(rt, list);
             }
-        }
-    }
-}
-
-/// Keeps the list of a batch that was taken, if it has one, to be filled again.
-fn keep<A: Allocator>(emptied: &mut VecDeque<Vec<Event, A>, A>, batch: Option<Batch<Event, A>>) {
-    if let Some(events) = batch {
-        if let Some(list) = events.into_list() {
-            let _ = emptied.push_back(list);
         }
     }
 }
@@ -148,7 +134,9 @@ impl<A: Allocator> Source for Backlog<A> {
         }
         let next = self.later.pop_front();
         self.count = self.count.saturating_sub(count_of(&next));
-        keep(&mut self.emptied, mem::replace(&mut self.batch, next));
+        if let Some(list) = mem::replace(&mut self.batch, next).and_then(Batch::into_list) {
+            let _ = self.emptied.push_back(list);
+        }
         self.taken = 0;
         next_of(&self.batch, &mut self.taken)
     }

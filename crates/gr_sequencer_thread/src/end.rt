@@ -23,11 +23,11 @@ use std::marker::Model;
 /// and the report without its races, which is there unless memory ran out.
 #[derive(Drop)]
 pub struct SequencerEnd<A: Allocator = Global> {
-    config: Config,
-    shape: Shape<A>,
-    inlets: Vec<Inlet<A>, A>,
-    outlets: Vec<Outlet<A>, A>,
-    report: Option<Report<A>>,
+    pub(crate) config: Config,
+    pub(crate) shape: Shape<A>,
+    pub(crate) inlets: Vec<Inlet<A>, A>,
+    pub(crate) outlets: Vec<Outlet<A>, A>,
+    pub(crate) report: Option<Report<A>>,
 }
 
 impl<A: Allocator> Model for SequencerEnd<A> {
@@ -52,26 +52,6 @@ pub struct Parts<A: Allocator = Global> {
 }
 
 impl<A: Allocator> SequencerEnd<A> {
-    /// The end of a thread. Requires: memory ran out in it, or all was taken, handled and passed on.
-    pub(crate) fn of(
-        config: Config,
-        shape: Shape<A>,
-        inlets: Vec<Inlet<A>, A>,
-        outlets: Vec<Outlet<A>, A>,
-        report: Option<Report<A>>,
-    ) -> SequencerEnd<A>
-        requires { spec.IsEnd {A = A} (record { config = config; sizes = shape; takers = inlets.items; givers = outlets.items; report = option_map whole_of report }) }
-        ensures { result ≡ record { config = config; sizes = shape; takers = inlets.items; givers = outlets.items; report = option_map whole_of report } }
-    {
-        SequencerEnd {
-            config,
-            shape,
-            inlets,
-            outlets,
-            report,
-        }
-    }
-
     /// Its parts.
     pub fn into_parts(self) -> Parts<A>
         ensures parts { self ≡ record { config = self.config; sizes = self.sizes; takers = result.inlets.items; givers = result.outlets.items; report = option_map whole_of result.report } }

@@ -7,7 +7,7 @@
 ghost use Rattle.std.specs.Prelude.{◌≡◌, ◌<◌, [], All, false, IsTrue, length};
 ghost use Rattle.gr_order.specs.Sequences.{nothing};
 ghost use Rattle.gr_sequencer_thread.specs.Ends.{end_line, feed_line};
-ghost use Rattle.gr_sequencer_thread.specs.Feeds.{AreNoBacklogs, IsFresh, IsOver, IsSameRun, intakes_of, works_of};
+ghost use Rattle.gr_sequencer_thread.specs.Feeds.{AreNoBacklogs, IsFresh, IsOver, intakes_of, works_of};
 
 use crate::backlog::{Backlog, are_empty, note};
 use crate::end::{SequencerEnd, findings};
@@ -15,11 +15,9 @@ use crate::inlet::Inlet;
 use crate::on_way::{OnWay, Passing};
 use crate::outlet::{Outlet, stop_all};
 use gr_model::config::Config;
-use gr_model::event::Event;
 use gr_model::limits::FEW_GROUPS;
 use gr_model::memory::Memory;
 use gr_model::shape::Shape;
-use gr_route::batch::Batch;
 use gr_sequencer::sequencer::Sequencer;
 use gr_taking::rounds::take_round;
 use gr_threads::watch::Watch;
@@ -68,15 +66,6 @@ impl<A: Allocator> Model for Feed<A> {
     ghost invariant = { λ f. spec.IsFeed {A = A} (record { config = f.config; sizes = f.shape; sequence = f.sequencer; takers = f.inlets.items; givers = f.outlets.items; coming = f.backlogs.items; on_way = f.on_way; failed = f.failed }) };
 }
 
-/// For how many groups the end was not popped yet, after these events of one group were popped.
-pub(crate) fn left_open<A: Allocator>(open: u16, events: &Batch<Event, A>) -> u16 {
-    if events.last().kind.is_end() {
-        open.saturating_sub(1)
-    } else {
-        open
-    }
-}
-
 /// Looks at what is left of each group: notes how far its sender is ahead, and gives back the lists whose events were taken. Gives
 /// how many events are left in all.
 fn look_at<R: Wait, A: Allocator>(
@@ -95,7 +84,7 @@ fn look_at<R: Wait, A: Allocator>(
         let inlet = &inlets[group % inlets.len()];
         left = left.saturating_add(backlog.len());
         if are_side_by_side {
-            inlet.note_lead(group, backlog.len());
+            inlet.queue.leads.note(group, backlog.len());
         }
         backlog.give_back(rt, inlet);
     }
@@ -159,13 +148,15 @@ impl<A: Allocator + Copy> Feed<A> {
     /// Pops a batch of an intake queue. Gives how many events it has: 0 if there is no batch.
     fn pop<R: Wait, W: Watch>(&mut self, rt: &R, queue: usize, watch: &Arc<W, A>) -> usize
         requires { queue < length self.old.takers }
-        ensures { IsSameRun self.old self.new }
+        ensures { feed_line self.new ≡ feed_line self.old }
     {
         let Some((group, events)) = self.inlets[queue].pop(rt) else {
             return 0;
         };
         let count = events.len();
-        self.open = left_open(self.open, &events);
+        self.open = self
+            .open
+            .saturating_sub(u16::from(events.last().kind.is_end()));
         self.fresh = self.fresh.saturating_add(count);
         self.failed = note(&mut self.backlogs, self.failed, group, events);
         show(watch, group, count);
@@ -175,7 +166,7 @@ impl<A: Allocator + Copy> Feed<A> {
     /// Pops events of an intake queue, up to a burst. Gives whether there was one.
     fn drain<R: Wait, W: Watch>(&mut self, rt: &R, queue: usize, watch: &Arc<W, A>) -> bool
         requires { queue < length self.old.takers }
-        ensures { IsSameRun self.old self.new }
+        ensures { feed_line self.new ≡ feed_line self.old }
     {
         let mut count: usize = 0;
         for _ in 0..BURST {
@@ -190,7 +181,7 @@ impl<A: Allocator + Copy> Feed<A> {
 
     /// Pops events of each intake queue. Gives whether there was one.
     pub(crate) fn drain_all<R: Wait, W: Watch>(&mut self, rt: &R, watch: &Arc<W, A>) -> bool
-        ensures { IsSameRun self.old self.new }
+        ensures { feed_line self.new ≡ feed_line self.old }
     {
         let mut some = false;
         for queue in 0..self.inlets.len() {
@@ -199,20 +190,16 @@ impl<A: Allocator + Copy> Feed<A> {
         some
     }
 
-    /// Whether few events came since the groups had their turns, and more may come soon: the thread has waited only so often.
-    fn is_early(&self, waits: usize) -> bool {
-        self.fresh < self.due && waits <= self.backlogs.len() / GROUPS_FOR_A_WAIT
-    }
-
-    /// Lets each group take its turn, unless it is too early after so many waits, or too many accesses are on their way. Gives whether
-    /// an event was taken.
+    /// Lets each group take its turn, unless few events came since the last turns and more may come soon, as the thread has waited only so
+    /// often, or too many accesses are on their way. Gives whether an event was taken.
     pub(crate) fn take_turns<R: Wait>(&mut self, rt: &R, waits: usize) -> bool
-        ensures { IsSameRun self.old self.new }
+        ensures { feed_line self.new ≡ feed_line self.old }
     {
-        if self.is_early(waits) || self.on_way.len() >= MOST_ON_WAY {
+        if self.failed {
             return false;
         }
-        if self.failed {
+        let is_early = self.fresh < self.due && waits <= self.backlogs.len() / GROUPS_FOR_A_WAIT;
+        if is_early || self.on_way.len() >= MOST_ON_WAY {
             return false;
         }
         let passing = Passing {
@@ -240,7 +227,7 @@ impl<A: Allocator + Copy> Feed<A> {
 
     /// Passes the accesses on, as `OnWay::pass` does.
     pub(crate) fn pass<R: Wait>(&mut self, rt: &R, all: bool) -> bool
-        ensures { IsSameRun self.old self.new }
+        ensures { feed_line self.new ≡ feed_line self.old }
     {
         self.on_way.pass(rt, self.config, &mut self.outlets, all)
     }
@@ -265,6 +252,12 @@ impl<A: Allocator + Copy> Feed<A> {
         } = self;
         stop_all(rt, &mut outlets);
         let report = findings(alloc, &shape, &sequencer, failed);
-        SequencerEnd::of(config, shape, inlets, outlets, report)
+        SequencerEnd {
+            config,
+            shape,
+            inlets,
+            outlets,
+            report,
+        }
     }
 }

@@ -21,7 +21,7 @@ use std::sync::{Arc, Wait};
 /// The end of an intake queue that the sequencer pops from. Contracts see its seat.
 #[derive(Drop)]
 pub struct Inlet<A: Allocator = Global> {
-    queue: Arc<Intake<A>, A>,
+    pub(crate) queue: Arc<Intake<A>, A>,
     seat: TakerSeat<A>,
 }
 
@@ -82,16 +82,6 @@ impl<A: Allocator> Inlet<A> {
     {
         let batch = self.queue.pop_all(rt, &mut self.seat)?;
         Some(batch.into_events())
-    }
-
-    /// Gives a used list back, to be filled again.
-    pub(crate) fn give_back<R: Wait>(&self, rt: &R, list: Vec<Event, A>) {
-        self.queue.spares.put(rt, list);
-    }
-
-    /// Notes that so many events of the group are still to be taken.
-    pub(crate) fn note_lead(&self, group: usize, events: usize) {
-        self.queue.leads.note(group, events);
     }
 
     /// Takes a work-group's seat back. What was popped of the group is a prefix of what the seat pushed, and all of it if its

@@ -2,11 +2,11 @@
 //!
 //! Invariant: there is a way to each worker that a run may have.
 
-ghost use Rattle.std.specs.Prelude.{◌≡◌, ◌≤◌, ◌++◌, [], ℕ, All, IfOk, IsTrue, List, OnOk, length};
+ghost use Rattle.std.specs.Prelude.{◌≡◌, ◌++◌, [], All, IfOk, IsTrue, List, OnOk, length};
 ghost use Rattle.std.specs.Option.{option_map};
 ghost use Rattle.gr_clocks.specs.ClockedAccess.{ClockedAccess, clocked};
 ghost use Rattle.gr_closure.specs.AccessesAlong.{in_flight_list};
-ghost use Rattle.gr_sequencer_thread.specs.Feeds.{AreOpen, AreSplit, given_of, towards, works_of};
+ghost use Rattle.gr_sequencer_thread.specs.Feeds.{AreOpen, AreSplit, given_of, works_of};
 
 use crate::outlet::Outlet;
 use crate::way::Way;
@@ -95,40 +95,13 @@ impl<A: Allocator> OnWay<A> {
         ensures queues { works_of outlets.new.items ≡ works_of outlets.old.items }
         ensures open { AreOpen outlets.new.items }
     {
-        let passed = pass_each(rt, &mut self.ways, outlets, all);
+        let mut passed: usize = 0;
+        for worker in 0..outlets.len() {
+            let count = self.ways[worker].pass_all(rt, &mut outlets[worker], all);
+            passed = passed.saturating_add(count);
+        }
         self.count = self.count.saturating_sub(passed);
         passed > 0
-    }
-}
-
-/// Passes the accesses of each way on to its outlet, as `Way::pass_all` does. Gives how many it passed on.
-fn pass_each<R: Wait, A: Allocator>(
-    rt: &R,
-    ways: &mut Vec<Way<A>, A>,
-    outlets: &mut Vec<Outlet<A>, A>,
-    all: bool,
-) -> usize
-    requires ways { length outlets.old.items ≤ length ways.old.items }
-    requires open { AreOpen outlets.old.items }
-    ensures towards { (k : ℕ) → towards outlets.new.items ways.new.items k ≡ towards outlets.old.items ways.old.items k }
-    ensures count { length ways.new.items ≡ length ways.old.items }
-    ensures queues { works_of outlets.new.items ≡ works_of outlets.old.items }
-    ensures open { AreOpen outlets.new.items }
-{
-    let mut count: usize = 0;
-    for worker in 0..outlets.len() {
-        let passed = ways[worker].pass_all(rt, &mut outlets[worker], all);
-        count = count.saturating_add(passed);
-    }
-    count
-}
-
-/// Notes for each of so many workers that a group has ended.
-fn note_end<A: Allocator + Copy>(alloc: A, ways: &mut Vec<Way<A>, A>, workers: u16, group: u16)
-    ensures { ways.new.items ≡ ways.old.items }
-{
-    for worker in 0..ways.len().min(usize::from(workers)) {
-        ways[worker].note_end(alloc, group);
     }
 }
 
@@ -159,6 +132,8 @@ impl<A: Allocator + Copy> Keeper<A> for Passing<A> {
     fn close(&self, kept: &mut OnWay<A>, group: u16)
         ensures { (accesses : List ClockedAccess) → AreSplit self.now.config.workers (given_of self.now.outlets.value.items) accesses kept.old → AreSplit self.now.config.workers (given_of self.now.outlets.value.items) accesses kept.new }
     {
-        note_end(kept.alloc, &mut kept.ways, self.config.workers(), group);
+        for worker in 0..usize::from(self.config.workers()) {
+            kept.ways[worker].note_end(kept.alloc, group);
+        }
     }
 }

@@ -19,7 +19,7 @@ use std::time::Clock;
 /// The end of a worker's queue that the sequencer pushes to. Contracts see its seat.
 #[derive(Drop)]
 pub struct Outlet<A: Allocator = Global> {
-    queue: Arc<WorkQueue<A>, A>,
+    pub(crate) queue: Arc<WorkQueue<A>, A>,
     seat: GiverSeat<A>,
 }
 
@@ -33,26 +33,6 @@ impl<A: Allocator> Model for Outlet<A> {
     ghost view = { λ o. o.seat };
 
     ghost invariant = { λ o. o.seat.queue ≡ (arc_value o.queue).queue };
-}
-
-/// Pushes `Stop` as soon as there is room.
-fn push_stop<R: Wait + Clock, A: Allocator>(
-    rt: &R,
-    queue: &Arc<WorkQueue<A>, A>,
-    seat: &mut GiverSeat<A>,
-)
-    requires queue { seat.old.queue ≡ (arc_value queue.now).queue }
-    requires unstopped { IsFalse (is_stopped seat.old.pushed) }
-    ensures { seat.new ≡ record seat.old { pushed = seat.old.pushed ++ Stop ∷ [] } }
-{
-    let idle = Idle::new();
-    for _ in rt.forever() {
-        match queue.push(rt, seat, Work::Stop) {
-            Ok(()) => return,
-            Err(_) => idle.wait(rt),
-        }
-    }
-    unreachable!()
 }
 
 impl<A: Allocator> Outlet<A> {
@@ -78,18 +58,21 @@ impl<A: Allocator> Outlet<A> {
         self.queue.push_all(rt, &mut self.seat, batch)
     }
 
-    /// A list that held work before, if there is one.
-    pub(crate) fn spare<R: Wait>(&self, rt: &R) -> Option<Vec<Work<A>, A>> {
-        self.queue.spares.take(rt)
-    }
-
     /// Pushes `Stop` as soon as there is room.
+    #[tactic(auto, using(gr_threads::proofs::Givens::stop_given, gr_threads::proofs::Givens::stop_stops))]
     fn stop<R: Wait + Clock>(&mut self, rt: &R)
         requires { IsFalse (is_stopped self.old.pushed) }
         ensures same { (self.new.queue ≡ self.old.queue) × (accesses_in self.new.pushed ≡ accesses_in self.old.pushed) }
         ensures stopped { IsTrue (is_stopped self.new.pushed) }
     {
-        push_stop(rt, &self.queue, &mut self.seat);
+        let idle = Idle::new();
+        for _ in rt.forever() {
+            match self.queue.push(rt, &mut self.seat, Work::Stop) {
+                Ok(()) => return,
+                Err(_) => idle.wait(rt),
+            }
+        }
+        unreachable!()
     }
 
     /// The seat, to be joined back into the worker's.
@@ -101,13 +84,13 @@ impl<A: Allocator> Outlet<A> {
 }
 
 /// Pushes `Stop` to each worker.
-pub(crate) fn stop_all<R: Wait + Clock, A: Allocator>(rt: &R, outlets: &mut [Outlet<A>])
-    requires { AreOpen outlets.old }
-    ensures queues { works_of outlets.new ≡ works_of outlets.old }
-    ensures given { given_of outlets.new ≡ given_of outlets.old }
-    ensures stopped { AreStopped outlets.new }
+pub(crate) fn stop_all<R: Wait + Clock, A: Allocator>(rt: &R, outlets: &mut Vec<Outlet<A>, A>)
+    requires { AreOpen outlets.old.items }
+    ensures queues { works_of outlets.new.items ≡ works_of outlets.old.items }
+    ensures given { given_of outlets.new.items ≡ given_of outlets.old.items }
+    ensures stopped { AreStopped outlets.new.items }
 {
-    for outlet in outlets.iter_mut() {
-        outlet.stop(rt);
+    for worker in 0..outlets.len() {
+        outlets[worker].stop(rt);
     }
 }

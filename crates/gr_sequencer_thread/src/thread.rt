@@ -8,7 +8,7 @@ ghost use Rattle.gr_sequencer_thread.specs.Feeds.{AreNoBacklogs, intakes_of};
 use crate::backlog::{Backlog, backlogs_of};
 use crate::begin::Begin;
 use crate::end::SequencerEnd;
-use crate::feed::{Feed, left_open, show};
+use crate::feed::{Feed, show};
 use crate::inlet::Inlet;
 use crate::on_way::OnWay;
 use crate::outlet::stop_all;
@@ -63,11 +63,14 @@ fn run<R: Wait + Clock, A: Allocator + Copy, W: Watch>(
 }
 
 /// Pops a batch of some intake queue, if there is one.
-fn pop_any<R: Wait, A: Allocator>(rt: &R, inlets: &mut [Inlet<A>]) -> Option<(u16, Batch<Event, A>)>
-    ensures { intakes_of inlets.new ≡ intakes_of inlets.old }
+fn pop_any<R: Wait, A: Allocator>(
+    rt: &R,
+    inlets: &mut Vec<Inlet<A>, A>,
+) -> Option<(u16, Batch<Event, A>)>
+    ensures { intakes_of inlets.new.items ≡ intakes_of inlets.old.items }
 {
-    for inlet in inlets.iter_mut() {
-        if let Some(sent) = inlet.pop(rt) {
+    for queue in 0..inlets.len() {
+        if let Some(sent) = inlets[queue].pop(rt) {
             return Some(sent);
         }
     }
@@ -77,11 +80,11 @@ fn pop_any<R: Wait, A: Allocator>(rt: &R, inlets: &mut [Inlet<A>]) -> Option<(u1
 /// Pops the events of so many groups until all their ends were popped. It is for a thread without memory from the start.
 fn pop_all<R: Wait + Clock, A: Allocator, W: Watch>(
     rt: &R,
-    inlets: &mut [Inlet<A>],
+    inlets: &mut Vec<Inlet<A>, A>,
     groups: u16,
     watch: &Arc<W, A>,
 )
-    ensures { intakes_of inlets.new ≡ intakes_of inlets.old }
+    ensures { intakes_of inlets.new.items ≡ intakes_of inlets.old.items }
 {
     let mut open = groups;
     let idle = Idle::new();
@@ -94,35 +97,27 @@ fn pop_all<R: Wait + Clock, A: Allocator, W: Watch>(
             Some((group, events)) => {
                 idle.reset();
                 show(watch, group, events.len());
-                open = left_open(open, &events);
+                open = open.saturating_sub(u16::from(events.last().kind.is_end()));
             }
         }
     }
     unreachable!()
 }
 
-/// What the thread works with, before any event has come.
-#[derive(Drop)]
-struct Empty<A: Allocator = Global> {
-    sequencer: Sequencer<A>,
-    backlogs: Vec<Backlog<A>, A>,
-    on_way: OnWay<A>,
-}
-
 /// What the thread works with, for a launch of this shape, before any event has come.
 ///
 /// # Errors
 /// `Memory`: out of memory.
-fn fresh<A: Allocator + Copy>(alloc: A, shape: &Shape<A>) -> Result<Empty<A>, Memory>
-    ensures sequencer { IfOk result (λ f. f.sequencer ≡ nothing shape.now) }
-    ensures backlogs { IfOk result (λ f. AreNoBacklogs shape.now f.backlogs.items) }
-    ensures on_way { IfOk result (λ f. All (λ l. l ≡ []) f.on_way) }
+fn fresh<A: Allocator + Copy>(
+    alloc: A,
+    shape: &Shape<A>,
+) -> Result<(Sequencer<A>, Vec<Backlog<A>, A>, OnWay<A>), Memory>
+    ensures sequencer { IfOk result (λ f. f.0 ≡ nothing shape.now) }
+    ensures backlogs { IfOk result (λ f. AreNoBacklogs shape.now f.1.items) }
+    ensures on_way { IfOk result (λ f. All (λ l. l ≡ []) f.2) }
 {
-    Ok(Empty {
-        sequencer: Sequencer::new(alloc, shape.copy()?)?,
-        backlogs: backlogs_of(alloc, shape)?,
-        on_way: OnWay::new(alloc)?,
-    })
+    let sequencer = Sequencer::new(alloc, shape.copy()?)?;
+    Ok((sequencer, backlogs_of(alloc, shape)?, OnWay::new(alloc)?))
 }
 
 /// The whole of the thread.
@@ -141,13 +136,7 @@ fn sequence<R: Wait + Clock, A: Allocator + Copy, W: Watch>(
         mut outlets,
     } = begin;
     match fresh(alloc, &shape) {
-        Ok(
-            Empty {
-                sequencer,
-                backlogs,
-                on_way,
-            },
-        ) => {
+        Ok((sequencer, backlogs, on_way)) => {
             let feed = Feed::new(config, shape, sequencer, backlogs, inlets, outlets, on_way);
             run(rt, alloc, feed, watch)
         }
@@ -156,7 +145,13 @@ fn sequence<R: Wait + Clock, A: Allocator + Copy, W: Watch>(
             let _ = config.queues();
             pop_all(rt, &mut inlets, shape.groups(), watch);
             stop_all(rt, &mut outlets);
-            SequencerEnd::of(config, shape, inlets, outlets, None)
+            SequencerEnd {
+                config,
+                shape,
+                inlets,
+                outlets,
+                report: None,
+            }
         }
     }
 }

@@ -110,7 +110,7 @@ impl<A: Allocator> Way<A> {
         ensures { self.new ≡ self.old }
     {
         for _ in self.lists.len()..MOST_LISTS {
-            if let Some(list) = outlet.spare(rt) {
+            if let Some(list) = outlet.queue.spares.take(rt) {
                 let _ = self.lists.push_back(list);
             }
         }

@@ -4,9 +4,11 @@ use Rattle.gr_route.specs.WorkSeats.{Giver}
 use Rattle.gr_sequencer_thread.specs.Feeds.{given_of, works_of}
 use Rattle.gr_sequencer_thread.proofs.outlet.stop_all.Given as goal
 
-abbrev pub invariant-loop-outlet : goal.invariant-loop-outlet
-invariant-loop-outlet g l =
-    (works_of l.outlets ≡ works_of l.initial.outlets)
-    × (given_of l.outlets ≡ given_of l.initial.outlets)
-    × ((k : ℕ) (d : Giver g.row.A.Denot) → l.outlet-index ≤ k → get_or l.outlets k d ≡ get_or l.initial.outlets k d)
-    × ((k : ℕ) (d : Giver g.row.A.Denot) → k < l.outlet-index → k < length l.outlets → IsTrue (is_stopped (get_or l.outlets k d).pushed))
+abbrev pub invariant-loop-worker : goal.invariant-loop-worker
+invariant-loop-worker g l = record {
+  count : length l.outlets.items ≡ length l.fn.outlets.items;
+  queues : works_of l.outlets.items ≡ works_of l.fn.outlets.items;
+  given : given_of l.outlets.items ≡ given_of l.fn.outlets.items;
+  above : (k : ℕ) (d : Giver g.row.A.Denot) → l.worker ≤ k → get_or l.outlets.items k d ≡ get_or l.fn.outlets.items k d;
+  below : (k : ℕ) (d : Giver g.row.A.Denot) → k < l.worker → k < length l.outlets.items → IsTrue (is_stopped (get_or l.outlets.items k d).pushed);
+}

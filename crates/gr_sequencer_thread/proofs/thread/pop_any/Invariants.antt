@@ -2,5 +2,5 @@ use Rattle.std.proofs.Common.{◌≡◌}
 use Rattle.gr_sequencer_thread.specs.Feeds.{intakes_of}
 use Rattle.gr_sequencer_thread.proofs.thread.pop_any.Given as goal
 
-abbrev pub invariant-loop-inlet : goal.invariant-loop-inlet
-invariant-loop-inlet g l = intakes_of l.inlets ≡ intakes_of l.initial.inlets
+abbrev pub invariant-loop-queue : goal.invariant-loop-queue
+invariant-loop-queue g l = intakes_of l.inlets.items ≡ intakes_of l.initial.inlets.items

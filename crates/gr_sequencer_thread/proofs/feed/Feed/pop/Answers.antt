@@ -1,9 +1,9 @@
-use Rattle.std.proofs.Common.{◌≡◌, ◌∙◌, ◌<◌, ap, sym, subst, set, length, arith, rules}
+use Rattle.std.proofs.Common.{◌≡◌, ◌∙◌, ◌<◌, ap, subst, length, arith, rules}
 use Rattle.std.proofs.Math.Seq.{map-set_same}
-use Rattle.std.proofs.lemmas.List.{set-get_or}
+use Rattle.gr_clocks.proofs.RowLemmas.{put_back}
 use Rattle.gr_route.specs.IntakeSeats.{IsDelivery, Taker}
-use Rattle.gr_sequencer_thread.specs.Feeds.{Feed, IsSameRun, intakes_of, works_of}
-use Rattle.gr_sequencer_thread.proofs.SameRuns.{goes_on}
+use Rattle.gr_sequencer_thread.specs.Ends.{feed_line}
+use Rattle.gr_sequencer_thread.specs.Feeds.{Feed, works_of}
 use Rattle.gr_sequencer_thread.proofs.TakeLemmas.{group_there, popped_feed}
 use Rattle.gr_sequencer_thread.proofs.feed.Feed.pop.Goals as goal
 
@@ -23,26 +23,17 @@ invariant_of-self-2 g c =
 
 pub returns : goal.returns
 returns g c =
-    let takers = c.self.inside.inlets.items in
     let t = c.index_mut.result.now in
-    let queue : c.pop.new.self.queue ≡ t.queue = ap (λ (u : Taker). u.queue) c.in-Some.ensures.some in
-    record {
-      config = ap (λ (f : Feed g.row.A.Denot). f.config) c.self.view_is;
-      sizes = ap (λ (f : Feed g.row.A.Denot). f.sizes) c.self.view_is;
-      intakes = map-set_same (λ (u : Taker). u.queue) takers _ c.pop.new.self t (queue ∙ ap (λ (u : Taker). u.queue) c.index_mut.ensures.value) ∙ ap (λ (f : Feed g.row.A.Denot). intakes_of f.takers) c.self.view_is;
-      works = ap (λ (f : Feed g.row.A.Denot). works_of f.givers) c.self.view_is;
-    }
+    let queue : c.pop.new.self.queue ≡ t.queue = ap (λ (u : Taker). u.queue) (c.in-Some.ensures.some) in
+    let intakes = map-set_same (λ (u : Taker). u.queue) c.self.inside.inlets.items _ c.pop.new.self t (queue ∙ ap (λ (u : Taker). u.queue) c.index_mut.ensures.value) in
+    (λ i. record { config = c.self.inside.config; sizes = c.self.inside.shape; intakes = intakes i; works = works_of c.self.inside.outlets.items })
+    ∙ ap (λ (f : Feed g.row.A.Denot). feed_line f) c.self.view_is
 
--- where nothing is there nothing changes
+-- if there is no batch, nothing changes
 
 pub invariant_of-self : goal.invariant_of-self
-invariant_of-self g c =
-    let back : c.pop.new.self ≡ c.index_mut.result.now = search rules in
-    let unmoved = ap (set c.self.inside.inlets.items c.args.queue) (back ∙ c.index_mut.ensures.value) ∙ set-get_or c.self.inside.inlets.items c.args.queue c.index_mut.result.now in
-    rw unmoved c.self.invariant
+invariant_of-self g c = rw (put_back c.self.inside.inlets.items c.args.queue c.index_mut.result.now c.pop.new.self (search rules) c.index_mut.ensures.value) c.self.invariant
 
 pub returns-in_default : goal.returns-in_default
 returns-in_default g c =
-    let back : c.pop.new.self ≡ c.index_mut.result.now = search rules in
-    let unmoved = ap (set c.self.inside.inlets.items c.args.queue) (back ∙ c.index_mut.ensures.value) ∙ set-get_or c.self.inside.inlets.items c.args.queue c.index_mut.result.now in
-    rw unmoved (subst (IsSameRun c.args.self.now) (sym c.self.view_is) (goes_on c.args.self.now))
+    rw (put_back c.self.inside.inlets.items c.args.queue c.index_mut.result.now c.pop.new.self (search rules) c.index_mut.ensures.value) (ap (λ (f : Feed g.row.A.Denot). feed_line f) c.self.view_is)

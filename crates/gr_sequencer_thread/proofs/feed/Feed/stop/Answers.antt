@@ -5,9 +5,9 @@ use Rattle.gr_steps.specs.Steps.{IsAtRest}
 use Rattle.gr_report.specs.declared.report.Report.{Report}
 use Rattle.gr_report.specs.Whole.{whole_of}
 use Rattle.gr_route.specs.WorkSeats.{Giver}
-use Rattle.gr_sequencer_thread.specs.Ends.{End, IsFound, end_line, feed_line}
-use Rattle.gr_sequencer_thread.specs.Feeds.{AreOpen, ArePassedOn, Feed, IsOver, given_of, intakes_of, works_of}
-use Rattle.gr_sequencer_thread.proofs.SameRuns.{seats_back}
+use Rattle.gr_sequencer_thread.specs.Ends.{IsFound, feed_line}
+use Rattle.gr_sequencer_thread.specs.Feeds.{ArePassedOn, Feed, IsOver, given_of, intakes_of}
+use Rattle.gr_sequencer_thread.proofs.Changes.{as_many}
 use Rattle.gr_sequencer_thread.proofs.StepLemmas.{split_whole}
 use Rattle.gr_sequencer_thread.proofs.TakeLemmas.{all_taken}
 use Rattle.gr_sequencer_thread.proofs.feed.Feed.stop.Goals as goal
@@ -16,19 +16,17 @@ found_is : {Z : Type 0} (o : Option (Report Z)) (F : Type 0) (Q P : WholeReport 
 found_is None F Q P f q h = tt
 found_is (Some r) F Q P f q h = h f (whole_of r) q
 
-pub of-requires : goal.of-requires
-of-requires g c =
+pub invariant_of-result : goal.invariant_of-result
+invariant_of-result g c =
     let config = c.self.inside.config in
     let seq = c.self.inside.sequencer in
     let takers = c.self.inside.inlets.items in
     let was = c.self.inside.outlets.items in
-    let now = c.stop_all.new.outlets in
-    let back = seats_back (λ (u : Giver g.row.A.Denot). u.queue) _ was _ now c.deref_mut.ensures.value c.deref_mut.ensures.len c.stop_all.ensures.queues in
-    let given : given_of now ≡ given_of was = c.stop_all.ensures.given ∙ ap given_of c.deref_mut.ensures.value in
-    rw back.2 (record {
+    let now = c.stop_all.new.outlets.items in
+    record {
       config = c.self.invariant.config;
       queues = c.self.invariant.queues;
-      worker_count = back.1 ∙ c.self.invariant.worker_count;
+      worker_count = as_many (λ (u : Giver g.row.A.Denot). u.queue) now was c.stop_all.ensures.queues ∙ c.self.invariant.worker_count;
       stopped = c.stop_all.ensures.stopped;
       found = found_is c.findings-report.result (c.self.inside.failed ≡ false) (IsReportButRaces seq.taken) (IsFound config c.self.inside.shape takers now) c.findings-report.ensures.failed c.findings-report.ensures.report
           (λ f w is.
@@ -42,14 +40,11 @@ of-requires g c =
               complete = over.complete;
               done = over.done;
               taken = all_taken config seq.taken c.self.inside.backlogs.items takers good.popped over.taken;
-              passed = subst (λ (gs : List (List ClockedAccess)). ArePassedOn config seq gs []) (sym given) (good.passed.0, good.passed.1, split_whole config.workers (given_of was) good.passed.0 c.self.inside.on_way over.passed good.passed.2);
+              passed = subst (λ (gs : List (List ClockedAccess)). ArePassedOn config seq gs []) (sym c.stop_all.ensures.given) (good.passed.0, good.passed.1, split_whole config.workers (given_of was) good.passed.0 c.self.inside.on_way over.passed good.passed.2);
             };
             report_is = is;
           });
-    })
-
-pub stop_all-requires : goal.stop_all-requires
-stop_all-requires g c = subst (λ (gs : List (Giver g.row.A.Denot)). AreOpen gs) (sym c.deref_mut.ensures.value) c.self.invariant.unstopped
+    }
 
 pub findings-report-requires-clause-shape : goal.findings-report-requires-clause-shape
 findings-report-requires-clause-shape g c = λ f. (c.self.invariant.good f).same
@@ -61,7 +56,5 @@ findings-report-requires-clause-rest g c = λ f.
 
 pub returns : goal.returns
 returns g c =
-    let back = seats_back (λ (u : Giver g.row.A.Denot). u.queue) _ _ _ c.stop_all.new.outlets c.deref_mut.ensures.value c.deref_mut.ensures.len c.stop_all.ensures.queues in
-    ap (λ (e : End g.row.A.Denot). end_line e) c.of.ensures
-    ∙ ((λ i. record { config = c.self.inside.config; sizes = c.self.inside.shape; intakes = intakes_of c.self.inside.inlets.items; works = (ap works_of back.2 ∙ back.0) i })
-    ∙ ap (λ (u : Feed g.row.A.Denot). feed_line u) c.self.view_is)
+    (λ i. record { config = c.self.inside.config; sizes = c.self.inside.shape; intakes = intakes_of c.self.inside.inlets.items; works = c.stop_all.ensures.queues i })
+    ∙ ap (λ (u : Feed g.row.A.Denot). feed_line u) c.self.view_is

@@ -1,10 +1,17 @@
-use Rattle.std.proofs.Common.{◌∙◌, List, ap, sym, subst, length, arith, true, true≢false}
+use Rattle.std.proofs.Common.{◌≡◌, ◌∙◌, ◌++◌, ℕ, List, length, take, drop, append-nil, ap, sym, subst, arith, true, true≢false}
+use Rattle.std.proofs.lemmas.List.{drop_all, take_all}
 use Rattle.gr_taking.specs.Along.{IsAlong}
 use Rattle.gr_taking.specs.Sources.{ListedRecords, MayCome}
-use Rattle.gr_sequencer_thread.specs.Feeds.{AreSplit, Feed, come_in, given_of, intakes_of, works_of}
-use Rattle.gr_sequencer_thread.proofs.SameRuns.{whole_back}
+use Rattle.gr_sequencer_thread.specs.Feeds.{AreSplit, come_in, given_of}
 use Rattle.gr_sequencer_thread.proofs.TakeLemmas.{may_come_now, popped_moves, taken_feed}
 use Rattle.gr_sequencer_thread.proofs.feed.Feed.take_turns.Goals as goal
+
+-- a list that was lent whole is what came back
+whole_back : {X : Type 0} (n : ℕ) (was lent now : List X) → lent ≡ was → length lent ≡ n → length now ≡ length lent → take n (now ++ drop (length now) was) ≡ now
+whole_back n was lent now value all count =
+    let same = ap length value in
+    ap (λ l. take n (now ++ l)) (drop_all (length now) was (omega (arith, count, same)))
+    ∙ (ap (take n) (append-nil now) ∙ take_all n now (omega (arith, all, count)))
 
 pub take_round-requires-clause-may : goal.take_round-requires-clause-may
 take_round-requires-clause-may g c =
@@ -34,11 +41,3 @@ pub invariant_of-self-in-Err : goal.invariant_of-self-in-Err
 invariant_of-self-in-Err g c =
     rw (whole_back _ _ _ c.take_round.new.sources c.as_mut_slice.ensures.value c.as_mut_slice.ensures.len c.take_round.auto.sources)
     (taken_feed _ c.self.invariant _ _ _ true (c.take_round.auto.sources ∙ ap length c.as_mut_slice.ensures.value) (λ failed. absurd (true≢false failed)))
-
-pub returns : goal.returns
-returns g c = record {
-  config = ap (λ (f : Feed g.row.A.Denot). f.config) c.self.view_is;
-  sizes = ap (λ (f : Feed g.row.A.Denot). f.sizes) c.self.view_is;
-  intakes = ap (λ (f : Feed g.row.A.Denot). intakes_of f.takers) c.self.view_is;
-  works = ap (λ (f : Feed g.row.A.Denot). works_of f.givers) c.self.view_is;
-}
