@@ -8,7 +8,7 @@ use Rattle.gr_model.specs.declared.class.Class.{Class}
 use Rattle.gr_shadow.specs.Clashes.{ClockedAccess, event_of}
 use Rattle.gr_explain.specs.ClashPairs.{IsClashPair}
 use Rattle.gr_explain.specs.LeastRaces.{IsLeastOf}
-use Rattle.gr_explain.specs.Search.{IsAdded, IsPairOf, IsSeen, IsSeenMore, StandsFor}
+use Rattle.gr_explain.specs.Search.{IsPairOf, IsSeen, IsSeenMore, StandsFor}
 use Rattle.gr_explain.specs.Seen.{IsAmong, IsPairWith, SeenList}
 use Rattle.gr_explain.specs.declared.search.Search.{Search}
 use Rattle.gr_explain.proofs.ClashLemmas.{clash_added, clash_was, new_is_of, of_cases, still_of, still_pair}
@@ -63,7 +63,7 @@ module _ (classes : List SeenList) (d : SeenList) (y : ClockedAccess) (pair : Pa
 -- ---- one more access
 
 -- an access to another word changes nothing
-other_stands : {Z : Type 0} (w : Word) (accesses : List ClockedAccess) (y : ClockedAccess) → y.word ≢ w → (search : Search Z) → StandsFor w accesses search → StandsFor w (accesses ++ y ∷ []) search
+pub other_stands : {Z : Type 0} (w : Word) (accesses : List ClockedAccess) (y : ClockedAccess) → y.word ≢ w → (search : Search Z) → StandsFor w accesses search → StandsFor w (accesses ++ y ∷ []) search
 other_stands w accesses y other search stands = record {
   seen = λ e c. (λ seen. still_of w accesses y e c ((stands.seen e c).0 seen), λ of. (stands.seen e c).1 (⊎_elim (λ was. was) (λ last. absurd (other last.0)) (of_cases w accesses y e c of)));
   least = least_same (IsClashPair w accesses) (IsClashPair w (accesses ++ y ∷ [])) search.least (still_pair w accesses y)
@@ -99,8 +99,3 @@ module _ (accesses : List ClockedAccess) (y : ClockedAccess) {Z : Type 0} (old :
         (λ p h. ⊎_elim (still_pair y.word accesses y p) (pair_is_clash p) h) clash_cases
         (least_then (IsClashPair y.word accesses) (IsPairOf old.classes.items y) old.least new.least stands.least least);
   }
-
--- the search keeps the accesses after one more, whether that is to the word or not
-pub access_added : {Z : Type 0} (w : Word) (y : ClockedAccess) (old new : Search Z) → ((y.word ≡ w) × IsAdded y old new) ⊎ ((y.word ≢ w) × (new ≡ old)) → (accesses : List ClockedAccess) → StandsFor w accesses old → StandsFor w (accesses ++ y ∷ []) new
-access_added w y old new (inl (same, added)) accesses stands = rw (← same) (added accesses (rw same stands))
-access_added w y old new (inr (other, is)) accesses stands = rw is (other_stands w accesses y other old stands)

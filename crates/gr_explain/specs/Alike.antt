@@ -23,11 +23,6 @@ only_with (Some kept) g = if kept == g then Some kept else None
 abbrev pub no_events : ℕ → Class → AlikeEvents
 no_events tag class = record { tag = tag; class = class; events = [] }
 
--- accesses of this tag and class belong here
-pub record IsOfKind (tag : ℕ) (class : Class) (l : AlikeEvents) : Type 0 where
-  pub tag_is : l.tag ≡ tag
-  pub class_is : l.class ≡ class
-
 abbrev pub entry_event : ItemId × ℕ → EventId
 entry_event e = record { at = e.0; index = e.1 }
 

@@ -33,6 +33,6 @@ pub record StandsFor {Z : Type 0} (w : Word) (accesses : List ClockedAccess) (se
   pub seen : (e : EventId) (c : Class) → IsSeen search.classes.items e c ↔ IsOfList w accesses e c
   pub least : IsLeastOf (IsClashPair w accesses) search.least
 
--- one more access came
-abbrev pub IsAdded : {Z : Type 0} → ClockedAccess → Search Z → Search Z → Type 0
-IsAdded y old new = (accesses : List ClockedAccess) → StandsFor y.word accesses old → StandsFor y.word (accesses ++ y ∷ []) new
+-- one more access came, to the word or to another one
+abbrev pub IsAdded : {Z : Type 0} → Word → ClockedAccess → Search Z → Search Z → Type 0
+IsAdded w y old new = (accesses : List ClockedAccess) → StandsFor w accesses old → StandsFor w (accesses ++ y ∷ []) new

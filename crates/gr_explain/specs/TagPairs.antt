@@ -1,6 +1,6 @@
 -- The pairs of tags that race on a word, found along the accesses to it.
 -- Source: docs/MODEL.md, "Hits". Tags are this project's own.
-use Rattle.std.specs.Prelude.{◌≡◌, ◌⊎◌, ◌∷◌, ◌++◌, ◌==◌, ◌&&◌, ◌||◌, ◌<◌, ℕ, Bool, false, AllPairs, Contains, IsTrue, List, [], length, slice_index_or as get_or}
+use Rattle.std.specs.Prelude.{◌≡◌, ◌⊎◌, ◌∷◌, ◌++◌, ◌==◌, ◌&&◌, ◌||◌, ℕ, Bool, false, AllPairs, Contains, IsTrue, List, []}
 use Rattle.std.specs.List.{list_any}
 use Rattle.gr_model.specs.declared.event.EventId.{EventId}
 use Rattle.gr_model.specs.declared.event.Word.{Word}
@@ -8,7 +8,7 @@ use Rattle.gr_model.specs.RacePairs.{HasTags, IsTurned}
 use Rattle.gr_model.specs.Reports.{EventBelow}
 use Rattle.gr_model.specs.declared.class.Class.{Class}
 use Rattle.gr_shadow.specs.Clashes.{ClockedAccess, IsClashIn, event_of}
-use Rattle.gr_explain.specs.Alike.{AlikeEvents, IsInPlaceOf, IsOfKind, are_of_groups, event_clashes, is_sought}
+use Rattle.gr_explain.specs.Alike.{AlikeEvents, IsInPlaceOf, are_of_groups, event_clashes, is_sought}
 use Rattle.gr_explain.specs.ClashPairs.{IsClashPair, IsOfList}
 use Rattle.gr_explain.specs.declared.tag_pairs.TaggedRace.{TaggedRace}
 use Rattle.gr_explain.specs.declared.tag_pairs.TagPairs.{TagPairs}
@@ -64,11 +64,6 @@ pub record Finds (y : ClockedAccess) (tag : ℕ) (lists : List AlikeEvents) (old
   pub others : HaveOtherTags old → HaveOtherTags new
 
 -- ---- the accesses that are kept
-
--- accesses of this tag and class belong in the list at a place
-pub record IsOfKindAt (tag : ℕ) (class : Class) (lists : List AlikeEvents) (place : ℕ) : Type 0 where
-  pub within : place < length lists
-  pub kind : (d : AlikeEvents) → IsOfKind tag class (get_or lists place d)
 
 -- the event of an access of this tag and class is kept
 pub record IsKeptIn (lists : List AlikeEvents) (tag : ℕ) (class : Class) (e : EventId) : Type 0 where

@@ -5,7 +5,7 @@ ghost use Rattle.std.specs.List.{find};
 ghost use Rattle.gr_clocks.specs.ClockedAccess.{clocked};
 ghost use Rattle.gr_shadow.specs.Clashes.{event_of};
 ghost use Rattle.gr_explain.specs.Alike as spec;
-ghost use Rattle.gr_explain.specs.Alike.{IsChosen, IsOfKind, KeepsEvents, event_clashes, is_sought, no_events};
+ghost use Rattle.gr_explain.specs.Alike.{IsChosen, KeepsEvents, event_clashes, is_sought, no_events};
 
 use gr_clocks::access::Access;
 use gr_model::class::{Class, exempt};
@@ -83,12 +83,12 @@ impl<A: Allocator> Alike<A> {
 
     /// Whether an access, which has this tag, belongs here.
     pub(crate) fn has(&self, access: &Access<A>, tag: u128) -> bool
-        ensures { IsTrue result ↔ IsOfKind tag access.now.class self.now }
+        ensures { IsTrue result ↔ ((self.now.tag ≡ tag) × (self.now.class ≡ access.now.class)) }
     {
         self.tag == tag && self.class == access.class
     }
 
-    /// An event of these with which a later access to the word clashes: one of another group, if `two`. Where accesses of the two classes
+    /// An event of these with which a later access to the word clashes: one of another group, if `two`. If accesses of the two classes
     /// are exempt in any two groups, none clashes.
     pub(crate) fn clashing(&self, access: &Access<A>, two: bool) -> Option<EventId>
         ensures { result ≡ find (is_sought two self.now.class (clocked access.now)) self.now.events }
@@ -132,10 +132,10 @@ impl<A: Allocator> Alike<A> {
     /// # Errors
     /// `Memory`: out of memory.
     pub(crate) fn add(&mut self, access: &Access<A>, tag: u128) -> Result<(), Memory>
-        requires { IsOfKind tag access.now.class self.old }
-        ensures kind { OnOk result (IsOfKind tag access.now.class self.new) }
-        ensures tag { OnOk result (self.new.tag ≡ self.old.tag) }
-        ensures class { OnOk result (self.new.class ≡ self.old.class) }
+        requires tag { self.old.tag ≡ tag }
+        requires class { self.old.class ≡ access.now.class }
+        ensures tag { OnOk result ((self.new.tag ≡ tag) × (self.new.tag ≡ self.old.tag)) }
+        ensures class { OnOk result ((self.new.class ≡ access.now.class) × (self.new.class ≡ self.old.class)) }
         ensures events { OnOk result (KeepsEvents self.new.events (self.old.events ++ event_of (clocked access.now) ∷ [])) }
     {
         prove!(self.tag == tag);
@@ -147,7 +147,8 @@ impl<A: Allocator> Alike<A> {
     }
 }
 
-/// Whether a later access to a word clashes with an event of a class.
+/// Whether a later access to a word clashes with an event of a class: they are of two items, they are not exempt, and the access's clock
+/// does not count the event.
 pub(crate) fn clashes<A: Allocator>(class: Class, event: EventId, access: &Access<A>) -> bool
     ensures { result ≡ event_clashes class (clocked access.now) event }
 {

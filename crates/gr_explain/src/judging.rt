@@ -3,13 +3,12 @@
 ghost use Rattle.std.specs.Prelude.{◌≡◌, ◌↔◌, All, IfOk, IsTrue};
 ghost use Rattle.gr_model.specs.Streams.{AreAccepted, Streams};
 ghost use Rattle.gr_clocks.specs.ClockedAccess.{clocked};
-ghost use Rattle.gr_shadow.specs.Clashes as shadow;
 ghost use Rattle.gr_taking.specs.Taken.{read_by};
 ghost use Rattle.gr_explain.specs.Accesses.{AreBothKept};
 ghost use Rattle.gr_explain.specs.Judged.{AreAccesses, AreJudgements, ClashOn, IsJudged};
 
 use crate::accesses::{Accesses, accesses_of_pairs};
-use crate::alike::clashes as event_clashes;
+use crate::alike::clashes;
 use crate::seen::event_of;
 use gr_clocks::access::Access;
 use gr_model::event::Word;
@@ -30,19 +29,14 @@ pub enum Judgement {
     NoRace,
 }
 
-/// Whether a later access clashes with an earlier one: they are of two items, they are not exempt, and the later one's clock does not count
-/// the earlier one.
-fn clashes<A: Allocator>(earlier: &Access<A>, later: &Access<A>) -> bool
-    ensures { result ≡ shadow.clashes (clocked earlier.now) (clocked later.now) }
-{
-    event_clashes(earlier.class, event_of(earlier), later)
-}
-
 /// Whether two accesses are of a word and each clashes with the other: neither counts the other.
 fn are_race<A: Allocator>(word: Word, first: &Access<A>, second: &Access<A>) -> bool
     ensures { IsTrue result ↔ (ClashOn word (clocked first.now) (clocked second.now) × ClashOn word (clocked second.now) (clocked first.now)) }
 {
-    first.word == word && second.word == word && clashes(first, second) && clashes(second, first)
+    first.word == word
+        && second.word == word
+        && clashes(first.class, event_of(first), second)
+        && clashes(second.class, event_of(second), first)
 }
 
 /// Whether the two events of a pair race on its word, by the accesses of those events that are grounded.

@@ -9,7 +9,6 @@ mod accesses;
 mod alike;
 pub mod explain;
 pub mod judging;
-mod pairs;
 pub mod records;
 mod search;
 mod seen;

@@ -126,7 +126,7 @@ impl<'a, A: Allocator + Copy> Records<'a, A> {
 }
 
 impl<A: Allocator> Records<'_, A> {
-    /// The record of an event, or `None` where there is none of this index.
+    /// The record of an event, or `None` if there is none of this index.
     pub fn event_at(&self, event: EventId) -> Option<Event>
         ensures { result ≡ model.event_at self.now event }
     {

@@ -9,7 +9,7 @@ ghost use Rattle.gr_explain.specs.Search.{IsAdded, IsPairOf, IsSeenMore, StandsF
 
 use crate::seen::Seen;
 use gr_clocks::access::Access;
-use gr_model::event::EventId;
+use gr_model::event::{EventId, Word};
 use gr_model::memory::Memory;
 use std::alloc::{Allocator, Global};
 
@@ -67,14 +67,17 @@ impl<A: Allocator + Copy> Search<A> {
         }
     }
 
-    /// Adds an access, which comes after all others.
+    /// Adds an access, if it is to the word. It comes after all others.
     ///
     /// # Errors
     /// `Memory`: out of memory.
-    pub(crate) fn add(&mut self, access: &Access<A>) -> Result<(), Memory>
-        ensures { OnOk result (IsAdded (clocked access.now) self.old self.new) }
+    pub(crate) fn add(&mut self, word: Word, access: &Access<A>) -> Result<(), Memory>
+        ensures { OnOk result (IsAdded word (clocked access.now) self.old self.new) }
     {
-        self.least = least_with(&self.classes, access, self.least);
-        put(&mut self.classes, access)
+        if access.word == word {
+            self.least = least_with(&self.classes, access, self.least);
+            put(&mut self.classes, access)?;
+        }
+        Ok(())
     }
 }

@@ -1,13 +1,12 @@
 //! The accesses of one class to a word that came so far.
 
-ghost use Rattle.std.specs.Prelude.{◌≡◌, ◌↔◌, ◌⊎◌, IsTrue, OnOk, Some};
+ghost use Rattle.std.specs.Prelude.{◌≡◌, ◌≢◌, ◌↔◌, ◌⊎◌, IsTrue, MatchOption, OnOk, Some};
 ghost use Rattle.gr_model.specs.declared.event.EventId.{EventId as AnyEvent};
 ghost use Rattle.gr_clocks.specs.ClockedAccess.{clocked};
 ghost use Rattle.gr_shadow.specs.Clashes as spec;
-ghost use Rattle.gr_explain.specs.LeastRaces.{IsLeastOf};
+ghost use Rattle.gr_explain.specs.LeastRaces.{IsLeastOf, PairBelow};
 ghost use Rattle.gr_explain.specs.Seen.{IsAmong, IsFirstOf, IsClashing, IsPairWith, IsPassed, nothing_seen};
 
-use crate::pairs::lesser;
 use gr_clocks::access::Access;
 use gr_model::class::{Class, exempt};
 use gr_model::event::{EventId, ItemId};
@@ -45,6 +44,23 @@ pub(crate) fn event_of<A: Allocator>(access: &Access<A>) -> EventId
     EventId {
         at: access.item,
         index: access.index,
+    }
+}
+
+/// Whether a pair comes before another.
+fn is_pair_below(pair: (EventId, EventId), other: (EventId, EventId)) -> bool
+    ensures { IsTrue result ↔ PairBelow pair other }
+{
+    is_below(pair.0, other.0) || (pair.0 == other.0 && is_below(pair.1, other.1))
+}
+
+/// The lesser of a pair and the least one so far, if there is any.
+fn lesser(least: Option<(EventId, EventId)>, pair: (EventId, EventId)) -> (EventId, EventId)
+    ensures { MatchOption least (result ≡ pair) (λ l. ((result ≡ pair) × PairBelow pair l) ⊎ ((result ≡ l) × ¬ PairBelow pair l)) }
+{
+    match least {
+        Some(least) if !is_pair_below(pair, least) => least,
+        _ => pair,
     }
 }
 

@@ -1,11 +1,11 @@
 //! The pairs of tags that race on a word, found along the order in which events are handled.
 
-ghost use Rattle.std.specs.Prelude.{◌≡◌, ◌∷◌, [], IfSome, IsFalse, IsTrue, OnOk, ℕ};
-ghost use Rattle.std.specs.List.{list_any, position};
+ghost use Rattle.std.specs.Prelude.{◌≡◌, ◌∷◌, [], IsTrue, OnOk, ℕ};
+ghost use Rattle.std.specs.List.{position};
 ghost use Rattle.gr_model.specs.declared.event.EventId.{EventId as AnyEvent};
 ghost use Rattle.gr_model.specs.declared.event.Word.{Word as AnyWord};
 ghost use Rattle.gr_clocks.specs.ClockedAccess.{clocked};
-ghost use Rattle.gr_explain.specs.TagPairs.{Finds, IsFound, IsOfKindAt, IsPreferred, KeepsMore, IsTagAdded, StandsForTags, is_of_tags};
+ghost use Rattle.gr_explain.specs.TagPairs.{Finds, IsFound, IsPreferred, KeepsMore, IsTagAdded, StandsForTags, is_of_tags};
 
 use crate::alike::Alike;
 use crate::seen::event_of;
@@ -73,26 +73,6 @@ fn race_with<A: Allocator>(
     }
 }
 
-/// Adds the race of a later access, which has this tag, with one of the accesses `alike`, if it clashes with one of them.
-/// Requires: `found` has no race of the two tags.
-///
-/// # Errors
-/// `Memory`: out of memory.
-fn add_race<A: Allocator>(
-    found: &mut Vec<TaggedRace, A>,
-    alike: &Alike<A>,
-    access: &Access<A>,
-    tag: u128,
-) -> Result<(), Memory>
-    requires { IsFalse (list_any (is_of_tags alike.now.tag tag) found.old.items) }
-    ensures { OnOk result (Finds (clocked access.now) tag (alike.now ∷ []) found.old.items found.new.items) }
-{
-    if let Some(earlier) = alike.chosen(access) {
-        found.push(race_with(earlier, alike.tag(), access, tag))?;
-    }
-    Ok(())
-}
-
 /// Puts another race of the same two tags in the place of a race of one group, if there is one of two groups: that of a later access, which
 /// has this tag, with one of the accesses `alike`.
 fn prefer<A: Allocator>(race: &mut TaggedRace, alike: &Alike<A>, access: &Access<A>, tag: u128)
@@ -107,8 +87,8 @@ fn prefer<A: Allocator>(race: &mut TaggedRace, alike: &Alike<A>, access: &Access
     }
 }
 
-/// Adds the race of a later access, which has this tag, with one of the accesses `alike`, if there is no race of the two tags yet; where
-/// there is one of one group, prefers one of two groups.
+/// Adds the race of a later access, which has this tag, with one of the accesses `alike`, if it clashes with one of them and there is no
+/// race of the two tags yet. If there is one of one group, prefers one of two groups.
 ///
 /// # Errors
 /// `Memory`: out of memory.
@@ -121,15 +101,17 @@ fn find_among<A: Allocator>(
     ensures { OnOk result (Finds (clocked access.now) tag (alike.now ∷ []) found.old.items found.new.items) }
 {
     match place_of_tags(found, alike.tag(), tag) {
-        None => add_race(found, alike, access, tag),
-        Some(place) => {
-            prefer(&mut found[place], alike, access, tag);
-            Ok(())
+        Some(place) => prefer(&mut found[place], alike, access, tag),
+        None => {
+            if let Some(earlier) = alike.chosen(access) {
+                found.push(race_with(earlier, alike.tag(), access, tag))?;
+            }
         }
     }
+    Ok(())
 }
 
-/// Adds the races of a later access, which has this tag, with the earlier ones, where there is no race of the two tags yet, or none of two
+/// Adds the races of a later access, which has this tag, with the earlier ones, if there is no race of the two tags yet, or none of two
 /// groups.
 ///
 /// # Errors
@@ -148,22 +130,11 @@ fn find_races<A: Allocator>(
     Ok(())
 }
 
-/// The place of the list to which an access with this tag belongs, if there is one.
-fn place_of<A: Allocator>(lists: &[Alike<A>], access: &Access<A>, tag: u128) -> Option<usize>
-    ensures { IfSome result (λ place. IsOfKindAt tag access.now.class lists.now place) }
-{
-    for place in 0..lists.len() {
-        if lists[place].has(access, tag) {
-            return Some(place);
-        }
-    }
-    None
-}
-
 /// Adds an access with this tag to the list to which it belongs, or to a new one.
 ///
 /// # Errors
 /// `Memory`: out of memory.
+#[tactic(auto, using(crate::proofs::TagPairLemmas::keeps_set, crate::proofs::TagPairLemmas::keeps_push))]
 fn keep<A: Allocator + Copy>(
     lists: &mut Vec<Alike<A>, A>,
     access: &Access<A>,
@@ -171,7 +142,7 @@ fn keep<A: Allocator + Copy>(
 ) -> Result<(), Memory>
     ensures { OnOk result (KeepsMore lists.old.items tag (clocked access.now) lists.new.items) }
 {
-    match place_of(lists, access, tag) {
+    match lists.iter().position(|alike| alike.has(access, tag)) {
         Some(place) => lists[place].add(access, tag),
         None => {
             let mut alike = Alike::new(*lists.allocator(), tag, access.class, access.item.group);

@@ -1,17 +1,13 @@
 //! The least racing pair of a word, and a race for each two tags that race on it, in one pass.
 
-ghost use Rattle.std.specs.Prelude.{◌∷◌, ◌++◌, [], IfOk, List, MatchOption, OnOk};
-ghost use Rattle.std.specs.Option.{option_map};
+ghost use Rattle.std.specs.Prelude.{◌∷◌, [], IfOk, MatchOption};
 ghost use Rattle.gr_model.specs.Races.{IsRacy};
 ghost use Rattle.gr_model.specs.Waits.{IsGrounded};
-ghost use Rattle.gr_clocks.specs.ClockedAccess.{ClockedAccess, clocked};
-ghost use Rattle.gr_closure.specs.AccessesAlong.{in_flight_list};
 ghost use Rattle.gr_explain.specs.LeastRaces.{IsLeastRace};
 ghost use Rattle.gr_explain.specs.Search.{StandsFor};
 ghost use Rattle.gr_explain.specs.TagRaces.{AreTagRaces};
 ghost use Rattle.gr_explain.specs.WordPairs.{StandForWords};
 
-use crate::explain::add_to;
 use crate::search::Search;
 use crate::tags::Tags;
 use crate::word_pairs::{WordPairs, add_access, list_words, pairs_of_words};
@@ -43,19 +39,15 @@ impl<A: Allocator + Copy, T: Tags> Keeper<A> for TaggedKeeper<'_, T> {
 
     ghost stands = { λ keeper accesses kept. StandsFor keeper.word accesses kept.search × StandForWords (T.tag_of keeper.tags.now) (keeper.word ∷ []) accesses kept.pairs.entries };
 
-    fn add(&self, kept: &mut Tagged<A>, access: &mut Option<Access<A>>) -> Result<(), Memory>
-        ensures { OnOk result ((accesses : List ClockedAccess) → (StandsFor self.now.word accesses kept.old.search × StandForWords (T.tag_of self.now.tags.now) (self.now.word ∷ []) accesses kept.old.pairs.entries) → (StandsFor self.now.word (accesses ++ in_flight_list (option_map clocked access.old)) kept.new.search × StandForWords (T.tag_of self.now.tags.now) (self.now.word ∷ []) (accesses ++ in_flight_list (option_map clocked access.old)) kept.new.pairs.entries)) }
-    {
-        let Some(access) = access else {
-            return Ok(());
-        };
-        add_to(&mut kept.search, self.word, access)?;
-        add_access(&mut kept.pairs, self.tags, access)
+    fn add(&self, kept: &mut Tagged<A>, access: &mut Option<Access<A>>) -> Result<(), Memory> {
+        if let Some(access) = access {
+            kept.search.add(self.word, access)?;
+            add_access(&mut kept.pairs, self.tags, access)?;
+        }
+        Ok(())
     }
 
-    fn close(&self, _kept: &mut Tagged<A>, _group: u16)
-        ensures { (accesses : List ClockedAccess) → (StandsFor self.now.word accesses _kept.old.search × StandForWords (T.tag_of self.now.tags.now) (self.now.word ∷ []) accesses _kept.old.pairs.entries) → (StandsFor self.now.word accesses _kept.new.search × StandForWords (T.tag_of self.now.tags.now) (self.now.word ∷ []) accesses _kept.new.pairs.entries) }
-    {}
+    fn close(&self, kept: &mut Tagged<A>, group: u16) {}
 }
 
 /// The least racing pair of a word, as `explain` gives it, and a race for each two tags that race on the word, as `races_by_tags` does.

@@ -9,8 +9,6 @@ ghost use Rattle.gr_clocks.specs.ClockedAccess.{ClockedAccess, clocked};
 ghost use Rattle.gr_shadow.specs.Kept.{same_word};
 ghost use Rattle.gr_explain.specs.TagRaces.{AreTagRaces};
 ghost use Rattle.gr_explain.specs.WordPairs.{StandForWords, races_at, races_of};
-ghost use Rattle.std.specs.Option.{option_map};
-ghost use Rattle.gr_closure.specs.AccessesAlong.{in_flight_list};
 
 use crate::seen::event_of;
 use crate::tag_pairs::TagPairs;
@@ -75,18 +73,14 @@ impl<A: Allocator + Copy, T: Tags> Keeper<A> for WordsKeeper<'_, T> {
 
     ghost stands = { λ keeper accesses pairs. StandForWords (T.tag_of keeper.tags.now) keeper.words.now accesses pairs.entries };
 
-    fn add(&self, kept: &mut WordPairs<A>, access: &mut Option<Access<A>>) -> Result<(), Memory>
-        ensures { OnOk result ((accesses : List ClockedAccess) → StandForWords (T.tag_of self.now.tags.now) self.now.words.now accesses kept.old.entries → StandForWords (T.tag_of self.now.tags.now) self.now.words.now (accesses ++ in_flight_list (option_map clocked access.old)) kept.new.entries) }
-    {
-        let Some(access) = access else {
-            return Ok(());
-        };
-        add_access(kept, self.tags, access)
+    fn add(&self, kept: &mut WordPairs<A>, access: &mut Option<Access<A>>) -> Result<(), Memory> {
+        if let Some(access) = access {
+            add_access(kept, self.tags, access)?;
+        }
+        Ok(())
     }
 
-    fn close(&self, _kept: &mut WordPairs<A>, _group: u16)
-        ensures { (accesses : List ClockedAccess) → StandForWords (T.tag_of self.now.tags.now) self.now.words.now accesses _kept.old.entries → StandForWords (T.tag_of self.now.tags.now) self.now.words.now accesses _kept.new.entries }
-    {}
+    fn close(&self, kept: &mut WordPairs<A>, group: u16) {}
 }
 
 /// Adds the races that were found of a word.
@@ -150,5 +144,6 @@ pub fn races_by_tags<A: Allocator + Copy, T: Tags>(
     }
     let mut pairs = pairs_of_words(alloc, words)?;
     follow(alloc, traces, &WordsKeeper { words, tags }, &mut pairs)?;
-    list_words(alloc, &pairs, words)
+    let races = list_words(alloc, &pairs, words)?;
+    Ok(races)
 }

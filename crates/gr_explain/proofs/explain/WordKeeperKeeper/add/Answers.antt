@@ -1,5 +1,4 @@
-use Rattle.std.proofs.lemmas.Result.{on_ok_weaker}
 use Rattle.gr_explain.proofs.explain.WordKeeperKeeper.add.Goals as goal
 
-pub returns : goal.returns
-returns g c = on_ok_weaker c.add_to.result (λ added. λ accesses stands. rw c.in-Some.is (added accesses stands)) c.add_to.ensures
+pub returns-in_ok-add : goal.returns-in_ok-add
+returns-in_ok-add g c accesses stands = rw c.in-Some.is (c.in_ok-add.ensures accesses stands)

@@ -1,5 +1,4 @@
-use Rattle.std.proofs.lemmas.Result.{on_ok_weaker}
 use Rattle.gr_explain.proofs.word_pairs.WordsKeeperKeeper.add.Goals as goal
 
-pub returns : goal.returns
-returns g c = on_ok_weaker c.add_access.result (λ added. λ accesses stands. rw c.in-Some.is (added c.args.self.now.words.now accesses stands)) c.add_access.ensures
+pub returns-in_ok-add_access : goal.returns-in_ok-add_access
+returns-in_ok-add_access g c accesses stand = rw c.in-Some.is (c.in_ok-add_access.ensures c.args.self.now.words.now accesses stand)
