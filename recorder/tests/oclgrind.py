@@ -10,7 +10,6 @@ import os
 import re
 import subprocess
 import sys
-import tempfile
 
 from opencl import LOADER, Buffer, Device, Local
 

@@ -236,27 +236,20 @@ race on global word 20
     {narrow}
 """)
 
-    def test_a_hand_over_that_does_not_meet(self):
-        """The acquire took no value of the release."""
-        streams = ["group 0 items 1 launch 7\n0 w g 16\n0 st g 20 dev rel\nend\n", "group 1 items 1 launch 7\n0 ld g 20 dev acq\n0 r g 16\nend\n"]
-        self.assert_report(streams, {"places": "0 0 0 f.cl:3:9\n0 0 1 f.cl:4:9\n1 0 0 f.cl:5:13\n1 0 1 f.cl:6:9\n"}, "found", f"""\
-race on global word 16
-    f.cl:3:9: write by group 0, item 0
-    f.cl:6:9: read by group 1, item 0
-    {HAND_OVER}; the release at f.cl:4:9 and the acquire at f.cl:5:13 do not meet
-""")
-
-    def test_a_hand_over_that_is_relaxed(self):
-        """Neither, one or the other of the two atomics orders; a third one, after the read, has no part in it. Which item is shown first makes no difference."""
-        places = "0 0 0 f.cl:3:9\n0 0 1 f.cl:4:9\n1 0 0 f.cl:5:13\n1 0 1 f.cl:6:9\n"
+    def test_a_hand_over_that_is_none(self):
+        """Neither, one or the other of the two atomics orders, or the acquire took no value of the release; a third atomic, after the read, has no
+        part in it. Which item is shown first makes no difference."""
         store, load = "the store at f.cl:4:9 is no release", "the load at f.cl:5:13 is no acquire"
-        for store_order, load_order, more in (("rlx", "rlx", f"{store} and {load}"), ("rlx", "acq", store), ("rel", "rlx", load)):
-            writes, reads = f"0 w g 16\n0 st g 20 dev {store_order}\n", f"0 ld g 20 dev {load_order}\n0 r g 16\n0 ld g 24 dev rlx\n"
-            launch = self.judged([f"group 0 items 1 launch 7\n{writes}end\n", f"group 1 items 1 launch 7\n{reads}end\n"], {"places": places})
-            self.assertEqual([it.message for it in launch.findings], [f"{HAND_OVER}: {more}"])
-            turned = "1 0 0 f.cl:3:9\n1 0 1 f.cl:4:9\n0 0 0 f.cl:5:13\n0 0 1 f.cl:6:9\n"
-            launch = self.judged([f"group 0 items 1 launch 7\n{reads}end\n", f"group 1 items 1 launch 7\n{writes}end\n"], {"places": turned})
-            self.assertEqual([it.message for it in launch.findings], [f"{HAND_OVER}: {more}"])
+        for store_order, load_order, more in (("rlx", "rlx", f": {store} and {load}"), ("rlx", "acq", f": {store}"), ("rel", "rlx", f": {load}"),
+                                              ("rel", "acq", "; the release at f.cl:4:9 and the acquire at f.cl:5:13 do not meet")):
+            sides = [(f"0 w g 16\n0 st g 20 dev {store_order}\n", ("f.cl:3:9", "f.cl:4:9"), ("write", "f.cl:3:9")),
+                     (f"0 ld g 20 dev {load_order}\n0 r g 16\n0 ld g 24 dev rlx\n", ("f.cl:5:13", "f.cl:6:9"), ("read", "f.cl:6:9"))]
+            for both in (sides, sides[::-1]):
+                streams = [f"group {group} items 1 launch 7\n{steps}end\n" for group, (steps, _, _) in enumerate(both)]
+                places = "".join(f"{group} 0 {at} {place}\n" for group, (_, places, _) in enumerate(both) for at, place in enumerate(places))
+                (finding,) = self.judged(streams, {"places": places}).findings
+                shown = [(access.what, access.place) for access in finding.accesses]
+                self.assertEqual((finding.message, shown), (HAND_OVER + more, [access for _, _, access in both]))
 
     def test_atomics_of_two_words_hand_nothing_over(self):
         streams = ["group 0 items 1 launch 7\n0 w g 16\n0 st g 20 dev rlx\nend\n", "group 1 items 1 launch 7\n0 ld g 24 dev rlx\n0 r g 16\nend\n"]
@@ -270,16 +263,6 @@ race on global word 16
         launch = self.judged([f"group {group} items 1 launch 7\n{inside}" for group in (0, 1)], {"places": places})
         self.assertEqual({it.message for it in launch.findings}, {
             f"{HAND_OVER}: the read-modify-write at f.cl:6:9 is no release; or make each item's read and write of the word one atomic operation"})
-
-    def test_a_hand_over_to_the_item_that_is_shown_first(self):
-        """As before, with the groups the other way round."""
-        streams = ["group 0 items 1 launch 7\n0 ld g 20 dev acq\n0 r g 16\nend\n", "group 1 items 1 launch 7\n0 w g 16\n0 st g 20 dev rel\nend\n"]
-        self.assert_report(streams, {"places": "0 0 0 f.cl:5:13\n0 0 1 f.cl:6:9\n1 0 0 f.cl:3:9\n1 0 1 f.cl:4:9\n"}, "found", f"""\
-race on global word 16
-    f.cl:6:9: read by group 0, item 0
-    f.cl:3:9: write by group 1, item 0
-    {HAND_OVER}; the release at f.cl:4:9 and the acquire at f.cl:5:13 do not meet
-""")
 
     def test_causes_that_take_too_long(self):
         """A program that does not answer with causes, and without them as ever."""

@@ -7,8 +7,8 @@ from typing import List, NamedTuple, Optional
 DEVICE, GROUP = "`memory_scope_device`", "`memory_scope_work_group`"
 ATOMICS = {"load": "load", "store": "store", "rmw": "read-modify-write"}
 COPY = "nothing orders the two; wait_group_events after the copy would, or, if the copy comes last, a barrier before it"
-GROUPS = ("nothing orders the two, and a barrier never orders two groups; a second kernel, a word for each group, or a release that an acquire takes, "
-          "at memory_scope_device, would mend it")
+GROUPS = ("nothing orders the two, and a barrier never orders two groups; a second kernel, a word for each group, or a release that an "
+          "acquire takes, at memory_scope_device, would mend it")
 WHOLE = "use an atomic, such as atomic_inc, atomic_add or atomic_fetch_add"
 LONG = "use an atomic, such as atom_inc or atom_add (of cl_khr_int64_base_atomics) or atomic_fetch_add"
 NARROW = "use an atomic of an int, such as atomic_inc or atomic_add (OpenCL C has none of {})"
@@ -17,7 +17,8 @@ ADVICE = {"int": WHOLE, "uint": WHOLE, "long": LONG, "ulong": LONG, "float": REA
           "double": REAL.format("atom_cmpxchg", "double"), **{kind: NARROW.format(kind) for kind in ("char", "uchar", "short", "ushort", "half")}}
 UNKNOWN = "use an atomic (of an int, such as atomic_inc or atomic_add; of a float, a loop of atomic_cmpxchg)"
 OWN = {"read": "load (in OpenCL 1.2 an atomic_or with 0)", "write": "store (in OpenCL 1.2 an atomic_xchg)"}
-ONE_WRITE = "both items write it at this place: let one of them do so, or give each a word of its own; a barrier would order only rounds of a loop"
+ONE_WRITE = ("both items write it at this place: let one of them do so, or give each a word of its own; a barrier would order only rounds of "
+             "a loop")
 SPLIT = "; since both are at one line, read into a private variable before it and write after it"
 HAND_OVER = "nothing orders the two; a release that an acquire takes would"  # in one group
 OLD = re.compile(r"\batom(?:ic)?_(?:add|sub|xchg|inc|dec|cmpxchg|min|max|and|or|xor)\b")  # an atomic of OpenCL 1.x
@@ -57,9 +58,9 @@ class Pair(NamedTuple):
     is_one_line: bool = False  # both items read the word and write it at one line, the same
     store: Optional[At] = None  # an atomic of a word after the one access, and one of the same word before the other
     load: Optional[At] = None
-    are_one_write: bool = False  # both are the same write of the text, with the same calls that lead there
-    are_at_one_line: bool = False  # with the same calls that lead there
-    is_locked: bool = False     # there are such atomics in both directions, as of a lock
+    are_at_one_place: bool = False  # with the same calls that lead there
+    are_at_one_line: bool = False
+    is_locked: bool = False         # there are such atomics in both directions, as of a lock
     kind: str = ""              # the type of the word, where the kernel's text says it
 
 
@@ -104,22 +105,33 @@ def of_nothing(said: str, pair: Pair) -> str:
             return f"a plain {one.what} beside atomics: {order}, or, if they may come in any order, make it an atomic {OWN[one.what]}"
     if not pair.is_one_group and pair.release and pair.acquire and pair.release.place and pair.acquire.place:
         return f"{said}; the release at {pair.release.place} and the acquire at {pair.acquire.place} do not meet"
-    weak = of_orders(pair.store, pair.load) if pair.store and pair.load else ""
-    if pair.is_one_group and not pair.is_locked:  # atomics that modify, as counters, may stand beside a barrier that is missing
-        weak = weak if pair.load and pair.load.what == "load" else ""
-    if weak:
-        lead = HAND_OVER if pair.is_locked else f"{said}, or a release that an acquire takes"
-        said = f"{lead if pair.is_one_group else said}: {weak}"
-    elif pair.is_one_line:
-        return f"{ADVICE.get(pair.kind, UNKNOWN)}: each item reads the word and writes it at this line; without it {said if pair.is_one_group else GROUPS}"
+    weak = of_hand_over(said, pair)
+    if pair.is_one_line and not weak:
+        advice = ADVICE.get(pair.kind, UNKNOWN)
+        return f"{advice}: each item reads the word and writes it at this line; without it {said if pair.is_one_group else GROUPS}"
     if pair.are_updates:
-        return f"{said}; or make each item's read and write of the word one atomic operation"
-    if pair.is_one_group and pair.are_one_write:
+        return f"{weak or said}; or make each item's read and write of the word one atomic operation"
+    return weak or of_barrier(said, pair)
+
+
+def of_hand_over(said: str, pair: Pair) -> str:
+    """A hand-over by atomics one of which orders nothing. In a group those that modify, as counters, may stand beside a barrier that is missing."""
+    if not pair.store or not pair.load or (pair.is_one_group and not pair.is_locked and pair.load.what != "load"):
+        return ""
+    lead = said if not pair.is_one_group else HAND_OVER if pair.is_locked else f"{said}, or a release that an acquire takes"
+    weak = of_orders(pair.store, pair.load)
+    return weak and f"{lead}: {weak}"
+
+
+def of_barrier(said: str, pair: Pair) -> str:
+    """A barrier that is missing in a group: where, or why there is no room for it."""
+    if not pair.is_one_group:
+        return ""
+    are_writes = pair.first.what == pair.second.what == "write"
+    if pair.are_at_one_place and are_writes:
         return ONE_WRITE
-    is_split = pair.is_one_group and pair.are_at_one_line and pair.first.what != pair.second.what
-    more = SPLIT if is_split and not weak else ""
-    more += f"; the last barrier before both is at {pair.before}" if pair.before and not weak else ""
-    return said + more if more or weak else ""
+    split = SPLIT if pair.are_at_one_line and not are_writes else ""
+    return said + split + (f"; the last barrier before both is at {pair.before}" if pair.before else "")
 
 
 def of_groups(said: str, pair: Pair) -> str:
@@ -128,7 +140,7 @@ def of_groups(said: str, pair: Pair) -> str:
 
 def of_orders(store: At, load: At) -> str:
     """Which of two atomics of one word hands nothing over."""
-    weak = [f"the {ATOMICS[at.what]} at {at.place} is no {lacks}" for at, orders, lacks in ((store, ("rel", "both"), "release"), (load, ("acq", "both"), "acquire"))
-            if at.order not in orders]
+    lacking = ((store, ("rel", "both"), "release"), (load, ("acq", "both"), "acquire"))
+    weak = [f"the {ATOMICS[at.what]} at {at.place} is no {lacks}" for at, orders, lacks in lacking if at.order not in orders]
     why = f" ({RELAXED})" if weak and any(OLD.search(at.text) for at in (store, load)) else ""
     return " and ".join(weak) + why if store.place and load.place else ""

@@ -2,7 +2,7 @@
 from __future__ import annotations
 
 import re
-from typing import Any, Dict, List, Optional, Set, Tuple
+from typing import Any, Callable, Dict, List, Optional, Set, Tuple
 
 from . import causes
 from .finding import Access, Mark
@@ -17,6 +17,11 @@ def line_of(place: str) -> str:
     """The file and the line of a place; empty where it is none."""
     at = PLACE.fullmatch(place)
     return f"{at[1]}:{at[2]}" if at else ""
+
+
+def are_at_one(of: Callable[[str], str], first: Access, second: Access) -> bool:
+    """Whether both are at one place, or one line of it, which the same calls lead to."""
+    return of(first.place) != "" and (of(first.place), first.calls) == (of(second.place), second.calls)
 
 
 class Pairs:
@@ -71,16 +76,7 @@ class Pairs:
         barriers, before = ([], "") if not said["one_group"] else (self.barriers_between(first, second), self.barrier_before(first, second))
         return causes.Pair(said["space"], said["one_group"], one, other, barriers, before, release, acquire,
                            self.is_update(first) and self.is_update(second), self.is_line_of_updates(first, second, accesses[0].text),
-                           store, load, are_one_write=self.are_one_write(*accesses), are_at_one_line=self.are_at_one_line(*accesses),
-                           is_locked=all(meetings))
-
-    @staticmethod
-    def are_one_write(first: Access, second: Access) -> bool:
-        return first.what == second.what == "write" and first.place != "" and (first.place, first.calls) == (second.place, second.calls)
-
-    @staticmethod
-    def are_at_one_line(first: Access, second: Access) -> bool:
-        return line_of(first.place) != "" and (line_of(first.place), first.calls) == (line_of(second.place), second.calls)
+                           store, load, are_at_one(str, *accesses), are_at_one(line_of, *accesses), all(meetings))
 
     def is_update(self, event: Dict[str, Any]) -> bool:
         """Whether the event is one of a plain read of a word and the write to it that the item does next."""
