@@ -14,11 +14,12 @@ LONG = "use an atomic, such as atom_inc or atom_add (of cl_khr_int64_base_atomic
 NARROW = "use an atomic of an int, such as atomic_inc or atomic_add (OpenCL C has none of {})"
 REAL = "use a loop of {} on the bits, begun by an atomic read (OpenCL C has no atomic_add of {}), or give each item a word of its own"
 ADVICE = {"int": WHOLE, "uint": WHOLE, "long": LONG, "ulong": LONG, "float": REAL.format("atomic_cmpxchg", "float"),
-          "double": REAL.format("atom_cmpxchg", "double"), **{kind: NARROW.format(kind) for kind in ("char", "uchar", "short", "ushort", "half")}}
+          "double": REAL.format("atom_cmpxchg", "double"),
+          **{kind: NARROW.format(kind) for kind in ("char", "uchar", "short", "ushort", "half")}}
 UNKNOWN = "use an atomic (of an int, such as atomic_inc or atomic_add; of a float, a loop of atomic_cmpxchg)"
 OWN = {"read": "load (in OpenCL 1.2 an atomic_or with 0)", "write": "store (in OpenCL 1.2 an atomic_xchg)"}
-ONE_WRITE = ("both items write it at this place: let one of them do so, or give each a word of its own; a barrier would order only rounds of "
-             "a loop")
+ONE_WRITE = ("both items write it at this place: let one of them do so, or give each a word of its own; a barrier would order only rounds "
+             "of a loop")
 SPLIT = "; since both are at one line, read into a private variable before it and write after it"
 HAND_OVER = "nothing orders the two; a release that an acquire takes would"  # in one group
 OLD = re.compile(r"\batom(?:ic)?_(?:add|sub|xchg|inc|dec|cmpxchg|min|max|and|or|xor)\b")  # an atomic of OpenCL 1.x
@@ -95,13 +96,15 @@ def of_divergence(said: str, pair: Pair) -> str:
 
 
 def of_nothing(said: str, pair: Pair) -> str:
-    """Nothing orders the two: one may be of a copy that goes on, or plain beside atomics, a hand-over may not meet, or both items may update
-    the word."""
+    """Nothing orders the two: one may be of a copy that goes on, or plain beside atomics, a hand-over may not meet, or both items may
+    update the word."""
     if pair.is_one_group and (pair.first.is_copy or pair.second.is_copy):
         return COPY
     for one, other in ((pair.first, pair.second), (pair.second, pair.first)):
         if one.what not in ATOMICS and other.what in ATOMICS:
-            order = f"put a barrier with {FLAGS[pair.space][1]} between the two" if pair.is_one_group else "put one of them in a second kernel"
+            order = "put one of them in a second kernel"
+            if pair.is_one_group:
+                order = f"put a barrier with {FLAGS[pair.space][1]} between the two"
             return f"a plain {one.what} beside atomics: {order}, or, if they may come in any order, make it an atomic {OWN[one.what]}"
     if not pair.is_one_group and pair.release and pair.acquire and pair.release.place and pair.acquire.place:
         return f"{said}; the release at {pair.release.place} and the acquire at {pair.acquire.place} do not meet"
@@ -115,7 +118,8 @@ def of_nothing(said: str, pair: Pair) -> str:
 
 
 def of_hand_over(said: str, pair: Pair) -> str:
-    """A hand-over by atomics one of which orders nothing. In a group those that modify, as counters, may stand beside a barrier that is missing."""
+    """A hand-over by atomics one of which orders nothing. In a group those that modify, as counters, may be there although a barrier is
+    missing."""
     if not pair.store or not pair.load or (pair.is_one_group and not pair.is_locked and pair.load.what != "load"):
         return ""
     lead = said if not pair.is_one_group else HAND_OVER if pair.is_locked else f"{said}, or a release that an acquire takes"

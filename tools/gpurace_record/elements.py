@@ -1,4 +1,4 @@
-"""Words of a buffer as elements of its type: `l_data[1].x`, where a line `element NAME TYPE` of info.txt says it (tools/recorder/types.h)."""
+"""Words of a buffer as elements of its type: `l_data[1].x`, if a line `element NAME TYPE` of info.txt says it (tools/recorder/types.h)."""
 from __future__ import annotations
 
 import json

@@ -9,7 +9,8 @@ from typing import Iterator, List, Tuple
 from .causes import ATOMICS
 from .sides import CALLED, Run, Texts, joined, words_in
 
-KINDS = {"divergence": "divergent barrier", "out-of-bounds": "out of bounds", "race": "race", "unmatched": "unmatched acquire"}  # as shown, in order
+KINDS = {"divergence": "divergent barrier", "out-of-bounds": "out of bounds", "race": "race",
+         "unmatched": "unmatched acquire"}  # in the order in which they are shown
 WHAT = {kind: f"atomic {name}" for kind, name in ATOMICS.items()}
 ORDERS = {"rlx": "relaxed", "acq": "acquire", "rel": "release", "both": "acquire and release"}
 SCOPES = {"grp": "work-group", "dev": "device"}

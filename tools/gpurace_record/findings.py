@@ -108,8 +108,8 @@ class Reader:
         group = race["word"].get("group")
         accesses = [self.access(said[key], race[key]) for key in ("first", "second")]
         runs = runs_of(kind)
-        finding = Finding("race", self.kernel, "", race["cause"]["name"], race["cause"]["sentence"], words_in(runs), runs, accesses=accesses,
-                          maps=self.maps(said["space"], runs))
+        finding = Finding("race", self.kernel, "", race["cause"]["name"], race["cause"]["sentence"], words_in(runs), runs,
+                          accesses=accesses, maps=self.maps(said["space"], runs))
         finding.is_equal = (said["first"], said["second"]) == ("write", "write") and all(
             any(it.first <= run.first and run.last <= it.last for it in self.equal.get(run.group, ())) for run in runs)
         buffer = race["buffer"]
@@ -118,7 +118,8 @@ class Reader:
         pair = self.pairs.between(said, race, accesses)
         if pair:
             self.pairs.put_marks((race["first"], race["second"]), accesses)
-            finding.message = causes.sentence(finding.cause, finding.message, pair._replace(kind=element.kind_of(number) if element else ""))
+            pair = pair._replace(kind=element.kind_of(number) if element else "")
+            finding.message = causes.sentence(finding.cause, finding.message, pair)
         shown, word = (name_of(buffer["name"] if buffer else "", said["space"], [(number, number)], 1, it) for it in (element, None))
         finding.shown = shown + ("" if group is None else f" of {self.shape.group_name(group)}")
         finding.word = word if word != shown else ""

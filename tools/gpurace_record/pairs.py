@@ -27,12 +27,13 @@ def are_at_one(of: Callable[[str], str], first: Access, second: Access) -> bool:
 class Pairs:
     """What is between two accesses, each an event of gpurace's answer, by the records of their groups."""
 
-    def __init__(self, groups: Dict[int, Group], places: Places, shape: Shape, texts: Texts, divergent: Set[Tuple[int, int]], waits: Set[int]):
+    def __init__(self, groups: Dict[int, Group], places: Places, shape: Shape, texts: Texts, divergent: Set[Tuple[int, int]],
+                 waits: Set[int]):
         self.groups, self.places, self.shape, self.texts, self.divergent, self.waits = groups, places, shape, texts, divergent, waits
 
     def put_marks(self, events: Tuple[Dict[str, Any], Dict[str, Any]], accesses: List[Access]) -> None:
-        """Gives both accesses the steps around them. Of two items of a group the same barriers are shown: from the one before the first of the
-        two to the one after the last; of many those at both ends."""
+        """Gives both accesses the steps around them. Of two items of a group the same barriers are shown: from the one before the first of
+        the two to the one after the last; of many those at both ends."""
         number, group = events[0]["group"], self.groups[events[0]["group"]]
         shown: Optional[Set[int]] = None
         if number == events[1]["group"]:
@@ -59,8 +60,8 @@ class Pairs:
             key = (group, item, step.release) if step.is_release() else ()
             place = self.places.event(group, item, step.at).split(CALLED)[0]
             return Mark(step.kind, place, step.scope, step.order, is_racing=is_racing, key=key, takes=step.names)
-        return Mark("barrier", self.places.site(step.word).split(CALLED)[0], instance=self.groups[group].phase(item, step.at), flags=step.space,
-                    is_wait=step.word in self.waits)
+        return Mark("barrier", self.places.site(step.word).split(CALLED)[0], instance=self.groups[group].phase(item, step.at),
+                    flags=step.space, is_wait=step.word in self.waits)
 
     def between(self, said: Dict[str, Any], race: Dict[str, Any], accesses: List[Access]) -> Optional[causes.Pair]:
         """The two accesses with what is between them; None if their records were not read."""
@@ -93,8 +94,8 @@ class Pairs:
         return line != "" and line == self.line_of_update(second) and bool(is_shown)
 
     def line_of_update(self, event: Dict[str, Any]) -> str:
-        """The line at which an item reads the word of the event and writes it next, both plainly and with no barrier between; empty where it does
-        not, or the line is not known."""
+        """The line at which an item reads the word of the event and writes it next, both plainly and with no barrier between; empty if it
+        does not, or the line is not known."""
         number, item = event["group"], event["item"]
         group = self.groups[number]
         own = group.step(item, event["index"])
@@ -107,8 +108,8 @@ class Pairs:
         return lines.pop() if len(lines) == 1 else ""
 
     def hand_over(self, one: Dict[str, Any], other: Dict[str, Any]) -> Tuple[Optional[causes.At], Optional[causes.At]]:
-        """The release of an event's item after it, and the acquire of another event's item before that one, where there are such. What waits for
-        copies is none: the item that copies hands nothing else over."""
+        """The release of an event's item after it, and the acquire of another event's item before that one, if there are such. What waits
+        for copies is none: the item that copies hands nothing else over."""
         after = [step for step in self.groups[one["group"]].steps[one["item"]] if step.at > one["index"] and step.is_release()
                  and not self.shape.is_copying(one["group"], one["item"])]
         before = [step for step in self.groups[other["group"]].steps[other["item"]] if step.at < other["index"] and step.is_acquire()
@@ -142,5 +143,6 @@ class Pairs:
         number, group = first["group"], self.groups[first["group"]]
         phases = sorted((group.phase(event["item"], event["index"]), event["item"]) for event in (first, second))
         steps = group.barriers[phases[1][1]]
-        return [causes.Barrier(self.places.site(steps[at].word), steps[at].space, (number, at) in self.divergent, steps[at].word in self.waits)
-                for at in range(phases[0][0], phases[1][0])]
+        between = [(at, steps[at]) for at in range(phases[0][0], phases[1][0])]
+        return [causes.Barrier(self.places.site(step.word), step.space, (number, at) in self.divergent, step.word in self.waits)
+                for at, step in between]
