@@ -1,4 +1,4 @@
--- A word has an account just where it is racy.
+-- A word has an account exactly if it is racy.
 use Rattle.std.proofs.Common.{◌↔◌, ℕ, IsTrue, Option, None, Some, is_some, refl, sym, true≢false, option_map}
 use Rattle.gr_model.specs.declared.event.Word.{Word}
 use Rattle.gr_model.specs.Races.{IsRacy}

@@ -30,11 +30,10 @@ use Rattle.gr_races.specs.contracts.kinds.PlacedOperationPartialEq.TheImpl as pl
 use Rattle.gr_races.specs.contracts.kinds.RaceKindEq.TheImpl.Laws as equal
 use Rattle.gr_explain.proofs.Lists.{first_or_rest}
 use Rattle.gr_races.specs.Causes.{IsPairOf}
-use Rattle.gr_races.specs.Kinds.{all_kinded, by_tags, is_alike, operation_of, placed_at, same_kind, tag_at}
+use Rattle.gr_races.specs.Kinds.{all_kinded, by_tags, is_alike, operation_of, placed_at, same_kind, tag_at, with_causes}
 use Rattle.gr_races.specs.Listing.{in_order, kinds_after, kinds_of, with_kind}
-use Rattle.gr_races.specs.Telling.{with_causes}
 
--- ---- a launch has a racy word exactly where it has a race
+-- ---- a launch has a racy word exactly if it has a race
 
 pub race_said : (s : Streams) (racy : List Word) (n : ℕ) → AreRaces s racy → n ≡ length racy → IsTrue (nat_lt 0 n) ↔ ((w : Word) × IsRacy s (IsGrounded s) w)
 race_said s [] n are same = (λ t. absurd (omega (arith, same, ltb-true 0 n t)), λ racy. absurd (omega (arith, ((are.exact racy.0).1 racy.1).1)))

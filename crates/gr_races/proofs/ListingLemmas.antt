@@ -9,9 +9,8 @@ use Rattle.gr_races.specs.declared.cause.Cause.{Cause}
 use Rattle.gr_places.specs.PlaceIndexes.{Indexed, Indexes, number_at}
 use Rattle.gr_places.specs.SideLines.{PlaceSaid, place_number}
 use Rattle.gr_races.specs.declared.kinds.KindedRace.{KindedRace}
-use Rattle.gr_races.specs.Kinds.{all_kinded, kinded}
+use Rattle.gr_races.specs.Kinds.{all_kinded, kinded, with_causes}
 use Rattle.gr_races.specs.Listing.{with_row}
-use Rattle.gr_races.specs.Telling.{with_causes}
 
 count_told : (races : List Race) (causes : List Cause) → length (with_causes races causes) ≡ length races
 count_told [] causes = refl

@@ -1,4 +1,4 @@
--- Where a rule is relaxed, lists that are accepted still are.
+-- If a rule is relaxed, lists that are accepted still are.
 use Rattle.std.proofs.Common.{◌≡◌, ℕ, ◌<◌, ◌≤◌, ◌==◌, ◌&&◌, Bool, true, List, [], ◌∷◌, All, filter, length, map, Option, Some, None, option_and_then, option_map, slice_get, suc, refl, sym, ap, ◌∙◌, subst, arith, not}
 use Rattle.std.specs.List.{list_all}
 use Rattle.std.proofs.lemmas.Bool.{and_parts}
@@ -97,7 +97,7 @@ still_accesses r s pair race =
     let may_race = race.race.may_race in
     record { first = (pair.word, still_word r s pair.first ∙ may_race.word_first); second = (pair.word, still_word r s pair.second ∙ may_race.word_second) }
 
--- ---- where a rule changes nothing
+-- ---- if a rule changes nothing
 
 -- a list of such records is the same
 pub same_list : (r : Relaxation) (xs : List Event) → list_all (λ x. is_relaxed r x.kind) xs ≡ true → map (relaxed_event r) xs ≡ xs

@@ -11,9 +11,8 @@ use Rattle.gr_explain.specs.LeastRaces.{IsLeastRace}
 use Rattle.gr_explain.specs.TagRaces.{AreTagRaces}
 use Rattle.gr_places.specs.declared.places.Placed.{Placed}
 use Rattle.gr_races.specs.declared.kinds.KindedRace.{KindedRace}
-use Rattle.gr_races.specs.Kinds.{all_kinded, is_of_tags, tag_at}
+use Rattle.gr_races.specs.Kinds.{all_kinded, is_of_tags, tag_at, with_causes}
 use Rattle.gr_races.specs.Listing.{in_order}
-use Rattle.gr_races.specs.Telling.{with_causes}
 use Rattle.gr_races.specs.declared.cause.Cause.{Cause}
 use Rattle.gr_races.specs.Causes.{IsCause}
 use Rattle.gr_races.specs.declared.account.Account.{Account}
@@ -21,7 +20,7 @@ use Rattle.gr_timeline.specs.declared.details.Details.{Details}
 use Rattle.gr_races.specs.Between.{BetweenSaid, between_of, between_said}
 use Rattle.gr_timeline.specs.Details.{details_of}
 
--- the races of a word but for those of two tags; but those of two groups are among them, where the pair at hand is of one
+-- the races of a word but for those of two tags; but those of two groups are among them, if the pair at hand is of one
 abbrev pub others_of : List KindedRace → ℕ → ℕ → Bool → List KindedRace
 others_of rows a b one_group = filter (λ row. not (is_of_tags row.kind a b) || (one_group && not row.kind.one_group)) rows
 
@@ -53,6 +52,6 @@ pub record IsAccount (s : Streams) (numbers : Placed → Option ℕ) (w : Word) 
   pub cause : IsCause s w a.first a.second a.cause
   pub others : AreOthers s numbers w a.first a.second a.others
 
--- that of the word's least racing pair, or none exactly where the word is not racy
+-- that of the word's least racing pair, or none exactly if the word is not racy
 abbrev pub IsAccountOf : Streams → (Placed → Option ℕ) → Word → Option AccountSaid → Type 0
 IsAccountOf s numbers w account = MatchOption account (¬ IsRacy s (IsGrounded s) w) (λ a. IsAccount s numbers w a)

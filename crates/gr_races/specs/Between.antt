@@ -43,17 +43,17 @@ is_acquire e = is_acquire_kind e.kind
 abbrev pub with_details : EventId → Details → DetailedEvent
 with_details e d = record { event = e; details = d }
 
--- an item's event of this index with its details, where there is one
-abbrev pub told_at : Streams → ItemId → ℕ → Option DetailedEvent
-told_at s i k = let e : EventId = record { at = i; index = k } in option_map (with_details e) (details_of s e)
+-- an item's event of this index with its details, if there is one
+abbrev pub detailed_at : Streams → ItemId → ℕ → Option DetailedEvent
+detailed_at s i k = let e : EventId = record { at = i; index = k } in option_map (with_details e) (details_of s e)
 
 -- the first release of its item's trace after an event
 abbrev pub release_behind : Streams → EventId → Option DetailedEvent
-release_behind s e = option_and_then (told_at s e.at) (find (nat_lt e.index) (places_from is_release 0 (trace_of s e.at)))
+release_behind s e = option_and_then (detailed_at s e.at) (find (nat_lt e.index) (places_from is_release 0 (trace_of s e.at)))
 
 -- the last acquire of its item's trace before an event
 abbrev pub acquire_before : Streams → EventId → Option DetailedEvent
-acquire_before s e = option_and_then (told_at s e.at) (last_or None (filter (λ k. nat_lt k e.index) (places_from is_acquire 0 (trace_of s e.at))))
+acquire_before s e = option_and_then (detailed_at s e.at) (last_or None (filter (λ k. nat_lt k e.index) (places_from is_acquire 0 (trace_of s e.at))))
 
 -- ---- both
 

@@ -1,6 +1,6 @@
 -- The cause of a race: the first rule without which its two accesses would be no race, or else what is missing between them.
 -- Source: docs/OUTPUT.md, "explain --long". Causes are this project's own.
-use Rattle.std.specs.Prelude.{◌≡◌, ◌≢◌, List}
+use Rattle.std.specs.Prelude.{◌≡◌, ◌≢◌, Bool, true, false, List, []}
 use Rattle.gr_model.specs.declared.event.EventId.{EventId}
 use Rattle.gr_model.specs.declared.event.Word.{Word}
 use Rattle.gr_model.specs.declared.race.Race.{Race}
@@ -16,7 +16,7 @@ use Rattle.gr_races.specs.declared.relaxing.Relaxation.TheVariants.{BothFlags, D
 use Rattle.gr_races.specs.Parting.{AreParted}
 use Rattle.gr_races.specs.Relaxing.{relaxed}
 
--- where a rule is relaxed, both events are judged and are no race
+-- if a rule is relaxed, both events are judged and are no race
 pub record IsMended (s : Streams) (r : Relaxation) (w : Word) (e f : EventId) : Type 0 where
   pub judged : AreJudged (relaxed r s) e f
   pub no_race : ¬ IsRace (relaxed r s) w e f
@@ -43,3 +43,8 @@ IsCauseOf s r c = IsCause s r.word r.first r.second c
 -- one cause for each race, in their order
 abbrev pub AreCauses : Streams → List Race → List Cause → Type 0
 AreCauses s races causes = AreAnswers (IsCauseOf s) races causes
+
+-- if causes are asked for, the cause of each race; else none
+abbrev pub AreTold : Streams → Bool → List Race → List Cause → Type 0
+AreTold s false races told = told ≡ []
+AreTold s true races told = AreCauses s races told

@@ -1,6 +1,6 @@
 -- Kinds of races.
 -- Source: docs/OUTPUT.md, "races". They are this project's own.
-use Rattle.std.specs.Prelude.{ℕ, ◌+◌, ◌*◌, Bool, ◌==◌, ◌&&◌, ◌||◌, is_some, nat_lt, if◌then◌else◌, Option, None, Some, option_and_then, option_map, List}
+use Rattle.std.specs.Prelude.{ℕ, ◌+◌, ◌*◌, Bool, ◌==◌, ◌&&◌, ◌||◌, is_some, nat_lt, if◌then◌else◌, Option, None, Some, option_and_then, option_map, List, [], ◌∷◌}
 use Rattle.std.specs.List.{filter_map}
 use Rattle.std.specs.Option.{option_map_or}
 use Rattle.gr_races.specs.declared.cause.Cause.{Cause}
@@ -29,13 +29,9 @@ operation_of (kinds.Rmw scope order) = Some Rmw
 operation_of (kinds.Barrier global local) = None
 operation_of (kinds.End cut) = None
 
--- what an event does
-abbrev pub operation_at : Streams → EventId → Option Operation
-operation_at s e = option_and_then (λ x. operation_of x.kind) (event_at s e)
-
 -- what an event does, and the number of its place
 abbrev pub placed_at : Streams → (Placed → Option ℕ) → EventId → Option PlacedOperation
-placed_at s numbers e = option_map (λ a. record { operation = a; place = numbers (Event e) }) (operation_at s e)
+placed_at s numbers e = option_map (λ a. record { operation = a; place = numbers (Event e) }) (option_and_then (λ x. operation_of x.kind) (event_at s e))
 
 -- ---- tags
 
@@ -53,7 +49,7 @@ place_tag (Some n) = n + 1
 abbrev pub tag_of : PlacedOperation → ℕ
 tag_of p = place_tag p.place * 5 + operation_number p.operation
 
--- the tag of an event, and 0 where it is not there or is no access
+-- the tag of an event, and 0 if it is not there or is no access
 abbrev pub tag_at : Streams → (Placed → Option ℕ) → EventId → ℕ
 tag_at s numbers e = option_map_or tag_of (placed_at s numbers e) 0
 
@@ -86,7 +82,7 @@ kind_of r cause a b = record {
 abbrev pub with_operations : Race → Option Cause → PlacedOperation → PlacedOperation → KindedRace
 with_operations r cause a b = if nat_lt (tag_of b) (tag_of a) then kind_of (turned r) cause b a else kind_of r cause a b
 
--- a race with its kind, where places have these numbers: the memory of its word, what its two events do and where, whether they are of
+-- a race with its kind, if places have these numbers: the memory of its word, what its two events do and where, whether they are of
 -- one group, and the cause, if it was found
 abbrev pub kinded : Streams → (Placed → Option ℕ) → Race × Option Cause → Option KindedRace
 kinded s numbers (r, cause) = option_and_then (λ a. option_map (λ b. with_operations r cause a b) (placed_at s numbers r.second)) (placed_at s numbers r.first)
@@ -94,6 +90,12 @@ kinded s numbers (r, cause) = option_and_then (λ a. option_map (λ b. with_oper
 -- a race with the event of the lesser tag first
 abbrev pub by_tags : (EventId → ℕ) → Race → Race
 by_tags tag r = if nat_lt (tag r.second) (tag r.first) then turned r else r
+
+-- races, each with its cause, if causes were found
+abbrev pub with_causes : List Race → List Cause → List (Race × Option Cause)
+with_causes [] causes = []
+with_causes (r ∷ races) [] = (r, None) ∷ with_causes races []
+with_causes (r ∷ races) (c ∷ causes) = (r, Some c) ∷ with_causes races causes
 
 -- races with their kinds, each with its cause if that was found
 abbrev pub all_kinded : Streams → (Placed → Option ℕ) → List (Race × Option Cause) → List KindedRace

@@ -1,12 +1,10 @@
 pub mod Relaxing
 pub mod Parting
 pub mod Causes
-pub mod CauseLaws
 pub mod Between
 pub mod Kinds
 pub mod Runs
 pub mod Listing
-pub mod Telling
 pub mod Accounts
 pub mod Shown
 pub mod Laws

@@ -3,7 +3,7 @@
 use Rattle.std.specs.Prelude.{Bool, true, false, ◌&&◌}
 use Rattle.gr_model.specs.declared.event.Event.{Event}
 use Rattle.gr_model.specs.declared.event.Kind.{Kind}
-use Rattle.gr_model.specs.declared.event.Kind.TheVariants.{Read, Write, Load, Store, Rmw, Barrier, End}
+use Rattle.gr_model.specs.declared.event.Kind.TheVariants.{Load, Store, Rmw, Barrier}
 use Rattle.gr_model.specs.declared.event.Scope.{Scope}
 use Rattle.gr_model.specs.declared.event.Scope.TheVariants.{Device, Group}
 use Rattle.gr_model.specs.Streams.{Streams}
@@ -11,33 +11,17 @@ use Rattle.gr_taking.specs.Taken.{read_by}
 use Rattle.gr_races.specs.declared.relaxing.Relaxation.{Relaxation}
 use Rattle.gr_races.specs.declared.relaxing.Relaxation.TheVariants.{BothFlags, DeviceScope}
 
--- the flags of a barrier name both memories
-abbrev pub with_both_flags : Kind → Kind
-with_both_flags Read = Read
-with_both_flags Write = Write
-with_both_flags (Load scope order) = Load scope order
-with_both_flags (Store scope order) = Store scope order
-with_both_flags (Rmw scope order) = Rmw scope order
-with_both_flags (Barrier global local) = Barrier true true
-with_both_flags (End cut) = End cut
-
 abbrev pub is_device : Scope → Bool
 is_device Group = false
 is_device Device = true
 
--- an atomic access has device scope
-abbrev pub with_device_scope : Kind → Kind
-with_device_scope Read = Read
-with_device_scope Write = Write
-with_device_scope (Load scope order) = Load Device order
-with_device_scope (Store scope order) = Store Device order
-with_device_scope (Rmw scope order) = Rmw Device order
-with_device_scope (Barrier global local) = Barrier global local
-with_device_scope (End cut) = End cut
-
+-- what a record says if a rule is relaxed: the flags of a barrier name both memories, or an atomic access has device scope
 abbrev pub relaxed_kind : Relaxation → Kind → Kind
-relaxed_kind BothFlags kind = with_both_flags kind
-relaxed_kind DeviceScope kind = with_device_scope kind
+relaxed_kind BothFlags (Barrier global local) = Barrier true true
+relaxed_kind DeviceScope (Load scope order) = Load Device order
+relaxed_kind DeviceScope (Store scope order) = Store Device order
+relaxed_kind DeviceScope (Rmw scope order) = Rmw Device order
+relaxed_kind r kind = kind
 
 -- relaxing the rule leaves what a record says
 abbrev pub is_relaxed : Relaxation → Kind → Bool

@@ -9,13 +9,13 @@ use Rattle.gr_model.specs.Streams.{Streams}
 use Rattle.gr_model.specs.Waits.{IsGrounded}
 use Rattle.gr_explain.specs.TagRaces.{AreTagRaces}
 use Rattle.gr_races.specs.declared.cause.Cause.{Cause}
+use Rattle.gr_races.specs.Causes.{AreTold}
 use Rattle.gr_places.specs.declared.places.Placed.{Placed}
-use Rattle.gr_races.specs.Kinds.{all_kinded, tag_at}
+use Rattle.gr_races.specs.Kinds.{all_kinded, tag_at, with_causes}
 use Rattle.gr_races.specs.Listing.{Entry, entries, in_order}
-use Rattle.gr_races.specs.Telling.{AreTold, with_causes}
 
--- the races of a launch where places have these numbers, one for each racy word and each two tags that race on it, kind by kind, with
--- causes where they are asked for, and how many racy words there are
+-- the races of a launch if places have these numbers, one for each racy word and each two tags that race on it, kind by kind, with
+-- causes if they are asked for, and how many racy words there are
 pub record AreListedRaces (s : Streams) (numbers : Placed → Option ℕ) (causes : Bool) (by_kind : List Entry) (count : ℕ) : Type 0 where
   pub racy : List Word
   pub words : AreRaces s racy

@@ -1,24 +1,19 @@
 //! The least racing pair of a word, what its accesses are, what lies between them, the cause of their race, and the word's other races.
 
-ghost use Rattle.std.specs.Prelude.{◌≡◌, ◌∷◌, [], ℕ, IfOk, Option, option_map};
+ghost use Rattle.std.specs.Prelude.{◌≡◌, ◌∷◌, [], IfOk, option_map};
 ghost use Rattle.gr_model.specs.declared.event.Word.{Word as AnyWord};
-ghost use Rattle.gr_model.specs.Streams.{IsEvent};
-ghost use Rattle.gr_races.specs.Causes.{IsCause};
 ghost use Rattle.gr_explain.specs.LeastRaces.{IsLeastRace};
 ghost use Rattle.gr_explain.specs.TagRaces.{AreTagRaces};
-ghost use Rattle.gr_places.specs.declared.places.Placed.{Placed as AnyPlaced};
 ghost use Rattle.gr_places.specs.PlaceIndexes.{number_at};
 ghost use Rattle.gr_places.specs.SideLines.{place_number};
 ghost use Rattle.gr_places.specs.Sides.{sides_said};
-ghost use Rattle.gr_races.specs.Accounts as spec;
 ghost use Rattle.gr_races.specs.Kinds.{tag_at};
-ghost use Rattle.gr_races.specs.Accounts.{AreOthers, IsAccount, IsAccountOf, account_said};
+ghost use Rattle.gr_races.specs.Accounts.{AreOthers, IsAccount, IsAccountOf, account_said, others_of};
 
 use crate::between::{Between, between_of};
 use crate::cause::{Cause, cause_of};
-use crate::kinds::KindedRace;
+use crate::kinds::{KindedRace, PlaceTags};
 use crate::listing::ordered_rows;
-use crate::place_tags::PlaceTags;
 use gr_explain::records::Records;
 use gr_explain::tagged::explain_by_tags;
 use gr_explain::tags::Tags;
@@ -59,7 +54,7 @@ fn others_of<A: Allocator>(
     other: u128,
     one_group: bool,
 ) -> Result<Vec<KindedRace, A>, Memory>
-    ensures { IfOk result (λ others. others.items ≡ spec.others_of rows.now tag other one_group) }
+    ensures { IfOk result (λ others. others.items ≡ others_of rows.now tag other one_group) }
 {
     let others = rows
         .iter()
@@ -85,33 +80,6 @@ fn other_races<A: Allocator + Copy>(
     others_of(alloc, &rows, tags.tag(first), tags.tag(second), one_group)
 }
 
-/// The account of the least racing pair of a word, of this cause, with these other races of the word.
-fn account_with<A: Allocator + Copy>(
-    alloc: A,
-    traces: &Traces<A>,
-    records: &Records<'_, A>,
-    first: EventId,
-    second: EventId,
-    cause: Cause,
-    others: Vec<KindedRace, A>,
-) -> Result<Account<A>, Memory>
-    requires same { records.now ≡ traces.now }
-    requires first { IsEvent traces.now first }
-    requires second { IsEvent traces.now second }
-    ensures { IfOk result (λ account. (w : AnyWord) (numbers : AnyPlaced → Option ℕ) → IsLeastRace traces.now w (first, second) → IsCause traces.now w first second cause → AreOthers traces.now numbers w first second others.items → IsAccount traces.now numbers w (account_said account)) }
-{
-    let between = between_of(alloc, traces, records, first, second)?;
-    Ok(Account {
-        first,
-        second,
-        first_details: details_of(traces, records, first),
-        second_details: details_of(traces, records, second),
-        between,
-        cause,
-        others,
-    })
-}
-
 /// The account of the least racing pair of a word, which has these races, one for each two tags.
 fn account_of_pair<A: Allocator + Copy>(
     alloc: A,
@@ -129,10 +97,19 @@ fn account_of_pair<A: Allocator + Copy>(
 {
     let cause = cause_of(alloc, traces, word, first, second)?;
     let others = other_races(alloc, tags, races, first, second)?;
-    account_with(alloc, traces, tags.records, first, second, cause, others)
+    let between = between_of(alloc, traces, tags.records, first, second)?;
+    Ok(Account {
+        first,
+        second,
+        first_details: details_of(traces, tags.records, first),
+        second_details: details_of(traces, tags.records, second),
+        between,
+        cause,
+        others,
+    })
 }
 
-/// The account of the least racing pair of a word, where this index has the places, or `None` where the word is not racy.
+/// The account of the least racing pair of a word, if this index has the places, or `None` if the word is not racy.
 fn account_by<A: Allocator + Copy>(
     alloc: A,
     traces: &Traces<A>,
@@ -157,10 +134,11 @@ fn account_by<A: Allocator + Copy>(
 }
 
 /// The least racing pair of a word with what lies between its accesses, the cause of the race, and the word's other races, by what side
-/// files say, or `None` where the word is not racy.
+/// files say, or `None` if the word is not racy.
 ///
 /// # Errors
 /// `Memory`: out of memory.
+#[tactic(auto, using(crate::proofs::ListingLemmas::numbers_said))]
 pub fn account_of<A: Allocator + Copy>(
     alloc: A,
     traces: &Traces<A>,

@@ -55,20 +55,15 @@ pub struct Between<A: Allocator = Global> {
 fn crossing_of(instance: usize, event: &Event) -> Option<Crossing>
     ensures { result ≡ spec.crossing_of (instance, event.now) }
 {
-    match event.kind {
-        Kind::Barrier { global, local } => Some(Crossing {
-            instance,
-            site: event.word,
-            global,
-            local,
-        }),
-        Kind::Read
-        | Kind::Write
-        | Kind::Load(_, _)
-        | Kind::Store(_, _)
-        | Kind::Rmw(_, _)
-        | Kind::End { cut: _ } => None,
-    }
+    let Kind::Barrier { global, local } = event.kind else {
+        return None;
+    };
+    Some(Crossing {
+        instance,
+        site: event.word,
+        global,
+        local,
+    })
 }
 
 /// The barriers of an item before its record of this index, from the barrier of this number on.
@@ -158,8 +153,8 @@ fn acquire_below(list: &[Event], item: u16, index: u32) -> Option<u32>
     found
 }
 
-/// An item's event of this index with its details, where there is one.
-fn told_at<A: Allocator>(
+/// An item's event of this index with its details, if there is one.
+fn detailed_at<A: Allocator>(
     traces: &Traces<A>,
     records: &Records<'_, A>,
     at: ItemId,
@@ -167,41 +162,11 @@ fn told_at<A: Allocator>(
 ) -> Option<DetailedEvent>
     requires same { records.now ≡ traces.now }
     requires group { at.group < length traces.now.sizes }
-    ensures { result ≡ option_and_then (spec.told_at traces.now at) index }
+    ensures { result ≡ option_and_then (spec.detailed_at traces.now at) index }
 {
     let event = EventId { at, index: index? };
     let details = details_at(traces, records, event)?;
     Some(DetailedEvent { event, details })
-}
-
-/// The first release of its item after an access.
-fn release_behind<A: Allocator>(
-    traces: &Traces<A>,
-    records: &Records<'_, A>,
-    access: EventId,
-) -> Option<DetailedEvent>
-    requires same { records.now ≡ traces.now }
-    requires group { access.at.group < length traces.now.sizes }
-    ensures { result ≡ spec.release_behind traces.now access }
-{
-    let list = traces.list(access.at.group);
-    let index = release_above(list, access.at.item, access.index);
-    told_at(traces, records, access.at, index)
-}
-
-/// The last acquire of its item before an access.
-fn acquire_before<A: Allocator>(
-    traces: &Traces<A>,
-    records: &Records<'_, A>,
-    access: EventId,
-) -> Option<DetailedEvent>
-    requires same { records.now ≡ traces.now }
-    requires group { access.at.group < length traces.now.sizes }
-    ensures { result ≡ spec.acquire_before traces.now access }
-{
-    let list = traces.list(access.at.group);
-    let index = acquire_below(list, access.at.item, access.index);
-    told_at(traces, records, access.at, index)
 }
 
 /// What lies between two accesses of a launch. It takes time that grows with the records of their groups.
@@ -223,9 +188,11 @@ pub fn between_of<A: Allocator>(
     let groups = traces.shape().groups();
     let within = first.at.group < groups && second.at.group < groups;
     prove!(within);
+    let release = release_above(traces.list(first.at.group), first.at.item, first.index);
+    let acquire = acquire_below(traces.list(second.at.group), second.at.item, second.index);
     Ok(Between {
         crossings: crossings(alloc, traces, first, second)?,
-        release: release_behind(traces, records, first),
-        acquire: acquire_before(traces, records, second),
+        release: detailed_at(traces, records, first.at, release),
+        acquire: detailed_at(traces, records, second.at, acquire),
     })
 }

@@ -9,10 +9,11 @@ ghost use Rattle.gr_races.specs.Listing.{entry_of};
 ghost use Rattle.gr_races.specs.Shown.{AreListedRaces};
 ghost use Rattle.gr_places.specs.Sides.{sides_said};
 
-use crate::causes::causes_told;
+use crate::cause::causes_of;
+use crate::kinds::PlaceTags;
 use crate::listing::{KindEntry, entries_of};
-use crate::place_tags::tag_races;
 use gr_explain::records::Records;
+use gr_explain::word_pairs::races_by_tags;
 use gr_model::memory::Memory;
 use gr_model::traces::Traces;
 use gr_places::index::PlaceIndex;
@@ -43,7 +44,7 @@ impl<A: Allocator> RacesByKind<A> {
     }
 }
 
-/// The races of a launch kind by kind, and its report, which is this one, where this index has the places.
+/// The races of a launch kind by kind, and its report, which is this one, if this index has the places.
 fn list_found<A: Allocator + Copy>(
     alloc: A,
     traces: &Traces<A>,
@@ -57,8 +58,13 @@ fn list_found<A: Allocator + Copy>(
     ensures listed { IfOk result (λ r. AreListedRaces traces.now (number_at index.now) causes (map entry_of r.kinds.items) r.races) }
     ensures report { IfOk result (λ r. r.report ≡ report) }
 {
-    let races = tag_races(alloc, traces, records, index, report.races.as_slice())?;
-    let told = causes_told(alloc, traces, causes, &races)?;
+    let tags = PlaceTags { records, index };
+    let races = races_by_tags(alloc, traces, report.races.as_slice(), &tags)?;
+    let told = if causes {
+        causes_of(alloc, traces, &races)?
+    } else {
+        Vec::new(alloc)
+    };
     let kinds = entries_of(alloc, records, index, &races, &told)?;
     Ok(RacesByKind {
         kinds,
@@ -67,7 +73,7 @@ fn list_found<A: Allocator + Copy>(
     })
 }
 
-/// The races of a launch kind by kind, and its report, where this index has the places.
+/// The races of a launch kind by kind, and its report, if this index has the places.
 fn list_races<A: Allocator + Copy>(
     alloc: A,
     traces: &Traces<A>,
@@ -86,6 +92,7 @@ fn list_races<A: Allocator + Copy>(
 ///
 /// # Errors
 /// `Memory`: out of memory.
+#[tactic(auto, using(crate::proofs::ListingLemmas::numbers_said))]
 pub fn races_by_kind<A: Allocator + Copy>(
     alloc: A,
     traces: &Traces<A>,

@@ -48,7 +48,7 @@ fn all_race<A: Allocator>(alloc: A, races: &[Race]) -> Result<Vec<Judgement, A>,
     Ok(judgements)
 }
 
-/// Whether the two accesses of each race still race where a rule is relaxed.
+/// Whether the two accesses of each race still race if a rule is relaxed.
 fn judged_where<A: Allocator + Copy>(
     alloc: A,
     traces: &Traces<A>,
@@ -64,17 +64,14 @@ fn judged_where<A: Allocator + Copy>(
     judge_races(alloc, traces, relaxation, races)
 }
 
-/// Whether two events, with this judgement where a rule is relaxed, are both judged there and no race.
+/// Whether two events, with this judgement if a rule is relaxed, are then both judged and no race.
 fn is_mended(judgement: Judgement) -> bool
     ensures { (s : Streams) (r : AnyRelaxation) (w : AnyWord) (e f : AnyEvent) → IsJudgement (spec.relaxed r s) w e f judgement → IsTrue result ↔ IsMended s r w e f }
 {
-    match judgement {
-        Judgement::NoRace => true,
-        Judgement::Race | Judgement::Held => false,
-    }
+    matches!(judgement, Judgement::NoRace)
 }
 
-/// The cause of a race in a launch with these records, where it is known which relaxed rules make it no race.
+/// The cause of a race in a launch with these records, if it is known which relaxed rules make it no race.
 fn cause_from<A: Allocator>(lanes: &Lanes<A>, race: &Race, by_flags: bool, by_scope: bool) -> Cause
     requires pair { IsPairOf lanes.now.streams race.now }
     requires prefixes { ArePrefixes lanes.now.streams }

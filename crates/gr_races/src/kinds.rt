@@ -7,6 +7,7 @@ ghost use Rattle.gr_races.specs.Kinds as spec;
 use crate::cause::Cause;
 use gr_clocks::clocks::memory_of;
 use gr_explain::records::Records;
+use gr_explain::tags::Tags;
 use gr_model::event::{EventId, Kind, Space};
 use gr_model::race::Race;
 use gr_places::index::PlaceIndex;
@@ -87,7 +88,7 @@ pub struct KindedRace {
     pub race: Race,
 }
 
-/// What a record of this kind does, or `None` where it is no access.
+/// What a record of this kind does, or `None` if it is no access.
 fn operation_of(kind: &Kind) -> Option<Operation>
     ensures { result ≡ spec.operation_of kind.now }
 {
@@ -97,31 +98,19 @@ fn operation_of(kind: &Kind) -> Option<Operation>
         Kind::Load(_, _) => Some(Operation::Load),
         Kind::Store(_, _) => Some(Operation::Store),
         Kind::Rmw(_, _) => Some(Operation::Rmw),
-        Kind::Barrier {
-            global: _,
-            local: _,
-        }
-        | Kind::End { cut: _ } => None,
+        Kind::Barrier { .. } | Kind::End { .. } => None,
     }
 }
 
-/// What an event of a launch does, or `None` where it is not there or is no access.
-fn operation_at<A: Allocator>(records: &Records<'_, A>, event: EventId) -> Option<Operation>
-    ensures { result ≡ spec.operation_at records.now event }
-{
-    let taken = records.event_at(event)?;
-    operation_of(&taken.kind)
-}
-
-/// What an event of a launch does, and where, or `None` where it is not there or is no access.
-pub(crate) fn placed_at<A: Allocator>(
+/// What an event of a launch does, and where, or `None` if it is not there or is no access.
+fn placed_at<A: Allocator>(
     records: &Records<'_, A>,
     index: &PlaceIndex<'_, A>,
     event: EventId,
 ) -> Option<PlacedOperation>
     ensures { result ≡ spec.placed_at records.now (number_at index.now) event }
 {
-    let operation = operation_at(records, event)?;
+    let operation = operation_of(&records.event_at(event)?.kind)?;
     Some(PlacedOperation {
         operation,
         place: index.number_of(Placed::Event(event)),
@@ -142,7 +131,7 @@ fn operation_number(operation: Operation) -> u128
 }
 
 /// The tag of what an access does and where: no place comes first, then the places by their numbers.
-pub(crate) fn tag_of(placed: PlacedOperation) -> u128
+fn tag_of(placed: PlacedOperation) -> u128
     ensures { result ≡ spec.tag_of placed }
 {
     let place = match placed.place {
@@ -152,28 +141,7 @@ pub(crate) fn tag_of(placed: PlacedOperation) -> u128
     place * 5 + operation_number(placed.operation)
 }
 
-/// A race with its kind, where its first event does the one, its second event does the other, and this is its cause if causes were found.
-fn kind_of(
-    race: &Race,
-    first: PlacedOperation,
-    second: PlacedOperation,
-    cause: Option<Cause>,
-) -> KindedRace
-    ensures { result ≡ spec.kind_of race.now cause first second }
-{
-    KindedRace {
-        kind: RaceKind {
-            space: memory_of(race.word),
-            first,
-            second,
-            one_group: race.first.at.group == race.second.at.group,
-            cause,
-        },
-        race: *race,
-    }
-}
-
-/// A race with its kind and this cause, or `None` where its events are not two accesses of the launch.
+/// A race with its kind and this cause, or `None` if its events are not two accesses of the launch.
 pub(crate) fn kinded<A: Allocator>(
     records: &Records<'_, A>,
     index: &PlaceIndex<'_, A>,
@@ -184,14 +152,43 @@ pub(crate) fn kinded<A: Allocator>(
 {
     let first = placed_at(records, index, race.first)?;
     let second = placed_at(records, index, race.second)?;
-    if tag_of(second) < tag_of(first) {
+    let (first, second, race) = if tag_of(second) < tag_of(first) {
         let turned = Race {
             word: race.word,
             first: race.second,
             second: race.first,
         };
-        Some(kind_of(&turned, second, first, cause))
+        (second, first, turned)
     } else {
-        Some(kind_of(race, first, second, cause))
+        (first, second, *race)
+    };
+    let kind = RaceKind {
+        space: memory_of(race.word),
+        first,
+        second,
+        one_group: race.first.at.group == race.second.at.group,
+        cause,
+    };
+    Some(KindedRace { kind, race })
+}
+
+/// The tags of the events of a launch, from its records and the places of its events: two events have one tag exactly if they do the same
+/// at one place, or at no known one.
+#[derive(Clone, Copy)]
+pub(crate) struct PlaceTags<'a, A: Allocator> {
+    /// The records.
+    pub(crate) records: &'a Records<'a, A>,
+    /// The places.
+    pub(crate) index: &'a PlaceIndex<'a, A>,
+}
+
+impl<A: Allocator> Tags for PlaceTags<'_, A> {
+    ghost tag_of = { λ t. spec.tag_at t.records.now (number_at t.index.now) };
+
+    fn tag(&self, event: EventId) -> u128 {
+        match placed_at(self.records, self.index, event) {
+            None => 0,
+            Some(placed) => tag_of(placed),
+        }
     }
 }

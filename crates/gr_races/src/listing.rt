@@ -3,9 +3,8 @@
 ghost use Rattle.std.specs.Prelude.{◌≡◌, IfOk, OnOk, map, slice_get};
 ghost use Rattle.std.specs.List.{list_any};
 ghost use Rattle.gr_places.specs.PlaceIndexes.{number_at};
-ghost use Rattle.gr_races.specs.Kinds.{all_kinded, same_kind};
+ghost use Rattle.gr_races.specs.Kinds.{all_kinded, same_kind, with_causes};
 ghost use Rattle.gr_races.specs.Listing as spec;
-ghost use Rattle.gr_races.specs.Telling.{with_causes};
 
 use crate::cause::Cause;
 use crate::kinds::{KindedRace, RaceKind, kinded};
@@ -64,27 +63,6 @@ fn all_kinded<A: Allocator + Copy>(
         keep_row(&mut rows, row)?;
     }
     Ok(rows)
-}
-
-/// Races of two tags before those of one.
-fn in_order<A: Allocator + Copy>(
-    alloc: A,
-    rows: &[KindedRace],
-) -> Result<Vec<KindedRace, A>, Memory>
-    ensures { IfOk result (λ ordered. ordered.items ≡ spec.in_order rows.now) }
-{
-    let mut ordered: Vec<KindedRace, A> = rows
-        .iter()
-        .copied()
-        .filter(|row| !row.kind.is_alike())
-        .collect(alloc)?;
-    let alike: Vec<KindedRace, A> = rows
-        .iter()
-        .copied()
-        .filter(|row| row.kind.is_alike())
-        .collect(alloc)?;
-    ordered.extend_from_slice(&alike)?;
-    Ok(ordered)
 }
 
 /// Whether a kind is one of these.
@@ -170,7 +148,18 @@ pub(crate) fn ordered_rows<A: Allocator + Copy>(
     ensures { IfOk result (λ rows. rows.items ≡ spec.in_order (all_kinded records.now (number_at index.now) (with_causes races.now causes.now))) }
 {
     let rows = all_kinded(alloc, records, index, races, causes)?;
-    in_order(alloc, &rows)
+    let mut ordered: Vec<KindedRace, A> = rows
+        .iter()
+        .copied()
+        .filter(|row| !row.kind.is_alike())
+        .collect(alloc)?;
+    let alike: Vec<KindedRace, A> = rows
+        .iter()
+        .copied()
+        .filter(|row| row.kind.is_alike())
+        .collect(alloc)?;
+    ordered.extend_from_slice(&alike)?;
+    Ok(ordered)
 }
 
 /// The races kind by kind, those of two tags before those of one, with these causes, the first of the first race.

@@ -19,57 +19,35 @@ pub enum Relaxation {
     DeviceScope,
 }
 
-/// What a record says where the flags of each barrier name both memories.
-fn with_both_flags(kind: Kind) -> Kind
-    ensures { result ≡ spec.with_both_flags kind }
-{
-    match kind {
-        Kind::Barrier {
-            global: _,
-            local: _,
-        } => Kind::Barrier {
-            global: true,
-            local: true,
-        },
-        Kind::Read
-        | Kind::Write
-        | Kind::Load(_, _)
-        | Kind::Store(_, _)
-        | Kind::Rmw(_, _)
-        | Kind::End { cut: _ } => kind,
-    }
-}
-
-/// What a record says where each atomic access has device scope.
-fn with_device_scope(kind: Kind) -> Kind
-    ensures { result ≡ spec.with_device_scope kind }
-{
-    match kind {
-        Kind::Load(_, order) => Kind::Load(Scope::Device, order),
-        Kind::Store(_, order) => Kind::Store(Scope::Device, order),
-        Kind::Rmw(_, order) => Kind::Rmw(Scope::Device, order),
-        Kind::Read
-        | Kind::Write
-        | Kind::Barrier {
-            global: _,
-            local: _,
+impl Relaxation {
+    /// What a record says if the rule is relaxed.
+    fn relaxed_kind(self, kind: Kind) -> Kind
+        ensures { result ≡ spec.relaxed_kind self kind }
+    {
+        match (self, kind) {
+            (Relaxation::BothFlags, Kind::Barrier { .. }) => Kind::Barrier {
+                global: true,
+                local: true,
+            },
+            (Relaxation::DeviceScope, Kind::Load(_, order)) => Kind::Load(Scope::Device, order),
+            (Relaxation::DeviceScope, Kind::Store(_, order)) => Kind::Store(Scope::Device, order),
+            (Relaxation::DeviceScope, Kind::Rmw(_, order)) => Kind::Rmw(Scope::Device, order),
+            (Relaxation::BothFlags, Kind::Load(_, _) | Kind::Store(_, _) | Kind::Rmw(_, _))
+            | (Relaxation::DeviceScope, Kind::Barrier { .. })
+            | (_, Kind::Read | Kind::Write | Kind::End { .. }) => kind,
         }
-        | Kind::End { cut: _ } => kind,
     }
 }
 
 impl Reading for Relaxation {
     ghost read_as = { spec.relaxed_event };
 
-    /// A record where the rule is relaxed: the same but for its kind.
-    fn read(&self, event: &Event) -> Event
-        ensures { result ≡ spec.relaxed_event self.now event.now }
-    {
-        let kind = match self {
-            Relaxation::BothFlags => with_both_flags(event.kind),
-            Relaxation::DeviceScope => with_device_scope(event.kind),
-        };
-        Event { kind, ..*event }
+    /// A record if the rule is relaxed: the same but for its kind.
+    fn read(&self, event: &Event) -> Event {
+        Event {
+            kind: self.relaxed_kind(event.kind),
+            ..*event
+        }
     }
 }
 

@@ -38,16 +38,6 @@ impl Run {
         }
     }
 
-    /// The run with one more word at its end.
-    fn with(self, word: Word) -> Run
-        ensures { result ≡ spec.with_word self word }
-    {
-        Run {
-            first: self.first,
-            last: number_of(word),
-        }
-    }
-
     /// Whether a word comes directly after the run.
     fn goes_on(self, word: Word) -> bool
         ensures { result ≡ spec.goes_on self word }
@@ -73,7 +63,7 @@ pub(crate) fn runs_of<A: Allocator>(alloc: A, races: &[Race]) -> Result<Vec<Run,
     let mut run = Run::of(first.word);
     for race in rest {
         if run.goes_on(race.word) {
-            run = run.with(race.word);
+            run.last = number_of(race.word);
         } else {
             runs.push(run)?;
             run = Run::of(race.word);

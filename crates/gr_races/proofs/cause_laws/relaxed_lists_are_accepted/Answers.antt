@@ -1,5 +1,0 @@
-use Rattle.gr_races.proofs.RelaxingLemmas.{still_all_accepted}
-use Rattle.gr_races.proofs.cause_laws.relaxed_lists_are_accepted.Goals as goal
-
-pub returns : goal.returns
-returns c r s accepted = still_all_accepted r s accepted
