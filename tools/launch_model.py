@@ -206,7 +206,8 @@ def races_of(grounded, pairs):
             words[event.location()].append(event)
     for word, accesses in words.items():
         after = {event: reached(pairs[event.memory], event) for event in accesses}
-        found = [(one, other) for one in accesses for other in accesses if may_race(one, other) and other not in after[one] and one not in after[other]]
+        found = [(one, other) for one in accesses for other in accesses
+                 if may_race(one, other) and other not in after[one] and one not in after[other]]
         races.update({word: found} if found else {})
     return races
 

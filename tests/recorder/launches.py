@@ -237,8 +237,8 @@ race on global word 20
 """)
 
     def test_a_hand_over_that_is_none(self):
-        """Neither, one or the other of the two atomics orders, or the acquire took no value of the release; a third atomic, after the read, has no
-        part in it. Which item is shown first makes no difference."""
+        """Neither, one or the other of the two atomics orders, or the acquire took no value of the release; a third atomic, after the read,
+        has no part in it. Which item is shown first makes no difference."""
         store, load = "the store at f.cl:4:9 is no release", "the load at f.cl:5:13 is no acquire"
         for store_order, load_order, more in (("rlx", "rlx", f": {store} and {load}"), ("rlx", "acq", f": {store}"), ("rel", "rlx", f": {load}"),
                                               ("rel", "acq", "; the release at f.cl:4:9 and the acquire at f.cl:5:13 do not meet")):
@@ -397,7 +397,8 @@ race on input[0]
 """)
 
     def test_divergent_barriers_of_one_text(self):
-        """The first barriers are at lines 2 and 4, whose text is the same; only line 4 has the second and third ones, which differ in their items."""
+        """The first barriers are at lines 2 and 4, whose text is the same; only line 4 has the second and third ones, which differ in their
+        items."""
         streams = ["group 0 items 3 launch 7 v2\n0 bar 1 l\n1 bar 2 l\n0 bar 2 l\n0 bar 2 l\n1 bar 2 l\nend\n"]
         self.assert_report(streams, {"kernel.cl": "if (a)\n  barrier(F);\nif (b)\n  barrier(F);\n", "places": "1 kernel.cl:2:3\n2 kernel.cl:4:3\n"}, "found", """\
 divergent barrier, number 0 of group 0
@@ -422,7 +423,7 @@ divergent barrier, number 1 of group 0, and 1 more alike
             self.assertEqual([it.message for it in launch.findings], [GLOBAL + more])
 
     def test_the_last_barrier_before_both(self):
-        """In the second round of a loop item 0 writes what item 1 has read in the first one: there is a barrier in the text between the two lines."""
+        """In the second round of a loop item 0 writes what item 1 has read in the first one: in the text a barrier is between the two lines."""
         streams = ["group 0 items 2 launch 7\n0 w g 5\n0 bar 3 g\n1 bar 3 g\n1 r g 5\n0 w g 5\nend\n"]
         places = "3 kernel.cl:3:1\n0 0 0 kernel.cl:2:9\n0 0 2 kernel.cl:2:9\n0 1 1 kernel.cl:4:9\n"
         launch = self.judged(streams, {"places": places})

@@ -196,8 +196,9 @@ private:
         };
         for (const llvm::GlobalVariable &variable : kernel.getParent()->globals())
             if (variable.getName().startswith(kernel.getName().str() + ".")) note(variable.getName(), types::of_variable(variable));
+        const llvm::DISubprogram *described = kernel.getSubprogram();
         for (const llvm::Argument &argument : kernel.args())
-            if (argument.getType()->isPointerTy()) note(argument.getName(), types::of_argument(kernel.getSubprogram(), argument.getArgNo()));
+            if (argument.getType()->isPointerTy()) note(argument.getName(), types::of_argument(described, argument.getArgNo()));
     }
     void name_global_buffers(const Kernel *kernel) {
         const Memory *memory = m_context->getGlobalMemory();

@@ -65,8 +65,8 @@ inline std::string text_of(const DIType *given) {
     for (const DINode *node : structure ? structure->getElements() : DINodeArray()) {
         const auto *member = dyn_cast<DIDerivedType>(node);
         if (!member || member->getName().empty()) return bytes;
-        members += (members.empty() ? "[" : ",[") + std::to_string(member->getOffsetInBits() / 8) + ",\"" + member->getName().str() + "\"," +
-                   text_of(member->getBaseType()) + "]";
+        const std::string name = member->getName().str(), place = std::to_string(member->getOffsetInBits() / 8);
+        members += (members.empty() ? "[" : ",[") + place + ",\"" + name + "\"," + text_of(member->getBaseType()) + "]";
     }
     return members.empty() ? bytes : "{\"bytes\":" + bytes + ",\"members\":[" + members + "]}";
 }
