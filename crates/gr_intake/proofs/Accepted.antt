@@ -21,26 +21,14 @@ use Rattle.gr_record.specs.declared.fault.Fault.{Fault}
 use Rattle.gr_record.specs.declared.fault.Fault.TheVariants as faults
 use Rattle.gr_intake.specs.Joined as joined_spec
 use Rattle.gr_intake.specs.Joined.{Flat, at_place, stream_at, joined_at}
-use Rattle.gr_intake.specs.Laws.{AreStreams}
+use Rattle.gr_intake.specs.Laws.{AreStreams, JoinedAreStreams}
 use Rattle.gr_record.proofs.Found.{read_is_ok}
 
-abbrev all : List Flat → Result (List Flat) Fault
-all x = Ok x
+abbrev pub ok : {X E : Type 0} → X → Result X E
+ok x = Ok x
 
-same_all : (x y : List Flat) → all x ≡ all y → x ≡ y
-same_all x y e = cc
-
-abbrev pub found : Flat × List ℕ → Result (Flat × List ℕ) Fault
-found x = Ok x
-
-pub same_found : (x y : Flat × List ℕ) → found x ≡ found y → x ≡ y
-same_found x y e = cc
-
-abbrev pub done : {X : Type 0} → X → Result X RecordError
-done x = Ok x
-
-pub same_done : {X : Type 0} (x y : X) → done x ≡ done y → x ≡ y
-same_done x y e = cc
+pub same_ok : {X E : Type 0} (x y : X) → ok {E = E} x ≡ ok y → x ≡ y
+same_ok x y e = cc
 
 -- what a list is whose records were read up to its end
 pub record AreRead (items most : ℕ) (events : List Event) : Type 0 where
@@ -84,7 +72,7 @@ module _ (head : Header) where
       next = records_of head most (drop size bytes)
 
       by_end : (e : Event) (b : Bool) → is_end e ≡ b → IsEventOk e head.items → whole (cond b (record { events = e ∷ []; rest = drop size bytes; stop = AtEnd }) (behind e next)) ≡ Ok (events, rest) → ((es : List Event) → whole next ≡ Ok (es, rest) → AreRead head.items most es) → AreRead head.items (suc most) events
-      by_end e true end ok h later = let p = same_done {X = List Event × List ℕ} (e ∷ [], drop size bytes) (events, rest) h in subst (λ (x : List Event × List ℕ). AreRead head.items (suc most) x.0) p (one_end head.items most e ok end)
+      by_end e true end ok h later = let p = same_ok {X = List Event × List ℕ} {E = RecordError} (e ∷ [], drop size bytes) (events, rest) h in subst (λ (x : List Event × List ℕ). AreRead head.items (suc most) x.0) p (one_end head.items most e ok end)
       by_end e false on ok h later =
           let p = behind_parts head.items e next events rest h in
           subst (AreRead head.items (suc most)) (sym p.0) (one_more head.items most e next.events ok on (later next.events p.1))
@@ -113,44 +101,53 @@ with_one seen f are accepted other same = record {
   launch = all_pairs_push (λ a b. a.header.launch ≡ b.header.launch) seen f are.launch (λ k d lt. eqb-true _ _ (not-false _ (none_at (λ s. not (s.header.launch == f.header.launch)) seen k d lt same)));
 }
 
--- the stream after these
-module _ (seen : List Flat) (bytes : List ℕ) (are : AreStreams seen) where
-  abbrev Next : Result (Flat × List ℕ) Fault → Type 0
-  Next r = (f : Flat) (rest : List ℕ) → r ≡ Ok (f, rest) → AreStreams (seen ++ f ∷ [])
+-- the bytes begin with this stream, and these are left after it
+pub record BeginsWith (bytes : List ℕ) (f : Flat) (rest : List ℕ) : Type 0 where
+  pub behind : List ℕ
+  pub header : front_header_at bytes ≡ Ok (f.header, behind)
+  pub records : front_records_at f.header behind ≡ Ok (f.events, rest)
 
-  by_records : (h : Header) (middle : List ℕ) → list_any (λ s. s.header.group == h.group) seen ≡ false → list_any (λ s. not (s.header.launch == h.launch)) seen ≡ false
-      → (r : Result (List Event × List ℕ) RecordError) → front_records_at h middle ≡ r
-      → Next (joined_spec.◌>>=◌ {Y = Flat × List ℕ} (at_place (length seen) r) (λ x. Ok (record { header = h; events = x.0 }, x.1)))
-  by_records h middle other same (Err d) is f rest k = cc
-  by_records h middle other same (Ok (events, after)) is f rest k =
-      let p = same_found (record { header = h; events = events }, after) (f, rest) k in
-      let read = prefix_read h middle events after is in
-      let one = with_one seen (record { header = h; events = events }) are (record { few = read.few; good = read.good; ended = read.ended }) other same in
-      subst (λ (x : Flat × List ℕ). AreStreams (seen ++ x.0 ∷ [])) p one
+-- and it may follow these
+pub record Follows (seen : List Flat) (bytes : List ℕ) (f : Flat) (rest : List ℕ) : Type 0 where
+  pub begins : BeginsWith bytes f rest
+  pub group : list_any (λ s. s.header.group == f.header.group) seen ≡ false
+  pub launch : list_any (λ s. not (s.header.launch == f.header.launch)) seen ≡ false
 
-  abbrev behind_header : Header × List ℕ → Result (Flat × List ℕ) Fault
-  behind_header h =
-      cond (list_any (λ s. s.header.group == h.0.group) seen) (Err (faults.SameGroup (length seen)))
-      (cond (list_any (λ s. not (s.header.launch == h.0.launch)) seen) (Err (faults.OtherLaunch (length seen)))
-      (joined_spec.◌>>=◌ {Y = Flat × List ℕ} (at_place (length seen) (front_records_at h.0 h.1)) (λ x. Ok (record { header = h.0; events = x.0 }, x.1))))
+module _ (seen : List Flat) (bytes : List ℕ) (f : Flat) (rest : List ℕ) where
+  abbrev by_records : Header → Bool → Bool → Result (List Event × List ℕ) RecordError → Result (Flat × List ℕ) Fault
+  by_records h a b r =
+      cond a (Err (faults.SameGroup (length seen)))
+      (cond b (Err (faults.OtherLaunch (length seen))) (joined_spec.◌>>=◌ {Y = Flat × List ℕ} (at_place (length seen) r) (λ x. Ok (record { header = h; events = x.0 }, x.1))))
 
-  by_seen : (h : Header) (middle : List ℕ) → (a b : Bool) → list_any (λ s. s.header.group == h.group) seen ≡ a → list_any (λ s. not (s.header.launch == h.launch)) seen ≡ b
-      → Next (cond a (Err (faults.SameGroup (length seen))) (cond b (Err (faults.OtherLaunch (length seen))) (joined_spec.◌>>=◌ {Y = Flat × List ℕ} (at_place (length seen) (front_records_at h middle)) (λ x. Ok (record { header = h; events = x.0 }, x.1)))))
-  by_seen h middle true b other same f rest k = cc
-  by_seen h middle false true other same f rest k = cc
-  by_seen h middle false false other same f rest k = by_records h middle other same (front_records_at h middle) refl f rest k
+  by_parts : (h : Header) (behind : List ℕ) → front_header_at bytes ≡ Ok (h, behind) → (a b : Bool) → list_any (λ s. s.header.group == h.group) seen ≡ a → list_any (λ s. not (s.header.launch == h.launch)) seen ≡ b
+      → (r : Result (List Event × List ℕ) RecordError) → front_records_at h behind ≡ r → by_records h a b r ≡ Ok (f, rest) → Follows seen bytes f rest
+  by_parts h behind header true b group launch r records k = absurd cc
+  by_parts h behind header false true group launch r records k = absurd cc
+  by_parts h behind header false false group launch (Err e) records k = absurd cc
+  by_parts h behind header false false group launch (Ok x) records k =
+      subst (λ (y : Flat × List ℕ). Follows seen bytes y.0 y.1) (same_ok {E = Fault} (record { header = h; events = x.0 }, x.1) (f, rest) k)
+      (record { begins = record { behind = behind; header = header; records = records }; group = group; launch = launch })
 
-  by_header : (r : Result (Header × List ℕ) RecordError) → front_header_at bytes ≡ r → Next (joined_spec.◌>>=◌ {Y = Flat × List ℕ} (at_place (length seen) r) behind_header)
-  by_header (Err d) is f rest k = cc
-  by_header (Ok (h, middle)) is f rest k = by_seen h middle _ _ refl refl f rest k
+  abbrev by_found : Header × List ℕ → Result (Flat × List ℕ) Fault
+  by_found x = by_records x.0 (list_any (λ s. s.header.group == x.0.group) seen) (list_any (λ s. not (s.header.launch == x.0.launch)) seen) (front_records_at x.0 x.1)
 
-  pub stream_is_one : Next (stream_at seen bytes)
+  by_header : (r : Result (Header × List ℕ) RecordError) → front_header_at bytes ≡ r → joined_spec.◌>>=◌ {Y = Flat × List ℕ} (at_place (length seen) r) by_found ≡ Ok (f, rest) → Follows seen bytes f rest
+  by_header (Err e) header k = absurd cc
+  by_header (Ok (h, behind)) header k = by_parts h behind header _ _ refl refl _ refl k
+
+  pub follows : stream_at seen bytes ≡ Ok (f, rest) → Follows seen bytes f rest
   unfolding stream_at
-  stream_is_one f rest k = by_header (front_header_at bytes) refl f rest k
+  follows k = by_header (front_header_at bytes) refl k
+
+pub stream_is_one : (seen : List Flat) (bytes : List ℕ) → AreStreams seen → (f : Flat) (rest : List ℕ) → stream_at seen bytes ≡ Ok (f, rest) → AreStreams (seen ++ f ∷ [])
+stream_is_one seen bytes are f rest k =
+    let after = follows seen bytes f rest k in
+    let read = prefix_read f.header after.begins.behind f.events rest after.begins.records in
+    with_one seen f are (record { few = read.few; good = read.good; ended = read.ended }) after.group after.launch
 
 pub joined_are : (n : ℕ) (seen : List Flat) (bytes : List ℕ) → AreStreams seen → (out : List Flat) → joined_at n seen bytes ≡ Ok out → AreStreams out
 unfolding joined_at
-joined_are zero seen bytes are out h = subst AreStreams (same_all seen out h) are
+joined_are zero seen bytes are out h = subst AreStreams (same_ok {E = Fault} seen out h) are
 joined_are (suc n) seen bytes are out h =
     by_length (length bytes == 0) h (λ f rest more k. joined_are n (seen ++ f ∷ []) rest more out k)
   where
@@ -158,8 +155,11 @@ joined_are (suc n) seen bytes are out h =
     by_stream (Err d) is k later = cc
     by_stream (Ok (f, rest)) is k later = later f rest (stream_is_one seen bytes are f rest is) k
 
-    by_length : (b : Bool) → cond b (all seen) (joined_spec.◌>>=◌ {Y = List Flat} (stream_at seen bytes) (λ s. joined_at n (seen ++ s.0 ∷ []) s.1)) ≡ Ok out → ((f : Flat) (rest : List ℕ) → AreStreams (seen ++ f ∷ []) → joined_at n (seen ++ f ∷ []) rest ≡ Ok out → AreStreams out) → AreStreams out
-    by_length b k later = grind (arith, by_stream, same_all)
+    by_length : (b : Bool) → cond b (ok seen) (joined_spec.◌>>=◌ {Y = List Flat} (stream_at seen bytes) (λ s. joined_at n (seen ++ s.0 ∷ []) s.1)) ≡ Ok out → ((f : Flat) (rest : List ℕ) → AreStreams (seen ++ f ∷ []) → joined_at n (seen ++ f ∷ []) rest ≡ Ok out → AreStreams out) → AreStreams out
+    by_length b k later = grind (arith, by_stream, ok, same_ok)
 
 pub none_are : AreStreams []
 none_are = record { accepted = λ k d lt. absurd (omega arith); groups = λ i j d before lt. absurd (omega arith); launch = λ i j d before lt. absurd (omega arith) }
+
+pub joined_are_streams : JoinedAreStreams
+joined_are_streams bytes seen h = joined_are (length bytes) [] bytes none_are seen h

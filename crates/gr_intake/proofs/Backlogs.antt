@@ -70,6 +70,10 @@ pub none_listed : (shorts : List Short) (read : ℕ) (lists : List (List Name)) 
 unfolding listed
 none_listed shorts read lists past = ap (λ (ss : List Short). listed ss lists) (drop_all read shorts past)
 
+pub none_yet : (shorts : List Short) (lists : List (List Name)) → shorts ≡ [] → listed shorts lists ≡ []
+unfolding listed
+none_yet shorts lists none = rw none refl
+
 -- ---- pieces
 
 abbrev pub waiting_in : List (List Event) → List Event
@@ -106,13 +110,16 @@ nothing_in (p ∷ pieces) (suc k) le read =
     ap (λ (w : List Event). w ++ waiting_in pieces) (read 0 (omega arith)) ∙ nothing_in pieces k (omega (arith, le)) (λ j below. read (suc j) (omega (arith, below)))
 
 -- the pieces of a backlog, where one without records may have been added after them
-pub pieces_grow : (old new : List (List Event)) (first : ℕ) → ArePieces old first → (new ≡ old) ⊎ (new ≡ old ++ [] ∷ []) → ArePieces new first
+pieces_grow : (old new : List (List Event)) (first : ℕ) → ArePieces old first → (new ≡ old) ⊎ (new ≡ old ++ [] ∷ []) → ArePieces new first
 pieces_grow old new first are grown = grind (arith, get_or_append_left, length-append)
 
 -- and nothing else waits then
 pub waiting_grows : (old new : List (List Event)) → (new ≡ old) ⊎ (new ≡ old ++ [] ∷ []) → waiting_in new ≡ waiting_in old
 waiting_grows old new grown = grind (arith, empty_piece)
 
--- the pieces, where one is written that is read next or after it
-pub piece_written : (ps : List (List Event)) (first k next : ℕ) (q : List Event) → ArePieces ps first → k < length ps → next ≤ first → next ≤ k → ArePieces (set ps k q) next
+-- the pieces, where the last one is written, which is read next or later
+piece_written : (ps : List (List Event)) (first k next : ℕ) (q : List Event) → ArePieces ps first → k < length ps → next ≤ first → next ≤ k → ArePieces (set ps k q) next
 piece_written ps first k next q are lt less le = grind (arith, length-set, get_or-set_other)
+
+pub last_written : (old new : List (List Event)) (first last next : ℕ) (q : List Event) → ArePieces old first → (new ≡ old) ⊎ (new ≡ old ++ [] ∷ []) → last + 1 ≡ length new → next ≤ first → next ≤ last → ArePieces (set new last q) next
+last_written old new first last next q are grown there less le = piece_written new first last next q (pieces_grow old new first are grown) (omega (arith, there)) less le

@@ -1,5 +1,5 @@
 -- What the bytes after those that were read add: a header, a record, and bytes that are no whole one.
-use Rattle.std.proofs.Common.{◌≡◌, ℕ, zero, suc, ◌+◌, ◌-◌, ◌<◌, ◌≤◌, true, false, List, [], ◌∷◌, ◌++◌, length, take, drop, Option, Some, None, Result, Ok, Err, refl, sym, ap, ◌∙◌, subst, arith, inl, inr, append-nil, append_assoc, eqb-true, ◌≢◌, IfOk, not, ◌==◌, drop_at, length-append, length-drop, take-append-drop, take_at}
+use Rattle.std.proofs.Common.{◌≡◌, ℕ, zero, suc, ◌+◌, ◌-◌, ◌<◌, ◌≤◌, true, false, List, [], ◌∷◌, ◌++◌, length, take, drop, Option, Some, None, Result, Ok, Err, refl, sym, ap, ◌∙◌, subst, arith, inl, inr, append-nil, append_assoc, eqb-true, IfOk, not, ◌==◌, drop_at, length-append, length-drop, take-append-drop, take_at}
 use Rattle.std.specs.List.{list_any}
 use Rattle.std.proofs.lemmas.Bool.{cases_lt, eqb-false, le-ltb, lt-ltb, ne_eqb}
 use Rattle.gr_model.specs.declared.event.Event.{Event}
@@ -20,7 +20,7 @@ use Rattle.gr_record.specs.Versions.{record_length}
 use Rattle.gr_record.specs.WholeStreams as record_spec
 use Rattle.gr_record.specs.WholeStreams.{front_header_at, front_records_at, up_to, whole}
 use Rattle.gr_record.proofs.Loop as loop
-use Rattle.gr_intake.proofs.Accepted.{same_done}
+use Rattle.gr_intake.proofs.Accepted.{ok, same_ok}
 use Rattle.gr_intake.specs.Intakes.{behind_events, next_event_at, read_behind, with_event}
 use Rattle.gr_intake.specs.Joined as joined_spec
 use Rattle.gr_intake.specs.Joined.{Flat, at_place, joined_at, stream_at}
@@ -167,9 +167,6 @@ header_cut seen bytes some short =
 
 -- ---- a stream goes on
 
-abbrev done_with : List Event × List ℕ → Result (List Event × List ℕ) RecordError
-done_with x = Ok x
-
 module _ (seen : List Flat) (f : Flat) where
   abbrev then : Result (List Event × List ℕ) RecordError → Result (List Flat) Fault
   then x = joined_spec.◌>>=◌ {Y = List Flat} (at_place (length seen) x) (λ r. joined_at (length r.1) (seen ++ record { header = f.header; events = r.0 } ∷ []) r.1)
@@ -202,7 +199,7 @@ module _ (seen : List Flat) (f : Flat) where
         stream_ends end =
             let back : drop size (unit ++ rest) ≡ rest = drop_at unit rest size all in
             ap then (loop.ended size (event_at f.header) f.events MOST_RECORDS (length f.events) (unit ++ rest) read refl room long e (ap (event_at f.header) first ∙ is) end
-            ∙ ap (λ (bytes : List ℕ). done_with (f.events ++ e ∷ [], bytes)) back)
+            ∙ ap (λ (bytes : List ℕ). ok {E = RecordError} (f.events ++ e ∷ [], bytes)) back)
 
         pub stream_goes_on : is_end e ≡ false → read_behind seen (Some f) (unit ++ rest) ≡ read_behind seen (Some (with_event f e)) rest
         stream_goes_on on =
@@ -225,15 +222,12 @@ module _ (unit : List ℕ) (all : length unit ≡ HEADER_LENGTH) where
   front_alone = ap front_header_at (sym (append-nil unit)) ∙ front_of_unit unit [] all
 
   pub header_found : (h : Header) (rest : List ℕ) → front_header_at unit ≡ Ok (h, rest) → header_at unit ≡ Ok h
-  header_found h rest is = grind (arith, front_alone, same_done)
+  header_found h rest is = grind (arith, front_alone, ok, same_ok)
 
   pub header_failed : (e : RecordError) → front_header_at unit ≡ Err e → header_at unit ≡ Err e
   header_failed e is = grind (arith, front_alone)
 
 -- ---- what the next record says
-
-pub next_found : (h : Header) (n : ℕ) (unit : List ℕ) (e : Event) → next_event_at h n unit ≡ Ok e → (n ≢ MOST_RECORDS) × (event_at h unit ≡ Ok e)
-next_found h n unit e is = grind (arith, eqb-false)
 
 pub next_failed : (seen : List Flat) (f : Flat) (unit rest : List ℕ) (d : RecordError) → length unit ≡ record_length f.header.version → length f.events ≤ MOST_RECORDS → next_event_at f.header (length f.events) unit ≡ Err d → read_behind seen (Some f) (unit ++ rest) ≡ Err (faults.Stream (length seen) d)
 next_failed seen f unit rest d all few is = grind (arith, eqb-false, eqb-true, record_refused, too_many)

@@ -1,5 +1,5 @@
 -- Streams as far as they have come, where a stream begins, a record comes, and a stream ends.
-use Rattle.std.proofs.Common.{◌≡◌, ◌≢◌, ℕ, zero, suc, ◌+◌, ◌<◌, ◌≤◌, Bool, true, false, List, [], ◌∷◌, ◌++◌, length, slice_index, Contains, Option, Some, None, Ok, Err, refl, sym, ap, ◌∙◌, subst, arith, ⊎_elim, append-nil, append_assoc, not, ◌==◌, ◌||◌, option_map}
+use Rattle.std.proofs.Common.{◌≡◌, ◌≢◌, ℕ, zero, suc, ◌+◌, ◌<◌, ◌≤◌, true, false, List, [], ◌∷◌, ◌++◌, length, slice_index, Contains, Option, Some, None, Ok, Err, refl, sym, ap, ◌∙◌, subst, arith, ⊎_elim, append-nil, append_assoc, ◌==◌, option_map}
 use Rattle.std.specs.List.{list_any}
 use Rattle.std.proofs.lemmas.Bool.{cases_lt, eqb-false, or_parts}
 use Rattle.std.proofs.lemmas.List.{get_or-set_same, length-append, map-append}
@@ -25,15 +25,17 @@ use Rattle.gr_record.proofs.Places.{header_group, header_items}
 use Rattle.gr_record.specs.declared.error.RecordError.TheVariants.{Truncated}
 use Rattle.gr_record.specs.declared.fault.Fault.TheVariants as faults
 use Rattle.gr_record.specs.declared.header.Header.{Header}
+use Rattle.gr_record.specs.declared.layout.TheConstants.{HEADER_LENGTH}
+use Rattle.gr_record.specs.Reading.{header_at}
 use Rattle.gr_record.specs.Spelling.{IsHeader}
 use Rattle.gr_intake.specs.declared.intake.Intake.{Intake}
 use Rattle.gr_intake.specs.declared.open.Open.{Open}
-use Rattle.gr_intake.specs.Intakes.{AreGroupsOf, AreOpen, IsIntake, IsNext, IsRead, Moves, behind, coming_in, read_behind, unit_at, unit_of, come, come_of, headers_of, with_event}
+use Rattle.gr_intake.specs.Intakes.{AreGroupsOf, AreOpen, IsIntake, IsKeptOpen, IsNext, IsRead, MayFollow, Moves, behind, coming_in, read_behind, unit_at, unit_of, come, come_of, headers_of, with_event}
 use Rattle.gr_intake.specs.Joined.{Flat}
 use Rattle.gr_intake.specs.Laws.{AreStreams}
 use Rattle.gr_intake.specs.Sequencing.{AreShadowsOf}
 use Rattle.gr_intake.specs.Waiting.{Coming}
-use Rattle.gr_intake.proofs.Behind.{header_cut, nothing_follows, record_cut}
+use Rattle.gr_intake.proofs.Behind.{header_cut, nothing_follows, record_cut, stream_begins}
 use Rattle.gr_intake.proofs.Accepted.{AreRead, none_are, one_end, one_more, with_one}
 
 -- ---- other groups
@@ -47,21 +49,12 @@ pub apart_from : (s : Streams) (g : ℕ) (cs : List Coming) → list_any (λ f. 
 apart_from s g [] none = tt
 apart_from s g (c ∷ cs) none = let parts = or_parts (c.header.group == g) (list_any (λ f. f.header.group == g) (come s cs)) none in (eqb-false _ _ parts.0, apart_from s g cs parts.1)
 
-pub apart_of : (g : ℕ) (cs : List Coming) → list_any (λ c. c.header.group == g) cs ≡ false → Apart g cs
-apart_of g [] none = tt
-apart_of g (c ∷ cs) none = let parts = or_parts (c.header.group == g) (list_any (λ x. x.header.group == g) cs) none in (eqb-false _ _ parts.0, apart_of g cs parts.1)
-
 pub come_stays : (s t : Streams) (g : ℕ) (cs : List Coming) → Apart g cs → ((h : ℕ) → h ≢ g → list_of t h ≡ list_of s h) → come t cs ≡ come s cs
 come_stays s t g [] apart same = refl
 come_stays s t g (c ∷ cs) apart same = grind (arith, come_stays s t g cs apart.1 same)
 
 pub come_as_before : (s t : Streams) (cs : List Coming) → ((h : ℕ) → list_of t h ≡ list_of s h) → come t cs ≡ come s cs
 come_as_before s t cs same = grind arith
-
--- what is asked of the headers is asked of the streams as they have come
-pub any_come : (test : Header → Bool) (s : Streams) (cs : List Coming) → list_any (λ f. test f.header) (come s cs) ≡ list_any (λ c. test c.header) cs
-any_come test s [] = refl
-any_come test s (c ∷ cs) = ap (λ b. test c.header || b) (any_come test s cs)
 
 -- ---- headers
 
@@ -136,7 +129,7 @@ closed_read items (x ∷ es) e goes ok end = one_more items (suc (length es)) x 
 pub stream_closes : (seen : List Flat) (f : Flat) (e : Event) → AreStreams seen → IsNext seen f → length f.events < MOST_RECORDS → IsEventOk e f.header.items → is_end e ≡ true → AreStreams (seen ++ with_event f e ∷ [])
 stream_closes seen f e are next room ok end =
     let read = closed_read f.header.items f.events e next.events ok end in
-    with_one seen (with_event f e) are (record { few = omega (arith, read.few, room); good = read.good; ended = read.ended }) next.group next.launch
+    with_one seen (with_event f e) are (record { few = omega (arith, read.few, room); good = read.good; ended = read.ended }) next.follows.group next.follows.launch
 
 pub next_goes_on : (seen : List Flat) (f : Flat) (e : Event) → IsNext seen f → length f.events < MOST_RECORDS → IsEventOk e f.header.items → is_end e ≡ false → IsNext seen (with_event f e)
 next_goes_on seen f e next room ok on = grind (arith, length-append, open_push)
@@ -167,29 +160,32 @@ nothing_is_read q kept cs is stands none =
 -- ---- a stream begins after others
 
 -- where no stream goes on, the groups are those of the whole ones
-pub groups_are : (s : Streams) (cs : List Coming) → AreGroupsOf s.sizes (headers_of (cs ++ [])) → AreGroupsOf s.sizes (headers_of cs)
-groups_are s cs groups = subst (λ (xs : List Coming). AreGroupsOf s.sizes (headers_of xs)) (append-nil cs) groups
+pub groups_are : (sizes : List ℕ) (cs : List Coming) → AreGroupsOf sizes (headers_of (cs ++ [])) → AreGroupsOf sizes (headers_of cs)
+groups_are sizes cs groups = subst (λ (xs : List Coming). AreGroupsOf sizes (headers_of xs)) (append-nil cs) groups
 
-module _ (q : Sequence) (kept : LaunchKept) (cs : List Coming) (h : Header) (read : IsRead q kept cs None) (is : IsHeader h) (apart : Apart h.group cs) where
+module _ (q : Sequence) (kept : LaunchKept) (cs : List Coming) (h : Header) (read : IsRead q kept cs None) (follows : MayFollow (come q.taken cs) h) where
+  apart : Apart h.group cs
+  apart = apart_from q.taken h.group cs follows.group
+
   -- the group may come
   pub may_come : CanAdd q.taken h.group h.items
-  may_come = can_begin q.taken cs h (groups_are q.taken cs read.groups) apart is read.sequence.prefixes.shape
+  may_come = can_begin q.taken cs h (groups_are q.taken.sizes cs read.groups) apart follows.header read.sequence.prefixes.shape
 
   begun_sequence : IsSequence (orders.with_group q h.group h.items)
   begun_sequence =
       grind (arith, prefixes_with_group q.taken h.group h.items read.sequence.prefixes may_come, lawful_grows q.taken (with_group q.taken h.group h.items) (group_grows q.taken h.group h.items read.sequence.prefixes may_come) q.handled read.sequence.lawful, group_grows q.taken h.group h.items read.sequence.prefixes may_come, may_come)
 
   -- the streams that came whole are as they were
-  pub whole_stay : come (orders.with_group q h.group h.items).taken cs ≡ come q.taken cs
+  whole_stay : come (orders.with_group q h.group h.items).taken cs ≡ come q.taken cs
   whole_stay = come_as_before q.taken (with_group q.taken h.group h.items) cs (list_stays q.taken h.group h.items)
 
   -- nothing has come of the new one
-  pub none_come : come_of (orders.with_group q h.group h.items).taken (record { header = h; waiting = [] }) ≡ record { header = h; events = [] }
+  none_come : come_of (orders.with_group q h.group h.items).taken (record { header = h; waiting = [] }) ≡ record { header = h; events = [] }
   none_come =
       grind (arith, append-nil (list_of (with_group q.taken h.group h.items) h.group), list_stays q.taken h.group h.items h.group, nothing_came q.taken h.group h.items read.sequence.prefixes may_come, may_come)
 
-  pub begins : list_any (λ f. f.header.group == h.group) (come q.taken cs) ≡ false → list_any (λ f. not (f.header.launch == h.launch)) (come q.taken cs) ≡ false → IsRead (orders.with_group q h.group h.items) kept cs (Some (record { header = h; waiting = [] }))
-  begins group launch = record {
+  begins : IsRead (orders.with_group q h.group h.items) kept cs (Some (record { header = h; waiting = [] }))
+  begins = record {
     sequence = begun_sequence;
     shadows = (
       read.shadows.0,
@@ -197,15 +193,27 @@ module _ (q : Sequence) (kept : LaunchKept) (cs : List Coming) (h : Header) (rea
       read.shadows.2,
     );
     streams = subst AreStreams (sym whole_stay) read.streams;
-    groups = subst (λ (hs : List Header). AreGroupsOf (with_group q.taken h.group h.items).sizes hs) (sym (headers_push cs (record { header = h; waiting = [] }))) (groups_begin q.taken cs h (groups_are q.taken cs read.groups) apart is);
-    next = subst (λ (f : Flat). IsNext (come (orders.with_group q h.group h.items).taken cs) f) (sym none_come) (subst (λ (seen : List Flat). IsNext seen (record { header = h; events = [] })) (sym whole_stay) (record {
-      header = is;
-      group = group;
-      launch = launch;
-      few = omega arith;
-      events = tt;
-    }));
+    groups = subst (λ (hs : List Header). AreGroupsOf (with_group q.taken h.group h.items).sizes hs) (sym (headers_push cs (record { header = h; waiting = [] }))) (groups_begin q.taken cs h (groups_are q.taken.sizes cs read.groups) apart follows.header);
+    next = subst (λ (f : Flat). IsNext (come (orders.with_group q h.group h.items).taken cs) f) (sym none_come)
+        (subst (λ (seen : List Flat). IsNext seen (record { header = h; events = [] })) (sym whole_stay) (record { follows = follows; few = omega arith; events = tt }));
   }
+
+  -- it goes on, and nothing has come of it
+  module _ {Z : Type 0} (new : Sequence) (grown : new ≡ orders.with_group q h.group h.items) (o : Open Z) (empty : o.backlog ≡ record { header = h; waiting = [] }) (count : o.count ≡ 0) where
+    none_of_it : come_of new.taken o.backlog ≡ record { header = h; events = [] }
+    none_of_it = ap (come_of new.taken) empty ∙ (ap (λ (p : Sequence). come_of p.taken (record { header = h; waiting = [] })) grown ∙ none_come)
+
+    pub has_begun : IsRead new kept cs (Some o.backlog) × IsKeptOpen new.taken o
+    has_begun = (
+      subst (λ (p : Sequence). IsRead p kept cs (Some o.backlog)) (sym grown) (subst (λ (c : Coming). IsRead (orders.with_group q h.group h.items) kept cs (Some c)) (sym empty) begins),
+      record { count = count ∙ sym (ap (λ (f : Flat). length f.events) none_of_it); waits = λ _. ap (λ (c : Coming). c.waiting) empty },
+    )
+
+    pub begun_behind : (unit more : List ℕ) → length unit ≡ HEADER_LENGTH → header_at unit ≡ Ok h → read_behind (come q.taken cs) None (unit ++ more) ≡ read_behind (come new.taken cs) (Some (come_of new.taken o.backlog)) more
+    begun_behind unit more all is =
+        stream_begins (come q.taken cs) unit more all h is follows.group follows.launch
+        ∙ (ap (λ (f : Flat). read_behind (come q.taken cs) (Some f) more) (sym none_of_it)
+        ∙ ap (λ (seen : List Flat). read_behind seen (Some (come_of new.taken o.backlog)) more) (sym (ap (λ (p : Sequence). come p.taken cs) grown ∙ whole_stay)))
 
 -- ---- no stream goes on
 
@@ -232,6 +240,10 @@ ends_whole i bytes none empty = between i none bytes ∙ (ap (λ (b : List ℕ).
 
 -- ---- a record of the stream that goes on
 
+-- its group is there, and has its items
+pub next_there : (q : Sequence) (kept : LaunchKept) (cs : List Coming) (c : Coming) → IsRead q kept cs (Some c) → (c.header.group < length q.taken.sizes) × (size_of q.taken c.header.group ≡ c.header.items)
+next_there q kept cs c read = read.groups.there c.header (subst (λ (hs : List Header). Contains hs c.header) (sym (headers_push cs c)) (Contains-push (headers_of cs) c.header))
+
 module _ (q new : Sequence) (kept after : LaunchKept) (cs : List Coming) (c d : Coming) (e : Event) (read : IsRead q kept cs (Some c)) (came : come_of new.taken d ≡ with_event (come_of q.taken c) e) (sizes : new.taken.sizes ≡ q.taken.sizes)
     (others : (g : ℕ) → g ≢ c.header.group → list_of new.taken g ≡ list_of q.taken g) (sequence : IsSequence new) (shadows : AreShadowsOf new after) (room : length (come_of q.taken c).events < MOST_RECORDS) (ok : IsEventOk e c.header.items) where
   same_header : d.header ≡ c.header
@@ -239,7 +251,7 @@ module _ (q new : Sequence) (kept after : LaunchKept) (cs : List Coming) (c d : 
 
   -- the streams that came whole are as they were
   pub whole_stay_so : come new.taken cs ≡ come q.taken cs
-  whole_stay_so = come_stays q.taken new.taken c.header.group cs (apart_from q.taken c.header.group cs read.next.group) others
+  whole_stay_so = come_stays q.taken new.taken c.header.group cs (apart_from q.taken c.header.group cs read.next.follows.group) others
 
   groups_stay : AreGroupsOf new.taken.sizes (headers_of (cs ++ d ∷ []))
   groups_stay = grind (arith, headers_push, same_header)

@@ -1,71 +1,66 @@
--- Whether a group has come, and which launch the streams are of, without a look at each stream.
-use Rattle.std.proofs.Common.{◌≡◌, ℕ, suc, ◌<◌, true, false, None, Some, slice_get, List, [], ◌∷◌, ◌++◌, append-nil, All, AllPairs, Contains, length, sym, ap, ◌∙◌, subst, refl, arith, inl, inr, not, ◌==◌}
+-- Whether the header of a stream is refused, without a look at each stream that has come.
+use Rattle.std.proofs.Common.{◌≡◌, ◌↔◌, ℕ, suc, Bool, true, false, IsTrue, None, Some, Ok, Err, slice_get, List, [], ◌∷◌, ◌++◌, AllPairs, length, sym, ap, ◌∙◌, refl, arith, inl, inr, not, ◌==◌}
 use Rattle.std.specs.List.{list_any}
-use Rattle.std.proofs.lemmas.Bool.{cases_Bool, eq-eqb, eqb-true, ne_eqb}
+use Rattle.std.proofs.lemmas.Bool.{cases_Bool, eq-eqb, eqb-true}
 use Rattle.std.proofs.lemmas.List.{get_or-map, length-map}
+use Rattle.std.proofs.lemmas.List.Folds.{list_any_none}
 use Rattle.gr_model.specs.Shapes.{HasItem}
-use Rattle.gr_model.specs.Streams.{Streams, size_of}
+use Rattle.gr_model.specs.Streams.{Streams}
+use Rattle.gr_record.specs.declared.fault.Fault.TheVariants.{OtherLaunch, SameGroup}
 use Rattle.gr_record.specs.declared.header.Header.{Header}
+use Rattle.gr_record.specs.declared.layout.TheConstants.{HEADER_LENGTH}
+use Rattle.gr_record.specs.Reading.{header_at}
+use Rattle.gr_intake.specs.declared.intake.Intake.{Intake}
 use Rattle.gr_intake.specs.Waiting.{Coming}
-use Rattle.gr_intake.specs.Intakes.{AreGroupsOf, come, come_of, headers_of, list_in}
+use Rattle.gr_intake.specs.Intakes.{IsIntake, behind, come, come_of, streams_in}
 use Rattle.gr_intake.specs.Laws.{AreStreams}
-use Rattle.gr_intake.proofs.Comings.{apart_headers, apart_of}
-use Rattle.gr_intake.proofs.Judged.{size_of_stream, stream_of_header}
-
--- ---- groups
-
-none_like : (g : ℕ) (cs : List Coming) → ((h : Header) → Contains (headers_of cs) h → h.group ≡ g → ⊥) → list_any (λ c. c.header.group == g) cs ≡ false
-none_like g [] none = refl
-none_like g (c ∷ cs) none =
-    let here : (c.header.group == g) ≡ false = ne_eqb c.header.group g (none c.header (0, omega arith, refl)) in
-    rw here (none_like g cs (λ h has same. none h (suc has.0, omega (arith, has.1), has.2) same))
-
--- where no stream goes on
-pub of_whole : (sizes : List ℕ) (cs : List Coming) → AreGroupsOf sizes (headers_of (cs ++ list_in {X = Coming} None)) → AreGroupsOf sizes (headers_of cs)
-of_whole sizes cs groups = subst (AreGroupsOf sizes) (ap headers_of (append-nil cs)) groups
-
-module _ (s : Streams) (cs : List Coming) (count : length s.lists ≡ length s.sizes) (groups : AreGroupsOf s.sizes (headers_of cs)) (are : AreStreams (come s cs)) where
-  -- a group that is there is that of a stream
-  pub group_came : (g : ℕ) → HasItem s.sizes (record { group = g; item = 0 }) → list_any (λ c. c.header.group == g) cs ≡ true
-  group_came g has =
-      elim (cases_Bool (list_any (λ (c : Coming). c.header.group == g) cs)) [
-        | inl is ↦ is
-        | inr none ↦
-            let empty = groups.others g (apart_headers g cs (apart_of g cs none)) in
-            absurd (omega (arith, has.1, empty))
-      ]
-
-  -- a group that isn't there is that of no stream
-  pub group_new : (g : ℕ) → (HasItem s.sizes (record { group = g; item = 0 }) → ⊥) → list_any (λ c. c.header.group == g) cs ≡ false
-  group_new g free = none_like g cs (λ h has same.
-      let there = groups.there h has in
-      let stream = stream_of_header s cs h has in
-      let some : 0 < size_of s h.group = subst (λ (x : Header). 0 < size_of s x.group) stream.2 (size_of_stream s cs count groups are stream.0 stream.1) in
-      free (subst (λ n. HasItem s.sizes (record { group = n; item = 0 })) same (there.0, some)))
+use Rattle.gr_intake.proofs.Behind.{other_launch_refused, same_group_refused}
+use Rattle.gr_intake.proofs.Comings.{between, groups_are, none_goes_on}
+use Rattle.gr_intake.proofs.Judged.{group_came}
+use Rattle.gr_intake.proofs.Mapped.{any_of_map}
 
 -- ---- launches
 
 abbrev pub AreOfOneLaunch : List Coming → Type 0
 AreOfOneLaunch cs = AllPairs (λ c d. c.header.launch ≡ d.header.launch) cs
 
-pub launches : (s : Streams) (cs : List Coming) → AreStreams (come s cs) → AreOfOneLaunch cs
+launches : (s : Streams) (cs : List Coming) → AreStreams (come s cs) → AreOfOneLaunch cs
 launches s cs are i j d lt within =
     grind (arith, get_or-map (come_of s) cs i d (come_of s d) (omega (arith, lt, within)), get_or-map (come_of s) cs j d (come_of s d) within, length-map cs (come_of s))
-
-none_other : (launch : ℕ) (cs : List Coming) → All (λ c. c.header.launch ≡ launch) cs → list_any (λ c. not (c.header.launch == launch)) cs ≡ false
-none_other launch [] same = refl
-none_other launch (c ∷ cs) same =
-    let here : (c.header.launch == launch) ≡ true = eq-eqb c.header.launch launch (same 0 c (omega arith)) in
-    rw here (none_other launch cs (λ k d lt. same (suc k) d (omega (arith, lt))))
 
 -- the first is of another launch just where one of them is
 first_of_other : (launch : ℕ) (c : Coming) (cs : List Coming) → AreOfOneLaunch (c ∷ cs) → list_any (λ c. not (c.header.launch == launch)) (c ∷ cs) ≡ not (c.header.launch == launch)
 first_of_other launch c cs same =
     elim (cases_Bool (c.header.launch == launch)) [
-      | inl is ↦ rw is (none_other launch cs (λ k d lt. sym (same 0 (suc k) d (omega arith) (omega (arith, lt))) ∙ eqb-true c.header.launch launch is))
+      | inl is ↦ rw is (list_any_none (λ d. not (d.header.launch == launch)) cs
+          (λ k d lt. ap not (eq-eqb _ launch (sym (same 0 (suc k) d (omega arith) (omega (arith, lt))) ∙ eqb-true c.header.launch launch is))))
       | inr other ↦ rw other refl
     ]
 
 pub of_first : (launch : ℕ) (cs : List Coming) (c : Coming) → AreOfOneLaunch cs → slice_get cs 0 ≡ Some c → list_any (λ c. not (c.header.launch == launch)) cs ≡ not (c.header.launch == launch)
 of_first launch [] c same at = absurd cc
 of_first launch (d ∷ cs) c same at = grind (arith, first_of_other)
+
+-- ---- headers
+
+module _ {Z : Type 0} (i : Intake Z) (is : IsIntake i) (none : i.current ≡ None) where
+  pub of_one_launch : AreOfOneLaunch i.streams.items
+  of_one_launch = launches i.sequencer.taken i.streams.items (none_goes_on i none is).streams
+
+  pub has_come : (g : ℕ) (b : Bool) → IsTrue b ↔ HasItem i.sequencer.taken.sizes (record { group = g; item = 0 }) → list_any (λ f. f.header.group == g) (streams_in i) ≡ b
+  has_come g b there =
+      let read = none_goes_on i none is in
+      group_came i.sequencer.taken i.streams.items read.sequence.prefixes.count (groups_are i.sequencer.taken.sizes i.streams.items read.groups) read.streams g b there
+
+  pub is_other : (launch : ℕ) (b : Bool) → b ≡ list_any (λ c. not (c.header.launch == launch)) i.streams.items → list_any (λ f. not (f.header.launch == launch)) (streams_in i) ≡ b
+  is_other launch b any = any_of_map (come_of i.sequencer.taken) (λ f. not (f.header.launch == launch)) i.streams.items ∙ sym any
+
+  module _ (place : ℕ) (at : length i.streams.items ≡ place) (unit more : List ℕ) (all : length unit ≡ HEADER_LENGTH) (h : Header) (is_header : header_at unit ≡ Ok h) where
+    its_place : length (streams_in i) ≡ place
+    its_place = length-map i.streams.items (come_of i.sequencer.taken) ∙ at
+
+    pub same_group : list_any (λ f. f.header.group == h.group) (streams_in i) ≡ true → behind i (unit ++ more) ≡ Err (SameGroup place)
+    same_group same = between i none (unit ++ more) ∙ (same_group_refused (streams_in i) unit more all h is_header same ∙ ap (λ n. Err (SameGroup n)) its_place)
+
+    pub other_launch : list_any (λ f. f.header.group == h.group) (streams_in i) ≡ false → list_any (λ f. not (f.header.launch == h.launch)) (streams_in i) ≡ true → behind i (unit ++ more) ≡ Err (OtherLaunch place)
+    other_launch new other = between i none (unit ++ more) ∙ (other_launch_refused (streams_in i) unit more all h is_header new other ∙ ap (λ n. Err (OtherLaunch n)) its_place)

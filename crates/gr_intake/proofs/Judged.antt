@@ -1,20 +1,22 @@
 -- The launch whose streams have come, or why there is none, which the sizes of its groups show.
-use Rattle.std.proofs.Common.{◌≡◌, ◌≢◌, ◌⊎◌, ℕ, zero, suc, ◌<◌, List, [], ◌∷◌, ◌++◌, length, map, slice_index, All, Contains, Option, Some, None, refl, sym, ap, ◌∙◌, subst, arith, inl, inr, ⊎_elim, true≢false, append-nil}
-use Rattle.std.proofs.lemmas.Bool.{cases_eq}
+use Rattle.std.proofs.Common.{◌≡◌, ◌≢◌, ◌↔◌, ℕ, ◌<◌, Bool, true, false, IsTrue, List, [], ◌∷◌, ◌++◌, ◌==◌, length, map, slice_index, All, Contains, Some, refl, sym, ap, ◌∙◌, subst, arith, inl, inr, true≢false, append-nil}
+use Rattle.std.specs.List.{list_any}
+use Rattle.std.proofs.lemmas.Bool.{cases_Bool, eq-eqb, eqb-true}
 use Rattle.std.proofs.lemmas.List.Elements.{All-contains}
+use Rattle.std.proofs.lemmas.List.Folds.{Any-from_list_any, list_any_at}
 use Rattle.std.proofs.lemmas.Option.{slice_get-get_or}
 use Rattle.gr_model.specs.declared.event.Event.{Event}
-use Rattle.gr_model.specs.Shapes.{IsShape}
+use Rattle.gr_model.specs.Shapes.{HasItem, IsShape}
 use Rattle.gr_model.specs.Streams.{AreAccepted, IsAccepted, Streams, list_of, size_of}
 use Rattle.gr_record.specs.declared.fault.Fault.{Fault}
 use Rattle.gr_record.specs.declared.fault.Fault.TheVariants as faults
 use Rattle.gr_record.specs.declared.header.Header.{Header}
-use Rattle.gr_intake.specs.declared.open.Open.{Open}
-use Rattle.gr_intake.specs.Intakes.{AreGroupsOf, IsGap, come, come_of, coming_in, headers_of, list_in}
+use Rattle.gr_intake.specs.Intakes.{AreGroupsOf, IsGap, come, come_of, headers_of}
 use Rattle.gr_intake.specs.Joined.{Flat}
 use Rattle.gr_intake.specs.Laws.{AreStreams}
 use Rattle.gr_intake.specs.Launch.{HasGroup, IsLaunchFault, IsLaunchOf}
 use Rattle.gr_intake.specs.Waiting.{Coming}
+use Rattle.gr_intake.proofs.Mapped.{mapped_from, mapped_there}
 
 -- ---- sizes
 
@@ -23,22 +25,6 @@ abbrev pub AreSomeBelow : List ℕ → ℕ → Type 0
 AreSomeBelow sizes n = (k : ℕ) → k < n → slice_index sizes k ≢ 0
 
 -- ---- streams and their headers
-
--- a header is that of a stream that has come
-pub stream_of_header : (s : Streams) (cs : List Coming) (h : Header) → Contains (headers_of cs) h → (f : Flat) × Contains (come s cs) f × (f.header ≡ h)
-stream_of_header s [] h (k, lt, is) = absurd (omega (arith, lt))
-stream_of_header s (c ∷ cs) h (zero, lt, is) = (come_of s c, (0, omega arith, refl), is)
-stream_of_header s (c ∷ cs) h (suc k, lt, is) =
-    let found = stream_of_header s cs h (k, omega (arith, lt), is) in
-    (found.0, (suc found.1.0, omega (arith, found.1.1), found.1.2), found.2)
-
--- the header of a stream is among the headers
-pub header_of_stream : (s : Streams) (cs : List Coming) (f : Flat) → Contains (come s cs) f → Contains (headers_of cs) f.header
-header_of_stream s [] f (k, lt, is) = absurd (omega (arith, lt))
-header_of_stream s (c ∷ cs) f (zero, lt, is) = (0, omega arith, ap (λ (x : Flat). x.header) is)
-header_of_stream s (c ∷ cs) f (suc k, lt, is) =
-    let found = header_of_stream s cs f (k, omega (arith, lt), is) in
-    (suc found.0, omega (arith, found.1), found.2)
 
 -- the headers are those of the streams as they have come
 pub headers_of_come : (s : Streams) (cs : List Coming) → map (λ f. f.header) (come s cs) ≡ headers_of cs
@@ -49,38 +35,32 @@ headers_of_come s (c ∷ cs) = ap (λ hs. c.header ∷ hs) (headers_of_come s cs
 pub same_headers : (s t : Streams) (cs ds : List Coming) → come s cs ≡ come t ds → headers_of cs ≡ headers_of ds
 same_headers s t cs ds same = sym (headers_of_come s cs) ∙ (ap (map (λ (f : Flat). f.header)) same ∙ headers_of_come t ds)
 
--- a header is of this group, or none is
-group_among : (g : ℕ) (hs : List Header) → ((h : Header) × Contains hs h × (h.group ≡ g)) ⊎ ((h : Header) → Contains hs h → h.group ≢ g)
-group_among g [] = inr (λ h has. absurd (omega (arith, has.1)))
-group_among g (x ∷ hs) = ⊎_elim
-    (λ (same : x.group ≡ g). inl (x, (0, omega arith, refl), same))
-    (λ (other : x.group ≢ g). ⊎_elim
-    (λ (found : (h : Header) × Contains hs h × (h.group ≡ g)). inl (found.0, (suc found.1.0, omega (arith, found.1.1), found.1.2), found.2))
-    (λ (none : (h : Header) → Contains hs h → h.group ≢ g). inr (others x hs other none))
-    (group_among g hs))
-    (cases_eq x.group g)
-  where
-    others : (x : Header) (hs : List Header) → x.group ≢ g → ((h : Header) → Contains hs h → h.group ≢ g) → (h : Header) → Contains (x ∷ hs) h → h.group ≢ g
-    others x hs other none h (zero, lt, is) = λ same. other (ap (λ (y : Header). y.group) is ∙ same)
-    others x hs other none h (suc k, lt, is) = none h (k, omega (arith, lt), is)
+-- a header is that of a stream that has come
+pub stream_of_header : (s : Streams) (cs : List Coming) (h : Header) → Contains (headers_of cs) h → (f : Flat) × Contains (come s cs) f × (f.header ≡ h)
+stream_of_header s cs h has = mapped_from (λ f. f.header) (come s cs) h (subst (λ hs. Contains hs h) (sym (headers_of_come s cs)) has)
+
+-- whether a test finds a group is whether a stream is of it
+group_found : (seen : List Flat) (g : ℕ) → HasGroup seen g → list_any (λ f. f.header.group == g) seen ≡ true
+group_found seen g (f, (k, lt, is), same) = list_any_at (λ x. x.header.group == g) seen k f lt (eq-eqb _ g (ap (λ x. x.header.group) is ∙ same))
+
+group_is : (seen : List Flat) (g : ℕ) → list_any (λ f. f.header.group == g) seen ≡ true → HasGroup seen g
+group_is seen g found = let (k, f, lt, is, same) = Any-from_list_any (λ x. x.header.group == g) seen found in (f, (k, lt, is), eqb-true _ g same)
 
 module _ (s : Streams) (cs : List Coming) (groups : AreGroupsOf s.sizes (headers_of cs)) where
   -- a group that has items is that of a stream
   has_stream : (g : ℕ) → size_of s g ≢ 0 → HasGroup (come s cs) g
-  has_stream g some = ⊎_elim
-      (λ (found : (h : Header) × Contains (headers_of cs) h × (h.group ≡ g)).
-      let stream = stream_of_header s cs found.0 found.1 in
-      (stream.0, stream.1, ap (λ (h : Header). h.group) stream.2 ∙ found.2))
-      (λ (none : (h : Header) → Contains (headers_of cs) h → h.group ≢ g). absurd (some (groups.others g none)))
-      (group_among g (headers_of cs))
+  has_stream g some =
+      elim (cases_Bool (list_any (λ f. f.header.group == g) (come s cs))) [
+        | inl found ↦ group_is (come s cs) g found
+        | inr none ↦
+            absurd (some (groups.others g (λ h has same.
+            let stream = stream_of_header s cs h has in
+            true≢false (sym (group_found (come s cs) g (stream.0, stream.1, ap (λ x. x.group) stream.2 ∙ same)) ∙ none))))
+      ]
 
   -- the group of a stream is there, and has its items
-  its_group : (f : Flat) → Contains (come s cs) f → (f.header.group < length s.sizes) × (size_of s f.header.group ≡ f.header.items)
-  its_group f has = groups.there f.header (header_of_stream s cs f has)
-
--- where no stream goes on, the groups are those of the streams that came whole
-pub groups_between : {Z : Type 0} (sizes : List ℕ) (cs : List Coming) (current : Option (Open Z)) → current ≡ None → AreGroupsOf sizes (headers_of (cs ++ list_in (coming_in current))) → AreGroupsOf sizes (headers_of cs)
-groups_between {Z} sizes cs current none groups = grind (arith, append-nil)
+  pub its_group : (f : Flat) → Contains (come s cs) f → (f.header.group < length s.sizes) × (size_of s f.header.group ≡ f.header.items)
+  its_group f has = groups.there f.header (subst (λ hs. Contains hs f.header) (headers_of_come s cs) (mapped_there (λ x. x.header) (come s cs) f has))
 
 -- ---- a gap
 
@@ -120,17 +100,27 @@ module _ (s : Streams) (cs : List Coming) (count : length s.lists ≡ length s.s
   pub gap_is_launch_fault : (f : Fault) → IsGap s.sizes f → IsLaunchFault (come s cs) f
   gap_is_launch_fault f gap = grind (arith, launch_of_none, missing_group)
 
+-- a group is there just if a stream is of it
+pub group_came : (s : Streams) (cs : List Coming) → length s.lists ≡ length s.sizes → AreGroupsOf s.sizes (headers_of cs) → AreStreams (come s cs) → (g : ℕ) (b : Bool) → IsTrue b ↔ HasItem s.sizes (record { group = g; item = 0 }) → list_any (λ f. f.header.group == g) (come s cs) ≡ b
+group_came s cs count groups are g true there = group_found (come s cs) g (has_stream s cs groups g (λ none. omega (arith, (there.0 refl).1, none)))
+group_came s cs count groups are g false there =
+    elim (cases_Bool (list_any (λ f. f.header.group == g) (come s cs))) [
+      | inl found ↦
+          let has = group_is (come s cs) g found in
+          let some = (its_group s cs groups has.0 has.1).0 in
+          absurd (true≢false (sym (there.1 (subst (λ n. HasItem s.sizes (record { group = n; item = 0 })) has.2 (some, size_of_stream s cs count groups are has.0 has.1)))))
+      | inr none ↦ none
+    ]
+
 -- ---- the launch
 
 -- a stream without records that wait has come as its group's list
 all_taken : (s : Streams) (cs : List Coming) → All (λ c. c.waiting ≡ []) cs → (f : Flat) → Contains (come s cs) f → list_of s f.header.group ≡ f.events
-all_taken s [] none f (k, lt, is) = absurd (omega (arith, lt))
-all_taken s (c ∷ cs) none f (zero, lt, is) =
-    let list = list_of s c.header.group in
-    let waiting : c.waiting ≡ [] = none 0 c (omega arith) in
-    let here : list ≡ list ++ c.waiting = sym (ap (λ (w : List Event). list ++ w) waiting ∙ append-nil list) in
-    subst (λ (x : Flat). list_of s x.header.group ≡ x.events) is here
-all_taken s (c ∷ cs) none f (suc k, lt, is) = all_taken s cs (λ i d within. none (suc i) d (omega (arith, within))) f (k, omega (arith, lt), is)
+all_taken s cs none f has =
+    let of = mapped_from (come_of s) cs f has in
+    let list = list_of s of.0.header.group in
+    let waiting = All-contains (λ (c : Coming). c.waiting ≡ []) cs of.0 none of.1 in
+    subst (λ (x : Flat). list_of s x.header.group ≡ x.events) of.2 (sym (ap (λ (w : List Event). list ++ w) waiting ∙ append-nil list))
 
 module _ (s : Streams) (cs : List Coming) (count : length s.lists ≡ length s.sizes) (groups : AreGroupsOf s.sizes (headers_of cs)) (none : All (λ c. c.waiting ≡ []) cs) (shape : IsShape s.sizes) where
   -- a group of a shape is that of a stream

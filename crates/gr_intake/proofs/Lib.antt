@@ -1,3 +1,4 @@
+pub mod Mapped
 pub mod Accepted
 pub mod Reporting
 mod Sources

@@ -1,6 +1,7 @@
 -- The streams that have come are sources, whose records that wait are still to come.
-use Rattle.std.proofs.Common.{◌≡◌, ◌<◌, ℕ, List, [], ◌∷◌, length, map, get_or, Contains, refl, sym, ap, ◌∙◌, subst, arith}
+use Rattle.std.proofs.Common.{◌≡◌, ◌≢◌, ◌<◌, ℕ, List, [], ◌∷◌, length, map, get_or, AllPairs, Contains, refl, sym, ap, ◌∙◌, subst, arith}
 use Rattle.std.proofs.lemmas.List.{get_or-map, length-map}
+use Rattle.std.proofs.lemmas.List.Elements.{All-contains, Contains-get_or}
 use Rattle.gr_model.specs.declared.event.Event.{Event}
 use Rattle.gr_model.specs.Streams.{Streams, IsAccepted, IsPrefix}
 use Rattle.gr_record.specs.declared.header.Header.{Header}
@@ -9,6 +10,8 @@ use Rattle.gr_intake.specs.Joined.{Flat}
 use Rattle.gr_intake.specs.Laws.{AreStreams}
 use Rattle.gr_intake.specs.Waiting.{Coming}
 use Rattle.gr_taking.specs.Sources.{MayCome, come_from}
+use Rattle.gr_intake.proofs.Judged.{its_group}
+use Rattle.gr_intake.proofs.Mapped.{mapped_there}
 
 abbrev header : Coming → Header
 header c = c.header
@@ -35,34 +38,24 @@ pub come_as : (s t : Streams) (old new : List Coming) → pairs s old ≡ pairs 
 come_as s t old new same = sym (come_flat s old) ∙ (ap (map flat) same ∙ come_flat t new)
 
 module _ (s : Streams) (cs : List Coming) (are : AreStreams (come s cs)) (groups : AreGroupsOf s.sizes (headers_of cs)) where
-  -- the source at a place, and its stream
-  pair_at : (k : ℕ) (p : Header × List Event) → k < length (pairs s cs) → flat (get_or (pairs s cs) k p) ≡ get_or (come s cs) k (flat p)
-  pair_at k p lt = sym (get_or-map flat (pairs s cs) k p (flat p) lt) ∙ ap (λ (fs : List Flat). get_or fs k (flat p)) (come_flat s cs)
+  -- the stream of a source
+  in_come : (k : ℕ) (p : Header × List Event) → k < length (pairs s cs) → Contains (come s cs) (flat (get_or (pairs s cs) k p))
+  in_come k p lt =
+      subst (λ (fs : List Flat). Contains fs (flat (get_or (pairs s cs) k p))) (come_flat s cs) (mapped_there flat (pairs s cs) (get_or (pairs s cs) k p) (Contains-get_or (pairs s cs) k p lt))
 
-  in_come : (k : ℕ) → k < length (pairs s cs) → k < length (come s cs)
-  in_come k lt = omega (arith, lt, length-map (pairs s cs) flat, ap length (come_flat s cs))
-
-  in_streams : (k : ℕ) → k < length (come s cs) → k < length cs
-  in_streams k lt = omega (arith, lt, length-map cs (come_of s))
-
-  -- its header is one of them
-  has_header : (k : ℕ) (p : Header × List Event) → k < length (pairs s cs) → Contains (headers_of cs) (get_or (pairs s cs) k p).0
-  has_header k p lt =
-      let in_list = in_streams k (in_come k lt) in
-      let c : Coming = record { header = p.0; waiting = [] } in
-      let at : get_or (come s cs) k (flat p) ≡ come_of s (get_or cs k c) = get_or-map (come_of s) cs k c (flat p) in_list in
-      let is : (get_or (pairs s cs) k p).0 ≡ (get_or cs k c).header = ap (λ (f : Flat). f.header) (pair_at k p lt ∙ at) in
-      subst (Contains (headers_of cs)) (sym is)
-      (k, omega (arith, in_list, length-map cs header), get_or-map header cs k c (get_or cs k c).header in_list)
+  apart : AllPairs (λ f g. f.header.group ≢ g.header.group) (map flat (pairs s cs))
+  apart = subst (λ (fs : List Flat). AllPairs (λ f g. f.header.group ≢ g.header.group) fs) (sym (come_flat s cs)) are.groups
 
   -- so they may come
   pub streams_may_come : MayCome group s.sizes (pairs s cs)
   streams_may_come = record {
-    there = λ k p lt. (groups.there (get_or (pairs s cs) k p).0 (has_header k p lt)).0;
+    there = λ k p lt. (its_group s cs groups (flat (get_or (pairs s cs) k p)) (in_come k p lt)).0;
     prefixes = λ k p lt.
-        let here : IsAccepted (flat (get_or (pairs s cs) k p)).header.items (flat (get_or (pairs s cs) k p)).events = subst (λ (f : Flat). IsAccepted f.header.items f.events) (sym (pair_at k p lt)) (are.accepted k (flat p) (in_come k lt)) in
-        subst (λ (n : ℕ). IsPrefix n (get_or (pairs s cs) k p).1) (sym (groups.there (get_or (pairs s cs) k p).0 (has_header k p lt)).1) (record { few = here.few; good = here.good });
+        let f = flat (get_or (pairs s cs) k p) in
+        let here : IsAccepted f.header.items f.events = All-contains (λ (x : Flat). IsAccepted x.header.items x.events) (come s cs) f are.accepted (in_come k p lt) in
+        subst (λ (n : ℕ). IsPrefix n f.events) (sym (its_group s cs groups f (in_come k p lt)).1) (record { few = here.few; good = here.good });
     differ = λ i j p lt in_list. λ same.
         let before : i < length (pairs s cs) = omega (arith, lt, in_list) in
-        are.groups i j (flat p) lt (in_come j in_list) (ap (λ (f : Flat). f.header.group) (sym (pair_at i p before)) ∙ (same ∙ ap (λ (f : Flat). f.header.group) (pair_at j p in_list)));
+        apart i j (flat p) lt (omega (arith, in_list, length-map (pairs s cs) flat))
+        (ap (λ (f : Flat). f.header.group) (get_or-map flat (pairs s cs) i p (flat p) before) ∙ (same ∙ ap (λ (f : Flat). f.header.group) (sym (get_or-map flat (pairs s cs) j p (flat p) in_list))));
   }

@@ -1,6 +1,6 @@
 -- What was read of streams that follow one another, and what the bytes after it add.
 -- Source: docs/FORMATS.md, "Several streams".
-use Rattle.std.specs.Prelude.{◌≡◌, ◌≢◌, ℕ, ◌-◌, ◌<◌, ◌≤◌, Bool, true, false, not, ◌==◌, List, [], ◌∷◌, ◌++◌, length, map, slice_index, Contains, Option, Some, None, IfSome, option_map, Result, Err, if◌then◌else◌}
+use Rattle.std.specs.Prelude.{◌≡◌, ◌≢◌, ℕ, ◌-◌, ◌<◌, ◌≤◌, Bool, true, false, not, ◌==◌, List, [], ◌∷◌, ◌++◌, length, map, slice_index, Contains, Option, Some, None, IfSome, option_map, Result, Ok, Err, if◌then◌else◌}
 use Rattle.std.specs.List.{list_any}
 use Rattle.gr_model.specs.declared.event.Event.{Event}
 use Rattle.gr_model.specs.declared.limits.TheConstants.{MOST_RECORDS}
@@ -44,16 +44,26 @@ with_event f e = record { header = f.header; events = f.events ++ e ∷ [] }
 abbrev pub next_event_at : Header → ℕ → List ℕ → Result Event RecordError
 next_event_at h count bytes = if count == MOST_RECORDS then Err TooManyRecords else event_at h bytes
 
+-- this record is next
+pub record IsNextEvent (h : Header) (count : ℕ) (bytes : List ℕ) (e : Event) : Type 0 where
+  pub read : event_at h bytes ≡ Ok e
+  pub good : IsEventOk e h.items
+  pub few : count < MOST_RECORDS
+
 -- records that a group of so many items may have, and no end among them
 abbrev pub AreOpen : ℕ → List Event → Type 0
 AreOpen items [] = Unit {0}
 AreOpen items (e ∷ events) = (IsEventOk e items × (is_end e ≡ false)) × AreOpen items events
 
+-- the header of a stream that may follow others
+pub record MayFollow (seen : List Flat) (h : Header) : Type 0 where
+  pub header : IsHeader h
+  pub group : list_any (λ s. s.header.group == h.group) seen ≡ false
+  pub launch : list_any (λ s. not (s.header.launch == h.launch)) seen ≡ false
+
 -- a stream that may follow others, as far as it has come: its end has not
 pub record IsNext (seen : List Flat) (f : Flat) : Type 0 where
-  pub header : IsHeader f.header
-  pub group : list_any (λ s. s.header.group == f.header.group) seen ≡ false
-  pub launch : list_any (λ s. not (s.header.launch == f.header.launch)) seen ≡ false
+  pub follows : MayFollow seen f.header
   pub few : length f.events ≤ MOST_RECORDS
   pub events : AreOpen f.header.items f.events
 
@@ -102,10 +112,6 @@ IsBetween i = i.current ≡ None
 -- the streams that came whole
 abbrev pub streams_in : {Z : Type 0} → Intake Z → List Flat
 streams_in i = come i.sequencer.taken i.streams.items
-
--- an intake with this stream as the one that goes on
-abbrev pub goes_on : {Z : Type 0} → Intake Z → Open Z → Intake Z
-goes_on i o = record { sequencer = i.sequencer; shadows = i.shadows; streams = i.streams; current = Some o }
 
 -- ---- what bytes add
 

@@ -2,7 +2,7 @@
 //!
 //! Invariant: nothing waits in the pieces before the one that is read.
 
-ghost use Rattle.std.specs.Prelude.{◌≡◌, ◌⊎◌, ◌+◌, ◌<◌, ◌++◌, ◌∷◌, [], IfOk, IsTrue, MatchOption, OnErr, OnOk, length};
+ghost use Rattle.std.specs.Prelude.{◌≡◌, ◌⊎◌, ◌+◌, ◌++◌, ◌∷◌, [], IfOk, MatchOption, OnErr, OnOk, length};
 ghost use Rattle.gr_intake.specs.Waiting.{with_waiting};
 
 use crate::piece::Piece;
@@ -37,16 +37,6 @@ impl<A: Allocator> Model for Backlog<A> {
     ghost invariant = { λ b. ArePieces b.pieces.items b.first };
 }
 
-/// Whether the last of the pieces has room for one more record.
-fn has_room<A: Allocator>(pieces: &[Piece<A>]) -> bool
-    ensures { IsTrue result → 0 < length pieces.now }
-{
-    match pieces.last() {
-        None => false,
-        Some(piece) => piece.has_room(),
-    }
-}
-
 /// The place of the last of the pieces, which has room for one more record.
 ///
 /// # Errors
@@ -59,10 +49,12 @@ fn last_with_room<A: Allocator + Copy>(
     ensures grown { OnOk result ((pieces.new.items ≡ pieces.old.items) ⊎ (pieces.new.items ≡ pieces.old.items ++ [] ∷ [])) }
     ensures unchanged { OnErr result (pieces.new.items ≡ pieces.old.items) }
 {
-    if !has_room(pieces) {
-        let piece = Piece::new(alloc)?;
-        pieces.push(piece)?;
+    if let Some(piece) = pieces.last() {
+        if piece.has_room() {
+            return Ok(pieces.len() - 1);
+        }
     }
+    pieces.push(Piece::new(alloc)?)?;
     Ok(pieces.len() - 1)
 }
 
@@ -125,9 +117,7 @@ impl<A: Allocator> Source for Backlog<A> {
 
     ghost coming = { λ b. b.waiting };
 
-    fn group(&self) -> u16
-        ensures { result ≡ self.now.header.group }
-    {
+    fn group(&self) -> u16 {
         self.header.group
     }
 
@@ -135,10 +125,7 @@ impl<A: Allocator> Source for Backlog<A> {
         self.header.items
     }
 
-    fn next(&mut self) -> Option<Event>
-        ensures header { self.new.header ≡ self.old.header }
-        ensures next { MatchOption result ((self.old.waiting ≡ []) × (self.new.waiting ≡ [])) (λ e. self.old.waiting ≡ e ∷ self.new.waiting) }
-    {
+    fn next(&mut self) -> Option<Event> {
         Backlog::next(self)
     }
 }

@@ -1,28 +1,35 @@
 //! What was read of a joined input, header by header and record by record, and which of the records were taken at once.
 
-ghost use Rattle.std.specs.Prelude.{◌≡◌, ◌↔◌, ◌++◌, ◌∷◌, [], ◌<◌, ℕ, List, AllPairs, false, IfErr, IfOk, None, Some, Ok, Err, OnOk, IsTrue, IsFalse, length};
+ghost use Rattle.std.specs.Prelude.{◌≡◌, ◌==◌, ◌++◌, ◌∷◌, [], ◌<◌, ℕ, List, AllPairs, IfErr, IfOk, IsFalse, IsTrue, MatchOption, None, Ok, OnOk, Some, length, not};
 ghost use Rattle.std.specs.List.{list_any};
-ghost use Rattle.std.specs.Prelude.{not, ◌==◌};
-ghost use Rattle.gr_record.specs.InputFaults.{Fails};
-ghost use Rattle.gr_model.specs.Shapes.{HasItem};
+ghost use Rattle.gr_model.specs.Reports.{IsReportOf};
+ghost use Rattle.gr_model.specs.Shapes.{IsShape};
+ghost use Rattle.gr_model.specs.Streams.{AreAccepted, Streams as AnyStreams};
 ghost use Rattle.gr_record.specs.declared.layout.TheConstants.{HEADER_LENGTH};
 ghost use Rattle.gr_record.specs.Faults.{IsOfValues};
+ghost use Rattle.gr_record.specs.InputFaults.{Fails};
 ghost use Rattle.gr_record.specs.Reading.{header_at};
-ghost use Rattle.gr_record.specs.Spelling.{IsHeader};
-ghost use Rattle.gr_intake.specs.Intakes.{IsBetween, IsIntake, IsKeptOpen, IsNew, IsRead, IsStuck, Moves, Stays, behind, come, come_of, goes_on, read_behind, read_on, streams_in, unit_of};
+ghost use Rattle.gr_report.specs.Whole.{whole_of};
+ghost use Rattle.gr_intake.specs.Intakes.{IsBetween, IsGap, IsIntake, IsKeptOpen, IsNew, IsRead, IsStuck, MayFollow, Moves, Stays, behind, come, come_of, read_behind, read_on, streams_in, unit_of};
+ghost use Rattle.gr_intake.specs.Launch.{IsLaunchFault, IsLaunchOf};
 
 use crate::backlog::Backlog;
 use crate::open::Open;
+use crate::reports::report_of;
 use gr_model::event::ItemId;
 use gr_model::growing::GrowingShape;
 use gr_model::memory::Memory;
+use gr_model::shape::ShapeError;
 use gr_record::error::RecordError;
 use gr_record::fault::Fault;
 use gr_record::header::Header;
 use gr_record::layout::HEADER_LENGTH;
 use gr_record::stream::read_front_header;
+use gr_report::report::Report;
 use gr_sequencer::sequencer::Sequencer;
 use gr_shadow::launch::LaunchShadows;
+use gr_taking::keeper::ShadowKeeper;
+use gr_taking::rounds::take_all;
 use std::alloc::{Allocator, Global};
 use std::mem;
 
@@ -34,13 +41,6 @@ pub struct Intake<A: Allocator = Global> {
     pub(crate) shadows: LaunchShadows<A>,
     pub(crate) streams: Vec<Backlog<A>, A>,
     pub(crate) current: Option<Open<A>>,
-}
-
-/// Whether a group has come.
-fn has_group<A: Allocator>(shape: &GrowingShape<A>, group: u16) -> bool
-    ensures { IsTrue result ↔ HasItem shape.now (record { group = group; item = 0 }) }
-{
-    shape.has(ItemId { group, item: 0 })
 }
 
 /// Whether streams of one launch are of another launch than this.
@@ -71,73 +71,35 @@ impl<A: Allocator + Copy> Intake<A> {
         })
     }
 
-    /// Refuses the header of a stream if its group has come, or if the streams that have come are of another launch.
-    ///
-    /// # Errors
-    /// `SameGroup`, and else `OtherLaunch`.
-    fn check(&self, header: Header) -> Result<(), Fault>
-        requires intake { IsIntake self.now }
-        requires none { IsBetween self.now }
-        ensures group { OnOk result (list_any (λ s. s.header.group == header.group) self.now.streams.items ≡ false) }
-        ensures launch { OnOk result (list_any (λ s. not (s.header.launch == header.launch)) self.now.streams.items ≡ false) }
-        ensures fault { IfErr result (λ f. (unit more : List ℕ) → length unit ≡ HEADER_LENGTH → header_at unit ≡ Ok header → Fails f (behind self.now (unit ++ more))) }
-        ensures values { IfErr result IsOfValues }
-    {
-        let place = self.streams.len() as u64;
-        if has_group(self.sequencer.shape(), header.group) {
-            return Err(Fault::SameGroup(place));
-        }
-        if has_other_launch(&self.streams, header.launch) {
-            return Err(Fault::OtherLaunch(place));
-        }
-        Ok(())
-    }
-
     /// The header in these bytes, where no stream goes on.
     ///
     /// # Errors
-    /// The header's fault, `SameGroup`, and else `OtherLaunch`.
+    /// The header's fault; `SameGroup` if its group has come; `OtherLaunch` if the streams that have come are of another launch.
     fn header_of(&self, unit: &[u8]) -> Result<Header, Fault>
         requires all { length unit.now ≡ HEADER_LENGTH }
         requires intake { IsIntake self.now }
         requires none { IsBetween self.now }
         ensures header { IfOk result (λ h. header_at unit.now ≡ Ok h) }
-        ensures group { IfOk result (λ h. list_any (λ s. s.header.group == h.group) self.now.streams.items ≡ false) }
-        ensures launch { IfOk result (λ h. list_any (λ s. not (s.header.launch == h.launch)) self.now.streams.items ≡ false) }
+        ensures follows { IfOk result (λ h. MayFollow (streams_in self.now) h) }
         ensures fault { IfErr result (λ f. (more : List ℕ) → Fails f (behind self.now (unit.now ++ more))) }
         ensures values { IfErr result IsOfValues }
     {
-        match read_front_header(unit) {
-            Ok((header, _)) => {
-                self.check(header)?;
-                Ok(header)
-            }
-            Err(error) => Err(Fault::of_stream(self.streams.len() as u64, error)),
-        }
-    }
-
-    /// Begins the stream of this header, where none goes on.
-    ///
-    /// # Errors
-    /// `Memory`: out of memory. What was read is then lost.
-    fn begin(&mut self, alloc: A, header: Header) -> Result<(), Memory>
-        requires intake { IsIntake self.old }
-        requires none { IsBetween self.old }
-        requires header { IsHeader header }
-        requires group { list_any (λ s. s.header.group == header.group) self.old.streams.items ≡ false }
-        requires launch { list_any (λ s. not (s.header.launch == header.launch)) self.old.streams.items ≡ false }
-        ensures intake { OnOk result (IsIntake self.new) }
-        ensures goes { OnOk result ((unit more : List ℕ) → length unit ≡ HEADER_LENGTH → header_at unit ≡ Ok header → behind self.old (unit ++ more) ≡ behind self.new more) }
-    {
-        let empty = Sequencer::without_groups(alloc)?;
-        let sequencer = mem::replace(&mut self.sequencer, empty);
-        let Ok(grown) = sequencer.with_group(header.group, header.items) else {
-            return Err(Memory);
+        let place = self.streams.len() as u64;
+        let header = match read_front_header(unit) {
+            Ok((header, _)) => header,
+            Err(error) => return Err(Fault::of_stream(place, error)),
         };
-        let current = Open::new(alloc, header, grown.held());
-        self.current = Some(current);
-        self.sequencer = grown;
-        Ok(())
+        let first = ItemId {
+            group: header.group,
+            item: 0,
+        };
+        if self.sequencer.shape().has(first) {
+            return Err(Fault::SameGroup(place));
+        }
+        if has_other_launch(&self.streams, header.launch) {
+            return Err(Fault::OtherLaunch(place));
+        }
+        Ok(header)
     }
 
     /// Takes the header at the front of the bytes, where no stream goes on, and returns the bytes after it; all of them where
@@ -158,7 +120,11 @@ impl<A: Allocator + Copy> Intake<A> {
         }
         let (unit, rest) = bytes.split_at(HEADER_LENGTH);
         let header = self.header_of(unit)?;
-        self.begin(alloc, header)?;
+        let empty = Sequencer::without_groups(alloc)?;
+        let sequencer = mem::replace(&mut self.sequencer, empty);
+        let grown = sequencer.with_group(header.group, header.items)?;
+        self.current = Some(Open::new(alloc, header, grown.held()));
+        self.sequencer = grown;
         Ok(rest)
     }
 }
@@ -205,46 +171,19 @@ fn take_records<'p, A: Allocator + Copy>(
     Ok((false, rest))
 }
 
-/// Keeps one more stream, which has come whole.
-fn keep<A: Allocator>(streams: &mut Vec<Backlog<A>, A>, stream: Backlog<A>) -> Result<(), Memory>
-    ensures { OnOk result (streams.new.items ≡ streams.old.items ++ stream ∷ []) }
+/// Why no launch has these groups, which have different numbers: there is none, or else one is missing below another.
+fn gap_of<A: Allocator>(shape: &GrowingShape<A>) -> Option<Fault>
+    ensures { MatchOption result (IsShape shape.now) (λ f. IsGap shape.now f) }
 {
-    streams.push(stream)?;
-    Ok(())
-}
-
-impl<A: Allocator + Copy> Intake<A> {
-    /// Takes the records at the front of the bytes, up to the end of `current`, the stream that goes on, and returns the bytes
-    /// after them.
-    ///
-    /// # Errors
-    /// The fault of the first record that has one; `Memory`: out of memory.
-    fn go_on<'p>(&mut self, current: Open<A>, bytes: &'p [u8]) -> Result<&'p [u8], Fault>
-        requires none { IsBetween self.old }
-        requires read { IsRead self.old.sequencer self.old.shadows self.old.streams.items (Some current.backlog) }
-        requires kept { IsKeptOpen self.old.sequencer.taken current }
-        ensures moves { IfOk result (λ rest. Moves (goes_on self.old current) bytes.now self.new rest.now) }
-        ensures stuck { IfOk result (λ rest. IsStuck bytes.now self.new rest.now) }
-        ensures fault { IfErr result (λ f. (more : List ℕ) → Fails f (behind (goes_on self.old current) (bytes.now ++ more))) }
-        ensures values { IfErr result IsOfValues }
-    {
-        let mut current = current;
-        let (ended, rest) = take_records(
-            &mut self.sequencer,
-            &mut self.shadows,
-            self.streams.as_slice(),
-            &mut current,
-            bytes,
-        )?;
-        if !ended {
-            self.current = Some(current);
-            return Ok(rest);
-        }
-        let Ok(()) = keep(&mut self.streams, current.backlog) else {
-            return Err(Fault::Memory);
-        };
-        Ok(rest)
+    if shape.groups() == 0 {
+        return Some(Fault::Shape(ShapeError::NoGroups));
     }
+    for group in 0..shape.groups() {
+        if shape.items(group) == 0 {
+            return Some(Fault::MissingGroup(group));
+        }
+    }
+    None
 }
 
 impl<A: Allocator + Copy> Intake<A> {
@@ -260,10 +199,24 @@ impl<A: Allocator + Copy> Intake<A> {
         ensures fault { IfErr result (λ f. (more : List ℕ) → Fails f (behind self.old (bytes.now ++ more))) }
         ensures values { IfErr result IsOfValues }
     {
-        match self.current.take() {
-            None => self.take_header(alloc, bytes),
-            Some(current) => self.go_on(current, bytes),
+        let Some(mut current) = self.current.take() else {
+            return self.take_header(alloc, bytes);
+        };
+        let (ended, rest) = take_records(
+            &mut self.sequencer,
+            &mut self.shadows,
+            self.streams.as_slice(),
+            &mut current,
+            bytes,
+        )?;
+        if !ended {
+            self.current = Some(current);
+            return Ok(rest);
         }
+        let Ok(()) = self.streams.push(current.backlog) else {
+            return Err(Fault::Memory);
+        };
+        Ok(rest)
     }
 
     /// Takes all headers and records that lie whole in the bytes, and returns those that are left.
@@ -303,5 +256,29 @@ impl<A: Allocator + Copy> Intake<A> {
             return Ok(());
         }
         Err(Fault::of_stream(self.streams.len() as u64, RecordError::Truncated))
+    }
+
+    /// The report of the launch whose streams have come. The records that wait are taken first.
+    ///
+    /// # Errors
+    /// `Shape` with `NoGroups` where no stream came; else `MissingGroup` with the least group below the greatest that no
+    /// stream is of; `Memory`: out of memory.
+    pub fn report(&mut self) -> Result<Report<A>, Fault>
+        requires intake { IsIntake self.old }
+        requires whole { IsBetween self.old }
+        ensures report { IfOk result (λ r. (s : AnyStreams) × IsLaunchOf (streams_in self.old) s × AreAccepted s × IsReportOf s (whole_of r)) }
+        ensures fault { IfErr result (λ f. IsLaunchFault (streams_in self.old) f) }
+        ensures values { IfErr result IsOfValues }
+    {
+        if let Some(fault) = gap_of(self.sequencer.shape()) {
+            return Err(fault);
+        }
+        take_all(
+            &mut self.sequencer,
+            &ShadowKeeper,
+            &mut self.shadows,
+            self.streams.as_mut_slice(),
+        )?;
+        Ok(report_of(&self.sequencer, &self.shadows)?)
     }
 }

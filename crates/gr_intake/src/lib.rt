@@ -4,7 +4,6 @@
 
 pub mod backlog;
 pub mod intake;
-mod judging;
 mod open;
 mod piece;
 pub mod reports;

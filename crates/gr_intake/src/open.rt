@@ -1,12 +1,12 @@
 //! The stream that goes on.
 
-ghost use Rattle.std.specs.Prelude.{◌≡◌, ◌≢◌, ◌<◌, ◌++◌, ◌∷◌, [], ℕ, false, OnOk, length};
+ghost use Rattle.std.specs.Prelude.{◌≡◌, ◌≢◌, ◌<◌, ◌≤◌, [], ℕ, Err, IfErr, IfOk, OnOk, length};
 ghost use Rattle.gr_model.specs.declared.limits.TheConstants.{MOST_RECORDS};
 ghost use Rattle.gr_model.specs.Events.{IsEventOk};
 ghost use Rattle.gr_model.specs.Streams.{list_of, size_of};
 ghost use Rattle.gr_order.specs.Sequences.{IsSequence};
 ghost use Rattle.gr_record.specs.Versions.{record_length};
-ghost use Rattle.gr_intake.specs.Intakes.{AreOpen, IsKeptOpen, come_of, next_event_at, with_event};
+ghost use Rattle.gr_intake.specs.Intakes.{AreOpen, IsKeptOpen, IsNextEvent, come_of, next_event_at, with_event};
 ghost use Rattle.gr_intake.specs.Sequencing.{AreShadowsOf};
 
 use crate::backlog::Backlog;
@@ -62,9 +62,12 @@ impl<A: Allocator + Copy> Open<A> {
     /// # Errors
     /// `TooManyRecords`, and else the fault of the record.
     #[inline(always)]
+    #[tactic(auto, using(gr_record::proofs::Found::read_is_ok))]
     pub(crate) fn read(&self, bytes: &[u8]) -> Result<Event, RecordError>
-        requires { length bytes.now ≡ record_length self.now.backlog.header.version }
-        ensures { result ≡ next_event_at self.now.backlog.header self.now.count bytes.now }
+        requires size { length bytes.now ≡ record_length self.now.backlog.header.version }
+        requires few { self.now.count ≤ MOST_RECORDS }
+        ensures next { IfOk result (λ e. IsNextEvent self.now.backlog.header self.now.count bytes.now e) }
+        ensures fault { IfErr result (λ e. next_event_at self.now.backlog.header self.now.count bytes.now ≡ Err e) }
     {
         if self.count as usize == MOST_RECORDS {
             return Err(RecordError::TooManyRecords);

@@ -44,6 +44,7 @@ impl<A: Allocator + Copy> Piece<A> {
     ///
     /// # Errors
     /// `Memory`: out of memory.
+    #[tactic(auto, using(crate::proofs::Backlogs::none_yet))]
     pub(crate) fn new(alloc: A) -> Result<Piece<A>, Memory>
         ensures { IfOk result (λ p. p ≡ []) }
     {
@@ -68,6 +69,7 @@ impl<A: Allocator> Piece<A> {
     /// # Errors
     /// `Memory`: out of memory. The piece is then as it was.
     #[inline(always)]
+    #[tactic(auto, using(crate::proofs::Backlogs::plain_pushed, crate::proofs::Backlogs::no_names))]
     pub(crate) fn push(&mut self, event: &Event) -> Result<(), Memory>
         ensures ok { OnOk result (self.new ≡ self.old ++ event.now ∷ []) }
         ensures err { OnErr result (self.new ≡ self.old) }
@@ -84,6 +86,7 @@ impl<A: Allocator> Piece<A> {
     ///
     /// # Errors
     /// `Memory`: out of memory. The piece is then as it was.
+    #[tactic(auto, using(crate::proofs::Backlogs::naming_pushed))]
     fn push_naming(&mut self, event: &Event) -> Result<(), Memory>
         ensures ok { OnOk result (self.new ≡ self.old ++ event.now ∷ []) }
         ensures err { OnErr result (self.new ≡ self.old) }
@@ -97,13 +100,11 @@ impl<A: Allocator> Piece<A> {
 
     /// The first record that was not read yet. After the last one the piece takes no memory.
     #[inline(always)]
+    #[tactic(auto, using(crate::proofs::Backlogs::none_listed, crate::proofs::Backlogs::first_plain, std::proofs::lemmas::Bool::Decides::nat_tests))]
     pub(crate) fn next(&mut self) -> Option<Event>
         ensures { MatchOption result ((self.old ≡ []) × (self.new ≡ self.old)) (λ e. self.old ≡ e ∷ self.new) }
     {
-        let short = match self.shorts.get(self.read) {
-            None => return None,
-            Some(short) => *short,
-        };
+        let short = *self.shorts.get(self.read)?;
         if short.has_names {
             return self.next_naming();
         }
@@ -114,13 +115,11 @@ impl<A: Allocator> Piece<A> {
 
     /// Like `next`, for a record that may name releases.
     #[inline(never)]
+    #[tactic(auto, using(crate::proofs::Backlogs::none_listed, crate::proofs::Backlogs::first_taken, std::proofs::lemmas::Bool::Decides::nat_tests))]
     fn next_naming(&mut self) -> Option<Event>
         ensures { MatchOption result ((self.old ≡ []) × (self.new ≡ self.old)) (λ e. self.old ≡ e ∷ self.new) }
     {
-        let short = match self.shorts.get(self.read) {
-            None => return None,
-            Some(short) => *short,
-        };
+        let short = *self.shorts.get(self.read)?;
         let (names, names_read) = next_names(&self.names, self.names_read, short.has_names);
         self.read += 1;
         self.names_read = names_read;

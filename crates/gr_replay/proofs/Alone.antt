@@ -12,7 +12,6 @@ use Rattle.gr_record.specs.declared.layout.TheConstants.{HEADER_LENGTH}
 use Rattle.gr_record.specs.WholeStreams.{front_header_at, front_records_at, whole}
 use Rattle.gr_record.proofs.Growing.{grown, records_grow}
 use Rattle.gr_intake.specs.Joined.{Flat, ◌>>=◌, at_place, stream_at}
-use Rattle.gr_intake.proofs.Accepted.{found, same_found}
 use Rattle.gr_intake.proofs.Behind.{front_of_unit}
 use Rattle.gr_replay.specs.Each.{only_stream_at}
 
@@ -25,6 +24,12 @@ pub record BeginsWith (bytes : List ℕ) (f : Flat) (rest : List ℕ) : Type 0 w
 -- the bytes are this stream
 abbrev pub IsStreamOf : List ℕ → Flat → Type 0
 IsStreamOf bytes f = BeginsWith bytes f []
+
+abbrev found : Flat × List ℕ → Result (Flat × List ℕ) Fault
+found x = Ok x
+
+same_found : (x y : Flat × List ℕ) → found x ≡ found y → x ≡ y
+same_found x y e = cc
 
 abbrev done : {X : Type 0} → X → Result X RecordError
 done x = Ok x

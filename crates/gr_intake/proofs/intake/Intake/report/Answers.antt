@@ -4,28 +4,29 @@ use Rattle.gr_record.specs.declared.header.Header.{Header}
 use Rattle.gr_taking.specs.Sources.{MayCome, come_from}
 use Rattle.gr_intake.specs.Intakes.{come}
 use Rattle.gr_intake.specs.Waiting.{Coming}
-use Rattle.gr_intake.proofs.Judged.{gap_is_launch_fault, groups_between, launch_taken}
+use Rattle.gr_intake.proofs.Comings.{groups_are, none_goes_on}
+use Rattle.gr_intake.proofs.Judged.{gap_is_launch_fault, launch_taken}
 use Rattle.gr_intake.proofs.Sources.{come_as, streams_may_come}
 use Rattle.gr_intake.proofs.intake.Intake.report.Goals as goal
 
 pub returns-in-Some-clause-fault : goal.returns-in-Some-clause-fault
-returns-in-Some-clause-fault g c = grind (arith, groups_between, gap_is_launch_fault, c.requires.whole, c.shape.ensures.sizes)
+returns-in-Some-clause-fault g c = grind (arith, none_goes_on, groups_are, gap_is_launch_fault, c.requires.whole, c.shape.ensures.sizes)
 
 pub take_all-requires-clause-may : goal.take_all-requires-clause-may
 take_all-requires-clause-may g c =
     let i = c.args.self.now in
-    let read = c.requires.intake.0 in
-    let groups = groups_between i.sequencer.taken.sizes i.streams.items i.current c.requires.whole read.groups in
+    let read = none_goes_on i c.requires.whole c.requires.intake in
+    let groups = groups_are i.sequencer.taken.sizes i.streams.items read.groups in
     subst (λ (cs : List Coming). MayCome (λ (h : Header). h.group) i.sequencer.taken.sizes (come_from (λ (b : Coming). b.header) (λ (h : Header). h.group) (λ (b : Coming). b.waiting) i.sequencer.taken cs)) (sym c.as_mut_slice.ensures.value)
     (streams_may_come i.sequencer.taken i.streams.items read.streams groups)
 
 pub returns-clause-report : goal.returns-clause-report
 returns-clause-report g c =
     let i = c.args.self.now in
-    let read = c.requires.intake.0 in
+    let read = none_goes_on i c.requires.whole c.requires.intake in
     let now = c.take_all.new in
     let all = c.in_ok-take_all.ensures in
-    let groups = groups_between i.sequencer.taken.sizes i.streams.items i.current c.requires.whole read.groups in
+    let groups = groups_are i.sequencer.taken.sizes i.streams.items read.groups in
     let same : come now.sequencer.taken now.sources ≡ come i.sequencer.taken i.streams.items =
     subst (λ (cs : List Coming). come now.sequencer.taken now.sources ≡ come i.sequencer.taken cs) c.as_mut_slice.ensures.value (come_as now.sequencer.taken i.sequencer.taken now.sources c.as_mut_slice.result.now all.come) in
     let shape : IsShape i.sequencer.taken.sizes = subst IsShape c.shape.ensures.sizes c.in_default.ensures in

@@ -1,5 +1,5 @@
 use Rattle.std.proofs.Common.{arith, length-append}
-use Rattle.gr_intake.proofs.intake.Intake.go_on.Goals as goal
+use Rattle.gr_intake.proofs.intake.Intake.take_part.Goals as goal
 
 pub returns-then-not-ended-clause-moves : goal.returns-then-not-ended-clause-moves
 returns-then-not-ended-clause-moves g c = grind (arith, c.in_ok-ended.ensures.stays, c.in_ok-ended.ensures.left, c.in_ok-ended.ensures.goes, c.as_slice.ensures.value)

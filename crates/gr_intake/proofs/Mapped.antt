@@ -1,0 +1,17 @@
+-- Lists that are mapped: what they have, and a test of each of their elements.
+use Rattle.std.proofs.Common.{◌≡◌, zero, suc, Bool, List, [], ◌∷◌, map, Contains, ◌||◌, refl, ap, ◌∙◌, arith}
+use Rattle.std.specs.List.{list_any}
+use Rattle.std.proofs.lemmas.List.{get_or-map, length-map}
+
+module _ {X Y : Type 0} (f : X → Y) where
+  pub any_of_map : (test : Y → Bool) (xs : List X) → list_any test (map f xs) ≡ list_any (λ x. test (f x)) xs
+  any_of_map test [] = refl
+  any_of_map test (x ∷ xs) = ap (λ b. test (f x) || b) (any_of_map test xs)
+
+  pub mapped_there : (xs : List X) (x : X) → Contains xs x → Contains (map f xs) (f x)
+  mapped_there xs x (k, lt, is) = (k, omega (arith, lt, length-map xs f), get_or-map f xs k x (f x) lt ∙ ap f is)
+
+  pub mapped_from : (xs : List X) (y : Y) → Contains (map f xs) y → (x : X) × Contains xs x × (f x ≡ y)
+  mapped_from [] y (k, lt, is) = absurd (omega (arith, lt))
+  mapped_from (x ∷ xs) y (zero, lt, is) = (x, (0, omega arith, refl), is)
+  mapped_from (x ∷ xs) y (suc k, lt, is) = let found = mapped_from xs y (k, omega (arith, lt), is) in (found.0, (suc found.1.0, omega (arith, found.1.1), found.1.2), found.2)
