@@ -41,6 +41,7 @@ pub(crate) fn name_at<'a>(names: &[&'a str], place: u64) -> Option<&'a str>
 }
 
 /// The name of the first file whose group is from `least` to `most`.
+#[tactic(auto, using(crate::proofs::NeighbourLemmas::position_map))]
 fn first_between<'a, A: Allocator>(
     names: &[&'a str],
     inputs: &[Vec<u8, A>],
