@@ -34,19 +34,6 @@ fn cause_at(causes: &[Cause], place: usize) -> Option<Cause>
     causes.get(place).copied()
 }
 
-/// Keeps a row, if there is one.
-fn keep_row<A: Allocator>(
-    rows: &mut Vec<KindedRace, A>,
-    row: Option<KindedRace>,
-) -> Result<(), Memory>
-    ensures { OnOk result (rows.new.items ≡ spec.with_row rows.old.items row) }
-{
-    if let Some(row) = row {
-        rows.push(row)?;
-    }
-    Ok(())
-}
-
 /// The races with their kinds and these causes, the first of the first race.
 fn all_kinded<A: Allocator + Copy>(
     alloc: A,
@@ -59,8 +46,9 @@ fn all_kinded<A: Allocator + Copy>(
 {
     let mut rows = Vec::new(alloc);
     for (place, race) in races.iter().enumerate() {
-        let row = kinded(records, index, race, cause_at(causes, place));
-        keep_row(&mut rows, row)?;
+        if let Some(row) = kinded(records, index, race, cause_at(causes, place)) {
+            rows.push(row)?;
+        }
     }
     Ok(rows)
 }
