@@ -1,10 +1,9 @@
 -- What was taken is what was sent, if all ends were popped.
-use Rattle.std.proofs.Common.{◌≡◌, ◌==◌, ℕ, suc, ◌<◌, ◌%◌, IsTrue, List, [], ◌∷◌, length, map, get_or, sym, ap, ◌∙◌, arith, All, filter, mod-lt}
+use Rattle.std.proofs.Common.{◌≡◌, ◌==◌, ℕ, ◌<◌, ◌%◌, IsTrue, List, [], ◌∷◌, length, map, get_or, sym, ap, ◌∙◌, arith, filter, mod-lt}
 use Rattle.std.specs.List.{range_with_len}
 use Rattle.std.proofs.lemmas.Bool.Decides.{nat_tests}
 use Rattle.std.proofs.lemmas.List.{ext_get_or, get_or-map, length-map}
 use Rattle.std.proofs.lemmas.List.FromFn.{get_or-map-range_with_len, length-map-range_with_len}
-use Rattle.atomic_table.specs.Seated.{TableId}
 use Rattle.gr_model.specs.declared.event.Event.{Event}
 use Rattle.gr_model.specs.declared.event.Sent.{Sent}
 use Rattle.gr_model.specs.Configs.{IsConfig, Settings}
@@ -12,8 +11,8 @@ use Rattle.gr_model.specs.Streams.{AreComplete, events_of, is_complete, list_of}
 use Rattle.gr_order.specs.Sequences.{IsSequence, Sequence}
 use Rattle.gr_route.specs.IntakeSeats.{Seat, Taker, popped_of}
 use Rattle.gr_sequencer_thread.specs.Feeds.{AreTaken}
-use Rattle.gr_detector.specs.Runs.{IsEachOnce, IsOfRun, Run, sent_by, sent_of}
-use Rattle.gr_detector.specs.Settling.{AreHere, ArePopped, popped_at, pops_of}
+use Rattle.gr_detector.specs.Runs.{IsEachOnce, sent_by, sent_of}
+use Rattle.gr_detector.specs.Settling.{ArePopped, popped_at, pops_of}
 
 -- if a group has one receipt, what was popped of it is what the receipt has
 sent_is : (pops : List (List Sent)) (g : ℕ) (receipts : List Seat) → IsTrue (is_complete (popped_at pops g)) → ArePopped pops receipts → length (filter (λ (r : Seat). r.group == g) receipts) ≡ 1 → popped_at pops g ≡ sent_of g receipts
@@ -42,11 +41,3 @@ module _ (config : Settings) (is : IsConfig config) (seq : Sequence) (sequence :
       ∙ (sent_is (pops_of takers) g receipts whole told (once g there)
       ∙ sym (get_or-map-range_with_len (λ h. sent_of h receipts) 0 n g g [] there (omega arith)))) in
       λ k. record { sizes = seq.taken.sizes; lists = lists k }
-
--- each receipt of a run is of the queue of its group
-pub are_here : (run : Run) (intakes : List TableId) (receipts : List Seat) → run.intakes ≡ intakes → length intakes ≡ run.config.queues → All (λ r. IsOfRun run r.group r.queue) receipts → AreHere intakes receipts
-are_here run intakes [] same count all = tt
-are_here run intakes (r ∷ receipts) same count all = (
-  rw (count, sym same) (all 0 r (omega arith)).here,
-  are_here run intakes receipts same count (λ k d lt. all (suc k) d (omega (arith, lt))),
-)

@@ -1,4 +1,3 @@
 pub mod Runs
 pub mod Refusals
 pub mod Settling
-pub mod Setups

@@ -18,10 +18,9 @@ pops_of takers = map (λ (t : Taker). t.popped) takers
 abbrev pub popped_at : List (List Sent) → ℕ → List Event
 popped_at pops g = events_of g (slice_index_or pops (g % length pops) [])
 
--- each receipt is of the queue of its group
-abbrev pub AreHere : List TableId → List Seat → Type 0
-AreHere intakes [] = ⊤
-AreHere intakes (r ∷ receipts) = (slice_get intakes (r.group % length intakes) ≡ Some r.queue) × AreHere intakes receipts
+-- the receipt is of the queue of its group
+abbrev pub IsHere : List TableId → Seat → Type 0
+IsHere intakes r = slice_get intakes (r.group % length intakes) ≡ Some r.queue
 
 -- what was popped of the receipt's group is a prefix of what was pushed, and is all of it if it has its end
 pub record IsPopped (pops : List (List Sent)) (r : Seat) : Type 0 where

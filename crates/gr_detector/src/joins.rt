@@ -1,12 +1,12 @@
 //! The end of a run: the receipts are counted, and all seats are joined back.
 
-ghost use Rattle.std.specs.Prelude.{◌≡◌, ◌↔◌, ◌<◌, ◌++◌, ◌∷◌, ◌==◌, [], List, IfOk, IsTrue, filter, length};
+ghost use Rattle.std.specs.Prelude.{◌≡◌, ◌↔◌, ◌<◌, ◌++◌, ◌∷◌, ◌==◌, [], All, List, IfOk, IsTrue, filter, length};
 ghost use Rattle.gr_model.specs.Reports.{Lists, WordBelow};
 ghost use Rattle.gr_report.specs.Whole.{whole_of};
 ghost use Rattle.gr_shadow.specs.Clashes.{ClockedAccess, IsHitIn};
 ghost use Rattle.gr_sequencer_thread.specs.Feeds.{AreStopped, given_of, intakes_of, works_of};
 ghost use Rattle.gr_detector.specs.Runs.{IsEachOnce, worker_queues};
-ghost use Rattle.gr_detector.specs.Settling.{AreHere, ArePopped, IsHitAmong, pops_of};
+ghost use Rattle.gr_detector.specs.Settling.{ArePopped, IsHere, IsHitAmong, pops_of};
 
 use gr_model::event::Word;
 use gr_model::memory::Memory;
@@ -67,7 +67,7 @@ pub(crate) fn join_intakes<A: Allocator>(
     receipts: Vec<Receipt<A>, A>,
 )
     requires some { 0 < length inlets.old.items }
-    requires here { AreHere (intakes_of inlets.old.items) receipts.items }
+    requires here { All (IsHere (intakes_of inlets.old.items)) receipts.items }
     ensures { ArePopped (pops_of inlets.old.items) receipts.items }
 {
     for receipt in receipts {

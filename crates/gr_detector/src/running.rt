@@ -6,7 +6,7 @@ ghost use Rattle.std.specs.Prelude.{◌≡◌, IfErr, IfOk, length};
 ghost use Rattle.gr_model.specs.Reports.{IsReportOf};
 ghost use Rattle.gr_report.specs.Whole.{whole_of};
 ghost use Rattle.gr_detector.specs.Refusals.{IsHandedBack};
-ghost use Rattle.gr_detector.specs.Runs.{AreReceiptsOf, IsEachOnce, IsRunning, run_of, sent_by};
+ghost use Rattle.gr_detector.specs.Runs.{AreReceiptsOf, IsEachOnce, sent_by};
 
 use crate::error::FinishError;
 use crate::joins::{has_each_once, join_intakes, settle_all, with_races};
@@ -22,10 +22,10 @@ use std::thread::Threads;
 /// A run whose threads were started. Contracts see its configuration, the items of each work-group, and its intake queues.
 #[derive(Drop)]
 pub struct Running<A: Allocator = Global> {
-    alloc: A,
-    groups: u16,
-    sequencer: SequencerThread<A>,
-    workers: Vec<WorkerThread<A>, A>,
+    pub(crate) alloc: A,
+    pub(crate) groups: u16,
+    pub(crate) sequencer: SequencerThread<A>,
+    pub(crate) workers: Vec<WorkerThread<A>, A>,
 }
 
 impl<A: Allocator> Model for Running<A> {
@@ -37,27 +37,6 @@ impl<A: Allocator> Model for Running<A> {
     ghost view = { λ r. run_of r.sequencer };
 
     ghost invariant = { λ r. (r.groups ≡ length r.sequencer.sizes) × IsRunning r.sequencer r.workers.items };
-}
-
-impl<A: Allocator> Running<A> {
-    /// The run of these threads.
-    pub(crate) fn of(
-        alloc: A,
-        groups: u16,
-        sequencer: SequencerThread<A>,
-        workers: Vec<WorkerThread<A>, A>,
-    ) -> Running<A>
-        requires groups { groups ≡ length sequencer.sizes }
-        requires workers { IsRunning sequencer workers.items }
-        ensures { result ≡ run_of sequencer }
-    {
-        Running {
-            alloc,
-            groups,
-            sequencer,
-            workers,
-        }
-    }
 }
 
 impl<A: Allocator + Copy> Running<A> {

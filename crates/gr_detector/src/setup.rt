@@ -1,11 +1,11 @@
 //! The parts of a run: its queues, the seats at both ends of each, and the senders.
 
-ghost use Rattle.std.specs.Prelude.{◌≡◌, ◌<◌, ◌≤◌, [], IfOk, length};
-ghost use Rattle.gr_sequencer_thread.specs.Feeds.{intakes_of, works_of};
-ghost use Rattle.gr_detector.specs.Runs.{worker_queues};
-ghost use Rattle.gr_detector.specs.Setups.{AreOpenBelow, AreSeatedBelow, AreUngiven, AreUnpopped, AreUnseated};
+ghost use Rattle.std.specs.Prelude.{◌≡◌, ◌<◌, ◌≤◌, [], All, IfOk, length};
+ghost use Rattle.gr_route.specs.IntakeRule.{no_sizes};
+ghost use Rattle.gr_sequencer_thread.specs.Feeds.{AreSeated, intakes_of, works_of};
+ghost use Rattle.gr_detector.specs.Runs.{AreSendersOf, worker_queues};
 
-use gr_model::config::Config;
+use gr_model::config::{Config, queue_of};
 use gr_model::limits::MOST_PLACES;
 use gr_model::memory::Memory;
 use gr_model::shape::Shape;
@@ -23,8 +23,7 @@ pub(crate) fn inlets_of<A: Allocator + Copy>(
     config: Config,
 ) -> Result<Vec<Inlet<A>, A>, Memory>
     ensures count { IfOk result (λ inlets. length inlets.items ≡ config.queues) }
-    ensures unpopped { IfOk result (λ inlets. AreUnpopped inlets.items) }
-    ensures unseated { IfOk result (λ inlets. AreUnseated inlets.items) }
+    ensures fresh { IfOk result (λ inlets. All (λ t. (t.popped ≡ []) × (t.sizes ≡ no_sizes)) inlets.items) }
 {
     let mut inlets = Vec::new(alloc);
     for _ in 0..config.queues() {
@@ -33,25 +32,23 @@ pub(crate) fn inlets_of<A: Allocator + Copy>(
     Ok(inlets)
 }
 
-/// The senders of all work-groups of a launch of this shape, in order. The events of a group go to the queue whose number is
-/// the group's number modulo the number of queues.
+/// The senders of all work-groups of a launch of this shape, in order.
 pub(crate) fn senders_of<A: Allocator + Copy>(
     alloc: A,
+    config: Config,
     shape: &Shape<A>,
     inlets: &mut Vec<Inlet<A>, A>,
 ) -> Result<Vec<Sender<A>, A>, Memory>
-    requires some { 0 < length inlets.old.items }
-    requires unpopped { AreUnpopped inlets.old.items }
-    requires unseated { AreUnseated inlets.old.items }
+    requires count { length inlets.old.items ≡ config.queues }
+    requires fresh { All (λ t. (t.popped ≡ []) × (t.sizes ≡ no_sizes)) inlets.old.items }
     ensures queues { IfOk result (λ _. intakes_of inlets.new.items ≡ intakes_of inlets.old.items) }
-    ensures unpopped { IfOk result (λ _. AreUnpopped inlets.new.items) }
-    ensures seated { IfOk result (λ _. AreSeatedBelow (length shape.now) shape.now inlets.new.items) }
-    ensures count { IfOk result (λ senders. length senders.items ≡ length shape.now) }
-    ensures senders { IfOk result (λ senders. AreOpenBelow (length shape.now) shape.now (intakes_of inlets.old.items) senders.items) }
+    ensures unpopped { IfOk result (λ _. All (λ t. t.popped ≡ []) inlets.new.items) }
+    ensures seated { IfOk result (λ _. AreSeated config shape.now inlets.new.items) }
+    ensures senders { IfOk result (λ senders. AreSendersOf (record { config = config; sizes = shape.now; intakes = intakes_of inlets.old.items }) senders.items) }
 {
     let mut senders = Vec::new(alloc);
     for group in 0..shape.groups() {
-        let queue = usize::from(group) % inlets.len();
+        let queue = usize::from(queue_of(group, config.queues()));
         senders.push(inlets[queue].sender(group, shape.items(group))?)?;
     }
     Ok(senders)
@@ -83,7 +80,7 @@ pub(crate) fn workers_of<A: Allocator + Copy>(
 ) -> Result<(Vec<Outlet<A>, A>, Vec<Worker<A>, A>), Memory>
     ensures count { IfOk result (λ worker_count. (length worker_count.0.items ≡ config.workers) × (length worker_count.1.items ≡ config.workers)) }
     ensures queues { IfOk result (λ worker_count. worker_queues worker_count.1.items ≡ works_of worker_count.0.items) }
-    ensures ungiven { IfOk result (λ worker_count. AreUngiven worker_count.0.items) }
+    ensures ungiven { IfOk result (λ worker_count. All (λ o. o.pushed ≡ []) worker_count.0.items) }
 {
     let mut outlets = Vec::new(alloc);
     let mut workers = Vec::new(alloc);

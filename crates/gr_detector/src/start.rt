@@ -1,14 +1,14 @@
 //! The start of a run.
 
-ghost use Rattle.std.specs.Prelude.{◌≡◌, ◌<◌, ◌≤◌, [], IfErr, IfOk, IfSome, take, vec_capacity, vec_len};
+ghost use Rattle.std.specs.Prelude.{◌≡◌, ◌<◌, ◌≤◌, [], IfErr, IfOk, IfSome, length, take, vec_capacity, vec_len};
 ghost use Rattle.gr_sequencer_thread.specs.Ends.{begin_line, end_line};
 ghost use Rattle.gr_sequencer_thread.specs.Feeds.{works_of};
-ghost use Rattle.gr_detector.specs.Runs.{AreSendersOf, run_of, worker_queues};
+ghost use Rattle.gr_detector.specs.Runs.{AreSendersOf, IsRunning, run_of, worker_queues};
 
 use crate::error::StartError;
 use crate::running::Running;
 use crate::setup::{inlets_of, senders_of, workers_of};
-use crate::stop::{Stopped, stop};
+use crate::stop::{Stopped, close_all, join_workers};
 use gr_model::config::Config;
 use gr_model::memory::Memory;
 use gr_model::shape::Shape;
@@ -23,49 +23,40 @@ use std::sync::{Arc, Wait};
 use std::thread::Threads;
 use std::time::Clock;
 
-/// The workers of a run, with room for their threads and for what these leave.
+/// The senders and the workers of a run, with room for the workers' threads and for what these leave.
 #[derive(Drop)]
 struct Crew<A: Allocator> {
+    senders: Vec<Sender<A>, A>,
     workers: Vec<Worker<A>, A>,
     threads: Vec<WorkerThread<A>, A>,
     ends: Vec<WorkerEnd<A>, A>,
 }
 
-/// All parts of a run.
-struct Setup<A: Allocator> {
-    senders: Vec<Sender<A>, A>,
-    begin: Begin<A>,
-    crew: Crew<A>,
-}
-
-/// Makes all parts of a run, before any thread is started.
+/// Makes all parts of a run, before any thread is started: what the sequencer's thread begins with, and the others.
 fn set_up<A: Allocator + Copy>(
     alloc: A,
     shape: Shape<A>,
     config: Config,
-) -> Result<Setup<A>, Memory>
-    ensures begin { IfOk result (λ s. (s.begin.config ≡ config) × (s.begin.sizes ≡ shape)) }
-    ensures senders { IfOk result (λ s. AreSendersOf (run_of s.begin) s.senders.items) }
-    ensures workers { IfOk result (λ s. worker_queues s.crew.workers.items ≡ works_of s.begin.givers) }
-    ensures none { IfOk result (λ s. (s.crew.threads.items ≡ []) × (s.crew.ends.items ≡ [])) }
-    ensures room { IfOk result (λ s. (vec_len s.crew.workers ≤ vec_capacity s.crew.threads) × (vec_len s.crew.workers ≤ vec_capacity s.crew.ends)) }
+) -> Result<(Begin<A>, Crew<A>), Memory>
+    ensures begin { IfOk result (λ s. (s.0.config ≡ config) × (s.0.sizes ≡ shape)) }
+    ensures senders { IfOk result (λ s. AreSendersOf (run_of s.0) s.1.senders.items) }
+    ensures workers { IfOk result (λ s. worker_queues s.1.workers.items ≡ works_of s.0.givers) }
+    ensures none { IfOk result (λ s. (s.1.threads.items ≡ []) × (s.1.ends.items ≡ [])) }
+    ensures room { IfOk result (λ s. (vec_len s.1.workers ≤ vec_capacity s.1.threads) × (vec_len s.1.workers ≤ vec_capacity s.1.ends)) }
 {
     let mut inlets = inlets_of(alloc, config)?;
-    let senders = senders_of(alloc, &shape, &mut inlets)?;
+    let senders = senders_of(alloc, config, &shape, &mut inlets)?;
     let (outlets, workers) = workers_of(alloc, config)?;
     let threads = Vec::with_capacity(alloc, workers.len())?;
     let ends = Vec::with_capacity(alloc, workers.len())?;
     let begin = Begin::new(config, shape, inlets, outlets);
     let crew = Crew {
+        senders,
         workers,
         threads,
         ends,
     };
-    Ok(Setup {
-        senders,
-        begin,
-        crew,
-    })
+    Ok((begin, crew))
 }
 
 /// Starts the threads of all workers, in order. If one can't be started, returns the threads before it.
@@ -108,15 +99,8 @@ fn start_one<
     WorkerThread::start(rt, alloc, worker, watch)
 }
 
-/// The threads of a run, once all are started, and the senders.
-struct Started<A: Allocator> {
-    senders: Vec<Sender<A>, A>,
-    sequencer: SequencerThread<A>,
-    threads: Vec<WorkerThread<A>, A>,
-}
-
-/// Starts the threads of all workers, after that of the sequencer. If one can't be started, the run is stopped. Returns then
-/// what the threads leave: that of the sequencer and those of the workers before it.
+/// Starts the threads of all workers, after that of the sequencer, and gives the senders with the run. If one can't be started, the run is
+/// stopped. Returns then what the threads leave: that of the sequencer and those of the workers before it.
 fn start_workers<
     R: Threads + Wait + Clock + Copy + Send + 'static,
     A: Allocator + Copy + Send + Sync + Drop + 'static,
@@ -124,31 +108,42 @@ fn start_workers<
 >(
     rt: R,
     alloc: A,
-    senders: Vec<Sender<A>, A>,
+    groups: u16,
     sequencer: SequencerThread<A>,
     crew: Crew<A>,
     watch: &Arc<W, A>,
-) -> Result<Started<A>, Stopped<A>>
+) -> Result<(Vec<Sender<A>, A>, Running<A>), Stopped<A>>
+    requires groups { groups ≡ length sequencer.sizes }
+    requires workers { IsRunning sequencer crew.workers.items }
     requires none { (crew.threads.items ≡ []) × (crew.ends.items ≡ []) }
     requires room { (vec_len crew.workers ≤ vec_capacity crew.threads) × (vec_len crew.workers ≤ vec_capacity crew.ends) }
-    ensures senders { IfOk result (λ s. s.senders.items ≡ senders.items) }
-    ensures sequencer { IfOk result (λ s. s.sequencer ≡ sequencer) }
-    ensures workers { IfOk result (λ s. s.threads.items ≡ crew.workers.items) }
+    ensures senders { IfOk result (λ started. started.0.items ≡ crew.senders.items) }
+    ensures run { IfOk result (λ started. started.1 ≡ run_of sequencer) }
     ensures sequencer_ended { IfErr result (λ s. end_line s.sequencer ≡ begin_line sequencer) }
     ensures workers_ended { IfErr result (λ s. worker_queues s.workers.items ≡ worker_queues (take (vec_len s.workers) crew.workers.items)) }
 {
     let Crew {
+        senders,
         workers,
         threads,
         ends,
     } = crew;
     match start_all(rt, alloc, workers, threads, watch) {
-        Ok(threads) => Ok(Started {
+        Ok(threads) => Ok((
             senders,
-            sequencer,
-            threads,
-        }),
-        Err(threads) => Err(stop(&rt, senders, sequencer, threads, ends)),
+            Running {
+                alloc,
+                groups,
+                sequencer,
+                workers: threads,
+            },
+        )),
+        Err(threads) => {
+            close_all(&rt, senders);
+            let sequencer = sequencer.join(&rt);
+            let workers = join_workers(&rt, threads, ends);
+            Err(Stopped { sequencer, workers })
+        }
     }
 }
 
@@ -181,27 +176,17 @@ pub fn start<
     ensures senders { IfOk result (λ started. AreSendersOf started.1 started.0.items) }
 {
     let groups = shape.groups();
-    let Ok(setup) = set_up(alloc, shape, config) else {
+    let Ok((begin, crew)) = set_up(alloc, shape, config) else {
         return Err(StartError::Memory);
     };
-    let Setup {
-        senders,
-        begin,
-        crew,
-    } = setup;
     let Ok(theirs) = Arc::try_clone(&watch) else {
         return Err(StartError::Memory);
     };
     let Some(sequencer) = SequencerThread::start(rt, alloc, begin, theirs) else {
         return Err(StartError::Threads);
     };
-    let Ok(started) = start_workers(rt, alloc, senders, sequencer, crew, &watch) else {
+    let Ok(started) = start_workers(rt, alloc, groups, sequencer, crew, &watch) else {
         return Err(StartError::Threads);
     };
-    let Started {
-        senders,
-        sequencer,
-        threads,
-    } = started;
-    Ok((senders, Running::of(alloc, groups, sequencer, threads)))
+    Ok(started)
 }

@@ -3,11 +3,9 @@
 //! Only the join of a thread gives the value that it leaves. So a caller that has the values of all threads has joined them all.
 
 ghost use Rattle.std.specs.Prelude.{◌≡◌, ◌≤◌, [], vec_capacity, vec_len};
-ghost use Rattle.gr_sequencer_thread.specs.Ends.{begin_line, end_line};
 ghost use Rattle.gr_detector.specs.Runs.{worker_queues};
 
 use gr_sequencer_thread::end::SequencerEnd;
-use gr_sequencer_thread::thread::SequencerThread;
 use gr_threads::sender::Sender;
 use gr_threads::worker::WorkerEnd;
 use gr_threads::worker_thread::WorkerThread;
@@ -24,7 +22,7 @@ pub(crate) struct Stopped<A: Allocator> {
 }
 
 /// Ends all streams.
-fn close_all<R: Wait + Clock, A: Allocator>(rt: &R, senders: Vec<Sender<A>, A>) {
+pub(crate) fn close_all<R: Wait + Clock, A: Allocator>(rt: &R, senders: Vec<Sender<A>, A>) {
     for sender in senders {
         let mut sender = sender;
         // This does not fail: the sender is open, and waits until there is room.
@@ -34,7 +32,7 @@ fn close_all<R: Wait + Clock, A: Allocator>(rt: &R, senders: Vec<Sender<A>, A>) 
 
 /// Joins the threads of workers. Returns what they leave, in order.
 /// Requires: there is room for it.
-fn join_workers<R: Threads, A: Allocator>(
+pub(crate) fn join_workers<R: Threads, A: Allocator>(
     rt: &R,
     workers: Vec<WorkerThread<A>, A>,
     ends: Vec<WorkerEnd<A>, A>,
@@ -49,25 +47,4 @@ fn join_workers<R: Threads, A: Allocator>(
         ends.push_reserved(worker.join(rt));
     }
     ends
-}
-
-/// Ends the threads of a run that lacks the thread of a worker. Returns what they leave.
-/// Requires: there is room for it.
-pub(crate) fn stop<R: Threads + Wait + Clock, A: Allocator>(
-    rt: &R,
-    senders: Vec<Sender<A>, A>,
-    sequencer: SequencerThread<A>,
-    workers: Vec<WorkerThread<A>, A>,
-    ends: Vec<WorkerEnd<A>, A>,
-) -> Stopped<A>
-    requires none { ends.items ≡ [] }
-    requires room { vec_len workers ≤ vec_capacity ends }
-    ensures sequencer { end_line result.sequencer ≡ begin_line sequencer }
-    ensures workers { worker_queues result.workers.items ≡ worker_queues workers.items }
-    ensures count { vec_len result.workers ≡ vec_len workers }
-{
-    close_all(rt, senders);
-    let sequencer = sequencer.join(rt);
-    let workers = join_workers(rt, workers, ends);
-    Stopped { sequencer, workers }
 }

@@ -1,6 +1,7 @@
-use Rattle.std.proofs.Common.{◌≡◌, length}
-use Rattle.gr_detector.specs.Setups.{AreUnpopped, AreUnseated}
+use Rattle.std.proofs.Common.{◌≡◌, [], length, All}
+use Rattle.gr_route.specs.IntakeRule.{no_sizes}
+use Rattle.gr_route.specs.IntakeSeats.{Taker}
 use Rattle.gr_detector.proofs.setup.inlets_of.Given as goal
 
 abbrev pub invariant-loop : goal.invariant-loop
-invariant-loop g l = (length l.inlets.items ≡ l.counter) × AreUnpopped l.inlets.items × AreUnseated l.inlets.items
+invariant-loop g l = (length l.inlets.items ≡ l.counter) × All (λ (t : Taker). (t.popped ≡ []) × (t.sizes ≡ no_sizes)) l.inlets.items

@@ -10,7 +10,6 @@ use Rattle.gr_sequencer_thread.specs.Feeds.{AreStopped, given_of, intakes_of}
 use Rattle.gr_detector.specs.Runs.{IsEachOnce}
 use Rattle.gr_detector.specs.Settling.{ArePopped, IsHitAmong, pops_of}
 use Rattle.gr_detector.proofs.FinishLemmas.{finished}
-use Rattle.gr_detector.proofs.SentLemmas.{are_here}
 use Rattle.gr_detector.proofs.running.Running.finish.Goals as goal
 
 pub join_intakes-requires-clause-here : goal.join_intakes-requires-clause-here
@@ -21,7 +20,7 @@ join_intakes-requires-clause-here g c =
     let same : run.intakes ≡ intakes_of now = grind (arith, parts.parts, c.join.ensures, c.self.view_is) in
     let count : length (intakes_of now) ≡ run.config.queues =
     grind (arith, length-map now (λ (t : Taker). t.queue), parts.parts, parts.end.queues, c.join.ensures, c.self.view_is) in
-    are_here run (intakes_of now) c.args.receipts.items same count c.requires
+    λ k d lt. rw (count, sym same) (c.requires k d lt).here
 
 pub settle_all-races-requires-clause-stopped : goal.settle_all-races-requires-clause-stopped
 settle_all-races-requires-clause-stopped g c =
