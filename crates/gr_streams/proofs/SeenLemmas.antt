@@ -1,11 +1,12 @@
--- Whether a group was seen, and which launch the headers are of, without a look at each header.
-use Rattle.std.proofs.Common.{Decides, ◌≡◌, ◌≢◌, ℕ, zero, suc, ◌<◌, List, [], ◌∷◌, ◌++◌, length, map, slice_get, get_or, Some, refl, sym, ap, ◌∙◌, subst, arith, inl, inr, not, ◌==◌, All}
+-- Whether a group was seen, and which launch the headers are of, without a look at each header; and the sizes of its groups.
+use Rattle.std.proofs.Common.{Decides, ◌≡◌, ◌≢◌, ℕ, zero, suc, ◌<◌, List, [], ◌∷◌, ◌++◌, length, map, replicate, slice_get, slice_index, get_or, Contains, Some, refl, sym, ap, ◌∙◌, subst, arith, inl, inr, not, ◌==◌, All}
 use Rattle.std.specs.List.{list_any}
+use Rattle.std.proofs.lemmas.List.{get_or-map, get_or-replicate, length-map, length-replicate}
 use Rattle.std.proofs.lemmas.Bool.{cases_Bool, eq-eqb, eqb-true, true_from_ne_false}
-use Rattle.std.proofs.lemmas.List.Elements.{All-push}
+use Rattle.std.proofs.lemmas.List.Elements.{All-contains, All-push}
 use Rattle.std.proofs.lemmas.List.Folds.{Any-from_list_any, list_any_at, list_any_none}
 use Rattle.std.proofs.lemmas.List.Quantifiers.{all_pairs_push}
-use Rattle.std.proofs.lemmas.Option.{get_or_from_slice_get, slice_get_within}
+use Rattle.std.proofs.lemmas.Option.{get_or_from_slice_get, slice_get-get_or, slice_get_within}
 use Rattle.gr_model.specs.Groups.{CanAdd, put}
 use Rattle.gr_model.specs.Shapes.{HasItem, IsPartOfShape}
 use Rattle.gr_model.specs.Streams.{Streams}
@@ -14,7 +15,12 @@ use Rattle.gr_record.specs.declared.header.Header.{Header}
 use Rattle.gr_intake.specs.Intakes.{AreGroupsOf, headers_of}
 use Rattle.gr_intake.specs.Waiting.{Coming}
 use Rattle.gr_intake.proofs.Comings.{Apart, can_begin, groups_begin}
-use Rattle.gr_streams.specs.Headers.{AreSeen}
+use Rattle.gr_intake.specs.Joined.{Flat}
+use Rattle.gr_intake.specs.Launch.{HasGroup, IsLeastMissing}
+use Rattle.gr_intake.proofs.Judged.{AreSomeBelow}
+use Rattle.gr_model.specs.declared.event.Event.{Event}
+use Rattle.gr_streams.specs.Headers.{AreHeadersOf, AreSeen, bare, bares}
+use Rattle.gr_streams.proofs.LaunchLemmas.{header_in}
 
 -- the group has come: it has its first item
 abbrev HasCome : List ℕ → ℕ → Type 0
@@ -57,6 +63,51 @@ module _ (sizes : List ℕ) (hs : List Header) (seen : AreSeen sizes hs) where
       same : (k : ℕ) (d : Header) → k < length hs → (get_or hs k d).launch ≡ h.launch
       same zero d lt = first_same d
       same (suc k) d lt = sym (seen.launch 0 (suc k) d (omega arith) lt) ∙ first_same d
+
+-- ---- the launch of the headers
+
+module _ (sizes : List ℕ) (hs : List Header) (seen : AreSeen sizes hs) where
+  -- a group that has items is that of a header
+  has_group : (g : ℕ) → g < length sizes → slice_index sizes g ≢ 0 → HasGroup (bares hs) g
+  has_group g lt some =
+      let (k, h, there, is, test) = Any-from_list_any (λ (s : Header). s.group == g) hs ((group_came sizes hs seen g).1 (lt, omega (arith, some))) in
+      (bare h, (k, omega (arith, there, length-map hs bare), get_or-map bare hs k h (bare h) there ∙ ap bare is), eqb-true h.group g test)
+
+  group_of : (f : Flat) → Contains (bares hs) f → (f.header.group < length sizes) × (slice_index sizes f.header.group ≡ f.header.items) × (0 < f.header.items)
+  group_of f has =
+      let in_hs = header_in hs f has in
+      let there = seen.groups.there f.header in_hs in
+      (there.0, there.1, (All-contains IsHeader hs f.header seen.each in_hs).some)
+
+  pub missing : (g : ℕ) → g < length sizes → slice_index sizes g ≡ 0 → AreSomeBelow sizes g → IsLeastMissing (bares hs) g
+  missing g lt none some =
+      let top = seen.groups.top g lt in
+      let there = seen.groups.there top.0 top.1 in
+      let least = (All-contains IsHeader hs top.0 seen.each top.1).some in
+      let apart : g ≢ top.0.group = λ same. omega (arith, ap (slice_index sizes) same, none, there.1, least) in
+      record {
+        below = (bare top.0, (top.1.0, omega (arith, top.1.1, length-map hs bare), get_or-map bare hs top.1.0 top.0 (bare top.0) top.1.1 ∙ ap bare top.1.2), omega (arith, top.2, apart));
+        missing = λ has. let at = group_of has.0 has.1 in omega (arith, ap (slice_index sizes) has.2, none, at.1, at.2);
+        least = λ h below. has_group h (omega (arith, lt, below)) (some h below);
+      }
+
+  pub launch : AreSomeBelow sizes (length sizes) → AreHeadersOf hs sizes
+  launch some = (
+    record { sizes = sizes; lists = replicate (length sizes) [] },
+    record {
+      count = length-replicate (length sizes) [];
+      there = λ g lt. has_group g lt (some g lt);
+      each = λ f has.
+          let at = group_of f has in
+          let events : [] ≡ f.events = ap (λ (x : Flat). x.events) (sym (get_or-map bare hs has.0 f.header f (omega (arith, has.1, length-map hs bare))) ∙ has.2) in
+          let none : List Event = [] in
+          let lists : List (List Event) = replicate (length sizes) none in (
+            slice_get-get_or sizes f.header.group 0 at.0 ∙ ap Some at.1,
+            slice_get-get_or lists f.header.group [] (omega (arith, at.0, length-replicate (length sizes) none)) ∙ ap Some (get_or-replicate (length sizes) f.header.group none [] at.0 ∙ events),
+          );
+    },
+    refl,
+  )
 
 -- ---- one more header
 

@@ -126,12 +126,11 @@ fn close_cut<R: Wait + Clock, A: Allocator>(rt: &R, sender: &mut BatchSender<A>)
 }
 
 /// The receipt of a sender. If it is open, it is closed with the cut mark first.
-fn cut<R: Wait + Clock, A: Allocator>(rt: &R, sender: BatchSender<A>) -> Receipt<A>
+fn cut<R: Wait + Clock, A: Allocator>(rt: &R, mut sender: BatchSender<A>) -> Receipt<A>
     ensures group { result.group ≡ sender.group }
     ensures queue { result.queue ≡ sender.queue.queue }
     ensures whole { IsTrue (is_complete sender.sent) → result.pushed ≡ sender.sent }
 {
-    let mut sender = sender;
     close_cut(rt, &mut sender);
     match sender.into_receipt() {
         Ok(receipt) => receipt,

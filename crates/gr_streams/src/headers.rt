@@ -11,14 +11,13 @@ use crate::seen::Seen;
 use crate::source::{Source, open};
 use gr_model::memory::Memory;
 use gr_record::fault::Fault;
-use gr_record::header::Header;
 use std::alloc::Allocator;
 use std::io::Read;
 
 /// The headers of the streams, and the readers after their headers, in order.
 #[derive(Drop)]
 pub(crate) struct Headed<T, A: Allocator> {
-    pub(crate) headers: Vec<Header, A>,
+    pub(crate) headers: Seen<A>,
     pub(crate) sources: Vec<Source<T>, A>,
 }
 
@@ -30,22 +29,21 @@ pub(crate) fn read_headers<A: Allocator + Copy, T: Read + Drop>(
     alloc: A,
     readers: Vec<T, A>,
 ) -> Result<Headed<T, A>, Fault>
-    ensures headers { IfOk result (λ h. IfSome (all_known (map T.remaining readers.items)) (λ inputs. headers_of inputs ≡ Ok h.headers.items)) }
-    ensures apart { IfOk result (λ h. AreApart h.headers.items) }
-    ensures sources { IfOk result (λ h. map (λ s. s.header) h.sources.items ≡ h.headers.items) }
+    ensures headers { IfOk result (λ h. IfSome (all_known (map T.remaining readers.items)) (λ inputs. headers_of inputs ≡ Ok h.headers)) }
+    ensures apart { IfOk result (λ h. AreApart h.headers) }
+    ensures sources { IfOk result (λ h. map (λ s. s.header) h.sources.items ≡ h.headers) }
     ensures known { IfOk result (λ h. AreKnown (map T.remaining readers.items) (map (known_of T.remaining) h.sources.items)) }
     ensures headed { IfOk result (λ h. All (λ s. IsHeaded s.header s.prefix.items) h.sources.items) }
     ensures exact { IfErr result (λ f. IfSome (all_known (map T.remaining readers.items)) (λ inputs. Fails f (headers_of inputs))) }
     ensures fault { IfErr result IsOfReading }
 {
-    let mut seen = Seen::new(alloc);
+    let mut headers = Seen::new(alloc);
     let mut sources = Vec::new(alloc);
     for reader in readers {
-        let source = open(reader, &seen)?;
-        seen = seen.with_header(source.header)?;
+        let source = open(reader, &headers)?;
+        headers = headers.with_header(source.header)?;
         keep(&mut sources, source)?;
     }
-    let headers = seen.into_headers();
     Ok(Headed { headers, sources })
 }
 

@@ -63,12 +63,11 @@ pub(crate) fn room_for<A: Allocator + Copy, T: Read + Drop>(
 /// Requires: there is room.
 pub(crate) fn at_places<A: Allocator>(
     senders: Vec<Sender<A>, A>,
-    places: Vec<Option<Sender<A>>, A>,
+    mut places: Vec<Option<Sender<A>>, A>,
 ) -> Vec<Option<Sender<A>>, A>
     requires { IsRoomFor (vec_len senders) places }
     ensures { result.items ≡ map (λ s. Some s) senders.items }
 {
-    let mut places = places;
     for sender in senders {
         places.push_reserved(Some(sender));
     }
@@ -111,8 +110,8 @@ pub(crate) fn start_all<R, A, T>(
     rt: R,
     alloc: A,
     shares: Vec<Share<T, A>, A>,
-    senders: Vec<Option<Sender<A>>, A>,
-    threads: Vec<ReaderThread<T, A>, A>,
+    mut senders: Vec<Option<Sender<A>>, A>,
+    mut threads: Vec<ReaderThread<T, A>, A>,
     abandoned: &Arc<AtomicBool, A>,
 ) -> Vec<ReaderThread<T, A>, A>
 where
@@ -126,8 +125,6 @@ where
     ensures begun { AreBegun 0 (map (λ s. s.header) (all_of shares.items)) (map (known_of T.remaining) (all_of shares.items)) (all_of result.items) }
     ensures run { (run : Run) → AreSenders run senders.items → AreOfRun run (all_of result.items) }
 {
-    let mut senders = senders;
-    let mut threads = threads;
     let mut place: u64 = 0;
     let most = most_readers(&rt, shares.len());
     for share in shares {
@@ -172,29 +169,19 @@ fn keep_each<A: Allocator>(
     first
 }
 
-/// What the readers' threads leave.
-#[derive(Drop)]
-pub(crate) struct Joined<A: Allocator> {
-    /// The receipts of the streams, in their order.
-    pub(crate) receipts: Vec<Receipt<A>, A>,
-    /// The first fault, if there is one.
-    pub(crate) fault: Option<Fault>,
-}
-
-/// Joins all threads.
+/// Joins all threads. Keeps the receipts of their streams, in order, and returns the first fault, if there is one.
 /// Requires: there is room for the receipts.
 pub(crate) fn join_all<R: Threads, A: Allocator, T: Read>(
     rt: &R,
     threads: Vec<ReaderThread<T, A>, A>,
-    receipts: Vec<Receipt<A>, A>,
-) -> Joined<A>
-    requires { IsRoomFor (length (all_of threads.items)) receipts }
-    ensures { AreLeft (all_of threads.items) result.receipts.items result.fault }
+    receipts: &mut Vec<Receipt<A>, A>,
+) -> Option<Fault>
+    requires { IsRoomFor (length (all_of threads.items)) receipts.old }
+    ensures { AreLeft (all_of threads.items) receipts.new.items result }
 {
-    let mut receipts = receipts;
     let mut fault = None;
     for thread in threads {
-        fault = keep_each(&mut receipts, fault, thread.join(rt));
+        fault = keep_each(receipts, fault, thread.join(rt));
     }
-    Joined { receipts, fault }
+    fault
 }

@@ -7,7 +7,6 @@ mod joins;
 mod reading;
 mod run;
 mod seen;
-mod shape;
 mod share;
 mod source;
 mod thread;

@@ -9,7 +9,7 @@ ghost use Rattle.gr_streams.specs.Sending.{IsFed, Tells};
 ghost use Rattle.gr_streams.specs.Sources.{AreEndsOf, IsHeaded, IsRoomFor, IsUnread, begun_of, known_of};
 
 use crate::forward::{Ended, Forward};
-use crate::source::{Source, Unread};
+use crate::source::Unread;
 use gr_record::fault::Fault;
 use std::alloc::Allocator;
 use std::io::Read;
@@ -29,7 +29,7 @@ fn read_rest<R: Wait + Clock, A: Allocator + Copy, T: Read>(
     rt: &R,
     place: u64,
     reader: &mut T,
-    forward: Forward<A>,
+    mut forward: Forward<A>,
     abandoned: &Arc<AtomicBool, A>,
 ) -> Ended<A>
     ensures group { result.receipt.group ≡ forward.sender.group }
@@ -37,7 +37,6 @@ fn read_rest<R: Wait + Clock, A: Allocator + Copy, T: Read>(
     ensures write { IfSome result.fault (λ f. f ≢ faults.Write) }
     ensures tells { (fed : List ℕ) (h : AnyHeader) → IsHeaded h (take HEADER_LENGTH fed) → forward.sender.items ≡ h.items → IsFed fed forward.decoder forward.sender forward.refused → IfSome (T.remaining reader.old) (λ rest. Tells (events_at place (fed ++ rest)) result.receipt.pushed result.fault) }
 {
-    let mut forward = forward;
     let mut piece = [0u8; PIECE_LENGTH];
     for _ in 0..MOST_READS {
         if abandoned.load(Ordering::SeqCst) {
@@ -76,13 +75,9 @@ pub(crate) fn read_on<R: Wait + Clock, A: Allocator + Copy, T: Read + Drop>(
         source,
         sender,
     } = stream;
-    let Source {
-        header: _,
-        prefix,
-        mut reader,
-    } = source;
+    let mut reader = source.reader;
     let mut forward = Forward::new(alloc, sender);
-    if let Err(error) = forward.take(rt, prefix.as_slice()) {
+    if let Err(error) = forward.take(rt, source.prefix.as_slice()) {
         return forward.fail(rt, Fault::of_stream(place, error));
     }
     read_rest(rt, place, &mut reader, forward, abandoned)

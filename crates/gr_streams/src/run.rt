@@ -15,8 +15,7 @@ ghost use Rattle.gr_replay.specs.Replays.{IsExactOfEach};
 ghost use Rattle.gr_streams.specs.Streams.{IsReportOn, IsRunFault, IsWantOfMemory, WritesPrefixOfEach};
 
 use crate::headers::{Headed, read_headers};
-use crate::joins::{Joined, Room, at_places, join_all, room_for, start_all};
-use crate::shape::shape_of;
+use crate::joins::{Room, at_places, join_all, room_for, start_all};
 use crate::source::Source;
 use gr_detector::error::{FinishError, StartError};
 use gr_detector::start::start;
@@ -32,16 +31,6 @@ use std::sync::atomic::AtomicBool;
 use std::sync::{Arc, Wait};
 use std::thread::Threads;
 use std::time::Clock;
-
-/// The fault if a run was not started.
-fn fault_of_start(error: StartError) -> Fault
-    ensures { (result ≡ Fault.Memory) ⊎ (result ≡ Fault.Threads) }
-{
-    match error {
-        StartError::Memory => Fault::Memory,
-        StartError::Threads => Fault::Threads,
-    }
-}
 
 /// The report of a run, unless a stream has a fault.
 /// Requires: no receipt was missing.
@@ -91,18 +80,19 @@ where
         shares,
         senders: places,
         threads,
-        receipts,
+        mut receipts,
     } = room_for(alloc, sources, shape.groups() as usize)?;
     let Ok(abandoned) = Arc::new(alloc, AtomicBool::new(false)) else {
         return Err(Fault::Memory);
     };
     let (senders, running) = match start(rt, alloc, shape, config, watch) {
         Ok(started) => started,
-        Err(error) => return Err(fault_of_start(error)),
+        Err(StartError::Memory) => return Err(Fault::Memory),
+        Err(StartError::Threads) => return Err(Fault::Threads),
     };
     let senders = at_places(senders, places);
     let threads = start_all(rt, alloc, shares, senders, threads, &abandoned);
-    let Joined { receipts, fault } = join_all(&rt, threads, receipts);
+    let fault = join_all(&rt, threads, &mut receipts);
     judge(fault, running.finish(&rt, receipts))
 }
 
@@ -127,7 +117,7 @@ where
     ensures write { IfErr result (λ f. f ≢ faults.Write) }
 {
     let Headed { headers, sources } = read_headers(alloc, readers)?;
-    let shape = shape_of(alloc, headers)?;
+    let shape = headers.shape(alloc)?;
     run_sources(rt, alloc, shape, sources, config, watch)
 }
 

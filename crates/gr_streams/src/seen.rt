@@ -1,12 +1,17 @@
 //! The headers that were read. A further one is compared with them, without a look at each.
 
-ghost use Rattle.std.specs.Prelude.{◌≡◌, ◌≢◌, ◌==◌, ◌++◌, ◌∷◌, [], not, length, All, IfOk};
+ghost use Rattle.std.specs.Prelude.{◌≡◌, ◌≢◌, ◌==◌, ◌++◌, ◌∷◌, [], not, length, All, IfErr, IfOk};
 ghost use Rattle.std.specs.List.{list_any};
+ghost use Rattle.gr_model.specs.Shapes.{IsShape};
 ghost use Rattle.gr_record.specs.Spelling.{IsHeader};
+ghost use Rattle.gr_intake.specs.Launch.{IsLaunchFault};
+ghost use Rattle.gr_streams.specs.Headers.{AreHeadersOf, bares};
 
 use gr_model::event::ItemId;
 use gr_model::growing::GrowingShape;
 use gr_model::memory::Memory;
+use gr_model::shape::Shape;
+use gr_record::fault::Fault;
 use gr_record::header::Header;
 use std::alloc::{Allocator, Global};
 use std::marker::Model;
@@ -87,10 +92,40 @@ impl<A: Allocator> Seen<A> {
         Ok(Seen { headers, groups })
     }
 
-    /// The headers, in the order in which they were read.
-    pub(crate) fn into_headers(self) -> Vec<Header, A>
-        ensures { result.items ≡ self }
+    /// The items of each group.
+    ///
+    /// # Errors
+    /// `MissingGroup` with the least group that has no header, if a greater one has; `Memory` if an allocation is refused.
+    #[tactic(auto, using(crate::proofs::SeenLemmas::missing))]
+    fn sizes(&self, alloc: A) -> Result<Vec<u16, A>, Fault>
+        ensures launch { IfOk result (λ sizes. AreHeadersOf self.now sizes.items) }
+        ensures fault { IfErr result (λ f. IsLaunchFault (bares self.now) f) }
     {
-        self.headers
+        let mut sizes = Vec::new(alloc);
+        for group in 0..self.groups.groups() {
+            let items = self.groups.items(group);
+            if items == 0 {
+                return Err(Fault::MissingGroup(group));
+            }
+            sizes.push(items).map_err(Memory::from)?;
+        }
+        Ok(sizes)
+    }
+
+    /// The shape of the launch that the headers are of.
+    ///
+    /// # Errors
+    /// `MissingGroup` with the least group that has no header, if a greater one has; else `Shape`; `Memory` if an allocation is
+    /// refused.
+    pub(crate) fn shape(&self, alloc: A) -> Result<Shape<A>, Fault>
+        ensures launch { IfOk result (λ shape. AreHeadersOf self.now shape) }
+        ensures shape { IfOk result (λ shape. IsShape shape) }
+        ensures fault { IfErr result (λ f. IsLaunchFault (bares self.now) f) }
+    {
+        let sizes = self.sizes(alloc)?;
+        match Shape::of_launch(sizes) {
+            Ok(shape) => Ok(shape),
+            Err(error) => Err(Fault::Shape(error)),
+        }
     }
 }

@@ -40,24 +40,6 @@ impl<T, A: Allocator> Model for Share<T, A> {
     ghost invariant = { λ s. IsRoomFor (vec_len s.sources) s.unread × IsRoomFor (vec_len s.sources) s.ended };
 }
 
-impl<T: Drop, A: Allocator + Copy> Share<T, A> {
-    /// The share of these streams.
-    ///
-    /// # Errors
-    /// `Memory` if an allocation is refused.
-    fn of(alloc: A, sources: Vec<Source<T>, A>) -> Result<Share<T, A>, Memory>
-        ensures { IfOk result (λ s. s ≡ sources.items) }
-    {
-        let unread = Vec::with_capacity(alloc, sources.len())?;
-        let ended = Vec::with_capacity(alloc, sources.len())?;
-        Ok(Share {
-            sources,
-            unread,
-            ended,
-        })
-    }
-}
-
 /// Takes the sender of a group from its place.
 /// Requires: it is there.
 fn take_sender<A: Allocator>(senders: &mut Vec<Option<Sender<A>>, A>, group: u16) -> Sender<A>
@@ -78,7 +60,7 @@ impl<T: Read + Drop, A: Allocator> Share<T, A> {
     pub(crate) fn with_senders(
         self,
         senders: &mut Vec<Option<Sender<A>>, A>,
-        place: u64,
+        mut place: u64,
     ) -> (Vec<Unread<T, A>, A>, Vec<Ended<A>, A>)
         requires headed { All (λ s. IsHeaded s.header s.prefix.items) self }
         requires senders { AreServed (map (λ s. s.header) self) senders.old.items }
@@ -91,13 +73,8 @@ impl<T: Read + Drop, A: Allocator> Share<T, A> {
         ensures count { vec_len result.0 ≡ length self }
         ensures room { IsRoomFor (vec_len result.0) result.1 }
     {
-        let Share {
-            sources,
-            mut unread,
-            ended,
-        } = self;
-        let mut place = place;
-        for source in sources {
+        let mut unread = self.unread;
+        for source in self.sources {
             let sender = take_sender(senders, source.header.group);
             unread.push_reserved(Unread {
                 place,
@@ -106,7 +83,7 @@ impl<T: Read + Drop, A: Allocator> Share<T, A> {
             });
             place += 1;
         }
-        (unread, ended)
+        (unread, self.ended)
     }
 }
 
@@ -121,7 +98,13 @@ fn add<T: Drop, A: Allocator + Copy>(
 ) -> Result<(), Memory>
     ensures { OnOk result (shares.new.items ≡ shares.old.items ++ sources.items ∷ []) }
 {
-    shares.push(Share::of(alloc, sources)?)?;
+    let unread = Vec::with_capacity(alloc, sources.len())?;
+    let ended = Vec::with_capacity(alloc, sources.len())?;
+    shares.push(Share {
+        sources,
+        unread,
+        ended,
+    })?;
     Ok(())
 }
 

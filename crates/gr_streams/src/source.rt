@@ -95,7 +95,7 @@ fn header_behind<A: Allocator>(seen: &Seen<A>, prefix: &[u8]) -> Result<Header, 
 /// # Errors
 /// The header's fault; `SameGroup`; `OtherLaunch`; `Read` if the reader fails.
 pub(crate) fn open<T: Read + Drop, A: Allocator>(
-    reader: T,
+    mut reader: T,
     seen: &Seen<A>,
 ) -> Result<Source<T>, Fault>
     ensures known { IfOk result (λ s. IfSome (T.remaining reader) (λ bytes. known_of T.remaining s ≡ Some bytes)) }
@@ -107,7 +107,6 @@ pub(crate) fn open<T: Read + Drop, A: Allocator>(
     ensures exact { IfErr result (λ f. IfSome (T.remaining reader) (λ bytes. Fails f (header_behind seen.now bytes))) }
     ensures fault { IfErr result IsOfReading }
 {
-    let mut reader = reader;
     let prefix = read_prefix(&mut reader)?;
     let header = header_behind(seen, prefix.as_slice())?;
     Ok(Source {

@@ -17,7 +17,7 @@ use Rattle.gr_streams.proofs.headers.read_headers.Goals as goal
 pub loop-reader-init : goal.loop-reader-init
 unfolding headers_behind
 loop-reader-init g c =
-    rw (c.new-seen.ensures, c.new-sources.ensures.items) (record {
+    rw (c.new-headers.ensures, c.new-sources.ensures.items) (record {
       left = search rules;
       apart = λ i j d before within. absurd (omega arith);
       sources = refl;
@@ -36,20 +36,20 @@ returns-in_err-source-clause-exact g c =
     let items : into_iter_items c.loop-reader.reader-iterator ≡ c.in-Some.reader ∷ left = search rules in
     rw (p.1, p.2, ← inv.left, items, map-append rem c.loop-reader.yielded)
     (known_so_far (map rem c.loop-reader.yielded) (map rem left) (rem c.in-Some.reader)
-    (λ inputs. headers_of inputs ≡ Ok c.loop-reader.seen)
-    (λ bytes. Fails f (header_behind c.loop-reader.seen bytes))
+    (λ inputs. headers_of inputs ≡ Ok c.loop-reader.headers)
+    (λ bytes. Fails f (header_behind c.loop-reader.headers bytes))
     (λ inputs. Fails f (headers_of inputs))
-    inv.headers c.in_err-source.ensures.exact (λ xs b ys _ read fails. header_refused xs c.loop-reader.seen read b ys f fails))
+    inv.headers c.in_err-source.ensures.exact (λ xs b ys _ read fails. header_refused xs c.loop-reader.headers read b ys f fails))
 
 pub loop-reader-preserved : goal.loop-reader-preserved
 loop-reader-preserved g c =
     let inv = c.loop-reader.invariant in
     let rem = g.T.Read.remaining in
     let s = c.in_ok-source.source in
-    let hs = c.loop-reader.seen in
+    let hs = c.loop-reader.headers in
     let left = into_iter_items c.next.new.self in
     let items : into_iter_items c.loop-reader.reader-iterator ≡ c.in-Some.reader ∷ left = search rules in
-    rw (c.in_ok-seen.ensures, c.in_ok-keep.ensures) (record {
+    rw (c.in_ok-headers.ensures, c.in_ok-keep.ensures) (record {
       left = rw (append_assoc, ← items) inv.left;
       apart = all_pairs_push (λ (g h : Header). g.group ≢ h.group) hs s.header inv.apart c.in_ok-source.ensures.apart;
       sources = map_push (λ (x : Source _). x.header) c.loop-reader.sources.items s ∙ ap (λ l. l ++ s.header ∷ []) inv.sources;
@@ -67,7 +67,7 @@ pub returns-clause-headers : goal.returns-clause-headers
 returns-clause-headers g c =
     let left = c.loop-reader.reader-iterator in
     let all = all_yielded c.loop-reader.yielded (into_iter_items left) c.args.readers.items c.loop-reader.invariant.left (sym left.rest.ok.0 ∙ c.in-None.ensures.steps.0) in
-    rw (c.into_headers-headers.ensures, ← all) c.loop-reader.invariant.headers
+    rw (← all) c.loop-reader.invariant.headers
 
 pub returns-clause-known : goal.returns-clause-known
 returns-clause-known g c =

@@ -24,19 +24,19 @@ returns-in_err-headers-clause-fault g c =
 pub returns-in_err-shape-clause-fault : goal.returns-in_err-shape-clause-fault
 returns-in_err-shape-clause-fault g c =
     let p = err_from_is_err_and c.from_residual-in_err-shape.result c.from_residual-in_err-shape.ensures.1 in
-    rw (p.1, p.2) (IfSome_then (all_known (map g.T.Read.remaining c.args.readers.items)) c.in_ok-headers.ensures.headers (λ inputs read. inl (inr (c.in_ok-headers.field-0.headers.items, read, inl c.in_err-shape.ensures.fault))))
+    rw (p.1, p.2) (IfSome_then (all_known (map g.T.Read.remaining c.args.readers.items)) c.in_ok-headers.ensures.headers (λ inputs read. inl (inr (c.in_ok-headers.field-0.headers, read, inl c.in_err-shape.ensures.fault))))
 
 pub returns-in_err-shape-clause-write : goal.returns-in_err-shape-clause-write
 returns-in_err-shape-clause-write g c =
     let p = err_from_is_err_and c.from_residual-in_err-shape.result c.from_residual-in_err-shape.ensures.1 in
-    rw (p.1, p.2) (λ is. let none : IsLaunchFault (bares c.in_ok-headers.field-0.headers.items) faults.Write = subst (IsLaunchFault (bares c.in_ok-headers.field-0.headers.items)) is c.in_err-shape.ensures.fault in absurd none)
+    rw (p.1, p.2) (λ is. let none : IsLaunchFault (bares c.in_ok-headers.field-0.headers) faults.Write = subst (IsLaunchFault (bares c.in_ok-headers.field-0.headers)) is c.in_err-shape.ensures.fault in absurd none)
 
 pub run_sources-requires-clause-apart : goal.run_sources-requires-clause-apart
 run_sources-requires-clause-apart g c κs within = subst AreApart (sym c.in_ok-headers.ensures.sources) c.in_ok-headers.ensures.apart
 
 pub returns-clause-report : goal.returns-clause-report
 returns-clause-report g c =
-    let hs = c.in_ok-headers.field-0.headers.items in
+    let hs = c.in_ok-headers.field-0.headers in
     let read = c.in_ok-headers.ensures in
     IfOk-weaker c.run_sources.result _ _
     (λ r h. if_any (all_known (map g.T.Read.remaining c.args.readers.items)) _
@@ -56,7 +56,7 @@ returns-clause-report g c =
 
 pub returns-clause-fault : goal.returns-clause-fault
 returns-clause-fault g c =
-    let hs = c.in_ok-headers.field-0.headers.items in
+    let hs = c.in_ok-headers.field-0.headers in
     let read = c.in_ok-headers.ensures in
     IfErr-weaker c.run_sources.result _ _
     (λ f h. if_any (all_known (map g.T.Read.remaining c.args.readers.items)) _

@@ -28,8 +28,8 @@ start_all-threads-requires-clause-senders g c κs within =
     let run = c.in-Ok-start.started.1 in
     rw (c.at_places-senders.ensures, c.in_ok-shares.ensures.shares) (served run c.in-Ok-start.started.0.items c.in-Ok-start.ensures.senders hs c.requires.apart (rw c.in-Ok-start.ensures.run.1 c.requires.shape))
 
-pub join_all-receipts-requires : goal.join_all-receipts-requires
-join_all-receipts-requires g c =
+pub join_all-fault-requires : goal.join_all-fault-requires
+join_all-fault-requires g c =
     let room = c.in_ok-shares.ensures.receipts in
     let sources = c.args.sources.items in
     let begun = rw c.in_ok-shares.ensures.shares at c.start_all-threads.ensures.begun in
@@ -44,32 +44,32 @@ finish-requires g c =
     let run = c.in-Ok-start.started.1 in
     let senders = of_run run c.in-Ok-start.started.0.items c.in-Ok-start.ensures.senders in
     let begun = c.start_all-threads.ensures.run run (subst (AreSenders run) (sym c.at_places-senders.ensures) senders) in
-    receipts_of_run run _ c.join_all-receipts.result.receipts.items begun c.join_all-receipts.ensures.receipts
+    receipts_of_run run _ c.join_all-fault.new.receipts.items begun c.join_all-fault.ensures.receipts
 
 pub judge-requires : goal.judge-requires
 judge-requires g c =
     let hs = map (λ (s : Source _). s.header) c.args.sources.items in
     let run = c.in-Ok-start.started.1 in
-    let receipts = c.join_all-receipts.result.receipts.items in
+    let receipts = c.join_all-fault.new.receipts.items in
     let begun = rw c.in_ok-shares.ensures.shares at c.start_all-threads.ensures.begun in
-    let once : IsEachOnce (length run.sizes) receipts = each_once hs run.sizes receipts c.requires.apart (rw c.in-Ok-start.ensures.run.1 c.requires.shape) (c.join_all-receipts.ensures.receipts.groups ∙ begun.groups) in
+    let once : IsEachOnce (length run.sizes) receipts = each_once hs run.sizes receipts c.requires.apart (rw c.in-Ok-start.ensures.run.1 c.requires.shape) (c.join_all-fault.ensures.receipts.groups ∙ begun.groups) in
     IfErr-weaker c.finish.result (IsHandedBack run receipts) IsWantOfMemory (only_memory run receipts once) c.finish.ensures.refused
 
 pub returns-clause-report : goal.returns-clause-report
 returns-clause-report g c =
     let hs = map (λ (s : Source _). s.header) c.args.sources.items in
     let run = c.in-Ok-start.started.1 in
-    let receipts = c.join_all-receipts.result.receipts.items in
+    let receipts = c.join_all-fault.new.receipts.items in
     let pushed = map (λ (r : Seat). r.pushed) receipts in
     let begun = rw c.in_ok-shares.ensures.shares at c.start_all-threads.ensures.begun in
     IfOk-weaker c.judge.result _ _
     (λ r h inputs known.
-    let tells = c.join_all-receipts.ensures.tells inputs (begun.placed, begun.bytes ∙ known) in
+    let tells = c.join_all-fault.ensures.tells inputs (begun.placed, begun.bytes ∙ known) in
     record {
       lists = pushed;
       read = subst (Tells (lists_of inputs) pushed) h.0 tells;
       launch = sent_by run.sizes receipts;
-      spelled = launch_sent hs run.sizes receipts c.requires.apart (rw c.in-Ok-start.ensures.run.1 c.requires.shape) (c.join_all-receipts.ensures.receipts.groups ∙ begun.groups);
+      spelled = launch_sent hs run.sizes receipts c.requires.apart (rw c.in-Ok-start.ensures.run.1 c.requires.shape) (c.join_all-fault.ensures.receipts.groups ∙ begun.groups);
       shape = rw c.in-Ok-start.ensures.run.1 c.requires.good;
       exact = IfOk-at_ok (λ report. IsReportOf (sent_by run.sizes receipts) (whole_of report)) h.1 c.finish.ensures.report;
     })
@@ -97,7 +97,7 @@ returns-clause-fault g c =
     (λ f h inputs known.
     ⊎_elim
     (λ told.
-    let tells = c.join_all-receipts.ensures.tells inputs (begun.placed, begun.bytes ∙ known) in
+    let tells = c.join_all-fault.ensures.tells inputs (begun.placed, begun.bytes ∙ known) in
     why (lists_of inputs) f (rw told at tells).1)
     (λ memory. inr (subst (λ (e : Fault). Fails e (lists_of inputs)) (sym memory) tt))
     h)
