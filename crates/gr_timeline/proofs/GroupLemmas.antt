@@ -24,7 +24,7 @@ use Rattle.gr_timeline.specs.Accesses.{details_at, IsKnown}
 use Rattle.gr_explain.specs.Events.{same_event}
 use Rattle.gr_explain.proofs.Lists.{at_last}
 use Rattle.gr_explain.proofs.Sets.{event_from_equal, event_itself}
-use Rattle.gr_timeline.specs.Gathering.{AreKnownIn, IsKnownIn, KeepsRecord, event_in, event_of, number_in, phase_in, told_from, told_in, word_history_of, word_in, AreOthersKept}
+use Rattle.gr_timeline.specs.Gathering.{AreKnownIn, IsKnownIn, KeepsRecord, event_in, event_of, number_in, phase_in, told_from, told_in, details_by, word_in, AreOthersKept}
 
 -- an element of the first of two lists
 pub slice_front : {X : Type 0} (xs ys : List X) (k : ℕ) → k < length xs → slice_get (xs ++ ys) k ≡ slice_get xs k
@@ -146,7 +146,7 @@ module _ (list : List Event) (x : Event) (w : Word) (g : ℕ) (old new : List (E
           let word : word_in longer e ≡ event_word g x = rw (event, group) in
           by_cases same (λ k. told_from (event k) (number k) (phase k)) word keep
         where
-          by_cases : next ≡ e → told_in longer e ≡ Some (word_history_of (length list) x (counted list x.item)) → word_in longer e ≡ event_word g x → KeepsRecord w g (length list) x (counted list x.item) old new → IsKnownIn longer w e (details_at new e)
+          by_cases : next ≡ e → told_in longer e ≡ Some (details_by (length list) x (counted list x.item)) → word_in longer e ≡ event_word g x → KeepsRecord w g (length list) x (counted list x.item) old new → IsKnownIn longer w e (details_at new e)
           by_cases same told word (inl on) = rw (on.1 e, (subst (λ (d : EventId). same_event next d ≡ true) same (event_itself next))) (word ∙ on.0, told)
           by_cases same told word (inr off) = rw off.1 (unknown list longer w e (details_at old e) (rw (slice_get_past trace e.index (let past : length trace ≤ e.index = omega (arith, here) in past))) (λ is. off.0 (sym word ∙ is)) known)
 

@@ -1,4 +1,4 @@
--- The accesses to a word that are held are those that are left of all where the grounded ones are taken away.
+-- The accesses to a word that are held are those that are left of all if the grounded ones are taken away.
 use Rattle.std.proofs.Common.{◌≡◌, ◌≢◌, ◌↔◌, ℕ, ◌+◌, ◌<◌, ◌&&◌, not, Bool, true, false, List, filter, get_or, length, Option, Some, None, is_some, slice_get, refl, sym, ap, ◌∙◌, subst, arith, true≢false, [], Decides}
 use Rattle.std.specs.List.{AllPairs, IsDistinct}
 use Rattle.std.specs.Map.{keys_of}

@@ -150,7 +150,7 @@ module _ {Z : Type 0} (s : Streams) (w : Word) (entries : List (Entry Z)) (order
     };
   }
 
-  -- the word is hit in its accesses exactly where it is racy
+  -- the word is hit in its accesses exactly if it is racy
   pub hit_is_racy : IsHitIn (accesses_to w accesses) w ↔ IsRacyIn w s
   hit_is_racy =
       let own = IsHit-filter (λ x. x.word) clashes (λ v. same_word v w) accesses w (equal.laws-law.refl w) in

@@ -1,4 +1,4 @@
--- Where all that can be handled was handled, the events that are grounded are the first ones of their items.
+-- If all that can be handled was handled, the events that are grounded are the first ones of their items.
 use Rattle.std.proofs.Common.{◌≡◌, ◌↔◌, ℕ, ◌+◌, ◌-◌, ◌<◌, ◌≤◌, List, drop, slice_get, refl, sym, ap, ◌∙◌, ⊎_elim, arith}
 use Rattle.std.proofs.lemmas.Bool.{cases_lt}
 use Rattle.std.proofs.lemmas.Grind.{common_steps}
@@ -26,7 +26,7 @@ module _ (s : Streams) (q v : Sequence) (same : q ≡ v) (view : v.taken ≡ s) 
   pub whole_order : IsSequence q → IsWholeOrder s q.handled
   whole_order sequence = record { lawful = rw (← view, ← same) sequence.lawful; whole = λ e grounded. (handled_grounded e).1 grounded }
 
-  -- what was handled of the records is grounded, where no step is left
+  -- what was handled of the records is grounded, if no step is left
   pub forgets_grounded : (r : Remembered) → r.streams ≡ s → ForgetsHandled r q.handled → ForgetsGrounded r
   forgets_grounded r taken forgets e k at below = rw taken ((handled_grounded e).0 (forgets.handled e k at below))
 

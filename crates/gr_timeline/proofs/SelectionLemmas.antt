@@ -1,4 +1,4 @@
--- The elements of a list for which something holds, and the lines of entries, where the list grows.
+-- The elements of a list for which something holds, and the lines of entries, as the list grows.
 use Rattle.std.proofs.Common.{◌≡◌, ◌↔◌, ℕ, zero, suc, List, Some, None, ap, arith, refl, slice_get, subst, sym, Bool, true, false, cond, [], ◌∷◌, ◌++◌, filter, length, map, true≢false, ◌∙◌, lt-ltb, ltb-true}
 use Rattle.gr_timeline.specs.Selections.{AreThose, of_none, of_one, of_other}
 use Rattle.gr_model.specs.declared.event.EventId.{EventId}
@@ -14,7 +14,7 @@ module _ {X : Type 0} (P : X → Type 0) where
   those_within _ _ (suc i) x (of_one {xs = xs} {those = those} is rest) at = let deeper = those_within xs those i x rest at in (suc deeper.0, deeper.1)
   those_within _ _ i x (of_other {xs = xs} {those = those} is_not rest) at = let deeper = those_within xs those i x rest at in (suc deeper.0, deeper.1)
 
-  -- they are the same where the same is so of the list's elements
+  -- they are the same if the same is so of the list's elements
   pub those_where : (Q : X → Type 0) (xs those : List X) → ((i : ℕ) (x : X) → slice_get xs i ≡ Some x → P x ↔ Q x) → AreThose P xs those → AreThose Q xs those
   those_where Q _ _ same of_none = of_none
   those_where Q _ _ same (of_one {x = x} {xs = xs} {those = those} is rest) = of_one ((same 0 x refl).0 is) (those_where Q xs those (λ i y at. same (suc i) y at) rest)
@@ -35,7 +35,7 @@ module _ {X : Type 0} (P : X → Type 0) where
   those_have _ _ zero x (of_other {x = y} is_not rest) at holds = let h : Some x ≡ Some y = sym at in let same : x ≡ y = cc in absurd (is_not (subst P same holds))
   those_have _ _ (suc i) x (of_other {xs = xs} {those = those} is_not rest) at holds = those_have xs those i x rest at holds
 
-  -- where each element is there once, so is each of those
+  -- if each element is there once, so is each of those
   pub those_once : (xs those : List X) → AreThose P xs those → ((p q : ℕ) (x : X) → slice_get xs p ≡ Some x → slice_get xs q ≡ Some x → p ≡ q) → (p q : ℕ) (x : X) → slice_get those p ≡ Some x → slice_get those q ≡ Some x → p ≡ q
   those_once _ _ of_none once p q x first second = let no : None ≡ Some x = first in cc
   those_once _ _ (of_one is rest) once zero zero x first second = refl

@@ -1,8 +1,7 @@
 -- Why the first held event of an item is held: one of its names, or an event before a barrier that it meets.
-use Rattle.std.proofs.Common.{◌≡◌, ◌↔◌, ℕ, ◌+◌, ◌<◌, ◌≤◌, List, Option, None, Some, false, is_some, true≢false, refl, slice_get, eq-or-lt_of_le, sym, ap, ◌∙◌, ⊎_elim, arith, MatchOption}
+use Rattle.std.proofs.Common.{◌≡◌, ◌↔◌, ℕ, ◌+◌, ◌<◌, ◌≤◌, List, Option, None, Some, refl, slice_get, eq-or-lt_of_le, sym, ap, ◌∙◌, ⊎_elim, arith, MatchOption}
 use Rattle.std.proofs.lemmas.Option.{slice_get_within}
 use Rattle.gr_model.specs.declared.event.EventId.{EventId}
-use Rattle.gr_model.specs.declared.event.ItemId.{ItemId}
 use Rattle.gr_model.specs.declared.event.Name.{Name}
 use Rattle.gr_model.specs.Access.{is_release}
 use Rattle.gr_model.specs.Barriers.{IsConvergent, IsDivergent, StandsIn}
@@ -19,7 +18,8 @@ use Rattle.gr_steps.proofs.DecidedWaits.{settled}
 use Rattle.gr_steps.proofs.EventRecords.{one_release}
 use Rattle.gr_steps.proofs.Orders.{there_is}
 use Rattle.gr_steps.proofs.Reached.{reached, stage_in}
-use Rattle.gr_timeline.specs.Waiting.{HasGroundedRelease, HaveArrived, IsArrival, IsFirstHeld, IsHeldEvent, IsLate, IsPassed}
+use Rattle.gr_timeline.specs.Chains.{IsBehind}
+use Rattle.gr_timeline.specs.Waiting.{HasGroundedRelease, HaveArrived, IsArrival, IsHeldEvent, IsLate, IsPassed}
 
 -- ---- events that are there
 
@@ -85,10 +85,6 @@ late_held s g k d late =
 
 -- ---- what calls return
 
-pub if_none : {X : Type 0} (P : Type 0) (Q : X → Type 0) (o : Option X) → is_some o ≡ false → MatchOption o P Q → P
-if_none P Q None e p = p
-if_none P Q (Some x) e q = absurd (true≢false e)
-
 module _ (s : Streams) where
   -- the events before the barriers of one item more are grounded
   pub one_item_more : (g k i : ℕ) → ((b d : EventId) → b.at.item < i → StandsIn s b g k → IsPrevious d b → IsGrounded s d) → ((b d : EventId) → b.at ≡ record { group = g; item = i } → StandsIn s b g k → IsPrevious d b → IsGrounded s d) → (b d : EventId) → b.at.item < i + 1 → StandsIn s b g k → IsPrevious d b → IsGrounded s d
@@ -114,9 +110,10 @@ module _ (s : Streams) where
         by = record { named = named; item = refl; place = place; word = rw (← same) (sym its.2) };
       }
 
-  -- the first event of an item that is not grounded
-  pub first_is : (item : ItemId) (first : EventId) → first.at ≡ item → ((e : EventId) → e.at ≡ item → IsGrounded s e ↔ (e.index < first.index)) → IsFirstHeld s first
-  first_is item first at grounded = record {
-    held = λ g. let lt = (grounded first at).0 g in omega (arith, lt);
-    passed = λ d here lt. (grounded d (here ∙ at)).1 lt;
+  -- the first event of an item that is not grounded, before another of the item
+  pub first_behind : (e first : EventId) → first.at ≡ e.at → ((d : EventId) → d.at ≡ e.at → IsGrounded s d ↔ (d.index < first.index)) → first.index < e.index → IsBehind s e first
+  first_behind e first at grounded before = record {
+    item = at;
+    before = before;
+    first = record { held = λ g. let lt = (grounded first at).0 g in omega (arith, lt); passed = λ d here lt. (grounded d (here ∙ at)).1 lt };
   }

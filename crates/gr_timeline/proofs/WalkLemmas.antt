@@ -24,7 +24,7 @@ use Rattle.gr_timeline.specs.Walks.{AreVisited, IsLinked, unvisited}
 abbrev link_of : EventId → Reason → Link
 link_of e r = record { event = e; reason = r }
 
--- the events of links stay where more follow
+-- the events of links stay if more follow
 pub event_stays : (links more : List Link) (k : ℕ) (e : EventId) → event_of links k ≡ Some e → event_of (links ++ more) k ≡ Some e
 event_stays links more k e at = grind (arith, gets, slice_get-append)
 

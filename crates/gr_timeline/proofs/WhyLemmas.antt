@@ -11,7 +11,7 @@ pub grounded_there : (s : Streams) (e : EventId) → IsGrounded s e → IsEvent 
 grounded_there s e (zero, h) = absurd h
 grounded_there s e (suc n, h) = h.0
 
--- an answer says that the event is held just where it is
+-- an answer says that the event is held just if it is
 pub why_said : (s : Streams) (e : EventId) (a : Answer) → IsWhy s e a → IsTrue (says_held a) ↔ IsHeldEvent s e
 why_said s e no_record none = (λ f. absurd (true≢false (sym f)), λ h. absurd (none h.event))
 why_said s e judged is = (λ f. absurd (true≢false (sym f)), λ h. absurd (h.held is.1))

@@ -28,7 +28,7 @@ pub record IsBehind (s : Streams) (e d : EventId) : Type 0 where
   pub before : d.index < e.index
   pub first : IsFirstHeld s d
 
--- why e is held, where e is the event of the link at place p
+-- why e is held, if e is the event of the link at place p
 abbrev pub IsReason : Streams → List Link → ℕ → EventId → Reason → Type 0
 IsReason s links p e (Behind d) = IsBehind s e d
 IsReason s links p e (Release d) = Matches s e d
@@ -37,7 +37,7 @@ IsReason s links p e (Absent n) = HasName s e n × IsAbsent s n
 IsReason s links p e (OtherWord n) = HasName s e n × IsOfOtherWord s e n
 IsReason s links p e (Circle k) = (k < p) × (event_of links k ≡ Some e)
 
--- why e is held, where that is no circle
+-- why e is held, if that is no circle
 abbrev pub IsCause : Streams → EventId → Reason → Type 0
 IsCause s e r = IsReason s [] 0 e r
 

@@ -50,11 +50,11 @@ AreOthersKept g old new = (e : EventId) → e.at.group ≢ g → details_at new 
 abbrev pub event_of : ℕ → Event → Count → EventId
 event_of g x c = record { at = record { group = g; item = x.item }; index = c.records }
 
-abbrev pub word_history_of : ℕ → Event → Count → Details
-word_history_of number x c = record { kind = x.kind; number = number; phase = c.barriers }
+abbrev pub details_by : ℕ → Event → Count → Details
+details_by number x c = record { kind = x.kind; number = number; phase = c.barriers }
 
 -- the details of a record are kept if it accesses the word, and else nothing changes
 abbrev pub KeepsRecord : Word → ℕ → ℕ → Event → Count → List (EventId × Details) → List (EventId × Details) → Type 0
 KeepsRecord w g number x c old new =
-    ((event_word g x ≡ Some w) × ((e : EventId) → details_at new e ≡ (if same_event (event_of g x c) e then Some (word_history_of number x c) else details_at old e)))
+    ((event_word g x ≡ Some w) × ((e : EventId) → details_at new e ≡ (if same_event (event_of g x c) e then Some (details_by number x c) else details_at old e)))
     ⊎ ((event_word g x ≢ Some w) × (new ≡ old))

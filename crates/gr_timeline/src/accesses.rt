@@ -1,8 +1,7 @@
 //! All accesses of a launch to one word.
 
-ghost use Rattle.std.specs.Prelude.{◌≡◌, ◌↔◌, ◌<◌, None, IfOk, IsTrue, OnOk, Some, length};
+ghost use Rattle.std.specs.Prelude.{◌≡◌, None, IfOk, OnOk};
 ghost use Rattle.gr_model.specs.declared.event.EventId.{EventId as AnyEvent};
-ghost use Rattle.gr_model.specs.Access.{event_word};
 ghost use Rattle.gr_model.specs.Streams.{IsAccepted};
 ghost use Rattle.gr_timeline.specs.Accesses.{AreAccesses, details_at};
 ghost use Rattle.gr_timeline.specs.Gathering.{AreKnownIn, AreOthersKept, KeepsRecord};
@@ -19,16 +18,6 @@ use std::hash::{BuildHasherDefault, FoldHasher};
 /// Accesses, with the details of each, in the order of their groups and of their records.
 pub type Accesses<A> = IndexMap<EventId, Details, BuildHasherDefault<FoldHasher>, A>;
 
-/// Whether a record of a group accesses a word.
-fn is_on(word: Word, group: u16, event: &Event) -> bool
-    ensures { IsTrue result ↔ (event_word group event.now ≡ Some word) }
-{
-    match word_of(group, event) {
-        None => false,
-        Some(found) => found == word,
-    }
-}
-
 /// Keeps the details of a record of a group, of this number in the group's list, if it accesses the word.
 ///
 /// # Errors
@@ -43,7 +32,7 @@ fn keep<A: Allocator>(
 ) -> Result<(), Memory>
     ensures { OnOk result (KeepsRecord word group number event.now count known.old.entries known.new.entries) }
 {
-    if is_on(word, group, event) {
+    if word_of(group, event) == Some(word) {
         let at = ItemId {
             group,
             item: event.item,

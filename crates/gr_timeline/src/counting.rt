@@ -2,7 +2,7 @@
 
 ghost use Rattle.std.specs.Prelude.{◌≡◌, ◌<◌, [], ℕ, IfOk, Some, length, option_map, slice_get};
 ghost use Rattle.gr_timeline.specs.declared.counting.Count.{Count as AnyCount};
-ghost use Rattle.gr_timeline.specs.Counting.{AreCounts, IsSmall, after_record, with_record};
+ghost use Rattle.gr_timeline.specs.Counting.{AreCounts, IsSmall, after_record};
 
 use gr_lanes::kinds::is_barrier;
 use gr_model::event::Event;
@@ -16,19 +16,6 @@ pub(crate) struct Count {
     pub(crate) records: u32,
     /// How many of these are barriers.
     pub(crate) barriers: usize,
-}
-
-impl Count {
-    /// The count after one more record.
-    fn with_record(self, event: &Event) -> Count
-        requires { IsSmall self }
-        ensures { result ≡ with_record self event.now }
-    {
-        Count {
-            records: self.records + 1,
-            barriers: self.barriers + usize::from(is_barrier(event)),
-        }
-    }
 }
 
 /// The counts of so many items at the start.
@@ -57,6 +44,10 @@ pub(crate) fn count_record<A: Allocator>(counts: &mut Vec<Count, A>, event: &Eve
 {
     if !event.kind.is_end() {
         let place = event.item as usize;
-        counts[place] = counts[place].with_record(event);
+        let count = counts[place];
+        counts[place] = Count {
+            records: count.records + 1,
+            barriers: count.barriers + usize::from(is_barrier(event)),
+        };
     }
 }

@@ -56,7 +56,7 @@ pub fn barriers_before(list: &[Event], item: u16, index: u32) -> usize
         .count()
 }
 
-/// The details of an event of a group, or `None` where its item has no event of this index.
+/// The details of an event of a group, or `None` if its item has no event of this index.
 pub fn details_at<A: Allocator>(
     traces: &Traces<A>,
     records: &Records<'_, A>,

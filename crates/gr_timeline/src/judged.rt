@@ -80,7 +80,7 @@ impl<A: Allocator> Judged<A> {
         event.index < self.first_held(event.at).index
     }
 
-    /// The record of an event that is not grounded, or `None` where there is none of this index.
+    /// The record of an event that is not grounded, or `None` if there is none of this index.
     pub(crate) fn record_of(&self, event: EventId) -> Option<Event>
         requires { ¬ IsGrounded self.now event }
         ensures { result ≡ model.event_at self.now event }

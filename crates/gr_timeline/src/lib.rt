@@ -6,13 +6,11 @@
 #![tactic(auto)]
 
 pub mod accesses;
-mod arrivals;
 mod counting;
 pub mod details;
 pub mod entry;
 pub mod history;
 mod judged;
-mod names;
 pub mod reason;
 mod reasons;
 pub mod standing;

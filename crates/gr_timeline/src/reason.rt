@@ -32,7 +32,7 @@ pub struct Link {
 }
 
 impl Reason {
-    /// The held event for which an event waits by this reason, or `None` where the reason is the end of a chain.
+    /// The held event for which an event waits by this reason, or `None` if the reason is the end of a chain.
     pub fn leads_to(self) -> Option<EventId>
         ensures { result ≡ leads_to self }
     {

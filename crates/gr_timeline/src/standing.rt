@@ -1,7 +1,7 @@
 //! How each access of a history relates to those above it: what text and JSON show of the clocks. No clause speaks of it.
 //!
 //! For each work-group, it is kept how many of its accesses the clock of the last access counts. The next clock is compared group by group.
-//! It is compared item by item only where the group's counts may differ: not where both clocks count none of its accesses, nor where the
+//! It is compared item by item only if the group's counts may differ: not if both clocks count none of its accesses, nor if the
 //! later one comes after the earlier and that counts them all.
 
 use crate::entry::Entry;
@@ -48,7 +48,7 @@ struct Trail<A: Allocator> {
 
 /// How many accesses of a class there are, and how many of them the last clock counts.
 #[derive(Clone, Copy)]
-struct Tally {
+struct ClassCount {
     class: Class,
     all: usize,
     counted: usize,
@@ -56,8 +56,8 @@ struct Tally {
 
 /// How many accesses there are in all and of each class, and how many of them the last clock counts.
 #[derive(Drop)]
-struct Tallies<A: Allocator> {
-    classes: Vec<Tally, A>,
+struct ClassCounts<A: Allocator> {
+    classes: Vec<ClassCount, A>,
     all: usize,
     counted: usize,
 }
@@ -69,14 +69,14 @@ type Map<K, V, A> = IndexMap<K, V, BuildHasherDefault<FoldHasher>, A>;
 #[derive(Drop)]
 struct GroupAbove<A: Allocator> {
     items: Map<u16, Vec<Trail<A>, A>, A>,
-    tallies: Tallies<A>,
+    counts: ClassCounts<A>,
 }
 
 /// The accesses of a history that are above the next one.
 #[derive(Drop)]
 pub struct Above<A: Allocator = Global> {
     groups: Map<u16, GroupAbove<A>, A>,
-    tallies: Tallies<A>,
+    counts: ClassCounts<A>,
     last: Option<EventId>,
 }
 
@@ -119,9 +119,9 @@ impl<A: Allocator + Copy> Standing<A> {
     }
 }
 
-impl<A: Allocator + Copy> Tallies<A> {
-    fn new(alloc: A) -> Tallies<A> {
-        Tallies {
+impl<A: Allocator + Copy> ClassCounts<A> {
+    fn new(alloc: A) -> ClassCounts<A> {
+        ClassCounts {
             classes: Vec::new(alloc),
             all: 0,
             counted: 0,
@@ -130,10 +130,9 @@ impl<A: Allocator + Copy> Tallies<A> {
 
     /// Adds an access, which the last clock counts.
     fn add(&mut self, class: Class) -> Result<(), Memory> {
-        let known = self.classes.iter().position(|tally| tally.class == class);
-        match known {
+        match self.classes.iter().position(|count| count.class == class) {
             Some(place) => self.classes[place].all = self.classes[place].all.saturating_add(1),
-            None => self.classes.push(Tally {
+            None => self.classes.push(ClassCount {
                 class,
                 all: 1,
                 counted: 0,
@@ -147,20 +146,20 @@ impl<A: Allocator + Copy> Tallies<A> {
     /// Corrects the counts: of some accesses of a class, the last clock counts `after`, and the one before it counted `before`.
     fn recount(&mut self, class: Class, before: usize, after: usize) {
         self.counted = self.counted.saturating_sub(before).saturating_add(after);
-        for tally in self.classes.iter_mut() {
-            if tally.class == class {
-                tally.counted = tally.counted.saturating_sub(before).saturating_add(after);
+        for count in self.classes.iter_mut() {
+            if count.class == class {
+                count.counted = count.counted.saturating_sub(before).saturating_add(after);
             }
         }
     }
 
-    /// How many accesses the last clock does not count: of those that never race with an access of this class and group where they are of
+    /// How many accesses the last clock does not count: of those that never race with an access of this class and group if they are of
     /// the group `at`, or of those that can.
     fn uncounted(&self, at: u16, class: Class, group: u16, is_exempt: bool) -> usize {
         let mut sum: usize = 0;
-        for tally in &self.classes {
-            if exempt(tally.class, at, class, group) == is_exempt {
-                sum = sum.saturating_add(tally.all.saturating_sub(tally.counted));
+        for count in &self.classes {
+            if exempt(count.class, at, class, group) == is_exempt {
+                sum = sum.saturating_add(count.all.saturating_sub(count.counted));
             }
         }
         sum
@@ -168,16 +167,9 @@ impl<A: Allocator + Copy> Tallies<A> {
 }
 
 impl<A: Allocator + Copy> GroupAbove<A> {
-    fn new(alloc: A) -> GroupAbove<A> {
-        GroupAbove {
-            items: IndexMap::new(alloc),
-            tallies: Tallies::new(alloc),
-        }
-    }
-
     /// Adds an access, which the last clock counts.
     fn add(&mut self, alloc: A, item: u16, index: u32, class: Class) -> Result<(), Memory> {
-        self.tallies.add(class)?;
+        self.counts.add(class)?;
         if self.items.get(&item).is_none() {
             self.items.insert(item, Vec::new(alloc))?;
         }
@@ -187,30 +179,12 @@ impl<A: Allocator + Copy> GroupAbove<A> {
         }
     }
 
-    /// Takes what a clock counts of an item in place of what the last one did.
-    fn turn_item(&mut self, at: ItemId, clock: &Clock<A>, launch: &mut Tallies<A>) {
-        if let Some(trails) = self.items.get_mut(&at.item) {
-            turn(trails, clock.get(at), &mut self.tallies, launch);
-        }
-    }
-
     /// Takes what a clock counts of the group's items in place of what the last one did.
-    fn turn_all(&mut self, group: u16, clock: &Clock<A>, launch: &mut Tallies<A>) {
+    fn turn_all(&mut self, group: u16, clock: &Clock<A>, launch: &mut ClassCounts<A>) {
         for (item, trails) in self.items.iter_mut() {
             let at = ItemId { group, item: *item };
-            turn(trails, clock.get(at), &mut self.tallies, launch);
+            turn(trails, clock.get(at), &mut self.counts, launch);
         }
-    }
-
-    /// How many accesses of an item there are.
-    fn count_of(&self, item: u16) -> usize {
-        let mut count: usize = 0;
-        if let Some(trails) = self.items.get(&item) {
-            for trail in trails {
-                count = count.saturating_add(trail.indices.len());
-            }
-        }
-        count
     }
 
     /// Names accesses that the last clock does not count, those that can race with an access of this class and group apart from the others.
@@ -245,8 +219,8 @@ impl<A: Allocator + Copy> GroupAbove<A> {
 fn turn<A: Allocator + Copy>(
     trails: &mut [Trail<A>],
     events: u32,
-    group: &mut Tallies<A>,
-    launch: &mut Tallies<A>,
+    group: &mut ClassCounts<A>,
+    launch: &mut ClassCounts<A>,
 ) {
     for trail in trails.iter_mut() {
         let counted = trail.indices.partition_point(|index| *index < events);
@@ -286,7 +260,7 @@ impl<A: Allocator + Copy> Above<A> {
     pub fn new(alloc: A) -> Above<A> {
         Above {
             groups: IndexMap::new(alloc),
-            tallies: Tallies::new(alloc),
+            counts: ClassCounts::new(alloc),
             last: None,
         }
     }
@@ -294,16 +268,23 @@ impl<A: Allocator + Copy> Above<A> {
     /// Takes what a clock counts of an item in place of what the last one did.
     fn turn_item(&mut self, at: ItemId, clock: &Clock<A>) {
         if let Some(group) = self.groups.get_mut(&at.group) {
-            group.turn_item(at, clock, &mut self.tallies);
+            if let Some(trails) = group.items.get_mut(&at.item) {
+                turn(trails, clock.get(at), &mut group.counts, &mut self.counts);
+            }
         }
     }
 
     /// How many accesses of an item there are.
     fn count_of(&self, at: ItemId) -> usize {
-        match self.groups.get(&at.group) {
-            Some(group) => group.count_of(at.item),
-            None => 0,
+        let mut count: usize = 0;
+        if let Some(group) = self.groups.get(&at.group) {
+            if let Some(trails) = group.items.get(&at.item) {
+                for trail in trails {
+                    count = count.saturating_add(trail.indices.len());
+                }
+            }
         }
+        count
     }
 
     /// Takes what the clock of an access counts in place of what the last one did.
@@ -316,15 +297,15 @@ impl<A: Allocator + Copy> Above<A> {
         }
         self.turn_item(at, clock);
         let own = self.count_of(at);
-        if self.tallies.counted == own && clock.lacks_all(at) {
+        if self.counts.counted == own && clock.lacks_all(at) {
             return;
         }
         for (number, group) in self.groups.iter_mut() {
             let own = if *number == at.group { own } else { 0 };
-            let has_none = group.tallies.counted == own && clock.lacks(*number, at);
-            let has_all = is_later && group.tallies.counted == group.tallies.all;
+            let has_none = group.counts.counted == own && clock.lacks(*number, at);
+            let has_all = is_later && group.counts.counted == group.counts.all;
             if !has_none && !has_all {
-                group.turn_all(*number, clock, &mut self.tallies);
+                group.turn_all(*number, clock, &mut self.counts);
             }
         }
     }
@@ -333,12 +314,12 @@ impl<A: Allocator + Copy> Above<A> {
     /// can.
     fn uncounted(&self, class: Class, group: u16, is_exempt: bool) -> usize {
         let another = u16::from(group == 0);
-        let as_others = self.tallies.uncounted(another, class, group, is_exempt);
+        let as_others = self.counts.uncounted(another, class, group, is_exempt);
         match self.groups.get(&group) {
             None => as_others,
             Some(mine) => as_others
-                .saturating_sub(mine.tallies.uncounted(another, class, group, is_exempt))
-                .saturating_add(mine.tallies.uncounted(group, class, group, is_exempt)),
+                .saturating_sub(mine.counts.uncounted(another, class, group, is_exempt))
+                .saturating_add(mine.counts.uncounted(group, class, group, is_exempt)),
         }
     }
 
@@ -348,7 +329,7 @@ impl<A: Allocator + Copy> Above<A> {
             if standing.is_named() {
                 break;
             }
-            let has = |is_exempt| above.tallies.uncounted(*number, class, group, is_exempt) > 0;
+            let has = |is_exempt| above.counts.uncounted(*number, class, group, is_exempt) > 0;
             if !standing.races.is_full() && has(false)
                 || !standing.unordered.is_full() && has(true)
             {
@@ -368,16 +349,20 @@ impl<A: Allocator + Copy> Above<A> {
         let mut standing = Standing {
             races: Named::new(alloc, self.uncounted(class, at.group, false)),
             unordered: Named::new(alloc, self.uncounted(class, at.group, true)),
-            behind: self.tallies.counted,
+            behind: self.counts.counted,
         };
         self.name(class, at.group, &mut standing)?;
         if self.groups.get(&at.group).is_none() {
-            self.groups.insert(at.group, GroupAbove::new(alloc))?;
+            let none = GroupAbove {
+                items: IndexMap::new(alloc),
+                counts: ClassCounts::new(alloc),
+            };
+            self.groups.insert(at.group, none)?;
         }
         if let Some(group) = self.groups.get_mut(&at.group) {
             group.add(alloc, at.item, index, class)?;
         }
-        self.tallies.add(class)?;
+        self.counts.add(class)?;
         self.last = Some(entry.event);
         Ok(standing)
     }

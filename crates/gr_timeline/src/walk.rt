@@ -1,13 +1,13 @@
 //! The walk from a held event along its chain.
 //!
 //! The chain goes from an event to the first held one of its item, from there to an event for which that waits, and so on.
-//! Where it comes to an item for the second time, it comes to the same event, and the chain ends in a circle.
+//! If it comes to an item for the second time, it comes to the same event, and the chain ends in a circle.
 
-ghost use Rattle.std.specs.Prelude.{◌≡◌, ◌<◌, ◌++◌, ◌∷◌, [], ℕ, IfOk, IfSome, MatchOption, OnOk, Some, length};
+ghost use Rattle.std.specs.Prelude.{◌≡◌, ◌<◌, ◌++◌, ◌∷◌, [], ℕ, IfOk, IfSome, OnOk, Some, length};
 ghost use Rattle.gr_model.specs.declared.event.EventId.{EventId as AnyEvent};
 ghost use Rattle.gr_clocks.specs.Counts.{Counts};
-ghost use Rattle.gr_timeline.specs.Chains.{IsBehind, IsChain, IsChainTo, IsReason, LeadsToHeld, event_of, leads_to};
-ghost use Rattle.gr_timeline.specs.Waiting.{IsFirstHeld, IsHeldEvent, IsPassed};
+ghost use Rattle.gr_timeline.specs.Chains.{IsChain, IsChainTo, IsReason, LeadsToHeld, event_of, leads_to};
+ghost use Rattle.gr_timeline.specs.Waiting.{IsFirstHeld, IsHeldEvent};
 ghost use Rattle.gr_timeline.specs.Walks.{AreVisited, unvisited};
 
 use crate::judged::Judged;
@@ -17,18 +17,6 @@ use gr_clocks::tally::Tally;
 use gr_model::event::EventId;
 use gr_model::memory::Memory;
 use std::alloc::Allocator;
-
-/// The first held event of an event's item, if it comes before the event.
-fn first_before<A: Allocator>(judged: &Judged<A>, event: EventId) -> Option<EventId>
-    ensures { MatchOption result (IsPassed judged.now event) (λ d. IsBehind judged.now event d) }
-{
-    let first = judged.first_held(event.at);
-    if first.index < event.index {
-        Some(first)
-    } else {
-        None
-    }
-}
 
 /// The place of the link that has an event.
 fn place_in(links: &[Link], event: EventId) -> usize
@@ -41,21 +29,6 @@ fn place_in(links: &[Link], event: EventId) -> usize
         }
     }
     unreachable!()
-}
-
-/// Adds a link.
-///
-/// # Errors
-/// `Memory`: out of memory.
-fn add_link<A: Allocator>(
-    links: &mut Vec<Link, A>,
-    event: EventId,
-    reason: Reason,
-) -> Result<(), Memory>
-    ensures { OnOk result (links.new.items ≡ links.old.items ++ (record { event = event; reason = reason }) ∷ []) }
-{
-    links.push(Link { event, reason })?;
-    Ok(())
 }
 
 /// Goes from a held event to the first held one of its item.
@@ -72,12 +45,13 @@ fn go_to_first<A: Allocator, B: Allocator>(
     ensures chain { IfOk result (λ first. (e : AnyEvent) → IsChainTo judged.now e links.old.items (Some event) → IsChainTo judged.now e links.new.items (Some first)) }
     ensures visited { OnOk result ((visited : Counts) → AreVisited judged.now links.old.items visited → AreVisited judged.now links.new.items visited) }
 {
-    match first_before(judged, event) {
-        None => Ok(event),
-        Some(first) => {
-            add_link(links, event, Reason::Behind(first))?;
-            Ok(first)
-        }
+    let first = judged.first_held(event.at);
+    if first.index < event.index {
+        let reason = Reason::Behind(first);
+        links.push(Link { event, reason })?;
+        Ok(first)
+    } else {
+        Ok(event)
     }
 }
 
@@ -124,21 +98,8 @@ fn go_on<A: Allocator, B: Allocator>(
     ensures fewer { IfOk result (λ next. IfSome next (λ d. unvisited visited.new judged.now.sizes < unvisited visited.old judged.now.sizes)) }
 {
     let reason = visit(judged, links, visited, event);
-    add_link(links, event, reason)?;
+    links.push(Link { event, reason })?;
     Ok(reason.leads_to())
-}
-
-/// A tally of the items of a launch that counts none.
-///
-/// # Errors
-/// `Memory`: out of memory.
-fn none_visited<A: Allocator + Copy>(alloc: A, judged: &Judged<A>) -> Result<Tally<A>, Memory>
-    ensures { IfOk result (λ visited. AreVisited judged.now [] visited) }
-{
-    match Tally::new(alloc, judged.lanes().shape()) {
-        Ok(visited) => Ok(visited),
-        Err(_) => Err(Memory),
-    }
 }
 
 /// Follows the chain from a held event to its end, and puts its links into a list that has none.
@@ -178,7 +139,9 @@ pub(crate) fn chain_of<A: Allocator + Copy>(
     requires held { IsHeldEvent judged.now event }
     ensures { IfOk result (λ links. IsChain judged.now event links.items) }
 {
-    let mut visited = none_visited(alloc, judged)?;
+    let Ok(mut visited) = Tally::new(alloc, judged.lanes().shape()) else {
+        return Err(Memory);
+    };
     let mut links = Vec::new(alloc);
     follow(judged, &mut links, &mut visited, event)?;
     Ok(links)

@@ -36,7 +36,7 @@ impl<A: Allocator> WhyHeld<A> {
     }
 }
 
-/// Why an event of a launch is held, where the grounded events are known.
+/// Why an event of a launch is held, if it is, in a launch whose grounded events are known.
 ///
 /// # Errors
 /// `Memory`: out of memory.

@@ -1,6 +1,6 @@
 use Rattle.std.proofs.Common.{◌∙◌, sym, true≢false}
 use Rattle.gr_timeline.proofs.WaitLemmas.{matches_of, release_there}
-use Rattle.gr_timeline.proofs.names.held_release.Goals as goal
+use Rattle.gr_timeline.proofs.reasons.held_release.Goals as goal
 
 pub returns-else-is_grounded : goal.returns-else-is_grounded
 returns-else-is_grounded g c =

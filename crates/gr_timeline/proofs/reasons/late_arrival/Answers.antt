@@ -1,7 +1,7 @@
 use Rattle.std.proofs.Common.{refl}
 use Rattle.gr_steps.proofs.EventRecords.{item_of_event}
 use Rattle.gr_timeline.proofs.WaitLemmas.{late_by}
-use Rattle.gr_timeline.proofs.arrivals.late_arrival.Goals as goal
+use Rattle.gr_timeline.proofs.reasons.late_arrival.Goals as goal
 
 pub returns : goal.returns
 returns g c =

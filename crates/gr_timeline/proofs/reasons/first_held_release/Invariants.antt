@@ -1,6 +1,6 @@
 use Rattle.std.specs.List.{AllWithin}
 use Rattle.gr_timeline.specs.Waiting.{HasGroundedRelease}
-use Rattle.gr_timeline.proofs.names.first_held_release.Given as goal
+use Rattle.gr_timeline.proofs.reasons.first_held_release.Given as goal
 
 abbrev pub invariant-loop-name : goal.invariant-loop-name
 invariant-loop-name g l = AllWithin (HasGroundedRelease l.judged l.event) l.names 0 l.name-index

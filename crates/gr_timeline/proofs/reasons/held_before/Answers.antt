@@ -1,5 +1,5 @@
 use Rattle.std.proofs.Common.{◌∙◌, arith, refl, sym, true≢false}
-use Rattle.gr_timeline.proofs.arrivals.held_before.Goals as goal
+use Rattle.gr_timeline.proofs.reasons.held_before.Goals as goal
 
 pub returns-else-is_grounded : goal.returns-else-is_grounded
 returns-else-is_grounded g c =

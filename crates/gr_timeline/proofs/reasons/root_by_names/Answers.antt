@@ -1,0 +1,11 @@
+use Rattle.std.proofs.Common.{subst}
+use Rattle.std.proofs.lemmas.List.{get_or_default}
+use Rattle.std.proofs.lemmas.List.Elements.{AllWithin-more}
+use Rattle.gr_model.specs.Names.{IsOfItsWord}
+use Rattle.gr_timeline.proofs.reasons.root_by_names.Goals as goal
+
+pub loop-name-preserved : goal.loop-name-preserved
+loop-name-preserved g c =
+    let P = IsOfItsWord c.args.judged.now c.args.event in
+    AllWithin-more P c.args.names.now 0 c.loop-name.name-index c.loop-name.invariant
+    (λ d. subst P (get_or_default c.args.names.now c.loop-name.name-index _ d c.loop-name-test.true) c.in_default.ensures)
