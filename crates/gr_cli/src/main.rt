@@ -4,30 +4,40 @@
 //! error, and a function that opens a file.
 #![tactic(auto)]
 
-use gr_command::execute::{execute, fail};
+use gr_command::execute::execute;
 use gr_command::status::{FAILED, USAGE, status_of_sides_fault};
 use gr_model::memory::Memory;
 use gr_places::sides_fault::write_sides_fault;
-use gr_plan::files::Files;
 use gr_plan::held::Held;
 use gr_plan::notes::note;
-use gr_plan::plan::{Refusal, plan_of};
+use gr_plan::plan::{Plan, Refusal, plan_of};
 use gr_plan::progress::{Cleared, Watched};
-use gr_plan::reading::Reading;
-use gr_record::fault::Fault;
-use std::io::{BufWriter, ErrorKind, IsTerminal, Write};
+use std::env::{self, Args};
+use std::io::{self, BufWriter, ErrorKind, IsTerminal, Write};
 use std::process::ExitCode;
 use std::sync::Wait;
 use std::thread::Threads;
 use std::time::Clock;
-use std::{env, io};
 
 /// The words after the program's name. If there are none, and standard input is a terminal, they ask for help.
-fn words_or_help(rt: HostRuntime, mut words: Vec<String>) -> Result<Vec<String>, Memory> {
+fn words_or_help(rt: HostRuntime, words: Args) -> Result<Vec<String>, Memory> {
+    let mut words = words.skip(1).collect::<Vec<String>>(rt.alloc())?;
     if words.is_empty() && rt.stdin().is_terminal() {
         words.push(String::from_str(rt.alloc(), "--help")?)?;
     }
     Ok(words)
+}
+
+/// The words of the command line, without the program's name.
+fn words_of(rt: HostRuntime) -> Result<Vec<String>, Refusal> {
+    match env::args(&rt) {
+        Ok(words) => Ok(words_or_help(rt, words)?),
+        Err(error) if error.kind() == ErrorKind::OutOfMemory => Err(Refusal::from(Memory)),
+        Err(_) => {
+            let text = String::from_str(rt.alloc(), "an argument is not valid UTF-8");
+            Err(Refusal::Usage(text.map_err(Memory::from)?))
+        }
+    }
 }
 
 /// Reports why nothing is done, and gives the exit status. If standard error fails, that is ignored.
@@ -48,77 +58,46 @@ fn refuse<E: Write>(refusal: &Refusal, errors: &mut E) -> u8 {
     }
 }
 
-/// Does what these words ask for, with this input, and gives the exit status. Only a run in threads uses `handle`.
-fn perform<H>(
-    handle: H,
-    rt: HostRuntime,
-    words: &[String],
-    reading: &mut Reading,
-    files: &Files,
-    errors: &mut Held,
-) -> u8
+/// Does what these words ask for, as planned, and gives the exit status. Only a run in threads uses `handle`.
+fn perform<H>(handle: H, words: &[String], plan: &mut Plan) -> Result<u8, Memory>
 where
     H: Threads + Wait + Clock + Copy + Send + 'static,
 {
-    let alloc = rt.alloc();
-    let Ok(progress) = files.progress.clone() else {
-        return fail(&Fault::Memory, errors);
-    };
+    let (rt, alloc) = (plan.rt, plan.rt.alloc());
     let writer = Cleared {
         writer: io::writer(&rt),
-        progress,
+        progress: plan.files.progress.clone()?,
     };
-    let Ok(mut writer) = BufWriter::new(alloc, writer) else {
-        return fail(&Fault::Memory, errors);
-    };
-    let opener = move |name: &str| Watched::open(files, name);
-    execute(handle, alloc, words, reading, opener, &mut writer, errors)
-}
-
-/// Does what the words of the command line ask for, and gives the exit status. Only a run in threads uses `handle`.
-fn run<H>(handle: H, rt: HostRuntime, words: &[String]) -> u8
-where
-    H: Threads + Wait + Clock + Copy + Send + 'static,
-{
-    let mut plan = match plan_of(rt, words) {
-        Ok(plan) => plan,
-        Err(refusal) => return refuse(&refusal, &mut rt.stderr()),
-    };
-    if plan.watch().is_err() {
-        return fail(&Fault::Memory, &mut rt.stderr());
-    }
+    let mut writer = BufWriter::new(alloc, writer).map_err(|_| Memory)?;
+    let mut held = Held::new(rt.stderr());
     let asked = plan.words.as_ref().map_or(words, |asked| asked.as_slice());
-    let mut errors = Held::new(rt.stderr());
-    let (reading, files) = (&mut plan.reading, &plan.files);
-    let status = perform(handle, rt, asked, reading, files, &mut errors);
+    let (input, files, errors) = (&mut plan.reading, &plan.files, &mut held);
+    let opener = move |name: &str| Watched::open(files, name);
+    let status = execute(handle, alloc, asked, input, opener, &mut writer, errors);
+    drop(writer);
     if let Some(progress) = &plan.files.progress {
         progress.clear();
     }
     let command = words.first().map_or("", |word| word.as_str());
-    let _ = note(&mut plan, command, &mut errors);
+    let _ = note(plan, command, errors);
     if status == 0 {
-        let _ = plan.note_word(&mut errors);
+        let _ = plan.note_word(errors);
     }
-    status
+    Ok(status)
+}
+
+/// Does what the words of the command line ask for, and gives the exit status. Only a run in threads uses `handle`.
+fn run<H>(handle: H, rt: HostRuntime) -> Result<u8, Refusal>
+where
+    H: Threads + Wait + Clock + Copy + Send + 'static,
+{
+    let words = words_of(rt)?;
+    let mut plan = plan_of(rt, &words)?;
+    plan.watch()?;
+    Ok(perform(handle, &words, &mut plan)?)
 }
 
 fn main(rt: HostRuntime) -> ExitCode {
-    let mut errors = rt.stderr();
-    let words = match env::args(&rt) {
-        Ok(words) => words.skip(1).collect::<Vec<String>>(rt.alloc()),
-        Err(error) if error.kind() == ErrorKind::OutOfMemory => {
-            return ExitCode::from(fail(&Fault::Memory, &mut errors));
-        }
-        Err(_) => {
-            let _ = errors.write_all(b"error: an argument is not valid UTF-8\n");
-            return ExitCode::from(USAGE);
-        }
-    };
-    match words
-        .map_err(Memory::from)
-        .and_then(|words| words_or_help(rt, words))
-    {
-        Ok(words) => ExitCode::from(run(rt, rt, words.as_slice())),
-        Err(_) => ExitCode::from(fail(&Fault::Memory, &mut errors)),
-    }
+    let status = run(rt, rt);
+    ExitCode::from(status.unwrap_or_else(|refusal| refuse(&refusal, &mut rt.stderr())))
 }
