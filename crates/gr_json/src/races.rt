@@ -5,6 +5,7 @@ use crate::values::{
     Made, Text, array_of, buffer_value, or_null, push_object, push_objects, text_value, word_value,
 };
 use gr_model::event::EventId;
+use gr_model::memory::Memory;
 use gr_model::race::Race;
 use gr_places::index::PlaceIndex;
 use gr_places::places::Placed;
@@ -73,6 +74,36 @@ fn entry_value(
     })
 }
 
+/// How many of each finding there are.
+fn end_value(alloc: Global, found: &RacesByKind) -> Made {
+    json!(in alloc; {
+        "diverge": found.report.divergences.as_slice().len(),
+        "held": found.report.held,
+        "kinds": found.kinds.len(),
+        "races": found.races,
+        "type": "end",
+        "unmatched": found.report.unmatched.as_slice().len()
+    })
+}
+
+fn push_races(
+    text: &mut Vec<u8>,
+    sides: &Sides<'_>,
+    places: &PlaceIndex<'_>,
+    found: &RacesByKind,
+    most: Option<u32>,
+) -> Result<(), Memory> {
+    let alloc = *text.allocator();
+    let divergences = found.report.divergences.as_slice();
+    push_objects(text, divergences, |it| divergence_value(alloc, it))?;
+    push_objects(
+        text,
+        found.at_most(most),
+        |entry| entry_value(alloc, sides, places, entry),
+    )?;
+    push_object(text, end_value(alloc, found))
+}
+
 /// The divergent barriers of a launch, its races kind by kind, at most `most` kinds, with what side files say about them, and an end
 /// that counts all of them and all other findings, as lines of JSON.
 ///
@@ -84,23 +115,8 @@ pub fn races_json(
     found: &RacesByKind,
     most: Option<u32>,
 ) -> Text {
-    let end = json!(in alloc; {
-        "diverge": found.report.divergences.as_slice().len(),
-        "held": found.report.held,
-        "kinds": found.kinds.len(),
-        "races": found.races,
-        "type": "end",
-        "unmatched": found.report.unmatched.as_slice().len()
-    });
     let places = PlaceIndex::of(alloc, sides.places)?;
     let mut text = Vec::new(alloc);
-    let divergences = found.report.divergences.as_slice();
-    push_objects(&mut text, divergences, |it| divergence_value(alloc, it))?;
-    push_objects(
-        &mut text,
-        found.at_most(most),
-        |entry| entry_value(alloc, sides, &places, entry),
-    )?;
-    push_object(&mut text, end)?;
+    push_races(&mut text, sides, &places, found, most)?;
     Ok(text)
 }

@@ -18,42 +18,57 @@ pub(crate) fn divergence_value(alloc: Global, divergence: &Divergence) -> Made {
     })
 }
 
-/// The report as lines of JSON, in the order of its text.
-///
-/// # Errors
-/// `Memory`: out of memory.
-pub fn report_json<A: Allocator>(alloc: Global, report: &Report<A>) -> Text {
-    let (races, divergences) = (report.races.as_slice(), report.divergences.as_slice());
-    let unmatched = report.unmatched.as_slice();
-    let head = json!(in alloc; {
+/// How large a launch is.
+fn launch_value<A: Allocator>(alloc: Global, report: &Report<A>) -> Made {
+    json!(in alloc; {
         "groups": report.groups,
         "items": report.items,
         "records": report.records,
         "type": "launch"
-    });
-    let end = json!(in alloc; {
-        "diverge": divergences.len(),
+    })
+}
+
+/// How many of each finding there are.
+fn end_value<A: Allocator>(alloc: Global, report: &Report<A>) -> Made {
+    json!(in alloc; {
+        "diverge": report.divergences.as_slice().len(),
         "held": report.held,
-        "races": races.len(),
+        "races": report.races.as_slice().len(),
         "type": "end",
-        "unmatched": unmatched.len()
-    });
-    let mut text = Vec::new(alloc);
-    push_object(&mut text, head)?;
-    push_objects(&mut text, report.cut.as_slice(), |group| {
+        "unmatched": report.unmatched.as_slice().len()
+    })
+}
+
+fn push_report<A: Allocator>(text: &mut Vec<u8>, report: &Report<A>) -> Result<(), Memory> {
+    let alloc = *text.allocator();
+    push_object(text, launch_value(alloc, report))?;
+    push_objects(text, report.cut.as_slice(), |group| {
         json!(in alloc; {"group": *group, "type": "cut"})
     })?;
-    push_objects(&mut text, races, |word| {
+    push_objects(text, report.races.as_slice(), |word| {
         json!(in alloc; {"type": "race", "word": word_value(alloc, *word)?})
     })?;
-    push_objects(&mut text, divergences, |it| divergence_value(alloc, it))?;
-    push_objects(&mut text, unmatched, |acquire| {
+    push_objects(
+        text,
+        report.divergences.as_slice(),
+        |it| divergence_value(alloc, it),
+    )?;
+    push_objects(text, report.unmatched.as_slice(), |acquire| {
         json!(in alloc; {
             "cause": acquire_name(acquire.cause),
             "event": event_value(alloc, acquire.event)?,
             "type": "unmatched"
         })
     })?;
-    push_object(&mut text, end)?;
+    push_object(text, end_value(alloc, report))
+}
+
+/// The report as lines of JSON, in the order of its text.
+///
+/// # Errors
+/// `Memory`: out of memory.
+pub fn report_json<A: Allocator>(alloc: Global, report: &Report<A>) -> Text {
+    let mut text = Vec::new(alloc);
+    push_report(&mut text, report)?;
     Ok(text)
 }
