@@ -88,6 +88,7 @@ impl<A: Allocator + Copy> Worker<A> {
 
 impl<A: Allocator> Worker<A> {
     /// Whether its queue is empty.
+    #[tactic(auto, using(crate::proofs::Changes::none_clocked))]
     pub fn is_idle(&self) -> bool
         ensures { IsTrue result ↔ (self.now.queue.items ≡ []) }
     {
