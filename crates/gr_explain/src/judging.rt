@@ -1,6 +1,6 @@
 //! Whether pairs of accesses of a launch race.
 
-ghost use Rattle.std.specs.Prelude.{◌≡◌, ◌↔◌, All, IfOk, IsTrue};
+ghost use Rattle.std.specs.Prelude.{◌↔◌, All, IfOk, IsTrue};
 ghost use Rattle.gr_model.specs.Streams.{AreAccepted, Streams};
 ghost use Rattle.gr_clocks.specs.ClockedAccess.{clocked};
 ghost use Rattle.gr_taking.specs.Taken.{read_by};
