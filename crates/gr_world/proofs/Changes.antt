@@ -1,6 +1,7 @@
 -- What holds for each item of a list after one item changed, and of a list whose accesses are seen without allocators.
 use Rattle.std.proofs.Common.{◌≡◌, ◌≢◌, ℕ, ◌<◌, List, length, get_or, set, sym, subst, refl, [], ◌∷◌, ⊎_elim, get_or-set_other, get_or-set_same}
 use Rattle.std.proofs.lemmas.Bool.{cases_eq}
+use Rattle.std.proofs.lemmas.List.{length-map, map-append}
 use Rattle.gr_clocks.specs.declared.access.Access.{Access}
 use Rattle.gr_world.specs.Queues.{all_clocked}
 
@@ -13,3 +14,5 @@ where_set P xs i x d there here others k = ⊎_elim
 pub none_clocked : {Z : Type 0} (xs : List (Access Z)) → all_clocked xs ≡ [] → xs ≡ []
 none_clocked [] none = refl
 none_clocked (x ∷ xs) none = cc
+
+pub ruleset mapped = (length-map, map-append)

@@ -104,6 +104,7 @@ impl<A: Allocator> Worker<A> {
 
     /// Puts an access at the end of its queue.
     /// Requires: `has_room`.
+    #[tactic(auto, using(crate::proofs::Changes::mapped))]
     pub fn push(&mut self, access: Access<A>)
         requires { HasRoom self.old.queue }
         ensures { self.new ≡ queueing self.old (clocked access) }
