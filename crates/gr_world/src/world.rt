@@ -23,6 +23,7 @@ use crate::step::{Step, StepError};
 use crate::worker::Worker;
 use gr_clocks::access::Access;
 use gr_lanes::lanes::Lanes;
+use gr_lanes::seq_error::SeqError;
 use gr_model::config::{Config, queue_of, worker_of};
 use gr_model::event::{Event, ItemId, Sent, Word, event_ok};
 use gr_model::limits::MOST_RECORDS;
@@ -378,8 +379,8 @@ impl<A: Allocator> World<A> {
         };
         match self.sequencer.take(group, event) {
             Ok(()) => {}
-            // A record that was sent can be taken, so only memory can be wanting.
-            Err(_) => return Err(StepError::Memory),
+            Err(SeqError::Memory) => return Err(StepError::Memory),
+            Err(_) => unreachable!(),
         }
         let _taken = intake.pop();
         Ok(())

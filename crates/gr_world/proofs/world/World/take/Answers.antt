@@ -1,5 +1,5 @@
 use Rattle.std.proofs.Common.{rules}
-use Rattle.gr_world.proofs.TakeLemmas.{event_good, room_there, take_allowed, taken_is_step, taken_is_world}
+use Rattle.gr_world.proofs.TakeLemmas.{event_good, may_take, room_there, take_allowed, taken_is_step, taken_is_world}
 use Rattle.gr_world.proofs.world.World.take.Goals as goal
 
 pub take-requires-clause-good : goal.take-requires-clause-good
@@ -7,6 +7,11 @@ take-requires-clause-good g c = let good = event_good _ c.self.invariant _ _ _ _
 
 pub take-requires-clause-room : goal.take-requires-clause-room
 take-requires-clause-room g c = room_there _ c.self.invariant _ _ _ _ c.in-Some.ensures.value (search rules) c.in-Some-front.ensures.1
+
+pub unreachable-requires : goal.unreachable-requires
+unreachable-requires g c =
+    let can = may_take _ c.self.invariant _ _ _ _ c.in-Some.ensures.value (search rules) c.in-Some-front.ensures.1 in
+    search (rules, can.group, can.before_end, can.item)
 
 pub invariant_of-self-2 : goal.invariant_of-self-2
 invariant_of-self-2 g c =
@@ -17,5 +22,5 @@ returns-clause-step g c =
     rw (← c.self.view_is, ← c.from.ensures)
     (taken_is_step _ c.self.invariant _ _ _ _ c.in-Some.ensures.value (search rules) c.in-Some-front.ensures.1 _ _ c.in-Ok.ensures.ok.1 c.pop-taken.result c.pop-taken.ensures)
 
-pub returns-in-Err-clause-err : goal.returns-in-Err-clause-err
-returns-in-Err-clause-err g c = rw (← c.self.view_is, ← c.from.ensures) (take_allowed _ c.self.invariant _ _ _ _ c.in-Some.ensures.value (search rules) c.in-Some-front.ensures.1)
+pub returns-in-Err-Memory-clause-err : goal.returns-in-Err-Memory-clause-err
+returns-in-Err-Memory-clause-err g c = rw (← c.self.view_is, ← c.from.ensures) (take_allowed _ c.self.invariant _ _ _ _ c.in-Some.ensures.value (search rules) c.in-Some-front.ensures.1)
