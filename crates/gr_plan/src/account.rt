@@ -71,15 +71,9 @@ impl Account {
         let before = self.all_records;
         self.pass(seen)?;
         if self.fault.is_none() {
-            self.add(piece)?;
+            self.bytes.extend_from_slice(piece)?;
         }
         Ok(self.all_records.saturating_sub(before))
-    }
-
-    /// Adds bytes to those that were taken.
-    fn add(&mut self, piece: &[u8]) -> Result<(), Memory> {
-        self.bytes.extend_from_slice(piece)?;
-        Ok(())
     }
 
     /// Takes, passes and shows the bytes of a reader, up to its end or to bytes that are not of a stream.
@@ -90,8 +84,7 @@ impl Account {
         let mut piece = [0u8; PIECE_LENGTH];
         for _ in 0..u64::MAX {
             let n = reader.read(&mut piece).map_err(|error| fault_of(&error))?;
-            self.add(&piece[..n])?;
-            self.pass(seen)?;
+            self.take(&piece[..n], seen)?;
             if n == 0 || self.fault.is_some() {
                 break;
             }
@@ -186,9 +179,7 @@ impl Account {
     ) -> Result<usize, RecordError> {
         let length = header.version.record_length();
         let is_at_last = self.is_at_last();
-        let Some(record) = self.rest(at).get(..length) else {
-            return Err(RecordError::Truncated);
-        };
+        let record = self.rest(at).get(..length).ok_or(RecordError::Truncated)?;
         let is_end = record.first() == Some(&END);
         match read_event(header, record) {
             Err(error) if self.judges || is_at_last || error == RecordError::BadKind => {

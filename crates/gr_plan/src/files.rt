@@ -165,10 +165,8 @@ impl Files {
         self.takes_sides = line.takes_sides();
         self.places = line.path_of("--places")?;
         self.buffers = line.path_of("--buffers")?;
-        if names
-            .iter()
-            .any(|name| file_kind(rt, name) == FileKind::Missing)
-        {
+        let mut kinds = names.iter().map(|name| file_kind(rt, name));
+        if kinds.any(|kind| kind == FileKind::Missing) {
             self.names = copies_of(rt.alloc(), names)?;
             return Ok(());
         }
@@ -238,9 +236,8 @@ impl Files {
     }
 
     /// Has a name open a piece. A name that has one keeps it.
-    fn add_piece(&mut self, name: &str, piece: Piece) -> Result<(), Memory> {
-        if !self.has_piece(name) {
-            let name = self.copy_of(name)?;
+    fn add_piece(&mut self, name: String, piece: Piece) -> Result<(), Memory> {
+        if !self.has_piece(name.as_str()) {
             self.pieces.insert(name, piece)?;
         }
         Ok(())
@@ -252,7 +249,7 @@ impl Files {
         for (start, end) in starts.iter().zip(ends) {
             let part = format!(in self.rt.alloc(); "{name}@{start}")?;
             self.add_name(part.as_str())?;
-            self.add_piece(part.as_str(), whole.part(*start, end)?)?;
+            self.add_piece(part, whole.part(*start, end)?)?;
         }
         Ok(())
     }
@@ -267,7 +264,7 @@ impl Files {
             return Ok(self.add_parts(name, &whole, &starts)?);
         }
         self.add_name(name)?;
-        Ok(self.add_piece(name, whole)?)
+        Ok(self.add_piece(self.copy_of(name)?, whole)?)
     }
 
     /// Adds the streams of the file of this path.
@@ -297,9 +294,8 @@ impl Files {
             self.add_file(path.as_str())?;
         }
         if let (Some(sited), Some(sites)) = (self.seen.sited.take(), &self.places) {
-            let sites = self.copy_of(sites.as_str())?;
-            let places = Piece::of_bytes(self.rt.alloc(), sited.places)?;
-            self.add_piece(sites.as_str(), places)?;
+            let (sites, alloc) = (self.copy_of(sites.as_str())?, self.rt.alloc());
+            self.add_piece(sites, Piece::of_bytes(alloc, sited.places)?)?;
         }
         Ok(())
     }

@@ -203,7 +203,6 @@ where
     F: Fn(&BufferLine<'_>) -> Result<String, Memory>,
     requires { F.IsAlwaysCallable text_of }
 {
-    let mut list = String::new(alloc);
     let mut shown: Vec<String> = Vec::new(alloc);
     for line in lines {
         let next = text_of(line)?;
@@ -211,16 +210,12 @@ where
             continue;
         }
         if shown.len() >= MOST_SHOWN {
-            list.push_str(" and others")?;
-            break;
+            let list = shown.join(alloc, ", ")?;
+            return Ok(format!(in alloc; "{list} and others")?);
         }
-        if !shown.is_empty() {
-            list.push_str(", ")?;
-        }
-        list.push_str(next.as_str())?;
         shown.push(next)?;
     }
-    Ok(list)
+    Ok(shown.join(alloc, ", ")?)
 }
 
 /// The memories of lines, each once.

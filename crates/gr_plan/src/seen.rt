@@ -69,10 +69,8 @@ pub struct Sited {
 
 /// The line of the file of sites, from 0, that a record gives, if it gives one.
 fn site_of(record: &[u8]) -> Option<usize> {
-    match record.get(SITE..)? {
-        [low, high, ..] => usize::from(u16::from_le_bytes([*low, *high])).checked_sub(1),
-        _ => None,
-    }
+    let site = record.get(SITE..)?.first_chunk::<2>()?;
+    usize::from(u16::from_le_bytes(*site)).checked_sub(1)
 }
 
 impl Sited {

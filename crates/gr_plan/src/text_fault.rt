@@ -57,10 +57,7 @@ fn word_at(line: &[u8], at: usize) -> Option<&[u8]> {
 
 /// The word at this place of a line, or an empty one if the line ends before it.
 fn word_or_none(line: &[u8], at: usize) -> &[u8] {
-    match word_at(line, at) {
-        None => &[],
-        Some(word) => word,
-    }
+    word_at(line, at).unwrap_or(&[])
 }
 
 /// Whether a word is one of these.
