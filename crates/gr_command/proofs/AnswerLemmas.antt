@@ -29,7 +29,7 @@ use Rattle.gr_text.specs.Writes.{Writes}
 use Rattle.gr_command.specs.Answers.{IsAnswerOf, IsAnswerTo, IsDone, IsFaultTold, IsPartialDump, IsUsageTold, WritesReportPrefix}
 use Rattle.gr_command.specs.Statuses.{fault_status, sides_fault_status}
 use Rattle.gr_command.specs.Outcomes.{IsOutcome, IsTold}
-use Rattle.gr_command.specs.declared.status.TheConstants.{NOTHING, USAGE, WANTING, FAILED}
+use Rattle.gr_command.specs.declared.status.TheConstants.{NOTHING, USAGE, NO_MEMORY_OR_THREAD, FAILED}
 
 module _ {F : Type 0} (line_of : F → List ℕ) (status_of : F → ℕ) (writing : F) (old new old_errors new_errors : Option (List ℕ)) (status : ℕ) {X : Type 0} (Has : X → Type 0) (Ends : X → ℕ → Type 0) (IsWhy : F → Type 0) (Prefix : Type 0) where
   -- the outcome of a call, as `view` shows it
@@ -140,7 +140,7 @@ module _ (k : ErrorKind) (kinds : Kinds) (old new old_errors new_errors : Option
     | inr a ↦ (inl (wrong (are.1 k a)).0, (wrong (are.1 k a)).1)
   ]
 
-  pub help_of : (IsHelp k → (status ≡ NOTHING) ⊎ (status ≡ FAILED)) → AreHelp kinds → (status ≡ NOTHING) ⊎ (status ≡ WANTING) ⊎ (status ≡ FAILED)
+  pub help_of : (IsHelp k → (status ≡ NOTHING) ⊎ (status ≡ FAILED)) → AreHelp kinds → (status ≡ NOTHING) ⊎ (status ≡ NO_MEMORY_OR_THREAD) ⊎ (status ≡ FAILED)
   help_of help are = elim among [ inl e ↦ inr (inl (memory e).ends) | inr a ↦ elim (help (are.1 k a)) [ inl n ↦ inl n | inr f ↦ inr (inr f) ] ]
 
 -- words that the parser takes fail only if memory runs out

@@ -36,7 +36,7 @@ use Rattle.gr_show.specs.Rendering.{Renders}
 use Rattle.gr_show.specs.Shown.{AreRaces, IsExplanation, IsHeldIn, IsLine, IsHistoryOf}
 use Rattle.gr_report.specs.Putting.{AppendsPrefix}
 use Rattle.gr_streams.specs.Streams.{IsRunFault}
-use Rattle.gr_command.specs.declared.status.TheConstants.{NOTHING, USAGE, WANTING}
+use Rattle.gr_command.specs.declared.status.TheConstants.{NOTHING, USAGE, NO_MEMORY_OR_THREAD}
 use Rattle.gr_command.specs.Outcomes.{IsOutcome, IsTold}
 use Rattle.gr_command.specs.Statuses.{check_status, fault_status, race_status, sides_fault_status, IsReportStatus}
 
@@ -177,7 +177,7 @@ module _ {T X : Type 0} (remaining : T → Option (List ℕ)) (Gives : List ℕ 
 
 -- the words are reported as wrong, unless memory ran out first; nothing is written
 abbrev pub IsUsageTold : Option (List ℕ) → Option (List ℕ) → ℕ → Type 0
-IsUsageTold old new status = ((status ≡ USAGE) ⊎ (status ≡ WANTING)) × Keeps old new
+IsUsageTold old new status = ((status ≡ USAGE) ⊎ (status ≡ NO_MEMORY_OR_THREAD)) × Keeps old new
 
 -- the effects of what words ask for, over this input, with files that are opened in this way
 module _ {T X : Type 0} (remaining : T → Option (List ℕ)) (Gives : List ℕ → Result T X → Type 0) (input old new old_errors new_errors : Option (List ℕ)) (status : ℕ) where

@@ -8,11 +8,11 @@ use Rattle.gr_record.specs.declared.fault.Fault.TheVariants.{Stream, SameGroup, 
 use Rattle.gr_report.specs.Whole.{HasFinding}
 use Rattle.gr_places.specs.declared.sides_fault.SidesFault.{SidesFault}
 use Rattle.gr_places.specs.declared.sides_fault.SidesFault.TheVariants.{Buffers, Places, Run}
-use Rattle.gr_command.specs.declared.status.TheConstants.{NOTHING, FOUND, REFUSED, WANTING, FAILED}
+use Rattle.gr_command.specs.declared.status.TheConstants.{NOTHING, FOUND, REFUSED, NO_MEMORY_OR_THREAD, FAILED}
 
 -- a fault of the input is a refusal
 abbrev pub fault_status : Fault → ℕ
-fault_status (Stream place NoMemory) = WANTING
+fault_status (Stream place NoMemory) = NO_MEMORY_OR_THREAD
 fault_status (Stream place error) = REFUSED
 fault_status (SameGroup place) = REFUSED
 fault_status (OtherLaunch place) = REFUSED
@@ -21,8 +21,8 @@ fault_status (Shape error) = REFUSED
 fault_status (BadLine line) = REFUSED
 fault_status NoEnd = REFUSED
 fault_status (LongStream line) = REFUSED
-fault_status Memory = WANTING
-fault_status Threads = WANTING
+fault_status Memory = NO_MEMORY_OR_THREAD
+fault_status Threads = NO_MEMORY_OR_THREAD
 fault_status Read = FAILED
 fault_status Write = FAILED
 

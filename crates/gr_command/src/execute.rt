@@ -16,8 +16,8 @@ ghost use Rattle.gr_command.specs.Statuses.{check_status, fault_status, race_sta
 use crate::checking::write_check;
 use crate::reporting::{replay_json, run_files};
 use crate::status::{
-    FAILED, NOTHING, USAGE, WANTING, status_of, status_of_check, status_of_race, status_of_report,
-    status_of_sides_fault,
+    FAILED, NO_MEMORY_OR_THREAD, NOTHING, USAGE, status_of, status_of_check, status_of_race,
+    status_of_report, status_of_sides_fault,
 };
 use clap::Error;
 use clap::error::ErrorKind;
@@ -65,7 +65,7 @@ pub fn fail<E: Write>(fault: &Fault, errors: &mut E) -> u8
 }
 
 /// Writes help to standard output, or what is wrong with the words to standard error, and gives the status.
-fn explain_usage<W: Write, E: Write>(error: &Error, writer: &mut W, errors: &mut E) -> u8
+fn write_usage<W: Write, E: Write>(error: &Error, writer: &mut W, errors: &mut E) -> u8
     ensures known { result ≤ FAILED }
     ensures memory { kind_of error.now ≡ ErrorKind.OutOfMemory → IsFaultTold (W.contents writer.old) (W.contents writer.new) (E.contents errors.old) (E.contents errors.new) result Fault.Memory }
     ensures wrong { IsWrongUsage (kind_of error.now) → (result ≡ USAGE) × Keeps (W.contents writer.old) (W.contents writer.new) }
@@ -339,11 +339,11 @@ where
     requires { O.IsAlwaysCallable opener }
     ensures known { result ≤ FAILED }
     ensures does { (a : Asked) → AsksTo a (map S.text words.now) → IsDone T.remaining (FnReturnsAt O.Fn opener) (R.remaining reader.old) (W.contents writer.old) (W.contents writer.new) (E.contents errors.old) (E.contents errors.new) result a }
-    ensures wrong { AreWrong (faults (map S.text words.now)) → ((result ≡ USAGE) ⊎ (result ≡ WANTING)) × Keeps (W.contents writer.old) (W.contents writer.new) }
-    ensures help { AreHelp (faults (map S.text words.now)) → (result ≡ NOTHING) ⊎ (result ≡ WANTING) ⊎ (result ≡ FAILED) }
+    ensures wrong { AreWrong (faults (map S.text words.now)) → ((result ≡ USAGE) ⊎ (result ≡ NO_MEMORY_OR_THREAD)) × Keeps (W.contents writer.old) (W.contents writer.new) }
+    ensures help { AreHelp (faults (map S.text words.now)) → (result ≡ NOTHING) ⊎ (result ≡ NO_MEMORY_OR_THREAD) ⊎ (result ≡ FAILED) }
 {
     match request_of(alloc, words) {
         Ok(request) => answer(rt, alloc, request, reader, opener, writer, errors),
-        Err(error) => explain_usage(&error, writer, errors),
+        Err(error) => write_usage(&error, writer, errors),
     }
 }

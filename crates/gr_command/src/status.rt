@@ -24,7 +24,7 @@ pub const REFUSED: u8 = 2;
 pub const USAGE: u8 = 3;
 
 /// Memory ran out, or a thread could not be started.
-pub const WANTING: u8 = 4;
+pub const NO_MEMORY_OR_THREAD: u8 = 4;
 
 /// Reading or writing failed.
 pub const FAILED: u8 = 5;
@@ -34,7 +34,7 @@ pub fn status_of(fault: &Fault) -> u8
     ensures { result ≡ fault_status fault.now }
 {
     match fault {
-        Fault::Stream(_, RecordError::Memory) => WANTING,
+        Fault::Stream(_, RecordError::Memory) => NO_MEMORY_OR_THREAD,
         Fault::Stream(_, _)
         | Fault::SameGroup(_)
         | Fault::OtherLaunch(_)
@@ -43,7 +43,7 @@ pub fn status_of(fault: &Fault) -> u8
         | Fault::BadLine(_)
         | Fault::NoEnd
         | Fault::LongStream(_) => REFUSED,
-        Fault::Memory | Fault::Threads => WANTING,
+        Fault::Memory | Fault::Threads => NO_MEMORY_OR_THREAD,
         Fault::Read | Fault::Write => FAILED,
     }
 }

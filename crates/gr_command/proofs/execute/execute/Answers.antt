@@ -14,10 +14,10 @@ returns-in-Ok-clause-does g c = λ a asks.
 
 pub returns-in-Err-clause-does : goal.returns-in-Err-clause-does
 returns-in-Err-clause-does g c = λ a asks.
-    no_memory_to_do g.T.Read.remaining (FnReturnsAt g.O.Fn c.args.opener) (g.R.Read.remaining c.args.reader.now) _ _ _ _ _ (c.explain_usage.ensures.memory (only_memory _ _ asks.taken c.in-Err.ensures.fails)) a
+    no_memory_to_do g.T.Read.remaining (FnReturnsAt g.O.Fn c.args.opener) (g.R.Read.remaining c.args.reader.now) _ _ _ _ _ (c.write_usage.ensures.memory (only_memory _ _ asks.taken c.in-Err.ensures.fails)) a
 
 pub returns-in-Err-clause-wrong : goal.returns-in-Err-clause-wrong
-returns-in-Err-clause-wrong g c = wrong_of _ _ _ _ _ _ _ c.explain_usage.ensures.memory c.in-Err.ensures.fails c.explain_usage.ensures.wrong
+returns-in-Err-clause-wrong g c = wrong_of _ _ _ _ _ _ _ c.write_usage.ensures.memory c.in-Err.ensures.fails c.write_usage.ensures.wrong
 
 pub returns-in-Err-clause-help : goal.returns-in-Err-clause-help
-returns-in-Err-clause-help g c = help_of _ _ _ _ _ _ _ c.explain_usage.ensures.memory c.in-Err.ensures.fails c.explain_usage.ensures.help
+returns-in-Err-clause-help g c = help_of _ _ _ _ _ _ _ c.write_usage.ensures.memory c.in-Err.ensures.fails c.write_usage.ensures.help
