@@ -88,23 +88,35 @@ impl Naming<'_, '_> {
     /// Why no word has the name, by the lines of a file of buffers.
     fn why_unnamed(&self, lines: &[BufferLine<'_>]) -> Result<String, Memory> {
         let alloc = self.line.rt.alloc();
-        let (buffer, index) = self.parts();
+        let (buffer, _) = self.parts();
         let mut named = Vec::from_slice(alloc, lines)?;
         named.retain(|line| line.name == buffer);
         let mut of_space = Vec::from_slice(alloc, &named)?;
         of_space.retain(|line| self.is_of(line));
+        self.why_unnamed_by(lines, &named, &of_space)
+    }
+
+    /// Why no word has the name, by all lines, those with its buffer, and those of them that are of the memory.
+    fn why_unnamed_by(
+        &self,
+        lines: &[BufferLine<'_>],
+        named: &[BufferLine<'_>],
+        of_space: &[BufferLine<'_>],
+    ) -> Result<String, Memory> {
+        let alloc = self.line.rt.alloc();
+        let (buffer, index) = self.parts();
         if lines.is_empty() {
             return Ok(String::from_str(alloc, "it names no buffer")?);
         } else if named.is_empty() {
             let names = list_of(alloc, lines, |line| Ok(String::from_str(alloc, line.name)?))?;
             return Ok(format!(in alloc; "its buffers are {names}")?);
         } else if of_space.is_empty() {
-            let spaces = spaces_of(alloc, &named)?;
+            let spaces = spaces_of(alloc, named)?;
             return Ok(format!(in alloc; "{buffer} is in {spaces}")?);
         }
-        let found = element_at(lines, &of_space, index);
+        let found = element_at(lines, of_space, index);
         let Some((word, Element { name, index })) = found else {
-            return size_of(alloc, buffer, &of_space);
+            return size_of(alloc, buffer, of_space);
         };
         let (space, number) = spelling_of(alloc, word)?;
         Ok(format!(in alloc; "word {space} {number} is {name}[{index}]")?)
