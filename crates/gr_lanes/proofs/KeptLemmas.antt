@@ -252,9 +252,6 @@ module _ {size forgotten : ℕ} {firsts : List Bare} {ks : List Kept} {list : Li
 -- ---- a record is taken, where the lanes may first have come
 
 module _ {size forgotten : ℕ} {firsts : List Bare} {ks : List Kept} {list : List Event} {taken : ℕ} {end : Option Bool} (kept : IsKept size forgotten firsts ks list taken end) (open_list : ¬ IsTrue (is_complete list)) {now : List Kept} (comes : now ≡ begun size ks) (x : Event) (ok : IsEventOk x size) {j : ℕ} (here : j ≡ x.item) where
-  pub lane_there : j < length now
-  lane_there = omega (arith, here, ok.0, come_all kept open_list comes)
-
   module _ {old : Kept} (reads : old ≡ get_or now j old) where
     pub lane_then : IsLane forgotten firsts x.item old
     lane_then = (lane_was (come_kept kept open_list comes) (come_all kept open_list comes) x ok here reads).lane

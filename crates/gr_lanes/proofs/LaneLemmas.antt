@@ -8,7 +8,7 @@ use Rattle.gr_model.specs.declared.event.Event.{Event}
 use Rattle.gr_lanes.specs.declared.bare.Bare.{Bare}
 use Rattle.gr_lanes.specs.Indices.{taking, with_event}
 use Rattle.gr_lanes.specs.Takes.{IsMereAccess}
-use Rattle.gr_lanes.specs.Kept.{Arrives, IsLane, Kept, apart_more, bare_of, forgetting_one, kept_with, of_item}
+use Rattle.gr_lanes.specs.Kept.{Arrives, IsLane, Kept, bare_of, barrier_more, forgetting_one, kept_with, of_item}
 
 get-drop : {X : Type 0} (n : ℕ) (xs : List X) (k : ℕ) → slice_get (drop n xs) k ≡ slice_get xs (n + k)
 get-drop n xs k = grind (arith, common_steps, gets)
@@ -64,7 +64,7 @@ record_is : (x : Event) → x.names ≡ [] → of_item x.item (bare_of x) ≡ x
 record_is x bare = λ d. record { item = x.item; kind = x.kind; space = x.space; word = x.word; names = sym bare d }
 
 module _ {forgotten : ℕ} (x : Event) (bare : x.names ≡ []) {k : Kept} {firsts : List Bare} (lane : IsLane forgotten firsts x.item k) where
-  pub arrives_apart : {new : Kept} → new ≡ apart_more k x → Arrives forgotten firsts firsts x.item (with_event k.index x false true) new
+  pub arrives_apart : {new : Kept} → new ≡ barrier_more k x false → Arrives forgotten firsts firsts x.item (with_event k.index x false true) new
   arrives_apart is = record {
     more = [];
     grown = sym (append-nil firsts);

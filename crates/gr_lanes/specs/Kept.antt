@@ -32,13 +32,14 @@ nothing_kept = record { index = no_index; barriers = []; alike = 0; apart = [] }
 abbrev pub kept_with : Kept → Event → Bool → Kept
 kept_with k x release = record { index = with_event k.index x release false; barriers = k.barriers; alike = k.alike; apart = k.apart }
 
--- an item's lane with one more barrier, which said the same as the first of its instance
-abbrev pub alike_more : Kept → Event → Kept
-alike_more k x = record { index = with_event k.index x false true; barriers = k.barriers ++ k.index.count ∷ []; alike = k.alike + 1; apart = k.apart }
-
--- the same, with one that said something else
-abbrev pub apart_more : Kept → Event → Kept
-apart_more k x = record { index = with_event k.index x false true; barriers = k.barriers ++ k.index.count ∷ []; alike = k.alike; apart = k.apart ++ bare_of x ∷ [] }
+-- an item's lane with one more barrier, which said the same as the first of its instance if so told, and otherwise something else
+abbrev pub barrier_more : Kept → Event → Bool → Kept
+barrier_more k x told = record {
+  index = with_event k.index x false true;
+  barriers = k.barriers ++ k.index.count ∷ [];
+  alike = if told then k.alike + 1 else k.alike;
+  apart = if told then k.apart else k.apart ++ bare_of x ∷ [];
+}
 
 -- an item's lane where this many instances were forgotten, and now one more is
 abbrev pub forgetting_one : ℕ → Kept → Kept

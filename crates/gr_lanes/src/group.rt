@@ -5,7 +5,7 @@
 //! taken, the last lanes may be gone, as far as they have no releases and all their barriers are forgotten. The list itself exists only
 //! in proofs.
 
-ghost use Rattle.std.specs.Prelude.{◌≢◌, ◌≡◌, ◌↔◌, ◌∷◌, ◌++◌, ◌<◌, ◌≤◌, ◌+◌, ℕ, List, [], true, Some, IfOk, IsTrue, MatchOption, OnOk, OnErr, filter, length, map, replicate, slice_get, slice_index_or};
+ghost use Rattle.std.specs.Prelude.{◌≢◌, ◌≡◌, ◌↔◌, ◌∷◌, ◌++◌, ◌<◌, ◌≤◌, ◌+◌, ℕ, List, [], true, Some, IsTrue, MatchOption, OnOk, OnErr, filter, length, map, slice_get, slice_index_or};
 ghost use Rattle.std.specs.List.{list_all};
 ghost use Rattle.gr_model.specs.declared.limits.TheConstants.{MOST_RECORDS};
 ghost use Rattle.gr_model.specs.Access as model;
@@ -65,34 +65,8 @@ fn end_of(event: &Event) -> Option<bool>
 {
     match event.kind {
         Kind::End { cut } => Some(cut),
-        Kind::Read
-        | Kind::Write
-        | Kind::Load(_, _)
-        | Kind::Store(_, _)
-        | Kind::Rmw(_, _)
-        | Kind::Barrier {
-            global: _,
-            local: _,
-        } => None,
+        _ => None,
     }
-}
-
-/// Whether an end was taken and says that its stream was cut.
-fn says_cut(end: Option<bool>) -> bool
-    ensures { IsTrue result ↔ (end ≡ Some true) }
-{
-    end == Some(true)
-}
-
-/// The lanes of this many items without events.
-fn lanes_of<A: Allocator + Copy>(alloc: A, items: u16) -> Result<Vec<Lane<A>, A>, Memory>
-    ensures { IfOk result (λ ks. ks.items ≡ replicate items nothing_kept) }
-{
-    let mut lanes = Vec::with_capacity(alloc, usize::from(items))?;
-    for _item in 0..items {
-        lanes.push(Lane::new(alloc))?;
-    }
-    Ok(lanes)
 }
 
 /// Makes this many lanes of items without events, where there are fewer lanes.
@@ -101,7 +75,12 @@ fn begin<A: Allocator + Copy>(lanes: &mut Vec<Lane<A>, A>, items: u16) -> Result
     ensures err { OnErr result (lanes.new.items ≡ lanes.old.items) }
 {
     if lanes.len() < usize::from(items) {
-        *lanes = lanes_of(*lanes.allocator(), items)?;
+        let alloc = *lanes.allocator();
+        let mut all = Vec::with_capacity(alloc, usize::from(items))?;
+        for _item in 0..items {
+            all.push(Lane::new(alloc))?;
+        }
+        *lanes = all;
     }
     Ok(())
 }
@@ -141,10 +120,9 @@ impl<A: Allocator + Copy> Group<A> {
     pub(crate) fn new(alloc: A, size: u16) -> Group<A>
         ensures { result ≡ record { size = size; list = []; forgotten = 0; decided = [] } }
     {
-        let list = History::new();
         Group {
             size,
-            list,
+            list: History::new(),
             taken: 0,
             end: None,
             lanes: Vec::new(alloc),
@@ -193,7 +171,7 @@ impl<A: Allocator> Group<A> {
     pub(crate) fn is_cut(&self) -> bool
         ensures { IsTrue result ↔ EndsCut self.now.list }
     {
-        says_cut(self.end)
+        self.end == Some(true)
     }
 
     /// How many of its first instances are forgotten.

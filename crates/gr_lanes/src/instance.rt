@@ -49,12 +49,7 @@ fn mark_of(event: &Event) -> Option<Mark>
 {
     match event.kind {
         Kind::Barrier { global, local } => Some(Mark::new(event.word, global, local)),
-        Kind::Read
-        | Kind::Write
-        | Kind::Load(_, _)
-        | Kind::Store(_, _)
-        | Kind::Rmw(_, _)
-        | Kind::End { cut: _ } => None,
+        _ => None,
     }
 }
 

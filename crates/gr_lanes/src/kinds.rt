@@ -13,13 +13,7 @@ pub fn is_release(event: &Event) -> bool
 {
     match event.kind {
         Kind::Load(_, order) | Kind::Store(_, order) | Kind::Rmw(_, order) => order.releases(),
-        Kind::Read
-        | Kind::Write
-        | Kind::Barrier {
-            global: _,
-            local: _,
-        }
-        | Kind::End { cut: _ } => false,
+        _ => false,
     }
 }
 
@@ -27,13 +21,7 @@ pub fn is_release(event: &Event) -> bool
 pub fn is_barrier(event: &Event) -> bool
     ensures { result ≡ model_barriers.is_barrier event.now }
 {
-    matches!(
-        event.kind,
-        Kind::Barrier {
-            global: _,
-            local: _
-        }
-    )
+    matches!(event.kind, Kind::Barrier { .. })
 }
 
 /// Whether an event is a mere access: one that releases nothing and names nothing.

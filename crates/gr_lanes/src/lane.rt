@@ -9,7 +9,7 @@ ghost use Rattle.std.specs.Prelude.{◌≡◌, ◌≢◌, ◌<◌, ◌≤◌, �
 ghost use Rattle.gr_model.specs.Barriers as model;
 ghost use Rattle.gr_lanes.specs.Indices.{AreRising, taking, with_event};
 ghost use Rattle.gr_lanes.specs.Kept as kept;
-ghost use Rattle.gr_lanes.specs.Kept.{alike_more, apart_more, Arrives, forgetting_one, HasNothing, IsLane, kept_with, nothing_kept};
+ghost use Rattle.gr_lanes.specs.Kept.{Arrives, barrier_more, forgetting_one, HasNothing, IsLane, kept_with, nothing_kept};
 
 use crate::bare::Bare;
 use crate::kinds::{is_barrier, is_release};
@@ -46,26 +46,11 @@ impl<A: Allocator> Model for Lane<A> {
     ghost view = { λ l. record { index = record { count = l.count; releases = l.releases.items; barriers = l.seen; released = l.released.items; arrived = l.said }; barriers = l.barriers.items; alike = l.alike; apart = l.apart.items } };
 }
 
-/// The place of an index in a rising list.
-fn number_of(places: &[u32], index: u32) -> Option<u32>
-    requires few { length places.now < 4_294_967_296 }
-    requires rise { AreRising places.now }
-    ensures { MatchOption result ((k : ℕ) → slice_get places.now k ≢ Some index) (λ k. slice_get places.now k ≡ Some index) }
-{
-    match places.binary_search(&index) {
-        Ok(number) => Some(number as u32),
-        Err(_) => None,
-    }
-}
-
 /// The record of one of these barriers, for this item.
 fn of_item<A: Allocator>(said: &VecDeque<Bare, A>, item: u16, place: u32) -> Option<Event>
     ensures { result ≡ slice_get (map (kept.of_item item) said.now.items) place }
 {
-    match said.get(place as usize) {
-        None => None,
-        Some(barrier) => Some(barrier.of_item(item)),
-    }
+    Some(said.get(place as usize)?.of_item(item))
 }
 
 impl<A: Allocator + Copy> Lane<A> {
@@ -73,8 +58,6 @@ impl<A: Allocator + Copy> Lane<A> {
     pub(crate) fn new(alloc: A) -> Lane<A>
         ensures { result ≡ nothing_kept }
     {
-        let seen = History::new();
-        let said = History::new();
         Lane {
             count: 0,
             alike: 0,
@@ -82,8 +65,8 @@ impl<A: Allocator + Copy> Lane<A> {
             released: Vec::new(alloc),
             barriers: VecDeque::new(alloc),
             apart: VecDeque::new(alloc),
-            seen,
-            said,
+            seen: History::new(),
+            said: History::new(),
         }
     }
 }
@@ -102,7 +85,8 @@ impl<A: Allocator> Lane<A> {
         requires rise { AreRising self.now.index.releases }
         ensures { MatchOption result ((k : ℕ) → slice_get self.now.index.releases k ≢ Some index) (λ k. slice_get self.now.index.releases k ≡ Some index) }
     {
-        number_of(&self.releases, index)
+        let number = self.releases.binary_search(&index).ok()?;
+        Some(number as u32)
     }
 
     /// The record of the item's release with this number.
@@ -125,10 +109,8 @@ impl<A: Allocator> Lane<A> {
         requires rise { AreRising self.now.barriers }
         ensures { MatchOption result ((k : ℕ) → slice_get self.now.barriers k ≢ Some index) (λ k. slice_get self.now.barriers k ≡ Some index) }
     {
-        match self.barriers.binary_search(&index) {
-            Ok(place) => Some(place as u32),
-            Err(_) => None,
-        }
+        let place = self.barriers.binary_search(&index).ok()?;
+        Some(place as u32)
     }
 
     /// How many barriers the item has that are not forgotten.
@@ -227,56 +209,23 @@ impl<A: Allocator> Lane<A> {
         Ok(())
     }
 
-    /// Adds the item's next barrier, which says the same as the first of its instance.
-    fn add_alike(&mut self, event: &Event) -> Result<(), Memory>
+    /// Adds the item's next barrier, and keeps what it says where it does not say the same as the first of its instance.
+    fn add_barrier(&mut self, event: &Event, is_alike: bool) -> Result<(), Memory>
         requires few { self.old.index.count < 4_294_967_295 }
         requires alike { self.old.alike ≤ self.old.index.count }
-        ensures ok { OnOk result (self.new ≡ alike_more self.old event.now) }
+        ensures ok { OnOk result (self.new ≡ barrier_more self.old event.now is_alike) }
         ensures err { OnErr result (self.new ≡ self.old) }
     {
         self.barriers.reserve(1)?;
+        if is_alike {
+            self.alike += 1;
+        } else {
+            self.apart.push_back(Bare::of(event))?;
+        }
         self.barriers.push_back_reserved(self.count);
         self.seen.push(&self.count);
         self.said.push(event);
         self.count += 1;
-        self.alike += 1;
-        Ok(())
-    }
-
-    /// Adds the item's next barrier, and keeps what it says.
-    fn add_apart(&mut self, event: &Event) -> Result<(), Memory>
-        requires few { self.old.index.count < 4_294_967_295 }
-        ensures ok { OnOk result (self.new ≡ apart_more self.old event.now) }
-        ensures err { OnErr result (self.new ≡ self.old) }
-    {
-        self.apart.reserve(1)?;
-        self.barriers.reserve(1)?;
-        self.apart.push_back_reserved(Bare::of(event));
-        self.barriers.push_back_reserved(self.count);
-        self.seen.push(&self.count);
-        self.said.push(event);
-        self.count += 1;
-        Ok(())
-    }
-
-    /// Adds the item's next barrier, which is the first of its instance.
-    fn add_first(
-        &mut self,
-        firsts: &mut VecDeque<Bare, A>,
-        forgotten: u32,
-        event: &Event,
-    ) -> Result<(), Memory>
-        requires few { self.old.index.count < 4_294_967_295 }
-        requires lane { IsLane forgotten firsts.old.items event.now.item self.old }
-        requires bare { event.now.names ≡ [] }
-        requires none { self.old.apart ≡ [] }
-        requires first { self.old.alike - forgotten ≡ length firsts.old.items }
-        ensures ok { OnOk result (Arrives forgotten firsts.old.items firsts.new.items event.now.item (with_event self.old.index event.now false true) self.new) }
-        ensures err { OnErr result ((self.new ≡ self.old) × (firsts.new.items ≡ firsts.old.items)) }
-    {
-        firsts.reserve(1)?;
-        self.add_alike(event)?;
-        firsts.push_back_reserved(Bare::of(event));
         Ok(())
     }
 
@@ -297,19 +246,16 @@ impl<A: Allocator> Lane<A> {
         ensures err { OnErr result ((self.new ≡ self.old) × (firsts.new.items ≡ firsts.old.items)) }
     {
         if !self.apart.is_empty() {
-            self.add_apart(event)?;
-            return Ok(());
+            return self.add_barrier(event, false);
         }
         match firsts.get((self.alike - forgotten) as usize).copied() {
-            None => self.add_first(firsts, forgotten, event),
-            Some(first) => {
-                if first.is(&Bare::of(event)) {
-                    self.add_alike(event)?;
-                } else {
-                    self.add_apart(event)?;
-                }
+            None => {
+                firsts.reserve(1)?;
+                self.add_barrier(event, true)?;
+                firsts.push_back_reserved(Bare::of(event));
                 Ok(())
             }
+            Some(first) => self.add_barrier(event, first.is(&Bare::of(event))),
         }
     }
 

@@ -322,9 +322,8 @@ impl<A: Allocator> Lanes<A> {
         ensures unchanged { OnErr result (self.new ≡ self.old) }
         ensures prefixes { ArePrefixes self.new.streams }
     {
-        match self.refusal(group, &event) {
-            None => {}
-            Some(refusal) => return Err(refusal),
+        if let Some(refusal) = self.refusal(group, &event) {
+            return Err(refusal);
         }
         self.take_accepted(group, &event)?;
         Ok(())

@@ -1,7 +1,7 @@
 use Rattle.std.proofs.Common.{◌≡◌}
 use Rattle.std.proofs.Math.ListN.{replicate}
 use Rattle.gr_lanes.specs.Kept.{nothing_kept}
-use Rattle.gr_lanes.proofs.group.lanes_of.Given as goal
+use Rattle.gr_lanes.proofs.group.begin.Given as goal
 
 abbrev pub invariant-loop-item : goal.invariant-loop-item
-invariant-loop-item g l = l.lanes.items ≡ replicate l._item nothing_kept
+invariant-loop-item g l = l.all.items ≡ replicate l._item nothing_kept
