@@ -1,5 +1,5 @@
 -- All groups' barriers: what a mark more and an ended group change, and the list of the divergences so far.
-use Rattle.std.proofs.Common.{◌≡◌, ℕ, ◌+◌, ◌<◌, ◌≤◌, true, false, List, [], ◌∷◌, ◌++◌, length, get_or, set, sym, arith}
+use Rattle.std.proofs.Common.{◌≡◌, ℕ, ◌+◌, ◌<◌, ◌≤◌, true, false, List, [], ◌∷◌, ◌++◌, length, get_or, set, refl, sym, arith}
 use Rattle.std.proofs.lemmas.Grind.{get_or-set_at}
 use Rattle.std.proofs.lemmas.List.{get_or-set_same, get_or-set_other, length-set, get_or_read, get_or-map, length-map}
 use Rattle.std.proofs.Math.Seq.{map-set_same}
@@ -17,8 +17,8 @@ use Rattle.gr_barriers.proofs.Listing.{group_done, instance_with, instance_witho
 -- ---- another group in its place
 
 -- what is read of a group
-pub group_read : (v : List GroupMarks) (g : ℕ) (x : GroupMarks) → g < length v → x ≡ get_or v g x → x ≡ group_of v g
-group_read v g x there reads = get_or_read v g x there reads (record { marks = []; ended = false })
+pub group_read : {found v : List GroupMarks} → found ≡ v → (g : ℕ) (x : GroupMarks) → g < length v → x ≡ get_or found g x → x ≡ group_of v g
+group_read {v = v} is g x there reads = get_or_read v g x there (rw is at reads) (record { marks = []; ended = false })
 
 module _ (v : List GroupMarks) (g : ℕ) (there : g < length v) (y : GroupMarks) where
   set_sizes : length y.marks ≡ length (group_of v g).marks → sizes_of (set v g y) ≡ sizes_of v
@@ -30,7 +30,7 @@ module _ (v : List GroupMarks) (g : ℕ) (there : g < length v) (y : GroupMarks)
 
 pub group_ends : (v : List GroupMarks) (g : ℕ) (x y : GroupMarks) → g < length v → x ≡ get_or v g x → y ≡ record x { ended = true } → Ends v g (set v g y)
 group_ends v g x y there reads ends =
-    let is : x ≡ group_of v g = group_read v g x there reads in
+    let is : x ≡ group_of v g = group_read refl g x there reads in
     record {
       sizes = set_sizes v g there y (grind arith);
       group = grind (arith, get_or-set_same);
@@ -43,7 +43,7 @@ one_item i j group item = λ d. record { group = sym group d; item = sym item d 
 
 pub item_arrives : (v : List GroupMarks) (i : ItemId) (mark : Mark) (x y : GroupMarks) → i.group < length v → i.item < length (group_of v i.group).marks → x ≡ get_or v i.group x → y ≡ record x { marks = set x.marks i.item (marks_at x i.item ++ mark ∷ []) } → Arrives v i mark (set v i.group y)
 item_arrives v i mark x y there inside reads more =
-    let is : x ≡ group_of v i.group = group_read v i.group x there reads in
+    let is : x ≡ group_of v i.group = group_read refl i.group x there reads in
     record {
       sizes = set_sizes v i.group there y (grind (arith, length-set));
       item = grind (arith, get_or-set_same);

@@ -2,7 +2,7 @@
 //!
 //! The mark with number k of each item belongs to instance k of the group (docs/MODEL.md, "Barriers").
 
-ghost use Rattle.std.specs.Prelude.{◌≡◌, ◌<◌, ◌≤◌, ◌++◌, ◌∷◌, [], true, false, IfOk, OnOk, OnErr, length, replicate, slice_get, slice_index_or, slice_set, ℕ};
+ghost use Rattle.std.specs.Prelude.{◌≡◌, ◌<◌, ◌≤◌, ◌++◌, ◌∷◌, [], true, false, IfOk, OnOk, OnErr, length, replicate, slice_set, ℕ};
 ghost use Rattle.gr_barriers.specs.Arrived.{marks_at, brought, IsState, IsCause};
 ghost use Rattle.gr_barriers.specs.Summaries.{IsSummaryOf, NobodyCame};
 
@@ -32,13 +32,6 @@ impl<A: Allocator> Model for Group<A> {
     ghost view = { λ t. record { marks = map (λ v. v.items) t.marks.items; ended = t.ended } };
 
     ghost invariant = { λ t. AreFew (map (λ v. v.items) t.marks.items) };
-}
-
-/// The mark with this number.
-fn mark_at(marks: &[Mark], number: u32) -> Option<Mark>
-    ensures { result ≡ slice_get marks.now number }
-{
-    marks.get(number as usize).copied()
 }
 
 impl<A: Allocator + Copy> Group<A> {
@@ -98,10 +91,7 @@ impl<A: Allocator> Group<A> {
     fn arrival(&self, item: usize, instance: u32) -> Option<Mark>
         ensures { result ≡ brought self.now instance item }
     {
-        match self.marks.get(item) {
-            None => None,
-            Some(marks) => mark_at(marks, instance),
-        }
+        self.marks.get(item)?.get(instance as usize).copied()
     }
 
     /// How many marks an item has brought.

@@ -4,20 +4,19 @@
 //! divergent once two that came differ, or the group's stream has ended and an item is missing (docs/MODEL.md,
 //! "Barriers"). A call that is refused changes nothing.
 
-ghost use Rattle.std.specs.Prelude.{◌≡◌, ◌≢◌, ◌↔◌, ◌<◌, ◌≤◌, ◌+◌, ℕ, IsOkUnless, IsTrue, IfOk, OnOk, OnErr, length, map};
+ghost use Rattle.std.specs.Prelude.{◌≡◌, ◌↔◌, ◌<◌, ◌≤◌, ◌+◌, ℕ, IsOkUnless, IsTrue, IfOk, OnOk, OnErr, length, map};
 ghost use Rattle.gr_model.specs.Shapes.{HasItem};
 ghost use Rattle.gr_model.specs.Reports.{Lists, DivergenceBelow};
 ghost use Rattle.gr_barriers.specs.declared.instances.BarrierError.TheVariants.{Memory as OutOfMemory};
-ghost use Rattle.gr_barriers.specs.Arrived.{sizes_of, group_of, marks_of, fresh_group, Arrives, Ends, brought, IsState, IsCause, IsDivergence};
+ghost use Rattle.gr_barriers.specs.Arrived.{sizes_of, group_of, marks_of, fresh_group, Arrives, Ends, IsState, IsDivergence};
 ghost use Rattle.gr_barriers.specs.Listings.{AreListedBefore};
-ghost use Rattle.gr_barriers.specs.Summaries.{NobodyCame};
 
 use crate::group::Group;
 use crate::mark::Mark;
 use gr_model::event::ItemId;
 use gr_model::limits::{MOST_GROUPS, MOST_RECORDS};
 use gr_model::memory::Memory;
-use gr_model::report::{Divergence, DivergenceCause};
+use gr_model::report::Divergence;
 use gr_model::shape::Shape;
 use std::alloc::{Allocator, Global};
 use std::marker::Model;
@@ -151,21 +150,9 @@ impl<A: Allocator> Instances<A> {
         if self.has_ended(item.group) {
             return Err(BarrierError::Ended(item.group));
         }
-        let instance = self.add(item, Mark::new(site, global, local))?;
-        Ok(instance)
-    }
-
-    /// Adds a mark of an item.
-    /// Requires: the launch has the item, which has brought fewer than `MOST_RECORDS` barriers.
-    fn add(&mut self, item: ItemId, mark: Mark) -> Result<u32, Memory>
-        requires item { HasItem (sizes_of self.old) item }
-        requires few { length (marks_of self.old item) < MOST_RECORDS }
-        ensures instance { IfOk result (λ k. k ≡ length (marks_of self.old item)) }
-        ensures arrives { OnOk result (Arrives self.old item mark self.new) }
-        ensures err { OnErr result (self.new ≡ self.old) }
-    {
         let barriers = &mut self.groups[item.group as usize];
-        barriers.arrive(item.item, mark)
+        let instance = barriers.arrive(item.item, Mark::new(site, global, local))?;
+        Ok(instance)
     }
 
     /// Ends the stream of a group.
@@ -191,28 +178,7 @@ impl<A: Allocator> Instances<A> {
     pub fn state(&self, group: u16, instance: u32) -> Option<State>
         ensures { IsState (group_of self.now group) instance result }
     {
-        match self.groups.get(group as usize) {
-            None => None,
-            Some(barriers) => barriers.state(instance),
-        }
-    }
-
-    /// Why an instance of a group is divergent, or `None` if it is not.
-    /// Requires: there is such a group.
-    fn cause(&self, group: u16, instance: u32) -> Option<DivergenceCause>
-        requires { group < length self.now }
-        ensures { IsCause (group_of self.now group) instance result }
-    {
-        self.groups[group as usize].cause(instance)
-    }
-
-    /// How many instances of a group some item has come to, at most.
-    /// Requires: there is such a group.
-    fn instances(&self, group: u16) -> u32
-        requires { group < length self.now }
-        ensures { (k : ℕ) → result ≤ k → NobodyCame (length (group_of self.now group).marks) (brought (group_of self.now group) k) }
-    {
-        self.groups[group as usize].instances()
+        self.groups.get(group as usize)?.state(instance)
     }
 
     /// Adds the divergent instances of a group to those of the groups before it.
@@ -222,8 +188,9 @@ impl<A: Allocator> Instances<A> {
         requires before { AreListedBefore (IsDivergence self.now) group 0 list.old.items }
         ensures { OnOk result (AreListedBefore (IsDivergence self.now) (group + 1) 0 list.new.items) }
     {
-        for instance in 0..self.instances(group) {
-            if let Some(cause) = self.cause(group, instance) {
+        let barriers = &self.groups[group as usize];
+        for instance in 0..barriers.instances() {
+            if let Some(cause) = barriers.cause(instance) {
                 list.push(Divergence {
                     group,
                     instance,
