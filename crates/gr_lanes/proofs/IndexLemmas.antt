@@ -1,12 +1,10 @@
 -- What one record more makes of the index of each item.
-use Rattle.std.proofs.Common.{◌≡◌, ℕ, zero, suc, ◌+◌, ◌<◌, ◌≤◌, Bool, true, false, cond, List, [], ◌∷◌, ◌++◌, length, filter, Some, Err, nat_cmp, slice_get, get_or, is_some, refl, ap, ◌∙◌, arith, append-nil, IsTrue}
+use Rattle.std.proofs.Common.{◌≡◌, ℕ, zero, suc, ◌+◌, ◌<◌, ◌≤◌, Bool, true, false, cond, List, [], ◌∷◌, ◌++◌, length, filter, Some, slice_get, get_or, is_some, refl, ap, ◌∙◌, arith, append-nil, IsTrue}
 use Rattle.std.proofs.lemmas.Bool.Decides.{nat_tests}
 use Rattle.std.proofs.lemmas.Grind.{common_steps}
 use Rattle.std.proofs.lemmas.List.{length_push}
 use Rattle.std.proofs.lemmas.List.Elements.{filter-append}
 use Rattle.std.proofs.lemmas.Option.{gets, slice_get-get_or}
-use Rattle.std.proofs.lemmas.List.Sorted.{searched}
-use Rattle.std.specs.List.Sorted.{IsBinarySearchResult}
 use Rattle.gr_model.specs.declared.event.Event.{Event}
 use Rattle.gr_model.specs.declared.event.ItemId.{ItemId}
 use Rattle.gr_model.specs.Events.{is_end, is_end_kind}
@@ -59,11 +57,6 @@ places_rise test i [] a b le within = absurd (omega arith)
 places_rise test i (x ∷ xs) zero b le within = grind (arith, common_steps, at_least test (suc i) xs, places_rise test (suc i) xs)
 places_rise test i (x ∷ xs) (suc a) zero le within = absurd (omega arith)
 places_rise test i (x ∷ xs) (suc a) (suc b) le within = grind (arith, common_steps, places_rise test (suc i) xs)
-
--- a binary search that finds no place finds none because there is none
-pub not_found : (xs : List ℕ) (x i : ℕ) → IsBinarySearchResult (λ y. nat_cmp y x) xs (Err i) → AreRising xs → (k : ℕ) → slice_get xs k ≡ Some x → ⊥
-not_found xs x i search rises k at =
-    let missed = searched xs x (Err i) search rises in grind (arith, gets, missed.1 k, missed.2 k)
 
 -- ---- the records of releases and barriers
 

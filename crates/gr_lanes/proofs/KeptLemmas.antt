@@ -45,6 +45,12 @@ module _ {forgotten : ℕ} {firsts : List Bare} {list : List Event} {i : ℕ} {k
   pub count_read : length (barriers_of list i) ≡ forgotten + length k.barriers
   count_read = count_is ∙ barriers_count at.lane
 
+  pub releases_read : k.index.releases ≡ places_from is_release 0 (filter (is_of i) list)
+  releases_read = ap (λ (t : Index). t.releases) at.index
+
+  pub released_read : k.index.released ≡ filter is_release (filter (is_of i) list)
+  released_read = ap (λ (t : Index). t.released) at.index
+
   pub places_few : (test : Event → Bool) → length (places_from test 0 (filter (is_of i) list)) < 4_294_967_296
   places_few test = omega (arith, few-places test 0 (filter (is_of i) list), length-filter_le (is_of i) list, at.few)
 

@@ -23,6 +23,9 @@ module _ {forgotten : ℕ} {firsts : List Bare} {i : ℕ} {k : Kept} (lane : IsL
   pub said_count : length k.index.barriers ≡ k.alike + length k.apart
   said_count = omega (arith, ap length lane.saying, length-map all_said (of_item i), length-append (take (k.alike - forgotten) firsts) k.apart, length-take-le (k.alike - forgotten) firsts lane.within, length-drop forgotten k.index.arrived, lane.records, lane.passed, lane.least)
 
+  pub alike_few : k.alike ≤ k.index.count
+  alike_few = omega (arith, said_count, lane.few)
+
   pub barrier_at : (n : ℕ) → forgotten ≤ n → slice_get k.barriers (n - forgotten) ≡ slice_get k.index.barriers n
   barrier_at n le = ap (λ l. slice_get l (n - forgotten)) lane.places ∙ (get-drop forgotten k.index.barriers (n - forgotten) ∙ ap (slice_get k.index.barriers) (omega (arith, le)))
 

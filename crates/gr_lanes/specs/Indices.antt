@@ -33,10 +33,6 @@ index_of list item = record {
   arrived = filter is_barrier (filter (is_of item) list);
 }
 
--- the index of an item without events
-abbrev pub no_index : Index
-no_index = record { count = 0; releases = []; barriers = []; released = []; arrived = [] }
-
 -- the list with one more, if so told
 abbrev pub with_if : {X : Type 0} → Bool → List X → X → List X
 with_if told xs x = if told then xs ++ x ∷ [] else xs

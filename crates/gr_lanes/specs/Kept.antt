@@ -5,7 +5,7 @@ use Rattle.gr_lanes.specs.declared.bare.Bare.{Bare}
 use Rattle.gr_model.specs.Barriers.{is_barrier}
 use Rattle.gr_model.specs.Access.{is_release}
 use Rattle.gr_model.specs.Streams.{IsPrefix, Streams, is_complete, is_of, list_of, place_of, places_from, size_of}
-use Rattle.gr_lanes.specs.Indices.{Index, barriers_of, end_in, index_of, no_index, record_of, with_event}
+use Rattle.gr_lanes.specs.Indices.{Index, barriers_of, end_in, index_of, record_of, with_event}
 
 -- what a record says, without its item and the releases that it names
 abbrev pub bare_of : Event → Bare
@@ -26,7 +26,7 @@ pub record Kept : Type 0 where
 
 -- an item without events
 abbrev pub nothing_kept : Kept
-nothing_kept = record { index = no_index; barriers = []; alike = 0; apart = [] }
+nothing_kept = record { index = record { count = 0; releases = []; barriers = []; released = []; arrived = [] }; barriers = []; alike = 0; apart = [] }
 
 -- an item's lane with one more event, which is no barrier, and a release if the flag says so
 abbrev pub kept_with : Kept → Event → Bool → Kept

@@ -197,6 +197,7 @@ impl<A: Allocator> Group<A> {
     }
 
     /// The index of an item's release with this number.
+    #[tactic(auto, using(crate::proofs::KeptLemmas::releases_read))]
     pub(crate) fn release_at(&self, item: u16, number: u32) -> Option<u32>
         ensures { result ≡ slice_get (places_from model.is_release 0 (filter (is_of item) self.now.list)) number }
     {
@@ -212,6 +213,7 @@ impl<A: Allocator> Group<A> {
     }
 
     /// The record of an item's release with this number.
+    #[tactic(auto, using(crate::proofs::KeptLemmas::released_read))]
     pub(crate) fn release_event(&self, item: u16, number: u32) -> Option<Event>
         ensures { result ≡ slice_get (filter model.is_release (filter (is_of item) self.now.list)) number }
     {

@@ -233,6 +233,7 @@ impl<A: Allocator> Lane<A> {
     ///
     /// # Errors
     /// `Memory`: out of memory. All is then as it was.
+    #[tactic(auto, using(crate::proofs::LaneLemmas::alike_few))]
     fn arrive(
         &mut self,
         firsts: &mut VecDeque<Bare, A>,
