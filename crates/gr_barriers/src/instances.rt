@@ -118,10 +118,8 @@ impl<A: Allocator> Instances<A> {
     fn has_ended(&self, group: u16) -> bool
         ensures { result ≡ (group_of self.now group).ended }
     {
-        match self.groups.get(group as usize) {
-            None => false,
-            Some(barriers) => barriers.has_ended(),
-        }
+        let barriers = self.groups.get(group as usize);
+        barriers.is_some_and(|barriers| barriers.has_ended())
     }
 
     /// Adds a barrier of an item, at this site and with these flags. Returns the number of its instance, from 0.
