@@ -161,6 +161,7 @@ impl<A: Allocator> Group<A> {
     }
 
     /// Whether its end was taken.
+    #[tactic(auto, using(crate::proofs::IndexLemmas::end_is_complete))]
     pub(crate) fn is_complete(&self) -> bool
         ensures { result ≡ is_complete self.now.list }
     {
