@@ -1,7 +1,7 @@
 -- Places in an order and in a longer one, and what a lawful order has.
-use Rattle.std.proofs.Common.{◌≡◌, ◌⊎◌, ℕ, zero, suc, ◌+◌, ◌-◌, ◌<◌, List, [], ◌∷◌, ◌++◌, length, Some, slice_get, refl, sym, ap, inl, inr, arith, ◌≤◌, ⊎_elim}
+use Rattle.std.proofs.Common.{◌≡◌, ◌⊎◌, ℕ, suc, ◌+◌, ◌-◌, ◌<◌, List, [], ◌∷◌, ◌++◌, length, Some, slice_get, refl, sym, ap, inl, inr, arith, ◌≤◌, ⊎_elim}
 use Rattle.std.proofs.lemmas.Grind.{common_steps}
-use Rattle.std.proofs.lemmas.Option.{gets, slice_get_within}
+use Rattle.std.proofs.lemmas.Option.{gets, slice_get_cases, slice_get_within}
 use Rattle.gr_model.specs.declared.event.EventId.{EventId}
 use Rattle.gr_model.specs.Barriers.{Together}
 use Rattle.gr_model.specs.Instances.{Mark}
@@ -22,9 +22,7 @@ pub at_behind : {X : Type 0} (xs ys : List X) (i : ℕ) (x : X) → slice_get ys
 at_behind xs ys i x at = grind (arith, common_steps, gets)
 
 pub there_is : {X : Type 0} (xs : List X) (i : ℕ) → i < length xs → (x : X) × (slice_get xs i ≡ Some x)
-there_is [] i lt = absurd (omega arith)
-there_is (x ∷ xs) zero lt = (x, refl)
-there_is (x ∷ xs) (suc i) lt = there_is xs i (omega arith)
+there_is xs i lt = grind (arith, slice_get_cases xs i)
 
 -- ---- events
 
