@@ -54,6 +54,12 @@ module _ {forgotten : ℕ} {firsts : List Bare} {list : List Event} {i : ℕ} {k
   pub places_few : (test : Event → Bool) → length (places_from test 0 (filter (is_of i) list)) < 4_294_967_296
   places_few test = omega (arith, few-places test 0 (filter (is_of i) list), length-filter_le (is_of i) list, at.few)
 
+  pub barriers_read : length (filter is_barrier (filter (is_of i) list)) ≡ forgotten + length k.barriers
+  barriers_read = omega (arith, length-places is_barrier 0 (filter (is_of i) list), count_read)
+
+  pub barriers_few : forgotten + length k.barriers < 4_294_967_296
+  barriers_few = omega (arith, places_few is_barrier, count_read)
+
   pub rising : AreRising k.barriers
   rising a b le within = grind (arith, at.lane.places, at.index, length-drop, get_or-drop, places_rise is_barrier 0 (filter (is_of i) list) (forgotten + a) (forgotten + b))
 
@@ -61,6 +67,12 @@ module _ {forgotten : ℕ} {firsts : List Bare} {list : List Event} {i : ℕ} {k
 module _ {size forgotten : ℕ} {list : List Event} {i : ℕ} (gone : IsGone size forgotten list i) where
   gone_few : length (barriers_of list i) ≤ forgotten
   gone_few = grind (arith, nat_tests, gone.barriers)
+
+  pub gone_inside : i < size → length (filter is_barrier (filter (is_of i) list)) ≡ forgotten
+  gone_inside within = grind (arith, nat_tests, length-places, gone.barriers)
+
+  pub gone_outside : size ≤ i → length (filter is_barrier (filter (is_of i) list)) ≡ 0
+  gone_outside beyond = grind (arith, nat_tests, length-places, gone.barriers)
 
   gone_past : (n : ℕ) → IsKeptOf forgotten list i n → length (barriers_of list i) ≤ n
   gone_past n asked = number_least (length (barriers_of list i)) n (barriers_of list i) (omega arith) (λ p at. omega (arith, gone_few, asked p at))
@@ -73,6 +85,9 @@ module _ {size forgotten : ℕ} {list : List Event} {i : ℕ} (gone : IsGone siz
 
   pub gone_number : (p : ℕ) → IsIndexKeptOf forgotten list i p → (k : ℕ) → slice_get (barriers_of list i) k ≢ Some p
   gone_number p asked k at = omega (arith, slice_get_within (barriers_of list i) k p at, asked k at, gone_few)
+
+-- how many barriers an item has
+pub ruleset barrier_counts = (barriers_read, barriers_few, gone_inside, gone_outside)
 
 -- an item that the group lacks has no events
 lacking : {size : ℕ} (forgotten : ℕ) {list : List Event} → IsPrefix size list → (i : ℕ) → size ≤ i → IsGone size forgotten list i

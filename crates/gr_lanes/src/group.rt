@@ -260,6 +260,7 @@ impl<A: Allocator> Group<A> {
 
     /// How many barriers of an item were taken.
     #[inline(always)]
+    #[tactic(auto, using(crate::proofs::KeptLemmas::barrier_counts))]
     pub(crate) fn barrier_count(&self, item: u16) -> u32
         ensures { result ≡ length (filter model_barriers.is_barrier (filter (is_of item) self.now.list)) }
     {
