@@ -85,10 +85,7 @@ fn fault_of(sizes: &[u16], most_groups: usize, most_items: u16) -> Option<ShapeE
     if let Some(g) = bad_group(sizes, most_items) {
         return Some(ShapeError::BadItems(g as u16));
     }
-    if total_of(sizes) > MOST_ITEMS {
-        return Some(ShapeError::TooManyItems);
-    }
-    None
+    (total_of(sizes) > MOST_ITEMS).then_some(ShapeError::TooManyItems)
 }
 
 impl<A: Allocator> Shape<A> {

@@ -89,10 +89,7 @@ fn list_fault(group: u16, items: u16, list: &[Event]) -> Option<TracesError>
     if let Some(p) = bad_place(list, items) {
         return Some(TracesError::BadEvent(group, p as u32));
     }
-    if !has_end(list) {
-        return Some(TracesError::NoEnd(group));
-    }
-    None
+    (!has_end(list)).then_some(TracesError::NoEnd(group))
 }
 
 /// What is wrong with the lists of a shape's groups.
