@@ -91,10 +91,7 @@ impl<A: Allocator> Row<A> {
     pub(crate) fn get(&self, item: u16, place: u32) -> Option<Event>
         ensures { result ≡ slice_get (slice_index_or self.now item []) place }
     {
-        match self.windows.get(usize::from(item)) {
-            None => None,
-            Some(window) => window.get(place),
-        }
+        self.windows.get(usize::from(item))?.get(place)
     }
 
     /// Forgets the first event of an item.
@@ -102,10 +99,8 @@ impl<A: Allocator> Row<A> {
         requires { item < length self.old }
         ensures { self.new ≡ slice_set self.old item (drop 1 (slice_index_or self.old item [])) }
     {
-        let place = usize::from(item);
-        if place < self.windows.len() {
-            let only = self.windows[place].pop_first();
-            self.busy -= u16::from(only);
+        if let Some(window) = self.windows.get_mut(usize::from(item)) {
+            self.busy -= u16::from(window.pop_first());
         }
     }
 
@@ -114,10 +109,8 @@ impl<A: Allocator> Row<A> {
         requires { item < length self.old }
         ensures { self.new ≡ slice_set self.old item (take (length (slice_index_or self.old item []) - 1) (slice_index_or self.old item [])) }
     {
-        let place = usize::from(item);
-        if place < self.windows.len() {
-            let only = self.windows[place].pop_last();
-            self.busy -= u16::from(only);
+        if let Some(window) = self.windows.get_mut(usize::from(item)) {
+            self.busy -= u16::from(window.pop_last());
         }
     }
 

@@ -64,10 +64,9 @@ impl<A: Allocator> Windows<A> {
     pub fn waiting(&self, item: ItemId, place: u32) -> Option<Event>
         ensures { result ≡ slice_get (window_of self.now item) place }
     {
-        match self.rows.get(usize::from(item.group)) {
-            None => None,
-            Some(row) => row.get(item.item, place),
-        }
+        self.rows
+            .get(usize::from(item.group))?
+            .get(item.item, place)
     }
 
     /// Adds an event of an item after the others.
@@ -81,8 +80,7 @@ impl<A: Allocator> Windows<A> {
         ensures ok { OnOk result (Changes self.old item (window_of self.old item ++ event.now ∷ []) self.new) }
         ensures err { OnErr result (self.new ≡ self.old) }
     {
-        self.rows[usize::from(item.group)].push(item.item, event)?;
-        Ok(())
+        self.rows[usize::from(item.group)].push(item.item, event)
     }
 
     /// Forgets the first event of an item.
