@@ -47,12 +47,9 @@ module _ (s : Streams) (f : EventId) (names : List Name) (word : Option Word) (n
 -- ---- one item
 
 module _ (s : Streams) where
-  one_event : (e f : EventId) → IsUnmatchedAcquire s e → IsUnmatchedAcquire s f → e.at ≡ f.at → e ≡ f
-  one_event e f a b at = grind (arith, same_event e f, a.before f, b.before e, a.held, b.held)
-
   pub one_acquire : (u v : Unmatched) → IsUnmatchedEntry s u → IsUnmatchedEntry s v → u.event.at ≡ v.event.at → u ≡ v
   one_acquire u v a b at =
-      let event = one_event u.event v.event a.unmatched b.unmatched at in
+      let event : u.event ≡ v.event = grind (arith, same_event u.event v.event, a.unmatched.before v.event, b.unmatched.before u.event, a.unmatched.held, b.unmatched.held) in
       let cause = one_cause s v.event u.cause v.cause (rw event at a.cause) b.cause in
       λ d. record { event = event d; cause = cause d }
 

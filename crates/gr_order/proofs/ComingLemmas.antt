@@ -10,7 +10,6 @@ use Rattle.gr_model.specs.Streams.{ArePrefixes, Streams}
 use Rattle.gr_model.proofs.GroupLaws.{group_grows, list_stays, prefixes_with_group}
 use Rattle.gr_steps.proofs.StepGrowth.{lawful_grows}
 use Rattle.gr_clocks.specs.Counts.{AddsCounts, Counts, count_of}
-use Rattle.gr_clocks.specs.Tables.{item_of}
 use Rattle.gr_windows.specs.Windows.{AddsItems, Table}
 use Rattle.gr_order.specs.Sequences.{Sequence}
 use Rattle.gr_order.specs.Waiting.{IsKept}
@@ -19,10 +18,6 @@ use Rattle.gr_order.proofs.SumLemmas.{items_put, items_same, sum_put_again}
 module _ {q : Sequence} {frontier : Counts} {windows : Table} {held : ℕ} (kept : IsKept q frontier windows held) (g n : ℕ) (can : CanAdd q.taken g n) where
   prefixes : ArePrefixes q.taken
   prefixes = kept.state.sequence.prefixes
-
-  -- nothing of the group is counted
-  none_counted : (k : ℕ) → count_of frontier (item_of g k) ≡ 0
-  none_counted k = grind (arith, get_or_past, get_or-map length frontier g [], kept.state.shape, can.none)
 
   module _ (new : Streams) (is : new ≡ model.with_group q.taken g n) (counts : Counts) (adds : AddsCounts frontier g n counts) (waiting : Table) (more : AddsItems windows g n waiting) where
     pub kept_with_group : IsKept (record { taken = new; handled = q.handled }) counts waiting held
@@ -34,7 +29,7 @@ module _ {q : Sequence} {frontier : Counts} {windows : Table} {held : ℕ} (kept
         };
         shape = adds.shape ∙ ap (λ (l : List ℕ). put 0 l g n) kept.state.shape;
         first = λ e. subst (λ m. IsIn q.handled e ↔ (e.index < m)) (sym (adds.counts e.at)) (kept.state.first e);
-        counts = items_same (count_of frontier) (count_of counts) (put 0 q.taken.sizes g n) (λ i has. adds.counts i) ∙ (items_put (count_of frontier) q.taken.sizes g n can.none none_counted ∙ kept.state.counts);
+        counts = items_same (count_of frontier) (count_of counts) (put 0 q.taken.sizes g n) (λ i has. adds.counts i) ∙ (items_put (count_of frontier) q.taken.sizes g n can.none (λ k. grind (arith, get_or_past, get_or-map length frontier g [], kept.state.shape, can.none)) ∙ kept.state.counts);
         rest = omega (arith, kept.state.rest, sum_put_again (λ list. length (filter (λ x. not (is_end x)) list)) q.taken.lists g refl);
       };
       waits = record {

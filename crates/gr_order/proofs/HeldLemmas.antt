@@ -1,5 +1,5 @@
 -- What was taken is handled or held, and what is ready is held.
-use Rattle.std.proofs.Common.{◌≡◌, ◌≢◌, ℕ, ◌+◌, ◌-◌, ◌<◌, ◌≤◌, cond, length, refl, sym, subst, arith}
+use Rattle.std.proofs.Common.{◌≡◌, ◌≢◌, ℕ, ◌+◌, ◌-◌, ◌<◌, ◌≤◌, cond, length, refl, subst, arith}
 use Rattle.std.proofs.lemmas.Grind.{common_steps}
 use Rattle.std.specs.List.{sum_by}
 use Rattle.std.specs.Prelude.{◌==◌}
@@ -33,15 +33,14 @@ module _ {q : Sequence} {frontier : Counts} {held : ℕ} (state : IsOrderState q
   pub taken_first : (i : ItemId) → counts i ≤ traces i
   taken_first i = grind (arith, common_steps, state.first (record { at = i; index = traces i }), state.sequence.lawful.event, slice_get_within)
 
-  held_sum : held ≡ sum_by (λ i. traces i - counts i) (items_of q.taken.sizes)
-  held_sum = omega (arith, items_at_most counts traces q.taken.sizes (λ i there. taken_first i), taken_events q.taken state.sequence.prefixes, state.counts, state.rest)
-
   pub held_most : held ≤ 1099494850560
   held_most = let most = events_most q.taken state.sequence.prefixes in let rest = state.rest in omega arith
 
   -- where no step is left, the held events are those that are not grounded
   pub held_at : IsAtRest q.taken q.handled → IsHeld q.taken held
-  held_at rest = subst (IsHeld q.taken) (sym held_sum) (held_at_rest q.taken q.handled state.sequence.lawful (rest_grounded q.taken q.handled state.sequence.lawful rest) counts state.first)
+  held_at rest =
+      let sum : sum_by (λ i. traces i - counts i) (items_of q.taken.sizes) ≡ held = omega (arith, items_at_most counts traces q.taken.sizes (λ i there. taken_first i), taken_events q.taken state.sequence.prefixes, state.counts, state.rest) in
+      subst (IsHeld q.taken) sum (held_at_rest q.taken q.handled state.sequence.lawful (rest_grounded q.taken q.handled state.sequence.lawful rest) counts state.first)
 
   -- n events more that were taken are held
   are_held : (more : ItemId → ℕ) (n : ℕ) → ((i : ItemId) → HasItem q.taken.sizes i → more i ≤ traces i) → sum_by more (items_of q.taken.sizes) ≡ sum_by counts (items_of q.taken.sizes) + n → n ≤ held

@@ -1,7 +1,8 @@
 -- The next instance of a group, by the next events of its items.
-use Rattle.std.proofs.Common.{◌≡◌, ℕ, ◌<◌, ◌≤◌, List, Some, None, Option, length, refl, ap, ◌∙◌, subst, arith}
+use Rattle.std.proofs.Common.{Bool, IsTrue, ◌↔◌, ◌≢◌, false, sym, true, true≢false, ◌≡◌, ℕ, ◌<◌, ◌≤◌, List, Some, None, Option, length, refl, ap, ◌∙◌, subst, arith}
 use Rattle.std.proofs.lemmas.Grind.{common_steps}
-use Rattle.std.specs.Prelude.{MatchOption}
+use Rattle.std.specs.Bool.{then_some}
+use Rattle.std.specs.Prelude.{IsSome, MatchOption}
 use Rattle.std.proofs.lemmas.List.{get_or_past}
 use Rattle.gr_model.specs.declared.event.Event.{Event}
 use Rattle.gr_model.specs.declared.event.EventId.{EventId}
@@ -32,12 +33,17 @@ module _ (s : Streams) (frontier : Counts) (g : ℕ) where
     pub come : HasCome s g number x
     come = come_of s prefixes (next_event frontier (item_of g 0)) x at number place
 
-    pub next_if : ((i : ℕ) → i < size_of s g → StandsNext s frontier g number (mark_of x) i) → IsNextInstance s frontier g number
+    next_if : ((i : ℕ) → i < size_of s g → StandsNext s frontier g number (mark_of x) i) → IsNextInstance s frontier g number
     next_if all = let mark = some_mark (mark_of x) come.barrier in
         record { mark = mark.0; some = item_of_event s prefixes (next_event frontier (item_of g 0)) x at; each = λ i lt. subst (λ o. StandsNext s frontier g number o i) mark.1 (all i lt) }
 
-    pub next_only : (k : ℕ) → IsNextInstance s frontier g k → (i : ℕ) → i < size_of s g → StandsNext s frontier g number (mark_of x) i
+    next_only : (k : ℕ) → IsNextInstance s frontier g k → (i : ℕ) → i < size_of s g → StandsNext s frontier g number (mark_of x) i
     next_only k h i lt = grind (arith, h.each 0 h.some, h.each i lt, barrier_mark 0 (trace_of s (item_of g 0)) number (count_of frontier (item_of g 0)) place, at, places_from-once is_barrier 0 (trace_of s (item_of g 0)) (count_of frontier (item_of g 0)) k number)
+
+    -- so it is known whether it is
+    pub next_known : (b : Bool) → IsTrue b ↔ ((i : ℕ) → i < size_of s g → StandsNext s frontier g number (mark_of x) i) → MatchOption (then_some b number) ((k : ℕ) → ¬ IsNextInstance s frontier g k) (λ k. IsNextInstance s frontier g k)
+    next_known false is = λ k h. true≢false (sym (is.1 (next_only k h)))
+    next_known true is = next_if (is.0 refl)
 
 -- ---- that instance is the one that may meet
 
@@ -85,11 +91,13 @@ module _ (s : Streams) (order : List EventId) (frontier : Counts) (first_ones : 
     next : IsNextInstance s frontier g can.0
     next = meets_next can.0 can.1 can.2
 
-    pub is_numbered : ((k : ℕ) → place_of s is_barrier (item_of g 0) k ≡ Some (count_of frontier (item_of g 0)) → ⊥) → ⊥
-    is_numbered none = none can.0 (next.each 0 next.some).place
+    module _ (n : ℕ) (count : n ≡ count_of frontier (item_of g 0)) where
+      pub is_numbered : (o : Option ℕ) → MatchOption o ((k : ℕ) → place_of s is_barrier (item_of g 0) k ≢ Some n) (λ k. place_of s is_barrier (item_of g 0) k ≡ Some n) → IsSome o
+      is_numbered None none = absurd (none can.0 ((next.each 0 next.some).place ∙ ap Some (sym count)))
+      is_numbered (Some k) _ = refl
 
-    pub numbered_meets : (number : ℕ) → place_of s is_barrier (item_of g 0) number ≡ Some (count_of frontier (item_of g 0)) → (a : Mark) × IsMeeting s order g number a
-    numbered_meets number place = grind (arith, can, next.each 0 next.some, places_from-once is_barrier 0 (trace_of s (item_of g 0)) (count_of frontier (item_of g 0)) can.0 number)
+      pub numbered_meets : (number : ℕ) → place_of s is_barrier (item_of g 0) number ≡ Some n → (a : Mark) × IsMeeting s order g number a
+      numbered_meets number place = grind (arith, can, next.each 0 next.some, places_from-once is_barrier 0 (trace_of s (item_of g 0)) (count_of frontier (item_of g 0)) can.0 number)
 
 pub no_group_meets : (s : Streams) (order : List EventId) (g : ℕ) → length s.sizes ≤ g → ¬ CanMeet s order g
 no_group_meets s order g past can = grind (arith, can.2.convergent.0, get_or_past s.sizes g 0 past)

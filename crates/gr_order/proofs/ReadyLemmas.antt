@@ -1,7 +1,8 @@
 -- Instances and releases, by what is looked at.
-use Rattle.std.proofs.Common.{Contains, ◌≡◌, ℕ, ◌<◌, false, List, [], Some, None, refl, sym, ap, ◌∙◌, subst, arith, option_and_then}
+use Rattle.std.proofs.Common.{Bool, Contains, IsTrue, ◌↔◌, true, true≢false, ◌≡◌, ℕ, ◌<◌, false, List, [], Some, None, refl, sym, ap, ◌∙◌, subst, arith, option_and_then}
 use Rattle.std.proofs.lemmas.Grind.{common_steps}
-use Rattle.std.specs.Prelude.{All}
+use Rattle.std.specs.Bool.{then_some}
+use Rattle.std.specs.Prelude.{All, MatchOption}
 use Rattle.std.proofs.lemmas.List.Elements.{All-contains, All-contains_itself, All-weaker}
 use Rattle.gr_model.specs.declared.event.Event.{Event}
 use Rattle.gr_model.specs.Barriers.{IsDivergent, StandsIn, is_barrier}
@@ -90,5 +91,7 @@ module _ (s : Streams) (order : List EventId) (lawful : IsLawful s order) (front
       ready.instance,
     )
 
-    pub not_next : ¬ (AreReleased s frontier e.at.group x × MayPass s e) → ¬ CanHandle s order e.at
-    not_next not_ready can = not_ready (ready_only (only_next can))
+    -- so it is known whether it is ready
+    pub ready_next : (b : Bool) → IsTrue b ↔ (AreReleased s frontier e.at.group x × MayPass s e) → MatchOption (then_some b e) (¬ CanHandle s order e.at) (λ d. (d.at ≡ e.at) × IsReady s order d)
+    ready_next false is = λ can. true≢false (sym (is.1 (ready_only (only_next can))))
+    ready_next true is = let parts = is.0 refl in (refl, ready_if parts.0 parts.1)

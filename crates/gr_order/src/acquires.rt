@@ -5,7 +5,7 @@
 
 ghost use Rattle.std.specs.Prelude.{◌≡◌, ◌≢◌, ◌↔◌, ◌<◌, ◌+◌, Any, IfOk, IsTrue, MatchOption, OnOk, Some, length};
 ghost use Rattle.gr_model.specs.declared.report.Unmatched.{Unmatched as Finding};
-ghost use Rattle.gr_model.specs.Names.{HasAcquireCause, IsAbsent, names_at, release_place};
+ghost use Rattle.gr_model.specs.Names.{HasAcquireCause, IsAbsent, names_at};
 ghost use Rattle.gr_model.specs.Streams.{word_at};
 ghost use Rattle.gr_model.specs.Reports.{IsUnmatchedEntry, Lists, UnmatchedBelow};
 ghost use Rattle.gr_windows.specs.Windows.{AreWaiting};
@@ -19,14 +19,6 @@ use gr_model::report::{AcquireCause, Unmatched};
 use gr_windows::windows::Windows;
 use std::alloc::Allocator;
 
-/// The word of the release of this name, which has this index.
-fn release_word<B: Allocator>(lanes: &Lanes<B>, name: Name, index: u32) -> Option<Word>
-    requires { release_place lanes.now.streams name ≡ Some index }
-    ensures { result ≡ word_at lanes.now.streams (record { at = name.at; index = index }) }
-{
-    lanes.release_word(name)
-}
-
 /// Whether there is no release of this name.
 fn is_absent<B: Allocator>(lanes: &Lanes<B>, name: Name) -> bool
     ensures { IsTrue result ↔ IsAbsent lanes.now.streams name }
@@ -35,12 +27,13 @@ fn is_absent<B: Allocator>(lanes: &Lanes<B>, name: Name) -> bool
 }
 
 /// Whether the release of this name is there, with a word other than this.
+#[tactic(auto, using(gr_lanes::proofs::IndexLemmas::record_is))]
 fn is_elsewhere<B: Allocator>(lanes: &Lanes<B>, name: Name, word: Option<Word>) -> bool
     ensures { IsTrue result ↔ IsElsewhere lanes.now.streams word name }
 {
     match lanes.release_at(name) {
         None => false,
-        Some(index) => release_word(lanes, name, index) != word,
+        Some(_) => lanes.release_word(name) != word,
     }
 }
 
@@ -89,19 +82,15 @@ fn unmatched_of<B: Allocator>(
     requires grounded { IsGroundedFrontier lanes.now.streams frontier.now }
     ensures { MatchOption result ((u : Finding) → IsUnmatchedEntry lanes.now.streams u → u.event.at ≢ item) (λ u. (u.event.at ≡ item) × IsUnmatchedEntry lanes.now.streams u) }
 {
-    let event = EventId {
-        at: item,
-        index: frontier.get(item),
-    };
+    let index = frontier.get(item);
+    let event = EventId { at: item, index };
     let taken = windows.waiting(item, 0)?;
     let names = taken.names.as_slice();
     if names.is_empty() {
         return None;
     }
-    Some(Unmatched {
-        event,
-        cause: cause(lanes, event, names, word_of(item.group, &taken)),
-    })
+    let cause = cause(lanes, event, names, word_of(item.group, &taken));
+    Some(Unmatched { event, cause })
 }
 
 /// Adds the unmatched acquires of a group to those of the groups before it.

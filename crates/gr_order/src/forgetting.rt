@@ -82,12 +82,11 @@ fn forget_passed<A: Allocator>(lanes: &mut Lanes<A>, frontier: &Tally<A>, group:
     match cause(lanes, group, instance) {
         None => lanes.forget(group),
         Some(cause) => {
-            let divergence = Divergence {
+            let _ = lanes.decide(Divergence {
                 group,
                 instance,
                 cause,
-            };
-            let _ = lanes.decide(divergence);
+            });
         }
     }
 }

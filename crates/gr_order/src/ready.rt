@@ -162,9 +162,5 @@ pub(crate) fn next_instance<A: Allocator>(
     let event = EventId { at: first, index };
     let mine = windows.waiting(first, 0)?;
     let number = lanes.barrier_number(event)?;
-    if all_stand_next(lanes, frontier, group, number, &mine) {
-        Some(number)
-    } else {
-        None
-    }
+    all_stand_next(lanes, frontier, group, number, &mine).then_some(number)
 }

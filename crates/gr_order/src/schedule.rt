@@ -96,9 +96,8 @@ impl<A: Allocator + Copy> Schedule<A> {
         requires whole { IsWhole lanes }
         ensures { IfOk result (λ o. o ≡ nothing lanes.streams.sizes) }
     {
-        let frontier = match Tally::new(alloc, lanes.shape()) {
-            Ok(clock) => clock,
-            Err(_) => return Err(Memory),
+        let Ok(frontier) = Tally::new(alloc, lanes.shape()) else {
+            return Err(Memory);
         };
         let windows = Windows::new(alloc, lanes.shape())?;
         let handled = History::new();
@@ -135,9 +134,8 @@ impl<A: Allocator + Copy> Schedule<A> {
         if lagging.len() <= usize::from(group) {
             lagging.resize(usize::from(group) + 1, 0)?;
         }
-        let frontier = match frontier.with_group(alloc, group, items) {
-            Ok(counts) => counts,
-            Err(_) => return Err(Memory),
+        let Ok(frontier) = frontier.with_group(alloc, group, items) else {
+            return Err(Memory);
         };
         let windows = windows.with_group(alloc, group, items)?;
         let lanes = lanes.with_group(alloc, group, items)?;
@@ -214,10 +212,8 @@ impl<A: Allocator> Schedule<A> {
         ensures next { (result.at ≡ item) × IsReady self.now.taken self.now.handled result }
         ensures sequence { IsSequence self.now }
     {
-        EventId {
-            at: item,
-            index: self.frontier.get(item),
-        }
+        let index = self.frontier.get(item);
+        EventId { at: item, index }
     }
 
     /// The event of an item that may be handled, if there is one.
@@ -229,11 +225,7 @@ impl<A: Allocator> Schedule<A> {
         let index = self.frontier.get(item);
         let event = EventId { at: item, index };
         let taken = self.windows.waiting(item, 0)?;
-        if is_ready(&self.lanes, &self.frontier, event, &taken) {
-            Some(event)
-        } else {
-            None
-        }
+        is_ready(&self.lanes, &self.frontier, event, &taken).then_some(event)
     }
 
     /// Whether an item's next event was taken, is no barrier and names no releases: then it may be handled. `next` also finds the
@@ -267,10 +259,8 @@ impl<A: Allocator> Schedule<A> {
     {
         let first = ItemId { group, item: 0 };
         let index = self.frontier.get(first);
-        match self.lanes.barrier_number(EventId { at: first, index }) {
-            None => unreachable!(),
-            Some(instance) => instance,
-        }
+        let event = EventId { at: first, index };
+        self.lanes.barrier_number(event).unwrap()
     }
 
     /// The event that a group's record becomes when it is taken, if it may be taken and its event can then be handled at once: it is
@@ -290,10 +280,8 @@ impl<A: Allocator> Schedule<A> {
         if self.lanes.taken(group) == 0 {
             return None;
         }
-        let at = ItemId {
-            group,
-            item: event.item,
-        };
+        let item = event.item;
+        let at = ItemId { group, item };
         match self.windows.waiting(at, 0) {
             None => Some(EventId {
                 at,
@@ -311,10 +299,8 @@ impl<A: Allocator> Schedule<A> {
         ensures step { HandlesEvent (taking self.old group event) (next_of self.old.taken group event) self.new }
         ensures sequence { IsSequence self.new }
     {
-        let at = ItemId {
-            group,
-            item: event.item,
-        };
+        let item = event.item;
+        let at = ItemId { group, item };
         let index = self.frontier.get(at);
         self.lanes.take_access(group, &event);
         self.handled.push(&EventId { at, index });
@@ -355,17 +341,13 @@ impl<A: Allocator> Schedule<A> {
         }
         let more = !event.kind.is_end();
         keep(&mut self.windows, group, &event)?;
-        match self.lanes.take_accepted(group, &event) {
-            Ok(()) => {
-                self.held += u64::from(more);
-                let _ = self.close(group);
-                Ok(())
-            }
-            Err(Memory) => {
-                forget(&mut self.windows, group, &event);
-                Err(SeqError::Memory)
-            }
-        }
+        let Ok(()) = self.lanes.take_accepted(group, &event) else {
+            forget(&mut self.windows, group, &event);
+            return Err(SeqError::Memory);
+        };
+        self.held += u64::from(more);
+        let _ = self.close(group);
+        Ok(())
     }
 
     /// Handles an item's next event, if all that it waits for was handled and it is no barrier of a convergent or waiting instance.
@@ -379,9 +361,7 @@ impl<A: Allocator> Schedule<A> {
         ensures unchanged { OnErr result (self.new ≡ self.old) }
         ensures sequence { IsSequence self.new }
     {
-        let Some(event) = self.next(item) else {
-            return Err(GoError::NotReady);
-        };
+        let event = self.next(item).ok_or(GoError::NotReady)?;
         self.handle_event(event);
         Ok(event)
     }
@@ -389,10 +369,9 @@ impl<A: Allocator> Schedule<A> {
     /// Whether an item's next event was taken and is a barrier.
     #[inline(always)]
     fn is_at_barrier(&self, item: ItemId) -> bool {
-        match self.windows.waiting(item, 0) {
-            None => false,
-            Some(event) => is_barrier(&event),
-        }
+        self.windows
+            .waiting(item, 0)
+            .is_some_and(|event| is_barrier(&event))
     }
 
     /// Handles an event that may be handled. No more is forgotten.

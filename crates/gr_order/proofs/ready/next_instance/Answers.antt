@@ -1,8 +1,8 @@
-use Rattle.std.proofs.Common.{arith, ◌∙◌, refl, sym, true≢false}
+use Rattle.std.proofs.Common.{arith, refl}
 use Rattle.gr_clocks.specs.Tables.{item_of}
 use Rattle.gr_order.proofs.ForgetLemmas.{next_remembered}
 use Rattle.gr_order.proofs.WaitLemmas.{first_is}
-use Rattle.gr_order.proofs.MeetLemmas.{come, first_there, next_if, next_only}
+use Rattle.gr_order.proofs.MeetLemmas.{come, first_there, next_known}
 use Rattle.gr_order.proofs.ready.next_instance.Goals as goal
 
 pub returns-in_err-mine : goal.returns-in_err-mine
@@ -22,14 +22,9 @@ all_stand_next-requires-clause-come g c =
     let at = first_is c.requires.waiting (item_of c.args.group 0) refl c.waiting.ensures c.in_ok-mine.was in
     come c.args.lanes.now.streams c.args.frontier.now c.args.group c.requires.prefixes c.in_ok-mine.mine at c.in_ok-number.number c.get-index.result c.in_ok-number.ensures c.get-index.ensures.count
 
-pub returns-then-all_stand_next : goal.returns-then-all_stand_next
-returns-then-all_stand_next g c =
+pub returns : goal.returns
+returns g c =
     let at = first_is c.requires.waiting (item_of c.args.group 0) refl c.waiting.ensures c.in_ok-mine.was in
-    next_if c.args.lanes.now.streams c.args.frontier.now c.args.group c.requires.prefixes c.in_ok-mine.mine at c.in_ok-number.number c.get-index.result c.in_ok-number.ensures c.get-index.ensures.count
-    (c.all_stand_next.ensures.0 c.if-all_stand_next.true)
-
-pub returns-else-all_stand_next : goal.returns-else-all_stand_next
-returns-else-all_stand_next g c k h =
-    let at = first_is c.requires.waiting (item_of c.args.group 0) refl c.waiting.ensures c.in_ok-mine.was in
-    let all = next_only c.args.lanes.now.streams c.args.frontier.now c.args.group c.requires.prefixes c.in_ok-mine.mine at c.in_ok-number.number c.get-index.result c.in_ok-number.ensures c.get-index.ensures.count k h in
-    true≢false (sym (c.all_stand_next.ensures.1 all) ∙ c.if-all_stand_next.false)
+    rw c.then_some.ensures
+    (next_known c.args.lanes.now.streams c.args.frontier.now c.args.group c.requires.prefixes c.in_ok-mine.mine at c.in_ok-number.number c.get-index.result c.in_ok-number.ensures c.get-index.ensures.count
+    c.all_stand_next.result c.all_stand_next.ensures)

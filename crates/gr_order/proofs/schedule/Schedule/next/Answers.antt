@@ -1,6 +1,6 @@
 use Rattle.gr_order.proofs.ForgetLemmas.{next_remembered}
-use Rattle.std.proofs.Common.{arith, ◌∙◌, refl, sym, true≢false}
-use Rattle.gr_order.proofs.ReadyLemmas.{none_next, not_next, ready_if}
+use Rattle.std.proofs.Common.{arith}
+use Rattle.gr_order.proofs.ReadyLemmas.{none_next, ready_next}
 use Rattle.gr_order.proofs.WaitLemmas.{first_is}
 use Rattle.gr_order.proofs.schedule.Schedule.next.Goals as goal
 
@@ -15,14 +15,7 @@ pub returns-in_err-taken-clause-next : goal.returns-in_err-taken-clause-next
 returns-in_err-taken-clause-next g c =
     rw (c.from_residual.ensures, ← c.self.view_is) (none_next c.self.inside.lanes.streams c.self.inside.handled c.self.invariant.kept.state.sequence.lawful c.self.inside.frontier c.self.invariant.kept.state.first (record { at = c.args.item; index = c.get-index.result }) c.get-index.ensures.count (first_is c.self.invariant.kept.waits c.args.item c.get-index.ensures.count c.waiting.ensures c.in_err-taken.was))
 
-pub returns-else-is_ready-clause-next : goal.returns-else-is_ready-clause-next
-returns-else-is_ready-clause-next g c =
-    let none = not_next c.self.inside.lanes.streams c.self.inside.handled c.self.invariant.kept.state.sequence.lawful c.self.inside.frontier c.self.invariant.kept.state.first (record { at = c.args.item; index = c.get-index.result }) c.get-index.ensures.count c.in_ok-taken.taken (first_is c.self.invariant.kept.waits c.args.item c.get-index.ensures.count c.waiting.ensures c.in_ok-taken.was)
-    (λ ready. true≢false (sym (c.is_ready.ensures.1 ready) ∙ c.if-is_ready.false)) in
-    rw (← c.self.view_is) none
-
-pub returns-then-is_ready-clause-next : goal.returns-then-is_ready-clause-next
-returns-then-is_ready-clause-next g c =
-    let parts = c.is_ready.ensures.0 c.if-is_ready.true in
-    let ready = ready_if c.self.inside.lanes.streams c.self.inside.handled c.self.invariant.kept.state.sequence.lawful c.self.inside.frontier c.self.invariant.kept.state.first (record { at = c.args.item; index = c.get-index.result }) c.get-index.ensures.count c.in_ok-taken.taken (first_is c.self.invariant.kept.waits c.args.item c.get-index.ensures.count c.waiting.ensures c.in_ok-taken.was) parts.0 parts.1 in
-    (refl, rw (← c.self.view_is) ready)
+pub returns-clause-next : goal.returns-clause-next
+returns-clause-next g c =
+    let known = ready_next c.self.inside.lanes.streams c.self.inside.handled c.self.invariant.kept.state.sequence.lawful c.self.inside.frontier c.self.invariant.kept.state.first (record { at = c.args.item; index = c.get-index.result }) c.get-index.ensures.count c.in_ok-taken.taken (first_is c.self.invariant.kept.waits c.args.item c.get-index.ensures.count c.waiting.ensures c.in_ok-taken.was) c.is_ready.result c.is_ready.ensures in
+    rw (c.then_some.ensures, ← c.self.view_is) known

@@ -15,8 +15,8 @@ overflow_add-self g c =
     let more : c.from.result ≡ from_bool (not (is_end c.args.event)) = c.from.ensures ∙ ap (λ b. from_bool (not b)) c.is_end-more.ensures in
     omega (arith, most, more, one_at_most (not (is_end c.args.event)))
 
-pub invariant_of-self-in-Ok : goal.invariant_of-self-in-Ok
-invariant_of-self-in-Ok g c =
+pub invariant_of-self-2 : goal.invariant_of-self-2
+invariant_of-self-2 g c =
     let more : c.from.result ≡ from_bool (not (is_end c.args.event)) = c.from.ensures ∙ ap (λ b. from_bool (not b)) c.is_end-more.ensures in record {
       kept = record {
         state = took c.self.invariant.kept.state c.args.group c.args.event c.take_accepted.new.self.streams c.take_accepted.ensures.prefixes c.in_default.ensures.fault (ap (λ (r : Remembered). r.streams) c.in-Ok.ensures.ok) (c.self.inside.held + c.from.result) (ap (λ (n : ℕ). c.self.inside.held + n) more);
@@ -25,9 +25,9 @@ invariant_of-self-in-Ok g c =
       forgets = forgets_taken c.self.inside.lanes c.take_accepted.new.self c.args.group c.args.event c.self.invariant.kept.state.sequence.prefixes c.in_default.ensures.fault c.in-Ok.ensures.ok c.take_accepted.ensures.prefixes c.self.inside.frontier c.self.inside.frontier (λ i. omega arith) c.self.invariant.forgets;
     }
 
-pub invariant_of-self-in-Err : goal.invariant_of-self-in-Err
-invariant_of-self-in-Err g c =
-    rw c.in-Err.ensures.unchanged (record {
+pub invariant_of-self-in_default-take_accepted : goal.invariant_of-self-in_default-take_accepted
+invariant_of-self-in_default-take_accepted g c =
+    rw c.in_default-take_accepted.ensures.unchanged (record {
       kept = record { state = c.self.invariant.kept.state; waits = waits_again c.self.invariant.kept c.forget.new.windows (c.forget.ensures c.self.inside.windows c.in_ok-keep.ensures.ok) };
       forgets = c.self.invariant.forgets;
     })

@@ -1,7 +1,0 @@
-use Rattle.std.proofs.Common.{◌∙◌, ap, option_and_then}
-use Rattle.gr_model.specs.Access.{event_word, is_release}
-use Rattle.gr_lanes.proofs.IndexLemmas.{record_is}
-use Rattle.gr_order.proofs.acquires.release_word.Goals as goal
-
-pub returns : goal.returns
-returns g c = c.release_word.ensures ∙ ap (option_and_then (event_word c.args.name.at.group)) (record_is c.args.lanes.now.streams is_release c.args.name.at c.args.name.release c.args.index c.requires)
