@@ -3,8 +3,8 @@
 //! Invariant: each step that can be made is in the list, unless memory was too short. Each item whose next event names releases
 //! that were not handled is in the list, or waits for one of these releases. The instances noted as undiverged are not divergent.
 
-ghost use Rattle.std.specs.Prelude.{[], ◌≡◌, ◌↔◌, ◌<◌, All, Contains, IfErr, IfOk, IfSome, IsSomeAnd, IsTrue, MatchOption, OnErr, OnOk};
-ghost use Rattle.std.specs.Prelude.{Some, length, slice_get, ℕ};
+ghost use Rattle.std.specs.Prelude.{[], ◌≡◌, ◌↔◌, ◌<◌, All, Contains, IfErr, IfOk, IfSome, IsSomeAnd, IsTrue, MatchOption};
+ghost use Rattle.std.specs.Prelude.{OnErr, OnOk, Some, length, slice_get, ℕ};
 ghost use Rattle.gr_model.specs.declared.event.EventId.{EventId as AnyEvent};
 ghost use Rattle.gr_model.specs.declared.event.ItemId.{ItemId as AnyItem};
 ghost use Rattle.gr_model.specs.declared.event.Name.{Name as AnyName};
@@ -63,10 +63,8 @@ fn name_of<A: Allocator>(order: &Schedule<A>, event: EventId) -> Option<Name>
     ensures { (n : AnyName) → n.at ≡ event.at → release_place order.now.taken n ≡ Some event.index → result ≡ Some n }
 {
     let release = order.lanes().release_number(event)?;
-    Some(Name {
-        at: event.at,
-        release,
-    })
+    let at = event.at;
+    Some(Name { at, release })
 }
 
 /// The lists for the items that wait.
@@ -410,10 +408,8 @@ impl<A: Allocator> Agenda<A> {
         ensures unchanged { OnErr result (self.new ≡ self.old) }
         ensures sequence { IsSequence self.new }
     {
-        let at = ItemId {
-            group,
-            item: event.item,
-        };
+        let item = event.item;
+        let at = ItemId { group, item };
         // brings the order's invariant into the proof
         let taken = self.order.lanes();
         let reach = reach_of(taken, group, &event);
@@ -426,20 +422,13 @@ impl<A: Allocator> Agenda<A> {
                     self.worklist.put(Ready::Item(at));
                 }
             }
-            Reach::Mark(instance) => {
-                if is_divergent(self.order.lanes(), group, instance) {
-                    wake_group(&self.order, &mut self.worklist, &mut self.undiverged, group);
-                } else {
-                    tell_undiverged(&mut self.undiverged, group, instance);
-                    self.worklist.put(Ready::Group(group));
-                }
+            Reach::Mark(instance) if !is_divergent(self.order.lanes(), group, instance) => {
+                tell_undiverged(&mut self.undiverged, group, instance);
+                self.worklist.put(Ready::Group(group));
             }
-            Reach::Group => wake_group(
-                &self.order,
-                &mut self.worklist,
-                &mut self.undiverged,
-                group,
-            ),
+            Reach::Mark(_) | Reach::Group => {
+                wake_group(&self.order, &mut self.worklist, &mut self.undiverged, group);
+            }
         }
         Ok(())
     }
@@ -483,12 +472,8 @@ impl<A: Allocator> Agenda<A> {
         self.order.sequence_holds();
         self.order.meet_instance(group);
         self.worklist.put(Ready::Group(group));
-        put_pending(
-            &self.order,
-            &mut self.worklist,
-            group,
-            self.order.lanes().shape().items(group),
-        );
+        let items = self.order.lanes().shape().items(group);
+        put_pending(&self.order, &mut self.worklist, group, items);
     }
 
     /// Whether an item's next event is a barrier of an instance that is known not to be divergent.

@@ -34,14 +34,10 @@ fn is_following<A: Allocator>(lanes: &Lanes<A>, group: u16, instance: u32, event
     requires remembered { forgotten_of lanes.now group ≤ instance }
     ensures { IsTrue result → IsFollowing lanes.now.streams group event.now }
 {
-    let before = ItemId {
-        group,
-        item: event.item.saturating_sub(1),
-    };
-    let after = ItemId {
-        group,
-        item: event.item.saturating_add(1),
-    };
+    let item = event.item.saturating_sub(1);
+    let before = ItemId { group, item };
+    let item = event.item.saturating_add(1);
+    let after = ItemId { group, item };
     came_with(lanes, before, instance, event) || came_with(lanes, after, instance, event)
 }
 
@@ -56,11 +52,8 @@ pub(crate) fn reach_of<A: Allocator>(lanes: &Lanes<A>, group: u16, event: &Event
     if !is_barrier(event) {
         return Reach::Item;
     }
-    let at = ItemId {
-        group,
-        item: event.item,
-    };
-    let instance = lanes.barrier_count(at);
+    let item = event.item;
+    let instance = lanes.barrier_count(ItemId { group, item });
     // this may be so for an item that is not there, which has no barriers
     if instance < lanes.forgotten(group) {
         return Reach::Group;

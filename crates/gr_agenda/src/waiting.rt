@@ -68,7 +68,8 @@ pub(crate) fn wake<A: Allocator>(
     worklist: &mut Worklist<A>,
 )
     ensures woken { (i : AnyItem) → IsWaiting lists.old.items named i → Has worklist.new (Item i) }
-    ensures others { (n : AnyName) (i : AnyItem) → IsWaiting lists.old.items n i → Has worklist.new (Item i) ⊎ IsWaiting lists.new.items n i }
+    ensures others { (n : AnyName) (i : AnyItem) → IsWaiting lists.old.items n i
+        → Has worklist.new (Item i) ⊎ IsWaiting lists.new.items n i }
     ensures keeps { KeepsSteps worklist.old worklist.new }
 {
     if let Some(list) = lists.get_mut(bucket_of(named)) {

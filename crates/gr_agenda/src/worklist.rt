@@ -35,13 +35,10 @@ fn place_of(step: Ready) -> Option<usize>
 {
     match step {
         Ready::Group(group) => Some(usize::from(group) * 1_025),
-        Ready::Item(at) => {
-            if at.item < 1_024 {
-                Some(usize::from(at.group) * 1_025 + 1 + usize::from(at.item))
-            } else {
-                None
-            }
+        Ready::Item(at) if at.item < 1_024 => {
+            Some(usize::from(at.group) * 1_025 + 1 + usize::from(at.item))
         }
+        Ready::Item(_) => None,
     }
 }
 
@@ -49,13 +46,7 @@ fn place_of(step: Ready) -> Option<usize>
 fn is_marked(marks: &[bool], step: Ready) -> bool
     ensures { IsTrue result → (p : ℕ) × IsPlace step p × (slice_get marks.now p ≡ Some true) }
 {
-    match place_of(step) {
-        None => false,
-        Some(place) => match marks.get(place) {
-            None => false,
-            Some(mark) => *mark,
-        },
-    }
+    place_of(step).is_some_and(|place| place < marks.len() && marks[place])
 }
 
 /// Makes places for marks until there are this many, as far as memory suffices.
@@ -63,9 +54,8 @@ fn reach<A: Allocator>(marks: &mut Vec<bool, A>, count: usize)
     ensures { (p : ℕ) → slice_get marks.new.items p ≡ Some true → slice_get marks.old.items p ≡ Some true }
 {
     while marks.len() < count {
-        match marks.push(false) {
-            Ok(()) => {}
-            Err(_) => return,
+        if marks.push(false).is_err() {
+            return;
         }
     }
 }

@@ -9,8 +9,8 @@ is_divergent-requires-clause-remembered g c =
     own_remembered c.self.inside.order c.lanes-taken.ensures.sequence c.args.group c.args.event c.in_ok-take.ensures.ok.0 barrier.0
     c.in-Mark.instance barrier.1 c.lanes.result.now took (rw c.in_ok-take.ensures.ok.1 at c.lanes.ensures.forgets)
 
-pub invariant_of-self-in-Item : goal.invariant_of-self-in-Item
-invariant_of-self-in-Item g c =
+pub invariant_of-self-in-Item-1 : goal.invariant_of-self-in-Item-1
+invariant_of-self-in-Item-1 g c =
     let plain = rw (c.lanes-taken.ensures.taken, c.in-Item.is) at c.reach_of-reach.ensures in
     rw c.in_ok-take.ensures.ok.1
     (took_plain c.lanes-taken.ensures.sequence c.self.invariant.0 c.self.inside.undiverged.items c.self.invariant.1 c.args.group c.args.event
@@ -35,32 +35,24 @@ invariant_of-self-else-not-is_number g c =
     c.in_ok-take.ensures.ok.0 c.put-in-Instance.new.self c.put-in-Instance.ensures.keeps follows.0 c.in-Instance.instance follows.1 sequence.prefixes told
     c.put-in-Instance.ensures.there)
 
-pub invariant_of-self-then-is_divergent : goal.invariant_of-self-then-is_divergent
-invariant_of-self-then-is_divergent g c =
-    let woke = rw c.in_ok-take.ensures.ok.1 at c.wake_group.ensures in
-    let sequence = rw c.in_ok-take.ensures.ok.1 at c.take.ensures.sequence in
-    rw c.in_ok-take.ensures.ok.1
-    (took_wide c.lanes-taken.ensures.sequence c.self.invariant.0 c.self.inside.undiverged.items c.self.invariant.1 c.args.group c.args.event
-    c.in_ok-take.ensures.ok.0 c.wake_group.new.worklist woke.keeps c.wake_group.new.undiverged.items woke.forgotten woke.group sequence.prefixes woke.items)
-
-pub invariant_of-self-else-is_divergent : goal.invariant_of-self-else-is_divergent
-invariant_of-self-else-is_divergent g c =
+pub invariant_of-self-then-not-is_divergent : goal.invariant_of-self-then-not-is_divergent
+invariant_of-self-then-not-is_divergent g c =
     let barrier = rw (c.lanes-taken.ensures.taken, c.in-Mark.is) at c.reach_of-reach.ensures in
     let still = rw (c.lanes.ensures.taken, c.in_ok-take.ensures.ok.1) at c.is_divergent.ensures.1 in
     let sequence = rw c.in_ok-take.ensures.ok.1 at c.take.ensures.sequence in
     rw c.in_ok-take.ensures.ok.1
     (took_undiverged c.lanes-taken.ensures.sequence c.self.invariant.0 c.self.inside.undiverged.items c.self.invariant.1 c.args.group c.args.event
-    c.in_ok-take.ensures.ok.0 c.put-else-is_divergent.new.self c.put-else-is_divergent.ensures.keeps barrier.0 c.in-Mark.instance barrier.1
-    sequence.prefixes (λ divergent. true≢false (sym (still divergent) ∙ c.if-is_divergent.false)) c.put-else-is_divergent.ensures.there
+    c.in_ok-take.ensures.ok.0 c.put-in-Mark.new.self c.put-in-Mark.ensures.keeps barrier.0 c.in-Mark.instance barrier.1
+    sequence.prefixes (λ divergent. true≢false (sym (still divergent) ∙ c.if-not-is_divergent.true)) c.put-in-Mark.ensures.there
     c.tell_undiverged.new.undiverged.items c.tell_undiverged.ensures)
 
-pub invariant_of-self-in-Group : goal.invariant_of-self-in-Group
-invariant_of-self-in-Group g c =
-    let woke = rw c.in_ok-take.ensures.ok.1 at c.wake_group-in-Group.ensures in
+pub invariant_of-self-in-Mark-2 : goal.invariant_of-self-in-Mark-2
+invariant_of-self-in-Mark-2 g c =
+    let woke = rw c.in_ok-take.ensures.ok.1 at c.wake_group.ensures in
     let sequence = rw c.in_ok-take.ensures.ok.1 at c.take.ensures.sequence in
     rw c.in_ok-take.ensures.ok.1
     (took_wide c.lanes-taken.ensures.sequence c.self.invariant.0 c.self.inside.undiverged.items c.self.invariant.1 c.args.group c.args.event
-    c.in_ok-take.ensures.ok.0 c.wake_group-in-Group.new.worklist woke.keeps c.wake_group-in-Group.new.undiverged.items woke.forgotten woke.group
+    c.in_ok-take.ensures.ok.0 c.wake_group.new.worklist woke.keeps c.wake_group.new.undiverged.items woke.forgotten woke.group
     sequence.prefixes woke.items)
 
 pub invariant_of-self : goal.invariant_of-self
