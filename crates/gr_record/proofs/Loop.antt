@@ -7,6 +7,8 @@ use Rattle.gr_record.specs.declared.error.RecordError.TheVariants as errors
 use Rattle.gr_record.specs.Fronts.{Records, behind, step, records_at}
 use Rattle.gr_record.specs.declared.stop.Stop.TheVariants.{Inside, AtFault}
 use Rattle.gr_record.specs.WholeStreams.{Fails, whole}
+use Rattle.gr_record.proofs.Judging.{event_apart}
+use Rattle.gr_record.proofs.Numbers.{one_left}
 
 -- events before those of a reading
 abbrev pub with_prefix : List Event → Records → Records
@@ -36,21 +38,26 @@ module _ (size : ℕ) (read : List ℕ → Result Event RecordError) where
   unfolding records_at
   next most bytes le = rw (le-ltb (length bytes) size le) refl
 
+  -- the same as a loop counts, which is at i and ends at stop
+  pub next_at : (stop i : ℕ) (bytes : List ℕ) → i < stop → size ≤ length bytes → records_at size read (stop - i) bytes ≡ step size (read (take size bytes)) bytes (records_at size read (stop - (i + 1)) (drop size bytes))
+  next_at stop i bytes lt le = rw (one_left stop i lt) (next (stop - (i + 1)) bytes le)
+
+  pub too_many_at : (stop i : ℕ) (bytes : List ℕ) → stop ≤ i → size ≤ length bytes → records_at size read (stop - i) bytes ≡ record { events = []; rest = bytes; stop = AtFault errors.TooManyRecords }
+  too_many_at stop i bytes le long = let k : stop - i ≡ 0 = omega arith in rw k (too_many bytes long)
+
+-- what a loop over records needs of each
+pub ruleset loop_steps = (next_at, short, too_many_at, event_apart, append_assoc)
+
 module _ (size : ℕ) (read : List ℕ → Result Event RecordError) (prefix : List Event) (stop i : ℕ) (bytes : List ℕ) (total : Result (List Event × List ℕ) RecordError) (so_far : whole (with_prefix prefix (records_at size read (stop - i) bytes)) ≡ total) where
   pub stops_short : length bytes < size → total ≡ Err errors.Truncated
   stops_short lt = sym so_far ∙ ap (λ (r : Records). whole (with_prefix prefix r)) (short size read (stop - i) bytes lt)
 
   pub none_left : stop ≤ i → size ≤ length bytes → total ≡ Err errors.TooManyRecords
-  none_left le long =
-      let k : stop - i ≡ 0 = omega arith in
-      sym so_far ∙ rw k (ap (λ (r : Records). whole (with_prefix prefix r)) (too_many size read bytes long))
+  none_left le long = sym so_far ∙ ap (λ (r : Records). whole (with_prefix prefix r)) (too_many_at size read stop i bytes le long)
 
   module _ (lt : i < stop) (long : size ≤ length bytes) where
     one_more : (r : Result Event RecordError) → read (take size bytes) ≡ r → whole (with_prefix prefix (step size r bytes (records_at size read (stop - (i + 1)) (drop size bytes)))) ≡ total
-    one_more r is =
-        let k : stop - i ≡ suc (stop - (i + 1)) = omega arith in
-        let at : records_at size read (stop - i) bytes ≡ step size r bytes (records_at size read (stop - (i + 1)) (drop size bytes)) = rw (k, ← is) (next size read (stop - (i + 1)) bytes long) in
-        ap (λ (x : Records). whole (with_prefix prefix x)) (sym at) ∙ so_far
+    one_more r is = rw (next_at size read stop i bytes lt long, is) at so_far
 
     -- a record at fault
     pub refused : (d : RecordError) → read (take size bytes) ≡ Err d → total ≡ Err d

@@ -1,10 +1,14 @@
 -- Numbers of two, four and eight bytes, and the numbers of spaces, scopes, orders and flags.
-use Rattle.std.proofs.Common.{◌≡◌, ℕ, ◌+◌, ◌*◌, ◌/◌, ◌%◌, ◌<◌, true, arith, nat_lt, nat_le, ◌==◌, ◌||◌, ◌&&◌}
+use Rattle.std.proofs.Common.{◌≡◌, ℕ, suc, ◌+◌, ◌-◌, ◌*◌, ◌/◌, ◌%◌, ◌<◌, true, arith, nat_lt, nat_le, ◌==◌, ◌||◌, ◌&&◌}
 use Rattle.gr_model.specs.declared.event.Space.{Space}
 use Rattle.gr_model.specs.declared.event.Scope.{Scope}
 use Rattle.gr_model.specs.declared.event.Order.{Order}
 use Rattle.gr_record.specs.Spelling.{space_byte, scope_byte, order_byte}
 use Rattle.gr_record.specs.Reading.{space_of, scope_of, order_of}
+
+-- a loop that counts from i to n has one step to go, and those after it
+pub one_left : (n i : ℕ) → i < n → n - i ≡ suc (n - (i + 1))
+one_left n i lt = omega arith
 
 -- ---- from bytes to a number and back
 

@@ -17,14 +17,14 @@ use Rattle.gr_record.proofs.Loop.{short, next}
 use Rattle.gr_record.proofs.FoundPrefixes.{complete_behind}
 use Rattle.gr_record.proofs.Spelled.{spelled_is_read, spelled_header_is_read, spelling_length}
 
-abbrev Spelled : List Sited → Records
+abbrev pub Spelled : List Sited → Records
 Spelled rs = record { events = events_of rs; rest = []; stop = stop_after (events_of rs) }
 
 module _ (h : Header) (few : h.items ≤ MOST_ITEMS_OF_A_GROUP) where
   abbrev size : ℕ
   size = record_length h.version
 
-  records_spelled : (rs : List Sited) (most : ℕ) → Runs h rs → length rs ≤ most → records_of h most (events_spelling h.version rs) ≡ Spelled rs
+  pub records_spelled : (rs : List Sited) (most : ℕ) → Runs h rs → length rs ≤ most → records_of h most (events_spelling h.version rs) ≡ Spelled rs
   records_spelled [] most runs le = short size (event_at h) most [] (omega (arith, fields_and_names h.version))
   records_spelled (r ∷ rs) zero runs le = absurd (omega arith)
   records_spelled (r ∷ rs) (suc most) runs le =

@@ -1,5 +1,5 @@
 -- A decoder's steps: a whole header, a whole record, bytes that are kept, and the end of a piece.
-use Rattle.std.proofs.Common.{◌≡◌, ◌≢◌, ℕ, suc, ◌+◌, ◌-◌, ◌<◌, ◌≤◌, Bool, true, false, List, [], ◌∷◌, ◌++◌, length, Option, Some, None, Ok, Err, refl, sym, ap, ◌∙◌, append_assoc, arith, le-ltb, add-zero, add_assoc, one-add, take_at, drop_at, length-append, append-nil}
+use Rattle.std.proofs.Common.{◌≡◌, ◌≢◌, ℕ, ◌+◌, ◌-◌, ◌<◌, ◌≤◌, Bool, true, false, List, [], ◌∷◌, ◌++◌, length, Option, Some, None, Ok, Err, refl, sym, ap, ◌∙◌, append_assoc, arith, le-ltb, add-zero, add_assoc, one-add, take_at, drop_at, length-append, append-nil}
 use Rattle.std.proofs.lemmas.Bool.Decides.{nat_tests}
 use Rattle.gr_model.specs.declared.event.Event.{Event}
 use Rattle.gr_model.specs.Events.{is_end}
@@ -15,7 +15,7 @@ use Rattle.gr_record.specs.Versions.{record_length}
 use Rattle.gr_record.specs.Reading.{header_at, event_at}
 use Rattle.gr_record.specs.Fronts.{step, records_of}
 use Rattle.gr_record.specs.Decoding.{closed, under, read_from, reading, parts_of, Standing, standing, StandsFor, still, standing_after, IsStanding, IsHeldOk, stop_behind, Continues, GrowsAs}
-use Rattle.gr_record.proofs.Loop.{short, too_many, next}
+use Rattle.gr_record.proofs.Loop.{short, too_many_at, next_at}
 use Rattle.gr_record.proofs.Resuming.{reading_goes_on}
 
 -- what is read where a whole header comes first
@@ -65,15 +65,11 @@ module _ (limit count : ℕ) (unit rest : List ℕ) (listed : List Part) where
 
     -- one record more than the limit
     pub one_too_many : count ≡ limit → Reads (Some h) (Some h) count (AtFault errors.TooManyRecords) listed
-    one_too_many full =
-        let k : limit - count ≡ 0 = omega arith in
-        at_fault (Some h) errors.TooManyRecords (rw (from_records h, k, too_many (record_length h.version) (event_at h) (unit ++ rest) long) refl)
+    one_too_many full = at_fault (Some h) errors.TooManyRecords (rw (from_records h, too_many_at (record_length h.version) (event_at h) limit count (unit ++ rest) (omega arith) long) refl)
 
     module _ (lt : count < limit) where
       one_more : read_from (Some h) (limit - count) (unit ++ rest) ≡ closed None (step (record_length h.version) (event_at h unit) (unit ++ rest) (records_of h (limit - (count + 1)) rest))
-      one_more =
-          let k : limit - count ≡ suc (limit - (count + 1)) = omega arith in
-          rw (from_records h, k, next (record_length h.version) (event_at h) (limit - (count + 1)) (unit ++ rest) long, take_at unit rest (record_length h.version) len, drop_at unit rest (record_length h.version) len) refl
+      one_more = rw (from_records h, next_at (record_length h.version) (event_at h) limit count (unit ++ rest) lt long, take_at unit rest (record_length h.version) len, drop_at unit rest (record_length h.version) len) refl
 
       -- a record at fault
       pub record_fails : (e : RecordError) → event_at h unit ≡ Err e → Reads (Some h) (Some h) count (AtFault e) listed

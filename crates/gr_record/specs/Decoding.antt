@@ -6,13 +6,11 @@ use Rattle.gr_model.specs.declared.limits.TheConstants.{MOST_RECORDS}
 use Rattle.gr_record.specs.declared.error.RecordError.{RecordError}
 use Rattle.gr_record.specs.declared.error.RecordError.TheVariants as errors
 use Rattle.gr_record.specs.declared.header.Header.{Header}
-use Rattle.gr_record.specs.declared.header.Version.{Version}
-use Rattle.gr_record.specs.declared.header.Version.TheVariants.{One, Two, Three, Four}
 use Rattle.gr_record.specs.declared.part.Part.{Part}
 use Rattle.gr_record.specs.declared.part.Part.TheVariants as parts
 use Rattle.gr_record.specs.declared.stop.Stop.{Stop}
 use Rattle.gr_record.specs.declared.stop.Stop.TheVariants.{Inside, AtEnd, AtFault}
-use Rattle.gr_record.specs.declared.layout.TheConstants.{HEADER_LENGTH, RECORD_LENGTH, LONG_RECORD_LENGTH}
+use Rattle.gr_record.specs.declared.layout.TheConstants.{HEADER_LENGTH, RECORD_LENGTH}
 use Rattle.gr_record.specs.Versions.{record_length}
 use Rattle.gr_record.specs.Reading.{header_at}
 use Rattle.gr_record.specs.Fronts.{Records, records_of}
@@ -139,17 +137,10 @@ pub record Continues (d : Standing) (more : List ℕ) (listed : List Part) (e : 
   pub stands : standing_after d (still d more) ≡ standing_after e (still e rest)
   pub parts : listed ++ parts_of (still d more) ≡ longer ++ parts_of (still e rest)
 
--- how many records so many bytes may complete, and how many headers and records
-abbrev pub records_in : Version → ℕ → ℕ
-records_in One bytes = bytes / RECORD_LENGTH
-records_in Two bytes = bytes / LONG_RECORD_LENGTH
-records_in Three bytes = bytes / RECORD_LENGTH
-records_in Four bytes = bytes / LONG_RECORD_LENGTH
-
--- a header may be that of the version with the shorter records
+-- how many headers and records so many bytes may complete; a header may be that of the version with the shorter records
 abbrev pub units_in : Option Header → ℕ → ℕ
 units_in None bytes = if nat_lt bytes HEADER_LENGTH then 0 else 1 + (bytes - HEADER_LENGTH) / RECORD_LENGTH
-units_in (Some h) bytes = records_in h.version bytes
+units_in (Some h) bytes = bytes / record_length h.version
 
 -- why reading stops after a record, or that it goes on
 abbrev pub stop_behind : Bool → Stop

@@ -11,10 +11,10 @@ ghost use Rattle.gr_record.specs.declared.header.Header.{Header};
 ghost use Rattle.gr_record.specs.declared.part.Part.{Part};
 ghost use Rattle.gr_record.specs.declared.stop.Stop.TheVariants.{Inside, AtEnd, AtFault};
 ghost use Rattle.gr_record.specs.Versions.{record_length};
-ghost use Rattle.gr_record.specs.Decoding.{Standing, StandsFor, fresh, unit_length, missing, records_in, units_in, stop_behind, Continues, answer, last_answer, GrowsAs, HasMemory, reading, parts_of};
+ghost use Rattle.gr_record.specs.Decoding.{Standing, StandsFor, fresh, unit_length, missing, units_in, stop_behind, Continues, answer, last_answer, GrowsAs, HasMemory, reading, parts_of};
 
 use crate::error::RecordError;
-use crate::header::{Header, Version};
+use crate::header::Header;
 use crate::layout::{HEADER_LENGTH, LONG_RECORD_LENGTH, RECORD_LENGTH};
 use crate::part::Part;
 use crate::reading::{read_event, read_header};
@@ -56,16 +56,6 @@ fn push<A: Allocator>(parts: &mut Vec<Part, A>, part: Part)
     ensures capacity { vec_capacity parts.old ≤ vec_capacity parts.new }
 {
     let _ = parts.push(part);
-}
-
-/// How many records so many bytes may complete.
-fn records_in(version: Version, bytes: usize) -> usize
-    ensures { result ≡ records_in version bytes }
-{
-    match version {
-        Version::One | Version::Three => bytes / RECORD_LENGTH,
-        Version::Two | Version::Four => bytes / LONG_RECORD_LENGTH,
-    }
 }
 
 /// Why reading stops after this record, or that it goes on.
@@ -134,10 +124,7 @@ impl Decoder {
         ensures inside { IsTrue result ↔ (self.now.stop ≡ Inside) }
         ensures over { IsFalse result → self.now.held ≡ [] }
     {
-        match self.stop {
-            Stop::Inside => true,
-            Stop::AtEnd | Stop::AtFault(_) => false,
-        }
+        matches!(self.stop, Stop::Inside)
     }
 
     /// How many headers and records `bytes` more bytes may complete.
@@ -150,7 +137,7 @@ impl Decoder {
         match self.header {
             None if bytes < HEADER_LENGTH => 0,
             None => 1 + (bytes - HEADER_LENGTH) / RECORD_LENGTH,
-            Some(header) => records_in(header.version, bytes),
+            Some(header) => bytes / header.version.record_length(),
         }
     }
 

@@ -51,10 +51,7 @@ impl Version {
     pub fn has_sites(self) -> bool
         ensures { result ≡ has_sites self }
     {
-        match self {
-            Version::One | Version::Two => false,
-            Version::Three | Version::Four => true,
-        }
+        matches!(self, Version::Three | Version::Four)
     }
 
     /// How many work-groups a launch may have.

@@ -3,7 +3,8 @@
 //! A record's fields are judged from the left, so that the first fault is returned (docs/FORMATS.md, "Faults of a whole
 //! record").
 
-ghost use Rattle.std.specs.Prelude.{◌≡◌, ◌≤◌, ◌*◌, ◌||◌, ◌==◌, IsTrue, None, Some, if◌then◌else◌, [], length, take};
+ghost use Rattle.std.specs.Prelude.{◌≡◌, ◌≤◌, ◌*◌, ◌||◌, ◌==◌, IsTrue, None, Some, IfOk, if◌then◌else◌, [], length, take};
+ghost use Rattle.gr_record.specs.Spelling.{IsHeader};
 ghost use Rattle.gr_record.specs.Versions.{has_sites, record_length};
 ghost use Rattle.gr_record.specs.Reading.{field, version_of, header_at, header_behind, is_field_ok, bad_field, site_at, space_of, scope_of, order_of, kind_of, space_at, are_unused, name_in, names_in, names_at, is_order_ok, naming, event_at};
 
@@ -53,7 +54,8 @@ fn read_version(magic: u32) -> Option<Version>
 #[tactic(auto, unfolding(crate::specs::Reading::header_at))]
 pub(crate) fn read_header(bytes: &[u8]) -> Result<Header, RecordError>
     requires { HEADER_LENGTH ≤ length bytes.now }
-    ensures { result ≡ header_at bytes.now }
+    ensures exact { result ≡ header_at bytes.now }
+    ensures range { IfOk result IsHeader }
 {
     let Some(version) = read_version(LittleEndian::read_u32(bytes)) else {
         return Err(RecordError::BadMagic);
@@ -65,7 +67,8 @@ pub(crate) fn read_header(bytes: &[u8]) -> Result<Header, RecordError>
 /// Requires: there are at least `HEADER_LENGTH` bytes.
 fn read_launch(version: Version, bytes: &[u8]) -> Result<Header, RecordError>
     requires { HEADER_LENGTH ≤ length bytes.now }
-    ensures { result ≡ header_behind (Some version) bytes.now }
+    ensures exact { result ≡ header_behind (Some version) bytes.now }
+    ensures range { IfOk result IsHeader }
 {
     let group = LittleEndian::read_u16(&bytes[4..]);
     let items = LittleEndian::read_u16(&bytes[6..]);
@@ -124,7 +127,7 @@ fn has_good_fields(version: Version, bytes: &[u8]) -> bool
 /// The place of the first bad byte, found place by place.
 /// Requires: there are at least `RECORD_LENGTH` bytes.
 #[cold]
-#[tactic(auto, unfolding(crate::specs::Reading::bad_field_from))]
+#[tactic(auto, using(crate::proofs::Numbers::one_left), unfolding(crate::specs::Reading::bad_field_from))]
 fn find_bad_field(version: Version, bytes: &[u8]) -> Option<u8>
     requires { RECORD_LENGTH ≤ length bytes.now }
     ensures { result ≡ bad_field version bytes.now }

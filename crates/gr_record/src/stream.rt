@@ -1,6 +1,7 @@
 //! Reading a prefix of a list of bytes: a header, or the records of a stream up to its end.
 
-ghost use Rattle.std.specs.Prelude.{◌≡◌, ◌≢◌, ◌≤◌, length, Ok, IfErr};
+ghost use Rattle.std.specs.Prelude.{◌≡◌, ◌≢◌, ◌≤◌, length, Ok, IfErr, IfOk};
+ghost use Rattle.gr_record.specs.Spelling.{IsHeader};
 ghost use Rattle.gr_record.specs.declared.error.RecordError.TheVariants as errors;
 ghost use Rattle.gr_record.specs.Fronts.{records_at};
 ghost use Rattle.gr_record.specs.WholeStreams.{Gives, behind_records_at, front_header_at, front_records_at};
@@ -21,6 +22,7 @@ use std::alloc::Allocator;
 #[tactic(auto, using(crate::proofs::Judging::header_apart), unfolding(crate::specs::WholeStreams::front_header_at))]
 pub fn read_front_header(bytes: &[u8]) -> Result<(Header, &[u8]), RecordError>
     ensures exact { Gives (λ x. (x.0, x.1.now)) result (front_header_at bytes.now) }
+    ensures range { IfOk result (λ x. IsHeader x.0) }
     ensures memory { IfErr result (λ e. e ≢ errors.Memory) }
 {
     if bytes.len() < HEADER_LENGTH {
@@ -35,7 +37,7 @@ pub fn read_front_header(bytes: &[u8]) -> Result<(Header, &[u8]), RecordError>
 /// # Errors
 /// The fault of the first record that has one (see `RecordError`); `Truncated` if the bytes are over before that and
 /// before the end; `Memory` if an allocation is refused.
-#[tactic(auto, unfolding(crate::specs::WholeStreams::front_records_at))]
+#[tactic(auto, using(crate::proofs::Loop::loop_steps), unfolding(crate::specs::WholeStreams::front_records_at))]
 pub fn read_front_records<A: Allocator>(
     alloc: A,
     header: Header,
@@ -71,6 +73,7 @@ pub fn read_front_records<A: Allocator>(
 /// # Errors
 /// The fault of the first record that has one (see `RecordError`); `Truncated` if the bytes are over before that and
 /// before the end. It takes no memory.
+#[tactic(auto, using(crate::proofs::Loop::loop_steps), unfolding(crate::specs::WholeStreams::front_records_at))]
 pub fn skip_front_records(header: Header, bytes: &[u8]) -> Result<&[u8], RecordError>
     ensures exact { Gives (λ x. x.now) result (behind_records_at header bytes.now) }
     ensures memory { IfErr result (λ e. e ≢ errors.Memory) }
