@@ -1,5 +1,5 @@
 -- Names in their places: what is read from the bytes of names, and what the bytes of names that were read are.
-use Rattle.std.proofs.Common.{◌≡◌, ℕ, zero, suc, ◌+◌, ◌*◌, ◌<◌, ◌≤◌, true, false, List, [], ◌∷◌, ◌++◌, length, take, drop, refl, arith, inl, inr, Bool, cond, Option, Some, None, All, ◌==◌, ◌↔◌, Decides, IsSome, IfSome, suc-add, get_or-drop}
+use Rattle.std.proofs.Common.{◌≡◌, ℕ, zero, suc, ◌+◌, ◌*◌, ◌<◌, ◌≤◌, true, false, List, [], ◌∷◌, ◌++◌, length, take, drop, refl, arith, inl, inr, All, ◌==◌, ◌↔◌, suc-add, get_or-drop}
 use Rattle.std.proofs.lemmas.Bool.{eqb-true, leb-true, le-leb, and_parts, and_from, cases_Bool}
 use Rattle.std.proofs.lemmas.Bool.Decides.{nat_tests}
 use Rattle.std.proofs.lemmas.List.Elements.{All-cons, All-nil, All-tail}
@@ -14,7 +14,7 @@ use Rattle.gr_record.specs.Versions.{places, record_length, most_groups, most_it
 use Rattle.gr_record.specs.declared.header.Header.{Header}
 use Rattle.gr_record.specs.Spelling.{IsHeader, names_bytes}
 use Rattle.gr_record.specs.Laws.{AreBytes}
-use Rattle.gr_record.specs.Reading.{are_unused, name_in, names_in, field, is_in_range, is_below, are_in_order, is_naming_ok, naming}
+use Rattle.gr_record.specs.Reading.{are_unused, name_in, names_in, field, is_in_range, is_below, are_in_order, is_naming_ok}
 use Rattle.gr_record.proofs.Numbers.{two, two_again, four, four_again}
 use Rattle.gr_model.specs.Access.{is_acquire_kind}
 
@@ -157,13 +157,8 @@ few_names kind names ok = grind arith
 
 -- ---- names that a call makes
 
--- what is made where a test says so
-made : {X : Type 0} (b : Bool) (o : Option X) (x : X) (P : Type 0) → Decides b P → (IsSome o ↔ P) → IfSome o (λ y. y ≡ x) → o ≡ cond b (Some x) None
-made b o x P test some is = grind arith
-
--- names of an acquire
-pub named_some : (v : Version) (kind : Kind) (names : List Name) (o : Option (List Name)) (groups items : ℕ) → groups ≡ most_groups v → items ≡ most_items v → (length names == 0) ≡ false → is_acquire_kind kind ≡ true → (IsSome o ↔ AreNamesWithin groups items names) → IfSome o (λ x. x ≡ names) → o ≡ naming v kind names
-named_some v kind [] o groups items g i some acquire are is = absurd cc
-named_some v kind (n ∷ names) o groups items g i some acquire are is =
-    made (is_naming_ok v kind (n ∷ names)) o (n ∷ names) (AreNamesWithin (most_groups v) (most_items v) (n ∷ names))
-    (those_found v kind n names, λ those. and_from _ _ (and_from _ _ acquire (le-leb _ _ those.few)) (order_back v (n ∷ names) those.ascending those.each)) (rw (g, i) at are) is
+-- an acquire may have the names that a call makes, and no others
+pub naming_is : (v : Version) (kind : Kind) (names : List Name) → is_acquire_kind kind ≡ true → (is_naming_ok v kind names ≡ is_naming_ok v kind names) × (is_naming_ok v kind names ≡ true ↔ AreNamesWithin (most_groups v) (most_items v) names)
+naming_is v kind [] acquire = (refl, (λ _. record { few = omega arith; ascending = λ k d lt. absurd (omega arith); each = All-nil (IsNameOf v) }, λ _. refl))
+naming_is v kind (n ∷ names) acquire =
+    (refl, (those_found v kind n names, λ those. and_from _ _ (and_from _ _ acquire (le-leb _ _ those.few)) (order_back v (n ∷ names) those.ascending those.each)))

@@ -287,6 +287,7 @@ pub fn order_fits(kind: Kind) -> bool
 
 /// The names of a record of this kind, or `None` if it may not have them. Only an acquire has names: at most `MOST_NAMES`,
 /// in strictly ascending order, and each in the range of a launch of this version.
+#[tactic(auto, using(crate::proofs::Places::naming_is))]
 pub fn naming(version: Version, kind: Kind, names: &[Name]) -> Option<Names>
     ensures { result ≡ naming version kind names.now }
 {
