@@ -4,13 +4,13 @@
 //! earlier one, and each word that is hit is answered once (docs/MODEL.md, "Hits"). What is kept of the accesses is private. It gives the
 //! hits of every longer list.
 
-ghost use Rattle.std.specs.Prelude.{◌≡◌, ◌↔◌, All, IfOk, OnOk, OnErr, List, [], ◌∷◌, ◌++◌, Some, map};
-ghost use Rattle.std.specs.List.{IsDistinct, filter_map, list_any};
+ghost use Rattle.std.specs.Prelude.{◌≡◌, ◌↔◌, IfOk, OnOk, OnErr, List, [], ◌∷◌, ◌++◌, Some};
+ghost use Rattle.std.specs.List.{IsDistinct, list_any};
 ghost use Rattle.std.specs.Map.{keys_of};
 ghost use Rattle.gr_model.specs.declared.event.Word.{Word as AnyWord};
 ghost use Rattle.gr_model.specs.Reports.{Lists, WordBelow};
 ghost use Rattle.gr_clocks.specs.ClockedAccess.{ClockedAccess, clocked};
-ghost use Rattle.gr_shadow.specs.Clashes.{IsClashIn, IsHitIn};
+ghost use Rattle.gr_shadow.specs.Clashes.{IsHitIn};
 ghost use Rattle.gr_shadow.specs.Kept.{shadow_at, same_word, is_first_hit, IsAfter, answered_words, clash_at};
 ghost use Rattle.gr_shadow.specs.StandsFor.{StandsFor, IsHitBy};
 
@@ -143,29 +143,5 @@ impl<A: Allocator + Copy> Shadows<A> {
             earlier,
             later,
         })
-    }
-
-    /// The clashes that answered these words, without those that were not answered.
-    fn clashes_at(&self, words: &[Word]) -> Result<Vec<Clash, A>, Memory>
-        ensures { IfOk result (λ clashes. clashes.items ≡ filter_map (clash_at self.now) words.now) }
-    {
-        let clashes = words
-            .iter()
-            .filter_map(|word| self.clash_at(*word))
-            .collect(self.alloc)?;
-        Ok(clashes)
-    }
-
-    /// The words that are hit in the accesses so far, ascending, each once and with two accesses that clash on it: those
-    /// at which `apply` answered it.
-    ///
-    /// # Errors
-    /// `Memory` if an allocation is refused.
-    pub fn clashes(&self) -> Result<Vec<Clash, A>, Memory>
-        ensures words { (accesses : List ClockedAccess) → StandsFor accesses self.now → IfOk result (λ clashes. Lists WordBelow (IsHitIn accesses) (map (λ c. c.word) clashes.items)) }
-        ensures pairs { (accesses : List ClockedAccess) → StandsFor accesses self.now → IfOk result (λ clashes. All (λ c. IsClashIn accesses c.word c.earlier c.later) clashes.items) }
-    {
-        let words = self.racy()?;
-        self.clashes_at(&words)
     }
 }
