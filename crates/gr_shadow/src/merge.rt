@@ -1,26 +1,12 @@
 //! The union of two lists of words.
 
-ghost use Rattle.std.specs.Prelude.{◌≡◌, ◌⊎◌, ◌++◌, IfOk, Contains};
+ghost use Rattle.std.specs.Prelude.{◌⊎◌, IfOk, Contains};
 ghost use Rattle.gr_model.specs.Reports.{Lists, WordBelow};
 
 use gr_model::event::Word;
 use gr_model::memory::Memory;
 use gr_model::words::order_words;
 use std::alloc::Allocator;
-
-/// The words of one list, and after them those of another.
-fn words_of_both<A: Allocator>(
-    alloc: A,
-    first: &[Word],
-    second: &[Word],
-) -> Result<Vec<Word, A>, Memory>
-    ensures { IfOk result (λ words. words.items ≡ first.now ++ second.now) }
-{
-    let mut words = Vec::new(alloc);
-    words.extend_from_slice(first)?;
-    words.extend_from_slice(second)?;
-    Ok(words)
-}
 
 /// The words of two lists in ascending order, each once. The lists may be in any order, and have repeats.
 ///
@@ -33,7 +19,9 @@ pub fn merge<A: Allocator>(
 ) -> Result<Vec<Word, A>, Memory>
     ensures { IfOk result (λ words. Lists WordBelow (λ w. Contains first.now w ⊎ Contains second.now w) words.items) }
 {
-    let mut words = words_of_both(alloc, first, second)?;
+    let mut words = Vec::new(alloc);
+    words.extend_from_slice(first)?;
+    words.extend_from_slice(second)?;
     order_words(&mut words);
     Ok(words)
 }

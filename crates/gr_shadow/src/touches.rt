@@ -99,6 +99,7 @@ impl<A: Allocator> Touches<A> {
 
     /// Keeps a touch.
     /// Requires: it belongs here (`has`).
+    #[tactic(auto, using(std::proofs::lemmas::Result::err_from_is_err_and))]
     #[inline(always)]
     pub(crate) fn add(&mut self, touch: Touch) -> Result<(), Memory>
         requires { IsOfClass self.old.class self.old.group touch }
@@ -131,6 +132,7 @@ pub(crate) fn clashing_in_lists<A: Allocator>(
 }
 
 /// Keeps a touch in the list to which it belongs.
+#[tactic(auto, using(std::proofs::lemmas::Result::err_from_is_err_and))]
 pub(crate) fn put<A: Allocator + Copy>(
     lists: &mut Vec<Touches<A>, A>,
     touch: Touch,

@@ -5,5 +5,5 @@ use Rattle.gr_shadow.proofs.merge.merge.Goals as goal
 pub returns : goal.returns
 returns g c = record {
   ascending = c.order_words.ensures.ascending;
-  exact = λ w. let listed = rw c.in_ok-words.ensures at (c.order_words.ensures.exact w) in grind (arith, listed, Contains-append c.args.first.now c.args.second.now w);
+  exact = λ w. grind (arith, c.order_words.ensures.exact w, Contains-append c.args.first.now c.args.second.now w);
 }

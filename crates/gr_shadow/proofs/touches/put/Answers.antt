@@ -1,6 +1,6 @@
-use Rattle.std.proofs.Common.{◌∷◌, [], ap, ◌∙◌, slice_set, refl, rules}
+use Rattle.std.proofs.Common.{◌∷◌, [], ap, ◌∙◌, slice_set, rules}
 use Rattle.std.proofs.lemmas.List.{set-get_or}
-use Rattle.std.proofs.lemmas.Result.{err_from_is_err_and, on_ok_weaker, on_err_weaker}
+use Rattle.std.proofs.lemmas.Result.{on_ok_weaker, on_err_weaker}
 use Rattle.gr_shadow.proofs.KeepsLemmas.{Keeps-set, Keeps-push}
 use Rattle.gr_shadow.proofs.touches.put.Goals as goal
 
@@ -15,20 +15,6 @@ returns-in-Some-clause-err g c =
 pub returns-in_ok-push-in-None-clause-kept : goal.returns-in_ok-push-in-None-clause-kept
 returns-in_ok-push-in-None-clause-kept g c =
     rw c.in_ok-push-in-None.ensures.items (Keeps-push c.args.lists.now.items _ (c.args.touch ∷ []) (rw c.new-list.ensures.touches at c.in_ok-add-in-None.ensures.kept))
-
-pub returns-in_err-add-in-None-clause-kept : goal.returns-in_err-add-in-None-clause-kept
-returns-in_err-add-in-None-clause-kept g c = rw ((err_from_is_err_and c.from_residual.result c.from_residual.ensures.1).1) tt
-
-pub returns-in_err-add-in-None-clause-err : goal.returns-in_err-add-in-None-clause-err
-returns-in_err-add-in-None-clause-err g c = rw ((err_from_is_err_and c.from_residual.result c.from_residual.ensures.1).1) refl
-
-pub returns-in_err-push-in-None-clause-kept : goal.returns-in_err-push-in-None-clause-kept
-returns-in_err-push-in-None-clause-kept g c =
-    rw ((err_from_is_err_and c.from_residual-in_err-push-in-None.result c.from_residual-in_err-push-in-None.ensures.1).1) tt
-
-pub returns-in_err-push-in-None-clause-err : goal.returns-in_err-push-in-None-clause-err
-returns-in_err-push-in-None-clause-err g c =
-    rw ((err_from_is_err_and c.from_residual-in_err-push-in-None.result c.from_residual-in_err-push-in-None.ensures.1).1) c.in_err-push-in-None.ensures.items
 
 pub add-requires-in-None : goal.add-requires-in-None
 add-requires-in-None g c = c.new-list.ensures.has

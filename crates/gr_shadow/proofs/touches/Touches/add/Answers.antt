@@ -1,5 +1,4 @@
 use Rattle.std.proofs.lemmas.List.Elements.{All-push}
-use Rattle.std.proofs.lemmas.Result.{err_from_is_err_and}
 use Rattle.gr_shadow.specs.Keeps.{IsOfClass}
 use Rattle.gr_shadow.proofs.KeepsLemmas.{All-kept}
 use Rattle.gr_shadow.proofs.touches.Touches.add.Goals as goal
@@ -14,10 +13,3 @@ returns-then-len-self-clause-kept g c = rw (← c.self.view_is, ← c.in_ok-push
 
 pub invariant_of-self : goal.invariant_of-self
 invariant_of-self g c = rw c.in_err-push.ensures.items c.self.invariant
-
-pub returns-in_err-push-clause-kept : goal.returns-in_err-push-clause-kept
-returns-in_err-push-clause-kept g c = rw ((err_from_is_err_and c.from_residual.result c.from_residual.ensures.1).1) tt
-
-pub returns-in_err-push-clause-err : goal.returns-in_err-push-clause-err
-returns-in_err-push-clause-err g c =
-    rw ((err_from_is_err_and c.from_residual.result c.from_residual.ensures.1).1, c.in_err-push.ensures.items) c.self.view_is
