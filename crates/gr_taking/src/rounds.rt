@@ -51,31 +51,8 @@ fn take_some<A: Allocator + Copy, K: Keeper<A>, S: Source>(
     Ok(took)
 }
 
-/// The same, and then handles what can be.
-///
-/// # Errors
-/// `Memory`: out of memory.
-fn take_turn<A: Allocator + Copy, K: Keeper<A>, S: Source>(
-    sequencer: &mut Sequencer<A>,
-    keeper: &K,
-    kept: &mut K::Kept,
-    source: &mut S,
-) -> Result<bool, Memory>
-    requires may { MayTake sequencer.old.taken (S.group_of (S.header source.old)) (S.coming source.old) }
-    requires sequence { IsSequence sequencer.old }
-    requires along { IsAlong (K.stands keeper.now) sequencer.old kept.old }
-    ensures turn { IfOk result (λ took. IsTurn took sequencer.old.taken (S.group_of (S.header source.old)) (S.coming source.old) sequencer.new.taken (S.coming source.new)) }
-    ensures header { OnOk result (S.header source.new ≡ S.header source.old) }
-    ensures sequence { OnOk result (IsSequence sequencer.new) }
-    ensures along { OnOk result (IsAlong (K.stands keeper.now) sequencer.new kept.new) }
-{
-    let took = take_some(sequencer, keeper, kept, source)?;
-    handle_ready(sequencer, keeper, kept)?;
-    Ok(took)
-}
-
-/// Has a sequencer take some of what is to come of each stream, as much as its group takes in a turn. Tells whether it took a
-/// record; none is to come where it did not.
+/// Has a sequencer take some of what is to come of each stream, as much as its group takes in a turn, and then handle what can be.
+/// Tells whether it took a record; none is to come where it did not.
 ///
 /// # Errors
 /// `Memory`: out of memory.
@@ -97,9 +74,10 @@ pub fn take_round<A: Allocator + Copy, K: Keeper<A>, S: Source>(
 {
     let mut took = false;
     for place in 0..sources.len() {
-        if take_turn(sequencer, keeper, kept, &mut sources[place])? {
+        if take_some(sequencer, keeper, kept, &mut sources[place])? {
             took = true;
         }
+        handle_ready(sequencer, keeper, kept)?;
     }
     Ok(took)
 }
@@ -125,6 +103,5 @@ pub fn take_all<A: Allocator + Copy, K: Keeper<A>, S: Source>(
     ensures along { OnOk result (IsAlong (K.stands keeper.now) sequencer.new kept.new) }
 {
     while take_round(sequencer, keeper, kept, sources)? {}
-    handle_ready(sequencer, keeper, kept)?;
-    Ok(())
+    handle_ready(sequencer, keeper, kept)
 }

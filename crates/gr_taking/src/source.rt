@@ -111,9 +111,7 @@ impl<'l, R: Reading> Source for ListSource<'l, R> {
         ensures header { self.new.group ≡ self.old.group }
         ensures next { MatchOption result ((self.old.records ≡ []) × (self.new.records ≡ [])) (λ e. self.old.records ≡ e ∷ self.new.records) }
     {
-        match self.rest.split_off_first() {
-            None => None,
-            Some(event) => Some(self.reading.read(event)),
-        }
+        let event = self.rest.split_off_first()?;
+        Some(self.reading.read(event))
     }
 }

@@ -1,32 +1,16 @@
-use Rattle.std.proofs.Common.{◌≡◌, ◌<◌, ◌+◌, ◌++◌, ◌∷◌, [], ap, arith, get_or, inl, inr, length, length-append, map, sym, ◌∙◌}
-use Rattle.std.proofs.Math.Seq.{get_or-append_seam}
-use Rattle.std.proofs.lemmas.Bool.{cases_eq}
-use Rattle.std.proofs.lemmas.List.{get_or_append_left}
-use Rattle.gr_model.specs.Streams.{list_of}
+use Rattle.std.proofs.Common.{◌≡◌, ap, arith, length, sym, ◌∙◌}
+use Rattle.std.proofs.lemmas.List.FromFn.{get_or-map-range_with_len, length-map-range_with_len, map-range_with_len_more}
 use Rattle.gr_taking.proofs.Lists.{read_list}
 use Rattle.gr_taking.proofs.traces.sources_of.Goals as goal
 
-pub returns : goal.returns
-returns g c = record {
-  count = omega (arith, c.loop-group.invariant.count, c.loop-group-test.false, c.loop-group.auto.group-end, c.groups-group-end.ensures.count, ap length c.shape.ensures.sizes);
-  each = λ k d lt. rw (read_list (g.R.Reading.read_as c.args.reading) c.args.traces.now k) (c.loop-group.invariant.each k d lt);
-}
-
 pub loop-group-preserved : goal.loop-group-preserved
-loop-group-preserved g c =
-    let xs = c.loop-group.sources.items in
-    let push = c.in_ok-push.ensures.items in
-    let count = c.loop-group.invariant.count in
-    let more : length c.push.new.self.items ≡ length xs + 1 = ap length push ∙ length-append xs (c.new.result ∷ []) in
+loop-group-preserved g c = rw (c.in_ok-push.ensures.items, c.new.ensures, c.list.ensures.list, c.loop-group.invariant) (sym (map-range_with_len_more _ 0 c.loop-group.group c.loop-group.group (omega arith)))
+
+pub returns : goal.returns
+returns g c =
+    let items = c.loop-group.invariant in
+    let count : length c.loop-group.sources.items ≡ c.loop-group.group = ap length items ∙ length-map-range_with_len _ 0 _ in
     record {
-      count = omega (arith, more, count);
-      each = λ k d lt. elim (cases_eq k c.loop-group.group) [
-        | inl here ↦
-            let at = ap (λ l. get_or l k d) push ∙ ap (λ n. get_or (xs ++ c.new.result ∷ []) n d) (here ∙ sym count) ∙ get_or-append_seam xs c.new.result [] d ∙ c.new.ensures in
-            let list = c.list.ensures.list ∙ ap (list_of c.args.traces.now) (sym here) in
-            at ∙ (λ i. record { group = sym here i; records = map (g.R.Reading.read_as c.args.reading) (list i) })
-        | inr other ↦
-            let below : k < length xs = omega (arith, lt, more, other, count) in
-            ap (λ l. get_or l k d) push ∙ get_or_append_left xs (c.new.result ∷ []) d k below ∙ c.loop-group.invariant.each k d below
-      ];
+      count = omega (arith, count, c.loop-group-test.false, c.loop-group.auto.group-end, c.groups-group-end.ensures.count, ap length c.shape.ensures.sizes);
+      each = λ k d lt. rw (read_list (g.R.Reading.read_as c.args.reading) c.args.traces.now k, items) (get_or-map-range_with_len _ 0 c.loop-group.group k k d (omega (arith, lt, count)) (omega arith));
     }
