@@ -43,23 +43,17 @@ pub fn came_with<A: Allocator>(lanes: &Lanes<A>, item: ItemId, number: u32, mine
     }
 }
 
-/// The mark of a barrier; other events have none.
-fn mark_of(event: &Event) -> Option<Mark>
-    ensures { result ≡ mark_of event.now }
-{
-    match event.kind {
-        Kind::Barrier { global, local } => Some(Mark::new(event.word, global, local)),
-        _ => None,
-    }
-}
-
 /// The mark that an item brought to an instance, if it came.
 /// Requires: the instance is not forgotten.
 fn arrival<A: Allocator>(lanes: &Lanes<A>, item: ItemId, number: u32) -> Option<Mark>
     requires { IsRemembered lanes.now item number }
     ensures { result ≡ arrivals lanes.now.streams item.group number item.item }
 {
-    mark_of(&barrier(lanes, item, number)?)
+    let event = barrier(lanes, item, number)?;
+    match event.kind {
+        Kind::Barrier { global, local } => Some(Mark::new(event.word, global, local)),
+        _ => None,
+    }
 }
 
 /// The marks that a group's items brought to an instance, in sum.
