@@ -100,11 +100,7 @@ impl<A: Allocator> Group<A> {
         ensures count { result ≡ length (marks_at self.now item) }
         ensures few { result ≤ MOST_RECORDS }
     {
-        if item < self.marks.len() {
-            self.marks[item].len()
-        } else {
-            0
-        }
+        self.marks.get(item).map_or(0, |marks| marks.len())
     }
 
     /// How many barriers an item has brought, at most.
