@@ -19,7 +19,7 @@ use Rattle.gr_order.proofs.AtOnceLemmas.{others_at_once, there_at_once}
 use Rattle.gr_agenda.specs.Kept.{AreUndiverged, IsKept}
 use Rattle.gr_agenda.specs.Lists.{Steps}
 use Rattle.gr_agenda.proofs.Frames.{Frame, frame_event}
-use Rattle.gr_agenda.proofs.KeptLemmas.{Goes, kept_framed, named_there, passes_there}
+use Rattle.gr_agenda.proofs.KeptLemmas.{kept_framed, named_there, passes_there}
 use Rattle.gr_agenda.proofs.TakeFrames.{AddsNoMark, divergent_was, other_arrivals, plain_marks, takes_own}
 use Rattle.gr_order.proofs.StateLemmas.{item_cases}
 
@@ -42,10 +42,7 @@ module _ {Z : Type 0} (q : Sequence) (is : IsSequence q) (t : Steps) (lists : Li
   all_handled : (d : EventId) → d.at ≡ e.at → IsEvent q2.taken d → IsIn q2.handled d
   all_handled d own = rw (step.taken, step.handles.order) (λ there. grind (arith, go.first d own, slice_get-append q.handled (e ∷ []), at_behind q.handled (e ∷ []) 0 d, others_at_once q.taken g x is.prefixes go.can go.access.ends d own there))
 
-  -- so none of them goes on, and the group can't meet
-  none_goes : (d : EventId) → d.at ≡ e.at → Goes q2 d → ⊥
-  none_goes d own goes = grind (arith, all_handled d own, named_there q2.taken d)
-
+  -- so the group can't meet
   no_meeting : CanMeet q2.taken q2.handled g → ⊥
   no_meeting can =
       let b = barrier_of q2.taken g can.0 can.1 can.2.convergent x.item (subst (λ (s : Streams). x.item < size_of s g) (sym step.taken) go.can.item) in
@@ -58,7 +55,7 @@ module _ {Z : Type 0} (q : Sequence) (is : IsSequence q) (t : Steps) (lists : Li
 
   pub kept_at_once : (undiverged : List (Option ℕ)) → AreUndiverged q.taken undiverged → IsKept q2 t lists × AreUndiverged q2.taken undiverged
   kept_at_once undiverged are = (
-    kept_framed t t kept (λ r has. has) frame (λ d. item_cases d.at e.at) (λ d own goes. absurd (none_goes d own goes)) g
+    kept_framed t t kept (λ r has. has) frame (λ d. item_cases d.at e.at) (λ d own goes. absurd (grind (arith, all_handled d own, named_there q2.taken d))) g
         (λ can. absurd (no_meeting can)) (λ n apart. rw step.taken (refl, other_arrivals q.taken g x is.prefixes go.can n apart))
         (λ d new. ap (λ (y : EventId). y.at.group) new) (λ n. inr (no_release n)) lists (λ n i waits. inr waits),
     rw step.taken (λ h k told divergent. are h k told (divergent_was q.taken g x is.prefixes go.can go.access.ends h k (marks k) divergent)),

@@ -108,14 +108,11 @@ module _ {Z : Type 0} (q : Sequence) (is : IsSequence q) (t t2 : Steps) (lists l
       → ((n : Name) → n.at ≡ e.at → release_place q.taken n ≡ Some e.index → (i : ItemId) → IsWaiting lists n i → Has t2 (Item i)) → IsKept q2 t2 lists2
   kept_handled e step item group others woken =
       kept_framed t t2 kept keeps frame (λ d. item_cases d.at e.at) (λ d own goes. subst (λ i. Has t2 (Item i)) (sym own) item) e.at.group
-      (λ can. group can (rw step.taken within)) (λ n apart. rw step.taken (refl, λ k i. refl)) (λ x new. ap (λ (y : EventId). y.at.group) new)
+      (λ can. group can (rw step.taken (item_of_event q.taken is.prefixes e step.handles.ready.event.0 step.handles.ready.event.1))) (λ n apart. rw step.taken (refl, λ k i. refl)) (λ x new. ap (λ (y : EventId). y.at.group) new)
       releases lists2 others
     where
       frame : Frame q.taken q2.taken q.handled q2.handled (λ x. x ≡ e) (λ d. d.at ≡ e.at)
       frame = rw (step.taken, step.handles.order) (frame_event (frame_same q.taken q.handled (λ d. d.at ≡ e.at) is.lawful) e step.handles.ready.fresh (λ d same. same))
-
-      within : e.at.item < size_of q.taken e.at.group
-      within = let there = step.handles.ready.event in item_of_event q.taken is.prefixes e there.0 there.1
 
       releases : (n : Name) → ((i : ItemId) → IsWaiting lists n i → Has t2 (Item i)) ⊎ ((x : EventId) → x ≡ e → x.at ≡ n.at → release_place q2.taken n ≡ Some x.index → ⊥)
       releases n = rw step.taken (⊎_elim
@@ -128,7 +125,8 @@ module _ {Z : Type 0} (q : Sequence) (is : IsSequence q) (t t2 : Steps) (lists l
       → IsKept q2 t2 lists
   kept_met g k met group items =
       kept_framed t t2 kept keeps frame (λ d. cases_eq d.at.group g) (items_of q2 (rw met.taken is.prefixes) g t2 items) g (λ can. group)
-      (λ n apart. rw met.taken (refl, λ k i. refl)) (λ x new. (stands x new).group) (λ n. inr (none_released n)) lists (λ n i waits. inr waits)
+      (λ n apart. rw met.taken (refl, λ k i. refl)) (λ x new. (stands x new).group) (λ n. inr (λ x new at. rw met.taken (λ place. grind (arith, barrier_there, stands, passes_there, not_both)))) lists
+      (λ n i waits. inr waits)
     where
       stands : (x : EventId) → IsIn met.meets.barriers x → StandsIn q.taken x g k
       stands x there = (met.meets.are.each there.0 x there.1).1
@@ -137,9 +135,6 @@ module _ {Z : Type 0} (q : Sequence) (is : IsSequence q) (t t2 : Steps) (lists l
       frame = rw (met.taken, met.meets.order) (frame_more (frame_same q.taken q.handled (λ d. d.at.group ≡ g) is.lawful) met.meets.barriers
           (λ x new there. met.meets.meeting.fresh (x, stands x new, there))
           (λ x d new same. ap (λ (i : ItemId). i.group) (sym same) ∙ (stands x new).group))
-
-      none_released : (n : Name) (x : EventId) → IsIn met.meets.barriers x → x.at ≡ n.at → release_place q2.taken n ≡ Some x.index → ⊥
-      none_released n x new at = rw met.taken (λ place. grind (arith, barrier_there, stands, passes_there, not_both))
 
 -- ---- a step is looked at that can't be made
 

@@ -33,6 +33,3 @@ module _ (q : Sequence) (is : IsSequence q) (i : ItemId) (k : ℕ) (next : IsNex
 
   pub undiverged_only : ¬ IsDivergent q.taken i.group k → ¬ CanHandle q.taken q.handled i
   undiverged_only undiverged can = grind (arith, only_next q.taken q.handled is.lawful next.0 next.1 e refl can, stands_there q.taken is.prefixes e there.0 there.1 k next.2)
-
-pub undiverged_set : (s : Streams) (undiverged : List (Option ℕ)) (g n : ℕ) (new : List (Option ℕ)) → AreUndiverged s undiverged → IsTold undiverged g n new → ¬ IsDivergent s g n → AreUndiverged s new
-undiverged_set s undiverged g n new are tells not_divergent h k told divergent = grind arith
