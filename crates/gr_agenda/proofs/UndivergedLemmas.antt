@@ -1,18 +1,18 @@
 -- An item at a barrier can go on exactly where the barrier's instance is divergent; and which instances stay as they are.
-use Rattle.std.proofs.Common.{◌≡◌, arith, ℕ, List, true, Some, Option, refl}
+use Rattle.std.proofs.Common.{◌≡◌, arith, ℕ, true, Some, refl}
 use Rattle.std.specs.Prelude.{slice_index_or}
 use Rattle.std.proofs.lemmas.List.Elements.{Contains-get_or}
 use Rattle.gr_model.specs.declared.event.Event.{Event}
 use Rattle.gr_model.specs.declared.event.EventId.{EventId}
 use Rattle.gr_model.specs.declared.event.ItemId.{ItemId}
 use Rattle.gr_model.specs.Barriers.{IsDivergent, is_barrier}
-use Rattle.gr_model.specs.Streams.{Streams, event_at}
+use Rattle.gr_model.specs.Streams.{event_at}
 use Rattle.gr_clocks.specs.Counts.{count_of}
 use Rattle.gr_steps.specs.Steps.{CanHandle}
 use Rattle.gr_steps.proofs.EventRecords.{barriers_name_nothing}
 use Rattle.gr_order.specs.Sequences.{IsSequence, Sequence}
 use Rattle.gr_order.proofs.ReadyLemmas.{only_next, passes_if, ready_if, stands_there}
-use Rattle.gr_agenda.specs.Kept.{AreUndiverged, IsNextBarrier, IsTold}
+use Rattle.gr_agenda.specs.Kept.{IsNextBarrier}
 use Rattle.gr_agenda.proofs.KeptLemmas.{passes_there}
 
 module _ (q : Sequence) (is : IsSequence q) (i : ItemId) (k : ℕ) (next : IsNextBarrier q i k) where
