@@ -1,6 +1,5 @@
 -- No step is left where none is left in any group.
-use Rattle.std.proofs.Common.{arith, ℕ, ◌↔◌, ◌<◌, ◌≤◌, length, sym, subst, ⊎_elim, ◌≡◌, Bool, not, IsTrue, Option, is_some}
-use Rattle.std.specs.Prelude.{MatchOption}
+use Rattle.std.proofs.Common.{arith, ℕ, ◌↔◌, ◌<◌, ◌≤◌, length, sym, subst, ⊎_elim, ◌≡◌}
 use Rattle.std.proofs.lemmas.Bool.{cases_lt}
 use Rattle.gr_steps.specs.Steps.{CanHandle, IsAtRest}
 use Rattle.gr_steps.proofs.Resting.{rest_grounded}
@@ -27,11 +26,6 @@ module _ (q : Sequence) (is : IsSequence q) where
   rest_is_done rest = record { rest = rest; grounded = rest_grounded q.taken q.handled is.lawful rest }
 
 -- where a step can be made, some step is left
-not_at_rest : (q : Sequence) (r : Ready) → CanMake q r → ¬ IsAtRest q.taken q.handled
+pub not_at_rest : (q : Sequence) (r : Ready) → CanMake q r → ¬ IsAtRest q.taken q.handled
 not_at_rest q (Item i) can rest = rest.handles i can
 not_at_rest q (Group g) can rest = rest.meets g can
-
--- b says that no step can be made
-module _ (q : Sequence) where
-  pub rest_if_none : (o : Option Ready) (b : Bool) → is_some o ≡ not b → MatchOption o (IsDone q) (λ r. CanMake q r) → IsTrue b ↔ IsAtRest q.taken q.handled
-  rest_if_none o b e done = grind (arith, not_at_rest q)

@@ -12,6 +12,7 @@ use gr_model::history::History;
 use std::alloc::Allocator;
 
 /// Adds the next event of each item of a group to the order.
+#[tactic(auto, using(crate::proofs::PassLemmas::one_event_more))]
 pub(crate) fn add_next_events<A: Allocator>(
     handled: &mut History<EventId>,
     frontier: &Tally<A>,

@@ -474,6 +474,7 @@ impl<A: Allocator> Schedule<A> {
     }
 
     /// Whether no step is left. The handled events are then the grounded ones.
+    #[tactic(auto, using(crate::proofs::RestLemmas::not_at_rest))]
     pub fn is_at_rest(&self) -> bool
         ensures rest { IsTrue result ↔ IsAtRest self.now.taken self.now.handled }
         ensures done { IsTrue result → IsDone self.now }
