@@ -19,7 +19,7 @@ pub struct Growths {
 /// Asks for an answer with each growth refused in turn, until none is refused. An answer says whether it is as wanted. "Out of memory" is
 /// right as well where a growth was refused. The error is the number of the first growth with a wrong answer, or how many growths there
 /// are, where these are less than `least`: then too little was tried.
-pub fn refuse_each<F: Fn(&Refusing<Global>) -> Result<bool, Memory>>(
+pub fn refuse_each<'a, F: Fn(&'a Refusing<Global>) -> Result<bool, Memory>>(
     alloc: Global,
     least: u64,
     answer: F,
@@ -28,15 +28,14 @@ pub fn refuse_each<F: Fn(&Refusing<Global>) -> Result<bool, Memory>>(
 {
     let mut told = 0_u64;
     for at in 0..MOST {
-        let heap = Refusing::new(alloc, at);
-        let answered = answer(&heap);
-        let is_refused = heap.refused();
-        match answered {
+        let heap = Box::new(alloc, Refusing::new(alloc, at)).map_err(|_| at)?;
+        let heap: &'a Refusing<Global> = Box::leak(heap);
+        match answer(heap) {
             Ok(true) => {}
-            Err(Memory) if is_refused => told = told.saturating_add(1),
+            Err(Memory) if heap.refused() => told = told.saturating_add(1),
             _ => return Err(at),
         }
-        if !is_refused {
+        if !heap.refused() {
             return if at < least {
                 Err(at)
             } else {
