@@ -22,16 +22,16 @@ use Rattle.gr_model.specs.Waits.{Stage, IsGrounded, IsPrevious, Waits, for_previ
 use Rattle.gr_model.proofs.Descent.{stage_descends}
 use Rattle.gr_model_tests.specs.Examples.{access, acquire, acquire_of, the_end, release, event, half_there, handed_by_two, handed_over, names_itself, crossed, scopes_differ, two_releases, mixed, waiting, met, the_mark}
 
-handed_match : Matches handed_over (event 1 0 0) (event 0 0 1)
-handed_match = record { name = release 0 0 0; by = record { named = (0, lit< tt, refl); item = refl; place = refl; word = refl } }
-
-handed_inclusive : IsInclusive handed_over Global (event 0 0 1) (event 1 0 0)
-handed_inclusive =
-    record { first = _; second = _; at_first = refl; at_second = refl; word = _; has_word = refl; memory = refl; scopes = refl }
+-- a write, the release after it, an acquire that names that, and a read
+handed : (s : Streams) (group other k : ℕ) → BasePair s Global (event group 0 0) (event group 0 1) → Matches s (event other 0 0) (event group 0 1)
+    → IsInclusive s Global (event group 0 1) (event other 0 0) → BasePair s Global (event other 0 0) (event other 0 k) → HappensBefore s Global (event group 0 0) (event other 0 k)
+handed s group other k before match inclusive after = through (through (by_pair before) (synchronized match inclusive)) after
 
 pub write_before_read : HappensBefore handed_over Global (event 0 0 0) (event 1 0 1)
 write_before_read =
-    through (through (by_pair (sequenced refl (lit< tt) (_, refl))) (synchronized handed_match handed_inclusive)) (sequenced refl (lit< tt) (_, refl))
+    handed handed_over 0 1 1 (sequenced refl (lit< tt) (_, refl))
+    (record { name = release 0 0 0; by = record { named = (0, lit< tt, refl); item = refl; place = refl; word = refl } })
+    (record { first = _; second = _; at_first = refl; at_second = refl; word = _; has_word = refl; memory = refl; scopes = refl }) (sequenced refl (lit< tt) (_, refl))
 
 pub second_is_cut : IsCut handed_over 1
 second_is_cut = (lit< tt, 2, the_end true, refl, refl)
@@ -125,27 +125,17 @@ of_another_word = (other_words, (release 0 0 1, (0, lit< tt, refl), (1, refl, λ
 
 -- ---- several names
 
-by_first : Matches handed_by_two (event 2 0 0) (event 0 0 1)
-by_first = record { name = release 0 0 0; by = record { named = (0, lit< tt, refl); item = refl; place = refl; word = refl } }
-
-by_second : Matches handed_by_two (event 2 0 0) (event 1 0 1)
-by_second = record { name = release 1 0 0; by = record { named = (1, lit< tt, refl); item = refl; place = refl; word = refl } }
-
-first_inclusive : IsInclusive handed_by_two Global (event 0 0 1) (event 2 0 0)
-first_inclusive =
-    record { first = _; second = _; at_first = refl; at_second = refl; word = _; has_word = refl; memory = refl; scopes = refl }
-
-second_inclusive : IsInclusive handed_by_two Global (event 1 0 1) (event 2 0 0)
-second_inclusive =
-    record { first = _; second = _; at_first = refl; at_second = refl; word = _; has_word = refl; memory = refl; scopes = refl }
-
 pub first_before_read : HappensBefore handed_by_two Global (event 0 0 0) (event 2 0 1)
 first_before_read =
-    through (through (by_pair (sequenced refl (lit< tt) (_, refl))) (synchronized by_first first_inclusive)) (sequenced refl (lit< tt) (_, refl))
+    handed handed_by_two 0 2 1 (sequenced refl (lit< tt) (_, refl))
+    (record { name = release 0 0 0; by = record { named = (0, lit< tt, refl); item = refl; place = refl; word = refl } })
+    (record { first = _; second = _; at_first = refl; at_second = refl; word = _; has_word = refl; memory = refl; scopes = refl }) (sequenced refl (lit< tt) (_, refl))
 
 pub second_before_read : HappensBefore handed_by_two Global (event 1 0 0) (event 2 0 2)
 second_before_read =
-    through (through (by_pair (sequenced refl (lit< tt) (_, refl))) (synchronized by_second second_inclusive)) (sequenced refl (lit< tt) (_, refl))
+    handed handed_by_two 1 2 2 (sequenced refl (lit< tt) (_, refl))
+    (record { name = release 1 0 0; by = record { named = (1, lit< tt, refl); item = refl; place = refl; word = refl } })
+    (record { first = _; second = _; at_first = refl; at_second = refl; word = _; has_word = refl; memory = refl; scopes = refl }) (sequenced refl (lit< tt) (_, refl))
 
 pub one_is_absent : HasAcquireCause half_there (event 1 0 0) Absent
 one_is_absent = (release 0 0 2, (1, lit< tt, refl), refl)

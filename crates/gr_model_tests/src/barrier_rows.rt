@@ -1,25 +1,22 @@
 //! A worked row of barrier instances. A call to which a growth was refused leaves what is known as it was, and then gives the row's answer.
 
-ghost use Rattle.std.specs.Prelude.{◌≡◌, ◌<◌, ◌≤◌, ◌+◌, ◌∷◌, [], length, IfSome, OnErr};
+ghost use Rattle.std.specs.Prelude.{◌≡◌, ◌<◌, ◌≤◌, ◌+◌, ◌∷◌, [], length, IfOk, OnErr};
 ghost use Rattle.gr_model.specs.declared.event.ItemId.{ItemId};
 ghost use Rattle.gr_barriers.specs.Arrived.{sizes_of, marks_of};
 
-use crate::launch::{item, two_items};
+use crate::launch::{item, shape_of};
 use gr_barriers::instances::{BarrierError, Instances, State};
 use gr_barriers::{Divergence, DivergenceCause};
+use gr_model::memory::Memory;
 use refusing::growths::refuse_each;
 use std::alloc::Allocator;
 
-/// The instances of two items; where a growth is refused they are asked for once more.
-fn new_instances<A: Allocator + Copy>(alloc: A) -> Option<Instances<A>>
-    ensures sizes { IfSome result (λ v. sizes_of v ≡ 2 ∷ []) }
-    ensures none { IfSome result (λ v. (i : ItemId) → length (marks_of v i) ≤ 0) }
+/// The instances of two items.
+fn new_instances<A: Allocator + Copy>(alloc: A) -> Result<Instances<A>, Memory>
+    ensures sizes { IfOk result (λ v. sizes_of v ≡ 2 ∷ []) }
+    ensures none { IfOk result (λ v. (i : ItemId) → length (marks_of v i) ≤ 0) }
 {
-    let shape = two_items(alloc)?;
-    if let Ok(instances) = Instances::new(alloc, &shape) {
-        return Some(instances);
-    }
-    Instances::new(alloc, &shape).ok()
+    Instances::new(alloc, &shape_of(alloc, &[2])?)
 }
 
 /// The states of the first three instances.
@@ -121,10 +118,10 @@ fn arrivals_and_an_end<A: Allocator + Copy>(instances: &mut Instances<A>) -> Opt
     ))
 }
 
-/// The same of new instances.
-fn two_sites_and_an_end<A: Allocator + Copy>(alloc: A) -> Option<Seen> {
+/// Whether new instances show this, or memory ran out before the first arrival.
+fn is_seen<A: Allocator + Copy>(alloc: A, want: &Seen) -> Result<bool, Memory> {
     let mut instances = new_instances(alloc)?;
-    arrivals_and_an_end(&mut instances)
+    Ok(arrivals_and_an_end(&mut instances) == Some(*want))
 }
 
 /// The divergence of an instance of group 0.
@@ -138,7 +135,7 @@ fn divergence(instance: u32, cause: DivergenceCause) -> Divergence {
 
 #[test]
 fn arrivals_and_divergences(rt: HostRuntime) {
-    let want = Some((
+    let want = (
         [Ok(0), Ok(0), Ok(1)],
         [Some(State::Waiting), Some(State::Divergent)],
         [
@@ -147,7 +144,7 @@ fn arrivals_and_divergences(rt: HostRuntime) {
             None,
         ],
         [Err(BarrierError::Ended(0)), Err(BarrierError::UnknownItem)],
-    ));
-    let growths = refuse_each(rt.alloc(), 1, |heap| Ok(two_sites_and_an_end(heap) == want));
+    );
+    let growths = refuse_each(rt.alloc(), 1, |heap| is_seen(heap, &want));
     assert!(rt; growths.is_ok(), "{growths:?}");
 }

@@ -1,12 +1,13 @@
 //! A worked row of vector clocks. A call to which a growth was refused leaves the counts as they were, and then gives the row's answer.
 
-ghost use Rattle.std.specs.Prelude.{◌≡◌, ◌<◌, ◌∷◌, [], IfSome};
+ghost use Rattle.std.specs.Prelude.{◌≡◌, ◌<◌, ◌∷◌, [], IfOk};
 
-use crate::launch::{item, two_items};
+use crate::launch::{item, shape_of};
 use gr_clocks::clock::{Clock, ClockError};
 use gr_clocks::clocks::Clocks;
 use gr_clocks::snapshot::Snapshot;
 use gr_model::event::{Scope, Space, Word};
+use gr_model::memory::Memory;
 use refusing::growths::refuse_each;
 use std::alloc::Allocator;
 
@@ -15,14 +16,12 @@ fn counts<A: Allocator>(clock: &Clock<A>) -> [u32; 2] {
     [clock.get(item(0)), clock.get(item(1))]
 }
 
-/// The clocks of two items; where a growth is refused they are asked for once more.
-fn new_clocks<A: Allocator + Copy>(alloc: A) -> Option<Clocks<A>>
-    ensures { IfSome result (λ c. c.sizes ≡ 2 ∷ []) }
+/// The clocks of two items.
+fn new_clocks<A: Allocator + Copy>(alloc: A) -> Result<Clocks<A>, Memory>
+    ensures { IfOk result (λ c. c.sizes ≡ 2 ∷ []) }
 {
-    let shape = two_items(alloc)?;
-    Clocks::new(alloc, &shape)
-        .or_else(|_| Clocks::new(alloc, &shape))
-        .ok()
+    let shape = shape_of(alloc, &[2])?;
+    Clocks::new(alloc, &shape).map_err(|_| Memory)
 }
 
 /// The counts of an item's clock in a memory.
@@ -131,12 +130,6 @@ fn steps_of_two_items<A: Allocator + Copy>(clocks: &mut Clocks<A>) -> Option<See
     Some((counts(first.clock()), acquired, second, all_known(clocks)))
 }
 
-/// The same with clocks of their own.
-fn release_acquire_and_a_barrier<A: Allocator + Copy>(alloc: A) -> Option<Seen> {
-    let mut clocks = new_clocks(alloc)?;
-    steps_of_two_items(&mut clocks)
-}
-
 static SEEN: Option<Seen> = Some((
     [2, 0],
     [[2, 1], [0, 1]],
@@ -144,12 +137,14 @@ static SEEN: Option<Seen> = Some((
     [[3, 3], [3, 3], [3, 0], [0, 3]],
 ));
 
+/// Whether clocks of their own show that, or memory ran out before the first step.
+fn is_seen<A: Allocator + Copy>(alloc: A) -> Result<bool, Memory> {
+    let mut clocks = new_clocks(alloc)?;
+    Ok(steps_of_two_items(&mut clocks) == SEEN)
+}
+
 #[test]
 fn releases_acquires_and_barriers(rt: HostRuntime) {
-    let growths = refuse_each(
-        rt.alloc(),
-        1,
-        |heap| Ok(release_acquire_and_a_barrier(heap) == SEEN),
-    );
+    let growths = refuse_each(rt.alloc(), 1, |heap| is_seen(heap));
     assert!(rt; growths.is_ok(), "{growths:?}");
 }

@@ -16,18 +16,11 @@ fn sizes_of_eight<A: Allocator>(alloc: A) -> Result<Vec<u16, A>, Memory> {
     Ok(sizes)
 }
 
-/// A list that has its end alone.
-fn list_of_end<A: Allocator>(alloc: A) -> Result<Vec<Event, A>, Memory> {
-    let mut list = Vec::new(alloc);
-    list.push(Event::end(false))?;
-    Ok(list)
-}
-
 /// The lists of eight groups, each of which has its end alone.
 fn lists_of_eight<A: Allocator + Copy>(alloc: A) -> Result<Vec<Vec<Event, A>, A>, Memory> {
     let mut lists = Vec::new(alloc);
     for _group in 0..8 {
-        lists.push(list_of_end(alloc)?)?;
+        lists.push(vec![in alloc; Event::end(false)]?)?;
     }
     Ok(lists)
 }
@@ -35,10 +28,8 @@ fn lists_of_eight<A: Allocator + Copy>(alloc: A) -> Result<Vec<Vec<Event, A>, A>
 /// Whether the traces of this shape's copy have 2,048 items, or memory ran out.
 fn has_copy_all_items<A: Allocator + Copy>(alloc: A, shape: &Shape<A>) -> Result<bool, Memory> {
     let copy = shape.copy()?;
-    match Traces::new(copy, lists_of_eight(alloc)?) {
-        Ok(traces) => Ok(traces.shape().total() == 2_048),
-        Err(_) => Ok(false),
-    }
+    let traces = Traces::new(copy, lists_of_eight(alloc)?);
+    Ok(traces.is_ok_and(|traces| traces.shape().total() == 2_048))
 }
 
 /// Whether the traces of eight groups of 256 have 2,048 items, or memory ran out.

@@ -1,6 +1,6 @@
-//! Shapes, and the launch of the worked rows: one group of two items.
+//! Shapes, and the items of the worked rows.
 
-ghost use Rattle.std.specs.Prelude.{◌≡◌, ◌∷◌, [], IfOk, IfSome};
+ghost use Rattle.std.specs.Prelude.{◌≡◌, IfOk};
 
 use gr_model::event::ItemId;
 use gr_model::memory::Memory;
@@ -11,10 +11,7 @@ use std::alloc::Allocator;
 pub(crate) fn shape_of<A: Allocator + Copy>(alloc: A, sizes: &[u16]) -> Result<Shape<A>, Memory>
     ensures { IfOk result (λ s. s ≡ sizes.now) }
 {
-    match Shape::new(Vec::from_slice(alloc, sizes)?) {
-        Ok(shape) => Ok(shape),
-        Err(_) => Err(Memory),
-    }
+    Shape::new(Vec::from_slice(alloc, sizes)?).map_err(|_| Memory)
 }
 
 /// The item of group 0 at this place.
@@ -22,12 +19,4 @@ pub(crate) fn item(item: u16) -> ItemId
     ensures { result ≡ record { group = 0; item = item } }
 {
     ItemId { group: 0, item }
-}
-
-/// The shape of one group of two items; where a growth is refused it is asked for once more.
-pub(crate) fn two_items<A: Allocator + Copy>(alloc: A) -> Option<Shape<A>>
-    ensures { IfSome result (λ s. s ≡ 2 ∷ []) }
-{
-    let sizes = vec![in alloc; 2].or_else(|_| vec![in alloc; 2]);
-    Shape::new(sizes.ok()?).ok()
 }

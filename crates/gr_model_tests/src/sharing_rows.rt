@@ -22,11 +22,6 @@ fn counts<A: Allocator>(clock: &Clock<A>) -> Counts {
     ]
 }
 
-fn new_clock<A: Allocator + Copy>(alloc: A) -> Option<Clock<A>> {
-    let shape = shape_of(alloc, &[2, 2, 2]).ok()?;
-    Clock::new(alloc, &shape).ok()
-}
-
 /// Ticks an item, tried twice.
 fn tick<A: Allocator + Copy>(clock: &mut Clock<A>, item: ItemId) -> Option<()> {
     tried(clock, counts, |clock| clock.tick(item).map_err(|_| Memory))
@@ -56,15 +51,11 @@ fn tick_and_copy<A: Allocator + Copy>(first: &mut Clock<A>) -> Option<(Counts, C
     tick_and_join(first, &mut copied)
 }
 
-/// The same of a new clock.
-fn ticks_behind_a_copy<A: Allocator + Copy>(alloc: A) -> Option<(Counts, Counts)> {
-    let mut first = new_clock(alloc)?;
-    tick_and_copy(&mut first)
-}
-
-/// Whether the counts are those of the row, or memory ran out.
+/// Whether the counts of a new clock are those of the row, or memory ran out.
 fn are_counted<A: Allocator + Copy>(alloc: A) -> Result<bool, Memory> {
-    let counts = ticks_behind_a_copy(alloc).ok_or(Memory)?;
+    let shape = shape_of(alloc, &[2, 2, 2])?;
+    let mut first = Clock::new(alloc, &shape).map_err(|_| Memory)?;
+    let counts = tick_and_copy(&mut first).ok_or(Memory)?;
     Ok(counts == ([[1, 0], [0, 3], [0, 0]], [[1, 0], [0, 4], [0, 0]]))
 }
 
