@@ -190,10 +190,7 @@ fn push_stream<'a, A: Allocator + Copy>(
     if let Some(rest) = push_records(alloc, form, output, header, records)? {
         return Ok(rest);
     }
-    match skip_front_records(header, records) {
-        Ok(rest) => Ok(rest),
-        Err(error) => Err(Fault::of_stream(place, error)),
-    }
+    skip_front_records(header, records).map_err(|error| Fault::of_stream(place, error))
 }
 
 /// The streams in the bytes, one after another, in a form. The groups and launch numbers of different streams

@@ -88,16 +88,15 @@ fn parse_flags(word: &[u8]) -> Option<(bool, bool)>
 fn make_header(version: Version, group: u16, items: u16, launch: u32) -> Option<Header>
     ensures { result ≡ header_made version group items launch }
 {
-    if usize::from(group) < version.most_groups() && 1 <= items && items <= version.most_items() {
-        Some(Header {
-            version,
-            group,
-            items,
-            launch,
-        })
-    } else {
-        None
-    }
+    let fits = usize::from(group) < version.most_groups()
+        && 1 <= items
+        && items <= version.most_items();
+    fits.then_some(Header {
+        version,
+        group,
+        items,
+        launch,
+    })
 }
 
 /// The version that the words after the launch of a header's line give.
@@ -171,10 +170,7 @@ fn parse_names(bytes: Option<&[u8]>) -> Option<([Name; MOST_NAMES], usize)>
         names[place] = name;
         rest = behind;
     }
-    match rest {
-        None => Some((names, MOST_NAMES)),
-        Some(_) => None,
-    }
+    rest.is_none().then_some((names, MOST_NAMES))
 }
 
 #[tactic(auto, unfolding(crate::specs::LineReading::kind_said))]
@@ -269,14 +265,10 @@ fn parse_event(item: u16, bytes: &[u8]) -> Option<Event>
 fn check(version: Version, event: Event) -> Option<Event>
     ensures { result ≡ checked version event }
 {
-    if event.item < version.most_items()
+    let fits = event.item < version.most_items()
         && order_fits(event.kind)
-        && naming(version, event.kind, event.names.as_slice()).is_some()
-    {
-        Some(event)
-    } else {
-        None
-    }
+        && naming(version, event.kind, event.names.as_slice()).is_some();
+    fits.then_some(event)
 }
 
 /// What a line of a stream of this version says, word by word.

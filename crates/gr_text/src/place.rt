@@ -83,8 +83,7 @@ fn take_said(
         (Place::Inside { header, left }, Line::Event(event)) => {
             take_event(number, header, left, event, site)
         }
-        (Place::Outside, Line::Event(_)) => Err(Fault::BadLine(number)),
-        (Place::Inside { header: _, left: _ }, Line::Header(_)) => Err(Fault::BadLine(number)),
+        _ => Err(Fault::BadLine(number)),
     }
 }
 

@@ -32,12 +32,7 @@ pub fn parse_number(word: &[u8]) -> Option<u32>
 pub fn parse_short(word: &[u8]) -> Option<u16>
     ensures { result ≡ short_of word.now }
 {
-    let number = parse_number(word)?;
-    if number < 65_536 {
-        Some(number as u16)
-    } else {
-        None
-    }
+    u16::try_from(parse_number(word)?).ok()
 }
 
 /// The place of the first byte that is this one.
