@@ -25,11 +25,8 @@ const ACQUIRE: &str = "group 1 items 1 launch 7\n0 ld g 20 dev acq < 0 0 0\nend 
 
 /// The bytes of each stream.
 fn inputs_of(alloc: Global, texts: &[&str]) -> Result<Vec<Vec<u8>>, Fail> {
-    let mut all = Vec::new(alloc);
-    for text in texts {
-        all.push(packed(alloc, text)?)?;
-    }
-    Ok(all)
+    let inputs = texts.iter().map(|text| packed(alloc, text));
+    inputs.try_collect::<Vec<Vec<u8>>>(alloc)
 }
 
 /// A reader of each input.
@@ -37,11 +34,8 @@ fn readers_of<'a, A: Allocator>(
     alloc: A,
     inputs: &'a [Vec<u8>],
 ) -> Result<Vec<&'a [u8], A>, AllocError> {
-    let mut readers = Vec::new(alloc);
-    for input in inputs {
-        readers.push(input.as_slice())?;
-    }
-    Ok(readers)
+    let readers = inputs.iter().map(|input| input.as_slice());
+    readers.collect::<Vec<&'a [u8], A>>(alloc)
 }
 
 /// A record of no kind, and an end: neither begins with a magic.
@@ -58,14 +52,9 @@ const NO_HEADERS: [[u8; 20]; 2] = [
 fn a_reader_that_fails_comes_before_a_fault(rt: HostRuntime) -> Result<(), Fail> {
     for calls in 0..33 {
         let mut readers = Vec::new(rt.alloc());
-        readers.push(FailingReader {
-            bytes: &NO_HEADERS[0],
-            calls: 21,
-        })?;
-        readers.push(FailingReader {
-            bytes: &NO_HEADERS[1],
-            calls,
-        })?;
+        for (bytes, calls) in [(&NO_HEADERS[0], 21), (&NO_HEADERS[1], calls)] {
+            readers.push(FailingReader { bytes, calls })?;
+        }
         let answer = read_each(rt.alloc(), readers);
         let due = if calls < 21 {
             Fault::Read

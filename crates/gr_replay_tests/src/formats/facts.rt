@@ -23,6 +23,16 @@ const NAME: Name = Name {
     release: 0,
 };
 
+const ACQUIRE: Kind = Kind::Load(Scope::Device, Order::Acquire);
+
+/// The header of a stream of version 1, of one item.
+const HEADER: Header = Header {
+    version: Version::One,
+    group: 0,
+    items: 1,
+    launch: 0,
+};
+
 /// The flag of global memory is the first.
 #[test]
 fn encode_event_of_a_barrier() {
@@ -45,16 +55,10 @@ fn encode_event_of_a_barrier() {
 #[test]
 #[tactic(auto, unfolding(gr_record::specs::Reading::event_at, gr_record::specs::Reading::bad_field_from))]
 fn read_event_of_a_record_with_byte_6() {
-    let header = Header {
-        version: Version::One,
-        group: 0,
-        items: 1,
-        launch: 0,
-    };
     let write = [
         1, 0, 0, 0, 0, 0, 1, 0, 4, 0, 0, 0, 255, 255, 255, 255, 255, 255, 255, 255,
     ];
-    prove!(read_event(header, &write).is_err());
+    prove!(read_event(HEADER, &write).is_err());
 }
 
 /// Bytes 6 and 7 of a record of version 3 are its site.
@@ -74,9 +78,8 @@ fn naming_of_group_64() {
         at: ItemId { group: 64, item: 0 },
         release: 0,
     };
-    let acquire = Kind::Load(Scope::Device, Order::Acquire);
-    prove!(naming(Version::One, acquire, &[far]).is_none());
-    prove!(naming(Version::Three, acquire, &[far]).is_some());
+    prove!(naming(Version::One, ACQUIRE, &[far]).is_none());
+    prove!(naming(Version::Three, ACQUIRE, &[far]).is_some());
 }
 
 /// All bits of group 300 are written.
@@ -85,8 +88,7 @@ fn header_of_group_300() {
     let header = Header {
         version: Version::Three,
         group: 300,
-        items: 1,
-        launch: 0,
+        ..HEADER
     };
     let mut bytes = [0; 12];
     encode_header(&header, &mut bytes);
@@ -103,24 +105,15 @@ fn finish_of_nothing() {
 /// A relaxed load has no names.
 #[test]
 fn naming_of_a_relaxed_load() {
-    prove!(naming(
-        Version::One,
-        Kind::Load(Scope::Device, Order::Relaxed),
-        &[NAME]
-    )
-    .is_none());
+    let relaxed = Kind::Load(Scope::Device, Order::Relaxed);
+    prove!(naming(Version::One, relaxed, &[NAME]).is_none());
 }
 
 /// Names that descend are no names of an event.
 #[test]
 fn naming_of_names_out_of_order() {
     let later = Name { release: 1, ..NAME };
-    prove!(naming(
-        Version::One,
-        Kind::Load(Scope::Device, Order::Acquire),
-        &[later, NAME]
-    )
-    .is_none());
+    prove!(naming(Version::One, ACQUIRE, &[later, NAME]).is_none());
 }
 
 /// The first line of a site gives its place.
