@@ -41,19 +41,6 @@ pub(crate) static ALL: [Asked; 9] = [
     Asked::History(Word::Global(16)),
 ];
 
-/// The question for an event of group 0.
-fn held_event(item: u16, index: u32) -> HeldEvent {
-    HeldEvent(EventId {
-        at: ItemId { group: 0, item },
-        index,
-    })
-}
-
-/// The question for all kinds of races.
-fn all_races(causes: bool) -> Races {
-    Races { most: None, causes }
-}
-
 /// Answers a question as the program does.
 fn shown<A: Allocator + Copy, Q: Question<A>>(
     alloc: A,
@@ -72,10 +59,7 @@ fn checked<A: Allocator + Copy>(
     writer: &mut FailingWriter,
 ) -> Result<bool, Fault> {
     let checked = check_files(alloc, files.names(), |name: &str| files.open(name))?;
-    let Ok(text) = check_text(alloc, &checked) else {
-        return Err(Fault::Memory);
-    };
-    write_text(writer, &text)?;
+    write_text(writer, &check_text(alloc, &checked)?)?;
     Ok(checked.is_accepted())
 }
 
@@ -89,8 +73,11 @@ pub(crate) fn answered<A: Allocator + Copy>(
     match asked {
         Asked::Pair(word) => shown(alloc, files, &LeastRace(word), writer),
         Asked::Account(word) => shown(alloc, files, &LongRace(word), writer),
-        Asked::Races(causes) => shown(alloc, files, &all_races(causes), writer),
-        Asked::WhyHeld(item, index) => shown(alloc, files, &held_event(item, index), writer),
+        Asked::Races(causes) => shown(alloc, files, &Races { most: None, causes }, writer),
+        Asked::WhyHeld(item, index) => {
+            let at = ItemId { group: 0, item };
+            shown(alloc, files, &HeldEvent(EventId { at, index }), writer)
+        }
         Asked::History(word) => shown(alloc, files, &WordHistory(word), writer),
         Asked::Check => Ok(checked(alloc, files, writer)?),
     }

@@ -8,9 +8,6 @@ use refusing::failing::FailingWriter;
 use std::alloc::Global;
 use std::test::Fail;
 
-/// A question, for all that one frame answers, and a check.
-static QUESTIONS: [Asked; 2] = [Asked::Races(true), Asked::Check];
-
 /// Whether a file that fails is reported, and nothing is written.
 fn fails_to_read(alloc: Global, files: Files<'_>, question: Asked) -> bool {
     let mut writer = FailingWriter::with_room(alloc, usize::MAX);
@@ -27,31 +24,14 @@ fn fails_at_each_read(alloc: Global, streams: &[Vec<u8>], name: &str, question: 
     (0..bytes.len() + 1).all(|calls| fails_to_read(alloc, files.failing(name, calls), question))
 }
 
-/// The files that are read for an answer.
-fn files_of(question: Asked) -> &'static [&'static str] {
-    match question {
-        Asked::Check => &["0"],
-        _ => &["places", "buffers", "0"],
-    }
-}
-
 /// Whether each file that is read for an answer is reported if it fails.
 fn fails_in_each_file(alloc: Global, streams: &[Vec<u8>], question: Asked) -> bool {
-    files_of(question)
-        .iter()
-        .all(|name| fails_at_each_read(alloc, streams, name, question))
-}
-
-#[test]
-fn readers_that_fail_are_reported(rt: HostRuntime) -> Result<(), Fail> {
-    let streams = streams_of(rt.alloc(), &NOTED)?;
-    for question in &QUESTIONS {
-        assert!(rt;
-            fails_in_each_file(rt.alloc(), &streams, *question),
-            "{question:?}"
-        );
-    }
-    Ok(())
+    let names: &[&str] = match question {
+        Asked::Check => &["0"],
+        _ => &["places", "buffers", "0"],
+    };
+    let mut names = names.iter();
+    names.all(|name| fails_at_each_read(alloc, streams, name, question))
 }
 
 /// Whether a writer that fails after `room` bytes, or at its flush after all, is reported and has `room` bytes of the text.
@@ -76,14 +56,14 @@ fn fails_at_each_write(alloc: Global, streams: &[Vec<u8>], question: Asked) -> b
     answered.is_ok() && !text.is_empty() && (0..text.len() + 1).all(fails)
 }
 
+/// For a question, for all that one frame answers, and a check. A writer that fails has a prefix.
 #[test]
-fn writers_that_fail_have_a_prefix(rt: HostRuntime) -> Result<(), Fail> {
+fn readers_and_writers_that_fail_are_reported(rt: HostRuntime) -> Result<(), Fail> {
     let streams = streams_of(rt.alloc(), &NOTED)?;
-    for question in &QUESTIONS {
-        assert!(rt;
-            fails_at_each_write(rt.alloc(), &streams, *question),
-            "{question:?}"
-        );
+    for question in [Asked::Races(true), Asked::Check] {
+        let reads = fails_in_each_file(rt.alloc(), &streams, question);
+        let writes = fails_at_each_write(rt.alloc(), &streams, question);
+        assert_eq!(rt; (reads, writes), (true, true), "{question:?}");
     }
     Ok(())
 }

@@ -46,37 +46,26 @@ fn are_growths_reported(ample: Global, files: Files<'_>, asked: Asked, least: u6
     growths.is_ok_and(|growths| growths.told >= 1)
 }
 
-/// How many growths there are at least, if side files are read too.
-fn least_of(asked: Asked) -> u64 {
-    match asked {
-        Asked::Check => 4,
-        _ => 21,
-    }
-}
-
 #[test]
 fn each_refused_growth_beside_side_files_is_want_of_memory(rt: HostRuntime) -> Result<(), Fail> {
     let streams = streams_of(rt.alloc(), &NOTED)?;
     let files = Files::with_sides(&streams);
     for asked in &ALL {
-        let reported = are_growths_reported(rt.alloc(), files, *asked, least_of(*asked));
+        let least = if let Asked::Check = asked { 4 } else { 21 };
+        let reported = are_growths_reported(rt.alloc(), files, *asked, least);
         assert!(rt; reported, "{asked:?}");
     }
     Ok(())
-}
-
-/// Whether each refused growth in each answer about a launch is reported.
-fn are_all_reported(alloc: Global, files: Files<'_>) -> bool {
-    ALL.iter()
-        .all(|asked| are_growths_reported(alloc, files, *asked, 2))
 }
 
 #[test]
 fn each_refused_growth_is_want_of_memory(rt: HostRuntime) -> Result<(), Fail> {
     for launch in &LAUNCHES {
         let streams = streams_of(rt.alloc(), launch)?;
-        let name = launch.0;
-        assert!(rt; are_all_reported(rt.alloc(), Files::of(&streams)), "{name}");
+        for asked in &ALL {
+            let reported = are_growths_reported(rt.alloc(), Files::of(&streams), *asked, 2);
+            assert!(rt; reported, "{}: {asked:?}", launch.0);
+        }
     }
     Ok(())
 }

@@ -146,21 +146,19 @@ impl<'a> Files<'a> {
     /// The files of these streams, of places and of buffers, none of which fails.
     pub(crate) fn with_sides(streams: &'a [Vec<u8>]) -> Files<'a> {
         Files {
-            streams,
             sides: SideNames {
                 places: Some("places"),
                 buffers: Some("buffers"),
             },
-            failing: ("none", 0),
+            ..Files::of(streams)
         }
     }
 
     /// The same files, but the file of this name fails after `calls` calls.
     pub(crate) fn failing(self, name: &'a str, calls: usize) -> Files<'a> {
         Files {
-            streams: self.streams,
-            sides: self.sides,
             failing: (name, calls),
+            ..self
         }
     }
 
