@@ -109,16 +109,12 @@ impl<A: Allocator + Copy> Shadow<A> {
             return Ok(false);
         }
         let touch = Touch::of(access);
-        match self.clashing(access) {
-            Some(earlier) => {
-                *self = Shadow::answered(*self.lists.allocator(), earlier, touch);
-                Ok(true)
-            }
-            None => {
-                self.keep(touch)?;
-                Ok(false)
-            }
-        }
+        let Some(earlier) = self.clashing(access) else {
+            self.keep(touch)?;
+            return Ok(false);
+        };
+        *self = Shadow::answered(*self.lists.allocator(), earlier, touch);
+        Ok(true)
     }
 
     /// The shadow of a word that was answered by the clash of two touches.
@@ -126,11 +122,8 @@ impl<A: Allocator + Copy> Shadow<A> {
         ensures answered { result.answered ≡ true }
         ensures clash { result.clash ≡ Some (touch_event earlier, touch_event later) }
     {
-        let mut few = ArrayVec::new();
-        few.push(earlier);
-        few.push(later);
         Shadow {
-            few,
+            few: ArrayVec::from([earlier, later]),
             lists: Vec::new(alloc),
             answered: true,
         }
