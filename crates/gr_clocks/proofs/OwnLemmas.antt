@@ -4,8 +4,8 @@ use Rattle.std.proofs.lemmas.Bool.Decides.{nat_tests}
 use Rattle.gr_model.specs.declared.event.ItemId.{ItemId}
 use Rattle.gr_clocks.specs.declared.clock.TheConstants.{LARGEST_COUNT}
 use Rattle.gr_clocks.specs.Counts.{Counts, count_of, tick_at, CountSame, CountsOneMore, IsJoin}
-use Rattle.gr_clocks.specs.Owned.{with_count, OwnCounts, counts_of, IsOwn, IsRaisedTo}
-use Rattle.gr_clocks.proofs.RowLemmas.{one_item}
+use Rattle.gr_clocks.specs.Owned.{with_count, IsOwn, IsRaisedTo}
+use Rattle.gr_clocks.proofs.RowLemmas.{one_item, same_items, same_item_self}
 use Rattle.gr_clocks.proofs.BlockLemmas.{with_same, with_other}
 
 pub cases_item : (i j : ItemId) → (i ≡ j) ⊎ (i ≢ j)
@@ -22,31 +22,30 @@ with_own c i n is j = grind (arith, with_same, with_other, cases_item i j)
 pub shared_tick : (mine base : Counts) (i : ItemId) (n : ℕ) → CountSame base mine → n ≡ count_of base i + 1 → CountsOneMore mine i (with_count base i n)
 shared_tick mine base i n same count = record { counts = λ j. grind (arith, nat_tests, with_same, with_other, cases_item i j, same j) }
 
-module _ {o : OwnCounts} (own : IsOwn o) where
-  -- of other items it counts what it shares
-  pub others_count : (v base : Counts) (j : ItemId) → counts_of o ≡ v → base ≡ o.base → o.item ≢ j → count_of v j ≡ count_of base j
-  others_count v base j is shared other = grind (arith, with_other)
+-- what is read at an item: its own count, or a count that is shared
+pub ruleset own_reads = (with_same, with_other, same_items, same_item_self)
 
+module _ {base : Counts} {i : ItemId} {n : ℕ} (own : IsOwn base i n) where
   -- where the count of a clock's item is put in, all is counted that the clock counts
-  pub own_whole : {base whole : Counts} → base ≡ o.base → IsRaisedTo base o.item o.count whole → CountSame whole (counts_of o)
-  own_whole shared raised j = grind (arith, with_same, with_other, cases_item o.item j, raised.item, raised.others j, own.above)
+  pub own_whole : {copy whole : Counts} → copy ≡ base → IsRaisedTo copy i n whole → CountSame whole (with_count base i n)
+  own_whole copied raised j = grind (arith, with_same, with_other, cases_item i j, raised.item, raised.others j, own.above)
 
   -- the item's own count grows by one
-  pub own_tick : {i : ItemId} → o.item ≡ i → CountsOneMore (counts_of o) i (with_count o.base o.item (o.count + 1))
-  own_tick same = record { counts = λ j. grind (arith, nat_tests, with_same, with_other, cases_item o.item j) }
+  pub own_tick : {j : ItemId} → i ≡ j → CountsOneMore (with_count base i n) j (with_count base i (n + 1))
+  own_tick same = record { counts = λ k. grind (arith, nat_tests, with_same, with_other, cases_item i k) }
 
   -- and is still one that a clock may have
-  pub own_room : (v : Counts) (i : ItemId) → counts_of o ≡ v → o.item ≡ i → count_of v i ≢ LARGEST_COUNT → IsOwn (record { base = o.base; item = o.item; count = o.count + 1 })
-  own_room v i is same room = record { above = omega (arith, own.above); limit = grind (arith, with_same, own.limit) }
+  pub own_room : (v : Counts) (j : ItemId) → with_count base i n ≡ v → i ≡ j → count_of v j ≢ LARGEST_COUNT → IsOwn base i (n + 1)
+  own_room v j is same room = record { above = omega (arith, own.above); limit = grind (arith, with_same, own.limit) }
 
   -- counts that learn what a clock counts: first those that it shares, and then its own
-  pub join_with_own : {mine shared joined raised_join : Counts} → shared ≡ o.base → IsJoin mine shared joined → IsRaisedTo joined o.item o.count raised_join → IsJoin mine (counts_of o) raised_join
+  pub join_with_own : {mine shared joined raised_join : Counts} → shared ≡ base → IsJoin mine shared joined → IsRaisedTo joined i n raised_join → IsJoin mine (with_count base i n) raised_join
   join_with_own {joined} is join raised = record {
-    counts = λ j. grind (arith, with_same, with_other, cases_item o.item j, join.counts j, raised.item, raised.others j, own.above);
+    counts = λ j. grind (arith, with_same, with_other, cases_item i j, join.counts j, raised.item, raised.others j, own.above);
   }
 
   -- a clock whose shared counts learned what another clock counts
-  pub own_join : {shared theirs base : Counts} (count : ℕ) → shared ≡ o.base → IsJoin shared theirs base → count ≡ max o.count (count_of base o.item) → IsJoin (counts_of o) theirs (with_count base o.item count)
+  pub own_join : {shared theirs joined : Counts} (count : ℕ) → shared ≡ base → IsJoin shared theirs joined → count ≡ max n (count_of joined i) → IsJoin (with_count base i n) theirs (with_count joined i count)
   own_join count is join is_count = record {
-    counts = λ j. grind (arith, with_same, with_other, cases_item o.item j, join.counts j, own.above);
+    counts = λ j. grind (arith, with_same, with_other, cases_item i j, join.counts j, own.above);
   }

@@ -54,10 +54,13 @@ raised_all_behind before pages g row page same there raised = record {
 pub join_of_none : (mine : Counts) (theirs : List Counts) (place : ℕ) (joined : Counts) → length theirs ≤ place → joined ≡ mine → IsJoin mine (page_at theirs place) joined
 join_of_none mine theirs place joined past is = record { counts = λ j. grind (arith, get_or_past) }
 
+pub join_with_none : (mine : List Counts) (theirs : Counts) (place : ℕ) (joined : Counts) → length mine ≤ place → joined ≡ theirs → IsJoin (page_at mine place) theirs joined
+join_with_none mine theirs place joined past is = record { counts = λ j. grind (arith, get_or_past) }
+
 -- pages that are joined one by one
-pub pages_joined_all : (mine theirs joined : List Counts) → length joined ≡ length mine → length theirs ≤ length mine → ((p : ℕ) → p < length mine → IsJoin (page_at mine p) (page_at theirs p) (page_at joined p)) → IsJoin (whole mine) (whole theirs) (whole joined)
-pages_joined_all mine theirs joined count few each = record {
-  counts = λ j. grind (arith, count_whole, get_or_past, λ (below : j.group / 256 < length mine). (each (j.group / 256) below).counts (in_page j));
+pub pages_joined_all : (mine theirs joined : List Counts) → length mine ≤ length joined → length theirs ≤ length joined → ((p : ℕ) → p < length joined → IsJoin (page_at mine p) (page_at theirs p) (page_at joined p)) → IsJoin (whole mine) (whole theirs) (whole joined)
+pages_joined_all mine theirs joined all_mine all_theirs each = record {
+  counts = λ j. grind (arith, count_whole, get_or_past, λ (below : j.group / 256 < length joined). (each (j.group / 256) below).counts (in_page j));
 }
 
 -- where no count is above theirs, theirs are the greater ones

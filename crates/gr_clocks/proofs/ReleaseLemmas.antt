@@ -1,6 +1,6 @@
 -- What several releases left, in each memory.
-use Rattle.std.proofs.Common.{◌≡◌, ◌≢◌, ℕ, zero, suc, Some, slice_get, ◌<◌, ◌≤◌, max, ◌++◌, All, Bool, false, List, [], ◌∷◌, map, length, get_or, refl, ◌∙◌, ap, arith}
-use Rattle.std.proofs.lemmas.List.{get_or-map, length-map}
+use Rattle.std.proofs.Common.{◌≡◌, ◌≢◌, ◌↔◌, ℕ, zero, suc, Some, slice_get, ◌<◌, ◌≤◌, max, ◌++◌, All, Any, Bool, false, List, [], ◌∷◌, map, length, get_or, refl, sym, ◌∙◌, ap, arith}
+use Rattle.std.proofs.lemmas.List.{get_or_default, get_or-map, length-map}
 use Rattle.std.proofs.lemmas.List.Elements.{All-tail}
 use Rattle.gr_model.specs.declared.event.Space.{Space}
 use Rattle.gr_model.specs.declared.event.Space.TheVariants.{Global, Local}
@@ -33,15 +33,23 @@ module _ {X : Type 0} (release : X → ReleaseClock) where
   word_of_first (y ∷ xs) first is one (suc k) d below = grind (arith, one k (release d), get_or-map release xs k d (release d), length-map xs release)
 
   -- where none is spent, there is room in all
-  pub all_have_room : (xs : List X) (i : ItemId) → ¬ AreSpent (map release xs) i → All (λ x. count_of (release x).clock i ≢ LARGEST_COUNT) xs
+  pub all_have_room : (xs : List X) (i : ItemId) → ¬ Any (λ x. count_of (release x).clock i ≡ LARGEST_COUNT) xs → All (λ x. count_of (release x).clock i ≢ LARGEST_COUNT) xs
   all_have_room xs i none k d below full =
-      let r = release (get_or xs k d) in
-      none (k, r, omega (arith, below, length-map xs release), get_or-map release xs k d r below, full)
+      none (k, get_or xs k d, below, get_or_default xs k _ d below, full)
 
-  pub none_spent : (xs : List X) (i : ItemId) → All (λ x. count_of (release x).clock i ≢ LARGEST_COUNT) xs → ¬ AreSpent (map release xs) i
-  none_spent [] i room (k, r, below, at, full) = absurd (omega (arith, below))
-  none_spent (x ∷ xs) i room (zero, r, below, at, full) = room 0 x (omega arith) (ap (λ (s : ReleaseClock). count_of s.clock i) at ∙ full)
-  none_spent (x ∷ xs) i room (suc k, r, below, at, full) = none_spent xs i (All-tail (λ y. count_of (release y).clock i ≢ LARGEST_COUNT) x xs room) (k, r, omega (arith, below), at, full)
+  pub some_spent : (xs : List X) (i : ItemId) → Any (λ x. count_of (release x).clock i ≡ LARGEST_COUNT) xs ↔ AreSpent (map release xs) i
+  some_spent xs i = (
+    λ (k, x, below, at, full). (k, release x, omega (arith, below, length-map xs release), get_or-map release xs k x (release x) below ∙ ap release at, full),
+    λ spent. from xs spent,
+  )
+    where
+      from : (ys : List X) → AreSpent (map release ys) i → Any (λ x. count_of (release x).clock i ≡ LARGEST_COUNT) ys
+      from [] (k, r, below, at, full) = absurd (omega (arith, below))
+      from (y ∷ ys) (k, r, below, at, full) =
+          let there : k < length (y ∷ ys) = omega (arith, below, length-map (y ∷ ys) release) in
+          let x = get_or (y ∷ ys) k y in
+          let is : r ≡ release x = sym at ∙ get_or-map release (y ∷ ys) k y r there in
+          (k, x, there, get_or_default (y ∷ ys) k x y there, rw (← is) full)
 
 -- ---- what releases count together in a memory
 

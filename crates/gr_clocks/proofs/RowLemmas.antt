@@ -56,5 +56,5 @@ pub each_set : {X : Type 0} (P : ℕ → X → Type 0) (none : X) (xs : List X) 
 each_set P none xs p x there here k others = grind (arith, get_or-set_at, get_or-set_other)
 
 -- what is put in the place of an element like it
-pub put_back : {X : Type 0} (xs : List X) (p : ℕ) (x y : X) → y ≡ x → x ≡ get_or xs p x → set xs p y ≡ xs
-put_back xs p x y same reads = ap (set xs p) (same ∙ reads) ∙ set-get_or xs p x
+pub put_back : {X : Type 0} (xs : List X) (p : ℕ) (x : X) → x ≡ get_or xs p x → set xs p x ≡ xs
+put_back xs p x reads = ap (set xs p) reads ∙ set-get_or xs p x

@@ -10,20 +10,10 @@ use Rattle.gr_clocks.specs.Counts.{Counts, count_of}
 abbrev pub with_count : Counts → ItemId → ℕ → Counts
 with_count c i n = put [] c i.group (put 0 (slice_index_or c i.group []) i.item n)
 
--- the counts of all items, and the count of one of them that replaces the one there, if there is one
-pub record OwnCounts : Type 0 where
-  pub base : Counts
-  pub item : ItemId
-  pub count : ℕ
-
--- the counts that these are
-abbrev pub counts_of : OwnCounts → Counts
-counts_of o = with_count o.base o.item o.count
-
 -- the item's count is not below the one that it replaces
-pub record IsOwn (o : OwnCounts) : Type 0 where
-  pub above : count_of o.base o.item ≤ o.count
-  pub limit : o.count ≤ LARGEST_COUNT
+pub record IsOwn (base : Counts) (i : ItemId) (n : ℕ) : Type 0 where
+  pub above : count_of base i ≤ n
+  pub limit : n ≤ LARGEST_COUNT
 
 -- after has the greater of this count and the one before of item i, and the same of the others
 pub record IsRaisedTo (before : Counts) (i : ItemId) (n : ℕ) (after : Counts) : Type 0 where

@@ -1,6 +1,6 @@
 //! The counts of all items, which clocks share. An item of which nothing is counted may have no count here.
 
-ghost use Rattle.std.specs.Prelude.{IsTrue, ◌≡◌, ◌+◌, ◌/◌, ◌<◌, ◌≤◌, All, IfOk, OnOk, IsOkUnless, length};
+ghost use Rattle.std.specs.Prelude.{IsTrue, ◌≡◌, ◌+◌, ◌/◌, ◌<◌, ◌≤◌, All, IfOk, OnOk, IsOkUnless, length, max};
 ghost use Rattle.gr_clocks.specs.declared.clock.ClockError.TheVariants.{Memory as OutOfMemory};
 ghost use Rattle.gr_model.specs.declared.event.ItemId.{ItemId as AnyItem};
 ghost use Rattle.gr_clocks.specs.Counts.{count_of, CountSame, IsJoin};
@@ -48,41 +48,27 @@ fn reach<A: Allocator + Clone>(pages: &mut Pages<A>, count: usize) -> Result<(),
 }
 
 /// The page at a place, with the greater count of each item: one of the two pages, shared, where no count of the other is above it.
-#[tactic(auto, using(crate::proofs::PageLemmas::join_of_none, crate::proofs::PageLemmas::join_of_greater, crate::proofs::PageLemmas::join_of_lesser))]
+#[tactic(auto, using(crate::proofs::PageLemmas::join_of_none, crate::proofs::PageLemmas::join_with_none, crate::proofs::PageLemmas::join_of_greater, crate::proofs::PageLemmas::join_of_lesser))]
 fn joined_page<A: Allocator + Clone>(
     mine: &Pages<A>,
     theirs: &Pages<A>,
     place: usize,
 ) -> Result<Arc<Page<A>, A>, ClockError>
-    requires { place < length mine.now }
+    requires { place < max (length mine.now) (length theirs.now) }
     ensures join { IfOk result (λ p. IsJoin (page_at mine.now place) (page_at theirs.now place) p.value) }
     ensures memory { IsOkUnless result ClockError.Memory }
 {
     if place >= theirs.len() {
         return mine.shared(place);
     }
-    if mine.at(place).is_within(theirs.at(place)) {
+    if place >= mine.len() || mine.at(place).is_within(theirs.at(place)) {
         return theirs.shared(place);
     }
     if theirs.at(place).is_within(mine.at(place)) {
         return mine.shared(place);
     }
     let page = mine.at(place).joined(theirs.at(place))?;
-    let page = Arc::new(mine.alloc()?, page)?;
-    Ok(page)
-}
-
-/// The greater count of each item. There are no more of the other pages.
-fn merged<A: Allocator + Clone>(mine: &Pages<A>, theirs: &Pages<A>) -> Result<Pages<A>, ClockError>
-    requires { length theirs.now ≤ length mine.now }
-    ensures join { IfOk result (λ p. IsJoin (whole mine.now) (whole theirs.now) (whole p)) }
-    ensures memory { IsOkUnless result ClockError.Memory }
-{
-    let mut pages = Pages::none(mine.alloc()?);
-    for place in 0..mine.len() {
-        pages.push(joined_page(mine, theirs, place)?)?;
-    }
-    Ok(pages)
+    Ok(Arc::new(mine.alloc()?, page)?)
 }
 
 impl<A: Allocator> Base<A> {
@@ -189,11 +175,10 @@ impl<A: Allocator> Base<A> {
         ensures join { IfOk result (λ b. IsJoin self.now other.now b) }
         ensures memory { IsOkUnless result ClockError.Memory }
     {
-        if self.pages.len() < other.pages.len() {
-            let pages = merged(&other.pages, &self.pages)?;
-            return Ok(Base { pages });
+        let mut pages = Pages::none(self.alloc()?);
+        for place in 0..self.pages.len().max(other.pages.len()) {
+            pages.push(joined_page(&self.pages, &other.pages, place)?)?;
         }
-        let pages = merged(&self.pages, &other.pages)?;
         Ok(Base { pages })
     }
 }

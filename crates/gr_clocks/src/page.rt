@@ -46,8 +46,7 @@ impl<A: Allocator> Page<A> {
         A: Clone,
         ensures memory { IsOkUnless result ClockError.Memory }
     {
-        let alloc = self.blocks.allocator().clone()?;
-        Ok(alloc)
+        Ok(self.blocks.allocator().clone()?)
     }
 
     /// How many events of the item are counted; 0 where there is no such item.
@@ -65,10 +64,8 @@ impl<A: Allocator> Page<A> {
     pub(crate) fn lacks(&self, group: u16) -> bool
         ensures { IsTrue result → (j : AnyItem) → j.group ≡ group → count_of self.now j ≡ 0 }
     {
-        match self.blocks.get(group as usize) {
-            None => true,
-            Some(block) => block.is_zero(),
-        }
+        let block = self.blocks.get(group as usize);
+        block.is_none_or(|block| block.is_zero())
     }
 
     /// Whether it is sure that no count is above the other's.

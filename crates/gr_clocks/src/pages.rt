@@ -55,8 +55,7 @@ impl<A: Allocator> Pages<A> {
         A: Clone,
         ensures memory { IsOkUnless result ClockError.Memory }
     {
-        let alloc = self.pages.allocator().clone()?;
-        Ok(alloc)
+        Ok(self.pages.allocator().clone()?)
     }
 
     /// How many pages there are.
@@ -80,8 +79,7 @@ impl<A: Allocator> Pages<A> {
         ensures page { IfOk result (λ p. p.value ≡ page_at self.now place) }
         ensures memory { IsOkUnless result ClockError.Memory }
     {
-        let page = Arc::try_clone(&self.pages[place])?;
-        Ok(page)
+        Ok(Arc::try_clone(&self.pages[place])?)
     }
 
     /// Adds a page after the others.
@@ -101,8 +99,7 @@ impl<A: Allocator> Pages<A> {
         ensures put { OnOk result (self.new ≡ set self.old place page) }
         ensures memory { IsOkUnless result ClockError.Memory }
     {
-        let alloc = self.alloc()?;
-        self.pages[place] = Arc::new(alloc, page)?;
+        self.pages[place] = Arc::new(self.alloc()?, page)?;
         Ok(())
     }
 }

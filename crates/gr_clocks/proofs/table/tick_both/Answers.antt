@@ -1,6 +1,4 @@
-use Rattle.std.proofs.lemmas.Result.{err_from_is_err_and}
 use Rattle.gr_clocks.specs.Groups.{clock_in_group}
-use Rattle.gr_clocks.proofs.RowLemmas.{put_back}
 use Rattle.gr_clocks.proofs.TableLemmas.{item_group, item_groups, ticks_item}
 use Rattle.gr_clocks.proofs.table.tick_both.Goals as goal
 
@@ -28,20 +26,3 @@ returns-clause-ok g c =
       ticks_item c.one.inside.groups.items c.one.invariant c.one.view_is item (clock_in_group c.tick_clocks.new.one item.item) c.requires.item c.index_mut.ensures.value c.in_ok-tick_clocks.ensures.ok.0.group one_tick,
       ticks_item c.other.inside.groups.items c.other.invariant c.other.view_is item (clock_in_group c.tick_clocks.new.other item.item) (rw c.requires.same c.requires.item) c.index_mut-2.ensures.value c.in_ok-tick_clocks.ensures.ok.1.group other_tick,
     )
-
--- where memory runs out both groups are as they were
-
-pub invariant_of-one : goal.invariant_of-one
-invariant_of-one g c =
-    rw (put_back c.one.inside.groups.items c.args.item.group c.index_mut.result.now c.tick_clocks.new.one c.in_err-tick_clocks.ensures.err.0 c.index_mut.ensures.value) c.one.invariant
-
-pub invariant_of-other : goal.invariant_of-other
-invariant_of-other g c =
-    rw (put_back c.other.inside.groups.items c.args.item.group c.index_mut-2.result.now c.tick_clocks.new.other c.in_err-tick_clocks.ensures.err.1 c.index_mut-2.ensures.value) c.other.invariant
-
-pub returns-in_err-tick_clocks-clause-err : goal.returns-in_err-tick_clocks-clause-err
-returns-in_err-tick_clocks-clause-err g c =
-    let p = err_from_is_err_and c.from_residual.result c.from_residual.ensures.1 in
-    let one = put_back c.one.inside.groups.items c.args.item.group c.index_mut.result.now c.tick_clocks.new.one c.in_err-tick_clocks.ensures.err.0 c.index_mut.ensures.value in
-    let other = put_back c.other.inside.groups.items c.args.item.group c.index_mut-2.result.now c.tick_clocks.new.other c.in_err-tick_clocks.ensures.err.1 c.index_mut-2.ensures.value in
-    rw (p.1, one, other) (c.one.view_is, c.other.view_is)
