@@ -1,6 +1,6 @@
-use Rattle.std.proofs.Common.{◌≡◌, ◌∙◌, ◌<◌, ap, subst, length, arith, rules}
+use Rattle.std.proofs.Common.{◌≡◌, ◌∙◌, ◌<◌, ℕ, List, ap, subst, length, get_or, set, arith, rules}
+use Rattle.std.proofs.lemmas.List.{set-get_or}
 use Rattle.std.proofs.Math.Seq.{map-set_same}
-use Rattle.gr_clocks.proofs.RowLemmas.{put_back}
 use Rattle.gr_route.specs.IntakeSeats.{IsDelivery, Taker}
 use Rattle.gr_sequencer_thread.specs.Ends.{feed_line}
 use Rattle.gr_sequencer_thread.specs.Feeds.{Feed, works_of}
@@ -29,7 +29,10 @@ returns g c =
     (λ i. record { config = c.self.inside.config; sizes = c.self.inside.shape; intakes = intakes i; works = works_of c.self.inside.outlets.items })
     ∙ ap (λ (f : Feed g.row.A.Denot). feed_line f) c.self.view_is
 
--- if there is no batch, nothing changes
+-- if there is no batch, nothing changes: what is put in the place of an element is like it
+
+put_back : {X : Type 0} (xs : List X) (p : ℕ) (x y : X) → y ≡ x → x ≡ get_or xs p x → set xs p y ≡ xs
+put_back xs p x y same reads = ap (set xs p) (same ∙ reads) ∙ set-get_or xs p x
 
 pub invariant_of-self : goal.invariant_of-self
 invariant_of-self g c = rw (put_back c.self.inside.inlets.items c.args.queue c.index_mut.result.now c.pop.new.self (search rules) c.index_mut.ensures.value) c.self.invariant
