@@ -44,11 +44,9 @@ impl<A: Allocator + Copy> Worker<A> {
     pub fn new(alloc: A, places: usize) -> Result<Worker<A>, Memory>
         ensures { IfOk result (λ w. w ≡ no_work places) }
     {
-        let queue = Queue::new(alloc, places)?;
-        let received = History::new();
         Ok(Worker {
-            queue,
-            received,
+            queue: Queue::new(alloc, places)?,
+            received: History::new(),
             shadows: Shadows::new(alloc),
         })
     }
@@ -62,16 +60,11 @@ impl<A: Allocator + Copy> Worker<A> {
         ensures err { OnErr result (¬ (self.old.queue.items ≡ [])) }
         ensures unchanged { OnErr result (self.new ≡ self.old) }
     {
-        match self.queue.front() {
-            None => return Ok(false),
-            Some(access) => {
-                self.shadows.apply(access)?;
-            }
-        }
-        match self.queue.pop() {
-            None => unreachable!(),
-            Some(access) => self.received.push(&access),
-        }
+        let Some(access) = self.queue.front() else {
+            return Ok(false);
+        };
+        self.shadows.apply(access)?;
+        self.received.push(&self.queue.pop().unwrap());
         Ok(true)
     }
 

@@ -98,8 +98,6 @@ impl<A: Allocator + Copy> World<A> {
     /// # Errors
     /// `Memory` if an allocation is refused.
     pub fn new(alloc: A, shape: Shape<A>, config: Config) -> Result<World<A>, Memory>
-    where
-        A: Copy,
         ensures made { IfOk result (λ w. w ≡ new_world shape config) }
         ensures world { IfOk result (λ w. IsWorld w) }
     {
@@ -126,8 +124,6 @@ impl<A: Allocator + Copy> World<A> {
     /// The first cause of `StepError` that holds; the world is then unchanged. Only a step that is allowed can fail with
     /// `Memory`, and a `Pass` never does.
     pub fn step(&mut self, step: Step) -> Result<(), StepError>
-    where
-        A: Copy,
         ensures step { OnOk result (IsWorldStep self.old step self.new) }
         ensures err { IfErr result (IsStepRefusal self.old step) }
         ensures pass { result ≡ Err StepError.Memory → step ≢ steps.Pass }
@@ -183,8 +179,6 @@ impl<A: Allocator + Copy> World<A> {
 
     /// Handles an item's next event. If the event has an access, it is then on its way.
     fn handle(&mut self, item: ItemId) -> Result<(), StepError>
-    where
-        A: Copy,
         ensures step { OnOk result (IsWorldStep self.old (steps.Handle item) self.new) }
         ensures err { IfErr result (IsStepRefusal self.old (steps.Handle item)) }
         ensures unchanged { OnErr result (self.new ≡ self.old) }
@@ -204,8 +198,6 @@ impl<A: Allocator + Copy> World<A> {
 
     /// Handles all barriers of a group's next convergent instance.
     fn meet(&mut self, group: u16) -> Result<(), StepError>
-    where
-        A: Copy,
         ensures step { OnOk result (IsWorldStep self.old (steps.Meet group) self.new) }
         ensures err { IfErr result (IsStepRefusal self.old (steps.Meet group)) }
         ensures unchanged { OnErr result (self.new ≡ self.old) }
@@ -234,8 +226,6 @@ impl<A: Allocator + Copy> World<A> {
 
     /// Tries the steps in order. Returns the number of refused steps.
     pub fn run(&mut self, steps: &[Step]) -> u64
-    where
-        A: Copy,
         ensures { Runs self.old steps.now self.new result }
     {
         let mut refused: u64 = 0;
@@ -246,6 +236,73 @@ impl<A: Allocator + Copy> World<A> {
             }
         }
         refused
+    }
+
+    /// A group's sender sends an event.
+    fn send(&mut self, group: u16, event: Event) -> Result<(), StepError>
+        ensures step { OnOk result (IsWorldStep self.old (steps.Send group event) self.new) }
+        ensures err { IfErr result (IsStepRefusal self.old (steps.Send group event)) }
+        ensures unchanged { OnErr result (self.new ≡ self.old) }
+    {
+        if group >= self.sent.shape().groups() || self.is_bad(group, &event) {
+            return Err(StepError::BadStep);
+        }
+        self.put(group, event)
+    }
+
+    /// A group's sender sends the end of its stream.
+    fn close(&mut self, group: u16, cut: bool) -> Result<(), StepError>
+        ensures step { OnOk result (IsWorldStep self.old (steps.Close group cut) self.new) }
+        ensures err { IfErr result (IsStepRefusal self.old (steps.Close group cut)) }
+        ensures unchanged { OnErr result (self.new ≡ self.old) }
+    {
+        if group >= self.sent.shape().groups() {
+            return Err(StepError::BadStep);
+        }
+        self.put(group, Event::end(cut))
+    }
+
+    /// Adds a record to what the group sent, and to its queue.
+    /// Requires: the group exists and may have the record. If the record is not an end, there is room for an end after it.
+    fn put(&mut self, group: u16, event: Event) -> Result<(), StepError>
+        requires group { group < length self.old.sent.sizes }
+        requires good { IsEventOk event (size_of self.old.sent group) }
+        requires room { IsFalse (is_end event) → length (list_of self.old.sent group) + 1 < MOST_RECORDS }
+        ensures ok { OnOk result (Queues self.old group event self.new) }
+        ensures err { IfErr result (IsPutFault self.old group) }
+        ensures unchanged { OnErr result (self.new ≡ self.old) }
+    {
+        if self.sent.is_complete(group) {
+            return Err(StepError::NotOpen);
+        }
+        let queue = usize::from(queue_of(group, self.config.queues()));
+        if !self.intakes[queue].has_room() {
+            return Err(StepError::Full);
+        }
+        self.sent.take_accepted(group, &event)?;
+        self.intakes[queue].push(Sent { group, event });
+        Ok(())
+    }
+
+    /// The sequencer takes the record at the front of an intake queue.
+    fn take(&mut self, queue: u16) -> Result<(), StepError>
+        ensures step { OnOk result (IsWorldStep self.old (steps.Take queue) self.new) }
+        ensures err { IfErr result (IsStepRefusal self.old (steps.Take queue)) }
+        ensures unchanged { OnErr result (self.new ≡ self.old) }
+    {
+        let Some(intake) = self.intakes.get_mut(usize::from(queue)) else {
+            return Err(StepError::BadStep);
+        };
+        let Some(&Sent { group, event }) = intake.front() else {
+            return Err(StepError::Empty);
+        };
+        match self.sequencer.take(group, event) {
+            Ok(()) => {}
+            Err(SeqError::Memory) => return Err(StepError::Memory),
+            Err(_) => unreachable!(),
+        }
+        let _taken = intake.pop();
+        Ok(())
     }
 }
 
@@ -311,81 +368,6 @@ impl<A: Allocator> World<A> {
             || self.sent.taken(group) as usize + 1 >= MOST_RECORDS
     }
 
-    /// A group's sender sends an event.
-    fn send(&mut self, group: u16, event: Event) -> Result<(), StepError>
-    where
-        A: Copy,
-        ensures step { OnOk result (IsWorldStep self.old (steps.Send group event) self.new) }
-        ensures err { IfErr result (IsStepRefusal self.old (steps.Send group event)) }
-        ensures unchanged { OnErr result (self.new ≡ self.old) }
-    {
-        if group >= self.sent.shape().groups() || self.is_bad(group, &event) {
-            return Err(StepError::BadStep);
-        }
-        self.put(group, event)
-    }
-
-    /// A group's sender sends the end of its stream.
-    fn close(&mut self, group: u16, cut: bool) -> Result<(), StepError>
-    where
-        A: Copy,
-        ensures step { OnOk result (IsWorldStep self.old (steps.Close group cut) self.new) }
-        ensures err { IfErr result (IsStepRefusal self.old (steps.Close group cut)) }
-        ensures unchanged { OnErr result (self.new ≡ self.old) }
-    {
-        if group >= self.sent.shape().groups() {
-            return Err(StepError::BadStep);
-        }
-        self.put(group, Event::end(cut))
-    }
-
-    /// Adds a record to what the group sent, and to its queue.
-    /// Requires: the group exists and may have the record. If the record is not an end, there is room for an end after it.
-    fn put(&mut self, group: u16, event: Event) -> Result<(), StepError>
-    where
-        A: Copy,
-        requires group { group < length self.old.sent.sizes }
-        requires good { IsEventOk event (size_of self.old.sent group) }
-        requires room { IsFalse (is_end event) → length (list_of self.old.sent group) + 1 < MOST_RECORDS }
-        ensures ok { OnOk result (Queues self.old group event self.new) }
-        ensures err { IfErr result (IsPutFault self.old group) }
-        ensures unchanged { OnErr result (self.new ≡ self.old) }
-    {
-        if self.sent.is_complete(group) {
-            return Err(StepError::NotOpen);
-        }
-        let queue = usize::from(queue_of(group, self.config.queues()));
-        if !self.intakes[queue].has_room() {
-            return Err(StepError::Full);
-        }
-        self.sent.take_accepted(group, &event)?;
-        self.intakes[queue].push(Sent { group, event });
-        Ok(())
-    }
-
-    /// The sequencer takes the record at the front of an intake queue.
-    fn take(&mut self, queue: u16) -> Result<(), StepError>
-    where
-        A: Copy,
-        ensures step { OnOk result (IsWorldStep self.old (steps.Take queue) self.new) }
-        ensures err { IfErr result (IsStepRefusal self.old (steps.Take queue)) }
-        ensures unchanged { OnErr result (self.new ≡ self.old) }
-    {
-        let Some(intake) = self.intakes.get_mut(usize::from(queue)) else {
-            return Err(StepError::BadStep);
-        };
-        let Some(&Sent { group, event }) = intake.front() else {
-            return Err(StepError::Empty);
-        };
-        match self.sequencer.take(group, event) {
-            Ok(()) => {}
-            Err(SeqError::Memory) => return Err(StepError::Memory),
-            Err(_) => unreachable!(),
-        }
-        let _taken = intake.pop();
-        Ok(())
-    }
-
     /// The access on its way goes to the queue of its word's worker. This allocates nothing.
     fn pass(&mut self) -> Result<(), StepError>
         ensures step { OnOk result (IsWorldStep self.old steps.Pass self.new) }
@@ -393,18 +375,15 @@ impl<A: Allocator> World<A> {
         ensures memory { result ≢ Err StepError.Memory }
         ensures unchanged { OnErr result (self.new ≡ self.old) }
     {
-        let number = match &self.in_flight {
-            None => return Err(StepError::Empty),
-            Some(access) => worker_of(&access.word, self.config.workers()),
+        let Some(access) = &self.in_flight else {
+            return Err(StepError::Empty);
         };
+        let number = worker_of(&access.word, self.config.workers());
         let worker = &mut self.workers[usize::from(number)];
         if !worker.has_room() {
             return Err(StepError::Full);
         }
-        match self.in_flight.take() {
-            None => unreachable!(),
-            Some(access) => worker.push(access),
-        }
+        worker.push(self.in_flight.take().unwrap());
         Ok(())
     }
 }
