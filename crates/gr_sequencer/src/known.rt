@@ -75,14 +75,12 @@ impl<A: Allocator + Copy> Known<A> {
     }
 }
 
-impl<A: Allocator> Known<A> {
+impl<A: Allocator + Clone> Known<A> {
     /// What is known after one more group came with this many items, which know nothing.
     ///
     /// # Errors
     /// `Memory`: out of memory.
     pub(crate) fn with_group(self, alloc: A, group: u16, items: u16) -> Result<Known<A>, Memory>
-    where
-        A: Clone,
         ensures clocks { IfOk result (λ k. AddsGroup self.clocks group items k.clocks) }
         ensures snapshots { IfOk result (λ k. k.snapshots ≡ self.snapshots) }
     {
@@ -109,7 +107,7 @@ fn flags_of<A: Allocator>(order: &Schedule<A>, group: u16, instance: u32) -> (bo
     }
 }
 
-impl<A: Allocator> Known<A> {
+impl<A: Allocator + Clone> Known<A> {
     /// The clock of an event that may be handled next, in its word's memory and before its own tick: what its item knows, joined
     /// with the event's sources.
     fn known_or_learned(
@@ -119,8 +117,6 @@ impl<A: Allocator> Known<A> {
         taken: &Event,
         word: Word,
     ) -> Result<Clock<A>, Memory>
-    where
-        A: Clone,
         requires next { IsNext order.now.taken order.now.handled self.now event }
         requires there { event_at order.now.taken event ≡ Some taken.now }
         requires word { word_at order.now.taken event ≡ Some word }
@@ -147,8 +143,6 @@ impl<A: Allocator> Known<A> {
         taken: &Event,
         word: Word,
     ) -> Result<Clock<A>, Memory>
-    where
-        A: Clone,
         requires next { IsNext order.now.taken order.now.handled self.now event }
         requires there { event_at order.now.taken event ≡ Some taken.now }
         requires word { word_at order.now.taken event ≡ Some word }
@@ -174,25 +168,22 @@ impl<A: Allocator> Known<A> {
         event: EventId,
         taken: &Event,
     ) -> Result<Option<Access<A>>, Memory>
-    where
-        A: Clone,
         requires next { IsNext order.now.taken order.now.handled self.now event }
         requires there { event_at order.now.taken event ≡ Some taken.now }
         ensures { IfOk result (λ access. IsAccessOf order.now.taken event access) }
     {
-        match (word_of(event.at.group, taken), class_of(&taken.kind)) {
-            (Some(word), Some(class)) => {
-                let clock = self.clock_of(order, event, taken, word)?;
-                Ok(Some(Access {
-                    word,
-                    item: event.at,
-                    index: event.index,
-                    class,
-                    clock,
-                }))
-            }
-            _ => Ok(None),
-        }
+        let (Some(word), Some(class)) = (word_of(event.at.group, taken), class_of(&taken.kind))
+        else {
+            return Ok(None);
+        };
+        let clock = self.clock_of(order, event, taken, word)?;
+        Ok(Some(Access {
+            word,
+            item: event.at,
+            index: event.index,
+            class,
+            clock,
+        }))
     }
 
     /// Keeps a snapshot of an event, if it is a release.
@@ -206,8 +197,6 @@ impl<A: Allocator> Known<A> {
         taken: &Event,
         access: &Option<Access<A>>,
     ) -> Result<(), Memory>
-    where
-        A: Clone,
         requires there { event_at order.now.taken event ≡ Some taken.now }
         requires access { IsAccessOf order.now.taken event access.now }
         ensures clocks { self.new.clocks ≡ self.old.clocks }
@@ -238,8 +227,6 @@ impl<A: Allocator> Known<A> {
         event: EventId,
         taken: &Event,
     ) -> Result<(), Memory>
-    where
-        A: Clone,
         requires next { IsNext order.now.taken order.now.handled self.old event }
         requires there { event_at order.now.taken event ≡ Some taken.now }
         ensures snapshots { self.new.snapshots ≡ self.old.snapshots }
@@ -259,34 +246,6 @@ impl<A: Allocator> Known<A> {
         }
     }
 
-    /// Counts an event that is handled as soon as its record is taken, and gives its clock in its word's memory.
-    ///
-    /// # Errors
-    /// `Memory`: out of memory. What is known is then as before.
-    #[inline(always)]
-    fn count_at_once(
-        &mut self,
-        order: &Schedule<A>,
-        group: u16,
-        event: EventId,
-        taken: &Event,
-        word: Word,
-    ) -> Result<Clock<A>, Memory>
-    where
-        A: Clone,
-        requires next { IsNextAtOnce order.now group taken.now self.old event }
-        requires word { word_at (with_record order.now.taken group taken.now) event ≡ Some word }
-        ensures counts { IfOk result (λ c. CountsJust c (Sees (with_record order.now.taken group taken.now) (model.memory_of word) event)) }
-        ensures snapshots { self.new.snapshots ≡ self.old.snapshots }
-        ensures clocks { OnOk result (CountWhatIsKnown (with_record order.now.taken group taken.now) (order.now.handled ++ event ∷ []) self.new.clocks) }
-        ensures err { OnErr result (self.new.clocks ≡ self.old.clocks) }
-    {
-        match self.clocks.access_in(event.at, memory_of(word)) {
-            Ok(clock) => Ok(clock),
-            Err(_) => Err(Memory),
-        }
-    }
-
     /// Handles an access as soon as its record is taken: gives its item the clocks that it has after the access, and returns the
     /// access.
     ///
@@ -300,8 +259,6 @@ impl<A: Allocator> Known<A> {
         event: EventId,
         taken: &Event,
     ) -> Result<Access<A>, Memory>
-    where
-        A: Clone,
         requires next { IsNextAtOnce order.now group taken.now self.old event }
         requires access { IsMereAccess taken.now }
         ensures access { IfOk result (IsAccess (with_record order.now.taken group taken.now) event) }
@@ -309,18 +266,19 @@ impl<A: Allocator> Known<A> {
         ensures clocks { OnOk result (CountWhatIsKnown (with_record order.now.taken group taken.now) (order.now.handled ++ event ∷ []) self.new.clocks) }
         ensures err { OnErr result (self.new.clocks ≡ self.old.clocks) }
     {
-        match (word_of(event.at.group, taken), class_of(&taken.kind)) {
-            (Some(word), Some(class)) => {
-                let clock = self.count_at_once(order, group, event, taken, word)?;
-                Ok(Access {
-                    word,
-                    item: event.at,
-                    index: event.index,
-                    class,
-                    clock,
-                })
-            }
-            _ => unreachable!(),
+        let (Some(word), Some(class)) = (word_of(event.at.group, taken), class_of(&taken.kind))
+        else {
+            unreachable!()
+        };
+        match self.clocks.access_in(event.at, memory_of(word)) {
+            Ok(clock) => Ok(Access {
+                word,
+                item: event.at,
+                index: event.index,
+                class,
+                clock,
+            }),
+            Err(_) => Err(Memory),
         }
     }
 
@@ -335,8 +293,6 @@ impl<A: Allocator> Known<A> {
         group: u16,
         instance: u32,
     ) -> Result<(), Memory>
-    where
-        A: Clone,
         requires shape { self.old.clocks.sizes ≡ order.now.taken.sizes }
         requires group { group < length order.now.taken.sizes }
         requires free { ¬ IsGroupSpent self.old.clocks group }

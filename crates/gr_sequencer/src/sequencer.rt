@@ -11,7 +11,6 @@ ghost use Rattle.gr_model.specs.Reports.{Lists, DivergenceBelow, IsDivergence, I
 ghost use Rattle.gr_lanes.specs.Takes.{CanTake, IsEventButItem, IsTakeFault, next_of, with_record};
 ghost use Rattle.gr_steps.specs.Steps.{CanMeet, IsAtRest, IsReady};
 ghost use Rattle.gr_order.specs.Sequences.{CanStep, IsDone, IsSequence, event_count, nothing, taking, with_group};
-ghost use Rattle.gr_order.specs.declared.go_error.GoError.TheVariants.{Memory as OutOfMemory};
 ghost use Rattle.gr_order.specs.Answers.{IsHandleFault, IsMeetFault};
 ghost use Rattle.gr_order.specs.AtOnce.{GoesAtOnce};
 ghost use Rattle.gr_sequencer.specs.Answers.{IsOfGroup, IsOfItem, IsStep};
@@ -144,16 +143,6 @@ impl<A: Allocator + Copy> Sequencer<A> {
         let order = self.agenda.order();
         acquires::unmatched(self.alloc, order.lanes(), order.frontier(), order.windows())
     }
-}
-
-impl<A: Allocator> Sequencer<A> {
-    /// What was taken of the launch's streams, and the order in which its events were handled.
-    pub fn order(&self) -> &Schedule<A>
-        ensures order { result.now ≡ self.now }
-        ensures sequence { IsSequence self.now }
-    {
-        self.agenda.order()
-    }
 
     /// Takes the next record of a group. It is a record that some group may have, whatever its item.
     ///
@@ -162,8 +151,6 @@ impl<A: Allocator> Sequencer<A> {
     /// taken.
     #[inline(always)]
     pub fn take(&mut self, group: u16, event: Event) -> Result<(), SeqError>
-    where
-        A: Copy,
         requires good { IsEventButItem event }
         requires room { length (list_of self.old.taken group) < MOST_RECORDS }
         ensures ok { OnOk result (CanTake self.old.taken group event × (self.new ≡ taking self.old group event)) }
@@ -176,6 +163,38 @@ impl<A: Allocator> Sequencer<A> {
         self.agenda.take(group, event)
     }
 
+    /// Takes the next record of a group as `take` does. If the record is a mere access, which releases nothing and names nothing, and no
+    /// event of its item waits, then it handles the event too, and gives the step. Else the event waits, as after `take`.
+    ///
+    /// # Errors
+    /// The first of `UnknownGroup`, `AfterEnd` with the group, `UnknownItem` and `Memory` that is there. Nothing is then
+    /// taken or handled.
+    #[inline(always)]
+    pub fn take_and_handle(
+        &mut self,
+        group: u16,
+        event: Event,
+    ) -> Result<Option<Handled<A>>, SeqError>
+        requires good { IsEventButItem event }
+        requires room { length (list_of self.old.taken group) < MOST_RECORDS }
+        ensures can { OnOk result (CanTake self.old.taken group event) }
+        ensures waits { IfOk result (λ o. IfNone o ((¬ GoesAtOnce self.old group event) × (self.new ≡ taking self.old group event))) }
+        ensures goes { IfOk result (λ o. IfSome o (λ h. GoesAtOnce self.old group event × IsStep (taking self.old group event) self.new h)) }
+        ensures item { IfOk result (λ o. IfSome o (λ h. IsOfItem (record { group = group; item = event.item }) h)) }
+        ensures err { IfErr result (λ e. IsTakeFault self.old.taken group event e) }
+        ensures unchanged { OnErr result (self.new ≡ self.old) }
+        ensures sequence { IsSequence self.new }
+    {
+        let Some(next) = self.agenda.order().at_once(group, &event) else {
+            self.take(group, event)?;
+            return Ok(None);
+        };
+        let step = self.handle_at_once(group, event, next)?;
+        Ok(Some(step))
+    }
+}
+
+impl<A: Allocator + Clone> Sequencer<A> {
     /// Takes the next record of a group and handles its event, which may be handled at once.
     ///
     /// # Errors
@@ -187,8 +206,6 @@ impl<A: Allocator> Sequencer<A> {
         event: Event,
         next: EventId,
     ) -> Result<Handled<A>, Memory>
-    where
-        A: Clone,
         requires good { IsEventButItem event }
         requires room { length (list_of self.old.taken group) < MOST_RECORDS }
         requires goes { GoesAtOnce self.old group event }
@@ -208,76 +225,19 @@ impl<A: Allocator> Sequencer<A> {
         })
     }
 
-    /// Takes the next record of a group as `take` does. If the record is a mere access, which releases nothing and names nothing, and no
-    /// event of its item waits, then it handles the event too, and gives the step. Else the event waits, as after `take`.
-    ///
-    /// # Errors
-    /// The first of `UnknownGroup`, `AfterEnd` with the group, `UnknownItem` and `Memory` that is there. Nothing is then
-    /// taken or handled.
-    #[inline(always)]
-    pub fn take_and_handle(
-        &mut self,
-        group: u16,
-        event: Event,
-    ) -> Result<Option<Handled<A>>, SeqError>
-    where
-        A: Copy,
-        requires good { IsEventButItem event }
-        requires room { length (list_of self.old.taken group) < MOST_RECORDS }
-        ensures can { OnOk result (CanTake self.old.taken group event) }
-        ensures waits { IfOk result (λ o. IfNone o ((¬ GoesAtOnce self.old group event) × (self.new ≡ taking self.old group event))) }
-        ensures goes { IfOk result (λ o. IfSome o (λ h. GoesAtOnce self.old group event × IsStep (taking self.old group event) self.new h)) }
-        ensures item { IfOk result (λ o. IfSome o (λ h. IsOfItem (record { group = group; item = event.item }) h)) }
-        ensures err { IfErr result (λ e. IsTakeFault self.old.taken group event e) }
-        ensures unchanged { OnErr result (self.new ≡ self.old) }
-        ensures sequence { IsSequence self.new }
-    {
-        match self.agenda.order().at_once(group, &event) {
-            None => {
-                self.take(group, event)?;
-                Ok(None)
-            }
-            Some(next) => {
-                let step = self.handle_at_once(group, event, next)?;
-                Ok(Some(step))
-            }
-        }
-    }
-
-    /// The sizes of the groups that have come.
-    pub fn shape(&self) -> &GrowingShape<A>
-        ensures sizes { result.now ≡ self.now.taken.sizes }
-        ensures sequence { IsSequence self.now }
-    {
-        self.agenda.order().lanes().shape()
-    }
-
-    /// How many records of a group were taken; 0 where there is no such group.
-    pub fn taken(&self, group: u16) -> u32
-        ensures { result ≡ length (list_of self.now.taken group) }
-    {
-        self.agenda.order().taken(group)
-    }
-
     /// Handles an event that may be handled.
     ///
     /// # Errors
     /// `Memory`: out of memory. Nothing is then handled.
-    fn handle_event(&mut self, event: EventId) -> Result<Handled<A>, GoError>
-    where
-        A: Clone,
+    fn handle_event(&mut self, event: EventId) -> Result<Handled<A>, Memory>
         requires ready { IsReady self.old.taken self.old.handled event }
         ensures step { IfOk result (λ h. IsStep self.old self.new h) }
         ensures item { IfOk result (λ h. IsOfItem event.at h) }
-        ensures memory { IfErr result (λ e. e ≡ OutOfMemory) }
         ensures unchanged { OnErr result (self.new ≡ self.old) }
         ensures sequence { IsSequence self.new }
     {
         let order = self.agenda.order();
-        let taken = match order.event_at(event) {
-            None => unreachable!(),
-            Some(taken) => taken,
-        };
+        let taken = order.event_at(event).unwrap();
         let access = self.known.access_of(order, event, &taken)?;
         self.known.keep(order, event, &taken, &access)?;
         self.known.advance(order, event, &taken)?;
@@ -290,32 +250,24 @@ impl<A: Allocator> Sequencer<A> {
     /// # Errors
     /// `NotReady`, and else `Memory`. Nothing is then handled.
     pub fn handle(&mut self, item: ItemId) -> Result<Handled<A>, GoError>
-    where
-        A: Clone,
         ensures step { IfOk result (λ h. IsStep self.old self.new h) }
         ensures item { IfOk result (λ h. IsOfItem item h) }
         ensures err { IfErr result (λ e. IsHandleFault self.old item e) }
         ensures unchanged { OnErr result (self.new ≡ self.old) }
         ensures sequence { IsSequence self.new }
     {
-        match self.agenda.order().next(item) {
-            None => Err(GoError::NotReady),
-            Some(event) => self.handle_event(event),
-        }
+        let event = self.agenda.order().next(item).ok_or(GoError::NotReady)?;
+        Ok(self.handle_event(event)?)
     }
 
     /// Handles the barriers of a group's instance that may meet.
     ///
     /// # Errors
     /// `Memory`: out of memory. Nothing is then handled.
-    fn meet_next(&mut self, group: u16) -> Result<Handled<A>, GoError>
-    where
-        A: Clone,
+    fn meet_next(&mut self, group: u16) -> Result<Handled<A>, Memory>
         requires meets { CanMeet self.old.taken self.old.handled group }
         ensures step { IfOk result (λ h. IsStep self.old self.new h) }
         ensures group { IfOk result (λ h. IsOfGroup group h) }
-        ensures err { IfErr result (λ e. IsMeetFault self.old group e) }
-        ensures memory { IfErr result (λ e. e ≡ OutOfMemory) }
         ensures unchanged { OnErr result (self.new ≡ self.old) }
         ensures sequence { IsSequence self.new }
     {
@@ -331,18 +283,16 @@ impl<A: Allocator> Sequencer<A> {
     /// # Errors
     /// `NotReady`, and else `Memory`. Nothing is then handled.
     pub fn meet(&mut self, group: u16) -> Result<Handled<A>, GoError>
-    where
-        A: Clone,
         ensures step { IfOk result (λ h. IsStep self.old self.new h) }
         ensures group { IfOk result (λ h. IsOfGroup group h) }
         ensures err { IfErr result (λ e. IsMeetFault self.old group e) }
         ensures unchanged { OnErr result (self.new ≡ self.old) }
         ensures sequence { IsSequence self.new }
     {
-        match self.agenda.order().meeting(group) {
-            None => Err(GoError::NotReady),
-            Some(_) => self.meet_next(group),
+        if self.agenda.order().meeting(group).is_none() {
+            return Err(GoError::NotReady);
         }
+        Ok(self.meet_next(group)?)
     }
 
     /// Makes any one step that is ready, or none where none is: the handled events are then the grounded ones.
@@ -350,29 +300,46 @@ impl<A: Allocator> Sequencer<A> {
     /// # Errors
     /// `Memory`, where some step is ready. Nothing is then handled.
     pub fn step(&mut self) -> Result<Option<Handled<A>>, Memory>
-    where
-        A: Clone,
         ensures some { IfOk result (λ o. MatchOption o (self.new ≡ self.old) (λ h. IsStep self.old self.new h)) }
         ensures none { IfOk result (λ o. MatchOption o (IsDone self.old) (λ h. CanStep self.old)) }
         ensures err { OnErr result (CanStep self.old) }
         ensures unchanged { OnErr result (self.new ≡ self.old) }
         ensures sequence { IsSequence self.new }
     {
-        let made = match self.agenda.ready() {
+        let handled = match self.agenda.ready() {
             None => return Ok(None),
             Some(Ready::Item(item)) => {
                 let event = self.agenda.order().ready_event(item);
-                self.handle_event(event)
+                self.handle_event(event)?
             }
-            Some(Ready::Group(group)) => self.meet_next(group),
+            Some(Ready::Group(group)) => self.meet_next(group)?,
         };
-        match made {
-            Ok(handled) => Ok(Some(handled)),
-            Err(error) => match error {
-                GoError::Memory => Err(Memory),
-                GoError::NotReady => unreachable!(),
-            },
-        }
+        Ok(Some(handled))
+    }
+}
+
+impl<A: Allocator> Sequencer<A> {
+    /// What was taken of the launch's streams, and the order in which its events were handled.
+    pub fn order(&self) -> &Schedule<A>
+        ensures order { result.now ≡ self.now }
+        ensures sequence { IsSequence self.now }
+    {
+        self.agenda.order()
+    }
+
+    /// The sizes of the groups that have come.
+    pub fn shape(&self) -> &GrowingShape<A>
+        ensures sizes { result.now ≡ self.now.taken.sizes }
+        ensures sequence { IsSequence self.now }
+    {
+        self.agenda.order().lanes().shape()
+    }
+
+    /// How many records of a group were taken; 0 where there is no such group.
+    pub fn taken(&self, group: u16) -> u32
+        ensures { result ≡ length (list_of self.now.taken group) }
+    {
+        self.agenda.order().taken(group)
     }
 
     /// Whether every group's end was taken and no step is left. The handled events are then the grounded ones.
