@@ -1,5 +1,5 @@
 -- One stream, and the bytes that follow it.
-use Rattle.std.proofs.Common.{◌≡◌, ℕ, ◌≤◌, Bool, true, false, cond, List, [], ◌++◌, length, Result, Ok, Err, refl, sym, ap, ◌∙◌, subst, arith, append-nil, append_assoc, eqb-true, not, ◌==◌, if◌then◌else◌}
+use Rattle.std.proofs.Common.{◌≡◌, ℕ, ◌≤◌, List, [], ◌++◌, length, Result, Ok, Err, sym, ap, ◌∙◌, subst, arith, append-nil, append_assoc, eqb-true, not, ◌==◌, if◌then◌else◌}
 use Rattle.std.specs.List.{list_any}
 use Rattle.std.proofs.lemmas.List.{length-take, nil_from_length, take-append-drop}
 use Rattle.gr_model.specs.declared.event.Event.{Event}
@@ -11,31 +11,14 @@ use Rattle.gr_record.specs.declared.header.Header.{Header}
 use Rattle.gr_record.specs.declared.layout.TheConstants.{HEADER_LENGTH}
 use Rattle.gr_record.specs.WholeStreams.{front_header_at, front_records_at, whole}
 use Rattle.gr_record.proofs.Growing.{grown, records_grow}
-use Rattle.gr_intake.specs.Joined.{Flat, ◌>>=◌, at_place, stream_at}
+use Rattle.gr_intake.specs.Joined.{Flat, ◌>>=◌, stream_at}
+use Rattle.gr_intake.proofs.Accepted.{BeginsWith, follows, same_ok}
 use Rattle.gr_intake.proofs.Behind.{front_of_unit}
 use Rattle.gr_replay.specs.Each.{only_stream_at}
-
--- the bytes begin with this stream, and these are left after it
-pub record BeginsWith (bytes : List ℕ) (f : Flat) (rest : List ℕ) : Type 0 where
-  pub behind : List ℕ
-  pub header : front_header_at bytes ≡ Ok (f.header, behind)
-  pub records : front_records_at f.header behind ≡ Ok (f.events, rest)
 
 -- the bytes are this stream
 abbrev pub IsStreamOf : List ℕ → Flat → Type 0
 IsStreamOf bytes f = BeginsWith bytes f []
-
-abbrev found : Flat × List ℕ → Result (Flat × List ℕ) Fault
-found x = Ok x
-
-same_found : (x y : Flat × List ℕ) → found x ≡ found y → x ≡ y
-same_found x y e = cc
-
-abbrev done : {X : Type 0} → X → Result X RecordError
-done x = Ok x
-
-same_done : {X : Type 0} (x y : X) → done x ≡ done y → x ≡ y
-same_done x y e = cc
 
 -- ---- more bytes
 
@@ -45,7 +28,7 @@ header_long bytes x is = grind arith
 
 module _ (unit tail more : List ℕ) (all : length unit ≡ HEADER_LENGTH) (h : Header) (behind : List ℕ) where
   unit_on : front_header_at (unit ++ tail) ≡ Ok (h, behind) → front_header_at ((unit ++ tail) ++ more) ≡ Ok (h, behind ++ more)
-  unit_on is = grind (arith, append_assoc, front_of_unit, behind, same_done)
+  unit_on is = grind (arith, append_assoc, front_of_unit, behind, same_ok)
 
 header_on : (bytes more : List ℕ) (h : Header) (behind : List ℕ) → front_header_at bytes ≡ Ok (h, behind) → front_header_at (bytes ++ more) ≡ Ok (h, behind ++ more)
 header_on bytes more h behind is =
@@ -53,14 +36,14 @@ header_on bytes more h behind is =
 
 records_on : (h : Header) (bytes more : List ℕ) (events : List Event) → front_records_at h bytes ≡ Ok (events, []) → front_records_at h (bytes ++ more) ≡ Ok (events, more)
 unfolding front_records_at
-records_on h bytes more events is = grind (arith, records_grow, grown, same_done)
+records_on h bytes more events is = grind (arith, records_grow, grown, same_ok)
 
 -- of bytes that begin with a stream, no other stream is the whole
 pub alone : (bytes more : List ℕ) (f g : Flat) → IsStreamOf bytes f → IsStreamOf (bytes ++ more) g → (f ≡ g) × (more ≡ [])
 alone bytes more f g is whole =
-    let header = same_done {X = Header × List ℕ} (f.header, is.behind ++ more) (g.header, whole.behind) (sym (header_on bytes more f.header is.behind is.header) ∙ whole.header) in
+    let header = same_ok {X = Header × List ℕ} {E = RecordError} (f.header, is.behind ++ more) (g.header, whole.behind) (sym (header_on bytes more f.header is.behind is.header) ∙ whole.header) in
     let records = subst (λ (y : Header × List ℕ). front_records_at y.0 y.1 ≡ Ok (f.events, more)) header (records_on f.header is.behind more f.events is.records) in
-    let same = same_done {X = List Event × List ℕ} (f.events, more) (g.events, []) (sym records ∙ whole.records) in
+    let same = same_ok {X = List Event × List ℕ} {E = RecordError} (f.events, more) (g.events, []) (sym records ∙ whole.records) in
     let head : f.header ≡ g.header = ap (λ (y : Header × List ℕ). y.0) header in
     let list : f.events ≡ g.events = ap (λ (y : List Event × List ℕ). y.0) same in
     ((λ i. record { header = head i; events = list i }), ap (λ (y : List Event × List ℕ). y.1) same)
@@ -78,9 +61,6 @@ module _ (seen : List Flat) where
   abbrev pub followed : List ℕ → Flat → Result (Flat × List ℕ) Fault
   followed more f = Ok (f, more)
 
-  abbrev kept : Header → List Event × List ℕ → Result (Flat × List ℕ) Fault
-  kept h r = Ok (record { header = h; events = r.0 }, r.1)
-
   pub stream_on : (bytes more : List ℕ) (f : Flat) → IsStreamOf bytes f → stream_at seen (bytes ++ more) ≡ checked f >>= followed more
   unfolding stream_at
   stream_on bytes more f is = grind (arith, header_on bytes more f.header is.behind is.header, records_on f.header is.behind more f.events is.records)
@@ -92,43 +72,11 @@ module _ (seen : List Flat) where
   unfolding only_stream_at
   only_on bytes f is = grind (arith, append-nil bytes, stream_on bytes [] f is)
 
-  abbrev stream : Flat → Result Flat Fault
-  stream f = Ok f
-
-  same_stream : (x y : Flat) → stream x ≡ stream y → x ≡ y
-  same_stream x y e = cc
-
   -- what is read as the only stream of the bytes is read as their first
   pub only_read : (bytes : List ℕ) (f : Flat) → only_stream_at seen bytes ≡ Ok f → stream_at seen bytes ≡ Ok (f, [])
   unfolding only_stream_at
-  only_read bytes f is = grind (arith, found, same_stream, nil_from_length, eqb-true)
-
-  module _ (bytes : List ℕ) (f : Flat) (rest : List ℕ) where
-    by_records : (h : Header) (behind : List ℕ) → front_header_at bytes ≡ Ok (h, behind) → (r : Result (List Event × List ℕ) RecordError) → front_records_at h behind ≡ r → (at_place (length seen) r >>= kept h) ≡ Ok (f, rest) → BeginsWith bytes f rest
-    by_records h behind header (Err e) records k = absurd cc
-    by_records h behind header (Ok x) records k =
-        subst (λ (y : Flat × List ℕ). BeginsWith bytes y.0 y.1) (same_found (record { header = h; events = x.0 }, x.1) (f, rest) k) (record { behind = behind; header = header; records = records })
-
-    by_seen : (h : Header) (behind : List ℕ) → front_header_at bytes ≡ Ok (h, behind) → (a b : Bool) → cond a (Err (faults.SameGroup (length seen))) (cond b (Err (faults.OtherLaunch (length seen))) (at_place (length seen) (front_records_at h behind) >>= kept h)) ≡ Ok (f, rest) → BeginsWith bytes f rest
-    by_seen h behind header true b k = absurd cc
-    by_seen h behind header false true k = absurd cc
-    by_seen h behind header false false k = by_records h behind header (front_records_at h behind) refl k
-
-    abbrev behind_header : Header × List ℕ → Result (Flat × List ℕ) Fault
-    behind_header h =
-        cond (list_any (λ s. s.header.group == h.0.group) seen) (Err (faults.SameGroup (length seen)))
-        (cond (list_any (λ s. not (s.header.launch == h.0.launch)) seen) (Err (faults.OtherLaunch (length seen)))
-        (at_place (length seen) (front_records_at h.0 h.1) >>= kept h.0))
-
-    by_header : (r : Result (Header × List ℕ) RecordError) → front_header_at bytes ≡ r → (at_place (length seen) r >>= behind_header) ≡ Ok (f, rest) → BeginsWith bytes f rest
-    by_header (Err e) header k = absurd cc
-    by_header (Ok (h, behind)) header k = by_seen h behind header (list_any (λ s. s.header.group == h.group) seen) (list_any (λ s. not (s.header.launch == h.launch)) seen) k
-
-    -- the bytes begin with the stream that is read
-    pub stream_begins : stream_at seen bytes ≡ Ok (f, rest) → BeginsWith bytes f rest
-    unfolding stream_at
-    stream_begins is = by_header (front_header_at bytes) refl is
+  only_read bytes f is = grind (arith, same_ok, nil_from_length, eqb-true)
 
   -- and are it, where it is the only one
   pub only_is : (bytes : List ℕ) (f : Flat) → only_stream_at seen bytes ≡ Ok f → IsStreamOf bytes f
-  only_is bytes f is = stream_begins bytes f [] (only_read bytes f is)
+  only_is bytes f is = (follows seen bytes f [] (only_read bytes f is)).begins

@@ -1,7 +1,8 @@
 -- Inputs are the streams of a launch in whatever order.
 use Rattle.std.proofs.Common.{◌≡◌, ◌≢◌, ℕ, List, [], ◌∷◌, ◌++◌, map, get_or, All, AllPairs, Contains, IsPermutation, Result, Ok, Err, refl, sym, ap, ◌∙◌, subst, arith, append-nil, append_assoc}
 use Rattle.std.proofs.lemmas.Bool.{cases_lt}
-use Rattle.std.proofs.lemmas.List.{get_or_append_left, length-append}
+use Rattle.std.proofs.lemmas.List.{get_or_append_left, get_or_default, length-append}
+use Rattle.std.proofs.lemmas.List.Elements.{Contains-get_or}
 use Rattle.std.proofs.lemmas.List.Folds.{list_any_none}
 use Rattle.std.proofs.lemmas.List.Sorted.{All-permutation, Contains-permutation, IsPermutation-map, IsPermutation-sym}
 use Rattle.std.proofs.Math.Seq.{get_or-append_seam}
@@ -10,13 +11,12 @@ use Rattle.gr_record.specs.declared.fault.Fault.{Fault}
 use Rattle.gr_record.specs.declared.header.Version.TheVariants.{One}
 use Rattle.gr_intake.specs.Joined.{Flat}
 use Rattle.gr_intake.specs.Launch.{AreApart, IsLaunchOf}
-use Rattle.gr_intake.proofs.Accepted.{none_are}
+use Rattle.gr_intake.proofs.Accepted.{none_are, ok, same_ok}
 use Rattle.gr_replay.specs.Each.{only_stream_at}
 use Rattle.gr_replay.specs.Laws.{InputsInAnyOrder, IsOneStream, ReportInAnyOrder}
 use Rattle.gr_replay.proofs.Alone.{checked, only_on}
 use Rattle.gr_replay.proofs.JoinedInputs.{AreStreamsOf, all_checked, all_one, each_are, each_checked, each_is, one_all}
-use Rattle.gr_replay.proofs.Launching.{apart_permutation, contains_at, same_at}
-use Rattle.gr_replay.proofs.OneLaunch.{read, same_read}
+use Rattle.gr_replay.proofs.Launching.{apart_permutation}
 
 -- ---- streams in another order
 
@@ -28,7 +28,7 @@ abbrev launch : Flat → ℕ
 launch f = f.header.launch
 
 one_at : (fs : List Flat) → AreOfOne fs → (x y : Flat) → Contains fs x → Contains fs y → launch x ≡ launch y
-one_at fs one x y (p, lt, is) (q, gt, also) = grind (arith, same_at fs q x y gt, cases_lt p q, cases_lt q p)
+one_at fs one x y (p, lt, is) (q, gt, also) = grind (arith, get_or_default fs q x y gt, cases_lt p q, cases_lt q p)
 
 module _ (fs gs : List Flat) (moved : IsPermutation fs gs) where
   back : (f : Flat) → Contains gs f → Contains fs f
@@ -36,7 +36,7 @@ module _ (fs gs : List Flat) (moved : IsPermutation fs gs) where
 
   one_permutation : AreOfOne fs → AreOfOne gs
   one_permutation one = λ i j d before within.
-      one_at fs one (get_or gs i d) (get_or gs j d) (back (get_or gs i d) (contains_at gs i d (omega (arith, before, within)))) (back (get_or gs j d) (contains_at gs j d within))
+      one_at fs one (get_or gs i d) (get_or gs j d) (back (get_or gs i d) (Contains-get_or gs i d (omega (arith, before, within)))) (back (get_or gs j d) (Contains-get_or gs j d within))
 
   launch_permutation : (s : Streams) → IsLaunchOf fs s → IsLaunchOf gs s
   launch_permutation s is = record {
@@ -48,7 +48,7 @@ module _ (fs gs : List Flat) (moved : IsPermutation fs gs) where
 -- ---- what is checked, and when nothing is refused
 
 all_are : (fs seen out : List Flat) → all_checked seen fs ≡ Ok out → out ≡ seen ++ fs
-all_are [] seen out is = sym (same_read seen out is) ∙ sym (append-nil seen)
+all_are [] seen out is = sym (same_ok {E = Fault} seen out is) ∙ sym (append-nil seen)
 all_are (f ∷ fs) seen out is = grind (arith, all_are fs (seen ++ f ∷ []) out, append_assoc seen (f ∷ []) fs)
 
 before_it : (R : Flat → Flat → Type 0) (seen : List Flat) (f : Flat) (fs : List Flat) → AllPairs R (seen ++ f ∷ fs) → All (λ s. R s f) seen
@@ -58,7 +58,7 @@ checked_one : (seen : List Flat) (f : Flat) → All (λ s. s.header.group ≢ f.
 checked_one seen f other same = grind (arith, list_any_none)
 
 none_refused : (fs seen : List Flat) → AreApart (seen ++ fs) → AreOfOne (seen ++ fs) → all_checked seen fs ≡ Ok (seen ++ fs)
-none_refused [] seen apart one = ap read (sym (append-nil seen))
+none_refused [] seen apart one = ap (ok {E = Fault}) (sym (append-nil seen))
 none_refused (f ∷ fs) seen apart one =
     let regroup = append_assoc seen (f ∷ []) fs in
     let first = checked_one seen f (before_it (λ a b. a.header.group ≢ b.header.group) seen f fs apart) (before_it (λ a b. launch a ≡ launch b) seen f fs one) in

@@ -4,13 +4,13 @@ use Rattle.gr_record.specs.declared.fault.Fault.{Fault}
 use Rattle.gr_intake.specs.Joined.{Flat, ◌>>=◌, joined_at, joined_of}
 use Rattle.gr_intake.specs.Launch.{Reads}
 use Rattle.gr_intake.specs.Laws.{AreStreams}
-use Rattle.gr_intake.proofs.Accepted.{stream_is_one}
+use Rattle.gr_intake.proofs.Accepted.{same_ok, stream_is_one}
 use Rattle.gr_replay.specs.Each.{ReadsEach, each_at, each_of, only_stream_at}
 use Rattle.gr_replay.specs.Replays.{IsExact, IsExactOfEach}
 use Rattle.gr_replay.specs.Laws.{InputsAreJoined, IsOneStream, JoinedReportIsEqual, JoinedReportIsSame, joined}
 use Rattle.gr_replay.proofs.Alone.{IsStreamOf, checked, header_long, only_is, only_on, only_read, stream_on}
 use Rattle.gr_replay.proofs.Joining.{nothing_left}
-use Rattle.gr_replay.proofs.OneLaunch.{bytes_have_one_report, same_read}
+use Rattle.gr_replay.proofs.OneLaunch.{bytes_have_one_report}
 
 -- the inputs are these streams
 abbrev pub AreStreamsOf : List (List ℕ) → List Flat → Type 0
@@ -61,7 +61,7 @@ each_is (bytes ∷ inputs) seen out is = by_stream (only_stream_at seen bytes) r
 -- and of different groups and one launch, each a list that its group may have
 pub each_are : (inputs : List (List ℕ)) (seen out : List Flat) → AreStreams seen → each_at seen inputs ≡ Ok out → AreStreams out
 unfolding each_at
-each_are [] seen out are is = subst AreStreams (same_read seen out is) are
+each_are [] seen out are is = subst AreStreams (same_ok {E = Fault} seen out is) are
 each_are (bytes ∷ inputs) seen out are is = by_stream (only_stream_at seen bytes) refl is (λ f more later. each_are inputs (seen ++ f ∷ []) out more later)
   where
     by_stream : (r : Result Flat Fault) → only_stream_at seen bytes ≡ r → (r >>= λ f. each_at (seen ++ f ∷ []) inputs) ≡ Ok out → ((f : Flat) → AreStreams (seen ++ f ∷ []) → each_at (seen ++ f ∷ []) inputs ≡ Ok out → AreStreams out) → AreStreams out

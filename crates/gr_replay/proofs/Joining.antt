@@ -1,5 +1,5 @@
 -- Reading streams one after the other, as a loop does.
-use Rattle.std.proofs.Common.{◌≡◌, ℕ, zero, suc, ◌+◌, ◌-◌, ◌<◌, ◌≤◌, Bool, true, false, List, [], ◌∷◌, ◌++◌, length, Result, Ok, Err, refl, sym, ap, ◌∙◌, arith, not, ◌==◌, ◌||◌}
+use Rattle.std.proofs.Common.{◌≡◌, ℕ, zero, suc, ◌+◌, ◌-◌, ◌<◌, ◌≤◌, true, false, List, [], ◌∷◌, ◌++◌, length, Result, Ok, Err, refl, sym, ◌∙◌, arith, not, ◌==◌}
 use Rattle.std.specs.List.{list_any}
 use Rattle.std.proofs.lemmas.List.{length-map}
 use Rattle.gr_model.specs.declared.event.Event.{Event}
@@ -13,12 +13,9 @@ use Rattle.gr_record.specs.WholeStreams.{front_header_at, front_records_at}
 use Rattle.gr_replay.specs.declared.joined.Stream.{Stream}
 use Rattle.gr_record.specs.InputFaults.{Fails}
 use Rattle.gr_intake.specs.Joined.{Flat, stream_at, joined_at}
-use Rattle.gr_replay.specs.InMemory.{flats}
+use Rattle.gr_replay.specs.InMemory.{flat, flats}
 use Rattle.gr_intake.proofs.Faults.{fault_at-fails}
-
-list_any-flats : (test : Header → Bool) (seen : List Stream) → list_any (λ s. test s.header) (flats seen) ≡ list_any (λ s. test s.header) seen
-list_any-flats test [] = refl
-list_any-flats test (s ∷ seen) = ap (λ b. test s.header || b) (list_any-flats test seen)
+use Rattle.gr_intake.proofs.Mapped.{any_of_map}
 
 module _ (seen : List Stream) (bytes : List ℕ) where
   pub header_fails : (e : RecordError) → record_spec.Fails e (front_header_at bytes) → Fails (stream_fault (length seen) e) (stream_at (flats seen) bytes)
@@ -28,24 +25,24 @@ module _ (seen : List Stream) (bytes : List ℕ) where
   module _ (header : Header) (rest : List ℕ) (found : front_header_at bytes ≡ Ok (header, rest)) where
     pub same_group : list_any (λ s. s.header.group == header.group) seen ≡ true → stream_at (flats seen) bytes ≡ Err (faults.SameGroup (length seen))
     unfolding stream_at
-    same_group t = rw (found, list_any-flats (λ h. h.group == header.group) seen, t, length-map) refl
+    same_group t = rw (found, any_of_map flat (λ f. f.header.group == header.group) seen, t, length-map) refl
 
     module _ (fresh : list_any (λ s. s.header.group == header.group) seen ≡ false) where
       pub other_launch : list_any (λ s. not (s.header.launch == header.launch)) seen ≡ true → stream_at (flats seen) bytes ≡ Err (faults.OtherLaunch (length seen))
       unfolding stream_at
-      other_launch t = rw (found, list_any-flats (λ h. h.group == header.group) seen, fresh, list_any-flats (λ h. not (h.launch == header.launch)) seen, t, length-map) refl
+      other_launch t = rw (found, any_of_map flat (λ f. f.header.group == header.group) seen, fresh, any_of_map flat (λ f. not (f.header.launch == header.launch)) seen, t, length-map) refl
 
       module _ (same : list_any (λ s. not (s.header.launch == header.launch)) seen ≡ false) where
         pub records_fail : (e : RecordError) → record_spec.Fails e (front_records_at header rest) → Fails (stream_fault (length seen) e) (stream_at (flats seen) bytes)
         unfolding stream_at
         records_fail e h =
             fault_at-fails (length seen) e (front_records_at header rest) (stream_at (flats seen) bytes) h
-            (λ k. rw (found, list_any-flats (λ h. h.group == header.group) seen, fresh, list_any-flats (λ h. not (h.launch == header.launch)) seen, same, k, length-map) refl)
+            (λ k. rw (found, any_of_map flat (λ f. f.header.group == header.group) seen, fresh, any_of_map flat (λ f. not (f.header.launch == header.launch)) seen, same, k, length-map) refl)
 
         pub one_stream : (events : List Event) (after : List ℕ) → front_records_at header rest ≡ Ok (events, after) → stream_at (flats seen) bytes ≡ Ok (record { header = header; events = events }, after)
         unfolding stream_at
         one_stream events after k =
-            rw (found, list_any-flats (λ h. h.group == header.group) seen, fresh, list_any-flats (λ h. not (h.launch == header.launch)) seen, same, k) refl
+            rw (found, any_of_map flat (λ f. f.header.group == header.group) seen, fresh, any_of_map flat (λ f. not (f.header.launch == header.launch)) seen, same, k) refl
 
 -- ---- the loop over streams
 

@@ -1,13 +1,14 @@
 -- From streams to the launch that they are of.
-use Rattle.std.proofs.Common.{◌≡◌, ◌≢◌, ◌⊎◌, ℕ, zero, suc, ◌<◌, ◌≤◌, List, [], ◌∷◌, length, map, get_or, AllPairs, Contains, IsPermutation, Some, slice_get, slice_index, refl, sym, ap, ◌∙◌, subst, ⊎_elim, arith, eqb, eq-or-lt_of_le, option_map, inl, inr}
+use mathlib.Core.List.{map-map}
+use Rattle.std.proofs.Common.{◌≡◌, ◌≢◌, ◌⊎◌, ℕ, zero, suc, ◌<◌, ◌≤◌, List, [], ◌∷◌, length, map, get_or, AllPairs, IsPermutation, Some, slice_get, slice_index, sym, ap, ◌∙◌, subst, ⊎_elim, arith, eqb, eq-or-lt_of_le, option_map, inl, inr}
 use Rattle.std.proofs.lemmas.Bool.{cases_lt}
 use Rattle.std.proofs.lemmas.Bool.Decides.{Decides-eqb}
-use Rattle.std.proofs.lemmas.List.{get_or-map, length-map}
-use Rattle.std.proofs.lemmas.List.Elements.{All-contains}
+use Rattle.std.proofs.lemmas.List.{get_or-map, get_or_default, length-map}
+use Rattle.std.proofs.lemmas.List.Elements.{All-contains, Contains-get_or}
 use Rattle.std.proofs.lemmas.List.Sorted.{IsPermutation-map, IsPermutation-sym, Contains-permutation}
 use Rattle.std.proofs.lemmas.Map.Keys.{IsDistinct-IsPermutation}
 use Rattle.std.proofs.lemmas.Map.Made.{AllPairs-from_IsDistinct, IsDistinct-from_AllPairs}
-use Rattle.std.proofs.lemmas.Option.{slice_get-get_or, get_or_from_slice_get, slice_get-map}
+use Rattle.std.proofs.lemmas.Option.{get_or_from_slice_get, slice_get-map}
 use Rattle.std.specs.List.Sorted.{IsNonDecreasingBy}
 use Rattle.gr_model.specs.Shapes.{IsShape}
 use Rattle.gr_model.specs.declared.event.Event.{Event}
@@ -16,7 +17,7 @@ use Rattle.gr_model.proofs.HitsAreRaces.{eqb_swap}
 use Rattle.gr_model.proofs.Places.{Contains-at}
 use Rattle.gr_replay.specs.declared.joined.Stream.{Stream}
 use Rattle.gr_intake.specs.Joined.{Flat}
-use Rattle.gr_replay.specs.InMemory.{flat, flats}
+use Rattle.gr_replay.specs.InMemory.{flats}
 use Rattle.gr_intake.specs.Laws.{AreStreams}
 use Rattle.gr_intake.specs.Launch.{IsLaunchOf, IsLeastMissing, AreApart, AreRising, ArePlaced}
 use Rattle.gr_steps.proofs.Orders.{there_is}
@@ -56,12 +57,6 @@ rising_from f xs up apart =
 
 -- ---- the first gap
 
-pub contains_at : (fs : List Flat) (p : ℕ) (d : Flat) → p < length fs → Contains fs (get_or fs p d)
-contains_at fs p d lt = (p, lt, get_or_from_slice_get fs p (get_or fs p d) (get_or fs p d) (slice_get-get_or fs p d lt))
-
-pub same_at : (fs : List Flat) (p : ℕ) (d e : Flat) → p < length fs → get_or fs p d ≡ get_or fs p e
-same_at fs p d e lt = get_or_from_slice_get fs p (get_or fs p e) d (slice_get-get_or fs p e lt)
-
 -- the group of the stream at a place, as the list that it was read from gives it
 pub group_at : {X : Type 0} (f : X → Flat) (xs : List X) (p : ℕ) (x : X) → p < length xs → x ≡ get_or xs p x → (get_or (map f xs) p (f x)).header.group ≡ (f x).header.group
 group_at f xs p x lt is = ap (λ y. y.header.group) (get_or-map f xs p x (f x) lt) ∙ ap (λ y. (f y).header.group) (sym is)
@@ -79,16 +74,16 @@ module _ (fs : List Flat) (rising : AreRising fs) where
   gap p d lt placed other =
       let least = at_least p d lt placed in
       record {
-        below = (get_or fs p d, contains_at fs p d lt, omega arith);
+        below = (get_or fs p d, Contains-get_or fs p d lt, omega arith);
         missing = λ h. none h.0 h.1.0 h.1.1 (ap (λ f. f.header.group) h.1.2 ∙ h.2) (cases_lt h.1.0 p);
-        least = λ h below. (get_or fs h d, contains_at fs h d (omega arith), placed h d below);
+        least = λ h below. (get_or fs h d, Contains-get_or fs h d (omega arith), placed h d below);
       }
     where
       none : (f : Flat) (k : ℕ) → k < length fs → (get_or fs k f).header.group ≡ p → (k < p) ⊎ (p ≤ k) → ⊥
       none f k within is (inl below) = let here = placed k f below in omega arith
       none f k within is (inr above) =
           ⊎_elim
-          (λ (same : p ≡ k). other (ap (λ x. x.header.group) (same_at fs p d f lt) ∙ (ap (λ n. (get_or fs n f).header.group) same ∙ is)))
+          (λ (same : p ≡ k). other (ap (λ x. x.header.group) (get_or_default fs p d f lt) ∙ (ap (λ n. (get_or fs n f).header.group) same ∙ is)))
           (λ (before : p < k). let up = rising p k f before within in let low = at_least p f lt placed in omega arith)
           (eq-or-lt_of_le above)
 
@@ -134,17 +129,13 @@ module _ (seen fs : List Flat) (perm : IsPermutation seen fs) (placed : ArePlace
 
 -- ---- streams as they lie in memory
 
-map-flats : {Y : Type 0} (f : Flat → Y) (xs : List Stream) → map f (flats xs) ≡ map (λ s. f (flat s)) xs
-map-flats f [] = refl
-map-flats f (x ∷ xs) = ap (λ l. f (flat x) ∷ l) (map-flats f xs)
-
 -- streams of these sizes and lists
 abbrev pub these : List ℕ → List (List Event) → Streams
 these sizes lists = record { sizes = sizes; lists = lists }
 
 -- the sizes of streams and their lists, as a launch has them
 pub launch_is : (xs : List Stream) (sizes : List ℕ) (lists : List (List Event)) → sizes ≡ map (λ s. s.header.items) xs → lists ≡ map (λ s. s.events) xs → these sizes lists ≡ launch_of (flats xs)
-launch_is xs sizes lists is_sizes is_lists = grind (arith, map-flats)
+launch_is xs sizes lists is_sizes is_lists = grind (arith, map-map)
 
 pub missing_permutation : (seen fs : List Flat) → IsPermutation seen fs → (g : ℕ) → IsLeastMissing fs g → IsLeastMissing seen g
 missing_permutation seen fs perm g h =

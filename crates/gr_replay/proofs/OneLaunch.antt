@@ -8,6 +8,7 @@ use Rattle.gr_model.proofs.ReportLaws.{one_report}
 use Rattle.gr_record.specs.declared.fault.Fault.{Fault}
 use Rattle.gr_intake.specs.Joined.{Flat}
 use Rattle.gr_intake.specs.Launch.{IsLaunchOf}
+use Rattle.gr_intake.proofs.Accepted.{same_ok}
 use Rattle.gr_replay.specs.Laws.{BytesAreOneLaunch, BytesHaveOneReport, InputsAreOneLaunch, InputsHaveOneReport}
 
 -- ---- streams are those of one launch
@@ -47,18 +48,12 @@ launch_is_one seen s t is also =
 
 -- ---- bytes and inputs
 
-abbrev pub read : List Flat → Result (List Flat) Fault
-read seen = Ok seen
-
-pub same_read : (x y : List Flat) → read x ≡ read y → x ≡ y
-same_read x y e = cc
-
 -- what is read is of this launch
 abbrev pub IsReadAs : Result (List Flat) Fault → Streams → Type 0
 IsReadAs r s = (seen : List Flat) × (r ≡ Ok seen) × IsLaunchOf seen s
 
 one_launch : (r : Result (List Flat) Fault) (s t : Streams) → IsReadAs r s → IsReadAs r t → s ≡ t
-one_launch r s t (seen, is, launch) (others, also, other) = launch_is_one seen s t launch (subst (λ x. IsLaunchOf x t) (same_read others seen (sym also ∙ is)) other)
+one_launch r s t (seen, is, launch) (others, also, other) = launch_is_one seen s t launch (subst (λ x. IsLaunchOf x t) (same_ok {E = Fault} others seen (sym also ∙ is)) other)
 
 pub bytes_are_one_launch : BytesAreOneLaunch
 bytes_are_one_launch bytes s t a b = one_launch _ s t a b

@@ -12,10 +12,10 @@ use Rattle.gr_text.specs.Dumps.{WholeStream}
 use Rattle.gr_text.specs.Wholes.{IsWhole}
 use Rattle.gr_text.proofs.Streaming.{events_found, header_found}
 use Rattle.gr_intake.specs.Joined.{Flat, ◌>>=◌, joined_at, stream_at}
+use Rattle.gr_intake.proofs.Accepted.{BeginsWith, follows, ok}
 use Rattle.gr_replay.specs.Laws.{BytesAreInputs, joined}
-use Rattle.gr_replay.proofs.Alone.{BeginsWith, IsStreamOf, header_long, stream_begins}
+use Rattle.gr_replay.proofs.Alone.{IsStreamOf, header_long}
 use Rattle.gr_replay.proofs.JoinedInputs.{AreStreamsOf, same_of}
-use Rattle.gr_replay.proofs.OneLaunch.{read}
 use Rattle.gr_replay.proofs.Upgrades.{spelled, whole_is}
 
 -- the bytes of a stream, and those after it
@@ -58,12 +58,12 @@ parted (suc n) seen bytes fits le out is = by_length (length bytes == 0) refl is
     by_stream : (r : Result (Flat × List ℕ) Fault) → stream_at seen bytes ≡ r → (r >>= λ s. joined_at n (seen ++ s.0 ∷ []) s.1) ≡ Ok out → Later n seen out → AreInputs bytes
     by_stream (Err e) one k later = absurd cc
     by_stream (Ok (f, rest)) one k later =
-        let p = part bytes f rest fits (stream_begins seen bytes f rest one) in
+        let p = part bytes f rest fits ((follows seen bytes f rest one).begins) in
         let long = header_long p.front _ p.is.header in
         let more = later f rest p.fits (omega (arith, le, long, ap length p.parts, length-append p.front rest)) k in
         (p.front ∷ more.0, f ∷ more.1, (p.is, more.2), p.parts ∙ ap (λ (v : List ℕ). p.front ++ v) more.3)
 
-    by_length : (b : Bool) → (length bytes == 0) ≡ b → cond b (read seen) (stream_at seen bytes >>= λ s. joined_at n (seen ++ s.0 ∷ []) s.1) ≡ Ok out → Later n seen out → AreInputs bytes
+    by_length : (b : Bool) → (length bytes == 0) ≡ b → cond b (ok {E = Fault} seen) (stream_at seen bytes >>= λ s. joined_at n (seen ++ s.0 ∷ []) s.1) ≡ Ok out → Later n seen out → AreInputs bytes
     by_length true none k later = no_bytes bytes (eqb-true (length bytes) 0 none)
     by_length false some k later = by_stream (stream_at seen bytes) refl k later
 

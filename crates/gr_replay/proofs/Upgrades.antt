@@ -1,7 +1,7 @@
 -- Streams and what they are upgraded to are read as the same launch.
-use Rattle.std.proofs.Common.{◌≡◌, ℕ, suc, ◌<◌, ◌≤◌, Bool, List, [], ◌∷◌, ◌++◌, length, map, get_or, slice_get, Some, inl, inr, All, Contains, Result, Ok, Err, refl, sym, ap, ◌∙◌, subst, arith, append-nil}
-use Rattle.std.specs.List.{list_any}
-use Rattle.std.proofs.lemmas.List.{get_or-map, get_or_default, length-map, map_push}
+use mathlib.Core.List.{map-map}
+use Rattle.std.proofs.Common.{◌≡◌, ℕ, suc, ◌≤◌, List, [], ◌∷◌, ◌++◌, length, map, slice_get, Some, inl, inr, All, Result, Ok, Err, refl, sym, ap, ◌∙◌, subst, arith, append-nil}
+use Rattle.std.proofs.lemmas.List.{length-map, map_push}
 use Rattle.std.proofs.lemmas.List.Folds.{flat_map-map}
 use Rattle.gr_model.specs.Streams.{Streams}
 use Rattle.gr_record.specs.declared.fault.Fault.{Fault}
@@ -15,21 +15,19 @@ use Rattle.gr_text.proofs.SpelledStreams.{events_before, header_before}
 use Rattle.gr_text.proofs.UpgradedStreams.{twice, upgraded_are_streams}
 use Rattle.gr_intake.specs.Joined.{Flat, ◌>>=◌, joined_of}
 use Rattle.gr_intake.specs.Launch.{IsLaunchOf}
+use Rattle.gr_intake.proofs.Accepted.{ok, same_ok}
+use Rattle.gr_intake.proofs.Mapped.{any_of_map, mapped_from, mapped_there}
 use Rattle.gr_replay.specs.Each.{ReadsEach, each_of}
 use Rattle.gr_replay.specs.Laws.{AreUpgraded, siteless, SitesAreNotRead, SitesAreNotJudged, UpgradedAreOneLaunch, UpgradedHaveOneReport, UpgradedInputsAreOneLaunch, UpgradedInputsHaveOneReport}
 use Rattle.gr_replay.proofs.Alone.{IsStreamOf, alone, checked, header_long}
 use Rattle.gr_replay.proofs.JoinedInputs.{AreStreamsOf, all_checked, all_of, each_checked, each_is}
-use Rattle.gr_replay.proofs.OneLaunch.{IsReadAs, read, same_read}
+use Rattle.gr_replay.proofs.OneLaunch.{IsReadAs}
 
 -- the same stream in version 2
 abbrev up : Flat → Flat
 up f = record { header = upgraded_header f.header; events = f.events }
 
 -- ---- they are of the same groups and the same launch
-
-any_up : (test : Flat → Bool) → ((f : Flat) → test (up f) ≡ test f) → (seen : List Flat) → list_any test (map up seen) ≡ list_any test seen
-any_up test same [] = refl
-any_up test same (f ∷ seen) = grind (arith, any_up test same seen)
 
 abbrev one_up : Flat → Result Flat Fault
 one_up f = Ok (up f)
@@ -38,27 +36,18 @@ abbrev pub all_up : List Flat → Result (List Flat) Fault
 all_up fs = Ok (map up fs)
 
 checked_up : (seen : List Flat) (f : Flat) → checked (map up seen) (up f) ≡ checked seen f >>= one_up
-checked_up seen f = grind (arith, any_up, length-map)
+checked_up seen f = grind (arith, any_of_map up, length-map)
 
 all_checked_up : (seen fs : List Flat) → all_checked (map up seen) (map up fs) ≡ all_checked seen fs >>= all_up
 all_checked_up seen [] = refl
 all_checked_up seen (f ∷ fs) = grind (arith, checked_up seen f, all_checked_up (seen ++ f ∷ []) fs, map_push up seen f)
 
-contains_up : (seen : List Flat) (f : Flat) → Contains seen f → Contains (map up seen) (up f)
-contains_up seen f (k, lt, is) = (k, omega (arith, lt, length-map seen up), get_or-map up seen k f (up f) lt ∙ ap up is)
-
-contains_down : (seen : List Flat) (f : Flat) → Contains (map up seen) f → (g : Flat) × Contains seen g × (up g ≡ f)
-contains_down seen f (k, lt, is) =
-    let below : k < length seen = omega (arith, lt, length-map seen up) in
-    let g = get_or seen k f in
-    (g, (k, below, get_or_default seen k g f below), sym (get_or-map up seen k f f below) ∙ is)
-
 launch_up : (seen : List Flat) (s : Streams) → IsLaunchOf seen s → IsLaunchOf (map up seen) s
 launch_up seen s launch = record {
   count = launch.count;
-  there = λ g lt. let has = launch.there g lt in (up has.0, contains_up seen has.0 has.1, has.2);
+  there = λ g lt. let has = launch.there g lt in (up has.0, mapped_there up seen has.0 has.1, has.2);
   each = λ f in_seen.
-      let has = contains_down seen f in_seen in
+      let has = mapped_from up seen f in_seen in
       subst (λ (x : Flat). (slice_get s.sizes x.header.group ≡ Some x.header.items) × (slice_get s.lists x.header.group ≡ Some x.events)) has.2 (launch.each has.0 has.1);
 }
 
@@ -67,9 +56,9 @@ launch_down seen s launch = record {
   count = launch.count;
   there = λ g lt.
       let has = launch.there g lt in
-      let below = contains_down seen has.0 has.1 in
+      let below = mapped_from up seen has.0 has.1 in
       (below.0, below.1, ap (λ (x : Flat). x.header.group) below.2 ∙ has.2);
-  each = λ f in_seen. launch.each (up f) (contains_up seen f in_seen);
+  each = λ f in_seen. launch.each (up f) (mapped_there up seen f in_seen);
 }
 
 -- what is read of streams is what is read of those that are the same in version 2
@@ -80,9 +69,9 @@ alike r q fs gs one other same s (seen, is, launch) =
     up_of : (x : Result (List Flat) Fault) (hs : List Flat) → x ≡ all_checked [] hs → x >>= all_up ≡ all_checked [] (map up hs)
     up_of x hs e = ap (λ (y : Result (List Flat) Fault). y >>= all_up) e ∙ sym (all_checked_up [] hs)
 
-    by_other : (x : Result (List Flat) Fault) → q ≡ x → read (map up seen) ≡ x >>= all_up → IsReadAs q s
+    by_other : (x : Result (List Flat) Fault) → q ≡ x → ok {E = Fault} (map up seen) ≡ x >>= all_up → IsReadAs q s
     by_other (Err e) is_x k = absurd cc
-    by_other (Ok others) is_x k = (others, is_x, launch_down others s (subst (λ (l : List Flat). IsLaunchOf l s) (same_read (map up seen) (map up others) k) (launch_up seen s launch)))
+    by_other (Ok others) is_x k = (others, is_x, launch_down others s (subst (λ (l : List Flat). IsLaunchOf l s) (same_ok {E = Fault} (map up seen) (map up others) k) (launch_up seen s launch)))
 
 -- ---- whole streams
 
@@ -106,12 +95,8 @@ wholes_are (s ∷ ss) whole = (whole_is s (whole 0 s (omega arith)), wholes_are 
 wholes_read : (ss : List WholeStream) → All IsWhole ss → joined_of (bytes_of ss) ≡ all_checked [] (map siteless ss)
 wholes_read ss whole = ap joined_of (sym (flat_map-map (λ (b : List ℕ). b) spelled ss)) ∙ all_of (map spelled ss) (map siteless ss) (wholes_are ss whole)
 
-flats_up : (ss : List WholeStream) → map up (map siteless ss) ≡ map siteless (map upgraded_stream ss)
-flats_up [] = refl
-flats_up (s ∷ ss) = ap (λ (l : List Flat). up (siteless s) ∷ l) (flats_up ss)
-
 same_up : (ss ts : List WholeStream) → map upgraded_stream ss ≡ map upgraded_stream ts → map up (map siteless ss) ≡ map up (map siteless ts)
-same_up ss ts same = flats_up ss ∙ (ap (map siteless) same ∙ sym (flats_up ts))
+same_up ss ts same = simp map-map (simp map-map at (ap (map siteless) same))
 
 -- ---- bytes
 

@@ -3,8 +3,6 @@
 ghost use Rattle.std.specs.Prelude.{IfOk};
 ghost use Rattle.gr_model.specs.RacePairs.{ArePairedRaces};
 ghost use Rattle.gr_model.specs.Reports.{IsReportOf};
-ghost use Rattle.gr_order.specs.Sequences.{IsDone, IsSequence};
-ghost use Rattle.gr_intake.specs.Sequencing.{AreShadowsOf};
 ghost use Rattle.gr_report.specs.Whole.{whole_of};
 
 use crate::races::races_of;
@@ -13,7 +11,6 @@ use gr_model::memory::Memory;
 use gr_model::race::Race;
 use gr_model::traces::Traces;
 use gr_report::report::Report;
-use gr_sequencer::sequencer::Sequencer;
 use gr_shadow::launch::LaunchShadows;
 use gr_taking::keeper::ShadowKeeper;
 use gr_taking::traces::follow;
@@ -29,26 +26,6 @@ pub struct Detection<A: Allocator = Global> {
     pub races: Vec<Race, A>,
 }
 
-/// The findings on a launch whose events were all taken, and handled as far as they can be.
-///
-/// # Errors
-/// `Memory`: out of memory.
-fn detection_of<A: Allocator + Copy>(
-    alloc: A,
-    sequencer: &Sequencer<A>,
-    shadows: &LaunchShadows<A>,
-) -> Result<Detection<A>, Memory>
-    requires done { IsDone sequencer.now }
-    requires sequence { IsSequence sequencer.now }
-    requires shadows { AreShadowsOf sequencer.now shadows.now }
-    ensures report { IfOk result (λ found. IsReportOf sequencer.now.taken (whole_of found.report)) }
-    ensures races { IfOk result (λ found. ArePairedRaces sequencer.now.taken found.races.items) }
-{
-    let races = races_of(alloc, shadows)?;
-    let report = report_of(sequencer, shadows)?;
-    Ok(Detection { report, races })
-}
-
 /// The report of a launch, and for each racy word two events that race on it.
 ///
 /// # Errors
@@ -62,7 +39,9 @@ pub fn detect_races<A: Allocator + Copy>(
 {
     let mut shadows = LaunchShadows::new(alloc);
     let sequencer = follow(alloc, traces, &ShadowKeeper, &mut shadows)?;
-    detection_of(alloc, &sequencer, &shadows)
+    let races = races_of(alloc, &shadows)?;
+    let report = report_of(&sequencer, &shadows)?;
+    Ok(Detection { report, races })
 }
 
 /// The report of a launch.

@@ -2,8 +2,7 @@
 
 ghost use Rattle.std.specs.Prelude.{◌≡◌, IfOk, IfErr, IfSome, MatchOption, IsPermutation, map};
 ghost use Rattle.gr_record.specs.Faults.{IsOfReading, IsOfValues};
-ghost use Rattle.gr_model.specs.Streams.{AreAccepted};
-ghost use Rattle.gr_replay.specs.InMemory.{flats, streams_of};
+ghost use Rattle.gr_replay.specs.InMemory.{flats};
 ghost use Rattle.gr_intake.specs.Laws.{AreStreams};
 ghost use Rattle.gr_intake.specs.Launch.{AreApart, AreRising, ArePlaced, IsLeastMissing, IsLaunchOf, IsLaunchFault, Reads, IsReadFault};
 
@@ -14,16 +13,8 @@ use gr_model::shape::Shape;
 use gr_model::traces::Traces;
 use gr_record::fault::Fault;
 use gr_record::input::read_all;
-use std::alloc::{Allocator, Global};
+use std::alloc::Allocator;
 use std::io::Read;
-
-/// The streams of a launch in the order of its groups, and how many items each has.
-#[derive(Drop)]
-#[derive_where(Debug)]
-pub(crate) struct Launch<'a, A: Allocator = Global> {
-    pub(crate) shape: Shape<A>,
-    pub(crate) streams: Vec<Stream<'a>, A>,
-}
 
 /// Puts streams of different groups in the order of their groups.
 fn order_by_group<A: Allocator>(streams: &mut Vec<Stream<'_>, A>)
@@ -72,33 +63,6 @@ fn lists_of<A: Allocator + Copy>(
     Ok(lists)
 }
 
-/// The launch of these streams, in whatever order they came.
-///
-/// # Errors
-/// `MissingGroup` with the least group below the greatest that no stream is of; else `Shape`; `Memory` where a list
-/// can't be made.
-pub(crate) fn launch_of<'a, A: Allocator + Copy>(
-    alloc: A,
-    streams: Vec<Stream<'a>, A>,
-) -> Result<Launch<'a, A>, Fault>
-    requires { AreStreams (flats streams.items) }
-    ensures launch { IfOk result (λ l. IsLaunchOf (flats streams.entry.items) (streams_of l)) }
-    ensures accepted { IfOk result (λ l. AreAccepted (streams_of l)) }
-    ensures fault { IfErr result (λ f. IsLaunchFault (flats streams.entry.items) f) }
-{
-    let mut streams = streams;
-    order_by_group(&mut streams);
-    if let Some(group) = first_gap(&streams) {
-        return Err(Fault::MissingGroup(group));
-    }
-    let sizes = sizes_of(alloc, &streams)?;
-    let shape = match Shape::of_launch(sizes) {
-        Ok(shape) => shape,
-        Err(error) => return Err(Fault::Shape(error)),
-    };
-    Ok(Launch { shape, streams })
-}
-
 /// The traces of the launch of these streams, in whatever order they came.
 ///
 /// # Errors
@@ -112,12 +76,18 @@ pub fn traces_of<A: Allocator + Copy>(
     ensures launch { IfOk result (λ t. IsLaunchOf (flats streams.entry.items) t) }
     ensures fault { IfErr result (λ f. IsLaunchFault (flats streams.entry.items) f) }
 {
-    let launch = launch_of(alloc, streams)?;
-    let lists = lists_of(alloc, &launch.streams)?;
-    match Traces::new(launch.shape, lists) {
-        Ok(traces) => Ok(traces),
-        Err(_) => unreachable!(),
+    let mut streams = streams;
+    order_by_group(&mut streams);
+    if let Some(group) = first_gap(&streams) {
+        return Err(Fault::MissingGroup(group));
     }
+    let sizes = sizes_of(alloc, &streams)?;
+    let shape = match Shape::of_launch(sizes) {
+        Ok(shape) => shape,
+        Err(error) => return Err(Fault::Shape(error)),
+    };
+    let lists = lists_of(alloc, &streams)?;
+    Ok(Traces::new(shape, lists).unwrap())
 }
 
 /// Reads streams to the end, one after another, and gives their traces.

@@ -54,10 +54,8 @@ impl<'a> Records<'a> {
     {
         match read_front_records(alloc, self.header, self.bytes) {
             Ok((events, _rest)) => Ok(events),
-            Err(error) => match error {
-                RecordError::Memory => Err(Memory),
-                _ => unreachable!(),
-            },
+            Err(RecordError::Memory) => Err(Memory),
+            Err(_) => unreachable!(),
         }
     }
 }

@@ -81,8 +81,6 @@ pub fn replay<A: Allocator + Copy, T: Read, W: Write>(
     ensures prefix { IfErr result (λ f. f ≡ faults.Write → IfSome (T.remaining reader.old) (λ bytes. WritesPrefix bytes (W.contents writer.old) (W.contents writer.new))) }
 {
     let report = read_report(alloc, reader)?;
-    match write(&report, writer) {
-        Ok(()) => Ok(report),
-        Err(_) => Err(Fault::Write),
-    }
+    write(&report, writer).map_err(|_| Fault::Write)?;
+    Ok(report)
 }

@@ -1,8 +1,8 @@
 use Rattle.std.proofs.Common.{◌≡◌, ◌<◌, ◌≤◌, get_or, arith, sym, ap, ◌∙◌, eq-or-lt_of_le, ⊎_elim, subst}
-use Rattle.std.proofs.lemmas.List.{length-map}
+use Rattle.std.proofs.lemmas.List.{get_or_default, length-map}
 use Rattle.gr_intake.specs.Joined.{Flat}
 use Rattle.gr_replay.specs.InMemory.{flat, flats}
-use Rattle.gr_replay.proofs.Launching.{gap, at_least, same_at, group_at}
+use Rattle.gr_replay.proofs.Launching.{gap, at_least, group_at}
 use Rattle.gr_replay.proofs.launch.first_gap.Goals as goal
 
 pub loop-place-preserved : goal.loop-place-preserved
@@ -13,7 +13,7 @@ loop-place-preserved c =
     let here = group_at flat xs p x c.loop-place-test.true c.index-streams-place.is ∙ (sym c.from.ensures ∙ c.if-from-place.false) in
     λ k d lt.
     ⊎_elim
-    (λ (same : k ≡ p). subst (λ n. (get_or (flats xs) n d).header.group ≡ n) (sym same) (ap (λ (f : Flat). f.header.group) (same_at (flats xs) p d (flat x) (omega (arith, length-map xs flat, c.loop-place-test.true))) ∙ here))
+    (λ (same : k ≡ p). subst (λ n. (get_or (flats xs) n d).header.group ≡ n) (sym same) (ap (λ (f : Flat). f.header.group) (get_or_default (flats xs) p d (flat x) (omega (arith, length-map xs flat, c.loop-place-test.true))) ∙ here))
     (λ (before : k < p). c.loop-place.invariant k d before)
     (eq-or-lt_of_le (let le : k ≤ p = omega arith in le))
 
