@@ -82,15 +82,6 @@ impl<A: Allocator> Base<A> {
         }
     }
 
-    /// Its allocator.
-    pub(crate) fn alloc(&self) -> Result<A, ClockError>
-    where
-        A: Clone,
-        ensures memory { IsOkUnless result ClockError.Memory }
-    {
-        self.pages.alloc()
-    }
-
     /// How many events of the item are counted; 0 where there is no such item.
     #[tactic(auto, using(crate::proofs::PageLemmas::count_whole, crate::proofs::PageLemmas::count_past))]
     pub(crate) fn get(&self, item: ItemId) -> u32
@@ -121,11 +112,18 @@ impl<A: Allocator> Base<A> {
     {
         self.pages.len() == 0
     }
+}
+
+impl<A: Allocator + Clone> Base<A> {
+    /// Its allocator.
+    pub(crate) fn alloc(&self) -> Result<A, ClockError>
+        ensures memory { IsOkUnless result ClockError.Memory }
+    {
+        self.pages.alloc()
+    }
 
     /// The same counts once more, shared.
     pub(crate) fn copy(&self) -> Result<Base<A>, ClockError>
-    where
-        A: Clone,
         ensures copy { IfOk result (λ b. b ≡ self.now) }
         ensures memory { IsOkUnless result ClockError.Memory }
     {
@@ -139,8 +137,6 @@ impl<A: Allocator> Base<A> {
     /// Takes this count of an item, where it is greater than the one there.
     #[tactic(auto, using(crate::proofs::PageLemmas::raised_behind))]
     pub(crate) fn raise_to(&mut self, item: ItemId, count: u32) -> Result<(), ClockError>
-    where
-        A: Clone,
         requires { count ≤ LARGEST_COUNT }
         ensures raised { OnOk result (IsRaisedTo self.old item count self.new) }
         ensures memory { IsOkUnless result ClockError.Memory }
@@ -155,8 +151,6 @@ impl<A: Allocator> Base<A> {
     /// Takes these counts of a group's items, each where it is greater than the one there.
     #[tactic(auto, using(crate::proofs::PageLemmas::raised_all_behind))]
     pub(crate) fn raise_by(&mut self, group: u16, counts: Vec<u32, A>) -> Result<(), ClockError>
-    where
-        A: Clone,
         requires { All (λ n. n ≤ LARGEST_COUNT) counts.items }
         ensures raised { OnOk result (IsRaisedBy self.old group counts.items self.new) }
         ensures memory { IsOkUnless result ClockError.Memory }
@@ -170,8 +164,6 @@ impl<A: Allocator> Base<A> {
 
     /// The greater count of each item, in pages that are shared where one of the two pages has it.
     pub(crate) fn joined(&self, other: &Base<A>) -> Result<Base<A>, ClockError>
-    where
-        A: Clone,
         ensures join { IfOk result (λ b. IsJoin self.now other.now b) }
         ensures memory { IsOkUnless result ClockError.Memory }
     {

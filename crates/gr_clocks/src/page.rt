@@ -40,15 +40,6 @@ impl<A: Allocator> Page<A> {
         }
     }
 
-    /// Its allocator.
-    pub(crate) fn alloc(&self) -> Result<A, ClockError>
-    where
-        A: Clone,
-        ensures memory { IsOkUnless result ClockError.Memory }
-    {
-        Ok(self.blocks.allocator().clone()?)
-    }
-
     /// How many events of the item are counted; 0 where there is no such item.
     pub(crate) fn get(&self, item: ItemId) -> u32
         ensures count { result ≡ count_of self.now item }
@@ -83,11 +74,18 @@ impl<A: Allocator> Page<A> {
         }
         true
     }
+}
+
+impl<A: Allocator + Clone> Page<A> {
+    /// Its allocator.
+    pub(crate) fn alloc(&self) -> Result<A, ClockError>
+        ensures memory { IsOkUnless result ClockError.Memory }
+    {
+        Ok(self.blocks.allocator().clone()?)
+    }
 
     /// The same counts once more, shared.
     pub(crate) fn copy(&self) -> Result<Page<A>, ClockError>
-    where
-        A: Clone,
         ensures copy { IfOk result (λ b. b ≡ self.now) }
         ensures memory { IsOkUnless result ClockError.Memory }
     {
@@ -102,8 +100,6 @@ impl<A: Allocator> Page<A> {
     /// Makes blocks until so many groups have one. The counts stay.
     #[tactic(auto, using(crate::proofs::BlockLemmas::push_empty))]
     fn reach(&mut self, groups: usize) -> Result<(), ClockError>
-    where
-        A: Clone,
         ensures same { OnOk result (CountSame self.new self.old) }
         ensures there { OnOk result (groups ≤ length self.new) }
         ensures memory { IsOkUnless result ClockError.Memory }
@@ -117,8 +113,6 @@ impl<A: Allocator> Page<A> {
 
     /// Takes this count of an item, where it is greater than the one there.
     pub(crate) fn raise_to(&mut self, item: ItemId, count: u32) -> Result<(), ClockError>
-    where
-        A: Clone,
         requires { count ≤ LARGEST_COUNT }
         ensures raised { OnOk result (IsRaisedTo self.old item count self.new) }
         ensures memory { IsOkUnless result ClockError.Memory }
@@ -134,8 +128,6 @@ impl<A: Allocator> Page<A> {
 
     /// Takes these counts of a group's items, each where it is greater than the one there.
     pub(crate) fn raise_by(&mut self, group: u16, counts: Vec<u32, A>) -> Result<(), ClockError>
-    where
-        A: Clone,
         requires { All (λ n. n ≤ LARGEST_COUNT) counts.items }
         ensures raised { OnOk result (IsRaisedBy self.old group counts.items self.new) }
         ensures memory { IsOkUnless result ClockError.Memory }
@@ -150,8 +142,6 @@ impl<A: Allocator> Page<A> {
 
     /// The greater count of each item. The other page has no more blocks.
     fn merged(&self, other: &Page<A>) -> Result<Page<A>, ClockError>
-    where
-        A: Clone,
         requires { length other.now ≤ length self.now }
         ensures join { IfOk result (λ b. IsJoin self.now other.now b) }
         ensures memory { IsOkUnless result ClockError.Memory }
@@ -170,8 +160,6 @@ impl<A: Allocator> Page<A> {
 
     /// The greater count of each item, in blocks that are shared where one of the two blocks has it.
     pub(crate) fn joined(&self, other: &Page<A>) -> Result<Page<A>, ClockError>
-    where
-        A: Clone,
         ensures join { IfOk result (λ b. IsJoin self.now other.now b) }
         ensures memory { IsOkUnless result ClockError.Memory }
     {

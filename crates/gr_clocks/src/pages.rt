@@ -49,15 +49,6 @@ impl<A: Allocator> Pages<A> {
         }
     }
 
-    /// Its allocator.
-    pub(crate) fn alloc(&self) -> Result<A, ClockError>
-    where
-        A: Clone,
-        ensures memory { IsOkUnless result ClockError.Memory }
-    {
-        Ok(self.pages.allocator().clone()?)
-    }
-
     /// How many pages there are.
     pub(crate) fn len(&self) -> usize
         ensures { result ≡ length self.now }
@@ -90,11 +81,18 @@ impl<A: Allocator> Pages<A> {
         self.pages.push(page)?;
         Ok(())
     }
+}
+
+impl<A: Allocator + Clone> Pages<A> {
+    /// Its allocator.
+    pub(crate) fn alloc(&self) -> Result<A, ClockError>
+        ensures memory { IsOkUnless result ClockError.Memory }
+    {
+        Ok(self.pages.allocator().clone()?)
+    }
 
     /// Puts a page in the place of another.
     pub(crate) fn put(&mut self, place: usize, page: Page<A>) -> Result<(), ClockError>
-    where
-        A: Clone,
         requires { place < length self.old }
         ensures put { OnOk result (self.new ≡ set self.old place page) }
         ensures memory { IsOkUnless result ClockError.Memory }
