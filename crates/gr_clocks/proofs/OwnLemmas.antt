@@ -1,10 +1,9 @@
 -- Clocks with one item's count apart: what they count, and what a join of two of them counts.
-use Rattle.std.proofs.Common.{◌≡◌, ◌≢◌, ◌⊎◌, ℕ, ◌+◌, max, arith}
+use Rattle.std.proofs.Common.{◌≡◌, ◌≢◌, ◌⊎◌, ℕ, ◌+◌, max, refl, arith}
 use Rattle.std.proofs.lemmas.Bool.Decides.{nat_tests}
 use Rattle.gr_model.specs.declared.event.ItemId.{ItemId}
-use Rattle.gr_clocks.specs.declared.clock.TheConstants.{LARGEST_COUNT}
 use Rattle.gr_clocks.specs.Counts.{Counts, count_of, tick_at, CountSame, CountsOneMore, IsJoin}
-use Rattle.gr_clocks.specs.Owned.{with_count, IsOwn, IsRaisedTo}
+use Rattle.gr_clocks.specs.Owned.{HasRoom, TicksOwner, with_count, IsOwn, IsRaisedTo}
 use Rattle.gr_clocks.proofs.RowLemmas.{one_item, same_items, same_item_self}
 use Rattle.gr_clocks.proofs.BlockLemmas.{with_same, with_other}
 
@@ -30,13 +29,16 @@ module _ {base : Counts} {i : ItemId} {n : ℕ} (own : IsOwn base i n) where
   pub own_whole : {copy whole : Counts} → copy ≡ base → IsRaisedTo copy i n whole → CountSame whole (with_count base i n)
   own_whole copied raised j = grind (arith, with_same, with_other, cases_item i j, raised.item, raised.others j, own.above)
 
-  -- the item's own count grows by one
-  pub own_tick : {j : ItemId} → i ≡ j → CountsOneMore (with_count base i n) j (with_count base i (n + 1))
-  own_tick same = record { counts = λ k. grind (arith, nat_tests, with_same, with_other, cases_item i k) }
+  -- the owner's count grows by one
+  pub own_tick : TicksOwner (record { counts = with_count base i n; owner = i }) (record { counts = with_count base i (n + 1); owner = i })
+  own_tick = record {
+    owner = refl;
+    tick = record { counts = λ k. grind (arith, nat_tests, with_same, with_other, cases_item i k) };
+  }
 
   -- and is still one that a clock may have
-  pub own_room : (v : Counts) (j : ItemId) → with_count base i n ≡ v → i ≡ j → count_of v j ≢ LARGEST_COUNT → IsOwn base i (n + 1)
-  own_room v j is same room = record { above = omega (arith, own.above); limit = grind (arith, with_same, own.limit) }
+  pub own_room : HasRoom (record { counts = with_count base i n; owner = i }) → IsOwn base i (n + 1)
+  own_room room = record { above = omega (arith, own.above); limit = grind (arith, with_same, own.limit) }
 
   -- counts that learn what a clock counts: first those that it shares, and then its own
   pub join_with_own : {mine shared joined raised_join : Counts} → shared ≡ base → IsJoin mine shared joined → IsRaisedTo joined i n raised_join → IsJoin mine (with_count base i n) raised_join

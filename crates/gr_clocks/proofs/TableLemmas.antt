@@ -1,5 +1,5 @@
 -- The clocks of items in a table: what is read, and what is written at an item or a group.
-use Rattle.std.proofs.Common.{◌≡◌, ◌≢◌, ℕ, suc, ◌<◌, ◌≤◌, All, Bool, true, false, List, [], ◌∷◌, ◌++◌, map, length, slice_index, get_or, set, refl, sym, ◌∙◌, ap, arith}
+use Rattle.std.proofs.Common.{◌≡◌, ◌≢◌, ℕ, suc, ◌<◌, ◌≤◌, All, List, [], ◌∷◌, ◌++◌, map, length, slice_index, get_or, set, refl, sym, ◌∙◌, ap, arith}
 use Rattle.std.proofs.lemmas.Grind.{get_or-set_at}
 use Rattle.std.proofs.lemmas.List.{length-map, length-set, length_push, map_push, map-set, get_or-set_same, get_or-set_other, get_or_read, get_or_push, get_or_append_left, ext_get_or, nil_from_length}
 use Rattle.std.proofs.Math.ListN.{get_or-map}
@@ -10,8 +10,9 @@ use Rattle.gr_model.specs.Shapes.{HasItem}
 use Rattle.gr_model.proofs.PutLemmas.{map_put, put_other, put_same, puts_last, puts_more}
 use Rattle.gr_clocks.specs.declared.clock.TheConstants.{LARGEST_COUNT}
 use Rattle.gr_clocks.specs.Counts.{Counts, count_of, greatest_count, CountsOneMore, IsJoinOfAll}
-use Rattle.gr_clocks.specs.Groups.{GroupClocks, no_group, with_clock, IsShared, IsSameGroup, IsBehind}
-use Rattle.gr_clocks.specs.Tables.{AddsItems, ClockTable, clock_at, group_at, table_of, AreGroups, MeetsGroup, AreZero, TicksItem, PutsClock}
+use Rattle.gr_clocks.specs.Owned.{OwnedClock, no_clock}
+use Rattle.gr_clocks.specs.Groups.{GroupClocks, no_group, with_clock, IsShared, IsSameGroup, MeetsEach, TicksEach}
+use Rattle.gr_clocks.specs.Tables.{AddsItems, ClockTable, clock_at, group_at, table_of, AreGroups, JoinsGroup, TicksGroup, AreZero, TicksItem, PutsClock}
 use Rattle.gr_clocks.proofs.RowLemmas.{AreEach, row_size, row_of_item, entry_same, entry_other}
 
 -- groups that have their places for their numbers
@@ -34,8 +35,34 @@ module _ (groups : List GroupClocks) {t : ClockTable} (are : AreGroups groups) (
   pub put_table : (p : ℕ) (y : GroupClocks) → table_of (set groups p y) ≡ set t p y.clocks
   put_table p y = rw (← is) (map-set (λ g. g.clocks) groups p y)
 
+  -- a group is put there for the one with its number, of as many items
+  module _ (g : ℕ) {y : GroupClocks} (there : g < length t) where
+    pub met_groups : IsSameGroup (group_at t g) y → AreGroups (set groups g y)
+    met_groups same q within =
+        numbered (set groups g y) q (grind (arith, same.number, get_or-set_at, get_or-set_other, length-set groups g y, λ (below : q < length groups). ap (λ (x : GroupClocks). x.number) (are q below)))
+
+    met_shape : IsSameGroup (group_at t g) y → map length (table_of (set groups g y)) ≡ map length t
+    met_shape same = rw (put_table g y) (map-set_same length t g y.clocks [] same.size)
+
+    pub joins_group : MeetsEach (group_at t g) y → JoinsGroup t g (table_of (set groups g y))
+    joins_group met = record {
+      shape = met_shape met.same;
+      counts = λ k j below.
+          rw (put_table g y, clock_at, get_or-set_same t g y.clocks [] there, row_size t g) ((met.each k (omega (arith, below, row_size t g))).counts j);
+      others = λ j other. grind (arith, put_table g y, get_or-set_other);
+    }
+
+    pub ticks_group : TicksEach (group_at t g) y → TicksGroup t g (table_of (set groups g y))
+    ticks_group ticked = record {
+      shape = met_shape ticked.same;
+      items = λ k below.
+          let same = ap (λ (row : List OwnedClock). (get_or row k no_clock).counts) (get_or-set_same t g y.clocks [] there) in
+          rw (put_table g y) (record { counts = λ j. ap (λ (c : Counts). count_of c j) same ∙ (ticked.each k (omega (arith, below, row_size t g))).counts j });
+      others = λ j other. grind (arith, put_table g y, get_or-set_other);
+    }
+
   -- a group is put there that has another clock for one item
-  module _ (i : ItemId) {x y : GroupClocks} (clock : Counts) (has : HasItem (map length t) i) (reads : x ≡ get_or groups i.group x) (written : y ≡ with_clock x i.item clock) where
+  module _ (i : ItemId) {x y : GroupClocks} (clock : OwnedClock) (has : HasItem (map length t) i) (reads : x ≡ get_or groups i.group x) (written : y ≡ with_clock x i.item clock) where
     written_is : y ≡ with_clock (group_at t i.group) i.item clock
     written_is = written ∙ ap (λ (g : GroupClocks). with_clock g i.item clock) (item_group i has reads)
 
@@ -46,16 +73,16 @@ module _ (groups : List GroupClocks) {t : ClockTable} (are : AreGroups groups) (
     item_table : table_of (set groups i.group y) ≡ set t i.group (set (get_or t i.group []) i.item clock)
     item_table = put_table i.group y ∙ ap (λ (g : GroupClocks). set t i.group g.clocks) written_is
 
-    pub puts_clock : PutsClock t i clock (table_of (set groups i.group y))
+    pub puts_clock : PutsClock t i clock.counts (table_of (set groups i.group y))
     puts_clock =
         let there = row_of_item t i has in
         rw item_table (record {
           shape = map-set_same length t i.group _ [] (length-set (get_or t i.group []) i.item clock);
-          item = entry_same [] t i clock there.0 there.1;
-          others = λ j other. entry_other [] t i clock j there.0 (λ (same : i ≡ j). other (sym same));
+          item = ap (λ (c : OwnedClock). c.counts) (entry_same no_clock t i clock there.0 there.1);
+          others = λ j other. ap (λ (c : OwnedClock). c.counts) (entry_other no_clock t i clock j there.0 (λ (same : i ≡ j). other (sym same)));
         })
 
-    pub ticks_item : CountsOneMore (clock_at t i) i clock → TicksItem t i (table_of (set groups i.group y))
+    pub ticks_item : CountsOneMore (clock_at t i) i clock.counts → TicksItem t i (table_of (set groups i.group y))
     ticks_item tick = record { shape = puts_clock.shape; item = rw puts_clock.item tick; others = puts_clock.others }
 
 -- where none of them is full, the greatest of their counts is not the largest there is
@@ -89,33 +116,15 @@ module _ (sizes : List ℕ) (zero : Counts) {groups : List GroupClocks} {n : ℕ
     shape = zero_sizes;
     clocks = λ i j has.
         let shared = are.each i.group (omega (arith, has.0, all)) in
-        rw (get_or-map (λ (g : GroupClocks). g.clocks) groups i.group no_group) (shared.each i.item (omega (arith, has.1, shared.size)) j ∙ nothing j);
+        rw (clock_at, get_or-map (λ (g : GroupClocks). g.clocks) groups i.group no_group) (shared.each i.item (omega (arith, has.1, shared.size)) j ∙ nothing j);
   }
-
--- ---- a barrier
-
-pub same_sizes : {group : ℕ} (old new : ClockTable) {y : GroupClocks} → IsSameGroup (group_at old group) y → new ≡ set old group y.clocks → map length new ≡ map length old
-same_sizes {group} old new {y} same is = rw is (map-set_same length old group y.clocks [] same.size)
-
-pub meets_group : (group : ℕ) (orders : Bool) (old new : ClockTable) (y : GroupClocks) → group < length old → IsBehind (group_at old group) orders y → new ≡ set old group y.clocks → MeetsGroup old group orders new
-meets_group group true old new y there met is = rw is (record {
-  shape = map-set_same length old group y.clocks [] met.same.size;
-  counts = λ k j below.
-      rw (get_or-set_same old group y.clocks [] there, row_size old group) ((met.each k (omega (arith, below, row_size old group))).counts j);
-  others = λ j other. grind (arith, get_or-set_other);
-})
-meets_group group false old new y there ticked is = rw is (record {
-  shape = map-set_same length old group y.clocks [] ticked.same.size;
-  items = λ k below. rw (get_or-set_same old group y.clocks [] there) (ticked.each k (omega (arith, below, row_size old group)));
-  others = λ j other. grind (arith, get_or-set_other);
-})
 
 -- ---- a group gets its items
 
 -- groups without items may come after the others, and then a group in its place
 pub record Reaches (t : ClockTable) (group : ℕ) (groups : List GroupClocks) : Type 0 where
   pub are : AreGroups groups
-  pub same : (row : List Counts) → put [] (table_of groups) group row ≡ put [] t group row
+  pub same : (row : List OwnedClock) → put [] (table_of groups) group row ≡ put [] t group row
 
 pub reaches_more : {t : ClockTable} {group : ℕ} {groups more : List GroupClocks} (x : GroupClocks) → Reaches t group groups → length groups ≤ group → more ≡ groups ++ x ∷ [] → x.number ≡ length groups → length x.clocks ≡ 0 → Reaches t group more
 reaches_more {t} {group} {groups} {more} x reaches below is number none = record {
@@ -135,6 +144,6 @@ module _ {t : ClockTable} {group n : ℕ} {groups : List GroupClocks} {x : Group
   pub adds_items : ((j : ItemId) → count_of zero j ≡ 0) → AddsItems t group n (table_of (set groups group x))
   adds_items nothing = rw added_table (record {
     shape = rw (← shared.size) (map_put length [] t group x.clocks);
-    fresh = λ k j below. rw (put_same [] t group x.clocks) (shared.each k (omega (arith, below, shared.size)) j ∙ nothing j);
-    others = λ i apart. rw (put_other [] t group x.clocks i.group apart) refl;
+    fresh = λ k j below. rw (clock_at, put_same [] t group x.clocks) (shared.each k (omega (arith, below, shared.size)) j ∙ nothing j);
+    others = λ i apart. rw (clock_at, put_other [] t group x.clocks i.group apart) refl;
   })

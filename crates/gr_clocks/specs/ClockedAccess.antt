@@ -16,8 +16,8 @@ pub record ClockedAccess : Type 0 where
   pub clock : Counts
 
 abbrev pub clocked : {Z : Type 0} → Access Z → ClockedAccess
-clocked x = record { word = x.word; item = x.item; index = x.index; class = x.class; clock = x.clock }
+clocked x = record { word = x.word; item = x.item; index = x.index; class = x.class; clock = x.clock.counts }
 
--- the same as an access again, without an allocator
+-- the same as an access again, whose clock is its item's, without an allocator
 abbrev pub bare : ClockedAccess → Access (Unit {0})
-bare x = record { word = x.word; item = x.item; index = x.index; class = x.class; clock = x.clock }
+bare x = record { word = x.word; item = x.item; index = x.index; class = x.class; clock = record { counts = x.clock; owner = x.item } }

@@ -4,6 +4,7 @@ use Rattle.std.specs.Prelude.{◌≡◌, ◌≢◌, ℕ, zero, suc, ◌+◌, ◌
 use Rattle.gr_model.specs.declared.event.ItemId.{ItemId}
 use Rattle.gr_clocks.specs.declared.clock.TheConstants.{LARGEST_COUNT}
 use Rattle.gr_clocks.specs.Counts.{Counts, count_of, tick_at, CountsOneMore, CountSame}
+use Rattle.gr_clocks.specs.Owned.{OwnedClock, no_clock}
 
 -- the item of a group at a place
 abbrev pub item_of : ℕ → ℕ → ItemId
@@ -17,31 +18,35 @@ greatest (suc n) f = max (f n) (greatest n f)
 -- the number of a group, and the clocks of its items
 pub record GroupClocks : Type 0 where
   pub number : ℕ
-  pub clocks : List Counts
+  pub clocks : List OwnedClock
 
 -- what is read where there is no group
 abbrev pub no_group : GroupClocks
 no_group = record { number = 0; clocks = [] }
 
+abbrev pub owned_in_group : GroupClocks → ℕ → OwnedClock
+owned_in_group g k = slice_index_or g.clocks k no_clock
+
 abbrev pub clock_in_group : GroupClocks → ℕ → Counts
-clock_in_group g k = slice_index_or g.clocks k []
+clock_in_group g k = (owned_in_group g k).counts
 
 -- the group with this clock for an item
-abbrev pub with_clock : GroupClocks → ℕ → Counts → GroupClocks
+abbrev pub with_clock : GroupClocks → ℕ → OwnedClock → GroupClocks
 with_clock g k c = record { number = g.number; clocks = set g.clocks k c }
 
 -- ---- what a group keeps
 
--- c counts what was met, and no more but of item i where the item learned nothing since
-pub record Keeps (met : Counts) (i : ItemId) (learned : Bool) (c : Counts) : Type 0 where
-  pub least : (j : ItemId) → count_of met j ≤ count_of c j
-  pub most : learned ≡ false → (j : ItemId) → i ≢ j → count_of c j ≤ count_of met j
+-- c is item i's own, and counts what was met, and no more but of item i where the item learned nothing since
+pub record Keeps (met : Counts) (i : ItemId) (learned : Bool) (c : OwnedClock) : Type 0 where
+  pub owner : c.owner ≡ i
+  pub least : (j : ItemId) → count_of met j ≤ count_of c.counts j
+  pub most : learned ≡ false → (j : ItemId) → i ≢ j → count_of c.counts j ≤ count_of met j
 
 -- a clock for each item of the group, a mark for each, and what was met
-pub record IsGroup (number : ℕ) (met : Counts) (clocks : List Counts) (learned : List Bool) : Type 0 where
+pub record IsGroup (number : ℕ) (met : Counts) (clocks : List OwnedClock) (learned : List Bool) : Type 0 where
   pub few : length clocks < 2 ^ 16
   pub marks : length learned ≡ length clocks
-  pub each : (k : ℕ) → k < length clocks → Keeps met (item_of number k) (slice_index_or learned k false) (slice_index_or clocks k [])
+  pub each : (k : ℕ) → k < length clocks → Keeps met (item_of number k) (slice_index_or learned k false) (slice_index_or clocks k no_clock)
 
 -- the place of the first item that learned something
 pub record IsFirstLearned (learned : List Bool) (first : ℕ) : Type 0 where
@@ -66,7 +71,7 @@ HasFullClock g = (k : ℕ) × (k < length g.clocks) × IsFullClock g k
 
 -- the item ticks, and nothing else changes
 pub record TicksClock (old : GroupClocks) (k : ℕ) (new : GroupClocks) : Type 0 where
-  pub group : new ≡ with_clock old k (clock_in_group new k)
+  pub group : new ≡ with_clock old k (owned_in_group new k)
   pub tick : CountsOneMore (clock_in_group old k) (item_of old.number k) (clock_in_group new k)
 
 -- after counts no less than before, and where item i learned nothing, just one more event of its own
@@ -119,8 +124,3 @@ pub record TicksEach (old new : GroupClocks) : Type 0 where
 pub record MeetsEach (old new : GroupClocks) : Type 0 where
   pub same : IsSameGroup old new
   pub each : (k : ℕ) → k < length old.clocks → IsMetBase old (clock_in_group new k)
-
--- after a barrier that orders the memory, or does not
-abbrev pub IsBehind : GroupClocks → Bool → GroupClocks → Type 0
-IsBehind old true new = MeetsEach old new
-IsBehind old false new = TicksEach old new

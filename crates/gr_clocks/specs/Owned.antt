@@ -1,10 +1,33 @@
--- A clock as the counts of all items, and one item's count that replaces the one there.
+-- A clock as the counts of all items, and the count of its owner, which replaces the one there.
 -- Source: docs/MODEL.md, "Clocks".
-use Rattle.std.specs.Prelude.{◌≡◌, ◌≢◌, ℕ, ◌≤◌, max, List, [], slice_index, slice_index_or}
+use Rattle.std.specs.Prelude.{◌≡◌, ◌≢◌, ℕ, ◌<◌, ◌≤◌, max, List, [], length, slice_index, slice_index_or}
 use Rattle.gr_model.specs.declared.event.ItemId.{ItemId}
 use Rattle.gr_model.specs.Groups.{put}
 use Rattle.gr_clocks.specs.declared.clock.TheConstants.{LARGEST_COUNT}
-use Rattle.gr_clocks.specs.Counts.{Counts, count_of}
+use Rattle.gr_clocks.specs.Counts.{Counts, count_of, CountsOneMore}
+
+-- what a clock counts, and its owner: the item whose count it keeps apart, so that a tick of it takes no memory
+pub record OwnedClock : Type 0 where
+  pub counts : Counts
+  pub owner : ItemId
+
+-- what is read where there is no clock
+abbrev pub no_clock : OwnedClock
+no_clock = record { counts = []; owner = record { group = 0; item = 0 } }
+
+-- the owner's count can grow
+abbrev pub HasRoom : OwnedClock → Type 0
+HasRoom c = count_of c.counts c.owner ≢ LARGEST_COUNT
+
+-- the owner ticks
+pub record TicksOwner (before after : OwnedClock) : Type 0 where
+  pub owner : after.owner ≡ before.owner
+  pub tick : CountsOneMore before.counts before.owner after.counts
+
+-- the owner of each of some clocks ticks
+pub record AreTicked (before after : List OwnedClock) : Type 0 where
+  pub size : length after ≡ length before
+  pub each : (k : ℕ) → k < length before → TicksOwner (slice_index_or before k no_clock) (slice_index_or after k no_clock)
 
 -- the counts c, but this one of item i
 abbrev pub with_count : Counts → ItemId → ℕ → Counts

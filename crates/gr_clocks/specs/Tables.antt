@@ -7,16 +7,17 @@ use Rattle.gr_model.specs.Shapes.{HasItem}
 use Rattle.gr_clocks.specs.declared.clock.TheConstants.{LARGEST_COUNT}
 use Rattle.gr_clocks.specs.Rows.{entry_of}
 use Rattle.gr_clocks.specs.Counts.{Counts, count_of, greatest_count, tick_at, CountsOneMore}
+use Rattle.gr_clocks.specs.Owned.{OwnedClock, no_clock}
 use Rattle.gr_clocks.specs.Groups.{GroupClocks, no_group}
 pub use Rattle.gr_clocks.specs.Groups.{item_of, greatest}
 
 -- for each group, the clocks of its items
 abbrev pub ClockTable : Type 0
-ClockTable = List (List Counts)
+ClockTable = List (List OwnedClock)
 
 -- the clock of an item
 abbrev pub clock_at : ClockTable → ItemId → Counts
-clock_at t i = entry_of [] t i
+clock_at t i = (entry_of no_clock t i).counts
 
 -- new clocks of a shape, which have counted nothing
 pub record AreZero (sizes : List ℕ) (t : ClockTable) : Type 0 where

@@ -22,7 +22,7 @@ pub record IsAccess {Z : Type 0} (s : Streams) (e : EventId) (a : Access Z) : Ty
   pub event : Event
   pub at_event : event_at s e ≡ Some event
   pub class : class_of event.kind ≡ Some a.class
-  pub counts : CountsJust a.clock (Sees s (memory_of a.word) e)
+  pub counts : CountsJust a.clock.counts (Sees s (memory_of a.word) e)
 
 -- an event that is no access has none
 abbrev pub IsAccessOf : {Z : Type 0} → Streams → EventId → Option (Access Z) → Type 0
