@@ -106,7 +106,7 @@ module _ {Z : Type 0} (s : Streams) (w : Word) (entries : List (Entry Z)) (order
   record IsOfEntry (x : Entry Z) : Type 0 where
     access : ClockedAccess
     word : access.word ≡ w
-    clock : access.clock ≡ x.clock
+    clock : access.clock ≡ x.clock.counts
     is : IsAccess s x.event (bare access)
 
   entry_access : (p : ℕ) (x : Entry Z) → slice_get entries p ≡ Some x → IsOfEntry x
@@ -127,13 +127,13 @@ module _ {Z : Type 0} (s : Streams) (w : Word) (entries : List (Entry Z)) (order
       let x = h.0 in
       let lt : p < length events = omega (arith, slice_get_within entries p x h.1, length-map entries (λ y. y.event)) in
       let counts = above_counted x (entry_access p x h.1) (grind (arith, common_steps, gets, h.1)) in
-      let before = those_where (IsCounted x.clock) (λ d. HappensBefore s (memory_of w) d x.event) (take p events) (filter (is_counted x.clock) (take p events)) counts (those_counted x.clock (take p events)) in
+      let before = those_where (IsCounted x.clock.counts) (λ d. HappensBefore s (memory_of w) d x.event) (take p events) (filter (is_counted x.clock.counts) (take p events)) counts (those_counted x.clock.counts (take p events)) in
       subst (λ (m : Line). (m.above ≡ p) × AreThose (λ d. HappensBefore s (memory_of w) d m.event) (take p (events_of (lines_of entries))) m.behind) (sym h.2) (
         length-take-le p events (omega (arith, lt)),
         rw (events_below [] entries) before,
       )
     where
-      above_counted : (x : Entry Z) → IsOfEntry x → slice_get events p ≡ Some x.event → (i : ℕ) (d : EventId) → slice_get (take p events) i ≡ Some d → IsCounted x.clock d ↔ HappensBefore s (memory_of w) d x.event
+      above_counted : (x : Entry Z) → IsOfEntry x → slice_get events p ≡ Some x.event → (i : ℕ) (d : EventId) → slice_get (take p events) i ≡ Some d → IsCounted x.clock.counts d ↔ HappensBefore s (memory_of w) d x.event
       above_counted x of_x here i d there =
           let earlier : (i < p) × (slice_get events i ≡ Some d) = grind (arith, common_steps, gets, there) in
           let other : d ≢ x.event = λ same. omega (arith, earlier.0, those_once (IsOn s w) order events events_are whole.lawful.once i p d earlier.1 (here ∙ ap Some (sym same))) in

@@ -31,7 +31,7 @@ is_counted c d = nat_lt d.index (count_of c d.at)
 
 -- an access below others, with those of them that its clock counts
 abbrev pub line_below : {Z : Type 0} → List EventId → Entry Z → Line
-line_below above x = record { event = x.event; above = length above; behind = filter (is_counted x.clock) above }
+line_below above x = record { event = x.event; above = length above; behind = filter (is_counted x.clock.counts) above }
 
 abbrev pub lines_below : {Z : Type 0} → List EventId → List (Entry Z) → List Line
 lines_below above [] = []
@@ -60,7 +60,7 @@ pub record IsHistory (s : Streams) (w : Word) (lines : List Line) : Type 0 where
 
 -- an event and its clock
 abbrev pub entry_pair : {Z : Type 0} → Entry Z → EventId × Counts
-entry_pair x = (x.event, x.clock)
+entry_pair x = (x.event, x.clock.counts)
 
 abbrev pub access_pair : ClockedAccess → EventId × Counts
 access_pair x = (event_of x, x.clock)
