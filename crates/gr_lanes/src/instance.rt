@@ -15,6 +15,7 @@ use std::alloc::Allocator;
 
 /// The record of an item's barrier with this number, if it was taken.
 /// Requires: its instance is not forgotten.
+#[inline(always)]
 pub fn barrier<A: Allocator>(lanes: &Lanes<A>, item: ItemId, number: u32) -> Option<Event>
     requires { IsRemembered lanes.now item number }
     ensures { MatchOption result (arrivals lanes.now.streams item.group number item.item ≡ None) (λ x. (arrivals lanes.now.streams item.group number item.item ≡ mark_of x) × (is_some (mark_of x) ≡ true)) }

@@ -211,6 +211,7 @@ impl<A: Allocator> Lane<A> {
     }
 
     /// Adds the item's next barrier, and keeps what it says where it does not say the same as the first of its instance.
+    #[inline(always)]
     fn add_barrier(&mut self, event: &Event, is_alike: bool) -> Result<(), Memory>
         requires few { self.old.index.count < 4_294_967_295 }
         requires alike { self.old.alike ≤ self.old.index.count }
