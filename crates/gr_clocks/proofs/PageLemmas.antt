@@ -76,3 +76,6 @@ within_more mine theirs n each last p below k = grind (arith, each p, last k)
 
 pub within_all : (mine theirs : Counts) (n : ℕ) → length mine ≤ n → ((p : ℕ) → p < n → IsRowWithin (get_or mine p []) (get_or theirs p [])) → IsPageWithin mine theirs
 within_all mine theirs n all each p k = grind (arith, each p, get_or_past)
+
+-- the page of a join, by which of the two pages has the greater counts
+pub ruleset page_joins = (join_of_none, join_with_none, join_of_greater, join_of_lesser)

@@ -48,7 +48,7 @@ fn reach<A: Allocator + Clone>(pages: &mut Pages<A>, count: usize) -> Result<(),
 }
 
 /// The page at a place, with the greater count of each item: one of the two pages, shared, where no count of the other is above it.
-#[tactic(auto, using(crate::proofs::PageLemmas::join_of_none, crate::proofs::PageLemmas::join_with_none, crate::proofs::PageLemmas::join_of_greater, crate::proofs::PageLemmas::join_of_lesser))]
+#[tactic(auto, using(crate::proofs::PageLemmas::page_joins))]
 fn joined_page<A: Allocator + Clone>(
     mine: &Pages<A>,
     theirs: &Pages<A>,
