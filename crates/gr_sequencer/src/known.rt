@@ -120,7 +120,7 @@ impl<A: Allocator + Clone> Known<A> {
         requires next { IsNext order.now.taken order.now.handled self.now event }
         requires there { event_at order.now.taken event ≡ Some taken.now }
         requires word { word_at order.now.taken event ≡ Some word }
-        ensures { IfOk result (λ c. CountsJust c (KnowsOrLearns order.now.taken order.now.handled (model.memory_of word) event)) }
+        ensures { IfOk result (λ c. CountsJust c.counts (KnowsOrLearns order.now.taken order.now.handled (model.memory_of word) event)) }
     {
         let clock = self.clocks.clock_of(event.at, memory_of(word));
         match sources_of(order, &self.snapshots, event, taken) {
@@ -146,7 +146,7 @@ impl<A: Allocator + Clone> Known<A> {
         requires next { IsNext order.now.taken order.now.handled self.now event }
         requires there { event_at order.now.taken event ≡ Some taken.now }
         requires word { word_at order.now.taken event ≡ Some word }
-        ensures { IfOk result (λ c. CountsJust c (Sees order.now.taken (model.memory_of word) event)) }
+        ensures { IfOk result (λ c. CountsJust c.counts (Sees order.now.taken (model.memory_of word) event)) }
     {
         let mut clock = self.known_or_learned(order, event, taken, word)?;
         match clock.tick(event.at) {

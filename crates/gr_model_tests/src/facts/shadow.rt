@@ -32,7 +32,7 @@ fn access<A: Allocator + Copy>(
     ensures item { IfOk result (λ x. x.item ≡ item) }
     ensures index { IfOk result (λ x. x.index ≡ index) }
     ensures class { IfOk result (λ x. x.class ≡ class) }
-    ensures clock { IfOk result (λ x. (j : AnyItem) → count_of x.clock j ≡ 0) }
+    ensures clock { IfOk result (λ x. (j : AnyItem) → count_of x.clock.counts j ≡ 0) }
 {
     let shape = shape_of(alloc, &[1, 1])?;
     Ok(Access {
@@ -48,7 +48,7 @@ fn access<A: Allocator + Copy>(
 fn read_after_three<A: Allocator + Copy>(alloc: A) -> Result<Access<A>, ClockError>
     ensures word { IfOk result (λ x. x.word ≡ GlobalWord 4) }
     ensures item { IfOk result (λ x. x.item ≡ OTHER) }
-    ensures count { IfOk result (λ x. count_of x.clock FIRST ≡ 3) }
+    ensures count { IfOk result (λ x. count_of x.clock.counts FIRST ≡ 3) }
 {
     let mut read = access(alloc, OTHER, 0, Class::PlainRead)?;
     read.clock.tick(FIRST)?;

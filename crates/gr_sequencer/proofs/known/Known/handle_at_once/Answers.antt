@@ -19,7 +19,7 @@ returns-clause-access g c =
     let m = memory_of c.in-Some-Some.word in
     elim c.match-access_in.branch [
       | in-Ok v ↦
-          let counts : CountsJust v.in-Ok.clock (Sees (with_record c.args.order.now.taken c.args.group c.args.taken.now) m c.args.event) = sees_at_once _ _ _ _ _ is m v.in-Ok.clock (record {
+          let counts : CountsJust v.in-Ok.clock.counts (Sees (with_record c.args.order.now.taken c.args.group c.args.taken.now) m c.args.event) = sees_at_once _ _ _ _ _ is m v.in-Ok.clock.counts (record {
             counts = λ j. v.in-Ok.ensures.clock j ∙ ap (λ n. count_of (clock_in c.access_in.new.self n c.args.event.at) j) c.memory_of.ensures ∙ (v.in-Ok.ensures.ok.ticks m).item.counts j;
           }) in
           rw v.result-is (grind (arith, counts, is.there))

@@ -16,11 +16,11 @@ sources_of-requires g c =
 pub returns-in-Ok : goal.returns-in-Ok
 returns-in-Ok g c =
     let next = rw (← c.self.view_is) at c.requires.next in
-    known_or_learned_alone _ _ _ _ next (memory_of c.args.word) c.in-Ok.copied c.in-None.ensures (cc (c.in-Ok.ensures.copy, c.clock_of-clock.ensures, c.memory_of.ensures))
+    known_or_learned_alone _ _ _ _ next (memory_of c.args.word) c.in-Ok.copied.counts c.in-None.ensures (cc (c.in-Ok.ensures.copy, c.clock_of-clock.ensures.counts, c.memory_of.ensures))
 
 pub returns-in-Ok-learned : goal.returns-in-Ok-learned
 returns-in-Ok-learned g c =
     let next = rw (← c.self.view_is) at c.requires.next in
     let here : All (λ (l : ReleaseClock). memory_of c.args.word ≡ memory_of l.word) c.in-Some.sources = λ k d below. grind (arith, c.requires.word, c.in-Some.ensures.words k d) in
     let join = rw (clocks_referred (λ r. r.now) c.as_slice.result.now c.in-Some.sources c.as_slice.ensures) at c.in-Ok-learned.ensures.join in
-    known_or_learned_sources _ _ _ _ next (memory_of c.args.word) c.clock_of-clock.result.now c.in-Ok-learned.learned c.in-Some.sources c.in-Some.ensures (cc (c.clock_of-clock.ensures, c.memory_of.ensures)) here join
+    known_or_learned_sources _ _ _ _ next (memory_of c.args.word) c.clock_of-clock.result.now.counts c.in-Ok-learned.learned.counts c.in-Some.sources c.in-Some.ensures (cc (c.clock_of-clock.ensures.counts, c.memory_of.ensures)) here join
