@@ -37,10 +37,6 @@ module _ (groups : List GroupClocks) {t : ClockTable} (are : AreGroups groups) (
 
   -- a group is put there for the one with its number, of as many items
   module _ (g : ℕ) {y : GroupClocks} (there : g < length t) where
-    pub met_groups : IsSameGroup (group_at t g) y → AreGroups (set groups g y)
-    met_groups same q within =
-        numbered (set groups g y) q (grind (arith, same.number, get_or-set_at, get_or-set_other, length-set groups g y, λ (below : q < length groups). ap (λ (x : GroupClocks). x.number) (are q below)))
-
     met_shape : IsSameGroup (group_at t g) y → map length (table_of (set groups g y)) ≡ map length t
     met_shape same = rw (put_table g y) (map-set_same length t g y.clocks [] same.size)
 
