@@ -1,5 +1,5 @@
 -- The bytes of whole streams are dumped and their text is packed; and what is packed is dumped again, what is dumped packed again.
-use Rattle.std.proofs.Common.{◌≡◌, ℕ, zero, suc, ◌+◌, ◌≤◌, false, List, [], ◌∷◌, ◌++◌, length, All, Ok, refl, sym, ap, ◌∙◌, append_assoc, arith, inl, inr, IsTrue, true≢false, ◌-◌, ◌^◌, ◌<◌, map, take_at, drop_at, length-append, append-nil, flat_map}
+use Rattle.std.proofs.Common.{◌≡◌, ℕ, zero, suc, ◌+◌, ◌≤◌, false, List, [], ◌∷◌, ◌++◌, length, All, Ok, refl, sym, ap, ◌∙◌, append_assoc, arith, inl, inr, IsTrue, true≢false, ◌-◌, ◌^◌, ◌<◌, map, length-append, flat_map}
 use Rattle.std.specs.Prelude.{◌==◌}
 use Rattle.std.proofs.lemmas.Bool.{le-ltb, ne_eqb, cases_Bool, and_parts, ltb-true, lt-leb}
 use Rattle.std.proofs.lemmas.List.Elements.{All-append, All-cons, All-head, All-nil, All-tail}
@@ -10,18 +10,16 @@ use Rattle.gr_model.specs.Streams.{is_complete}
 use Rattle.gr_record.specs.declared.header.Header.{Header}
 use Rattle.gr_record.specs.declared.layout.TheConstants.{HEADER_LENGTH}
 use Rattle.gr_record.specs.Versions.{record_length, most_items, places}
-use Rattle.gr_record.specs.declared.stop.Stop.TheVariants.{AtEnd}
-use Rattle.gr_record.specs.Fronts.{Records, behind, records_of}
 use Rattle.gr_record.specs.PrefixLaws.{Runs}
 use Rattle.gr_record.specs.Reading.{event_at}
-use Rattle.gr_record.specs.Spelling.{IsHeader, event_spelling, events_spelling, header_spelling, IsEvent}
+use Rattle.gr_record.specs.Spelling.{IsHeader, events_spelling, header_spelling, IsEvent}
 use Rattle.gr_record.specs.WholeStreams.{front_header_at, front_records_at, stream_spelling}
 use Rattle.gr_record.proofs.FoundPrefixes.{complete_behind}
-use Rattle.gr_record.proofs.Loop.{next}
+use Rattle.gr_record.proofs.Growing.{records_grow}
 use Rattle.gr_record.proofs.Places.{header_items, each_in_range}
-use Rattle.gr_record.proofs.SpelledPrefixes.{sites_spelled}
+use Rattle.gr_record.proofs.SpelledPrefixes.{records_spelled, sites_spelled}
 use Rattle.gr_record.specs.Sites.{Sited, events_of}
-use Rattle.gr_record.proofs.Spelled.{spelled_is_read, spelled_header_is_read, spelling_length}
+use Rattle.gr_record.proofs.Spelled.{spelled_header_is_read}
 use Rattle.gr_text.specs.Dumps.{WholeStream, stream_at, streams_at, dumped, parts_in}
 use Rattle.gr_text.specs.Wholes.{IsWhole, bytes_of, text_of, WholeStreamsAreDumped, PackedIsDumpedAgain, WholeStreamsArePacked, DumpedIsPackedAgain}
 use Rattle.gr_text.proofs.PackedStreams.{packed_are_streams, streams_bytes}
@@ -35,36 +33,12 @@ use Rattle.gr_text.specs.declared.place.Place.TheVariants.{Outside, Inside}
 use Rattle.gr_text.specs.Lines.{lines_of}
 use Rattle.gr_text.specs.Texts.{header_line, record_line, whole_line, packed, said_from}
 
-abbrev ended_with : List Event → List ℕ → Records
-ended_with events rest = record { events = events; rest = rest; stop = AtEnd }
-
-module _ (h : Header) (few : h.items ≤ MOST_ITEMS_OF_A_GROUP) where
-  abbrev size : ℕ
-  size = record_length h.version
-
-  records_before : (rs : List Sited) (most : ℕ) (rest : List ℕ) → Runs h rs → IsTrue (is_complete (events_of rs)) → length rs ≤ most → records_of h most (events_spelling h.version rs ++ rest) ≡ ended_with (events_of rs) rest
-  records_before [] most rest runs complete le = absurd (true≢false (sym complete))
-  records_before (r ∷ rs) zero rest runs complete le = absurd (omega arith)
-  records_before (r ∷ rs) (suc most) rest runs complete le =
-      let e = r.event in
-      let len = spelling_length h.version r in
-      let prefix : List ℕ = event_spelling h.version r in
-      let more : List ℕ = events_spelling h.version rs ++ rest in
-      let long : size ≤ length (prefix ++ more) = omega (arith, length-append prefix more, len) in
-      let is : event_at h prefix ≡ Ok e = rw (append-nil prefix) at (spelled_is_read h r [] few runs.0).0 in
-      rw (append_assoc prefix (events_spelling h.version rs) rest, next size (event_at h) most (prefix ++ more) long, take_at prefix more size len, drop_at prefix more size len, is)
-      (elim (cases_Bool (is_end e)) [
-        | inl end ↦
-            let none : rs ≡ [] = runs.1 end in
-            rw (end, drop_at prefix more size len, none) refl
-        | inr on ↦
-            let ih = records_before rs most rest runs.2 (sym (complete_behind e (events_of rs) on) ∙ complete) (omega arith) in
-            rw on (ap (behind e) ih)
-      ])
-
-  pub events_before : (rs : List Sited) (rest : List ℕ) → Runs h rs → IsTrue (is_complete (events_of rs)) → length rs ≤ MOST_RECORDS → front_records_at h (events_spelling h.version rs ++ rest) ≡ Ok (events_of rs, rest)
-  unfolding front_records_at
-  events_before rs rest runs complete le = rw (records_before rs MOST_RECORDS rest runs complete le) refl
+pub events_before : (h : Header) → h.items ≤ MOST_ITEMS_OF_A_GROUP → (rs : List Sited) (rest : List ℕ) → Runs h rs → IsTrue (is_complete (events_of rs)) → length rs ≤ MOST_RECORDS
+    → front_records_at h (events_spelling h.version rs ++ rest) ≡ Ok (events_of rs, rest)
+unfolding front_records_at
+events_before h few rs rest runs complete le =
+    let all = rw (records_spelled h few rs MOST_RECORDS runs le, complete) at (records_grow (record_length h.version) (event_at h) rest MOST_RECORDS (events_spelling h.version rs)) in
+    rw all refl
 
 pub header_before : (h : Header) (rest : List ℕ) → IsHeader h → front_header_at (header_spelling h ++ rest) ≡ Ok (h, rest)
 unfolding front_header_at

@@ -1,7 +1,7 @@
 -- The streams in a list of bytes, one after another, as a loop reads them.
 use Rattle.std.proofs.Common.{◌≡◌, ℕ, zero, suc, ◌+◌, ◌<◌, ◌≤◌, true, false, List, [], ◌∷◌, ◌++◌, length, drop, Ok, refl, sym, ap, ap₂, subst, ◌∙◌, append_assoc, arith, inl, inr, IsTrue, All, nat_lt, ◌==◌, flat_map}
 use Rattle.std.proofs.lemmas.Bool.{ltb-false, cases_Bool, eqb-true}
-use Rattle.std.proofs.lemmas.List.{get_or-append-add, take-append-drop, length-append, nil_from_length}
+use Rattle.std.proofs.lemmas.List.{append-nil, get_or-append-add, take-append-drop, length-append, nil_from_length}
 use Rattle.gr_model.specs.declared.event.Event.{Event}
 use Rattle.gr_model.specs.declared.limits.TheConstants.{MOST_RECORDS}
 use Rattle.gr_model.specs.Streams.{is_complete}
@@ -16,9 +16,10 @@ use Rattle.gr_record.specs.Spelling.{IsHeader, header_spelling, events_spelling}
 use Rattle.gr_record.specs.WholeStreams.{front_header_at, front_records_at, stream_spelling}
 use Rattle.gr_record.proofs.Found.{read_header_is_spelled}
 use Rattle.gr_record.proofs.FoundPrefixes.{is_at_end, records_found, events_sited}
+use Rattle.gr_record.proofs.Numbers.{one_left}
 use Rattle.gr_record.proofs.Places.{bytes_drop}
 use Rattle.gr_text.specs.Texts.{header_line, record_line, whole_line}
-use Rattle.gr_text.proofs.Steps.{bind_ok, map_ok, up_to_ok, at_place_ok}
+use Rattle.gr_text.proofs.Steps.{bind_ok, map_ok, up_to_ok, at_place_ok, no_more}
 use Rattle.gr_text.specs.Dumps.{WholeStream, stream_at, streams_at, formed, parts_in}
 use Rattle.std.proofs.lemmas.List.Elements.{All-cons, All-nil}
 use Rattle.std.proofs.lemmas.List.Folds.{flat_map-map}
@@ -62,6 +63,9 @@ pub nothing_left : (most place : ℕ) (bytes : List ℕ) → (length bytes == 0)
 unfolding streams_at
 nothing_left zero place bytes e = refl
 nothing_left (suc most) place bytes e = rw e refl
+
+-- what a loop over streams needs of each
+pub ruleset stream_steps = (one_left, no_more, nothing_left, append-nil, append_assoc, flat_map-append, flat_map-map)
 
 abbrev Found : Type 0
 Found = WholeStream × List ℕ

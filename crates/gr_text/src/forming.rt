@@ -8,12 +8,11 @@ ghost use Rattle.gr_model.specs.Events.{IsEventOk};
 ghost use Rattle.gr_model.specs.declared.limits.TheConstants.{MOST_ITEMS_OF_A_GROUP, MOST_RECORDS};
 ghost use Rattle.gr_record.specs.Faults.{IsOfValues};
 ghost use Rattle.gr_record.specs.Fronts.{records_of};
-ghost use Rattle.gr_record.specs.Reading.{event_at};
 ghost use Rattle.gr_record.specs.Sites.{all_sited};
 ghost use Rattle.gr_record.specs.Spelling.{IsHeader};
-ghost use Rattle.gr_record.specs.Versions.{places, record_length};
+ghost use Rattle.gr_record.specs.Versions.{places};
 ghost use Rattle.gr_text.specs.Partial.{behind_end};
-ghost use Rattle.gr_text.specs.Texts.{header_line, whole_line};
+ghost use Rattle.gr_text.specs.Texts.{whole_line};
 ghost use Rattle.gr_text.specs.Dumps.{raised, upgraded_header, formed_header, formed_event, formed_of, stream_at, with_stream};
 
 use crate::line::{Line, SitedLine};
@@ -22,7 +21,6 @@ use crate::packing::{push_header, push_record};
 use gr_model::event::Event;
 use gr_model::limits::MOST_RECORDS;
 use gr_model::memory::Memory;
-use gr_record::error::RecordError;
 use gr_record::fault::Fault;
 use gr_record::header::{Header, Version};
 use gr_record::reading::{read_event, site_of};
@@ -40,7 +38,7 @@ pub enum Form {
 
 /// Adds a line and its line feed.
 /// Requires: the header or record is in range.
-pub(crate) fn push_line<A: Allocator + Copy>(
+fn push_line<A: Allocator + Copy>(
     alloc: A,
     text: &mut Vec<u8, A>,
     line: &SitedLine,
@@ -52,16 +50,6 @@ pub(crate) fn push_line<A: Allocator + Copy>(
     text.extend_from_slice(line.as_bytes())?;
     text.push(b'\n')?;
     Ok(())
-}
-
-/// The line of a header, which has no site.
-pub(crate) fn header_line(header: Header) -> SitedLine
-    ensures { result ≡ header_line header }
-{
-    SitedLine {
-        line: Line::Header(header),
-        site: 0,
-    }
 }
 
 /// The version that a stream of this one is upgraded to: version 2 for version 1, and no other for the rest.
@@ -87,7 +75,7 @@ fn upgrade_header(header: Header) -> Header
 
 /// Adds a header in a form.
 /// Requires: the header is in range.
-fn push_first<A: Allocator + Copy>(
+pub(crate) fn push_first<A: Allocator + Copy>(
     alloc: A,
     form: Form,
     output: &mut Vec<u8, A>,
@@ -97,7 +85,10 @@ fn push_first<A: Allocator + Copy>(
     ensures { OnOk result (output.new.items ≡ output.old.items ++ formed_header form header) }
 {
     match form {
-        Form::Text => push_line(alloc, output, &header_line(header)),
+        Form::Text => {
+            let line = Line::Header(header);
+            push_line(alloc, output, &SitedLine { line, site: 0 })
+        }
         Form::Long => push_header(output, &upgrade_header(header)),
     }
 }
@@ -124,20 +115,10 @@ fn push_event<A: Allocator + Copy>(
     }
 }
 
-/// The record that these bytes are, in a stream of this header.
-/// Requires: the header is in range, and there are as many bytes as one of its records has.
-fn read_in_range(header: Header, bytes: &[u8]) -> Result<Event, RecordError>
-    requires header { IsHeader header }
-    requires length { length bytes.now ≡ record_length header.version }
-    ensures exact { result ≡ event_at header bytes.now }
-    ensures range { IfOk result (λ e. IsEventOk e MOST_ITEMS_OF_A_GROUP × (length e.names ≤ places header.version)) }
-{
-    read_event(header, bytes)
-}
-
 /// Adds in a form the records at the start of the bytes, in the stream of this header, up to its end or to the first that is
 /// refused. Returns the bytes after the end, if there is one.
 /// Requires: the header is in range.
+#[tactic(auto, using(gr_record::proofs::Loop::loop_steps, crate::proofs::Steps::record_steps))]
 pub(crate) fn push_records<'a, A: Allocator + Copy>(
     alloc: A,
     form: Form,
@@ -156,7 +137,7 @@ pub(crate) fn push_records<'a, A: Allocator + Copy>(
             return Ok(None);
         }
         let (record, after) = rest.split_at(size);
-        let Ok(event) = read_in_range(header, record) else {
+        let Ok(event) = read_event(header, record) else {
             return Ok(None);
         };
         let is_end = event.kind.is_end();
@@ -199,6 +180,7 @@ fn push_stream<'a, A: Allocator + Copy>(
 /// # Errors
 /// `Stream` with the place of the first stream that has a fault, from 0, and that fault; `Memory` if an allocation is
 /// refused.
+#[tactic(auto, using(crate::proofs::Streaming::stream_steps), unfolding(crate::specs::Dumps::streams_at))]
 pub fn formed_bytes<A: Allocator + Copy>(
     alloc: A,
     form: Form,

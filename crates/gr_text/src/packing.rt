@@ -86,6 +86,7 @@ fn push_bytes<A: Allocator>(
 /// Of the first line at fault, with its number from 1: `BadLine` if its place needs another line, else `LongStream` if
 /// it is one record more than a stream may have. `NoEnd` if no line is at fault and the text is over inside a stream.
 /// `Memory` if an allocation is refused.
+#[tactic(auto, using(crate::proofs::Steps::line_steps), unfolding(crate::specs::Texts::said_from))]
 pub fn pack_text<A: Allocator>(alloc: A, text: &[u8]) -> Result<Vec<u8, A>, Fault>
     ensures exact { Gives (λ v. v.items) result (packed text.now) }
     ensures values { IfErr result IsOfValues }

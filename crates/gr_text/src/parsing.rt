@@ -155,7 +155,7 @@ fn parse_name(bytes: &[u8]) -> Option<(Name, Option<&[u8]>)>
 }
 
 /// The names after an acquire's order, if there are some, and how many places of the array they take.
-#[tactic(auto, unfolding(crate::specs::LineReading::names_said))]
+#[tactic(auto, using(crate::proofs::Steps::name_steps), unfolding(crate::specs::LineReading::names_said))]
 fn parse_names(bytes: Option<&[u8]>) -> Option<([Name; MOST_NAMES], usize)>
     ensures few { IfSome result (λ x. x.1 ≤ MOST_NAMES) }
     ensures names { option_map (λ x. take x.1 x.0) result ≡ names_said (option_map (λ rest. rest.now) bytes.entry) MOST_NAMES }
@@ -297,14 +297,9 @@ fn read_line(version: Version, line: &[u8]) -> Option<Line>
 fn before_space(bytes: &[u8]) -> Option<&[u8]>
     ensures { option_map (λ front. front.now) result ≡ unspaced bytes.now }
 {
-    if bytes.is_empty() {
-        return None;
-    }
-    let last = bytes.len() - 1;
-    if bytes[last] == b' ' {
-        Some(&bytes[..last])
-    } else {
-        None
+    match bytes.split_last() {
+        Some((b' ', front)) => Some(front),
+        _ => None,
     }
 }
 

@@ -8,7 +8,7 @@ ghost use Rattle.gr_text.specs.Texts.{whole_line};
 ghost use Rattle.gr_text.specs.Dumps.{dumped};
 ghost use Rattle.gr_text.specs.Partial.{front_at, text_before_fault as text_before};
 
-use crate::forming::{Form, formed_bytes, header_line, push_line, push_records};
+use crate::forming::{Form, formed_bytes, push_first, push_records};
 use gr_model::memory::Memory;
 use gr_record::fault::Fault;
 use gr_record::stream::read_front_header;
@@ -16,6 +16,7 @@ use std::alloc::Allocator;
 
 /// Adds the lines of the stream at the start of the bytes, header and records, up to its first fault. Returns the bytes after
 /// the stream's end, if there is one.
+#[tactic(auto, using(crate::proofs::Streaming::stream_steps))]
 fn push_front<'a, A: Allocator + Copy>(
     alloc: A,
     text: &mut Vec<u8, A>,
@@ -27,7 +28,7 @@ fn push_front<'a, A: Allocator + Copy>(
     let Ok((header, records)) = read_front_header(bytes) else {
         return Ok(None);
     };
-    push_line(alloc, text, &header_line(header))?;
+    push_first(alloc, Form::Text, text, header)?;
     push_records(alloc, Form::Text, text, header, records)
 }
 
@@ -35,6 +36,7 @@ fn push_front<'a, A: Allocator + Copy>(
 ///
 /// # Errors
 /// `Memory` if an allocation is refused.
+#[tactic(auto, using(crate::proofs::Streaming::stream_steps), unfolding(crate::specs::Partial::lines_before))]
 pub fn text_before_fault<A: Allocator + Copy>(alloc: A, bytes: &[u8]) -> Result<Vec<u8, A>, Memory>
     ensures { IfOk result (λ text. text.items ≡ text_before bytes.now) }
 {

@@ -3,7 +3,7 @@
 ghost use Rattle.std.specs.Prelude.{◌≡◌, ◌≢◌, IfOk, IfErr};
 ghost use Rattle.gr_text.specs.LineLaws.{IsSitedSaid};
 ghost use Rattle.gr_text.specs.LineReading.{sited_said};
-ghost use Rattle.gr_text.specs.Texts.{HasRoom, version_at, record_at, line_at};
+ghost use Rattle.gr_text.specs.Texts.{HasRoom, version_at, record_at, record_line, line_at};
 
 use crate::line::{Line, SitedLine};
 use crate::parsing::read_sited_line;
@@ -41,7 +41,8 @@ fn take_event(
     event: Event,
     site: u16,
 ) -> Result<(SitedLine, Place), Fault>
-    ensures { result ≡ record_at number header left (record { event = event; site = site }) }
+    ensures exact { result ≡ record_at number header left (record { event = event; site = site }) }
+    ensures line { IfOk result (λ x. x.0 ≡ record_line (record { event = event; site = site })) }
 {
     if event.item >= header.items || event.names.as_slice().len() > header.version.places() {
         return Err(Fault::BadLine(number));
@@ -61,15 +62,19 @@ fn take_event(
     Ok((SitedLine { line, site }, behind))
 }
 
-/// The line, if this place may have it, and the place after it.
-fn take_said(
-    number: u64,
-    place: Place,
-    line: Option<SitedLine>,
-) -> Result<(SitedLine, Place), Fault>
-    ensures { result ≡ line_at number place line }
+/// What a line of a text says at this place, and the place after it. The line is given without its line feed; its number
+/// is this.
+///
+/// # Errors
+/// `BadLine` with the number if the place needs another line; else `LongStream` with the number if the line is one
+/// record more than a stream may have.
+#[tactic(auto, using(crate::proofs::LineSites::sited_told, crate::proofs::Steps::line_at_told))]
+pub fn take_line(number: u64, place: Place, line: &[u8]) -> Result<(SitedLine, Place), Fault>
+    ensures exact { result ≡ line_at number place (sited_said (version_at place) line.now) }
+    ensures said { IfOk result (λ x. IsSitedSaid (version_at place) x.0) }
+    ensures room { IfOk result (λ x. HasRoom (version_at place) x.0.line) }
 {
-    let Some(SitedLine { line, site }) = line else {
+    let Some(SitedLine { line, site }) = read_sited_line(place.version(), line) else {
         return Err(Fault::BadLine(number));
     };
     match (place, line) {
@@ -85,19 +90,4 @@ fn take_said(
         }
         _ => Err(Fault::BadLine(number)),
     }
-}
-
-/// What a line of a text says at this place, and the place after it. The line is given without its line feed; its number
-/// is this.
-///
-/// # Errors
-/// `BadLine` with the number if the place needs another line; else `LongStream` with the number if the line is one
-/// record more than a stream may have.
-#[tactic(auto, using(crate::proofs::LineSites::sited_told, crate::proofs::Steps::line_at_told))]
-pub fn take_line(number: u64, place: Place, line: &[u8]) -> Result<(SitedLine, Place), Fault>
-    ensures exact { result ≡ line_at number place (sited_said (version_at place) line.now) }
-    ensures said { IfOk result (λ x. IsSitedSaid (version_at place) x.0) }
-    ensures room { IfOk result (λ x. HasRoom (version_at place) x.0.line) }
-{
-    take_said(number, place, read_sited_line(place.version(), line))
 }

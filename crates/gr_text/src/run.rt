@@ -93,6 +93,7 @@ pub fn dump<A: Allocator + Copy, T: Read, W: Write>(
 /// # Errors
 /// Those of `dump`. At `Stream` the text before the fault has been written. `Write` if the writer fails,
 /// which has then taken a prefix of the text. At `Read` and `Memory` nothing is written.
+#[tactic(auto, using(crate::proofs::PartialLaws::whole_streams_stand_whole))]
 pub fn dump_partial<A: Allocator + Copy, T: Read, W: Write>(
     alloc: A,
     reader: &mut T,

@@ -18,13 +18,14 @@ pub fn is_word(word: &[u8], expected: &str) -> bool
 pub fn parse_number(word: &[u8]) -> Option<u32>
     ensures { result ≡ number_of word.now }
 {
-    let number = str::from_utf8(word).ok()?.parse::<u32>().ok()?;
+    let Ok(text) = str::from_utf8(word) else {
+        return None;
+    };
+    let Ok(number) = text.parse::<u32>() else {
+        return None;
+    };
     let mut buffer = Buffer::new();
-    if buffer.format(number).as_bytes() == word {
-        Some(number)
-    } else {
-        None
-    }
+    is_word(word, buffer.format(number)).then_some(number)
 }
 
 /// The number below 2^16 that this word spells.
