@@ -1,7 +1,7 @@
 -- A text that is packed is one of whole streams.
 use Rattle.std.proofs.Common.{◌≡◌, ◌⊎◌, ℕ, ◌+◌, ◌-◌, ◌<◌, ◌≤◌, Bool, true, false, cond, List, [], ◌∷◌, ◌++◌, length, map, All, Option, Some, None, Ok, refl, sym, ap, ap₂, subst, ◌∙◌, arith, inl, inr, IsTrue, true≢false, append_assoc, append-nil}
 use Rattle.std.specs.List.{flat_map, onto_first}
-use Rattle.std.proofs.lemmas.Bool.{cases_Bool, both_ways}
+use Rattle.std.proofs.lemmas.Bool.{both_ways}
 use Rattle.std.proofs.lemmas.List.Elements.{All-cons, All-head, All-tail}
 use Rattle.std.proofs.lemmas.List.Folds.{flat_map-map}
 use Rattle.gr_model.specs.declared.limits.TheConstants.{MOST_RECORDS}
@@ -19,7 +19,7 @@ use Rattle.gr_record.specs.Sites.{Sited, events_of}
 use Rattle.gr_text.specs.LineLaws.{IsSitedSaid}
 use Rattle.gr_text.specs.LineReading.{sited_said}
 use Rattle.gr_text.specs.LineText.{sited_text}
-use Rattle.gr_record.specs.Spelling.{IsRecord, header_spelling, event_spelling, events_spelling}
+use Rattle.gr_record.specs.Spelling.{IsRecord, header_spelling, events_spelling}
 use Rattle.gr_record.proofs.FoundPrefixes.{complete_behind}
 use Rattle.gr_text.proofs.LineSites.{sited_read_is_text}
 use Rattle.gr_text.specs.declared.place.Place.{Place}
@@ -137,15 +137,8 @@ said_found (l ∷ ls) n place xs k =
 records_bytes : (h : Header) (rs : List Sited) (xs : List SitedLine) → Runs h rs → IsTrue (is_complete (events_of rs)) → lines_bytes h.version (map record_line rs ++ xs) ≡ events_spelling h.version rs ++ lines_bytes One xs
 records_bytes h [] xs runs complete = absurd (true≢false (sym complete))
 records_bytes h (r ∷ rs) xs runs complete =
-    let e = r.event in
-    elim (cases_Bool (is_end e)) [
-      | inl end ↦
-          let none : rs ≡ [] = runs.1 end in
-          rw (none, end) (ap (λ (v : List ℕ). v ++ lines_bytes One xs) (sym (append-nil (event_spelling h.version r))))
-      | inr on ↦
-          let ih = records_bytes h rs xs runs.2 (sym (complete_behind e (events_of rs) on) ∙ complete) in
-          rw on (ap (λ (v : List ℕ). event_spelling h.version r ++ v) ih ∙ sym (append_assoc (event_spelling h.version r) (events_spelling h.version rs) (lines_bytes One xs)))
-    ]
+    let ih = records_bytes h rs xs runs.2 in
+    grind (arith, append_assoc, append-nil, complete_behind r.event (events_of rs), runs.1, ih)
 
 pub streams_bytes : (ss : List WholeStream) → All IsWhole ss → lines_bytes One (flat_map parts_in ss) ≡ bytes_of ss
 streams_bytes [] whole = refl

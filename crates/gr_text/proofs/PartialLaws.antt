@@ -1,5 +1,5 @@
 -- What bytes have before their first fault, as loops find it, and that their text is the text of that.
-use Rattle.std.proofs.Common.{◌≡◌, ℕ, suc, ◌+◌, List, [], ◌++◌, length, map, Option, Ok, Err, refl, sym, ap, ◌∙◌, append_assoc, arith, inl, inr, ◌⊎◌, zero, ◌∷◌, subst, IfSome, IsOk, flat_map, ◌==◌}
+use Rattle.std.proofs.Common.{◌≡◌, ℕ, suc, ◌+◌, List, [], ◌++◌, length, map, Ok, Err, refl, sym, ap, ◌∙◌, append_assoc, arith, inl, inr, ◌⊎◌, zero, ◌∷◌, subst, flat_map, ◌==◌}
 use Rattle.std.proofs.lemmas.Bool.{cases_Bool}
 use Rattle.std.proofs.lemmas.List.{append-nil, nil_from_length}
 use Rattle.std.proofs.lemmas.List.Concat.{flat_map-append}
@@ -12,16 +12,14 @@ use Rattle.gr_record.specs.Laws.{AreBytes}
 use Rattle.gr_record.specs.Spelling.{events_spelling, header_spelling}
 use Rattle.gr_record.specs.Sites.{all_sited, Sited}
 use Rattle.gr_record.specs.WholeStreams.{front_header_at, front_records_at, stream_spelling}
-use Rattle.gr_text.specs.Dumps.{WholeStream, parts_in, dumped, stream_at, streams_at, streams_in}
+use Rattle.gr_text.specs.Dumps.{WholeStream, parts_in, stream_at, streams_at, streams_in}
 use Rattle.gr_text.specs.Texts.{header_line, record_line, whole_line, ◌>>=◌}
 use Rattle.gr_text.specs.Partial.{front_at, lines_before, text_before_fault, WholeStreamsStandWhole, IsRefusedAtHeader, IsRefusedBehind, StandsBefore, RefusedIsToldUpToItsFault}
 use Rattle.std.proofs.lemmas.List.Elements.{All-cons, All-nil}
-use Rattle.std.specs.Io.KnownBytes.{Appends}
 use Rattle.gr_record.specs.declared.fault.Fault.TheVariants as faults
 use Rattle.gr_record.proofs.FoundPrefixes.{events_sited, records_found}
 use Rattle.gr_model.specs.Streams.{is_complete}
 use Rattle.gr_text.specs.Wholes.{IsWhole, bytes_of}
-use Rattle.gr_text.specs.Writes.{Writes}
 use Rattle.gr_text.proofs.Streaming.{stream_found, streams_text, header_found}
 use Rattle.gr_text.proofs.Steps.{at_place_err, at_place_ok, bind_err, map_err, map_ok, up_to_err}
 
@@ -143,7 +141,3 @@ refused_is_told bytes place e fits k =
     let s = stands_at place e (length bytes) 0 bytes fits (map_err (streams_in bytes) _ (faults.Stream place e) k) in
     let same : s.0 ≡ place = omega (arith, s.1) in
     subst (λ (k : ℕ). StandsBefore k e bytes (text_before_fault bytes)) same s.2
-
--- the text before the fault is all, where known bytes have no fault
-pub all_written : (known : Option (List ℕ)) (bytes text : List ℕ) (old new : Option (List ℕ)) → IfSome known (λ b. bytes ≡ b) → IsOk (dumped bytes) → text ≡ text_before_fault bytes → Appends old new text → IfSome known (λ b. Writes (dumped b) old new)
-all_written known bytes text old new read good is written = let whole = whole_streams_stand_whole bytes in grind (arith, whole)

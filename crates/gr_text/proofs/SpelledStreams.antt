@@ -1,11 +1,10 @@
 -- The bytes of whole streams are dumped and their text is packed; and what is packed is dumped again, what is dumped packed again.
-use Rattle.std.proofs.Common.{◌≡◌, ℕ, zero, suc, ◌+◌, ◌≤◌, false, List, [], ◌∷◌, ◌++◌, length, All, Ok, refl, sym, ap, ◌∙◌, append_assoc, arith, inl, inr, IsTrue, true≢false, ◌-◌, ◌^◌, ◌<◌, map, length-append, flat_map}
+use Rattle.std.proofs.Common.{◌≡◌, ℕ, zero, suc, ◌+◌, ◌≤◌, false, List, [], ◌∷◌, ◌++◌, length, All, Ok, refl, sym, ap, ◌∙◌, append_assoc, arith, IsTrue, true≢false, ◌-◌, ◌^◌, ◌<◌, map, length-append, flat_map}
 use Rattle.std.specs.Prelude.{◌==◌}
-use Rattle.std.proofs.lemmas.Bool.{le-ltb, ne_eqb, cases_Bool, and_parts, ltb-true, lt-leb}
+use Rattle.std.proofs.lemmas.Bool.{le-ltb, ne_eqb, and_parts, ltb-true, lt-leb}
 use Rattle.std.proofs.lemmas.List.Elements.{All-append, All-cons, All-head, All-nil, All-tail}
 use Rattle.gr_model.specs.declared.event.Event.{Event}
 use Rattle.gr_model.specs.declared.limits.TheConstants.{MOST_ITEMS_OF_A_GROUP, MOST_RECORDS}
-use Rattle.gr_model.specs.Events.{is_end}
 use Rattle.gr_model.specs.Streams.{is_complete}
 use Rattle.gr_record.specs.declared.header.Header.{Header}
 use Rattle.gr_record.specs.declared.layout.TheConstants.{HEADER_LENGTH}
@@ -124,14 +123,8 @@ records_back (r ∷ rs) n h left rest few runs complete le behind =
     let there = lt-leb h.items e.item runs.0.event.ok.0 in
     let room = le-ltb (places h.version) (length e.names) runs.0.names in
     let some = ne_eqb left 0 (λ none. absurd (omega arith)) in
-    elim (cases_Bool (is_end e)) [
-      | inl end ↦
-          let none : rs ≡ [] = runs.1 end in
-          rw (read, there, room, some, end, none, behind (n + 1)) refl
-      | inr on ↦
-          let ih = records_back rs (n + 1) h (left - 1) rest few runs.2 (sym (complete_behind e (events_of rs) on) ∙ complete) (omega arith) behind in
-          rw (read, there, room, some, on, ih) refl
-    ]
+    let ih = λ (on : IsTrue (is_complete (events_of rs))). records_back rs (n + 1) h (left - 1) rest few runs.2 on (omega arith) behind in
+    grind (arith, read, there, room, some, complete_behind e (events_of rs), runs.1, ih, behind (n + 1))
 
 streams_back : (ss : List WholeStream) (n : ℕ) → All IsWhole ss → said_from n Outside (map sited_text (flat_map parts_in ss)) ≡ Ok (flat_map parts_in ss)
 unfolding said_from
