@@ -1,11 +1,11 @@
 -- Texts that are written one after the other.
-use Rattle.std.proofs.Common.{[], ◌≡◌, ℕ, List, ◌++◌, Option, Result, Ok, Err, sym, ap, ◌∙◌, append_assoc, length, take, drop, arith, ◌+◌, ◌-◌, ◌<◌, get_or, IsErr, flat_map}
+use Rattle.std.proofs.Common.{[], ◌∷◌, ◌≡◌, ℕ, List, ◌++◌, Option, Result, Ok, Err, refl, sym, ap, ◌∙◌, append_assoc, length, take, drop, arith, ◌+◌, ◌-◌, ◌<◌, get_or, IsErr, flat_map}
 use Rattle.std.specs.Io.KnownBytes.{Appends, Keeps}
 use Rattle.std.proofs.KnownBytes.{Appends-trans, Appends-kept}
 use Rattle.std.proofs.lemmas.List.Concat.{flat_map-cons}
 use Rattle.std.proofs.lemmas.List.{at_drop_more, append-nil, length-drop, take-append-drop, take_all}
 use Rattle.gr_report.specs.declared.putting.WriteFault.{WriteFault}
-use Rattle.gr_report.specs.Putting.{Puts}
+use Rattle.gr_report.specs.Putting.{Puts, ended}
 
 -- a text that was written whole, and then the next
 pub puts_then : {old mid new : Option (List ℕ)} {x : Unit {0}} {r : Result (Unit {0}) WriteFault} {a b : List ℕ} → Puts old mid (Ok x) a → Puts mid new r b → Puts old new r (a ++ b)
@@ -38,6 +38,11 @@ pub Prefix-more : (old mid new : Option (List ℕ)) (text rest : List ℕ) (n : 
 Prefix-more old mid new text rest n f h =
     let whole : take (length rest - n) (drop n rest) ≡ drop n rest = take_all (length rest - n) (drop n rest) (omega (arith, length-drop n rest)) in
     rw whole (f.0 ++ take n rest, f.1 ∙ ap (λ (v : List ℕ). f.0 ++ v) (sym (take-append-drop n rest)) ∙ sym (append_assoc f.0 (take n rest) (drop n rest)), Appends-trans old mid new f.0 (take n rest) f.2 h)
+
+-- texts that are written, and then what ends the line
+pub ended_is : {X : Type 0} (text : X → List ℕ) (xs : List X) (end : List ℕ) → ended text xs end ≡ flat_map text xs ++ end
+ended_is text [] end = refl
+ended_is text (x ∷ xs) end = ap (λ (v : List ℕ). text x ++ v) (ended_is text xs end) ∙ sym (append_assoc (text x) (flat_map text xs) end)
 
 -- ---- a list of lines
 

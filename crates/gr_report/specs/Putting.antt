@@ -1,5 +1,5 @@
 -- What a writer holds after a text was written to it, or a prefix of the text where the writer failed.
-use Rattle.std.specs.Prelude.{◌≡◌, ℕ, List, ◌++◌, Option, Result, OnOk, OnErr, codes}
+use Rattle.std.specs.Prelude.{◌≡◌, ℕ, List, [], ◌∷◌, ◌++◌, Option, Result, OnOk, OnErr, codes}
 use Rattle.std.specs.Io.KnownBytes.{Appends}
 use Rattle.gr_report.specs.declared.putting.WriteFault.{WriteFault}
 
@@ -19,3 +19,8 @@ field word number = word ++ number
 -- the same with the end of the line
 abbrev pub line : List ℕ → List ℕ → List ℕ
 line word number = field word number ++ codes "\n"
+
+-- texts one after another, and what ends the line
+abbrev pub ended : {X : Type 0} → (X → List ℕ) → List X → List ℕ → List ℕ
+ended text [] end = end
+ended text (x ∷ xs) end = text x ++ ended text xs end

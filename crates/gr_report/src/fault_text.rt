@@ -2,28 +2,14 @@
 
 ghost use Rattle.std.specs.Prelude.{◌++◌, OnOk, OnErr, codes};
 ghost use Rattle.std.specs.Io.KnownBytes.{Appends};
-ghost use Rattle.gr_report.specs.Putting.{Puts, AppendsPrefix, field};
+ghost use Rattle.gr_report.specs.Putting.{Puts, AppendsPrefix};
 ghost use Rattle.gr_report.specs.FaultText.{between, error_text, shape_text, fault_text, fault_line};
 
-use crate::putting::{WriteFault, finish, put, put_field};
+use crate::putting::{WriteFault, finish, put, put_field, put_line};
 use gr_model::shape::ShapeError;
 use gr_record::error::RecordError;
 use gr_record::fault::Fault;
-use itoa::Integer;
 use std::io::Write;
-
-/// Writes a number between two words.
-fn put_between<W: Write, N: Integer>(
-    writer: &mut W,
-    before: &[u8],
-    n: N,
-    after: &[u8],
-) -> Result<(), WriteFault>
-    ensures { Puts (W.contents writer.old) (W.contents writer.new) result (field before.now (N.text n) ++ after.now) }
-{
-    put_field(writer, before, n)?;
-    put(writer, after)
-}
 
 fn put_error<W: Write>(writer: &mut W, error: RecordError) -> Result<(), WriteFault>
     ensures { Puts (W.contents writer.old) (W.contents writer.new) result (error_text error) }
@@ -46,7 +32,7 @@ fn put_error<W: Write>(writer: &mut W, error: RecordError) -> Result<(), WriteFa
 fn put_stream<W: Write>(writer: &mut W, place: u64, error: RecordError) -> Result<(), WriteFault>
     ensures { Puts (W.contents writer.old) (W.contents writer.new) result (between (codes "stream ") place (codes ": ") ++ error_text error) }
 {
-    put_between(writer, b"stream ", place, b": ")?;
+    put_line(writer, &[("stream ", place)], b": ")?;
     put_error(writer, error)
 }
 
@@ -66,13 +52,17 @@ fn put_text<W: Write>(writer: &mut W, fault: Fault) -> Result<(), WriteFault>
 {
     match fault {
         Fault::Stream(place, error) => put_stream(writer, place, error),
-        Fault::SameGroup(place) => put_between(writer, b"stream ", place, b": group given twice"),
-        Fault::OtherLaunch(place) => put_between(writer, b"stream ", place, b": other launch"),
-        Fault::MissingGroup(group) => put_between(writer, b"group ", group, b" missing"),
+        Fault::SameGroup(place) => put_line(writer, &[("stream ", place)], b": group given twice"),
+        Fault::OtherLaunch(place) => put_line(writer, &[("stream ", place)], b": other launch"),
+        Fault::MissingGroup(group) => put_line(
+            writer,
+            &[("group ", u64::from(group))],
+            b" missing",
+        ),
         Fault::Shape(error) => put_shape(writer, error),
-        Fault::BadLine(line) => put_between(writer, b"line ", line, b": bad line"),
+        Fault::BadLine(line) => put_line(writer, &[("line ", line)], b": bad line"),
         Fault::NoEnd => put(writer, b"no end"),
-        Fault::LongStream(line) => put_between(writer, b"line ", line, b": too many records"),
+        Fault::LongStream(line) => put_line(writer, &[("line ", line)], b": too many records"),
         Fault::Read => put(writer, b"read fault"),
         Fault::Write => put(writer, b"write fault"),
         Fault::Memory => put(writer, b"out of memory"),

@@ -2,9 +2,10 @@
 //!
 //! What was written is always a prefix of the text, and all of it where no fault is returned.
 
-ghost use Rattle.std.specs.Prelude.{◌≢◌, [], OnErr};
+ghost use Rattle.std.specs.Prelude.{◌≢◌, ℕ, List, [], OnErr, decimal};
+ghost use Rattle.std.specs.List.{flat_map};
 ghost use Rattle.std.specs.Io.KnownBytes.{Keeps};
-ghost use Rattle.gr_report.specs.Putting.{Puts, field, line};
+ghost use Rattle.gr_report.specs.Putting.{Puts, ended, field};
 
 use itoa::{Buffer, Integer};
 use std::io::Write;
@@ -46,16 +47,45 @@ pub fn put_field<W: Write, N: Integer>(writer: &mut W, word: &[u8], n: N) -> Res
     put(writer, buffer.format(n).as_bytes())
 }
 
-/// Writes a word, a number and the end of the line.
-pub(crate) fn put_line<W: Write, N: Integer>(
-    writer: &mut W,
-    word: &[u8],
-    n: N,
-) -> Result<(), WriteFault>
-    ensures { Puts (W.contents writer.old) (W.contents writer.new) result (line word.now (N.text n)) }
+/// What has a text of its own.
+pub(crate) trait Row {
+    // the text
+    ghost line: { Self → List ℕ };
+
+    /// Writes the text.
+    fn put<W: Write>(&self, writer: &mut W) -> Result<(), WriteFault>
+        ensures { Puts (W.contents writer.old) (W.contents writer.new) result (line self.now) };
+}
+
+/// A word, and a number after it.
+impl Row for (&str, u64) {
+    ghost line = { λ f. field f.0.now (decimal f.1) };
+
+    fn put<W: Write>(&self, writer: &mut W) -> Result<(), WriteFault> {
+        put_field(writer, self.0.as_bytes(), self.1)
+    }
+}
+
+/// Writes the text of each row.
+pub(crate) fn put_rows<T: Row, W: Write>(writer: &mut W, rows: &[T]) -> Result<(), WriteFault>
+    ensures { Puts (W.contents writer.old) (W.contents writer.new) result (flat_map T.line rows.now) }
 {
-    put_field(writer, word, n)?;
-    put(writer, b"\n")
+    for row in rows {
+        row.put(writer)?;
+    }
+    Ok(())
+}
+
+/// Writes words, each with a number after it, and what ends the line.
+pub(crate) fn put_line<W: Write>(
+    writer: &mut W,
+    fields: &[(&str, u64)],
+    end: &[u8],
+) -> Result<(), WriteFault>
+    ensures { Puts (W.contents writer.old) (W.contents writer.new) result (ended (λ f. field f.0.now (decimal f.1)) fields.now end.now) }
+{
+    put_rows(writer, fields)?;
+    put(writer, end)
 }
 
 /// Flushes after a text that was written.

@@ -1,13 +1,12 @@
 //! The text of a report, line by line.
 
-ghost use Rattle.std.specs.Prelude.{◌≡◌, ℕ, List, OnOk, OnErr};
-ghost use Rattle.std.specs.List.{flat_map};
+ghost use Rattle.std.specs.Prelude.{◌≡◌, OnOk, OnErr};
 ghost use Rattle.std.specs.Io.KnownBytes.{Appends};
 ghost use Rattle.gr_report.specs.Putting.{Puts, AppendsPrefix};
 ghost use Rattle.gr_report.specs.Whole.{whole_of};
 ghost use Rattle.gr_report.specs.ReportText.{head_text, cut_line, race_line, divergence_line, unmatched_line, end_line, report_text, divergence_end, unmatched_end};
 
-use crate::putting::{WriteFault, finish, put, put_field, put_line};
+use crate::putting::{Row, WriteFault, finish, put_line, put_rows};
 use crate::report::Report;
 use gr_model::event::Word;
 use gr_model::report::{AcquireCause, Divergence, DivergenceCause, Unmatched};
@@ -17,19 +16,12 @@ use std::io::Write;
 fn put_head<A: Allocator, W: Write>(writer: &mut W, report: &Report<A>) -> Result<(), WriteFault>
     ensures { Puts (W.contents writer.old) (W.contents writer.new) result (head_text (whole_of report.now)) }
 {
-    put_field(writer, b"gpurace 1\ngroups ", report.groups)?;
-    put_field(writer, b" items ", report.items)?;
-    put_line(writer, b" records ", report.records)
-}
-
-/// What has a line in a report.
-trait Row {
-    // the text of the line
-    ghost line: { Self → List ℕ };
-
-    /// Writes the line.
-    fn put<W: Write>(&self, writer: &mut W) -> Result<(), WriteFault>
-        ensures { Puts (W.contents writer.old) (W.contents writer.new) result (line self.now) };
+    let fields = [
+        ("gpurace 1\ngroups ", u64::from(report.groups)),
+        (" items ", u64::from(report.items)),
+        (" records ", report.records),
+    ];
+    put_line(writer, &fields, b"\n")
 }
 
 /// A group whose stream was cut.
@@ -37,7 +29,7 @@ impl Row for u16 {
     ghost line = { cut_line };
 
     fn put<W: Write>(&self, writer: &mut W) -> Result<(), WriteFault> {
-        put_line(writer, b"cut ", *self)
+        put_line(writer, &[("cut ", u64::from(*self))], b"\n")
     }
 }
 
@@ -46,10 +38,10 @@ impl Row for Word {
 
     fn put<W: Write>(&self, writer: &mut W) -> Result<(), WriteFault> {
         match *self {
-            Word::Global(number) => put_line(writer, b"race global ", number),
+            Word::Global(number) => put_line(writer, &[("race global ", u64::from(number))], b"\n"),
             Word::Local(group, number) => {
-                put_field(writer, b"race local ", group)?;
-                put_line(writer, b" ", number)
+                let fields = [("race local ", u64::from(group)), (" ", u64::from(number))];
+                put_line(writer, &fields, b"\n")
             }
         }
     }
@@ -70,9 +62,11 @@ impl Row for Divergence {
     ghost line = { divergence_line };
 
     fn put<W: Write>(&self, writer: &mut W) -> Result<(), WriteFault> {
-        put_field(writer, b"diverge ", self.group)?;
-        put_field(writer, b" ", self.instance)?;
-        put(writer, end_of_divergence(self.cause))
+        let fields = [
+            ("diverge ", u64::from(self.group)),
+            (" ", u64::from(self.instance)),
+        ];
+        put_line(writer, &fields, end_of_divergence(self.cause))
     }
 }
 
@@ -91,31 +85,26 @@ impl Row for Unmatched {
     ghost line = { unmatched_line };
 
     fn put<W: Write>(&self, writer: &mut W) -> Result<(), WriteFault> {
-        put_field(writer, b"unmatched ", self.event.at.group)?;
-        put_field(writer, b" ", self.event.at.item)?;
-        put_field(writer, b" ", self.event.index)?;
-        put(writer, end_of_unmatched(self.cause))
+        let fields = [
+            ("unmatched ", u64::from(self.event.at.group)),
+            (" ", u64::from(self.event.at.item)),
+            (" ", u64::from(self.event.index)),
+        ];
+        put_line(writer, &fields, end_of_unmatched(self.cause))
     }
-}
-
-/// Writes the line of each row.
-fn put_rows<T: Row, W: Write>(writer: &mut W, rows: &[T]) -> Result<(), WriteFault>
-    ensures { Puts (W.contents writer.old) (W.contents writer.new) result (flat_map T.line rows.now) }
-{
-    for row in rows {
-        row.put(writer)?;
-    }
-    Ok(())
 }
 
 /// The last line: how many lines of each kind there are, and how many events are held.
 fn put_end<A: Allocator, W: Write>(writer: &mut W, report: &Report<A>) -> Result<(), WriteFault>
     ensures { Puts (W.contents writer.old) (W.contents writer.new) result (end_line (whole_of report.now)) }
 {
-    put_field(writer, b"end races ", report.races.as_slice().len())?;
-    put_field(writer, b" diverge ", report.divergences.as_slice().len())?;
-    put_field(writer, b" unmatched ", report.unmatched.as_slice().len())?;
-    put_line(writer, b" held ", report.held)
+    let fields = [
+        ("end races ", report.races.as_slice().len() as u64),
+        (" diverge ", report.divergences.as_slice().len() as u64),
+        (" unmatched ", report.unmatched.as_slice().len() as u64),
+        (" held ", report.held),
+    ];
+    put_line(writer, &fields, b"\n")
 }
 
 fn put_all<A: Allocator, W: Write>(writer: &mut W, report: &Report<A>) -> Result<(), WriteFault>

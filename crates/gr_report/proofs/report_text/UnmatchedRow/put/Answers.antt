@@ -1,14 +1,5 @@
-use Rattle.gr_report.proofs.PuttingLemmas.{puts_then, puts_more, puts_err}
+use Rattle.std.proofs.Common.{append_assoc}
 use Rattle.gr_report.proofs.report_text.UnmatchedRow.put.Goals as goal
 
-pub returns-in_err-put_field : goal.returns-in_err-put_field
-returns-in_err-put_field g c = puts_err _ c.from_residual.ensures.0 (puts_more _ (puts_more _ (puts_more _ c.in_err-put_field.ensures)))
-
-pub returns-in_err-put_field-2 : goal.returns-in_err-put_field-2
-returns-in_err-put_field-2 g c = puts_err _ c.from_residual-in_err-put_field-2.ensures.0 (puts_more _ (puts_more _ (puts_then c.in_ok-put_field.ensures c.in_err-put_field-2.ensures)))
-
-pub returns-in_err-put_field-3 : goal.returns-in_err-put_field-3
-returns-in_err-put_field-3 g c = puts_err _ c.from_residual-in_err-put_field-3.ensures.0 (puts_more _ (puts_then (puts_then c.in_ok-put_field.ensures c.in_ok-put_field-2.ensures) c.in_err-put_field-3.ensures))
-
 pub returns : goal.returns
-returns g c = puts_then (puts_then (puts_then c.in_ok-put_field.ensures c.in_ok-put_field-2.ensures) c.in_ok-put_field-3.ensures) (rw c.end_of_unmatched.ensures at c.put.ensures.puts)
+returns g c = simp append_assoc (rw (c.from.ensures, c.from-2.ensures, c.from-3.ensures, c.end_of_unmatched.ensures) at c.put_line.ensures)

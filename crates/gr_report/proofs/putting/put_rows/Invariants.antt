@@ -1,6 +1,6 @@
 use Rattle.std.proofs.Common.{drop, flat_map}
 use Rattle.gr_report.proofs.PuttingLemmas.{Prefix}
-use Rattle.gr_report.proofs.report_text.put_rows.Given as goal
+use Rattle.gr_report.proofs.putting.put_rows.Given as goal
 
 abbrev pub invariant-loop-row : goal.invariant-loop-row
 invariant-loop-row g l =
