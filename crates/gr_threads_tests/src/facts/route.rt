@@ -4,9 +4,7 @@ ghost use Rattle.std.specs.Prelude.{◌≡◌, []};
 
 use crate::route::three_senders::write;
 use gr_model::event::Sent;
-use gr_model::memory::Memory;
 use gr_route::intake::{Intake, TakerSeat};
-use std::alloc::Global;
 use std::sync::Wait;
 use std::test::*;
 
@@ -24,14 +22,9 @@ fn pop_of_two_events<R: Wait>(rt: &R, queue: &Intake, taker: &mut TakerSeat) -> 
     Some(())
 }
 
-/// Pops two events of a queue of its own.
-fn pop_of_an_intake_queue<R: Wait>(rt: &R, alloc: Global) -> Result<Option<()>, Memory> {
-    let (queue, mut taker) = Intake::new(alloc, 2)?;
-    Ok(pop_of_two_events(rt, &queue, &mut taker))
-}
-
 #[test]
 fn an_intake_queue(rt: HostRuntime) -> Result<(), Fail> {
-    assert_eq!(rt; pop_of_an_intake_queue(&rt, rt.alloc())?, Some(()));
+    let (queue, mut taker) = Intake::new(rt.alloc(), 2)?;
+    assert_eq!(rt; pop_of_two_events(&rt, &queue, &mut taker), Some(()));
     Ok(())
 }

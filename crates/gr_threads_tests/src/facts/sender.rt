@@ -19,13 +19,11 @@ fn send_of_a_write<R: Wait>(rt: &R, sender: &mut Sender) -> Option<()> {
 
 /// A cut end comes back cut.
 fn close_as_cut<R: Wait>(rt: &R, sender: &mut Sender) -> Option<()> {
-    match sender.close(rt, true) {
-        Err(SendError::Full(end)) => {
-            prove!(end == Event::end(true));
-            Some(())
-        }
-        _ => None,
-    }
+    let Err(SendError::Full(end)) = sender.close(rt, true) else {
+        return None;
+    };
+    prove!(end == Event::end(true));
+    Some(())
 }
 
 /// A closed sender takes no event.

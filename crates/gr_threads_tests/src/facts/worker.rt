@@ -15,7 +15,6 @@ use gr_clocks::access::Access;
 use gr_clocks::clock::Clock as VectorClock;
 use gr_model::class::Class;
 use gr_model::event::{ItemId, Word};
-use gr_model::memory::Memory;
 use gr_model::shape::Shape;
 use gr_route::work::{GiverSeat, Work, WorkQueue, WorkerSeat};
 use gr_threads::watch::NoWatch;
@@ -70,7 +69,7 @@ fn settle_of_two_writes<R: Wait + Clock>(
     rt: &R,
     alloc: Global,
     queue: Arc<WorkQueue, Global>,
-    seat: WorkerSeat,
+    mut seat: WorkerSeat,
     first: Access,
     second: Access,
 ) -> Option<()>
@@ -78,29 +77,24 @@ fn settle_of_two_writes<R: Wait + Clock>(
     requires fresh { seat.popped ≡ [] }
     requires clash { ClashesAt (λ (x : ClockedAccess). x.word) clashes (words.Global 7) (clocked first) (clocked second) }
 {
-    let mut seat = seat;
     let giver = give(rt, &queue, &mut seat, first, second)?;
     let watch = Arc::new(alloc, NoWatch).ok()?;
     let end = work(rt, alloc, Worker::new(0, queue, seat), &watch);
-    match end.settle(giver) {
-        Ok(words) => {
-            prove!(!words.is_empty());
-            Some(())
-        }
-        Err(Memory) => None,
-    }
-}
-
-/// Gives two writes to a worker with a queue of its own.
-fn settle_of_a_worker<R: Wait + Clock>(rt: &R, alloc: Global) -> Result<Option<()>, Fail> {
-    let (first, second) = two_writes(alloc)?;
-    let (queue, seat) = WorkQueue::new(alloc, 3)?;
-    let queue = Arc::new(alloc, queue)?;
-    Ok(settle_of_two_writes(rt, alloc, queue, seat, first, second))
+    let Ok(words) = end.settle(giver) else {
+        return None;
+    };
+    prove!(!words.is_empty());
+    Some(())
 }
 
 #[test]
 fn a_worker(rt: HostRuntime) -> Result<(), Fail> {
-    assert_eq!(rt; settle_of_a_worker(&rt, rt.alloc())?, Some(()));
+    let (first, second) = two_writes(rt.alloc())?;
+    let (queue, seat) = WorkQueue::new(rt.alloc(), 3)?;
+    let queue = Arc::new(rt.alloc(), queue)?;
+    assert_eq!(rt;
+        settle_of_two_writes(&rt, rt.alloc(), queue, seat, first, second),
+        Some(())
+    );
     Ok(())
 }
