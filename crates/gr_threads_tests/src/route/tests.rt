@@ -1,5 +1,4 @@
 //! Tests of the calls of queues and senders.
 
 mod queues;
-mod runs;
 pub(crate) mod senders;

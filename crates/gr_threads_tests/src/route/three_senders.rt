@@ -44,15 +44,12 @@ fn send_stream<R: Wait + Clock>(rt: &R, sender: &mut Sender, count: u32) -> Resu
 }
 
 /// Sends writes of the words below a count, and then the end. Gives the seat, or `None` if the sender refused one of them.
-fn send_all<R: Wait + Clock>(rt: &R, sender: Sender, count: u32) -> Option<IntakeSeat>
+fn send_all<R: Wait + Clock>(rt: &R, mut sender: Sender, count: u32) -> Option<IntakeSeat>
     requires { sender.sent ≡ [] }
     ensures { IfSome result (IsSeatOf sender count) }
 {
-    let mut sender = sender;
-    match send_stream(rt, &mut sender, count) {
-        Ok(()) => Some(sender.into_receipt().ok()?.into_seat()),
-        Err(_) => None,
-    }
+    send_stream(rt, &mut sender, count).ok()?;
+    Some(sender.into_receipt().ok()?.into_seat())
 }
 
 /// Notes whether a popped event is the end of its group.
@@ -69,14 +66,13 @@ fn take_all<R: Wait>(
     rt: &R,
     alloc: Global,
     queue: &Intake,
-    taker: TakerSeat,
+    mut taker: TakerSeat,
 ) -> (TakerSeat, Result<Vec<Sent>, Memory>)
     requires queue { taker.queue ≡ queue.now.queue }
     requires fresh { taker.popped ≡ [] }
     ensures taker { result.0 ≡ record taker { popped = result.0.popped } }
     ensures ends { IfOk result.1 (HasAll result.0) }
 {
-    let mut taker = taker;
     let mut all = Vec::new(alloc);
     let mut ended = [false; 3];
     for _ in rt.forever() {
@@ -205,12 +201,11 @@ fn run_to_end<R: Threads + Wait + Clock + Sync>(
     requires taker { (taker.queue ≡ queue.now.queue) × (taker.popped ≡ []) }
     ensures { IfOk result (λ done. IfSome done (λ all. (g : ℕ) → g < 3 → events_of g all.items ≡ stream_of count)) }
 {
-    let ((a, b), (c, (taker, all))) = run(rt, alloc, queue, taker, senders, count);
+    let ((a, b), (c, (mut taker, all))) = run(rt, alloc, queue, taker, senders, count);
     let (Some(a), Some(b), Some(c)) = (a, b, c) else {
         return Ok(None);
     };
     let all = all?;
-    let mut taker = taker;
     join_all(queue, &mut taker, a, b, c);
     Ok(Some(all))
 }

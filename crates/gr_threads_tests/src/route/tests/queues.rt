@@ -30,16 +30,12 @@ fn pushed_and_popped<R: Wait, A: Allocator + Copy>(
     requires fresh { seat.old.pushed ≡ [] }
     ensures { (taker.new.queue ≡ queue.now.queue) × (seat.new.queue ≡ queue.now.queue) }
 {
-    if queue.push(rt, seat, write(7)).is_err() {
-        return None;
-    }
+    queue.push(rt, seat, write(7)).ok()?;
     let back = match queue.push(rt, seat, write(8)) {
         Ok(()) => None,
         Err(full) => Some(full.0),
     };
-    let first = queue.pop(rt, taker);
-    let second = queue.pop(rt, taker);
-    Some((back, [first, second]))
+    Some((back, [queue.pop(rt, taker), queue.pop(rt, taker)]))
 }
 
 /// What a queue of one place gives: a seat's group and items, the answer of `pushed_and_popped`, and whether a second seat of
@@ -66,15 +62,6 @@ fn split_push_and_join<R: Wait, A: Allocator + Copy>(
     Some((of, seen, [refused, queue.split(taker, 5, 2).is_none()]))
 }
 
-/// What a queue of one place gives; `None` if the first split is refused.
-fn intake_answers<R: Wait, A: Allocator + Copy>(
-    rt: &R,
-    alloc: A,
-) -> Result<Option<IntakeAnswers>, Memory> {
-    let (queue, mut taker) = Intake::new(alloc, 1)?;
-    Ok(split_push_and_join(rt, &queue, &mut taker))
-}
-
 /// Whether an intake queue of one place gives what it should.
 fn is_intake_right<R: Wait, A: Allocator + Copy>(rt: &R, alloc: A) -> Result<bool, Memory> {
     let first = Sent {
@@ -82,7 +69,8 @@ fn is_intake_right<R: Wait, A: Allocator + Copy>(rt: &R, alloc: A) -> Result<boo
         event: write(7),
     };
     let seen = Some((Some(write(8)), [Some(first), None]));
-    Ok(intake_answers(rt, alloc)? == Some(((5, 2), seen, [true, true])))
+    let (queue, mut taker) = Intake::new(alloc, 1)?;
+    Ok(split_push_and_join(rt, &queue, &mut taker) == Some(((5, 2), seen, [true, true])))
 }
 
 #[test]
@@ -95,9 +83,7 @@ fn an_intake_queue_of_one_place(rt: HostRuntime) {
 fn write_by_one<A: Allocator + Copy>(alloc: A, word: u32) -> Result<Work<A>, Memory>
     ensures { IfOk result (λ work. IsFalse (is_stop work)) }
 {
-    let mut sizes = Vec::new(alloc);
-    sizes.push(1)?;
-    let shape = Shape::new(sizes).map_err(|_| Memory)?;
+    let shape = Shape::new(vec![in alloc; 1]?).map_err(|_| Memory)?;
     Ok(Work::Access(Access {
         word: Word::Global(word),
         item: ItemId { group: 0, item: 0 },
@@ -124,10 +110,7 @@ fn pop_word<R: Wait, A: Allocator + Copy>(
     requires { worker.old.queue ≡ queue.now.queue }
     ensures { worker.new.queue ≡ queue.now.queue }
 {
-    match queue.pop(rt, worker) {
-        None => None,
-        Some(work) => Some(word_of(&work)),
-    }
+    queue.pop(rt, worker).map(|work| word_of(&work))
 }
 
 /// Pushes work, and gives the word of what comes back; `None` if nothing does.
@@ -169,13 +152,11 @@ fn through_one_place<R: Wait, A: Allocator + Copy>(
     if push_word(rt, queue, giver, Work::Stop) != Some(None) {
         return None;
     }
-    let first = pop_word(rt, queue, worker);
-    let second = pop_word(rt, queue, worker);
+    let (first, second) = (pop_word(rt, queue, worker), pop_word(rt, queue, worker));
     if push_word(rt, queue, giver, Work::Stop).is_some() {
         return None;
     }
-    let last = pop_word(rt, queue, worker);
-    Some([first, second, last])
+    Some([first, second, pop_word(rt, queue, worker)])
 }
 
 /// What a work queue of one place gives: the answer of `through_one_place`, and whether a second seat is refused, before and
@@ -199,20 +180,12 @@ fn split_give_and_join<R: Wait, A: Allocator + Copy>(
     Some((popped, [refused, queue.split(worker).is_none()]))
 }
 
-/// What a queue of one place gives for a write; `None` if the first split is refused.
-fn work_answers<R: Wait, A: Allocator + Copy>(
-    rt: &R,
-    alloc: A,
-) -> Result<Option<WorkAnswers>, Memory> {
-    let access = write_by_one(alloc, 7)?;
-    let (queue, mut worker) = WorkQueue::new(alloc, 1)?;
-    Ok(split_give_and_join(rt, &queue, &mut worker, access))
-}
-
 /// Whether a work queue of one place gives what it should.
 fn is_work_right<R: Wait, A: Allocator + Copy>(rt: &R, alloc: A) -> Result<bool, Memory> {
     let popped = Some([Some(Some(Word::Global(7))), None, Some(None)]);
-    Ok(work_answers(rt, alloc)? == Some((popped, [true, true])))
+    let access = write_by_one(alloc, 7)?;
+    let (queue, mut worker) = WorkQueue::new(alloc, 1)?;
+    Ok(split_give_and_join(rt, &queue, &mut worker, access) == Some((popped, [true, true])))
 }
 
 #[test]

@@ -1,14 +1,14 @@
-//! What a sender answers when its queue is full.
+//! What a sender answers when its queue is full, and a run of three senders.
 
 ghost use Rattle.std.specs.Prelude.{◌≡◌, [], IfOk};
 ghost use Rattle.std.specs.Arc.{arc_value};
 
-use crate::route::three_senders::{shared_queue, write};
+use crate::route::three_senders::{shared_queue, three_senders, write};
 use gr_model::event::Event;
 use gr_route::intake::{Intake, TakerSeat};
 use gr_threads::sender::{SendError, Sender};
 use std::alloc::Global;
-use std::sync::{Arc, Wait};
+use std::sync::Arc;
 use std::test::*;
 
 /// A sender of group 0, of one item, over a queue. Group 0 has had no seat of it.
@@ -29,59 +29,34 @@ pub(crate) fn lone_sender(alloc: Global) -> Result<Sender, Fail>
     sender_over(&queue, &mut taker)
 }
 
-/// The answer of a sender to a record.
-type Answer = Result<(), SendError>;
-
 /// A sender's group, how many records it has sent, and whether it has sent the end.
-type State = (u16, u32, bool);
-
-/// The state of a sender.
-fn state_of(sender: &Sender) -> State {
+fn state_of(sender: &Sender) -> (u16, u32, bool) {
     (sender.group(), sender.sent(), sender.is_closed())
-}
-
-/// What a sender answers as it sends two writes and the end.
-fn fill<R: Wait>(rt: &R, sender: &mut Sender) -> [Answer; 3] {
-    let first = sender.send(rt, write(16));
-    let second = sender.send(rt, write(17));
-    [first, second, sender.close(rt, false)]
-}
-
-/// A sender's four answers, its state after the third and after the last, and whether an event was popped in between.
-type Filled = ([Answer; 4], [State; 2], bool);
-
-/// What a new sender over a queue answers, before and after an event is popped.
-fn fill_and_pop<R: Wait>(
-    rt: &R,
-    queue: &Arc<Intake, Global>,
-    taker: &mut TakerSeat,
-) -> Result<Filled, Fail>
-    requires { taker.old.queue ≡ (arc_value queue.now).queue }
-{
-    let mut sender = sender_over(queue, taker)?;
-    let [first, second, full] = fill(rt, &mut sender);
-    let before = state_of(&sender);
-    let popped = queue.pop(rt, taker).is_some();
-    let end = sender.close(rt, false);
-    let states = [before, state_of(&sender)];
-    Ok(([first, second, full, end], states, popped))
-}
-
-/// What a sender over a queue of one place answers, before and after an event is popped.
-fn fill_one_place<R: Wait>(rt: &R, alloc: Global) -> Result<Filled, Fail> {
-    let (queue, mut taker) = shared_queue(alloc, 1)?;
-    fill_and_pop(rt, &queue, &mut taker)
 }
 
 #[test]
 fn a_full_queue_takes_no_end(rt: HostRuntime) -> Result<(), Fail> {
-    let answers = [
-        Ok(()),
-        Err(SendError::Full(write(17))),
-        Err(SendError::Full(Event::end(false))),
-        Ok(()),
-    ];
-    let states = [(0, 1, false), (0, 2, true)];
-    assert_eq!(rt; fill_one_place(&rt, rt.alloc())?, (answers, states, true));
+    let (queue, mut taker) = shared_queue(rt.alloc(), 1)?;
+    let mut sender = sender_over(&queue, &mut taker)?;
+    assert_eq!(rt; sender.send(&rt, write(16)), Ok(()));
+    assert_eq!(rt;
+        sender.send(&rt, write(17)),
+        Err(SendError::Full(write(17)))
+    );
+    assert_eq!(rt;
+        sender.close(&rt, false),
+        Err(SendError::Full(Event::end(false)))
+    );
+    assert_eq!(rt; state_of(&sender), (0, 1, false));
+    assert!(rt; queue.pop(&rt, &mut taker).is_some());
+    assert_eq!(rt; sender.close(&rt, false), Ok(()));
+    assert_eq!(rt; state_of(&sender), (0, 2, true));
+    Ok(())
+}
+
+#[test]
+fn what_three_senders_sent_arrives(rt: HostRuntime) -> Result<(), Fail> {
+    let all = three_senders(&rt, rt.alloc(), 1, 100)?.ok_or("a sender refused")?;
+    assert_eq!(rt; all.len(), 303);
     Ok(())
 }
