@@ -23,14 +23,7 @@ pub(crate) fn is_lawful(event: &Event) -> bool
 
 /// A shape of these sizes.
 pub(crate) fn shape_of<A: Allocator + Copy>(alloc: A, sizes: &[u16]) -> Result<Shape<A>, Memory> {
-    let mut copied = Vec::new(alloc);
-    for size in sizes {
-        copied.push(*size)?;
-    }
-    match Shape::new(copied) {
-        Ok(shape) => Ok(shape),
-        Err(_) => Err(Memory),
-    }
+    Shape::new(Vec::from_slice(alloc, sizes)?).map_err(|_| Memory)
 }
 
 /// What is made, tried twice.

@@ -15,7 +15,6 @@ use gr_model::event::{Event, ItemId};
 use gr_model::growing::GrowingShape;
 use gr_model::memory::Memory;
 use gr_model::report::{Divergence, DivergenceCause};
-use gr_model::shape::Shape;
 use gr_order::instances::cause;
 use gr_order::schedule::Schedule;
 use gr_order::steps::Ready;
@@ -50,19 +49,14 @@ const WAIT: [Record; 2] = [
 ];
 
 /// The first event of an item goes, and so the second becomes its first.
-fn pop_first_of_two<A: Allocator>(windows: &mut Windows<A>, item: ItemId) -> bool
+fn pop_first_of_two<A: Allocator>(windows: &mut Windows<A>, item: ItemId) -> Option<()>
     requires { HasItem (map length windows.old) item }
 {
-    let second = windows.waiting(item, 1);
+    let second = windows.waiting(item, 1)?;
     windows.pop_first(item);
-    let first = windows.waiting(item, 0);
-    if let Some(second) = second
-        && let Some(first) = first
-    {
-        prove!(first.word == second.word);
-        return true;
-    }
-    false
+    let first = windows.waiting(item, 0)?;
+    prove!(first.word == second.word);
+    Some(())
 }
 
 /// No record is taken after the end of its group.
@@ -178,14 +172,12 @@ fn ready_of_both<A: Allocator>(agenda: &mut Agenda<A>) -> bool {
 
 /// After an event is handled, what is ready for the order is ready for the agenda.
 fn ready_after_the_next<A: Allocator>(agenda: &mut Agenda<A>) -> bool {
-    match agenda.ready() {
-        Some(Ready::Item(item)) => {
-            let event = agenda.order().ready_event(item);
-            agenda.handle_event(event);
-            ready_of_both(agenda)
-        }
-        _ => false,
-    }
+    let Some(Ready::Item(item)) = agenda.ready() else {
+        return false;
+    };
+    let event = agenda.order().ready_event(item);
+    agenda.handle_event(event);
+    ready_of_both(agenda)
 }
 
 /// A group of which nothing was taken has not ended.
@@ -216,14 +208,11 @@ fn step_of_an_access<A: Allocator + Copy>(sequencer: &mut Sequencer<A>) -> bool 
 
 #[test]
 fn windows_forget_the_first(rt: HostRuntime) -> Result<(), Memory> {
-    let shape = match Shape::new(vec![in rt.alloc(); 1; 1]?) {
-        Ok(shape) => GrowingShape::of(shape),
-        Err(_) => return Err(Memory),
-    };
+    let shape = GrowingShape::of(shape_of(rt.alloc(), &[1])?);
     let mut windows = Windows::new(rt.alloc(), &shape)?;
     windows.push(FIRST, &event_of(&READS))?;
     windows.push(FIRST, &event_of(&COMES_ELSEWHERE))?;
-    assert!(rt; pop_first_of_two(&mut windows, FIRST));
+    assert_eq!(rt; pop_first_of_two(&mut windows, FIRST), Some(()));
     Ok(())
 }
 
@@ -295,19 +284,12 @@ fn order_takes<A: Allocator + Copy>(order: &mut Schedule<A>, record: &Record) ->
     is_lawful(&event) && order.taken(record.0) < 16_777_216 && order.take(record.0, event).is_ok()
 }
 
-/// Whether a fact is reached with an order of one group with this many items that first takes these records.
-fn is_reached_by_order<F: Fn(&mut Schedule) -> bool>(
-    alloc: Global,
-    items: u16,
-    records: &[Record],
-    fact: F,
-) -> Result<bool, Memory>
-    requires { F.IsAlwaysCallable fact }
-{
+/// An order of one group with this many items that has taken these records.
+fn order_of(alloc: Global, items: u16, records: &[Record]) -> Result<Schedule, Memory> {
     let shape = shape_of(alloc, &[items])?;
     let mut order = Schedule::new(alloc, shape)?;
     let are_taken = records.iter().all(|record| order_takes(&mut order, record));
-    Ok(are_taken && fact(&mut order))
+    are_taken.then_some(order).ok_or(Memory)
 }
 
 /// Handles a release of the first item, while the acquire of the second waits for two.
@@ -320,29 +302,22 @@ fn waits_for_both<A: Allocator>(order: &mut Schedule<A>) -> bool {
 
 #[test]
 fn an_order_waits_for_the_last_release(rt: HostRuntime) -> Result<(), Memory> {
-    let records = [RELEASES, RELEASES, ACQUIRES];
-    let is_reached = is_reached_by_order(rt.alloc(), 2, &records, |order| waits_for_both(order))?;
-    assert!(rt; is_reached);
+    let mut order = order_of(rt.alloc(), 2, &[RELEASES, RELEASES, ACQUIRES])?;
+    assert!(rt; waits_for_both(&mut order));
     Ok(())
 }
 
 #[test]
 fn an_order_goes_on_while_a_step_is_ready(rt: HostRuntime) -> Result<(), Memory> {
-    let records = [READS, ENDS];
-    let is_reached = is_reached_by_order(
-        rt.alloc(),
-        1,
-        &records,
-        |order| is_at_end_before_a_step(order),
-    )?;
-    assert!(rt; is_reached);
+    let order = order_of(rt.alloc(), 1, &[READS, ENDS])?;
+    assert!(rt; is_at_end_before_a_step(&order));
     Ok(())
 }
 
 #[test]
 fn all_of_a_group_meet(rt: HostRuntime) -> Result<(), Memory> {
-    let is_reached = is_reached_by_order(rt.alloc(), 1, &[COMES], |order| meet_of_all(order))?;
-    assert!(rt; is_reached);
+    let mut order = order_of(rt.alloc(), 1, &[COMES])?;
+    assert!(rt; meet_of_all(&mut order));
     Ok(())
 }
 

@@ -42,8 +42,7 @@ pub(crate) const NOTHING: Told = Told {
 /// A row: its name, the sizes of its groups, its records, and its summary at the end.
 pub(crate) type Row = (&'static str, &'static [u16], &'static [Record], Told);
 
-fn name_of(release: (u16, u16, u32)) -> Name {
-    let (group, item, release) = release;
+fn name_of((group, item, release): (u16, u16, u32)) -> Name {
     Name {
         at: ItemId { group, item },
         release,
