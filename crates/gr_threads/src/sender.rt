@@ -156,14 +156,12 @@ impl<A: Allocator> Sender<A> {
         ensures full { IfErr result (λ error. IsFull self.old event error) }
     {
         let ends = event.kind.is_end();
-        match self.queue.push(rt, &mut self.seat, event) {
-            Ok(()) => {
-                self.sent += 1;
-                self.closed = ends;
-                Ok(())
-            }
-            Err(back) => Err(SendError::Full(back.0)),
+        if let Err(back) = self.queue.push(rt, &mut self.seat, event) {
+            return Err(SendError::Full(back.0));
         }
+        self.sent += 1;
+        self.closed = ends;
+        Ok(())
     }
 
     /// How many work-items its group has: at least 1.
@@ -198,13 +196,11 @@ impl<A: Allocator> Sender<A> {
         ensures full { OnErr result (WasFull self.old) }
     {
         let count = events.len() as u32;
-        match self.queue.push_all(rt, &mut self.seat, events) {
-            Ok(()) => {
-                self.sent += count;
-                Ok(())
-            }
-            Err(back) => Err(back.0),
+        if let Err(back) = self.queue.push_all(rt, &mut self.seat, events) {
+            return Err(back.0);
         }
+        self.sent += count;
+        Ok(())
     }
 
     /// The queue that it sends to.

@@ -64,7 +64,8 @@ impl<A: Allocator> Model for WorkerEnd<A> {
 
     ghost view = { λ w. w.seat };
 
-    ghost invariant = { λ w. (w.seat.queue ≡ (arc_value w.queue).queue) × IsTrue (is_stopped w.seat.popped) × IfSome w.shadows (StandsForLaunch (accesses_in w.seat.popped)) };
+    ghost invariant = { λ w. (w.seat.queue ≡ (arc_value w.queue).queue) × IsTrue (is_stopped w.seat.popped)
+        × IfSome w.shadows (StandsForLaunch (accesses_in w.seat.popped)) };
 }
 
 impl<A: Allocator> Worker<A> {
