@@ -1,5 +1,5 @@
 -- What is read from a line has that line.
-use Rattle.std.proofs.Common.{◌≡◌, ℕ, ◌^◌, ◌<◌, Bool, true, false, cond, List, [], ◌∷◌, ◌++◌, zero, suc, Option, Some, None, refl, ap, ap₂, subst, ◌∙◌, arith, decimal, codes, IfSome}
+use Rattle.std.proofs.Common.{◌≡◌, ℕ, ◌^◌, ◌<◌, Bool, true, false, cond, List, [], ◌∷◌, ◌++◌, zero, suc, Option, Some, None, refl, ap, subst, ◌∙◌, arith, decimal, codes, IfSome}
 use Rattle.std.proofs.lemmas.Bool.{ltb-true, and_parts}
 use Rattle.std.proofs.lemmas.Bool.Decides.{nat_tests}
 use Rattle.gr_model.specs.declared.event.Space.{Space}
@@ -19,9 +19,9 @@ use Rattle.gr_text.specs.declared.line.Line.TheVariants as lines
 use Rattle.gr_record.specs.Reading.{is_naming_ok, is_order_ok}
 use Rattle.gr_record.specs.Spelling.{IsHeader, AreNamesOf}
 use Rattle.gr_text.specs.LineText.{space_word, scope_word, order_word, version_words, names_words, first_word, later_words, later_text, line_text}
-use Rattle.gr_text.specs.LineReading.{same, number_of, short_of, behind_space, first_of, ◌>>=◌, at_end, space_said, scope_said, order_said, flags_said, header_said, header_made, version_said, name_said, names_said, kind_said, atomic_said, barrier_said, event_said, checked, end_said, line_said}
+use Rattle.gr_text.specs.LineReading.{same, number_of, short_of, behind_space, first_of, ◌>>=◌, at_end, space_said, scope_said, order_said, flags_said, header_said, name_said, names_said, kind_said, atomic_said, barrier_said, event_said, checked, end_said, line_said}
 use Rattle.gr_text.specs.LineLaws.{IsSaid, ReadIsText}
-use Rattle.gr_text.proofs.LineNumbers.{each_some, number_told, same_is, same_told}
+use Rattle.gr_text.proofs.LineNumbers.{each_some, number_told, same_told}
 use Rattle.gr_text.proofs.LineWords.{cut_told, first_found}
 
 -- ---- steps that did not fail
@@ -60,32 +60,12 @@ word_found bytes f x e =
     let b = bind_some _ f x e in
     (b.0, first_found 32 bytes ∙ ap (λ (rest : Option (List ℕ)). (first_of bytes).0 ++ behind_space rest) b.1, b.2)
 
--- bytes that begin with a word, from the word and what comes after it
-joined : {bytes word behind key tail : List ℕ} → bytes ≡ word ++ behind → word ≡ key → behind ≡ tail → bytes ≡ key ++ tail
-joined e w b = e ∙ ap₂ (λ (x y : List ℕ). x ++ y) w b
-
--- and where a space comes after it
-spaced : {bytes word rest key tail : List ℕ} → bytes ≡ word ++ 32 ∷ rest → word ≡ key → rest ≡ tail → bytes ≡ key ++ 32 ∷ tail
-spaced e w r = joined e w (ap (λ (x : List ℕ). 32 ∷ x) r)
-
 -- ---- headers and names
 
-made_found : (rest : Option (List ℕ)) (v : Version) (group items launch : List ℕ) (h : Header) → version_said rest ≡ Some v → (short_of group >>= λ g. short_of items >>= λ i. number_of launch >>= λ l. header_made v g i l) ≡ Some h
-    → IsHeader h × (group ≡ decimal h.group) × (items ≡ decimal h.items) × (launch ≡ decimal h.launch) × (behind_space rest ≡ later_text (version_words h.version))
-made_found rest v group items launch h k e = grind (arith, nat_tests, short_told, number_told, same_told)
-
-header_found : (bytes : List ℕ) (h : Header) → header_said bytes ≡ Some h → IsHeader h × (bytes ≡ decimal h.group ++ later_text (codes "items" ∷ decimal h.items ∷ codes "launch" ∷ decimal h.launch ∷ version_words h.version))
+header_told : (bytes : List ℕ) → (header_said bytes ≡ header_said bytes)
+    × IfSome (header_said bytes) (λ h. IsHeader h × (bytes ≡ decimal h.group ++ later_text (codes "items" ∷ decimal h.items ∷ codes "launch" ∷ decimal h.launch ∷ version_words h.version)))
 unfolding header_said
-header_found bytes h e =
-    let b = word_found bytes _ h e in
-    let c = word_found b.0 _ h b.2 in
-    let d = word_found c.0 _ h c.2 in
-    let f = word_found d.0 _ h d.2 in
-    let v = bind_some _ _ h f.2 in
-    let k = guard_some _ _ h v.2 in
-    let keys = and_parts _ _ k.0 in
-    let m = made_found _ v.0 _ _ _ h v.1 k.1 in
-    (m.0, spaced b.1 m.1 (spaced c.1 (same_is _ (codes "items") keys.0) (spaced d.1 m.2 (spaced f.1 (same_is _ (codes "launch") keys.1) (joined (first_found 32 f.0) m.3 m.4)))))
+header_told bytes = (refl, grind (arith, nat_tests, cut_told, short_told, number_told, same_told))
 
 name_found : (bytes : List ℕ) (x : Name × Option (List ℕ)) (words : List (List ℕ)) → name_said bytes ≡ Some x → behind_space x.1 ≡ later_text words → bytes ≡ codes "<" ++ later_text (decimal x.0.at.group ∷ decimal x.0.at.item ∷ decimal x.0.release ∷ words)
 unfolding name_said
@@ -163,27 +143,24 @@ line_of_event v item bytes x e said check =
     subst (λ (y : Event). IsSaid v (lines.Event y) × (decimal item ++ 32 ∷ bytes ≡ line_text (lines.Event y))) (some_is x e g.1)
     ((record { ok = (ltb-true _ _ p.0, said.2, said.3 p.1); word = said.1 }, (naming_found v x.kind x.names q.1).1), said.0)
 
-end_found : (v : Version) (rest : Option (List ℕ)) (e : Event) → end_said rest ≡ Some e → IsSaid v (lines.Event e) × (codes "end" ++ behind_space rest ≡ line_text (lines.Event e))
-end_found v rest e h = grind (arith, same_told)
+module _ (v : Version) (bytes : List ℕ) (l : Line) where
+  group_found : same (first_of bytes).0 (codes "group") ≡ true → ((first_of bytes).1 >>= λ b. header_said b >>= λ h. Some (lines.Header h)) ≡ Some l → IsSaid v l × (bytes ≡ line_text l)
+  group_found key h = grind (arith, cut_told, same_told, header_told)
+
+  end_found : same (first_of bytes).0 (codes "end") ≡ true → (end_said (first_of bytes).1 >>= λ e. Some (lines.Event e)) ≡ Some l → IsSaid v l × (bytes ≡ line_text l)
+  end_found key h = grind (arith, cut_told, same_told)
+
+  item_found : (short_of (first_of bytes).0 >>= λ item. (first_of bytes).1 >>= λ b. event_said item b >>= λ x. checked v x >>= λ e. Some (lines.Event e)) ≡ Some l → IsSaid v l × (bytes ≡ line_text l)
+  item_found h =
+      let i = bind_some _ _ l h in
+      let b = word_found bytes _ l i.2 in
+      let x = bind_some _ _ l b.2 in
+      let c = bind_some _ _ l x.2 in
+      let f = line_of_event v i.0 b.0 x.0 c.0 (event_found i.0 b.0 x.0 x.1) c.1 in
+      subst (λ (y : Line). IsSaid v y × (bytes ≡ line_text y)) (some_is _ l c.2) (f.0, b.1 ∙ ap (λ (w : List ℕ). w ++ 32 ∷ b.0) (short_found _ i.0 i.1).0 ∙ f.1)
 
 pub read_is_text : ReadIsText
 unfolding line_said
 read_is_text v bytes l h =
-    choose _ _ _ l h (IsSaid v l × (bytes ≡ line_text l))
-    (λ key header.
-    let b = word_found bytes _ l header in
-    let g = bind_some _ _ l b.2 in
-    let f = header_found b.0 g.0 g.1 in
-    subst (λ (x : Line). IsSaid v x × (bytes ≡ line_text x)) (some_is _ l g.2) (f.0, spaced b.1 (same_is _ (codes "group") key) f.1))
-    (λ other. choose _ _ _ l other (IsSaid v l × (bytes ≡ line_text l))
-    (λ key end.
-    let x = bind_some _ _ l end in
-    let f = end_found v _ x.0 x.1 in
-    subst (λ (y : Line). IsSaid v y × (bytes ≡ line_text y)) (some_is _ l x.2) (f.0, joined (first_found 32 bytes) (same_is _ (codes "end") key) refl ∙ f.1))
-    (λ event.
-    let i = bind_some _ _ l event in
-    let b = word_found bytes _ l i.2 in
-    let x = bind_some _ _ l b.2 in
-    let c = bind_some _ _ l x.2 in
-    let f = line_of_event v i.0 b.0 x.0 c.0 (event_found i.0 b.0 x.0 x.1) c.1 in
-    subst (λ (y : Line). IsSaid v y × (bytes ≡ line_text y)) (some_is _ l c.2) (f.0, spaced b.1 (short_found _ i.0 i.1).0 refl ∙ f.1)))
+    choose _ _ _ l h (IsSaid v l × (bytes ≡ line_text l)) (group_found v bytes l)
+    (λ other. choose _ _ _ l other (IsSaid v l × (bytes ≡ line_text l)) (end_found v bytes l) (item_found v bytes l))
