@@ -43,10 +43,8 @@ pub(crate) static LAUNCHES: [Launch; 3] = [
 /// The bytes of the stream with this text.
 pub(crate) fn packed(alloc: Global, text: &str) -> Result<Vec<u8>, Fail> {
     let mut bytes = Vec::new(alloc);
-    match pack(alloc, &mut text.as_bytes(), &mut bytes) {
-        Ok(()) => Ok(bytes),
-        Err(_) => Err("not packed")?,
-    }
+    pack(alloc, &mut text.as_bytes(), &mut bytes).map_err(|_| "not packed")?;
+    Ok(bytes)
 }
 
 /// The bytes of the streams with these texts.
@@ -60,7 +58,5 @@ pub(crate) fn packed_all(alloc: Global, texts: &[&str]) -> Result<Vec<Vec<u8>>, 
 
 /// The text of a report: its first line, and then these.
 pub(crate) fn report_with(alloc: Global, lines: &str) -> Result<Vec<u8>, Fail> {
-    let mut text = "gpurace 1\n".as_bytes().to_vec(alloc)?;
-    text.extend_from_slice(lines.as_bytes())?;
-    Ok(text)
+    Ok(format!(in alloc; "gpurace 1\n{lines}")?.into_bytes())
 }
