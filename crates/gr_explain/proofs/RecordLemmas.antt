@@ -1,15 +1,14 @@
 -- Where the records of each item are, and the events that they are.
-use Rattle.std.proofs.Common.{◌≡◌, ◌+◌, ◌<◌, ◌≤◌, ℕ, zero, suc, Bool, true, cond, List, [], ◌∷◌, ◌++◌, Option, Some, None, append-nil, arith, ap, eq-or-lt_of_le, filter, get_or, length, refl, slice_get, sym, take, ◌∙◌, ◌⊎◌, subst, inl, inr, ⊎_elim, ◌==◌, not, HoldsAt, MatchOption, Bor, option_copied}
-use Rattle.std.proofs.Math.Seq.{get_or-append_seam}
+use Rattle.std.proofs.Common.{◌≡◌, ◌+◌, ◌<◌, ◌≤◌, ℕ, zero, suc, Bool, true, cond, List, [], ◌∷◌, ◌++◌, Option, Some, None, append-nil, arith, ap, filter, get_or, length, refl, slice_get, sym, take, ◌∙◌, ◌⊎◌, subst, inl, inr, ⊎_elim, ◌==◌, not, HoldsAt, MatchOption, Bor, option_copied}
 use Rattle.std.proofs.lemmas.Bool.{and_parts, cases_lt, eqb-true}
 use Rattle.std.proofs.lemmas.Option.{slice_get-get_or, slice_get_past}
-use Rattle.std.proofs.lemmas.List.{get_or_append_left, get_or_past, length-append, length-take-le, take_more}
+use Rattle.std.proofs.lemmas.List.{get_or_past, length-take-le, take_more}
 use Rattle.gr_model.specs.declared.event.Event.{Event}
 use Rattle.gr_model.specs.declared.event.EventId.{EventId}
 use Rattle.gr_model.specs.Events.{is_end}
 use Rattle.gr_model.specs.Streams.{AreGood, Streams, event_at, is_of, list_of, places_from, size_of}
 use Rattle.gr_model.proofs.Places.{places_from-append}
-use Rattle.gr_explain.specs.Records.{AreFirstIndicesOf, AreIndicesOf, IsIndexOf}
+use Rattle.gr_explain.specs.Records.{AreIndicesOf, IsIndexOf}
 
 -- ---- what passes a test, and its places
 
@@ -48,17 +47,6 @@ index_more items k list y old new lt here index count each = record {
       let seam = places_from-append (is_of i) 0 (take k list) (y ∷ []) in
       let end : length (take k list) ≡ k = length-take-le k list (omega (arith, lt)) in
       rw front (grind (arith, next, before, seam, end, append-nil));
-}
-
--- ---- one group more
-
-pub indices_more : (s : Streams) (g : ℕ) (old : List (List (List ℕ))) (index : List (List ℕ)) → AreFirstIndicesOf g s old → IsIndexOf (size_of s g) (list_of s g) index → AreFirstIndicesOf (g + 1) s (old ++ index ∷ [])
-indices_more s g old index first is = record {
-  count = omega (arith, length-append old (index ∷ []), first.count);
-  each = λ h lt. ⊎_elim
-      (λ (same : h ≡ g). rw (same, ← first.count, get_or-append_seam old index [] []) (rw (← first.count) at is))
-      (λ (less : h < g). rw (get_or_append_left old (index ∷ []) [] h (omega (arith, less, first.count))) (first.each h less))
-      (eq-or-lt_of_le (let le : h ≤ g = omega (arith, lt) in le));
 }
 
 -- what is read of a list at a place

@@ -43,20 +43,14 @@ impl<A: Allocator> Model for Alike<A> {
 fn greatest(kept: Option<u32>, index: u32) -> u32
     ensures { result ≡ spec.greatest kept index }
 {
-    match kept {
-        None => index,
-        Some(kept) => { if kept < index { index } else { kept } }
-    }
+    kept.map_or(index, |kept| if kept < index { index } else { kept })
 }
 
 /// The group of all events, if they are of one, after one more event of this group.
 fn only_with(only: Option<u16>, group: u16) -> Option<u16>
     ensures { result ≡ spec.only_with only group }
 {
-    match only {
-        None => None,
-        Some(kept) => { if kept == group { only } else { None } }
-    }
+    only.filter(|kept| *kept == group)
 }
 
 impl<A: Allocator + Copy> Alike<A> {
@@ -114,16 +108,11 @@ impl<A: Allocator> Alike<A> {
     pub(crate) fn chosen(&self, access: &Access<A>) -> Option<EventId>
         ensures { IsChosen self.now (clocked access.now) result }
     {
-        match self.clashing(access, false) {
-            None => None,
-            Some(event) => {
-                if event.at.group != access.item.group {
-                    Some(event)
-                } else {
-                    Some(self.clashing(access, true).unwrap_or(event))
-                }
-            }
+        let event = self.clashing(access, false)?;
+        if event.at.group != access.item.group {
+            return Some(event);
         }
+        Some(self.clashing(access, true).unwrap_or(event))
     }
 
     /// Adds an access, which has this tag.

@@ -44,13 +44,8 @@ fn judgement_of<A: Allocator>(accesses: &Accesses<A>, race: &Race) -> Judgement
     ensures { (s : Streams) → AreAccesses s race.now → AreBothKept s accesses.now.entries race.now → IsJudged s race.now result }
 {
     match (accesses.get(&race.first), accesses.get(&race.second)) {
-        (Some(first), Some(second)) => {
-            if are_race(race.word, first, second) {
-                Judgement::Race
-            } else {
-                Judgement::NoRace
-            }
-        }
+        (Some(first), Some(second)) if are_race(race.word, first, second) => Judgement::Race,
+        (Some(_), Some(_)) => Judgement::NoRace,
         _ => Judgement::Held,
     }
 }

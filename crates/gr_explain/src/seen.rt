@@ -69,10 +69,7 @@ fn lesser(least: Option<(EventId, EventId)>, pair: (EventId, EventId)) -> (Event
 fn is_passed(least: Option<(EventId, EventId)>, item: ItemId, event: EventId) -> bool
     ensures { IsTrue result → IsPassed least item event }
 {
-    match least {
-        None => false,
-        Some((first, _)) => first.at < item && is_below(first, event),
-    }
+    least.is_some_and(|(first, _)| first.at < item && is_below(first, event))
 }
 
 impl<A: Allocator + Copy> Seen<A> {

@@ -4,11 +4,11 @@ use Rattle.gr_clocks.specs.ClockedAccess.{clocked}
 use Rattle.gr_explain.proofs.AlikeLemmas.{none_chosen, other_chosen, picked}
 use Rattle.gr_explain.proofs.alike.Alike.chosen.Goals as goal
 
-pub returns-in-None : goal.returns-in-None
-returns-in-None g c = grind (arith, none_chosen c.args.self.now (clocked c.args.access.now))
+pub returns-in_err-event : goal.returns-in_err-event
+returns-in_err-event g c = grind (arith, none_chosen c.args.self.now (clocked c.args.access.now))
 
 pub returns-then-event-access : goal.returns-then-event-access
-returns-then-event-access g c = grind (arith, nat_tests, other_chosen c.args.self.now (clocked c.args.access.now) c.in-Some.event false)
+returns-then-event-access g c = grind (arith, nat_tests, other_chosen c.args.self.now (clocked c.args.access.now) c.in_ok-event.event false)
 
-pub returns-else-event-access : goal.returns-else-event-access
-returns-else-event-access g c = grind (arith, picked c.args.self.now (clocked c.args.access.now) c.in-Some.event c.unwrap_or.result c.clashing-else-event-access.result)
+pub returns : goal.returns
+returns g c = grind (arith, picked c.args.self.now (clocked c.args.access.now) c.in_ok-event.event c.unwrap_or.result c.clashing-2.result)
