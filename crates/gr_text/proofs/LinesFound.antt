@@ -13,7 +13,6 @@ use Rattle.gr_model.specs.declared.limits.TheConstants.{MOST_NAMES}
 use Rattle.gr_model.specs.Events.{IsKindOk, IsNamingOk}
 use Rattle.gr_record.proofs.Places.{naming_found}
 use Rattle.gr_record.specs.declared.header.Version.{Version}
-use Rattle.gr_record.specs.declared.header.Header.{Header}
 use Rattle.gr_text.specs.declared.line.Line.{Line}
 use Rattle.gr_text.specs.declared.line.Line.TheVariants as lines
 use Rattle.gr_record.specs.Reading.{is_naming_ok, is_order_ok}
