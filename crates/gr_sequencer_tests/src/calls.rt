@@ -61,11 +61,10 @@ fn take_once<A: Allocator + Copy>(
     record: &Record,
 ) -> Result<(), Memory> {
     let event = event_of(record);
-    if is_lawful(&event) && sequencer.taken(record.0) < 16_777_216 {
-        sequencer.take(record.0, event).map_err(|_| Memory)
-    } else {
-        Err(Memory)
+    if !is_lawful(&event) || sequencer.taken(record.0) >= 16_777_216 {
+        return Err(Memory);
     }
+    sequencer.take(record.0, event).map_err(|_| Memory)
 }
 
 pub(crate) fn take<A: Allocator + Copy>(
@@ -80,13 +79,11 @@ fn take_and_handle_once<A: Allocator + Copy>(
     record: &Record,
 ) -> Result<Option<Handled<A>>, Memory> {
     let event = event_of(record);
-    if is_lawful(&event) && sequencer.taken(record.0) < 16_777_216 {
-        sequencer
-            .take_and_handle(record.0, event)
-            .map_err(|_| Memory)
-    } else {
-        Err(Memory)
+    if !is_lawful(&event) || sequencer.taken(record.0) >= 16_777_216 {
+        return Err(Memory);
     }
+    let answer = sequencer.take_and_handle(record.0, event);
+    answer.map_err(|_| Memory)
 }
 
 /// The step, or `None` if the event waits.

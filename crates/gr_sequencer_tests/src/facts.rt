@@ -191,14 +191,8 @@ fn at_end_of_nothing<A: Allocator>(sequencer: &Sequencer<A>) -> bool {
 
 /// The clock of an access counts it.
 fn step_of_an_access<A: Allocator + Copy>(sequencer: &mut Sequencer<A>) -> bool {
-    if let Ok(
-        Some(
-            Handled::One {
-                event,
-                access: Some(access),
-            },
-        ),
-    ) = sequencer.step()
+    if let Ok(Some(Handled::One { event, access })) = sequencer.step()
+        && let Some(access) = access
     {
         prove!(access.clock.covers(event.at, event.index));
         return true;

@@ -58,8 +58,7 @@ fn go_anew<A: Allocator + Copy>(alloc: A, is_parted: bool, times: u32) -> Option
 /// Whether they do so with at most this many growths.
 fn goes_within(alloc: Global, growths: u64, is_parted: bool, times: u32) -> bool {
     let memory = Refusing::new(alloc, growths);
-    let done = go_anew(&memory, is_parted, times).is_some();
-    done && !memory.refused()
+    go_anew(&memory, is_parted, times).is_some() && !memory.refused()
 }
 
 /// Whether the fewest growths that suffice for a few meetings also suffice for a thousand.

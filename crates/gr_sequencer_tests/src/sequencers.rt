@@ -7,7 +7,7 @@ use crate::told::told;
 use crate::trials::{Trial, holds_always};
 use gr_model::event::ItemId;
 use gr_sequencer::sequencer::Sequencer;
-use std::alloc::{Allocator, Global};
+use std::alloc::Allocator;
 use std::test::Fail;
 
 /// How the steps are made.
@@ -45,20 +45,8 @@ fn take_record<A: Allocator + Copy>(
             take(sequencer, record)?;
             rest(sequencer)
         }
-        Way::Together => {
-            let _step = take_and_handle(sequencer, record)?;
-            Some(())
-        }
+        Way::Together => take_and_handle(sequencer, record).map(|_| ()),
     }
-}
-
-/// Takes all records of a row.
-fn take_all<A: Allocator + Copy>(sequencer: &mut Sequencer<A>, row: &Row, way: Way) -> Option<()> {
-    let (_, _, records, _) = row;
-    for record in records.iter() {
-        take_record(sequencer, record, way)?;
-    }
-    Some(())
 }
 
 /// Tries the next event of each of a group's items, and its next meeting.
@@ -79,19 +67,16 @@ fn go_rounds<A: Allocator + Copy>(sequencer: &mut Sequencer<A>) -> Option<()> {
     Some(())
 }
 
-/// Follows a row to its end.
+/// Takes all records of a row, and makes the steps that are left.
 fn follow<A: Allocator + Copy>(sequencer: &mut Sequencer<A>, row: &Row, way: Way) -> Option<()> {
-    take_all(sequencer, row, way)?;
+    let (_, _, records, _) = row;
+    for record in records.iter() {
+        take_record(sequencer, record, way)?;
+    }
     match way {
         Way::Last | Way::Behind | Way::Together => rest(sequencer),
         Way::ByCalls => go_rounds(sequencer),
     }
-}
-
-/// The summary of a row by a new sequencer.
-fn told_of<A: Allocator + Copy>(sequencer: &mut Sequencer<A>, row: &Row, way: Way) -> Option<Told> {
-    follow(sequencer, row, way)?;
-    told(sequencer)
 }
 
 /// A row, by a new sequencer.
@@ -107,20 +92,16 @@ impl Trial for Telling<'_> {
             races: (None, None),
             ..self.row.3
         };
-        told_of(sequencer, self.row, self.way) == Some(due)
+        follow(sequencer, self.row, self.way).is_some() && told(sequencer) == Some(due)
     }
-}
-
-/// Whether a row comes out whichever growth is refused.
-fn is_told_always(alloc: Global, row: &Row, way: Way) -> bool {
-    holds_always(alloc, row.1, &Telling { row, way })
 }
 
 #[test]
 fn rows_are_told_whatever_growth_is_refused(rt: HostRuntime) {
     for row in &ROWS {
         for way in [Way::Last, Way::Behind, Way::Together, Way::ByCalls] {
-            assert!(rt; is_told_always(rt.alloc(), row, way), "{}: {way:?}", row.0);
+            let is_told = holds_always(rt.alloc(), row.1, &Telling { row, way });
+            assert!(rt; is_told, "{}: {way:?}", row.0);
         }
     }
 }

@@ -13,10 +13,7 @@ pub(crate) trait Trial {
 
 /// Whether a trial holds with a new sequencer of these sizes.
 fn holds_anew<A: Allocator + Copy, T: Trial>(alloc: A, sizes: &[u16], trial: &T) -> bool {
-    match new(alloc, sizes) {
-        None => false,
-        Some(mut sequencer) => trial.holds(&mut sequencer),
-    }
+    new(alloc, sizes).is_some_and(|mut sequencer| trial.holds(&mut sequencer))
 }
 
 /// Whether a trial holds with a new sequencer of these sizes whichever growth is refused.

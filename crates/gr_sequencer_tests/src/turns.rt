@@ -50,18 +50,8 @@ fn steps<A: Allocator + Copy>(sequencer: &mut Sequencer<A>) -> Option<Done> {
     for _ in 0..8 {
         match step(sequencer)? {
             None => return Some(done),
-            Some(
-                Handled::One {
-                    event: _,
-                    access: _,
-                },
-            ) => done.0 = done.0.checked_add(1)?,
-            Some(
-                Handled::Meet {
-                    group: _,
-                    instance: _,
-                },
-            ) => done.1 = true,
+            Some(Handled::One { .. }) => done.0 = done.0.checked_add(1)?,
+            Some(Handled::Meet { .. }) => done.1 = true,
         }
     }
     None

@@ -1,7 +1,7 @@
 //! The worked rows by schedules: whatever the workers, the queues, their places and the order in which groups send, the
 //! report is the row's. A step that is refused is tried again later.
 
-use crate::rows::{ROWS, Row};
+use crate::rows::{ROWS, Row, Told};
 use crate::worlds::calls::{Numbers, new, step};
 use crate::worlds::steps::{MOST_GROUPS, Way, sends_of};
 use crate::worlds::told::reported;
@@ -101,23 +101,10 @@ fn follow(alloc: Global, world: &mut World, row: &Row, way: Way, numbers: Number
     Some(())
 }
 
-/// Whether the schedule of a row leads a world to the row's report.
-fn leads_to_its_report(
-    alloc: Global,
-    world: &mut World,
-    row: &Row,
-    way: Way,
-    numbers: Numbers,
-) -> bool {
-    follow(alloc, world, row, way, numbers).is_some() && reported(world) == Some(row.3)
-}
-
-/// Whether the report of a row's world, however many workers and queues there are, is the row's.
-fn is_told(alloc: Global, row: &Row, way: Way, numbers: Numbers) -> bool {
-    match new(alloc, row.1, numbers) {
-        None => false,
-        Some(mut world) => leads_to_its_report(alloc, &mut world, row, way, numbers),
-    }
+/// What a new world reports behind the schedule of a row; `None` if it doesn't come to its end.
+fn told_of(alloc: Global, row: &Row, way: Way, numbers: Numbers) -> Option<Told> {
+    let mut world = new(alloc, row.1, numbers)?;
+    follow(alloc, &mut world, row, way, numbers).and(reported(&world))
 }
 
 #[test]
@@ -125,8 +112,8 @@ fn schedules_change_no_report(rt: HostRuntime) {
     for row in &ROWS {
         for numbers in ALL_NUMBERS {
             for way in [Way::AsListed, Way::GreatestFirst] {
-                let is_told = is_told(rt.alloc(), row, way, numbers);
-                assert!(rt; is_told, "{}: {way:?}, {numbers:?}", row.0);
+                let told = told_of(rt.alloc(), row, way, numbers);
+                assert_eq!(rt; told, Some(row.3), "{}: {way:?}, {numbers:?}", row.0);
             }
         }
     }

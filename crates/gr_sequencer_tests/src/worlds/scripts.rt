@@ -281,32 +281,21 @@ fn ran(alloc: Global, script: &Script) -> Option<(usize, Option<Told>)> {
     Some((world.run(&steps) as usize, reported(&world)))
 }
 
-/// The name of the first script that goes otherwise, step by step or by `run`, if there is one.
-fn first_wrong_script(alloc: Global, scripts: &[Script]) -> Option<&'static str> {
-    for script in scripts {
-        let went_well = went(alloc, script) == Some((None, script.told));
-        let refused = script.lines.iter().filter(|line| line.1.is_err()).count();
-        if !went_well || ran(alloc, script) != Some((refused, script.told)) {
-            return Some(script.name);
-        }
-    }
-    None
-}
-
 #[test]
 fn each_step_is_answered_and_run_counts_the_refused(rt: HostRuntime) {
-    assert_eq!(rt; first_wrong_script(rt.alloc(), &SCRIPTS), None);
-}
-
-/// Whether the script goes as it says whichever growth is refused.
-fn goes_always(alloc: Global, script: &Script) -> bool {
-    let told = Some((None, script.told));
-    refuse_each(alloc, 5, |heap| Ok(went(heap, script) == told)).is_ok()
+    for script in &SCRIPTS {
+        let refused = script.lines.iter().filter(|line| line.1.is_err()).count();
+        let (went, ran) = (went(rt.alloc(), script), ran(rt.alloc(), script));
+        assert_eq!(rt; went, Some((None, script.told)), "{}", script.name);
+        assert_eq!(rt; ran, Some((refused, script.told)), "{}", script.name);
+    }
 }
 
 #[test]
 fn each_step_is_answered_whatever_growth_is_refused(rt: HostRuntime) {
     for script in &SCRIPTS {
-        assert!(rt; goes_always(rt.alloc(), script), "{}", script.name);
+        let told = Some((None, script.told));
+        let growths = refuse_each(rt.alloc(), 5, |heap| Ok(went(heap, script) == told));
+        assert!(rt; growths.is_ok(), "{}", script.name);
     }
 }
