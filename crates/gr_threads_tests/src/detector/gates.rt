@@ -27,21 +27,13 @@ fn wait(counter: &AtomicU64, least: u64, missed: &AtomicU64) {
 }
 
 /// Counts races, and the waits for one that failed.
-#[derive(Drop)]
+#[derive(Default, Drop)]
 pub struct Races {
     pub seen: AtomicU64,
     pub missed: AtomicU64,
 }
 
 impl Races {
-    /// Nothing was seen.
-    pub fn new() -> Races {
-        Races {
-            seen: AtomicU64::new(0),
-            missed: AtomicU64::new(0),
-        }
-    }
-
     /// Waits until a race is seen.
     pub fn wait(&self) {
         wait(&self.seen, 1, &self.missed);
@@ -59,7 +51,7 @@ impl Watch for Races {
 }
 
 /// Holds worker 0 at its accesses until worker 1 comes to one.
-#[derive(Drop)]
+#[derive(Default, Drop)]
 pub struct Apart {
     pub seconds: AtomicU64,
     pub missed: AtomicU64,
@@ -81,7 +73,7 @@ impl Watch for Apart {
 
 /// Holds the sequencer at its first take until an event was sent, and the worker at its first access until the sequencer
 /// has taken a second event.
-#[derive(Drop)]
+#[derive(Default, Drop)]
 pub struct Turns {
     pub sent: AtomicU64,
     pub takes: AtomicU64,

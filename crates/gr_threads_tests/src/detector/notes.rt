@@ -6,20 +6,10 @@ use std::sync::Arc;
 use std::sync::atomic::{AtomicU64, Ordering};
 
 /// How many records a watch saw taken, and how often it was dropped.
-#[derive(Drop)]
+#[derive(Default, Drop)]
 pub struct Notes {
     pub takes: AtomicU64,
     pub drops: AtomicU64,
-}
-
-impl Notes {
-    /// Nothing was seen.
-    pub fn new() -> Notes {
-        Notes {
-            takes: AtomicU64::new(0),
-            drops: AtomicU64::new(0),
-        }
-    }
 }
 
 /// A watch that counts what is taken, and notes when it is dropped.

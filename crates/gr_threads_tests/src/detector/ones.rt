@@ -20,28 +20,25 @@ pub trait Sends {
 }
 
 /// How a run went: whether all was sent and seen, and of the report how many records and races there are, and whether the group was cut.
-pub type Went = (bool, (u64, usize, bool));
+pub type Went = (bool, u64, usize, bool);
 
 /// Sends with the sender of a run, closes it, and sums up the report.
 fn went<R: Threads + Wait + Clock, W: Sends>(
     rt: &R,
     alloc: Global,
     running: Running,
-    sender: Sender,
+    mut sender: Sender,
     watch: &W,
     cut: bool,
 ) -> Result<Went, Ended>
     requires { IsSender running sender }
 {
-    let mut sender = sender;
     let is_sent = watch.send_under(rt, &mut sender);
     let receipt = close(rt, sender, cut);
     let report = finish_with(rt, running, Vec::new(alloc), receipt)?;
     let is_cut = report.cut.as_slice() == [0].as_slice();
-    Ok((
-        is_sent,
-        (report.records, report.races.as_slice().len(), is_cut),
-    ))
+    let races = report.races.as_slice().len();
+    Ok((is_sent, report.records, races, is_cut))
 }
 
 /// Runs one sender under a watch, and closes it, as cut or not.
@@ -51,8 +48,6 @@ pub fn run_one<
 >(rt: R, alloc: Global, plan: Plan<'_>, watch: &Arc<W, Global>, cut: bool) -> Result<Went, Ended> {
     let theirs = Arc::try_clone(watch).map_err(|_| Ended::NotStarted)?;
     let (mut senders, running) = begin(rt, alloc, plan, theirs)?;
-    let Some(sender) = pop_last(&running, &mut senders) else {
-        return Err(Ended::Wrongly);
-    };
+    let sender = pop_last(&running, &mut senders).ok_or(Ended::Wrongly)?;
     went(&rt, alloc, running, sender, &**watch, cut)
 }

@@ -77,19 +77,14 @@ pub fn pop_last<A: Allocator>(
 /// The two senders of a run, or `None` if there are fewer.
 pub fn two_of<A: Allocator>(
     running: &Running<A>,
-    senders: Vec<Sender<A>, A>,
+    mut senders: Vec<Sender<A>, A>,
 ) -> Option<(Sender<A>, Sender<A>)>
     requires { All (IsSender running.now) senders.items }
     ensures first { IfSome result (λ two. IsSender running.now two.0) }
     ensures second { IfSome result (λ two. IsSender running.now two.1) }
 {
-    let mut senders = senders;
     let second = pop_last(running, &mut senders);
-    let first = pop_last(running, &mut senders);
-    match (first, second) {
-        (Some(first), Some(second)) => Some((first, second)),
-        _ => None,
-    }
+    pop_last(running, &mut senders).zip(second)
 }
 
 /// Adds a receipt to others of the same run. It is there unless its sender was refused.
@@ -102,11 +97,8 @@ pub fn add<A: Allocator>(
     requires one { IfSome receipt (IsReceipt running.now) }
     ensures { OnOk result (AreReceiptsOf running.now receipts.new.items) }
 {
-    let Some(receipt) = receipt else {
-        return Err(Ended::Wrongly);
-    };
-    receipts.push(receipt).map_err(|_| Ended::Wrongly)?;
-    Ok(())
+    let receipt = receipt.ok_or(Ended::Wrongly)?;
+    receipts.push(receipt).map_err(|_| Ended::Wrongly)
 }
 
 /// The report of a run with these receipts.
@@ -128,13 +120,12 @@ fn finish<R: Threads, A: Allocator + Copy>(
 pub fn finish_with<R: Threads, A: Allocator + Copy>(
     rt: &R,
     running: Running<A>,
-    receipts: Vec<Receipt<A>, A>,
+    mut receipts: Vec<Receipt<A>, A>,
     last: Option<Receipt<A>>,
 ) -> Result<Report<A>, Ended>
     requires all { AreReceiptsOf running receipts.items }
     requires one { IfSome last (IsReceipt running) }
 {
-    let mut receipts = receipts;
     add(&running, &mut receipts, last)?;
     finish(rt, running, receipts)
 }

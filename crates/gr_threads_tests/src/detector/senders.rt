@@ -31,12 +31,11 @@ pub fn sends<R: Wait + Clock, A: Allocator>(rt: &R, sender: &mut Sender<A>, even
 /// Closes a sender, and gives its receipt. `None` if it was closed before.
 pub fn close<R: Wait + Clock, A: Allocator>(
     rt: &R,
-    sender: Sender<A>,
+    mut sender: Sender<A>,
     cut: bool,
 ) -> Option<Receipt<A>>
     ensures { IfSome result (IsReceiptOf sender) }
 {
-    let mut sender = sender;
     sender.close_wait(rt, cut).ok()?;
     sender.into_receipt().ok()
 }
@@ -44,14 +43,13 @@ pub fn close<R: Wait + Clock, A: Allocator>(
 /// Sends plain accesses of so many global words by item 0, and the end. `None` if the sender refused one of them.
 pub fn send_all<R: Wait + Clock, A: Allocator>(
     rt: &R,
-    sender: Sender<A>,
+    mut sender: Sender<A>,
     kind: Kind,
     first: u32,
     count: u32,
 ) -> Option<Receipt<A>>
     ensures { IfSome result (IsReceiptOf sender) }
 {
-    let mut sender = sender;
     for place in 0..count {
         if !sends(rt, &mut sender, plain(0, kind, first.wrapping_add(place))) {
             return None;

@@ -26,33 +26,6 @@ impl Input {
             gate: None,
         }
     }
-
-    /// A reader that gives one byte at a call, and fails after so many calls.
-    pub(crate) fn failing(bytes: Vec<u8>, calls: usize) -> Input {
-        Input {
-            most: 1,
-            calls,
-            ..Input::whole(bytes)
-        }
-    }
-
-    /// A reader that gives one byte at a call, and the byte at this place only after a race was seen.
-    pub(crate) fn gated(bytes: Vec<u8>, place: usize, races: Arc<Races>) -> Input {
-        Input {
-            most: 1,
-            gate: Some((place, races)),
-            ..Input::whole(bytes)
-        }
-    }
-
-    /// Waits at the gate.
-    fn wait(&self) {
-        if let Some((place, races)) = &self.gate
-            && *place == self.place
-        {
-            races.wait();
-        }
-    }
 }
 
 impl Read for Input {
@@ -61,7 +34,11 @@ impl Read for Input {
             return Err(io::Error::from(ErrorKind::BrokenPipe));
         }
         self.calls -= 1;
-        self.wait();
+        if let Some((place, races)) = &self.gate
+            && *place == self.place
+        {
+            races.wait();
+        }
         let left = self.bytes.get(self.place..).unwrap_or(&[]);
         let count = left.len().min(buf.len()).min(self.most);
         buf[..count].copy_from_slice(&left[..count]);

@@ -13,18 +13,8 @@ use std::time::Clock;
 /// The set-up of a run: workers, queues, and the places of each queue.
 pub(crate) type Plan = (u16, u16, u32);
 
-/// What a run answers, and what it has written.
-pub(crate) type Outcome = (Result<(), Fault>, Vec<u8>);
-
-/// Whether a run was accepted, and has written this report.
-pub(crate) fn is_accepted(outcome: &Outcome, report: &[u8]) -> bool {
-    outcome.0 == Ok(()) && outcome.1.as_slice() == report
-}
-
-/// Whether a run was refused with this fault, and has written nothing.
-pub(crate) fn is_refused(outcome: &Outcome, fault: Fault) -> bool {
-    outcome.0 == Err(fault) && outcome.1.is_empty()
-}
+/// The fault for which a run was refused, if it was, and what it has written.
+pub(crate) type Outcome = (Option<Fault>, Vec<u8>);
 
 /// The configuration of a plan.
 pub(crate) fn config_of(plan: Plan) -> Result<Config, Fail> {
@@ -41,8 +31,6 @@ pub(crate) fn run_inputs<R: Threads + Wait + Clock + Copy + Send + 'static>(
 ) -> Result<Outcome, Fail> {
     let watch = Arc::new(alloc, NoWatch)?;
     let mut text = Vec::new(alloc);
-    match run_streams(rt, alloc, inputs, config_of(plan)?, watch, &mut text) {
-        Ok(_) => Ok((Ok(()), text)),
-        Err(fault) => Ok((Err(fault), text)),
-    }
+    let fault = run_streams(rt, alloc, inputs, config_of(plan)?, watch, &mut text).err();
+    Ok((fault, text))
 }

@@ -27,7 +27,7 @@ fn is_reported<
     R: Threads + Wait + Clock + Copy + Send + Sync + 'static,
     A: Allocator + Copy + Send + Sync + Drop + 'static,
 >(rt: R, alloc: Global, heap: A) -> Result<bool, Memory> {
-    let notes = Arc::new(alloc, Notes::new())?;
+    let notes = Arc::new(alloc, Notes::default())?;
     let watch = Noted {
         notes: Arc::try_clone(&notes)?,
     };
@@ -41,26 +41,14 @@ fn is_reported<
     }
 }
 
-/// Whether the answer is right with the growth of this number refused, and whether there is such a growth.
-fn is_due_without<R: Threads + Wait + Clock + Copy + Send + Sync + 'static>(
-    rt: R,
-    alloc: Global,
-    at: u64,
-) -> Result<(bool, bool), Fail> {
-    let heap: &'static Refusing<Global> = Box::leak(Box::new(alloc, Refusing::new(alloc, at))?);
-    let is_due = match is_reported(rt, alloc, heap) {
-        Ok(is_right) => is_right,
-        Err(Memory) => heap.refused(),
-    };
-    Ok((is_due, heap.refused()))
-}
-
 #[test]
 fn each_refused_growth_is_want_of_memory(rt: HostRuntime) -> Result<(), Fail> {
     for at in 0..10_000_u64 {
-        let (is_due, is_refused) = is_due_without(rt, rt.alloc(), at)?;
+        let heap = Box::new(rt.alloc(), Refusing::new(rt.alloc(), at))?;
+        let heap: &'static Refusing<Global> = Box::leak(heap);
+        let is_due = is_reported(rt, rt.alloc(), heap).unwrap_or(heap.refused());
         assert!(rt; is_due, "the growth numbered {at}");
-        if !is_refused {
+        if !heap.refused() {
             assert!(rt; at > 20, "queues, clocks and shadows grow");
             return Ok(());
         }

@@ -62,14 +62,10 @@ fn close_two<R: Threads + Wait + Clock>(
 ) -> Result<Back, Ended>
     requires { All (IsSender running) senders.items }
 {
-    match two_of(&running, senders) {
-        Some((first, second)) => {
-            let second = close(rt, second, false);
-            let first = close(rt, first, false);
-            hand_in_two(rt, alloc, running, first, second)
-        }
-        None => Err(Ended::Wrongly),
-    }
+    let (first, second) = two_of(&running, senders).ok_or(Ended::Wrongly)?;
+    let second = close(rt, second, false);
+    let first = close(rt, first, false);
+    hand_in_two(rt, alloc, running, first, second)
 }
 
 /// Starts a run of two senders, closes them, and hands in their receipts, one alone first.
@@ -98,6 +94,6 @@ impl Sends for NoWatch {
 fn a_cut_stream_is_reported(rt: HostRuntime) -> Result<(), Fail> {
     let watch = Arc::new(rt.alloc(), NoWatch)?;
     let went = run_one(rt, rt.alloc(), (&[2], 1, 1, 1), &watch, true);
-    assert_eq!(rt; went, Ok((true, (2, 0, true))));
+    assert_eq!(rt; went, Ok((true, 2, 0, true)));
     Ok(())
 }

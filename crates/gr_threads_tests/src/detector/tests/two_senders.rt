@@ -18,19 +18,14 @@ use std::test::*;
 use std::thread::Threads;
 use std::time::Clock;
 
-/// Whether the words of the races of a report are the global words 50 to 99.
-fn names_the_shared_words<A: Allocator>(report: &Report<A>) -> bool {
+/// Whether a report is that of the two senders: the words of its races are the global words 50 to 99.
+fn is_of_two<A: Allocator>(report: &Report<A>) -> bool {
     let races = report.races.as_slice();
-    races.len() == 50
+    (report.groups, report.items, report.records, report.held) == (2, 2, 201, 0)
+        && races.len() == 50
         && (50_u32..)
             .zip(races)
             .all(|(number, race)| *race == Word::Global(number))
-}
-
-/// Whether a report is that of the two senders.
-fn is_of_two<A: Allocator>(report: &Report<A>) -> bool {
-    (report.groups, report.items, report.records, report.held) == (2, 2, 201, 0)
-        && names_the_shared_words(report)
         && report.divergences.as_slice().is_empty()
         && report.unmatched.as_slice().is_empty()
         && report.cut.as_slice().is_empty()
@@ -40,7 +35,7 @@ fn is_of_two<A: Allocator>(report: &Report<A>) -> bool {
 fn finish_two<R: Threads, A: Allocator + Copy>(
     rt: &R,
     running: Running<A>,
-    receipts: Vec<Receipt<A>, A>,
+    mut receipts: Vec<Receipt<A>, A>,
     first: Option<Receipt<A>>,
     second: Option<Receipt<A>>,
 ) -> Result<Report<A>, Ended>
@@ -48,7 +43,6 @@ fn finish_two<R: Threads, A: Allocator + Copy>(
     requires first { IfSome first (IsReceipt running) }
     requires second { IfSome second (IsReceipt running) }
 {
-    let mut receipts = receipts;
     add(&running, &mut receipts, second)?;
     finish_with(rt, running, receipts, first)
 }
@@ -63,13 +57,9 @@ fn end_two<R: Threads + Wait + Clock + Sync, A: Allocator + Copy + Send + Sync>(
     requires senders { All (IsSender running) senders.items }
     requires none { receipts.items ≡ [] }
 {
-    match two_of(&running, senders) {
-        Some((first, second)) => {
-            let (first, second) = send_both(rt, first, second);
-            finish_two(rt, running, receipts, first, second)
-        }
-        None => Err(Ended::Wrongly),
-    }
+    let (first, second) = two_of(&running, senders).ok_or(Ended::Wrongly)?;
+    let (first, second) = send_both(rt, first, second);
+    finish_two(rt, running, receipts, first, second)
 }
 
 /// Starts a run of the two senders under a watch, and runs them. Gives whether the report is right.
@@ -86,7 +76,7 @@ pub(crate) fn run_two<
 
 #[test]
 fn two_senders_race_on_fifty_words(rt: HostRuntime) -> Result<(), Fail> {
-    let watch = Arc::new(rt.alloc(), Counts::new())?;
+    let watch = Arc::new(rt.alloc(), Counts::default())?;
     let answer = run_two(rt, rt.alloc(), Arc::try_clone(&watch)?);
     let counts = [101, 100, 100, 99, 50, (1 << 50) - 1, 0];
     assert_eq!(rt; (answer, watch.all()), (Ok(true), counts));

@@ -7,7 +7,7 @@ use crate::detector::ones::{Sends, run_one};
 use crate::detector::senders::{plain, sends};
 use gr_model::event::Kind;
 use gr_threads::sender::Sender;
-use std::sync::atomic::{AtomicU64, Ordering};
+use std::sync::atomic::Ordering;
 use std::sync::{Arc, Wait};
 use std::test::*;
 use std::time::Clock;
@@ -23,9 +23,9 @@ impl Sends for Races {
 
 #[test]
 fn a_race_is_seen_before_any_stream_ends(rt: HostRuntime) -> Result<(), Fail> {
-    let watch = Arc::new(rt.alloc(), Races::new())?;
+    let watch = Arc::new(rt.alloc(), Races::default())?;
     let went = run_one(rt, rt.alloc(), (&[2], 1, 1, 4), &watch, false);
-    assert_eq!(rt; went, Ok((true, (3, 1, false))));
+    assert_eq!(rt; went, Ok((true, 3, 1, false)));
     Ok(())
 }
 
@@ -38,15 +38,11 @@ impl Sends for Apart {
 
 #[test]
 fn two_workers_are_at_work_at_once(rt: HostRuntime) -> Result<(), Fail> {
-    let apart = Apart {
-        seconds: AtomicU64::new(0),
-        missed: AtomicU64::new(0),
-    };
-    let watch = Arc::new(rt.alloc(), apart)?;
+    let watch = Arc::new(rt.alloc(), Apart::default())?;
     let went = run_one(rt, rt.alloc(), (&[1], 2, 1, 4), &watch, false);
     let seconds = watch.seconds.load(Ordering::SeqCst);
     let missed = watch.missed.load(Ordering::SeqCst);
-    assert_eq!(rt; (went, seconds, missed), (Ok((true, (3, 0, false))), 1, 0));
+    assert_eq!(rt; (went, seconds, missed), (Ok((true, 3, 0, false)), 1, 0));
     Ok(())
 }
 
@@ -64,15 +60,9 @@ impl Sends for Turns {
 
 #[test]
 fn the_sequencer_and_a_worker_wait_for_what_comes_later(rt: HostRuntime) -> Result<(), Fail> {
-    let turns = Turns {
-        sent: AtomicU64::new(0),
-        takes: AtomicU64::new(0),
-        accesses: AtomicU64::new(0),
-        missed: AtomicU64::new(0),
-    };
-    let watch = Arc::new(rt.alloc(), turns)?;
+    let watch = Arc::new(rt.alloc(), Turns::default())?;
     let went = run_one(rt, rt.alloc(), (&[1], 1, 1, 4), &watch, false);
     let missed = watch.missed.load(Ordering::SeqCst);
-    assert_eq!(rt; (went, missed), (Ok((true, (3, 0, false))), 0));
+    assert_eq!(rt; (went, missed), (Ok((true, 3, 0, false)), 0));
     Ok(())
 }

@@ -2,7 +2,7 @@
 
 use crate::streams::inputs::Input;
 use crate::streams::launches::{RACE, packed, report_with};
-use crate::streams::runs::{Outcome, config_of, is_accepted, is_refused, run_inputs};
+use crate::streams::runs::{Outcome, config_of, run_inputs};
 use gr_model::shape::ShapeError;
 use gr_record::fault::Fault;
 use gr_streams::{NoWatch, run_streams};
@@ -20,21 +20,25 @@ fn run_calls<R: Threads + Wait + Clock + Copy + Send + 'static>(
     calls: usize,
 ) -> Result<Outcome, Fail> {
     let (_, texts, _) = RACE;
-    let bytes = packed(alloc, texts[0])?;
-    let inputs = vec![in alloc; Input::failing(bytes, calls)]?;
-    run_inputs(rt, alloc, inputs, (1, 1, 1))
+    let input = Input {
+        most: 1,
+        calls,
+        ..Input::whole(packed(alloc, texts[0])?)
+    };
+    run_inputs(rt, alloc, vec![in alloc; input]?, (1, 1, 1))
 }
 
 #[test]
 fn a_reader_that_fails_is_a_read_fault(rt: HostRuntime) -> Result<(), Fail> {
     let (_, _, lines) = RACE;
     let report = report_with(rt.alloc(), lines)?;
+    let refused = (Some(Fault::Read), Vec::new(rt.alloc()));
     for calls in 0..73 {
         let outcome = run_calls(rt, rt.alloc(), calls)?;
-        assert!(rt; is_refused(&outcome, Fault::Read), "after {calls} calls");
+        assert!(rt; outcome == refused, "after {calls} calls");
     }
     let outcome = run_calls(rt, rt.alloc(), 73)?;
-    assert!(rt; is_accepted(&outcome, &report), "all is read");
+    assert!(rt; outcome == (None, report), "all is read");
     Ok(())
 }
 
@@ -71,9 +75,7 @@ fn a_writer_that_fails_is_a_write_fault(rt: HostRuntime) -> Result<(), Fail> {
 #[test]
 fn no_stream_is_no_launch(rt: HostRuntime) -> Result<(), Fail> {
     let outcome = run_inputs(rt, rt.alloc(), Vec::new(rt.alloc()), (2, 1, 1))?;
-    assert!(rt;
-        is_refused(&outcome, Fault::Shape(ShapeError::NoGroups)),
-        "no stream"
-    );
+    let fault = Fault::Shape(ShapeError::NoGroups);
+    assert_eq!(rt; outcome, (Some(fault), Vec::new(rt.alloc())));
     Ok(())
 }

@@ -29,7 +29,7 @@ fn is_reported<
     A: Allocator + Copy + Send + Sync + Drop + 'static,
 >(rt: R, alloc: Global, heap: A, streams: &[Vec<u8>], due: &[u8]) -> Result<bool, Memory> {
     let readers = readers_of(heap, streams)?;
-    let watch = Arc::new(heap, Races::new())?;
+    let watch = Arc::new(heap, Races::default())?;
     let theirs = Arc::try_clone(&watch)?;
     let Ok(config) = Config::new(2, 2, 1) else {
         return Ok(false);
@@ -53,15 +53,11 @@ fn first_wrong_growth<R: Threads + Wait + Clock + Copy + Send + 'static>(
 ) -> Result<Option<u64>, Fail> {
     for at in 0..10_000_u64 {
         let heap: &'static Refusing<Global> = Box::leak(Box::new(alloc, Refusing::new(alloc, at))?);
-        let is_due = match is_reported(rt, alloc, heap, streams, due) {
-            Ok(is_right) => is_right,
-            Err(Memory) => heap.refused(),
-        };
-        if !is_due {
+        if !is_reported(rt, alloc, heap, streams, due).unwrap_or(heap.refused()) {
             return Ok(Some(at));
         }
         if !heap.refused() {
-            return Ok(if at > 20 { None } else { Some(at) });
+            return Ok((at <= 20).then_some(at));
         }
     }
     Ok(Some(10_000))

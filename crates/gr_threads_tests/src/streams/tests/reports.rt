@@ -19,7 +19,11 @@ fn is_gated_race_reported<R: Threads + Wait + Clock + Copy + Send + 'static>(
     races: &Arc<Races>,
 ) -> Result<bool, Fail> {
     let (_, texts, lines) = RACE;
-    let input = Input::gated(packed(alloc, texts[0])?, 52, Arc::try_clone(races)?);
+    let input = Input {
+        most: 1,
+        gate: Some((52, Arc::try_clone(races)?)),
+        ..Input::whole(packed(alloc, texts[0])?)
+    };
     let inputs = vec![in alloc; input]?;
     let theirs = Arc::try_clone(races)?;
     let config = config_of((1, 1, 4))?;
@@ -30,7 +34,7 @@ fn is_gated_race_reported<R: Threads + Wait + Clock + Copy + Send + 'static>(
 
 #[test]
 fn a_race_is_seen_before_its_stream_is_read_to_the_end(rt: HostRuntime) -> Result<(), Fail> {
-    let races = Arc::new(rt.alloc(), Races::new())?;
+    let races = Arc::new(rt.alloc(), Races::default())?;
     assert!(rt; is_gated_race_reported(rt, rt.alloc(), &races)?, "the race");
     assert_eq!(rt; races.seen.load(Ordering::SeqCst), 1);
     assert_eq!(rt; races.missed.load(Ordering::SeqCst), 0);
