@@ -1,6 +1,7 @@
 -- Judgements on pairs of accesses.
 -- Source: docs/MODEL.md, "Races", "Hits" and "What waits for what".
 use Rattle.std.specs.Prelude.{◌≡◌, List, Some}
+use Rattle.std.specs.List.{AllZip}
 use Rattle.gr_model.specs.declared.event.EventId.{EventId}
 use Rattle.gr_model.specs.declared.event.Word.{Word}
 use Rattle.gr_model.specs.declared.race.Race.{Race}
@@ -9,7 +10,6 @@ use Rattle.gr_model.specs.Streams.{Streams, word_at}
 use Rattle.gr_shadow.specs.Clashes.{ClockedAccess, clashes}
 use Rattle.gr_explain.specs.Judgements.{IsJudgement}
 use Rattle.gr_explain.specs.declared.judging.Judgement.{Judgement}
-use Rattle.gr_explain.specs.Answering.{AreAnswers}
 
 -- an event accesses some word
 abbrev pub IsAccessing : Streams → EventId → Type 0
@@ -30,4 +30,4 @@ IsJudged s r j = IsJudgement s r.word r.first r.second j
 
 -- one judgement for each pair, in their order
 abbrev pub AreJudgements : Streams → List Race → List Judgement → Type 0
-AreJudgements s races judgements = AreAnswers (IsJudged s) races judgements
+AreJudgements s races judgements = AllZip (IsJudged s) races judgements

@@ -2,7 +2,6 @@ pub mod Events
 pub mod Records
 pub mod LeastRaces
 pub mod Judgements
-pub mod Answering
 pub mod Accesses
 pub mod Judged
 pub mod ClashPairs

@@ -37,7 +37,8 @@ struct Tagged<A: Allocator> {
 impl<A: Allocator + Copy, T: Tags> Keeper<A> for TaggedKeeper<'_, T> {
     type Kept = Tagged<A>;
 
-    ghost stands = { λ keeper accesses kept. StandsFor keeper.word accesses kept.search × StandForWords (T.tag_of keeper.tags.now) (keeper.word ∷ []) accesses kept.pairs.entries };
+    ghost stands = { λ keeper accesses kept. StandsFor keeper.word accesses kept.search
+        × StandForWords (T.tag_of keeper.tags.now) (keeper.word ∷ []) accesses kept.pairs.entries };
 
     fn add(&self, kept: &mut Tagged<A>, access: &mut Option<Access<A>>) -> Result<(), Memory> {
         if let Some(access) = access {
