@@ -1,6 +1,7 @@
 -- The cause of a race: the first rule without which its two accesses would be no race, or else what is missing between them.
 -- Source: docs/OUTPUT.md, "explain --long". Causes are this project's own.
 use Rattle.std.specs.Prelude.{◌≡◌, ◌≢◌, Bool, true, false, List, []}
+use Rattle.std.specs.List.{AllZip}
 use Rattle.gr_model.specs.declared.event.EventId.{EventId}
 use Rattle.gr_model.specs.declared.event.Word.{Word}
 use Rattle.gr_model.specs.declared.race.Race.{Race}
@@ -8,7 +9,6 @@ use Rattle.gr_model.specs.RacePairs.{IsRacePair}
 use Rattle.gr_model.specs.Races.{IsRace}
 use Rattle.gr_model.specs.Streams.{Streams}
 use Rattle.gr_explain.specs.Judgements.{AreJudged}
-use Rattle.gr_explain.specs.Answering.{AreAnswers}
 use Rattle.gr_races.specs.declared.cause.Cause.{Cause}
 use Rattle.gr_races.specs.declared.cause.Cause.TheVariants.{Flags, Scope, Divergence, NoBarrier, NoHandOver}
 use Rattle.gr_races.specs.declared.relaxing.Relaxation.{Relaxation}
@@ -42,7 +42,7 @@ IsCauseOf s r c = IsCause s r.word r.first r.second c
 
 -- one cause for each race, in their order
 abbrev pub AreCauses : Streams → List Race → List Cause → Type 0
-AreCauses s races causes = AreAnswers (IsCauseOf s) races causes
+AreCauses s races causes = AllZip (IsCauseOf s) races causes
 
 -- if causes are asked for, the cause of each race; else none
 abbrev pub AreTold : Streams → Bool → List Race → List Cause → Type 0

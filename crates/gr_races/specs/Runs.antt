@@ -4,11 +4,8 @@ use Rattle.std.specs.Prelude.{ℕ, ◌+◌, Bool, false, ◌==◌, ◌&&◌, if�
 use Rattle.gr_model.specs.declared.event.Word.{Word}
 use Rattle.gr_model.specs.declared.event.Word.TheVariants.{Global, Local}
 use Rattle.gr_races.specs.declared.runs.Run.{Run}
-
 -- the number of a word in its memory
-abbrev pub number_of : Word → ℕ
-number_of (Global n) = n
-number_of (Local g n) = n
+pub use Rattle.gr_places.specs.Naming.{number_of}
 
 -- a word comes directly after a last one: it is of the same memory, and its number is the next
 abbrev pub comes_next : Word → ℕ → Word → Bool

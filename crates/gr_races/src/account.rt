@@ -124,13 +124,11 @@ fn account_by<A: Allocator + Copy>(
         index,
     };
     let (least, races) = explain_by_tags(alloc, traces, word, &tags)?;
-    match least {
-        None => Ok(None),
-        Some((first, second)) => {
-            let account = account_of_pair(alloc, traces, &tags, word, &races, first, second)?;
-            Ok(Some(account))
-        }
-    }
+    let Some((first, second)) = least else {
+        return Ok(None);
+    };
+    let account = account_of_pair(alloc, traces, &tags, word, &races, first, second)?;
+    Ok(Some(account))
 }
 
 /// The least racing pair of a word with what lies between its accesses, the cause of the race, and the word's other races, by what side

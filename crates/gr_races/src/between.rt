@@ -130,11 +130,9 @@ fn release_above(list: &[Event], item: u16, index: u32) -> Option<u32>
 fn nearest(found: Option<u32>, at: u32, index: u32, event: &Event) -> Option<u32>
     ensures { result ≡ if (nat_lt at index && spec.is_acquire event.now) then Some at else found }
 {
-    if at < index && event.kind.is_acquire() {
-        Some(at)
-    } else {
-        found
-    }
+    (at < index && event.kind.is_acquire())
+        .then_some(at)
+        .or(found)
 }
 
 /// The greatest index below this one of an acquire of an item in a list.

@@ -134,10 +134,7 @@ fn operation_number(operation: Operation) -> u128
 fn tag_of(placed: PlacedOperation) -> u128
     ensures { result ≡ spec.tag_of placed }
 {
-    let place = match placed.place {
-        None => 0,
-        Some(number) => number as u128 + 1,
-    };
+    let place = placed.place.map_or(0, |number| number as u128 + 1);
     place * 5 + operation_number(placed.operation)
 }
 
@@ -186,9 +183,6 @@ impl<A: Allocator> Tags for PlaceTags<'_, A> {
     ghost tag_of = { λ t. spec.tag_at t.records.now (number_at t.index.now) };
 
     fn tag(&self, event: EventId) -> u128 {
-        match placed_at(self.records, self.index, event) {
-            None => 0,
-            Some(placed) => tag_of(placed),
-        }
+        placed_at(self.records, self.index, event).map_or(0, tag_of)
     }
 }

@@ -15,10 +15,9 @@ fn is_behind<A: Allocator>(lanes: &Lanes<A>, event: EventId, number: u32) -> boo
     requires { IsRemembered lanes.now event.at number }
     ensures { IsTrue result ↔ IsBehind lanes.now.streams event number }
 {
-    match lanes.barrier_at(event.at, number) {
-        None => false,
-        Some(place) => place < event.index,
-    }
+    lanes
+        .barrier_at(event.at, number)
+        .is_some_and(|place| place < event.index)
 }
 
 /// How many of its item's barriers come before an event.

@@ -22,8 +22,7 @@ pub fn number_of(word: Word) -> u32
     ensures { result ≡ spec.number_of word }
 {
     match word {
-        Word::Global(number) => number,
-        Word::Local(_, number) => number,
+        Word::Global(number) | Word::Local(_, number) => number,
     }
 }
 
