@@ -26,7 +26,7 @@ use std::time::Clock;
 
 /// The first record of an item, a write of global word 7, with a clock that counts nothing.
 fn write_by(alloc: Global, shape: &Shape, item: u16) -> Result<Access, Fail>
-    ensures { IfOk result (λ access. (access.word ≡ words.Global 7) × (access.item ≡ record { group = 0; item = item }) × (access.index ≡ 0) × (access.class ≡ classes.PlainWrite) × ((i : AnyItem) → count_of access.clock i ≡ 0)) }
+    ensures { IfOk result (λ access. (access.word ≡ words.Global 7) × (access.item ≡ record { group = 0; item = item }) × (access.index ≡ 0) × (access.class ≡ classes.PlainWrite) × ((i : AnyItem) → count_of access.clock.counts i ≡ 0)) }
 {
     Ok(Access {
         word: Word::Global(7),
