@@ -1,13 +1,10 @@
 -- Where an event is handled as soon as its record is taken, no step becomes ready: the record is taken, its event is handled, and its item has no other.
-use Rattle.std.proofs.Common.{◌≡◌, ◌<◌, ℕ, List, [], ◌∷◌, Option, Some, Vec, refl, sym, ap, subst, inr, arith}
+use Rattle.gr_model.proofs.Common.{◌≡◌, ◌<◌, ℕ, List, [], ◌∷◌, Option, Some, Vec, refl, sym, ap, subst, inr, arith}
 use Rattle.gr_model.specs.declared.event.Event.{Event}
 use Rattle.gr_model.specs.declared.event.EventId.{EventId}
 use Rattle.gr_model.specs.declared.event.ItemId.{ItemId}
 use Rattle.gr_model.specs.declared.event.Name.{Name}
-use Rattle.gr_model.specs.Access.{is_release}
-use Rattle.gr_model.specs.LawfulOrders.{IsIn}
-use Rattle.gr_model.specs.Names.{release_place}
-use Rattle.gr_model.specs.Streams.{IsEvent, Streams, size_of}
+use Rattle.gr_model.specs.Prelude.{is_release, IsIn, release_place, IsEvent, Streams, size_of}
 use Rattle.gr_model.proofs.Places.{slice_get-append}
 use Rattle.gr_steps.specs.Steps.{CanMeet}
 use Rattle.gr_steps.proofs.BarrierPlaces.{barrier_of, barrier_there}

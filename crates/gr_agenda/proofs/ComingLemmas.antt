@@ -1,14 +1,10 @@
 -- What is so of the list of steps and of those that wait where a group comes: no step may be made that could not be.
-use Rattle.std.proofs.Common.{◌≡◌, ℕ, List, [], arith, Vec, filter_map, slice_get, None, Option, ap, inr, ⊎_elim}
-use Rattle.std.proofs.lemmas.Bool.{cases_eq}
+use Rattle.gr_model.proofs.Common.{◌≡◌, ℕ, List, [], arith, Vec, filter_map, slice_get, None, Option, ap, inr, ⊎_elim, cases_eq}
 use Rattle.gr_model.specs.declared.event.Event.{Event}
 use Rattle.gr_model.specs.declared.event.ItemId.{ItemId}
 use Rattle.gr_model.specs.declared.event.Name.{Name}
-use Rattle.gr_model.specs.Barriers.{IsDivergent, arrivals, mark_of}
-use Rattle.gr_model.specs.Groups.{CanAdd}
+use Rattle.gr_model.specs.Prelude.{IsDivergent, arrivals, mark_of, CanAdd, IsLawful, ArePrefixes, Streams, list_of, trace_of}
 use Rattle.gr_model.specs.Groups as model
-use Rattle.gr_model.specs.LawfulOrders.{IsLawful}
-use Rattle.gr_model.specs.Streams.{ArePrefixes, Streams, list_of, trace_of}
 use Rattle.gr_model.proofs.GroupLaws.{group_grows, list_stays, nothing_came, size_stays}
 use Rattle.gr_steps.specs.Steps.{CanMeet}
 use Rattle.gr_order.specs.Sequences.{Sequence, with_group}

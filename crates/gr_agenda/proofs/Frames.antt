@@ -1,16 +1,9 @@
 -- What a step changes: an item or a group that it does not touch can go on only as before, or by a release that it waited for.
-use Rattle.std.proofs.Common.{◌≡◌, ◌⊎◌, ℕ, ◌<◌, List, [], ◌∷◌, ◌++◌, Some, append-nil, refl, sym, ap, ◌∙◌, subst, inl, inr, ⊎_elim, arith}
-use Rattle.std.proofs.lemmas.Option.{slice_get_within}
+use Rattle.gr_model.proofs.Common.{◌≡◌, ◌⊎◌, ℕ, ◌<◌, List, [], ◌∷◌, ◌++◌, Some, append-nil, refl, sym, ap, ◌∙◌, subst, inl, inr, ⊎_elim, arith, slice_get_within}
 use Rattle.gr_model.specs.declared.event.EventId.{EventId}
 use Rattle.gr_model.specs.declared.event.ItemId.{ItemId}
 use Rattle.gr_model.specs.declared.event.Name.{Name}
-use Rattle.gr_model.specs.Access.{is_release}
-use Rattle.gr_model.specs.Barriers.{IsDivergent, StandsIn, arrivals}
-use Rattle.gr_model.specs.Instances.{Mark}
-use Rattle.gr_model.specs.LawfulOrders.{IsIn, IsLawful}
-use Rattle.gr_model.specs.Names.{HasName, MatchesBy, names_at, release_place}
-use Rattle.gr_model.specs.Streams.{Grows, IsEvent, Streams, event_at, list_of, places_from, size_of, trace_of}
-use Rattle.gr_model.specs.Waits.{Waits, for_arrival, for_meeting, for_previous, for_release}
+use Rattle.gr_model.specs.Prelude.{is_release, IsDivergent, StandsIn, arrivals, Mark, IsIn, IsLawful, HasName, MatchesBy, names_at, release_place, Grows, IsEvent, Streams, event_at, list_of, places_from, size_of, trace_of, Waits, for_arrival, for_meeting, for_previous, for_release}
 use Rattle.gr_model.proofs.Cuts.{same_event}
 use Rattle.gr_model.proofs.GrowthLaws.{convergent_grows, not_both, stands_grows, stands_shrinks, trace_grows, word_grows}
 use Rattle.gr_model.proofs.Places.{places_from-append, places_from-within, slice_get-append}

@@ -1,18 +1,13 @@
 -- The list of steps has all that is ready, after each step and each record.
-use Rattle.std.proofs.Common.{◌≡◌, ◌⊎◌, ◌<◌, ℕ, List, [], Bool, true, Some, Option, Vec, refl, sym, ap, ◌∙◌, subst, inl, inr, ⊎_elim, arith, is_some}
-use Rattle.std.proofs.lemmas.Bool.{cases_eq}
+use Rattle.gr_model.proofs.Common.{◌≡◌, ◌⊎◌, ◌<◌, ℕ, List, [], Bool, true, Some, Option, Vec, refl, sym, ap, ◌∙◌, subst, inl, inr, ⊎_elim, arith, is_some, cases_eq}
 use Rattle.std.proofs.Math.ListN.{get_or-map}
 use Rattle.gr_model.specs.declared.event.Event.{Event}
 use Rattle.gr_model.specs.declared.event.EventId.{EventId}
 use Rattle.gr_model.specs.declared.event.ItemId.{ItemId}
 use Rattle.gr_model.specs.declared.event.Kind.{Kind}
 use Rattle.gr_model.specs.declared.event.Name.{Name}
-use Rattle.gr_model.specs.Access.{is_release_kind}
-use Rattle.gr_model.specs.Barriers.{StandsIn, mark_of_kind}
-use Rattle.gr_model.specs.LawfulOrders.{IsIn}
-use Rattle.gr_model.specs.Names.{HasName, release_place}
+use Rattle.gr_model.specs.Prelude.{is_release_kind, StandsIn, mark_of_kind, IsIn, HasName, release_place, ArePrefixes, IsEvent, Streams, event_at, place_of, size_of, trace_of}
 use Rattle.gr_lanes.specs.Takes.{nothing_taken}
-use Rattle.gr_model.specs.Streams.{ArePrefixes, IsEvent, Streams, event_at, place_of, size_of, trace_of}
 use Rattle.gr_model.proofs.Places.{places_from-there}
 use Rattle.gr_steps.specs.Steps.{CanMeet, IsReady}
 use Rattle.gr_steps.proofs.BarrierPlaces.{barrier_of, barrier_there}

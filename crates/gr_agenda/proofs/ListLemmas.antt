@@ -1,10 +1,5 @@
 -- Elements of lists that grow and shrink at their end, and the lists of those that wait.
-use Rattle.std.proofs.Common.{◌≡◌, ◌⊎◌, ◌+◌, ◌<◌, ℕ, List, [], ◌∷◌, ◌++◌, Bool, true, Some, Vec, slice_get, length, refl, ap, ◌∙◌, inl, inr, ⊎_elim, arith}
-use Rattle.std.specs.Prelude.{slice_index_or, slice_set}
-use Rattle.std.proofs.lemmas.Bool.{cases_eq}
-use Rattle.std.proofs.lemmas.List.{length_push}
-use Rattle.std.proofs.lemmas.Option.{slice_get-get_or, gets}
-use Rattle.std.proofs.lemmas.Grind.{common_steps}
+use Rattle.gr_model.proofs.Common.{◌≡◌, ◌⊎◌, ◌+◌, ◌<◌, ℕ, List, [], ◌∷◌, ◌++◌, Bool, true, Some, Vec, slice_get, length, refl, ap, ◌∙◌, inl, inr, ⊎_elim, arith, slice_index_or, slice_set, cases_eq, length_push, slice_get-get_or, gets, common_steps}
 use Rattle.gr_model.specs.declared.event.ItemId.{ItemId}
 use Rattle.gr_model.specs.declared.event.Name.{Name}
 use Rattle.gr_model.proofs.Places.{slice_get-append}

@@ -1,8 +1,8 @@
 -- What a record that is taken changes: an item or a group that it does not touch can go on only as before.
-use Rattle.std.proofs.Common.{is_some, length, ◌≡◌, ◌<◌, ℕ, List, [], ◌∷◌, ◌++◌, true, false, Some, Option, Vec, ◌⊎◌, ◌≤◌, refl, sym, ap, ◌∙◌, inl, inr, ⊎_elim, filter, filter_map, slice_get, arith, append-nil, true≢false}
+use Rattle.gr_model.proofs.Common.{is_some, length, ◌≡◌, ◌<◌, ℕ, List, [], ◌∷◌, ◌++◌, true, false, Some, Option, Vec, ◌⊎◌, ◌≤◌, refl, sym, ap, ◌∙◌, inl, inr, ⊎_elim, filter, filter_map, slice_get, arith, append-nil, true≢false, cases_eq, cases_lt, filter_map-append, slice_get_within, gets, common_steps}
 use Rattle.gr_model.proofs.Sending.{is_complete-push}
 use Rattle.gr_model.specs.declared.event.Kind.{Kind}
-use Rattle.gr_model.specs.Instances.{HasArrived, Mark}
+use Rattle.gr_model.specs.Prelude.{HasArrived, Mark, IsDivergent, arrivals, is_barrier, mark_of, mark_of_kind, is_end, is_end_kind, IsIn, IsLawful, ArePrefixes, Streams, event_at, is_complete, is_of, list_of, place_of, size_of, trace_of}
 use Rattle.gr_lanes.specs.Takes.{CanTake, next_of, with_record}
 use Rattle.gr_lanes.proofs.Growth.{here, other, record_grows}
 use Rattle.gr_lanes.proofs.IndexLemmas.{length-places, no_trace, places_more}
@@ -11,17 +11,9 @@ use Rattle.gr_steps.proofs.Orders.{at_behind, split_last}
 use Rattle.gr_order.proofs.StateLemmas.{item_cases}
 use Rattle.gr_order.proofs.WaitLemmas.{adds_here, adds_none, trace_grows}
 use Rattle.gr_model.proofs.Cuts.{same_event}
-use Rattle.std.proofs.lemmas.Bool.{cases_eq, cases_lt}
-use Rattle.std.proofs.lemmas.List.Elements.{filter_map-append}
 use Rattle.gr_model.specs.declared.event.Event.{Event}
 use Rattle.gr_model.specs.declared.event.EventId.{EventId}
 use Rattle.gr_model.specs.declared.event.ItemId.{ItemId}
-use Rattle.gr_model.specs.Barriers.{IsDivergent, arrivals, is_barrier, mark_of, mark_of_kind}
-use Rattle.gr_model.specs.Events.{is_end, is_end_kind}
-use Rattle.gr_model.specs.LawfulOrders.{IsIn, IsLawful}
-use Rattle.gr_model.specs.Streams.{ArePrefixes, Streams, event_at, is_complete, is_of, list_of, place_of, size_of, trace_of}
-use Rattle.std.proofs.lemmas.Option.{slice_get_within, gets}
-use Rattle.std.proofs.lemmas.Grind.{common_steps}
 use Rattle.gr_steps.specs.Steps.{CanMeet, IsReady}
 use Rattle.gr_agenda.proofs.Frames.{Frame, frame_taken, meets_was}
 use Rattle.gr_agenda.proofs.KeptLemmas.{Goes, items_of, kept_framed}

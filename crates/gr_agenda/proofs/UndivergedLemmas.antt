@@ -1,12 +1,9 @@
 -- An item at a barrier can go on exactly where the barrier's instance is divergent; and which instances stay as they are.
-use Rattle.std.proofs.Common.{◌≡◌, arith, ℕ, true, Some, refl}
-use Rattle.std.specs.Prelude.{slice_index_or}
-use Rattle.std.proofs.lemmas.List.Elements.{Contains-get_or}
+use Rattle.gr_model.proofs.Common.{◌≡◌, arith, ℕ, true, Some, refl, slice_index_or, Contains-get_or}
 use Rattle.gr_model.specs.declared.event.Event.{Event}
 use Rattle.gr_model.specs.declared.event.EventId.{EventId}
 use Rattle.gr_model.specs.declared.event.ItemId.{ItemId}
-use Rattle.gr_model.specs.Barriers.{IsDivergent, is_barrier}
-use Rattle.gr_model.specs.Streams.{event_at}
+use Rattle.gr_model.specs.Prelude.{IsDivergent, is_barrier, event_at}
 use Rattle.gr_clocks.specs.Counts.{count_of}
 use Rattle.gr_steps.specs.Steps.{CanHandle}
 use Rattle.gr_steps.proofs.EventRecords.{barriers_name_nothing}

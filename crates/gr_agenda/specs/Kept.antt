@@ -3,11 +3,7 @@ use Rattle.std.specs.Prelude.{◌≡◌, ◌≢◌, ◌⊎◌, ℕ, List, Option
 use Rattle.gr_model.specs.declared.event.EventId.{EventId}
 use Rattle.gr_model.specs.declared.event.ItemId.{ItemId}
 use Rattle.gr_model.specs.declared.event.Name.{Name}
-use Rattle.gr_model.specs.Barriers.{IsDivergent, is_barrier}
-use Rattle.gr_model.specs.LawfulOrders.{IsIn}
-use Rattle.gr_model.specs.Names.{HasName, release_place}
-use Rattle.gr_model.specs.Streams.{Streams, place_of}
-use Rattle.gr_model.specs.Waits.{IsPrevious}
+use Rattle.gr_model.specs.Prelude.{IsDivergent, is_barrier, IsIn, HasName, release_place, Streams, place_of, IsPrevious}
 use Rattle.gr_clocks.specs.Counts.{Counts, count_of}
 use Rattle.gr_steps.specs.Steps.{CanHandle}
 use Rattle.gr_order.specs.declared.steps.Ready.{Ready}

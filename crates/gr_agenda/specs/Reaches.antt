@@ -2,9 +2,7 @@
 -- Source: docs/MODEL.md, "Barriers": a barrier changes its own instance alone, and an instance is divergent where two that came differ.
 use Rattle.std.specs.Prelude.{◌≡◌, ℕ, true, false, filter, length, ⊤}
 use Rattle.gr_model.specs.declared.event.Event.{Event}
-use Rattle.gr_model.specs.Barriers.{arrivals, is_barrier, mark_of}
-use Rattle.gr_model.specs.Events.{is_end}
-use Rattle.gr_model.specs.Streams.{Streams, trace_of}
+use Rattle.gr_model.specs.Prelude.{arrivals, is_barrier, mark_of, is_end, Streams, trace_of}
 use Rattle.gr_agenda.specs.declared.reach.Reach.{Reach}
 use Rattle.gr_agenda.specs.declared.reach.Reach.TheVariants.{Item, Instance, Mark, Group}
 

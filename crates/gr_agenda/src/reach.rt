@@ -1,7 +1,7 @@
 //! Which steps may become ready when a record is taken.
 
 ghost use Rattle.std.specs.Prelude.{◌≡◌, ◌≤◌, true, IsTrue, is_some};
-ghost use Rattle.gr_model.specs.Barriers.{mark_of};
+ghost use Rattle.gr_model.specs.Prelude.{mark_of};
 ghost use Rattle.gr_lanes.specs.Remembered.{forgotten_of};
 ghost use Rattle.gr_agenda.specs.Reaches.{IsFollowing, IsReach, next_instance};
 

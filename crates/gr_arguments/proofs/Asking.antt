@@ -1,10 +1,10 @@
 -- Values of arguments, and the runs that they set up.
-use Rattle.std.proofs.Common.{arith, ◌≡◌, ℕ, List, sym, codes, refl, subst, Result, Ok, Err, ◌↔◌, IfOk, IsOk}
+use Rattle.gr_model.proofs.Common.{arith, ◌≡◌, ℕ, List, sym, codes, refl, subst, Result, Ok, Err, ◌↔◌, IfOk, IsOk}
 use Rattle.std.specs.Result.{result_ok}
 use Rattle.clap.proofs.WalkLemmas.{first_value-rows, raw_values-rows}
 use Rattle.clap.specs.Walk.{Row, Text}
 use Rattle.gr_model.specs.declared.config.ConfigError.{ConfigError}
-use Rattle.gr_model.specs.Configs.{IsConfig, Settings}
+use Rattle.gr_model.specs.Prelude.{IsConfig, Settings}
 use Rattle.gr_arguments.specs.Asked.{IsNumberOr, IsSetUp, IsTheOne}
 
 -- the values of an argument are those of its rows

@@ -1,5 +1,5 @@
 -- The command that a parse finds.
-use Rattle.std.proofs.Common.{◌≡◌, ◌∙◌, true, List, [], Option, refl, ap, subst}
+use Rattle.gr_model.proofs.Common.{◌≡◌, ◌∙◌, true, List, [], Option, refl, ap, subst}
 use Rattle.clap.specs.declared.parser.matches.ArgMatches.{ArgMatches}
 use Rattle.clap.specs.Walk.{Row}
 use Rattle.clap.specs.Words.{App, HasMatchesOf, Text, fault_of, is_simple, is_simple_and_free, subcommand_of, subcommand_rows_of}

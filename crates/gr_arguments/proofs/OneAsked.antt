@@ -1,5 +1,5 @@
 -- Words ask for at most one thing.
-use Rattle.std.proofs.Common.{arith, ◌≡◌, ◌∙◌, List, sym}
+use Rattle.gr_model.proofs.Common.{arith, ◌≡◌, ◌∙◌, List, sym}
 use Rattle.clap.specs.Walk.{Row}
 use Rattle.gr_arguments.specs.declared.request.Misuse.{Misuse}
 use Rattle.gr_arguments.specs.declared.request.Misuse.TheVariants.{NoCount, NoEvent, NoSetUp, NoWordOfHistory, NoWordToExplain, SidesAlone}

@@ -5,7 +5,7 @@ use Rattle.std.specs.Str.{bytes_eq}
 use Rattle.clap.specs.Walk.{Row, Text, all_of, first_of}
 use Rattle.gr_model.specs.declared.event.EventId.{EventId}
 use Rattle.gr_model.specs.declared.event.Word.{Word}
-use Rattle.gr_model.specs.Configs.{IsConfig, Settings}
+use Rattle.gr_model.specs.Prelude.{IsConfig, Settings}
 use Rattle.gr_arguments.specs.Naming.{IsNumber, Names, NamesEvent}
 use Rattle.gr_arguments.specs.declared.request.Arguments.{Arguments}
 use Rattle.gr_arguments.specs.declared.request.Misuse.{Misuse}

@@ -1,9 +1,7 @@
 -- One group's barriers: what a mark more changes.
-use Rattle.std.proofs.Common.{◌≡◌, ℕ, ◌<◌, Bool, List, [], ◌∷◌, ◌++◌, map, length, get_or, set, Vec, sym, ◌∙◌, ap, arith}
-use Rattle.std.proofs.lemmas.Grind.{get_or-set_at}
-use Rattle.std.proofs.lemmas.List.{length_push, get_or-map, get_or-set_other, map-set, length-map, set-get_or}
+use Rattle.gr_model.proofs.Common.{◌≡◌, ℕ, ◌<◌, Bool, List, [], ◌∷◌, ◌++◌, map, length, get_or, set, Vec, sym, ◌∙◌, ap, arith, get_or-set_at, length_push, get_or-map, get_or-set_other, map-set, length-map, set-get_or}
 use Rattle.gr_model.specs.declared.limits.TheConstants.{MOST_RECORDS}
-use Rattle.gr_model.specs.Instances.{Mark}
+use Rattle.gr_model.specs.Prelude.{Mark}
 use Rattle.gr_barriers.specs.Arrived.{GroupMarks, marks_at, AreFew}
 
 abbrev items : {Z : Type 0} → Vec Mark Z → List Mark

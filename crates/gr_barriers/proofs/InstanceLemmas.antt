@@ -1,13 +1,9 @@
 -- All groups' barriers: what a mark more and an ended group change, and the list of the divergences so far.
-use Rattle.std.proofs.Common.{◌≡◌, ℕ, ◌+◌, ◌<◌, ◌≤◌, true, false, List, [], ◌∷◌, ◌++◌, length, get_or, set, refl, sym, arith}
-use Rattle.std.proofs.lemmas.Grind.{get_or-set_at}
-use Rattle.std.proofs.lemmas.List.{get_or-set_same, get_or-set_other, length-set, get_or_read, get_or-map, length-map}
-use Rattle.std.proofs.Math.Seq.{map-set_same}
+use Rattle.gr_model.proofs.Common.{◌≡◌, ℕ, ◌+◌, ◌<◌, ◌≤◌, true, false, List, [], ◌∷◌, ◌++◌, length, get_or, set, refl, sym, arith, get_or-set_at, get_or-set_same, get_or-set_other, length-set, get_or_read, get_or-map, length-map, map-set_same}
 use Rattle.gr_model.specs.declared.event.ItemId.{ItemId}
 use Rattle.gr_model.specs.declared.report.Divergence.{Divergence}
 use Rattle.gr_model.specs.declared.report.DivergenceCause.{DivergenceCause}
-use Rattle.gr_model.specs.Instances.{Mark, IsDivergentOf, HasDivergenceCause}
-use Rattle.gr_model.specs.Shapes.{HasItem}
+use Rattle.gr_model.specs.Prelude.{Mark, IsDivergentOf, HasDivergenceCause, HasItem}
 use Rattle.gr_model.proofs.Causes.{cause_diverges}
 use Rattle.gr_barriers.specs.Arrived.{GroupMarks, sizes_of, group_of, marks_at, brought, Arrives, Ends, IsDivergence}
 use Rattle.gr_barriers.specs.Listings.{AreListedBefore}

@@ -1,9 +1,8 @@
 -- The divergences of a launch, listed one instance after the other.
-use Rattle.std.proofs.Common.{◌≡◌, inl, ℕ, ◌+◌, ◌<◌, ◌≤◌, Bool, List, [], ◌∷◌, ◌++◌, subst, arith}
+use Rattle.gr_model.proofs.Common.{◌≡◌, inl, ℕ, ◌+◌, ◌<◌, ◌≤◌, Bool, List, [], ◌∷◌, ◌++◌, subst, arith}
 use Rattle.gr_model.specs.declared.report.Divergence.{Divergence}
 use Rattle.gr_model.specs.declared.report.DivergenceCause.{DivergenceCause}
-use Rattle.gr_model.specs.Instances.{Arrivals, HasDivergenceCause, IsDivergentOf}
-use Rattle.gr_model.specs.Reports.{DivergenceBelow, Lists}
+use Rattle.gr_model.specs.Prelude.{Arrivals, HasDivergenceCause, IsDivergentOf, DivergenceBelow, Lists}
 use Rattle.gr_model.proofs.Causes.{cause_diverges, one_cause}
 use Rattle.gr_barriers.specs.Listings.{AreListedBefore, IsBefore}
 use Rattle.gr_barriers.specs.Summaries.{NobodyCame}

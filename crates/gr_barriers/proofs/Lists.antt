@@ -1,10 +1,7 @@
 -- Lists in the making, and what one value more leaves of them.
-use Rattle.std.proofs.Common.{ℕ, ◌≤◌, ◌-◌, length, inl, inr, refl, ◌≡◌, ◌⊎◌, ◌<◌, List, [], ◌∷◌, ◌++◌, get_or, arith}
-use Rattle.std.proofs.lemmas.List.Elements.{Contains-append_cases, Contains-append_left, Contains-append_right, Contains-get_or, Contains-push, Contains-push_cases}
-use Rattle.std.proofs.lemmas.Bool.{cases_lt}
-use Rattle.std.proofs.lemmas.List.{get_or-append_right, get_or_append_left, length-append}
+use Rattle.gr_model.proofs.Common.{ℕ, ◌≤◌, ◌-◌, length, inl, inr, refl, ◌≡◌, ◌⊎◌, ◌<◌, List, [], ◌∷◌, ◌++◌, get_or, arith, Contains-append_cases, Contains-append_left, Contains-append_right, Contains-get_or, Contains-push, Contains-push_cases, cases_lt, get_or-append_right, get_or_append_left, length-append}
 use Rattle.std.proofs.lemmas.List.Quantifiers.{all_pairs_push}
-use Rattle.gr_model.specs.Reports.{Lists}
+use Rattle.gr_model.specs.Prelude.{Lists}
 
 pub none_listed : {X : Type 0} (Below : X → X → Type 0) (P : X → Type 0) → ((x : X) → P x → ⊥) → Lists Below P []
 none_listed Below P none = record {

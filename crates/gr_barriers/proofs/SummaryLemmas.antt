@@ -1,8 +1,7 @@
 -- What the sum of what a group's items brought to an instance says of the instance.
-use Rattle.std.proofs.Common.{◌≡◌, ◌≢◌, ◌⊎◌, ◌↔◌, inl, inr, ℕ, ◌<◌, Bool, IsTrue, is_some, Option, Some, None, refl, sym, ◌∙◌, ap, arith, ⊎_elim}
-use Rattle.std.specs.Prelude.{MatchOption}
+use Rattle.gr_model.proofs.Common.{◌≡◌, ◌≢◌, ◌⊎◌, ◌↔◌, inl, inr, ℕ, ◌<◌, Bool, IsTrue, is_some, Option, Some, None, refl, sym, ◌∙◌, ap, arith, ⊎_elim, MatchOption}
 use Rattle.gr_model.specs.declared.report.DivergenceCause.{DivergenceCause}
-use Rattle.gr_model.specs.Instances.{Mark, Arrivals, AreMixed, HasDivergenceCause, IsConvergentOf, IsDivergentOf, IsMissing, IsPartial, IsWaitingOf, SitesDiffer}
+use Rattle.gr_model.specs.Prelude.{Mark, Arrivals, AreMixed, HasDivergenceCause, IsConvergentOf, IsDivergentOf, IsMissing, IsPartial, IsWaitingOf, SitesDiffer}
 use Rattle.gr_model.proofs.Causes.{cause_diverges}
 use Rattle.gr_barriers.specs.Summaries.{IsSummaryOf, NobodyCame}
 use Rattle.gr_barriers.specs.declared.summary.Summary.{Summary}

@@ -5,7 +5,7 @@ use Rattle.gr_model.specs.declared.event.ItemId.{ItemId}
 use Rattle.gr_model.specs.declared.report.Divergence.{Divergence}
 use Rattle.gr_model.specs.declared.report.DivergenceCause.{DivergenceCause}
 use Rattle.gr_model.specs.declared.limits.TheConstants.{MOST_RECORDS}
-use Rattle.gr_model.specs.Instances.{Mark, Arrivals, IsDivergentOf, HasDivergenceCause}
+use Rattle.gr_model.specs.Prelude.{Mark, Arrivals, IsDivergentOf, HasDivergenceCause}
 use Rattle.gr_barriers.specs.declared.instances.State.{State}
 use Rattle.gr_barriers.specs.Summaries.{IsStateOf}
 

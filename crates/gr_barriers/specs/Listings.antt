@@ -1,7 +1,7 @@
 -- The list of divergent instances in the making.
 use Rattle.std.specs.Prelude.{◌≡◌, ◌⊎◌, ℕ, ◌<◌, List}
 use Rattle.gr_model.specs.declared.report.Divergence.{Divergence}
-use Rattle.gr_model.specs.Reports.{DivergenceBelow, Lists}
+use Rattle.gr_model.specs.Prelude.{DivergenceBelow, Lists}
 
 -- an instance of an earlier group, or an earlier one of this group
 abbrev pub IsBefore : ℕ → ℕ → Divergence → Type 0

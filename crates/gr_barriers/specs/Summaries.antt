@@ -1,7 +1,7 @@
 -- What the first so many items of a group brought to one of its instances, in sum, and what this says of the instance.
 -- Source: docs/MODEL.md, "Barriers". What an instance is: the model's `Instances`.
 use Rattle.std.specs.Prelude.{◌≡◌, ◌≢◌, ◌↔◌, ℕ, ◌<◌, Bool, IsTrue, Option, Some, None}
-use Rattle.gr_model.specs.Instances.{Mark, Arrivals, IsConvergentOf, IsDivergentOf, IsWaitingOf}
+use Rattle.gr_model.specs.Prelude.{Mark, Arrivals, IsConvergentOf, IsDivergentOf, IsWaitingOf}
 use Rattle.gr_barriers.specs.declared.instances.State.{State}
 use Rattle.gr_barriers.specs.declared.instances.State.TheVariants.{Waiting, Convergent, Divergent}
 use Rattle.gr_barriers.specs.declared.summary.Summary.{Summary}

@@ -5,8 +5,7 @@
 //! "Barriers"). A call that is refused changes nothing.
 
 ghost use Rattle.std.specs.Prelude.{◌≡◌, ◌↔◌, ◌<◌, ◌≤◌, ◌+◌, ℕ, IsOkUnless, IsTrue, IfOk, OnOk, OnErr, length, map};
-ghost use Rattle.gr_model.specs.Shapes.{HasItem};
-ghost use Rattle.gr_model.specs.Reports.{Lists, DivergenceBelow};
+ghost use Rattle.gr_model.specs.Prelude.{HasItem, Lists, DivergenceBelow};
 ghost use Rattle.gr_barriers.specs.declared.instances.BarrierError.TheVariants.{Memory as OutOfMemory};
 ghost use Rattle.gr_barriers.specs.Arrived.{sizes_of, group_of, marks_of, fresh_group, Arrives, Ends, IsState, IsDivergence};
 ghost use Rattle.gr_barriers.specs.Listings.{AreListedBefore};

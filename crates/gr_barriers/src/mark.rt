@@ -13,7 +13,7 @@ pub struct Mark {
 }
 
 impl Model for Mark {
-    ghost use Rattle.gr_model.specs.Instances.{Mark as Brought};
+    ghost use Rattle.gr_model.specs.Prelude.{Mark as Brought};
 
     ghost Value = { Brought };
 

@@ -2,7 +2,7 @@
 //! "Barriers").
 
 ghost use Rattle.std.specs.Prelude.{◌≡◌, ◌↔◌, ◌+◌, ℕ, IsTrue, MatchOption};
-ghost use Rattle.gr_model.specs.Instances.{Arrivals, HasDivergenceCause, IsDivergentOf};
+ghost use Rattle.gr_model.specs.Prelude.{Arrivals, HasDivergenceCause, IsDivergentOf};
 ghost use Rattle.gr_barriers.specs.Summaries.{IsStateOf, IsSummaryOf, NobodyCame};
 
 use crate::instances::State;

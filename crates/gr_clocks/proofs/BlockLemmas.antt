@@ -1,10 +1,8 @@
 -- The counts of all items, as rows of one group each: what is joined and written.
-use Rattle.std.proofs.Common.{◌≡◌, ◌≢◌, ℕ, ◌<◌, ◌≤◌, max, List, [], ◌∷◌, ◌++◌, length, slice_index, get_or, replicate, ◌∙◌, arith}
-use Rattle.std.proofs.lemmas.List.{get_or_past, get_or_push, get_or_append_left, length_push, length-map, length-replicate, get_or-replicate, ext_get_or}
+use Rattle.gr_model.proofs.Common.{◌≡◌, ◌≢◌, ℕ, ◌<◌, ◌≤◌, max, List, [], ◌∷◌, ◌++◌, length, slice_index, get_or, replicate, ◌∙◌, arith, get_or_past, get_or_push, get_or_append_left, length_push, length-map, length-replicate, get_or-replicate, ext_get_or, All-get_or, All-from_get_or}
 use Rattle.std.proofs.Math.ListN.{get_or-map}
 use Rattle.gr_model.specs.declared.event.ItemId.{ItemId}
 use Rattle.gr_model.proofs.PutLemmas.{put_other, put_same}
-use Rattle.std.proofs.lemmas.List.Elements.{All-get_or, All-from_get_or}
 use Rattle.gr_clocks.specs.declared.clock.TheConstants.{LARGEST_COUNT}
 use Rattle.gr_clocks.specs.Blocks.{IsBlock, IsRowJoin, IsRowWith}
 use Rattle.gr_clocks.specs.Counts.{Counts, count_of, sizes_of, CountSame, IsZero}

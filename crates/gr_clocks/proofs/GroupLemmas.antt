@@ -1,8 +1,5 @@
 -- The clocks of one work-group: what its items keep, and what all of them count after a barrier.
-use Rattle.std.proofs.Common.{◌≡◌, ◌≢◌, ℕ, zero, suc, ◌+◌, ◌<◌, ◌≤◌, All, Bool, false, ◌||◌, List, length, get_or, set, refl, sym, ◌∙◌, ap, subst, arith}
-use Rattle.std.proofs.lemmas.Bool.Decides.{nat_tests}
-use Rattle.std.proofs.lemmas.List.{get_or_past, get_or_read, length-set, get_or-set_same, get_or-set_other}
-use Rattle.std.proofs.lemmas.List.Elements.{All-get_or}
+use Rattle.gr_model.proofs.Common.{◌≡◌, ◌≢◌, ℕ, zero, suc, ◌+◌, ◌<◌, ◌≤◌, All, Bool, false, ◌||◌, List, length, get_or, set, refl, sym, ◌∙◌, ap, subst, arith, nat_tests, get_or_past, get_or_read, length-set, get_or-set_same, get_or-set_other, All-get_or}
 use Rattle.gr_model.specs.declared.event.ItemId.{ItemId}
 use Rattle.gr_clocks.specs.Counts.{Counts, count_of, tick_at, CountSame, CountsOneMore, IsJoin}
 use Rattle.gr_clocks.specs.Owned.{OwnedClock, no_clock, HasRoom, TicksOwner, AreTicked, IsRaisedBy}

@@ -1,6 +1,5 @@
 -- What a clock counts that learns from several others, one after another.
-use Rattle.std.proofs.Common.{◌≡◌, ℕ, ◌+◌, ◌<◌, max, List, [], ◌∷◌, ◌++◌, map, length, get_or, take, arith}
-use Rattle.std.proofs.lemmas.List.{map_more}
+use Rattle.gr_model.proofs.Common.{◌≡◌, ℕ, ◌+◌, ◌<◌, max, List, [], ◌∷◌, ◌++◌, map, length, get_or, take, arith, map_more}
 use Rattle.gr_model.specs.declared.event.ItemId.{ItemId}
 use Rattle.gr_clocks.specs.Counts.{Counts, count_of, greatest_count, IsJoin, IsJoinOfAll}
 

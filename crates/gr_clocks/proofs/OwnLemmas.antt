@@ -1,6 +1,5 @@
 -- Clocks with one item's count apart: what they count, and what a join of two of them counts.
-use Rattle.std.proofs.Common.{◌≡◌, ◌≢◌, ◌⊎◌, ℕ, ◌+◌, max, refl, arith}
-use Rattle.std.proofs.lemmas.Bool.Decides.{nat_tests}
+use Rattle.gr_model.proofs.Common.{◌≡◌, ◌≢◌, ◌⊎◌, ℕ, ◌+◌, max, refl, arith, nat_tests}
 use Rattle.gr_model.specs.declared.event.ItemId.{ItemId}
 use Rattle.gr_clocks.specs.Counts.{Counts, count_of, tick_at, CountSame, CountsOneMore, IsJoin}
 use Rattle.gr_clocks.specs.Owned.{HasRoom, TicksOwner, with_count, IsOwn, IsRaisedTo}

@@ -1,11 +1,9 @@
 -- What several releases left, in each memory.
-use Rattle.std.proofs.Common.{◌≡◌, ◌≢◌, ◌↔◌, ℕ, zero, suc, Some, slice_get, ◌<◌, ◌≤◌, max, ◌++◌, All, Any, Bool, false, List, [], ◌∷◌, map, length, get_or, refl, sym, ◌∙◌, ap, arith}
-use Rattle.std.proofs.lemmas.List.{get_or_default, get_or-map, length-map}
-use Rattle.std.proofs.lemmas.List.Elements.{All-tail}
+use Rattle.gr_model.proofs.Common.{◌≡◌, ◌≢◌, ◌↔◌, ℕ, zero, suc, Some, slice_get, ◌<◌, ◌≤◌, max, ◌++◌, All, Any, Bool, false, List, [], ◌∷◌, map, length, get_or, refl, sym, ◌∙◌, ap, arith, get_or_default, get_or-map, length-map, All-tail}
 use Rattle.gr_model.specs.declared.event.Space.{Space}
 use Rattle.gr_model.specs.declared.event.Space.TheVariants.{Global, Local}
 use Rattle.gr_model.specs.declared.event.ItemId.{ItemId}
-use Rattle.gr_model.specs.Access.{memory_of}
+use Rattle.gr_model.specs.Prelude.{memory_of}
 use Rattle.gr_clocks.specs.declared.clock.TheConstants.{LARGEST_COUNT}
 use Rattle.gr_clocks.specs.Counts.{Counts, count_of, greatest_count}
 use Rattle.gr_clocks.specs.Groups.{IsNext}

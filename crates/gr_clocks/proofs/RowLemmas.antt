@@ -1,11 +1,8 @@
 -- Tables with an entry for each work-item: what is read at an item, and what is written there.
-use Rattle.std.proofs.Common.{◌≡◌, ◌≢◌, ℕ, ◌+◌, ◌<◌, true, List, [], ◌∷◌, ◌++◌, map, length, slice_index, get_or, set, ap, ◌∙◌, arith}
-use Rattle.std.proofs.lemmas.Bool.Decides.{nat_tests}
-use Rattle.std.proofs.lemmas.Grind.{get_or-set_at}
-use Rattle.std.proofs.lemmas.List.{length-map, get_or-set_same, get_or-set_other, get_or_push, get_or_append_left, length_push, set-get_or}
+use Rattle.gr_model.proofs.Common.{◌≡◌, ◌≢◌, ℕ, ◌+◌, ◌<◌, true, List, [], ◌∷◌, ◌++◌, map, length, slice_index, get_or, set, ap, ◌∙◌, arith, nat_tests, get_or-set_at, length-map, get_or-set_same, get_or-set_other, get_or_push, get_or_append_left, length_push, set-get_or}
 use Rattle.std.proofs.Math.ListN.{get_or-map}
 use Rattle.gr_model.specs.declared.event.ItemId.{ItemId}
-use Rattle.gr_model.specs.Shapes.{HasItem}
+use Rattle.gr_model.specs.Prelude.{HasItem}
 use Rattle.gr_clocks.specs.Rows.{entry_of, same_item}
 
 -- ---- items

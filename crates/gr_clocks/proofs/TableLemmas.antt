@@ -1,12 +1,8 @@
 -- The clocks of items in a table: what is read, and what is written at an item or a group.
-use Rattle.std.proofs.Common.{◌≡◌, ◌≢◌, ℕ, suc, ◌<◌, ◌≤◌, All, List, [], ◌∷◌, ◌++◌, map, length, slice_index, get_or, set, refl, sym, ◌∙◌, ap, arith}
-use Rattle.std.proofs.lemmas.Grind.{get_or-set_at}
-use Rattle.std.proofs.lemmas.List.{length-map, length-set, length_push, map_push, map-set, get_or-set_same, get_or-set_other, get_or_read, get_or_push, get_or_append_left, ext_get_or, nil_from_length}
+use Rattle.gr_model.proofs.Common.{◌≡◌, ◌≢◌, ℕ, suc, ◌<◌, ◌≤◌, All, List, [], ◌∷◌, ◌++◌, map, length, slice_index, get_or, set, refl, sym, ◌∙◌, ap, arith, get_or-set_at, length-map, length-set, length_push, map_push, map-set, get_or-set_same, get_or-set_other, get_or_read, get_or_push, get_or_append_left, ext_get_or, nil_from_length, map-set_same}
 use Rattle.std.proofs.Math.ListN.{get_or-map}
-use Rattle.std.proofs.Math.Seq.{map-set_same}
 use Rattle.gr_model.specs.declared.event.ItemId.{ItemId}
-use Rattle.gr_model.specs.Groups.{put}
-use Rattle.gr_model.specs.Shapes.{HasItem}
+use Rattle.gr_model.specs.Prelude.{put, HasItem}
 use Rattle.gr_model.proofs.PutLemmas.{map_put, put_other, put_same, puts_last, puts_more}
 use Rattle.gr_clocks.specs.declared.clock.TheConstants.{LARGEST_COUNT}
 use Rattle.gr_clocks.specs.Counts.{Counts, count_of, greatest_count, CountsOneMore, IsJoinOfAll}

@@ -1,11 +1,7 @@
 -- Counts that no clock shares: what a tick writes, and what a group adds.
-use Rattle.std.proofs.Common.{◌≡◌, ℕ, ◌+◌, List, [], length, slice_index, get_or, set, replicate, ◌∙◌, ap, arith}
-use Rattle.std.proofs.lemmas.Bool.Decides.{nat_tests}
-use Rattle.std.proofs.lemmas.List.{get_or_past, get_or_read, get_or-replicate, length-replicate, length-set}
-use Rattle.std.proofs.Math.Seq.{map-set_same}
+use Rattle.gr_model.proofs.Common.{◌≡◌, ℕ, ◌+◌, List, [], length, slice_index, get_or, set, replicate, ◌∙◌, ap, arith, nat_tests, get_or_past, get_or_read, get_or-replicate, length-replicate, length-set, map-set_same}
 use Rattle.gr_model.specs.declared.event.ItemId.{ItemId}
-use Rattle.gr_model.specs.Groups.{put}
-use Rattle.gr_model.specs.Shapes.{HasItem}
+use Rattle.gr_model.specs.Prelude.{put, HasItem}
 use Rattle.gr_model.proofs.PutLemmas.{map_put, put_other, put_same}
 use Rattle.gr_clocks.specs.Counts.{AddsCounts, Counts, sizes_of, IsTick}
 use Rattle.gr_clocks.proofs.RowLemmas.{entry_other, entry_same, one_item, row_of_item, row_size}

@@ -2,7 +2,7 @@
 -- Source: docs/MODEL.md, "Clocks". After Mattern, Virtual Time and Global States of Distributed Systems, 1988.
 use Rattle.std.specs.Prelude.{◌≡◌, ℕ, ◌+◌, max, List, [], ◌∷◌, map, length, if◌then◌else◌}
 use Rattle.gr_model.specs.declared.event.ItemId.{ItemId}
-use Rattle.gr_model.specs.Groups.{put}
+use Rattle.gr_model.specs.Prelude.{put}
 use Rattle.gr_clocks.specs.Rows.{entry_of, same_item}
 
 -- a clock: for each group, the counts of its items. It may lack groups and items of which it counts nothing

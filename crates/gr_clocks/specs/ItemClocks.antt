@@ -7,8 +7,7 @@ use Rattle.gr_model.specs.declared.event.Scope.{Scope}
 use Rattle.gr_model.specs.declared.event.ItemId.{ItemId}
 use Rattle.gr_model.specs.declared.event.Word.{Word}
 use Rattle.gr_model.specs.declared.event.Word.TheVariants.{Global as GlobalWord, Local as LocalWord}
-use Rattle.gr_model.specs.Access.{memory_of}
-use Rattle.gr_model.specs.Groups.{put}
+use Rattle.gr_model.specs.Prelude.{memory_of, put}
 use Rattle.gr_clocks.specs.declared.clock.TheConstants.{LARGEST_COUNT}
 use Rattle.gr_clocks.specs.Counts.{Counts, count_of, CountSame}
 use Rattle.gr_clocks.specs.Tables.{ClockTable, clock_at, AddsItems, AreZero, IsItemFull, TicksItem, IsGroupFull, LearnsAndTicks, MeetsGroup}

@@ -2,7 +2,7 @@
 -- Source: docs/MODEL.md, "Clocks".
 use Rattle.std.specs.Prelude.{◌≡◌, ◌≢◌, ℕ, ◌<◌, ◌≤◌, max, List, [], length, slice_index, slice_index_or}
 use Rattle.gr_model.specs.declared.event.ItemId.{ItemId}
-use Rattle.gr_model.specs.Groups.{put}
+use Rattle.gr_model.specs.Prelude.{put}
 use Rattle.gr_clocks.specs.declared.clock.TheConstants.{LARGEST_COUNT}
 use Rattle.gr_clocks.specs.Counts.{Counts, count_of, CountsOneMore}
 

@@ -2,8 +2,7 @@
 -- Source: docs/MODEL.md, "Clocks".
 use Rattle.std.specs.Prelude.{◌≡◌, ◌≢◌, ◌⊎◌, ℕ, ◌+◌, ◌<◌, ◌≤◌, max, Bool, true, false, List, [], map, length, slice_index, slice_index_or}
 use Rattle.gr_model.specs.declared.event.ItemId.{ItemId}
-use Rattle.gr_model.specs.Groups.{put}
-use Rattle.gr_model.specs.Shapes.{HasItem}
+use Rattle.gr_model.specs.Prelude.{put, HasItem}
 use Rattle.gr_clocks.specs.declared.clock.TheConstants.{LARGEST_COUNT}
 use Rattle.gr_clocks.specs.Rows.{entry_of}
 use Rattle.gr_clocks.specs.Counts.{Counts, count_of, greatest_count, tick_at, CountsOneMore}

@@ -1,15 +1,10 @@
 -- A word is hit in the accesses along an order exactly where two events of the order clash on it.
-use Rattle.std.proofs.Common.{◌≢◌, ◌↔◌, List, None, arith}
+use Rattle.gr_model.proofs.Common.{◌≢◌, ◌↔◌, List, None, arith}
 use Rattle.gr_model.specs.declared.event.EventId.{EventId}
 use Rattle.gr_model.specs.declared.event.Word.{Word}
-use Rattle.gr_model.specs.LawfulOrders.{IsIn, IsLawful, IsWholeOrder}
-use Rattle.gr_model.specs.Waits.{IsGrounded}
+use Rattle.gr_model.specs.Prelude.{IsIn, IsLawful, IsWholeOrder, IsGrounded, ClashesAt, SomePair, RacesInOrder, IsRacy, Lists, Streams, word_at}
 use Rattle.gr_model.proofs.Descent.{lawful_is_grounded}
 use Rattle.gr_model.proofs.HitsAreRaces.{hit_is_race, race_is_hit}
-use Rattle.gr_model.specs.Hits.{ClashesAt, SomePair}
-use Rattle.gr_model.specs.Races.{RacesInOrder, IsRacy}
-use Rattle.gr_model.specs.Reports.{Lists}
-use Rattle.gr_model.specs.Streams.{Streams, word_at}
 use Rattle.gr_model.proofs.Pairs.{PairIn, PairIn-from_some, SomeOf, SomeOf-place, SomePair-from_in}
 use Rattle.gr_clocks.specs.ClockedAccess.{ClockedAccess, bare}
 use Rattle.gr_shadow.specs.Clashes.{IsHitIn, clashes}

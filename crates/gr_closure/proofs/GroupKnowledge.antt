@@ -1,13 +1,9 @@
 -- What a barrier sees whose instance meets; and what its item, its group, and the others, know then.
-use Rattle.std.proofs.Common.{◌≡◌, ◌≢◌, ◌⊎◌, ◌↔◌, ℕ, ◌<◌, List, IsTrue, IsFalse, refl, sym, subst, inl, inr, ⊎_elim, arith}
+use Rattle.gr_model.proofs.Common.{◌≡◌, ◌≢◌, ◌⊎◌, ◌↔◌, ℕ, ◌<◌, List, IsTrue, IsFalse, refl, sym, subst, inl, inr, ⊎_elim, arith}
 use Rattle.gr_model.specs.declared.event.EventId.{EventId}
 use Rattle.gr_model.specs.declared.event.ItemId.{ItemId}
 use Rattle.gr_model.specs.declared.event.Space.{Space}
-use Rattle.gr_model.specs.Barriers.{IsConvergent, StandsIn, Together}
-use Rattle.gr_model.specs.Counts.{Sees}
-use Rattle.gr_model.specs.Instances.{Mark, flags}
-use Rattle.gr_model.specs.LawfulOrders.{IsIn, IsLawful}
-use Rattle.gr_model.specs.Streams.{ArePrefixes, Streams, size_of}
+use Rattle.gr_model.specs.Prelude.{IsConvergent, StandsIn, Together, Sees, Mark, flags, IsIn, IsLawful, ArePrefixes, Streams, size_of}
 use Rattle.gr_steps.specs.Steps.{Meets}
 use Rattle.gr_steps.proofs.BarrierPlaces.{barrier_of, barrier_there, moved, same_instance, stands_same}
 use Rattle.gr_steps.proofs.EventRecords.{barriers_name_nothing}

@@ -1,9 +1,7 @@
 -- The accesses along an order are those of all lists to which these grow.
-use Rattle.std.proofs.Common.{◌≡◌, ℕ, suc, List, Some, slice_get, refl, ◌∙◌, arith}
+use Rattle.gr_model.proofs.Common.{◌≡◌, ℕ, suc, List, Some, slice_get, refl, ◌∙◌, arith}
 use Rattle.gr_model.specs.declared.event.EventId.{EventId}
-use Rattle.gr_model.specs.LawfulOrders.{IsLawful}
-use Rattle.gr_model.specs.Streams.{Grows, Streams}
-use Rattle.gr_model.specs.Waits.{IsGrounded}
+use Rattle.gr_model.specs.Prelude.{IsLawful, Grows, Streams, IsGrounded}
 use Rattle.gr_model.proofs.Descent.{lawful_is_grounded}
 use Rattle.gr_model.proofs.GrowthLaws.{before_grows, before_shrinks, event_grows, stage_event, word_grows}
 use Rattle.gr_clocks.specs.ClockedAccess.{ClockedAccess}

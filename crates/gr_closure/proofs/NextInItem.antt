@@ -1,13 +1,8 @@
 -- An event that is next in its item: the handled events of the item are those before it. So is what is handled, and each barrier of an instance that meets. It sees itself, what its item knows, and what it learns.
-use Rattle.std.proofs.Common.{◌∙◌, ◌≡◌, ◌⊎◌, ◌↔◌, ℕ, ◌<◌, List, sym, inl, inr, ⊎_elim, arith}
+use Rattle.gr_model.proofs.Common.{◌∙◌, ◌≡◌, ◌⊎◌, ◌↔◌, ℕ, ◌<◌, List, sym, inl, inr, ⊎_elim, arith}
 use Rattle.gr_model.specs.declared.event.EventId.{EventId}
 use Rattle.gr_model.specs.declared.event.Space.{Space}
-use Rattle.gr_model.specs.Barriers.{StandsIn}
-use Rattle.gr_model.specs.Counts.{Sees}
-use Rattle.gr_model.specs.Instances.{Mark}
-use Rattle.gr_model.specs.HappensBefore.{BasePair, HappensBefore, behind_barrier, sequenced, synchronized}
-use Rattle.gr_model.specs.LawfulOrders.{IsIn, IsLawful}
-use Rattle.gr_model.specs.Streams.{IsEvent, Streams}
+use Rattle.gr_model.specs.Prelude.{StandsIn, Sees, Mark, BasePair, HappensBefore, behind_barrier, sequenced, synchronized, IsIn, IsLawful, IsEvent, Streams}
 use Rattle.gr_steps.specs.Steps.{IsMeeting, IsReady}
 use Rattle.gr_steps.proofs.NextEvents.{next_of_item}
 use Rattle.gr_steps.proofs.Orders.{handled_upto, previous_of}

@@ -1,17 +1,10 @@
 -- The race test of two accesses says whether their events clash.
-use Rattle.std.proofs.Common.{◌↔◌, ◌≡◌, ◌<◌, ◌&&◌, ◌||◌, arith}
-use Rattle.std.specs.Prelude.{not}
-use Rattle.std.proofs.lemmas.Bool.{and_parts, and_from, not-true, not_from_false, false_from_ne_true, ltb-true, lt-ltb, true≢false}
+use Rattle.gr_model.proofs.Common.{◌↔◌, ◌≡◌, ◌<◌, ◌&&◌, ◌||◌, arith, not, and_parts, and_from, not-true, not_from_false, false_from_ne_true, ltb-true, lt-ltb, true≢false}
 use Rattle.gr_model.specs.declared.event.EventId.{EventId}
 use Rattle.gr_model.specs.declared.event.Word.{Word}
-use Rattle.gr_model.specs.Access.{modifies, inclusive, memory_of}
-use Rattle.gr_model.specs.Counts.{Sees}
-use Rattle.gr_model.specs.Hits.{ClashesAt}
-use Rattle.gr_model.specs.Races.{RacesInOrder}
-use Rattle.gr_model.specs.Streams.{Streams}
+use Rattle.gr_model.specs.Prelude.{modifies, inclusive, memory_of, Sees, ClashesAt, RacesInOrder, Streams, exempt}
 use Rattle.gr_clocks.specs.Counts.{count_of}
 use Rattle.gr_clocks.proofs.RowLemmas.{same_items, same_item_self}
-use Rattle.gr_model.specs.Classes.{exempt}
 use Rattle.gr_model.proofs.ClassLemmas.{exemption_told}
 use Rattle.gr_clocks.specs.ClockedAccess.{ClockedAccess, bare}
 use Rattle.gr_shadow.specs.Clashes.{clashes}

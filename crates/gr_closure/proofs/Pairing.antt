@@ -1,13 +1,8 @@
 -- The events of two accesses along an order of which the later one clashes with the earlier one.
-use Rattle.std.proofs.Common.{◌↔◌, arith, ◌≡◌, ◌≢◌, List}
+use Rattle.gr_model.proofs.Common.{◌↔◌, arith, ◌≡◌, ◌≢◌, List}
 use Rattle.gr_model.specs.declared.event.EventId.{EventId}
 use Rattle.gr_model.specs.declared.event.Word.{Word}
-use Rattle.gr_model.specs.LawfulOrders.{IsLawful}
-use Rattle.gr_model.specs.Hits.{SomePair}
-use Rattle.gr_model.specs.RacePairs.{IsRacePair, IsTurned, Pair}
-use Rattle.gr_model.specs.Races.{RacesInOrder}
-use Rattle.gr_model.specs.Reports.{EventBelow}
-use Rattle.gr_model.specs.Streams.{Streams}
+use Rattle.gr_model.specs.Prelude.{IsLawful, SomePair, IsRacePair, IsTurned, Pair, RacesInOrder, EventBelow, Streams}
 use Rattle.gr_model.proofs.Cuts.{same_event}
 use Rattle.gr_model.proofs.Descent.{lawful_is_grounded}
 use Rattle.gr_model.proofs.HitsAreRaces.{clash_is_race}

@@ -1,10 +1,8 @@
 -- What happens before an event is seen by an event that makes a base pair with it.
-use Rattle.std.proofs.Common.{sym, subst, inl, inr, arith}
+use Rattle.gr_model.proofs.Common.{sym, subst, inl, inr, arith}
 use Rattle.gr_model.specs.declared.event.EventId.{EventId}
 use Rattle.gr_model.specs.declared.event.Space.{Space}
-use Rattle.gr_model.specs.Counts.{Sees}
-use Rattle.gr_model.specs.HappensBefore.{BasePair, HappensBefore, by_pair, through}
-use Rattle.gr_model.specs.Streams.{Streams}
+use Rattle.gr_model.specs.Prelude.{Sees, BasePair, HappensBefore, by_pair, through, Streams}
 
 module _ (s : Streams) (m : Space) where
   -- the last base pair on the way from d to e starts at an event that sees d

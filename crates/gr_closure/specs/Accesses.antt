@@ -3,10 +3,7 @@
 use Rattle.std.specs.Prelude.{◌≡◌, ◌↔◌, ◌<◌, Option, None, Some}
 use Rattle.gr_model.specs.declared.event.Event.{Event}
 use Rattle.gr_model.specs.declared.event.EventId.{EventId}
-use Rattle.gr_model.specs.Access.{memory_of}
-use Rattle.gr_model.specs.Counts.{Sees}
-use Rattle.gr_model.specs.Streams.{Streams, event_at, word_at}
-use Rattle.gr_model.specs.Classes.{class_of}
+use Rattle.gr_model.specs.Prelude.{memory_of, Sees, Streams, event_at, word_at, class_of}
 use Rattle.gr_clocks.specs.Counts.{Counts, count_of}
 use Rattle.gr_clocks.specs.declared.access.Access.{Access}
 

@@ -2,7 +2,7 @@
 -- Source: docs/MODEL.md, "Hits".
 use Rattle.std.specs.Prelude.{◌≡◌, List, [], ◌∷◌, Option, None, Some}
 use Rattle.gr_model.specs.declared.event.EventId.{EventId}
-use Rattle.gr_model.specs.Streams.{Streams, word_at}
+use Rattle.gr_model.specs.Prelude.{Streams, word_at}
 use Rattle.gr_closure.specs.Accesses.{IsAccess}
 use Rattle.gr_clocks.specs.ClockedAccess.{ClockedAccess, bare}
 

@@ -2,13 +2,7 @@
 use Rattle.std.specs.Prelude.{◌≡◌, ◌≢◌, ◌↔◌, ℕ, List, [], ◌∷◌, ◌++◌, None}
 use Rattle.gr_model.specs.declared.event.EventId.{EventId}
 use Rattle.gr_model.specs.declared.event.Word.{Word}
-use Rattle.gr_model.specs.Streams.{Streams, Grows, word_at}
-use Rattle.gr_model.specs.Waits.{IsGrounded}
-use Rattle.gr_model.specs.LawfulOrders.{IsLawful, IsWholeOrder, IsIn}
-use Rattle.gr_model.specs.Races.{RacesInOrder, IsRacy}
-use Rattle.gr_model.specs.RacePairs.{IsRacePair, IsTurned, Pair}
-use Rattle.gr_model.specs.Reports.{EventBelow}
-use Rattle.gr_model.specs.Hits.{SomePair}
+use Rattle.gr_model.specs.Prelude.{Streams, Grows, word_at, IsGrounded, IsLawful, IsWholeOrder, IsIn, RacesInOrder, IsRacy, IsRacePair, IsTurned, Pair, EventBelow, SomePair}
 use Rattle.gr_steps.specs.Steps.{Handles, Meets}
 use Rattle.gr_clocks.specs.ClockedAccess.{ClockedAccess, bare}
 use Rattle.gr_shadow.specs.Clashes.{IsClashIn, IsHitIn}

@@ -4,13 +4,7 @@ use Rattle.std.specs.Prelude.{◌≡◌, List, IsTrue}
 use Rattle.gr_model.specs.declared.event.Space.{Space}
 use Rattle.gr_model.specs.declared.event.ItemId.{ItemId}
 use Rattle.gr_model.specs.declared.event.EventId.{EventId}
-use Rattle.gr_model.specs.Instances.{Mark, flags}
-use Rattle.gr_model.specs.Streams.{Streams}
-use Rattle.gr_model.specs.Names.{Matches}
-use Rattle.gr_model.specs.Barriers.{Together}
-use Rattle.gr_model.specs.LawfulOrders.{IsIn}
-use Rattle.gr_model.specs.HappensBefore.{IsInclusive}
-use Rattle.gr_model.specs.Counts.{Sees}
+use Rattle.gr_model.specs.Prelude.{Mark, flags, Streams, Matches, Together, IsIn, IsInclusive, Sees}
 
 -- in a memory, item i knows of d when the events of this order are handled
 pub data Knows (s : Streams) (m : Space) (order : List EventId) (i : ItemId) (d : EventId) : Type 0 where

@@ -4,11 +4,7 @@ use Rattle.std.specs.Prelude.{◌≡◌, ◌≢◌, ◌⊎◌, ◌↔◌, ℕ, �
 use Rattle.gr_model.specs.declared.event.Space.{Space}
 use Rattle.gr_model.specs.declared.event.ItemId.{ItemId}
 use Rattle.gr_model.specs.declared.event.EventId.{EventId}
-use Rattle.gr_model.specs.Instances.{flags}
-use Rattle.gr_model.specs.Streams.{Streams, ArePrefixes, Grows, size_of}
-use Rattle.gr_model.specs.Barriers.{StandsIn}
-use Rattle.gr_model.specs.LawfulOrders.{IsLawful, IsIn}
-use Rattle.gr_model.specs.Counts.{IsCount, Sees}
+use Rattle.gr_model.specs.Prelude.{flags, Streams, ArePrefixes, Grows, size_of, StandsIn, IsLawful, IsIn, IsCount, Sees}
 use Rattle.gr_steps.specs.Steps.{Handles, Meets}
 use Rattle.gr_clocks.specs.Counts.{Counts, count_of}
 use Rattle.gr_closure.specs.Accesses.{CountsJust}

@@ -1,6 +1,5 @@
 -- The effects of a run, by its outcome.
-use Rattle.std.proofs.Common.{◌≡◌, ◌≢◌, ◌⊎◌, ℕ, Bool, true, false, List, [], Option, None, Some, Result, Ok, Err, inl, inr, refl, subst, sym, IfOk, IfErr, IfSome, OnOk}
-use Rattle.std.specs.Io.KnownBytes.{Appends, Keeps}
+use Rattle.gr_model.proofs.Common.{◌≡◌, ◌≢◌, ◌⊎◌, ℕ, Bool, true, false, List, [], Option, None, Some, Result, Ok, Err, inl, inr, refl, subst, sym, IfOk, IfErr, IfSome, OnOk, Appends, Keeps}
 use Rattle.clap.specs.Words.{IsAmong, Kinds}
 use Rattle.clap.specs.declared.error.kind.ErrorKind.{ErrorKind}
 use Rattle.clap.specs.declared.error.kind.ErrorKind.TheVariants.{OutOfMemory}
@@ -10,8 +9,8 @@ use Rattle.gr_arguments.specs.declared.request.Query.{Query}
 use Rattle.gr_arguments.specs.declared.request.Query.TheVariants as query
 use Rattle.gr_arguments.specs.declared.request.Task.{Task}
 use Rattle.gr_arguments.specs.declared.request.Task.TheVariants.{Replay, Pack, Dump, Upgrade}
-use Rattle.gr_model.specs.Reports.{WholeReport}
-use Rattle.gr_record.specs.InputFaults.{Fails, IsOutside}
+use Rattle.gr_model.specs.Prelude.{WholeReport}
+use Rattle.gr_record.specs.Prelude.{Fails, IsOutside}
 use Rattle.gr_record.proofs.Outside.{at_any}
 use Rattle.gr_places.specs.FaultText.{sides_fault_line}
 use Rattle.gr_places.specs.declared.sides_fault.SidesFault.TheVariants.{Run}

@@ -2,8 +2,7 @@
 -- Source: docs/OUTPUT.md, "The report", "Lines of faults" and "Statuses".
 use Rattle.std.specs.Prelude.{◌≡◌, ◌≢◌, ◌⊎◌, ℕ, Bool, false, true, List, Option, Result, IfSome, ⊤}
 use Rattle.std.specs.Io.KnownBytes.{Appends, Keeps}
-use Rattle.gr_model.specs.Reports.{WholeReport}
-use Rattle.gr_model.specs.Streams.{Streams}
+use Rattle.gr_model.specs.Prelude.{WholeReport, Streams}
 use Rattle.gr_arguments.specs.Asked.{Asked, Inquiry, ask, perform, refuse}
 use Rattle.gr_arguments.specs.declared.request.Query.{Query}
 use Rattle.gr_arguments.specs.declared.request.Query.TheVariants.{Check, Explain, History, Races, WhyHeld}
@@ -20,7 +19,7 @@ use Rattle.gr_timeline.specs.Why.{IsWhy}
 use Rattle.gr_places.specs.SideLines.{place_number}
 use Rattle.gr_races.specs.Accounts.{IsAccountOf}
 use Rattle.gr_replay.specs.Replays.{IsExact, IsExactOfEach, IsReplayFault}
-use Rattle.gr_record.specs.InputFaults.{Fails, IsOutside}
+use Rattle.gr_record.specs.Prelude.{Fails, IsOutside}
 use Rattle.gr_text.specs.Texts.{packed}
 use Rattle.gr_text.specs.Dumps.{dumped, upgraded}
 use Rattle.gr_text.specs.Partial.{text_before_fault}

@@ -1,7 +1,7 @@
 -- The exit statuses of the program.
 -- Source: docs/OUTPUT.md, "Statuses".
 use Rattle.std.specs.Prelude.{◌≡◌, ◌⊎◌, ℕ, Bool, if◌then◌else◌}
-use Rattle.gr_model.specs.Reports.{WholeReport}
+use Rattle.gr_model.specs.Prelude.{WholeReport}
 use Rattle.gr_record.specs.declared.error.RecordError.TheVariants.{Memory as NoMemory}
 use Rattle.gr_record.specs.declared.fault.Fault.{Fault}
 use Rattle.gr_record.specs.declared.fault.Fault.TheVariants.{Stream, SameGroup, OtherLaunch, MissingGroup, Shape, BadLine, NoEnd, LongStream, Read, Write, Memory, Threads}

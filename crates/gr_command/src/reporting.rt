@@ -4,7 +4,7 @@ ghost use Rattle.std.specs.Prelude.{◌≡◌, ◌≢◌, ◌⊎◌, true, IfErr
 ghost use Rattle.std.specs.Fn.{FnReturnsAt};
 ghost use Rattle.std.specs.Io.KnownBytes.{Keeps};
 ghost use Rattle.gr_record.specs.declared.fault.Fault.TheVariants as faults;
-ghost use Rattle.gr_model.specs.Reports.{WholeReport};
+ghost use Rattle.gr_model.specs.Prelude.{WholeReport};
 ghost use Rattle.gr_replay.specs.Replays.{IsExact, IsReplayFault};
 ghost use Rattle.gr_report.specs.Whole.{whole_of};
 ghost use Rattle.gr_command.specs.Answers.{IsFaultOfFiles, IsReportOfFiles, WritesPrefixOfFiles, WritesReport, WritesReportPrefix};

@@ -1,8 +1,7 @@
 -- The report of a run that has ended.
-use Rattle.std.proofs.Common.{◌≡◌, ◌∙◌, ℕ, List, Option, Some, length, sym, ap, subst, IfSome}
+use Rattle.gr_model.proofs.Common.{◌≡◌, ◌∙◌, ℕ, List, Option, Some, length, sym, ap, subst, IfSome}
 use Rattle.gr_model.specs.declared.event.Word.{Word}
-use Rattle.gr_model.specs.Reports.{IsReportOf, Lists, WholeReport, WordBelow}
-use Rattle.gr_model.specs.Streams.{Streams}
+use Rattle.gr_model.specs.Prelude.{IsReportOf, Lists, WholeReport, WordBelow, Streams}
 use Rattle.gr_route.specs.IntakeSeats.{Seat}
 use Rattle.gr_sequencer_thread.specs.Ends.{End, IsEnd, IsFound}
 use Rattle.gr_sequencer_thread.specs.Feeds.{given_of}

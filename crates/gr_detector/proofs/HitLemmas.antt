@@ -1,10 +1,7 @@
 -- The words that are hit in what some worker got are the races.
-use Rattle.std.proofs.Common.{◌≡◌, ◌⊎◌, ◌↔◌, ◌==◌, ℕ, ◌<◌, ◌≤◌, true, List, [], ◌∷◌, ◌++◌, length, get_or, refl, sym, ◌∙◌, subst, inl, inr, ⊎_elim, arith, append-nil, eq-eqb, Contains}
-use Rattle.std.proofs.lemmas.Bool.{cases_lt}
-use Rattle.std.proofs.lemmas.List.{get_or_append_left, get_or_push, length-append, length-map}
+use Rattle.gr_model.proofs.Common.{◌≡◌, ◌⊎◌, ◌↔◌, ◌==◌, ℕ, ◌<◌, ◌≤◌, true, List, [], ◌∷◌, ◌++◌, length, get_or, refl, sym, ◌∙◌, subst, inl, inr, ⊎_elim, arith, append-nil, eq-eqb, Contains, cases_lt, get_or_append_left, get_or_push, length-append, length-map}
 use Rattle.gr_model.specs.declared.event.Word.{Word}
-use Rattle.gr_model.specs.Configs.{IsConfig, Settings, worker_number}
-use Rattle.gr_model.specs.Reports.{AreRaces, Lists, WordBelow}
+use Rattle.gr_model.specs.Prelude.{IsConfig, Settings, worker_number, AreRaces, Lists, WordBelow}
 use Rattle.gr_model.proofs.HitLaws.{IsHit-filter}
 use Rattle.gr_steps.proofs.EventRecords.{filter-there}
 use Rattle.gr_closure.proofs.Clashing.{lists_as, whole_hits_are_races}

@@ -1,6 +1,5 @@
 -- Receipts in the order of their groups: each group has one.
-use Rattle.std.proofs.Common.{◌≡◌, ◌==◌, ◌<◌, ◌≤◌, ◌+◌, ℕ, List, [], ◌∷◌, length, get_or, suc, ◌∙◌, refl, arith, filter}
-use Rattle.std.proofs.lemmas.Bool.Decides.{nat_tests}
+use Rattle.gr_model.proofs.Common.{◌≡◌, ◌==◌, ◌<◌, ◌≤◌, ◌+◌, ℕ, List, [], ◌∷◌, length, get_or, suc, ◌∙◌, refl, arith, filter, nat_tests}
 use Rattle.gr_route.specs.IntakeSeats.{Seat}
 use Rattle.gr_detector.specs.Runs.{IsEachOnce}
 

@@ -1,11 +1,7 @@
 -- The parts of a run: one sender after another.
-use Rattle.std.proofs.Common.{◌≡◌, ◌≢◌, ◌==◌, ℕ, ◌+◌, ◌<◌, ◌%◌, List, length, get_or, set, take, cond, Some, slice_get, arith}
-use Rattle.std.proofs.Math.ListN.{get_or-eq_default}
-use Rattle.std.proofs.lemmas.Bool.Decides.{nat_tests}
-use Rattle.std.proofs.lemmas.List.{get_or-map, get_or-set_other, get_or-set_same, get_or-take, length-map, length-take}
-use Rattle.std.proofs.lemmas.Option.{slice_get-get_or}
+use Rattle.gr_model.proofs.Common.{◌≡◌, ◌≢◌, ◌==◌, ℕ, ◌+◌, ◌<◌, ◌%◌, List, length, get_or, set, take, cond, Some, slice_get, arith, get_or-eq_default, nat_tests, get_or-map, get_or-set_other, get_or-set_same, get_or-take, length-map, length-take, slice_get-get_or}
 use Rattle.atomic_table.specs.Seated.{TableId}
-use Rattle.gr_model.specs.Configs.{Settings}
+use Rattle.gr_model.specs.Prelude.{Settings}
 use Rattle.gr_clocks.proofs.RowLemmas as rows
 use Rattle.gr_route.specs.IntakeSeats.{Taker}
 use Rattle.gr_sequencer_thread.specs.Feeds.{AreSeated, intakes_of}

@@ -5,8 +5,7 @@ use Rattle.std.specs.List.{range_with_len}
 use Rattle.atomic_table.specs.Seated.{TableId}
 use Rattle.gr_model.specs.declared.event.Event.{Event}
 use Rattle.gr_model.specs.declared.limits.TheConstants.{MOST_RECORDS}
-use Rattle.gr_model.specs.Configs.{Settings}
-use Rattle.gr_model.specs.Streams.{Streams}
+use Rattle.gr_model.specs.Prelude.{Settings, Streams}
 use Rattle.gr_route.specs.IntakeSeats.{Seat}
 use Rattle.gr_route.specs.WorkSeats.{Worker}
 use Rattle.gr_threads.specs.Senders.{Sending}

@@ -5,7 +5,7 @@ use Rattle.atomic_table.specs.Seated.{TableId}
 use Rattle.gr_model.specs.declared.event.Event.{Event}
 use Rattle.gr_model.specs.declared.event.Sent.{Sent}
 use Rattle.gr_model.specs.declared.event.Word.{Word}
-use Rattle.gr_model.specs.Streams.{events_of, is_complete}
+use Rattle.gr_model.specs.Prelude.{events_of, is_complete}
 use Rattle.gr_route.specs.IntakeSeats.{Seat, Taker}
 use Rattle.gr_route.specs.Prefixes.{StartsWith}
 use Rattle.gr_shadow.specs.Clashes.{ClockedAccess, IsHitIn}

@@ -1,7 +1,7 @@
 //! The end of a run: the receipts are counted, and all seats are joined back.
 
 ghost use Rattle.std.specs.Prelude.{◌≡◌, ◌↔◌, ◌<◌, ◌++◌, ◌∷◌, ◌==◌, [], All, List, IfOk, IsTrue, filter, length};
-ghost use Rattle.gr_model.specs.Reports.{Lists, WordBelow};
+ghost use Rattle.gr_model.specs.Prelude.{Lists, WordBelow};
 ghost use Rattle.gr_report.specs.Whole.{whole_of};
 ghost use Rattle.gr_shadow.specs.Clashes.{ClockedAccess, IsHitIn};
 ghost use Rattle.gr_sequencer_thread.specs.Feeds.{AreStopped, given_of, intakes_of, works_of};

@@ -3,7 +3,7 @@
 //! Invariant: the workers pop from the queues to which the sequencer pushes, in order.
 
 ghost use Rattle.std.specs.Prelude.{◌≡◌, IfErr, IfOk, length};
-ghost use Rattle.gr_model.specs.Reports.{IsReportOf};
+ghost use Rattle.gr_model.specs.Prelude.{IsReportOf};
 ghost use Rattle.gr_report.specs.Whole.{whole_of};
 ghost use Rattle.gr_detector.specs.Refusals.{IsHandedBack};
 ghost use Rattle.gr_detector.specs.Runs.{AreReceiptsOf, IsEachOnce, sent_by};

@@ -1,16 +1,13 @@
 -- Accesses of one tag and class, of each item the one with the greatest index.
-use Rattle.std.proofs.Common.{◌≡◌, ◌==◌, eqb, if◌then◌else◌, ◌⊎◌, ℕ, ◌≤◌, Bool, true, false, cond, Contains, List, [], ◌∷◌, ◌++◌, Option, None, Some, arith, map, refl, sym, ◌∙◌, inl, inr, ⊎_elim, find}
+use Rattle.gr_model.proofs.Common.{◌≡◌, ◌==◌, eqb, if◌then◌else◌, ◌⊎◌, ℕ, ◌≤◌, Bool, true, false, cond, Contains, List, [], ◌∷◌, ◌++◌, Option, None, Some, arith, map, refl, sym, ◌∙◌, inl, inr, ⊎_elim, find, nat_tests, Contains-append_left, Contains-push, Contains-push_cases, list_any_at}
 use Rattle.std.specs.Map.{lookup}
 use Rattle.std.specs.Option.{option_eq, unwrap_or}
-use Rattle.std.proofs.lemmas.Bool.Decides.{nat_tests}
-use Rattle.std.proofs.lemmas.List.Elements.{Contains-append_left, Contains-push, Contains-push_cases}
-use Rattle.std.proofs.lemmas.List.Folds.{list_any_at}
 use Rattle.indexmap.specs.IndexMap.{insert_entry}
 use Rattle.gr_model.specs.declared.event.EventId.{EventId}
 use Rattle.gr_model.specs.declared.event.ItemId.{ItemId}
 use Rattle.gr_model.specs.contracts.event.ItemIdPartialEq.TheImpl as equality
 use Rattle.gr_model.specs.declared.class.Class.{Class}
-use Rattle.gr_model.specs.Classes.{exempt}
+use Rattle.gr_model.specs.Prelude.{exempt}
 use Rattle.gr_clocks.proofs.RowLemmas.{same_items}
 use Rattle.gr_shadow.specs.Clashes.{ClockedAccess, event_of}
 use Rattle.gr_shadow.proofs.KeepsLemmas.{Contains-first, Contains-rest, find_is, find_told}

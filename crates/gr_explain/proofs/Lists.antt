@@ -1,11 +1,5 @@
 -- Lists with one more at their end or at their front, or with one changed, and mapped lists.
-use Rattle.std.proofs.Common.{◌≡◌, ◌⊎◌, ◌∙◌, AllPairs, ap, subst, Contains, ℕ, zero, suc, ◌<◌, List, [], ◌∷◌, ◌++◌, length, get_or, map, slice_set, Some, slice_get, Bool, true, inl, inr, ⊎_elim, arith}
-use Rattle.std.specs.List.{list_any}
-use Rattle.std.proofs.lemmas.Bool.{cases_eq}
-use Rattle.std.proofs.lemmas.Grind.{common_steps}
-use Rattle.std.proofs.lemmas.List.{get_or-map, get_or-set_other, get_or_default}
-use Rattle.std.proofs.lemmas.List.Folds.{Any-from_list_any}
-use Rattle.std.proofs.lemmas.Option.{gets}
+use Rattle.gr_model.proofs.Common.{◌≡◌, ◌⊎◌, ◌∙◌, AllPairs, ap, subst, Contains, ℕ, zero, suc, ◌<◌, List, [], ◌∷◌, ◌++◌, length, get_or, map, slice_set, Some, slice_get, Bool, true, inl, inr, ⊎_elim, arith, list_any, cases_eq, common_steps, get_or-map, get_or-set_other, get_or_default, Any-from_list_any, gets}
 
 pub last_cases : {X : Type 0} (xs : List X) (x : X) (p : ℕ) (y : X) → slice_get (xs ++ x ∷ []) p ≡ Some y → ((p < length xs) × (slice_get xs p ≡ Some y)) ⊎ ((p ≡ length xs) × (y ≡ x))
 last_cases xs x p y at = grind (arith, common_steps, gets)

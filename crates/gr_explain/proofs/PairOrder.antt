@@ -1,9 +1,8 @@
 -- The order of events and of pairs, and the least of the pairs for which something holds.
-use Rattle.std.proofs.Common.{◌≡◌, ◌⊎◌, Option, Some, None, MatchOption, refl, inl, arith}
+use Rattle.gr_model.proofs.Common.{◌≡◌, ◌⊎◌, Option, Some, None, MatchOption, refl, inl, arith}
 use Rattle.gr_model.specs.declared.event.EventId.{EventId}
-use Rattle.gr_model.specs.Reports.{EventBelow}
+use Rattle.gr_model.specs.Prelude.{EventBelow, Pair}
 use Rattle.gr_model.proofs.Cuts.{same_event}
-use Rattle.gr_model.specs.RacePairs.{Pair}
 use Rattle.gr_explain.specs.LeastRaces.{IsLeast, IsLeastOf, PairBelow}
 
 -- ---- events

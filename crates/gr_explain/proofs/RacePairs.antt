@@ -1,13 +1,8 @@
 -- The racing pairs of a word, and the clashes of the accesses along a lawful order of all grounded events.
-use Rattle.std.proofs.Common.{arith, ◌≡◌, ◌<◌, Contains, List, Option, Some, None, MatchOption, sym, ap, ◌∙◌, inl, inr, refl, ⊎_elim}
-use Rattle.std.proofs.lemmas.Bool.{cases_order}
+use Rattle.gr_model.proofs.Common.{arith, ◌≡◌, ◌<◌, Contains, List, Option, Some, None, MatchOption, sym, ap, ◌∙◌, inl, inr, refl, ⊎_elim, cases_order}
 use Rattle.gr_model.specs.declared.event.EventId.{EventId}
 use Rattle.gr_model.specs.declared.event.Word.{Word}
-use Rattle.gr_model.specs.LawfulOrders.{IsWholeOrder}
-use Rattle.gr_model.specs.RacePairs.{IsRacePair, Pair}
-use Rattle.gr_model.specs.Races.{IsRace, IsRacy, RacesInOrder}
-use Rattle.gr_model.specs.Streams.{Streams, word_at}
-use Rattle.gr_model.specs.Waits.{IsGrounded}
+use Rattle.gr_model.specs.Prelude.{IsWholeOrder, IsRacePair, Pair, IsRace, IsRacy, RacesInOrder, Streams, word_at, IsGrounded}
 use Rattle.gr_model.proofs.HitsAreRaces.{may_race_swaps}
 use Rattle.gr_model.proofs.Places.{Contains-at}
 use Rattle.gr_model.proofs.RacePairLaws.{race_swap}

@@ -1,12 +1,8 @@
 -- Where the records of each item are, and the events that they are.
-use Rattle.std.proofs.Common.{◌≡◌, ◌+◌, ◌<◌, ◌≤◌, ℕ, zero, suc, Bool, true, cond, List, [], ◌∷◌, ◌++◌, Option, Some, None, append-nil, arith, ap, filter, get_or, length, refl, slice_get, sym, take, ◌∙◌, ◌⊎◌, subst, inl, inr, ⊎_elim, ◌==◌, not, HoldsAt, MatchOption, Bor, option_copied}
-use Rattle.std.proofs.lemmas.Bool.{and_parts, cases_lt, eqb-true}
-use Rattle.std.proofs.lemmas.Option.{slice_get-get_or, slice_get_past}
-use Rattle.std.proofs.lemmas.List.{get_or_past, length-take-le, take_more}
+use Rattle.gr_model.proofs.Common.{◌≡◌, ◌+◌, ◌<◌, ◌≤◌, ℕ, zero, suc, Bool, true, cond, List, [], ◌∷◌, ◌++◌, Option, Some, None, append-nil, arith, ap, filter, get_or, length, refl, slice_get, sym, take, ◌∙◌, ◌⊎◌, subst, inl, inr, ⊎_elim, ◌==◌, not, HoldsAt, MatchOption, Bor, option_copied, and_parts, cases_lt, eqb-true, slice_get-get_or, slice_get_past, get_or_past, length-take-le, take_more}
 use Rattle.gr_model.specs.declared.event.Event.{Event}
 use Rattle.gr_model.specs.declared.event.EventId.{EventId}
-use Rattle.gr_model.specs.Events.{is_end}
-use Rattle.gr_model.specs.Streams.{AreGood, Streams, event_at, is_of, list_of, places_from, size_of}
+use Rattle.gr_model.specs.Prelude.{is_end, AreGood, Streams, event_at, is_of, list_of, places_from, size_of}
 use Rattle.gr_model.proofs.Places.{places_from-append}
 use Rattle.gr_explain.specs.Records.{AreIndicesOf, IsIndexOf}
 

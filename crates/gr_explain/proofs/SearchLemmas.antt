@@ -1,9 +1,8 @@
 -- What a search keeps of the accesses to a word, after one more.
-use Rattle.std.proofs.Common.{arith, ◌≡◌, ◌≢◌, ◌⊎◌, ◌↔◌, true, false, Contains, ℕ, ◌<◌, List, [], ◌∷◌, ◌++◌, length, get_or, slice_set, Some, refl, sym, ap, ◌∙◌, inl, inr, ⊎_elim}
-use Rattle.std.proofs.lemmas.List.Elements.{Contains-append_left, Contains-push, Contains-push_cases}
+use Rattle.gr_model.proofs.Common.{arith, ◌≡◌, ◌≢◌, ◌⊎◌, ◌↔◌, true, false, Contains, ℕ, ◌<◌, List, [], ◌∷◌, ◌++◌, length, get_or, slice_set, Some, refl, sym, ap, ◌∙◌, inl, inr, ⊎_elim, Contains-append_left, Contains-push, Contains-push_cases}
 use Rattle.gr_model.specs.declared.event.EventId.{EventId}
 use Rattle.gr_model.specs.declared.event.Word.{Word}
-use Rattle.gr_model.specs.RacePairs.{Pair}
+use Rattle.gr_model.specs.Prelude.{Pair}
 use Rattle.gr_model.specs.declared.class.Class.{Class}
 use Rattle.gr_shadow.specs.Clashes.{ClockedAccess, event_of}
 use Rattle.gr_explain.specs.ClashPairs.{IsClashPair}

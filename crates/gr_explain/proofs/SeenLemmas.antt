@@ -1,16 +1,13 @@
 -- The pairs of a later access with the accesses of some items.
-use Rattle.std.proofs.Common.{◌↔◌, ◌≡◌, ◌≢◌, ◌⊎◌, ◌≤◌, IsTrue, List, [], ◌∷◌, ◌++◌, Option, Some, None, sym, ap, ◌∙◌, inl, inr, ⊎_elim, arith, refl, true≢false, Less}
+use Rattle.std.proofs.Common.{Less}
+use Rattle.gr_model.proofs.Common.{◌↔◌, ◌≡◌, ◌≢◌, ◌⊎◌, ◌≤◌, IsTrue, List, [], ◌∷◌, ◌++◌, Option, Some, None, sym, ap, ◌∙◌, inl, inr, ⊎_elim, arith, refl, true≢false, nat_tests, list_any-append, AllByRecursion, list_any}
 use Rattle.std.specs.BTreeMap.{is_at}
-use Rattle.std.proofs.lemmas.Bool.Decides.{nat_tests}
-use Rattle.std.proofs.lemmas.List.Folds.{list_any-append}
 use Rattle.std.proofs.lemmas.Map.Keys.{sorted_head, sorted_tail}
-use Rattle.std.specs.List.{AllByRecursion, list_any}
 use Rattle.std.specs.List.Sorted.{IsStrictlySortedBy}
 use Rattle.gr_model.specs.declared.event.EventId.{EventId}
 use Rattle.gr_model.specs.declared.event.ItemId.{ItemId}
 use Rattle.gr_model.specs.contracts.event.ItemIdOrd.TheImpl as item_order
-use Rattle.gr_model.specs.RacePairs.{IsTurned, Pair}
-use Rattle.gr_model.specs.Reports.{EventBelow}
+use Rattle.gr_model.specs.Prelude.{IsTurned, Pair, EventBelow}
 use Rattle.gr_clocks.specs.Rows.{same_item}
 use Rattle.gr_clocks.proofs.RowLemmas.{same_item_self, same_items}
 use Rattle.gr_shadow.specs.Clashes.{ClockedAccess, event_of}

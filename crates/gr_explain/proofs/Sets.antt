@@ -1,6 +1,5 @@
 -- Sets of events, as the lists of their elements.
-use Rattle.std.proofs.Common.{◌≡◌, arith, true}
-use Rattle.std.proofs.lemmas.Bool.Decides.{nat_tests}
+use Rattle.gr_model.proofs.Common.{◌≡◌, arith, true, nat_tests}
 use Rattle.gr_model.specs.declared.event.EventId.{EventId}
 use Rattle.gr_model.specs.contracts.event.EventIdEq.TheImpl.Laws as equal
 use Rattle.gr_model.proofs.Cuts.{same_event as from_parts}

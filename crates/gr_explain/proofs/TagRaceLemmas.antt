@@ -1,16 +1,10 @@
 -- The races of words, one for each two tags, from what is kept of the accesses along a lawful order of all grounded events.
-use Rattle.std.proofs.Common.{◌<◌, length, ◌≡◌, ◌⊎◌, ℕ, suc, Bool, true, false, All, AllPairs, Contains, List, [], ◌∷◌, ◌++◌, arith, get_or, map, sym, ◌∙◌, subst, inl, inr, ⊎_elim}
-use Rattle.std.proofs.lemmas.Bool.Decides.{nat_tests}
-use Rattle.std.proofs.lemmas.List.{get_or-map, length-map}
-use Rattle.std.proofs.lemmas.List.Elements.{All-append, All-contains, All-map, All-weaker, Contains-append_left, Contains-append_right, Contains-get_or}
+use Rattle.gr_model.proofs.Common.{◌<◌, length, ◌≡◌, ◌⊎◌, ℕ, suc, Bool, true, false, All, AllPairs, Contains, List, [], ◌∷◌, ◌++◌, arith, get_or, map, sym, ◌∙◌, subst, inl, inr, ⊎_elim, nat_tests, get_or-map, length-map, All-append, All-contains, All-map, All-weaker, Contains-append_left, Contains-append_right, Contains-get_or}
 use Rattle.std.proofs.lemmas.List.Kept.{AllPairs-cons}
 use Rattle.gr_model.specs.declared.event.EventId.{EventId}
 use Rattle.gr_model.specs.declared.event.Word.{Word}
 use Rattle.gr_model.specs.declared.race.Race.{Race}
-use Rattle.gr_model.specs.LawfulOrders.{IsWholeOrder}
-use Rattle.gr_model.specs.RacePairs.{IsRacePair, TagsRace}
-use Rattle.gr_model.specs.Reports.{WordBelow}
-use Rattle.gr_model.specs.Streams.{Streams}
+use Rattle.gr_model.specs.Prelude.{IsWholeOrder, IsRacePair, TagsRace, WordBelow, Streams}
 use Rattle.gr_closure.specs.AccessesAlong.{AreAccesses}
 use Rattle.gr_shadow.specs.Clashes.{ClockedAccess}
 use Rattle.gr_shadow.proofs.KeepsLemmas.{Contains-first, Contains-rest}

@@ -1,9 +1,6 @@
 -- The pairs of tags that race on each of some words, where one more access comes.
-use Rattle.std.proofs.Common.{◌≡◌, ◌≢◌, ℕ, ◌+◌, ◌<◌, true, false, cond, Contains, List, [], ◌∷◌, ◌++◌, Some, None, get_or, length, take, refl, ⊎_elim, arith}
+use Rattle.gr_model.proofs.Common.{◌≡◌, ◌≢◌, ℕ, ◌+◌, ◌<◌, true, false, cond, Contains, List, [], ◌∷◌, ◌++◌, Some, None, get_or, length, take, refl, ⊎_elim, arith, cases_Bool, take_more, Contains-push_cases}
 use Rattle.std.specs.Map.{lookup}
-use Rattle.std.proofs.lemmas.Bool.{cases_Bool}
-use Rattle.std.proofs.lemmas.List.{take_more}
-use Rattle.std.proofs.lemmas.List.Elements.{Contains-push_cases}
 use Rattle.gr_model.specs.declared.event.EventId.{EventId}
 use Rattle.gr_model.specs.declared.event.Word.{Word}
 use Rattle.gr_model.specs.contracts.event.WordEq.TheImpl.Laws as equal

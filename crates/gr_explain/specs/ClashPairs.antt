@@ -3,8 +3,7 @@
 use Rattle.std.specs.Prelude.{◌≡◌, Contains, List}
 use Rattle.gr_model.specs.declared.event.EventId.{EventId}
 use Rattle.gr_model.specs.declared.event.Word.{Word}
-use Rattle.gr_model.specs.RacePairs.{IsTurned, Pair}
-use Rattle.gr_model.specs.Reports.{EventBelow}
+use Rattle.gr_model.specs.Prelude.{IsTurned, Pair, EventBelow}
 use Rattle.gr_model.specs.declared.class.Class.{Class}
 use Rattle.gr_shadow.specs.Clashes.{ClockedAccess, IsClashIn, event_of}
 

@@ -5,8 +5,7 @@ use Rattle.std.specs.List.{AllZip}
 use Rattle.gr_model.specs.declared.event.EventId.{EventId}
 use Rattle.gr_model.specs.declared.event.Word.{Word}
 use Rattle.gr_model.specs.declared.race.Race.{Race}
-use Rattle.gr_model.specs.Hits.{ClashesAt}
-use Rattle.gr_model.specs.Streams.{Streams, word_at}
+use Rattle.gr_model.specs.Prelude.{ClashesAt, Streams, word_at}
 use Rattle.gr_shadow.specs.Clashes.{ClockedAccess, clashes}
 use Rattle.gr_explain.specs.Judgements.{IsJudgement}
 use Rattle.gr_explain.specs.declared.judging.Judgement.{Judgement}

@@ -2,9 +2,7 @@
 -- Source: docs/MODEL.md, "Races" and "What waits for what".
 use Rattle.gr_model.specs.declared.event.EventId.{EventId}
 use Rattle.gr_model.specs.declared.event.Word.{Word}
-use Rattle.gr_model.specs.Races.{IsRace}
-use Rattle.gr_model.specs.Streams.{Streams}
-use Rattle.gr_model.specs.Waits.{IsGrounded}
+use Rattle.gr_model.specs.Prelude.{IsRace, Streams, IsGrounded}
 use Rattle.gr_explain.specs.declared.judging.Judgement.{Judgement}
 use Rattle.gr_explain.specs.declared.judging.Judgement.TheVariants.{Held, Race, NoRace}
 

@@ -2,9 +2,7 @@
 -- Source: docs/MODEL.md, "Races" and "The report". The order of pairs is this project's own.
 use Rattle.std.specs.Prelude.{◌≡◌, ◌⊎◌, Option, None, Some}
 use Rattle.gr_model.specs.declared.event.Word.{Word}
-use Rattle.gr_model.specs.RacePairs.{IsRacePair, Pair}
-use Rattle.gr_model.specs.Reports.{EventBelow}
-use Rattle.gr_model.specs.Streams.{Streams}
+use Rattle.gr_model.specs.Prelude.{IsRacePair, Pair, EventBelow, Streams}
 
 -- by the first event, and then by the second
 abbrev pub PairBelow : Pair → Pair → Type 0

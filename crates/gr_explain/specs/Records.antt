@@ -2,7 +2,7 @@
 -- Source: docs/MODEL.md, "Records".
 use Rattle.std.specs.Prelude.{◌≡◌, ℕ, ◌<◌, List, [], length, slice_index_or}
 use Rattle.gr_model.specs.declared.event.Event.{Event}
-use Rattle.gr_model.specs.Streams.{AreAccepted, Streams, is_of, list_of, places_from, size_of}
+use Rattle.gr_model.specs.Prelude.{AreAccepted, Streams, is_of, list_of, places_from, size_of}
 
 -- for each of so many items, the places of its records, ascending
 pub record IsIndexOf (items : ℕ) (list : List Event) (index : List (List ℕ)) : Type 0 where

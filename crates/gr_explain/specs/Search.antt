@@ -3,7 +3,7 @@
 use Rattle.std.specs.Prelude.{◌≡◌, ◌⊎◌, ◌↔◌, Contains, List, [], ◌∷◌, ◌++◌}
 use Rattle.gr_model.specs.declared.event.EventId.{EventId}
 use Rattle.gr_model.specs.declared.event.Word.{Word}
-use Rattle.gr_model.specs.RacePairs.{Pair}
+use Rattle.gr_model.specs.Prelude.{Pair}
 use Rattle.gr_model.specs.declared.class.Class.{Class}
 use Rattle.gr_shadow.specs.Clashes.{ClockedAccess}
 use Rattle.gr_explain.specs.ClashPairs.{IsClashPair, IsOfList}

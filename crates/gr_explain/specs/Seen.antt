@@ -6,8 +6,7 @@ use Rattle.gr_model.specs.declared.event.EventId.{EventId}
 use Rattle.gr_model.specs.declared.event.ItemId.{ItemId}
 use Rattle.gr_model.specs.contracts.event.EventIdOrd.TheImpl as event_order
 use Rattle.gr_model.specs.contracts.event.ItemIdOrd.TheImpl as item_order
-use Rattle.gr_model.specs.RacePairs.{IsTurned, Pair}
-use Rattle.gr_model.specs.Reports.{EventBelow}
+use Rattle.gr_model.specs.Prelude.{IsTurned, Pair, EventBelow}
 use Rattle.gr_model.specs.declared.class.Class.{Class}
 use Rattle.gr_shadow.specs.Clashes.{ClockedAccess, clashes_with, event_of}
 

@@ -4,8 +4,7 @@ use Rattle.std.specs.Prelude.{◌≡◌, ◌⊎◌, ◌∷◌, ◌++◌, ◌==�
 use Rattle.std.specs.List.{list_any}
 use Rattle.gr_model.specs.declared.event.EventId.{EventId}
 use Rattle.gr_model.specs.declared.event.Word.{Word}
-use Rattle.gr_model.specs.RacePairs.{HasTags, IsTurned}
-use Rattle.gr_model.specs.Reports.{EventBelow}
+use Rattle.gr_model.specs.Prelude.{HasTags, IsTurned, EventBelow}
 use Rattle.gr_model.specs.declared.class.Class.{Class}
 use Rattle.gr_shadow.specs.Clashes.{ClockedAccess, IsClashIn, event_of}
 use Rattle.gr_explain.specs.Alike.{AlikeEvents, IsInPlaceOf, are_of_groups, event_clashes, is_sought}

@@ -4,9 +4,7 @@ use Rattle.std.specs.Prelude.{◌≡◌, ◌≢◌, ◌⊎◌, ℕ, Bool, List, 
 use Rattle.gr_model.specs.declared.event.EventId.{EventId}
 use Rattle.gr_model.specs.declared.event.Word.{Word}
 use Rattle.gr_model.specs.declared.race.Race.{Race}
-use Rattle.gr_model.specs.RacePairs.{HasTags, IsRacePair, Pair, TagsRace}
-use Rattle.gr_model.specs.Reports.{WordBelow}
-use Rattle.gr_model.specs.Streams.{Streams}
+use Rattle.gr_model.specs.Prelude.{HasTags, IsRacePair, Pair, TagsRace, WordBelow, Streams}
 
 -- the events of a pair are of two work-groups
 abbrev pub AreOfTwoGroups : Pair → Type 0

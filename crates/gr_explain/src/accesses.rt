@@ -2,7 +2,7 @@
 
 ghost use Rattle.std.specs.Prelude.{All, IfOk, OnOk};
 ghost use Rattle.gr_model.specs.declared.race.Race.{Race as AnyRace};
-ghost use Rattle.gr_model.specs.Streams.{AreAccepted};
+ghost use Rattle.gr_model.specs.Prelude.{AreAccepted};
 ghost use Rattle.gr_taking.specs.Taken.{read_by};
 ghost use Rattle.gr_explain.specs.Accesses.{AreBothKept, AreThoseOf, AreWanted};
 

@@ -1,7 +1,7 @@
 //! Whether pairs of accesses of a launch race.
 
 ghost use Rattle.std.specs.Prelude.{◌↔◌, All, IfOk, IsTrue};
-ghost use Rattle.gr_model.specs.Streams.{AreAccepted, Streams};
+ghost use Rattle.gr_model.specs.Prelude.{AreAccepted, Streams};
 ghost use Rattle.gr_clocks.specs.ClockedAccess.{clocked};
 ghost use Rattle.gr_taking.specs.Taken.{read_by};
 ghost use Rattle.gr_explain.specs.Accesses.{AreBothKept};

@@ -3,7 +3,7 @@
 ghost use Rattle.std.specs.Prelude.{◌≡◌, ◌∷◌, ◌++◌, ◌<◌, [], ℕ, IfOk, OnOk, if◌then◌else◌, length, slice_get, slice_index_or};
 ghost use Rattle.gr_model.specs.declared.limits.TheConstants.{MOST_RECORDS};
 ghost use Rattle.gr_model.specs.Streams as model;
-ghost use Rattle.gr_model.specs.Streams.{IsAccepted, is_of};
+ghost use Rattle.gr_model.specs.Prelude.{IsAccepted, is_of};
 ghost use Rattle.gr_explain.specs.Records.{IsIndexOf};
 
 use gr_model::event::{Event, EventId};
@@ -98,7 +98,7 @@ pub struct Records<'a, A: Allocator = Global> {
 }
 
 impl<'a, A: Allocator> Model for Records<'a, A> {
-    ghost use Rattle.gr_model.specs.Streams.{Streams};
+    ghost use Rattle.gr_model.specs.Prelude.{Streams};
     ghost use Rattle.gr_explain.specs.Records.{AreIndicesOf};
 
     ghost Value = { Streams };

@@ -1,8 +1,7 @@
 //! The least racing pair of a word, and a race for each two tags that race on it, in one pass.
 
 ghost use Rattle.std.specs.Prelude.{◌∷◌, [], IfOk, MatchOption};
-ghost use Rattle.gr_model.specs.Races.{IsRacy};
-ghost use Rattle.gr_model.specs.Waits.{IsGrounded};
+ghost use Rattle.gr_model.specs.Prelude.{IsRacy, IsGrounded};
 ghost use Rattle.gr_explain.specs.LeastRaces.{IsLeastRace};
 ghost use Rattle.gr_explain.specs.Search.{StandsFor};
 ghost use Rattle.gr_explain.specs.TagRaces.{AreTagRaces};

@@ -4,7 +4,7 @@ ghost use Rattle.std.specs.Prelude.{◌≡◌, ◌∷◌, ◌++◌, [], ℕ, All
 ghost use Rattle.std.specs.Map.{lookup};
 ghost use Rattle.gr_model.specs.declared.event.EventId.{EventId as AnyEvent};
 ghost use Rattle.gr_model.specs.declared.event.Word.{Word as AnyWord};
-ghost use Rattle.gr_model.specs.Reports.{WordBelow};
+ghost use Rattle.gr_model.specs.Prelude.{WordBelow};
 ghost use Rattle.gr_clocks.specs.ClockedAccess.{ClockedAccess, clocked};
 ghost use Rattle.gr_shadow.specs.Kept.{same_word};
 ghost use Rattle.gr_explain.specs.TagRaces.{AreTagRaces};

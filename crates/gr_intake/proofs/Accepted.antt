@@ -1,21 +1,13 @@
 -- What is read of a stream is a list that its group may have.
-use Rattle.std.proofs.Common.{◌≡◌, ℕ, zero, suc, ◌+◌, ◌<◌, ◌≤◌, Bool, true, false, cond, List, [], ◌∷◌, length, take, drop, Some, Result, Ok, Err, get_or, refl, sym, ap, ◌∙◌, subst, arith, IsTrue, ltb, true≢false, ◌≢◌, ◌++◌, eqb-true, ◌==◌, not, length-take}
-use Rattle.std.specs.List.{list_any}
-use Rattle.std.proofs.lemmas.Bool.{ltb-false, eqb-false, not-false}
-use Rattle.std.proofs.lemmas.List.Folds.{list_any_at}
-use Rattle.std.proofs.lemmas.List.Elements.{All-push}
+use Rattle.gr_model.proofs.Common.{◌≡◌, ℕ, zero, suc, ◌+◌, ◌<◌, ◌≤◌, Bool, true, false, cond, List, [], ◌∷◌, length, take, drop, Some, Result, Ok, Err, get_or, refl, sym, ap, ◌∙◌, subst, arith, IsTrue, ltb, true≢false, ◌≢◌, ◌++◌, eqb-true, ◌==◌, not, length-take, list_any, ltb-false, eqb-false, not-false, list_any_at, All-push}
 use Rattle.std.proofs.lemmas.List.Quantifiers.{all_pairs_push}
 use Rattle.gr_model.specs.declared.event.Event.{Event}
 use Rattle.gr_model.specs.declared.limits.TheConstants.{MOST_RECORDS}
-use Rattle.gr_model.specs.Events.{is_end, IsEventOk}
-use Rattle.gr_model.specs.Streams.{AreGood, IsAccepted, is_complete}
+use Rattle.gr_model.specs.Prelude.{is_end, IsEventOk, AreGood, IsAccepted, is_complete}
 use Rattle.gr_record.specs.declared.error.RecordError.{RecordError}
 use Rattle.gr_record.specs.declared.error.RecordError.TheVariants as errors
-use Rattle.gr_record.specs.Versions.{record_length}
-use Rattle.gr_record.specs.Fronts.{Records, behind, step, records_of, records_at}
+use Rattle.gr_record.specs.Prelude.{record_length, Records, behind, step, records_of, records_at, event_at, whole, up_to, front_header_at, front_records_at}
 use Rattle.gr_record.specs.declared.stop.Stop.TheVariants.{AtEnd, AtFault, Inside}
-use Rattle.gr_record.specs.Reading.{event_at}
-use Rattle.gr_record.specs.WholeStreams.{whole, up_to, front_header_at, front_records_at}
 use Rattle.gr_record.specs.declared.header.Header.{Header}
 use Rattle.gr_record.specs.declared.fault.Fault.{Fault}
 use Rattle.gr_record.specs.declared.fault.Fault.TheVariants as faults

@@ -1,10 +1,8 @@
 -- What the bytes after those that were read add: a header, a record, and bytes that are no whole one.
-use Rattle.std.proofs.Common.{◌≡◌, ℕ, zero, suc, ◌+◌, ◌-◌, ◌<◌, ◌≤◌, true, false, List, [], ◌∷◌, ◌++◌, length, take, drop, Option, Some, None, Result, Ok, Err, refl, sym, ap, ◌∙◌, subst, arith, inl, inr, append-nil, append_assoc, eqb-true, IfOk, not, ◌==◌, drop_at, length-append, length-drop, take-append-drop, take_at}
-use Rattle.std.specs.List.{list_any}
-use Rattle.std.proofs.lemmas.Bool.{cases_lt, eqb-false, le-ltb, lt-ltb, ne_eqb}
+use Rattle.gr_model.proofs.Common.{◌≡◌, ℕ, zero, suc, ◌+◌, ◌-◌, ◌<◌, ◌≤◌, true, false, List, [], ◌∷◌, ◌++◌, length, take, drop, Option, Some, None, Result, Ok, Err, refl, sym, ap, ◌∙◌, subst, arith, inl, inr, append-nil, append_assoc, eqb-true, IfOk, not, ◌==◌, drop_at, length-append, length-drop, take-append-drop, take_at, list_any, cases_lt, eqb-false, le-ltb, lt-ltb, ne_eqb}
 use Rattle.gr_model.specs.declared.event.Event.{Event}
 use Rattle.gr_model.specs.declared.limits.TheConstants.{MOST_RECORDS}
-use Rattle.gr_model.specs.Events.{is_end}
+use Rattle.gr_model.specs.Prelude.{is_end}
 use Rattle.gr_record.specs.declared.error.RecordError.{RecordError}
 use Rattle.gr_record.specs.declared.error.RecordError.TheVariants as errors
 use Rattle.gr_record.specs.declared.fault.Fault.{Fault}
@@ -13,12 +11,9 @@ use Rattle.gr_record.specs.declared.header.Header.{Header}
 use Rattle.gr_record.specs.declared.header.Version.{Version}
 use Rattle.gr_record.specs.declared.layout.TheConstants.{HEADER_LENGTH}
 use Rattle.gr_record.specs.declared.stop.Stop.{Stop}
-use Rattle.gr_record.specs.Fronts.{Records, records_at, records_of, step}
+use Rattle.gr_record.specs.Prelude.{Records, records_at, records_of, step, event_at, header_at, record_length, front_header_at, front_records_at, up_to, whole}
 use Rattle.gr_record.specs.Reading as reading_spec
-use Rattle.gr_record.specs.Reading.{event_at, header_at}
-use Rattle.gr_record.specs.Versions.{record_length}
 use Rattle.gr_record.specs.WholeStreams as record_spec
-use Rattle.gr_record.specs.WholeStreams.{front_header_at, front_records_at, up_to, whole}
 use Rattle.gr_record.proofs.Loop as loop
 use Rattle.gr_intake.proofs.Accepted.{ok, same_ok}
 use Rattle.gr_intake.specs.Intakes.{behind_events, next_event_at, read_behind, with_event}

@@ -1,16 +1,8 @@
 -- Streams as far as they have come, where a stream begins, a record comes, and a stream ends.
-use Rattle.std.proofs.Common.{◌≡◌, ◌≢◌, ℕ, zero, suc, ◌+◌, ◌<◌, ◌≤◌, true, false, List, [], ◌∷◌, ◌++◌, length, slice_index, Contains, Option, Some, None, Ok, Err, refl, sym, ap, ◌∙◌, subst, arith, ⊎_elim, append-nil, append_assoc, ◌==◌, option_map}
-use Rattle.std.specs.List.{list_any}
-use Rattle.std.proofs.lemmas.Bool.{cases_lt, eqb-false, or_parts}
-use Rattle.std.proofs.lemmas.List.{get_or-set_same, length-append, map-append}
-use Rattle.std.proofs.lemmas.List.Elements.{Contains-append_left, Contains-push, Contains-push_cases}
-use Rattle.std.proofs.lemmas.List.Sums.{sum_by-le}
+use Rattle.gr_model.proofs.Common.{◌≡◌, ◌≢◌, ℕ, zero, suc, ◌+◌, ◌<◌, ◌≤◌, true, false, List, [], ◌∷◌, ◌++◌, length, slice_index, Contains, Option, Some, None, Ok, Err, refl, sym, ap, ◌∙◌, subst, arith, ⊎_elim, append-nil, append_assoc, ◌==◌, option_map, list_any, cases_lt, eqb-false, or_parts, get_or-set_same, length-append, map-append, Contains-append_left, Contains-push, Contains-push_cases, sum_by-le}
 use Rattle.gr_model.specs.declared.event.Event.{Event}
 use Rattle.gr_model.specs.declared.limits.TheConstants.{MOST_ITEMS_OF_A_GROUP, MOST_RECORDS}
-use Rattle.gr_model.specs.Events.{IsEventOk, is_end}
-use Rattle.gr_model.specs.Groups.{CanAdd, put, with_group}
-use Rattle.gr_model.specs.Shapes.{IsPartOfShape}
-use Rattle.gr_model.specs.Streams.{Streams, is_complete, list_of, size_of}
+use Rattle.gr_model.specs.Prelude.{IsEventOk, is_end, CanAdd, put, with_group, IsPartOfShape, Streams, is_complete, list_of, size_of}
 use Rattle.gr_model.proofs.GroupLaws.{group_grows, list_stays, nothing_came, part_of_none, prefixes_with_group}
 use Rattle.gr_steps.proofs.Orders.{lawful_empty}
 use Rattle.gr_closure.proofs.Growing.{accesses_stay}
@@ -26,8 +18,7 @@ use Rattle.gr_record.specs.declared.error.RecordError.TheVariants.{Truncated}
 use Rattle.gr_record.specs.declared.fault.Fault.TheVariants as faults
 use Rattle.gr_record.specs.declared.header.Header.{Header}
 use Rattle.gr_record.specs.declared.layout.TheConstants.{HEADER_LENGTH}
-use Rattle.gr_record.specs.Reading.{header_at}
-use Rattle.gr_record.specs.Spelling.{IsHeader}
+use Rattle.gr_record.specs.Prelude.{header_at, IsHeader}
 use Rattle.gr_intake.specs.declared.intake.Intake.{Intake}
 use Rattle.gr_intake.specs.declared.open.Open.{Open}
 use Rattle.gr_intake.specs.Intakes.{AreGroupsOf, AreOpen, IsIntake, IsKeptOpen, IsNext, IsRead, MayFollow, Moves, behind, coming_in, read_behind, unit_at, unit_of, come, come_of, headers_of, with_event}

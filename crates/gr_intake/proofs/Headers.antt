@@ -1,15 +1,10 @@
 -- Whether the header of a stream is refused, without a look at each stream that has come.
-use Rattle.std.proofs.Common.{◌≡◌, ◌↔◌, ℕ, suc, Bool, true, false, IsTrue, None, Some, Ok, Err, slice_get, List, [], ◌∷◌, ◌++◌, AllPairs, length, sym, ap, ◌∙◌, refl, arith, inl, inr, not, ◌==◌}
-use Rattle.std.specs.List.{list_any}
-use Rattle.std.proofs.lemmas.Bool.{cases_Bool, eq-eqb, eqb-true}
-use Rattle.std.proofs.lemmas.List.{get_or-map, length-map}
-use Rattle.std.proofs.lemmas.List.Folds.{list_any_none}
-use Rattle.gr_model.specs.Shapes.{HasItem}
-use Rattle.gr_model.specs.Streams.{Streams}
+use Rattle.gr_model.proofs.Common.{◌≡◌, ◌↔◌, ℕ, suc, Bool, true, false, IsTrue, None, Some, Ok, Err, slice_get, List, [], ◌∷◌, ◌++◌, AllPairs, length, sym, ap, ◌∙◌, refl, arith, inl, inr, not, ◌==◌, list_any, cases_Bool, eq-eqb, eqb-true, get_or-map, length-map, list_any_none}
+use Rattle.gr_model.specs.Prelude.{HasItem, Streams}
 use Rattle.gr_record.specs.declared.fault.Fault.TheVariants.{OtherLaunch, SameGroup}
 use Rattle.gr_record.specs.declared.header.Header.{Header}
 use Rattle.gr_record.specs.declared.layout.TheConstants.{HEADER_LENGTH}
-use Rattle.gr_record.specs.Reading.{header_at}
+use Rattle.gr_record.specs.Prelude.{header_at}
 use Rattle.gr_intake.specs.declared.intake.Intake.{Intake}
 use Rattle.gr_intake.specs.Waiting.{Coming}
 use Rattle.gr_intake.specs.Intakes.{IsIntake, behind, come, come_of, streams_in}

@@ -1,13 +1,7 @@
 -- The launch whose streams have come, or why there is none, which the sizes of its groups show.
-use Rattle.std.proofs.Common.{◌≡◌, ◌≢◌, ◌↔◌, ℕ, ◌<◌, Bool, true, false, IsTrue, List, [], ◌∷◌, ◌++◌, ◌==◌, length, map, slice_index, All, Contains, Some, refl, sym, ap, ◌∙◌, subst, arith, inl, inr, true≢false, append-nil}
-use Rattle.std.specs.List.{list_any}
-use Rattle.std.proofs.lemmas.Bool.{cases_Bool, eq-eqb, eqb-true}
-use Rattle.std.proofs.lemmas.List.Elements.{All-contains}
-use Rattle.std.proofs.lemmas.List.Folds.{Any-from_list_any, list_any_at}
-use Rattle.std.proofs.lemmas.Option.{slice_get-get_or}
+use Rattle.gr_model.proofs.Common.{◌≡◌, ◌≢◌, ◌↔◌, ℕ, ◌<◌, Bool, true, false, IsTrue, List, [], ◌∷◌, ◌++◌, ◌==◌, length, map, slice_index, All, Contains, Some, refl, sym, ap, ◌∙◌, subst, arith, inl, inr, true≢false, append-nil, list_any, cases_Bool, eq-eqb, eqb-true, All-contains, Any-from_list_any, list_any_at, slice_get-get_or}
 use Rattle.gr_model.specs.declared.event.Event.{Event}
-use Rattle.gr_model.specs.Shapes.{HasItem, IsShape}
-use Rattle.gr_model.specs.Streams.{AreAccepted, IsAccepted, Streams, list_of, size_of}
+use Rattle.gr_model.specs.Prelude.{HasItem, IsShape, AreAccepted, IsAccepted, Streams, list_of, size_of}
 use Rattle.gr_record.specs.declared.fault.Fault.{Fault}
 use Rattle.gr_record.specs.declared.fault.Fault.TheVariants as faults
 use Rattle.gr_record.specs.declared.header.Header.{Header}

@@ -1,7 +1,5 @@
 -- Lists that are mapped: what they have, and a test of each of their elements.
-use Rattle.std.proofs.Common.{◌≡◌, zero, suc, Bool, List, [], ◌∷◌, map, Contains, ◌||◌, refl, ap, ◌∙◌, arith}
-use Rattle.std.specs.List.{list_any}
-use Rattle.std.proofs.lemmas.List.{get_or-map, length-map}
+use Rattle.gr_model.proofs.Common.{◌≡◌, zero, suc, Bool, List, [], ◌∷◌, map, Contains, ◌||◌, refl, ap, ◌∙◌, arith, list_any, get_or-map, length-map}
 
 module _ {X Y : Type 0} (f : X → Y) where
   pub any_of_map : (test : Y → Bool) (xs : List X) → list_any test (map f xs) ≡ list_any (λ x. test (f x)) xs

@@ -1,9 +1,8 @@
 -- The words that are hit along the order of all grounded events are the races of the report.
-use Rattle.std.proofs.Common.{◌≡◌, List, subst}
+use Rattle.gr_model.proofs.Common.{◌≡◌, List, subst}
 use Rattle.gr_closure.proofs.Clashing.{whole_hits_are_races}
 use Rattle.gr_model.specs.declared.event.Word.{Word}
-use Rattle.gr_model.specs.Reports.{AreRaces, Lists, WordBelow}
-use Rattle.gr_model.specs.Streams.{Streams}
+use Rattle.gr_model.specs.Prelude.{AreRaces, Lists, WordBelow, Streams}
 use Rattle.gr_order.specs.Sequences.{IsDone, IsSequence, Sequence}
 use Rattle.gr_clocks.specs.ClockedAccess.{ClockedAccess}
 use Rattle.gr_shadow.specs.Clashes.{IsHitIn}

@@ -4,20 +4,15 @@ use Rattle.std.specs.Prelude.{◌≡◌, ◌≢◌, ℕ, ◌-◌, ◌<◌, ◌�
 use Rattle.std.specs.List.{list_any}
 use Rattle.gr_model.specs.declared.event.Event.{Event}
 use Rattle.gr_model.specs.declared.limits.TheConstants.{MOST_RECORDS}
-use Rattle.gr_model.specs.Events.{IsEventOk, is_end}
-use Rattle.gr_model.specs.Streams.{Streams, list_of}
+use Rattle.gr_model.specs.Prelude.{IsEventOk, is_end, Streams, list_of}
 use Rattle.gr_record.specs.declared.fault.Fault.{Fault}
 use Rattle.gr_record.specs.declared.fault.Fault.TheVariants.{MissingGroup, Shape}
 use Rattle.gr_model.specs.declared.shape.ShapeError.TheVariants.{NoGroups}
 use Rattle.gr_record.specs.declared.header.Header.{Header}
 use Rattle.gr_record.specs.declared.layout.TheConstants.{HEADER_LENGTH}
-use Rattle.gr_record.specs.Fronts.{Records, records_of}
+use Rattle.gr_record.specs.Prelude.{Records, records_of, event_at, IsHeader, record_length, whole}
 use Rattle.gr_record.specs.declared.error.RecordError.{RecordError}
 use Rattle.gr_record.specs.declared.error.RecordError.TheVariants.{TooManyRecords}
-use Rattle.gr_record.specs.Reading.{event_at}
-use Rattle.gr_record.specs.Spelling.{IsHeader}
-use Rattle.gr_record.specs.Versions.{record_length}
-use Rattle.gr_record.specs.WholeStreams.{whole}
 use Rattle.gr_order.specs.Sequences.{IsSequence, Sequence}
 use Rattle.gr_shadow.specs.Launches.{LaunchKept}
 use Rattle.gr_intake.specs.Joined.{Flat, ◌>>=◌, at_place, joined_at}

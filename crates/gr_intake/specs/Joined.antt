@@ -7,7 +7,7 @@ use Rattle.gr_record.specs.declared.error.RecordError.{RecordError}
 use Rattle.gr_record.specs.declared.header.Header.{Header}
 use Rattle.gr_record.specs.declared.fault.Fault.{Fault}
 use Rattle.gr_record.specs.declared.fault.Fault.TheVariants as faults
-use Rattle.gr_record.specs.WholeStreams.{front_header_at, front_records_at}
+use Rattle.gr_record.specs.Prelude.{front_header_at, front_records_at}
 
 -- a stream, wherever it lies in memory
 pub record Flat : Type 0 where

@@ -1,6 +1,6 @@
 -- Laws on the streams in bytes.
 use Rattle.std.specs.Prelude.{◌≡◌, ◌≢◌, ℕ, List, All, AllPairs, Ok}
-use Rattle.gr_model.specs.Streams.{IsAccepted}
+use Rattle.gr_model.specs.Prelude.{IsAccepted}
 use Rattle.gr_intake.specs.Joined.{Flat, joined_of}
 
 -- lists that their groups may have, of groups that differ and of one launch

@@ -2,13 +2,9 @@
 
 ghost use Rattle.std.specs.Prelude.{◌≡◌, ◌==◌, ◌++◌, ◌∷◌, [], ◌<◌, ℕ, List, AllPairs, IfErr, IfOk, IsFalse, IsTrue, MatchOption, None, Ok, OnOk, Some, length, not};
 ghost use Rattle.std.specs.List.{list_any};
-ghost use Rattle.gr_model.specs.Reports.{IsReportOf};
-ghost use Rattle.gr_model.specs.Shapes.{IsShape};
-ghost use Rattle.gr_model.specs.Streams.{AreAccepted, Streams as AnyStreams};
+ghost use Rattle.gr_model.specs.Prelude.{IsReportOf, IsShape, AreAccepted, Streams as AnyStreams};
 ghost use Rattle.gr_record.specs.declared.layout.TheConstants.{HEADER_LENGTH};
-ghost use Rattle.gr_record.specs.Faults.{IsOfValues};
-ghost use Rattle.gr_record.specs.InputFaults.{Fails};
-ghost use Rattle.gr_record.specs.Reading.{header_at};
+ghost use Rattle.gr_record.specs.Prelude.{IsOfValues, Fails, header_at};
 ghost use Rattle.gr_report.specs.Whole.{whole_of};
 ghost use Rattle.gr_intake.specs.Intakes.{IsBetween, IsGap, IsIntake, IsKeptOpen, IsNew, IsRead, IsStuck, MayFollow, Moves, Stays, behind, come, come_of, read_behind, read_on, streams_in, unit_of};
 ghost use Rattle.gr_intake.specs.Launch.{IsLaunchFault, IsLaunchOf};

@@ -2,10 +2,9 @@
 
 ghost use Rattle.std.specs.Prelude.{◌≡◌, ◌≢◌, ◌<◌, ◌≤◌, [], ℕ, Err, IfErr, IfOk, OnOk, length};
 ghost use Rattle.gr_model.specs.declared.limits.TheConstants.{MOST_RECORDS};
-ghost use Rattle.gr_model.specs.Events.{IsEventOk};
-ghost use Rattle.gr_model.specs.Streams.{list_of, size_of};
+ghost use Rattle.gr_model.specs.Prelude.{IsEventOk, list_of, size_of};
 ghost use Rattle.gr_order.specs.Sequences.{IsSequence};
-ghost use Rattle.gr_record.specs.Versions.{record_length};
+ghost use Rattle.gr_record.specs.Prelude.{record_length};
 ghost use Rattle.gr_intake.specs.Intakes.{AreOpen, IsKeptOpen, IsNextEvent, come_of, next_event_at, with_event};
 ghost use Rattle.gr_intake.specs.Sequencing.{AreShadowsOf};
 

@@ -2,8 +2,7 @@
 
 ghost use Rattle.std.specs.Prelude.{◌≡◌, IfOk, length};
 ghost use Rattle.std.specs.List.{sum_by};
-ghost use Rattle.gr_model.specs.Reports.{IsReportOf};
-ghost use Rattle.gr_model.specs.Streams.{ArePrefixes};
+ghost use Rattle.gr_model.specs.Prelude.{IsReportOf, ArePrefixes};
 ghost use Rattle.gr_order.specs.Sequences.{IsDone, IsSequence};
 ghost use Rattle.gr_intake.specs.Sequencing.{AreShadowsOf};
 ghost use Rattle.gr_report.specs.Whole.{whole_of};

@@ -1,26 +1,17 @@
 -- What was taken of groups, by what was taken of each.
-use Rattle.std.proofs.Common.{◌≡◌, ℕ, ◌+◌, ◌<◌, List, [], ◌∷◌, ◌++◌, length, map, get_or, set, filter, Some, slice_get, sym, ap, ◌∙◌, refl, subst, arith, true}
-use Rattle.std.specs.Prelude.{nat_lt}
-use Rattle.std.proofs.lemmas.Bool.{ltb-true}
-use Rattle.std.proofs.lemmas.List.{length-map, map-set, map-id, get_or_past, get_or_read, set-get_or}
+use Rattle.gr_model.proofs.Common.{◌≡◌, ℕ, ◌+◌, ◌<◌, List, [], ◌∷◌, ◌++◌, length, map, get_or, set, filter, Some, slice_get, sym, ap, ◌∙◌, refl, subst, arith, true, nat_lt, ltb-true, length-map, map-set, map-id, get_or_past, get_or_read, set-get_or, map-set_same, slice_get_within}
 use Rattle.std.proofs.lemmas.Simd.{map-map}
 use Rattle.std.proofs.Math.ListN.{get_or-map}
-use Rattle.std.proofs.Math.Seq.{map-set_same}
 use Rattle.gr_model.specs.declared.event.Event.{Event}
 use Rattle.gr_model.specs.declared.limits.TheConstants.{MOST_RECORDS}
-use Rattle.gr_model.specs.Shapes.{IsPartOfShape}
-use Rattle.gr_model.specs.Streams.{ArePrefixes, IsPrefix, is_of, list_of, places_from, size_of}
-use Rattle.gr_model.specs.Groups.{CanAdd, put}
+use Rattle.gr_model.specs.Prelude.{IsPartOfShape, ArePrefixes, IsPrefix, is_of, list_of, places_from, size_of, CanAdd, put, is_barrier, mark_of, IsCut}
 use Rattle.gr_model.specs.declared.report.Divergence.{Divergence}
 use Rattle.gr_model.proofs.GroupLaws.{nothing_came, prefixes_with_group}
 use Rattle.gr_model.proofs.PutLemmas.{map_put}
 use Rattle.gr_model.proofs.ListsOfRecords.{length-filter_le}
 use Rattle.gr_model.proofs.Places.{filter_map-place}
-use Rattle.gr_model.specs.Barriers.{is_barrier, mark_of}
 use Rattle.gr_lanes.proofs.Growth.{prefixes_grow}
 use Rattle.gr_lanes.proofs.IndexLemmas.{few-places}
-use Rattle.std.proofs.lemmas.Option.{slice_get_within}
-use Rattle.gr_model.specs.Reports.{IsCut}
 use Rattle.gr_lanes.specs.Indices.{AreGroups, EndsCut, GroupList, empty, remembered_of, taken_of}
 use Rattle.gr_lanes.specs.Remembered.{HaveAllCome, IsWhole, Remembered, decided_of, deciding, forgetting, forgotten_of, remembering, with_group}
 use Rattle.gr_lanes.specs.Takes.{CanTake, IsEventButItem, nothing_taken, with_record}

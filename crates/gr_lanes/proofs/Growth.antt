@@ -1,11 +1,8 @@
 -- Lists grow by a record that is taken.
-use Rattle.std.proofs.Common.{◌≡◌, ℕ, [], ◌∷◌, ◌++◌, refl, sym, ap, ◌∙◌, subst, inl, ⊎_elim, arith, append-nil}
-use Rattle.std.specs.Prelude.{◌<◌, length}
-use Rattle.std.proofs.lemmas.Bool.{cases_eq, false_from_ne_true}
-use Rattle.std.proofs.lemmas.List.{get_or-set_same, get_or-set_other, length-set}
+use Rattle.gr_model.proofs.Common.{◌≡◌, ℕ, [], ◌∷◌, ◌++◌, refl, sym, ap, ◌∙◌, subst, inl, ⊎_elim, arith, append-nil, ◌<◌, length, cases_eq, false_from_ne_true, get_or-set_same, get_or-set_other, length-set}
 use Rattle.gr_model.specs.declared.event.Event.{Event}
 use Rattle.gr_model.specs.declared.limits.TheConstants.{MOST_RECORDS}
-use Rattle.gr_model.specs.Streams.{ArePrefixes, Grows, IsPrefix, Streams, is_complete, list_of, size_of}
+use Rattle.gr_model.specs.Prelude.{ArePrefixes, Grows, IsPrefix, Streams, is_complete, list_of, size_of}
 use Rattle.gr_model.proofs.StreamPrefixes.{prefix_push}
 use Rattle.gr_lanes.specs.Takes.{CanTake, IsEventButItem, with_record}
 

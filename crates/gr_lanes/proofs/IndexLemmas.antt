@@ -1,14 +1,8 @@
 -- What one record more makes of the index of each item.
-use Rattle.std.proofs.Common.{◌≡◌, ℕ, zero, suc, ◌+◌, ◌<◌, ◌≤◌, Bool, true, false, cond, List, [], ◌∷◌, ◌++◌, length, filter, Some, slice_get, get_or, is_some, refl, ap, ◌∙◌, arith, append-nil, IsTrue}
-use Rattle.std.proofs.lemmas.Bool.Decides.{nat_tests}
-use Rattle.std.proofs.lemmas.Grind.{common_steps}
-use Rattle.std.proofs.lemmas.List.{length_push}
-use Rattle.std.proofs.lemmas.List.Elements.{filter-append}
-use Rattle.std.proofs.lemmas.Option.{gets, slice_get-get_or}
+use Rattle.gr_model.proofs.Common.{◌≡◌, ℕ, zero, suc, ◌+◌, ◌<◌, ◌≤◌, Bool, true, false, cond, List, [], ◌∷◌, ◌++◌, length, filter, Some, slice_get, get_or, is_some, refl, ap, ◌∙◌, arith, append-nil, IsTrue, nat_tests, common_steps, length_push, filter-append, gets, slice_get-get_or}
 use Rattle.gr_model.specs.declared.event.Event.{Event}
 use Rattle.gr_model.specs.declared.event.ItemId.{ItemId}
-use Rattle.gr_model.specs.Events.{is_end, is_end_kind}
-use Rattle.gr_model.specs.Streams.{IsPrefix, AreGood, Streams, trace_of, event_at, is_complete, is_of, place_of, places_from}
+use Rattle.gr_model.specs.Prelude.{is_end, is_end_kind, IsPrefix, AreGood, Streams, trace_of, event_at, is_complete, is_of, place_of, places_from}
 use Rattle.gr_model.proofs.ListsOfRecords.{length-filter_le}
 use Rattle.gr_model.proofs.Places.{places_from-append, places_from-there}
 use Rattle.gr_lanes.specs.Indices.{EndsCut, end_in, end_of, end_of_kind, index_of, record_of, taking, with_if, AreRising}

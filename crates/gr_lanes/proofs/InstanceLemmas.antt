@@ -1,10 +1,7 @@
 -- Instances, by the barriers that are found.
-use Rattle.std.proofs.Common.{◌≡◌, ℕ, zero, suc, ◌+◌, ◌<◌, ◌≤◌, Bool, true, List, [], ◌∷◌, Option, Some, None, slice_get, filter, filter_map, is_some, false, ◌⊎◌, refl, sym, ◌∙◌, inl, inr, arith, true≢false}
-use Rattle.std.specs.Prelude.{MatchOption}
+use Rattle.gr_model.proofs.Common.{◌≡◌, ℕ, zero, suc, ◌+◌, ◌<◌, ◌≤◌, Bool, true, List, [], ◌∷◌, Option, Some, None, slice_get, filter, filter_map, is_some, false, ◌⊎◌, refl, sym, ◌∙◌, inl, inr, arith, true≢false, MatchOption}
 use Rattle.gr_model.specs.declared.event.Event.{Event}
-use Rattle.gr_model.specs.Barriers.{IsDivergent, arrivals, is_barrier, mark_of}
-use Rattle.gr_model.specs.Instances.{Arrivals, IsDivergentOf, Mark}
-use Rattle.gr_model.specs.Streams.{Streams, is_complete, list_of, places_from, size_of, trace_of}
+use Rattle.gr_model.specs.Prelude.{IsDivergent, arrivals, is_barrier, mark_of, Arrivals, IsDivergentOf, Mark, Streams, is_complete, list_of, places_from, size_of, trace_of}
 use Rattle.gr_model.proofs.Places.{filter_map-place, places_from-there}
 use Rattle.gr_lanes.proofs.IndexLemmas.{record_place}
 use Rattle.gr_lanes.specs.Instances.{HasCome}

@@ -1,22 +1,11 @@
 -- What is kept of a group's items: as it is read, as a record is taken, an instance is forgotten or lanes go.
-use Rattle.std.proofs.Common.{◌≡◌, ◌≢◌, ℕ, ◌+◌, ◌-◌, ◌<◌, ◌≤◌, Bool, true, List, [], ◌∷◌, ◌++◌, ◌⊎◌, Option, None, length, map, filter, get_or, set, drop, take, replicate, refl, sym, ap, ◌∙◌, subst, arith, inl, inr, ⊎_elim, ltb, Some, slice_get, IsTrue, is_some}
-use Rattle.std.specs.List.{list_all}
+use Rattle.gr_model.proofs.Common.{◌≡◌, ◌≢◌, ℕ, ◌+◌, ◌-◌, ◌<◌, ◌≤◌, Bool, true, List, [], ◌∷◌, ◌++◌, ◌⊎◌, Option, None, length, map, filter, get_or, set, drop, take, replicate, refl, sym, ap, ◌∙◌, subst, arith, inl, inr, ⊎_elim, ltb, Some, slice_get, IsTrue, is_some, list_all, IfSome, MatchOption, cases_eq, false_from_ne_true, ltb-true, nat_tests, common_steps, get_or-drop, get_or-map, get_or-replicate, get_or-set_other, get_or-set_same, get_or-take, get_or_read, length-drop, length-map, length-replicate, length-set, length-take-le, length_push, set-get_or, AllPass-from_list_all, gets, slice_get-get_or, slice_get-map, slice_get_within}
 use Rattle.std.specs.Borrow.{Bor}
-use Rattle.std.specs.Prelude.{IfSome, MatchOption}
-use Rattle.std.proofs.lemmas.Bool.{cases_eq, false_from_ne_true, ltb-true}
-use Rattle.std.proofs.lemmas.Bool.Decides.{nat_tests}
-use Rattle.std.proofs.lemmas.Grind.{common_steps}
-use Rattle.std.proofs.lemmas.List.{get_or-drop, get_or-map, get_or-replicate, get_or-set_other, get_or-set_same, get_or-take, get_or_read, length-drop, length-map, length-replicate, length-set, length-take-le, length_push, set-get_or}
-use Rattle.std.proofs.lemmas.List.Sums.{AllPass-from_list_all}
-use Rattle.std.proofs.lemmas.Option.{gets, slice_get-get_or, slice_get-map, slice_get_within}
 use Rattle.gr_model.specs.declared.event.Event.{Event}
 use Rattle.gr_model.specs.declared.event.Kind.TheVariants.{Read}
 use Rattle.gr_model.specs.declared.event.Space.TheVariants.{Global}
 use Rattle.gr_model.specs.declared.limits.TheConstants.{MOST_RECORDS}
-use Rattle.gr_model.specs.Access.{is_release}
-use Rattle.gr_model.specs.Barriers.{is_barrier}
-use Rattle.gr_model.specs.Events.{IsEventOk}
-use Rattle.gr_model.specs.Streams.{IsPrefix, is_complete, is_of, places_from}
+use Rattle.gr_model.specs.Prelude.{is_release, is_barrier, IsEventOk, IsPrefix, is_complete, is_of, places_from}
 use Rattle.gr_model.proofs.ListsOfRecords.{length-filter_le}
 use Rattle.gr_model.proofs.StreamPrefixes.{prefix_nil, prefix_push}
 use Rattle.gr_lanes.specs.declared.bare.Bare.{Bare}

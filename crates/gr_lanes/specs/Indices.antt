@@ -5,10 +5,7 @@ use Rattle.gr_model.specs.declared.report.Divergence.{Divergence}
 use Rattle.gr_model.specs.declared.event.ItemId.{ItemId}
 use Rattle.gr_model.specs.declared.event.Kind.{Kind}
 use Rattle.gr_model.specs.declared.event.Kind.TheVariants.{End}
-use Rattle.gr_model.specs.Access.{is_release}
-use Rattle.gr_model.specs.Barriers.{is_barrier}
-use Rattle.gr_model.specs.Events.{is_end}
-use Rattle.gr_model.specs.Streams.{Streams, ArePrefixes, is_of, places_from, trace_of}
+use Rattle.gr_model.specs.Prelude.{is_release, is_barrier, is_end, Streams, ArePrefixes, is_of, places_from, trace_of}
 use Rattle.gr_lanes.specs.Remembered.{Remembered}
 
 -- how many events an item has, the places of its releases and its barriers among them, and the records of these

@@ -1,8 +1,7 @@
 -- What came to an instance of a group's barriers, by the barrier of one who came.
 use Rattle.std.specs.Prelude.{◌≡◌, ℕ, ◌<◌, true, is_some}
 use Rattle.gr_model.specs.declared.event.Event.{Event}
-use Rattle.gr_model.specs.Barriers.{arrivals, mark_of}
-use Rattle.gr_model.specs.Streams.{Streams, size_of}
+use Rattle.gr_model.specs.Prelude.{arrivals, mark_of, Streams, size_of}
 
 -- somebody came with the mark of this barrier
 pub record HasCome (s : Streams) (g k : ℕ) (x : Event) : Type 0 where

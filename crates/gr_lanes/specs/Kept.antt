@@ -2,9 +2,7 @@
 use Rattle.std.specs.Prelude.{IsTrue, ◌≡◌, ℕ, ◌<◌, ◌≤◌, List, [], ◌∷◌, ◌++◌, Bool, true, false, not, ◌||◌, ◌&&◌, ◌==◌, ◌⊎◌, nat_lt, Option, Some, None, drop, filter, length, map, replicate, take, slice_index_or, ◌+◌, ◌-◌, if◌then◌else◌}
 use Rattle.gr_model.specs.declared.event.Event.{Event}
 use Rattle.gr_lanes.specs.declared.bare.Bare.{Bare}
-use Rattle.gr_model.specs.Barriers.{is_barrier}
-use Rattle.gr_model.specs.Access.{is_release}
-use Rattle.gr_model.specs.Streams.{IsPrefix, Streams, is_complete, is_of, list_of, place_of, places_from, size_of}
+use Rattle.gr_model.specs.Prelude.{is_barrier, is_release, IsPrefix, Streams, is_complete, is_of, list_of, place_of, places_from, size_of}
 use Rattle.gr_lanes.specs.Indices.{Index, barriers_of, end_in, index_of, record_of, with_event}
 
 -- what a record says, without its item and the releases that it names

@@ -5,12 +5,8 @@ use Rattle.std.specs.Prelude.{◌≡◌, ℕ, ◌+◌, ◌<◌, ◌≤◌, List,
 use Rattle.gr_model.specs.declared.event.EventId.{EventId}
 use Rattle.gr_model.specs.declared.event.ItemId.{ItemId}
 use Rattle.gr_model.specs.declared.report.Divergence.{Divergence}
-use Rattle.gr_model.specs.Barriers.{arrivals, is_barrier}
+use Rattle.gr_model.specs.Prelude.{arrivals, is_barrier, put, Mark, DivergenceBelow, IsDivergence, Lists, Streams, place_of, size_of}
 use Rattle.gr_model.specs.Groups as model
-use Rattle.gr_model.specs.Groups.{put}
-use Rattle.gr_model.specs.Instances.{Mark}
-use Rattle.gr_model.specs.Reports.{DivergenceBelow, IsDivergence, Lists}
-use Rattle.gr_model.specs.Streams.{Streams, place_of, size_of}
 
 -- what was taken; how many of the first instances of each group are forgotten, and which of those are divergent
 pub record Remembered : Type 0 where

@@ -3,10 +3,7 @@
 use Rattle.std.specs.Prelude.{◌≡◌, ℕ, ◌<◌, ◌≤◌, List, [], ◌∷◌, ◌++◌, length, map, slice_set, IsTrue, false}
 use Rattle.gr_model.specs.declared.event.Event.{Event}
 use Rattle.gr_model.specs.declared.event.EventId.{EventId}
-use Rattle.gr_model.specs.Access.{is_release}
-use Rattle.gr_model.specs.Barriers.{is_barrier}
-use Rattle.gr_model.specs.Events.{IsNamingOk, IsKindOk, is_end}
-use Rattle.gr_model.specs.Streams.{Streams, list_of, size_of, trace_of, is_complete}
+use Rattle.gr_model.specs.Prelude.{is_release, is_barrier, IsNamingOk, IsKindOk, is_end, Streams, list_of, size_of, trace_of, is_complete}
 use Rattle.gr_lanes.specs.declared.seq_error.SeqError.{SeqError}
 use Rattle.gr_lanes.specs.declared.seq_error.SeqError.TheVariants.{UnknownGroup, AfterEnd, UnknownItem, Memory}
 

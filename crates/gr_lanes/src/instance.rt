@@ -2,8 +2,7 @@
 //! (docs/MODEL.md, "Barriers").
 
 ghost use Rattle.std.specs.Prelude.{◌≡◌, ◌↔◌, ◌<◌, ◌≤◌, true, IsTrue, MatchOption, is_some, length};
-ghost use Rattle.gr_model.specs.Barriers.{IsDivergent, arrivals, mark_of};
-ghost use Rattle.gr_model.specs.Streams.{size_of};
+ghost use Rattle.gr_model.specs.Prelude.{IsDivergent, arrivals, mark_of, size_of};
 ghost use Rattle.gr_barriers.specs.Summaries.{IsSummaryOf};
 ghost use Rattle.gr_lanes.specs.Remembered.{IsRemembered, forgotten_of};
 

@@ -4,13 +4,9 @@
 
 ghost use Rattle.std.specs.Prelude.{[], ◌≡◌, ◌≢◌, ◌↔◌, ◌<◌, ◌≤◌, ℕ, Some, IsTrue, IfOk, IfErr, MatchOption, OnOk, OnErr, filter, length, option_and_then};
 ghost use Rattle.gr_model.specs.declared.limits.TheConstants.{MOST_RECORDS};
-ghost use Rattle.gr_model.specs.Groups.{CanAdd, put};
-ghost use Rattle.gr_model.specs.Streams.{ArePrefixes, is_complete, list_of, place_of, trace_of};
-ghost use Rattle.gr_model.specs.Access.{event_word, is_release};
-ghost use Rattle.gr_model.specs.Barriers.{is_barrier};
+ghost use Rattle.gr_model.specs.Prelude.{CanAdd, put, ArePrefixes, is_complete, list_of, place_of, trace_of, event_word, is_release};
+ghost use Rattle.gr_model.specs.Prelude.{is_barrier, IsCut, release_place};
 ghost use Rattle.gr_lanes.specs.Indices.{empty, record_of};
-ghost use Rattle.gr_model.specs.Reports.{IsCut};
-ghost use Rattle.gr_model.specs.Names.{release_place};
 ghost use Rattle.gr_lanes.specs.declared.seq_error.SeqError.TheVariants.{Memory as OutOfMemory};
 ghost use Rattle.gr_lanes.specs.Kept.{NoneDiffers};
 ghost use Rattle.gr_lanes.specs.Remembered.{HaveAllCome, IsEventRemembered, IsRemembered, IsWhole, decided_of, deciding, forgetting, forgotten_of, remembering, with_group};

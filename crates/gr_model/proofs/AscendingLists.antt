@@ -1,6 +1,6 @@
 -- Two ascending lists without repeats are equal where they have the same elements.
-use Rattle.std.proofs.Common.{◌≡◌, ◌⊎◌, ℕ, suc, ◌<◌, List, [], ◌∷◌, length, slice_index_or, Contains, AllPairs, refl, sym, subst, arith}
-use Rattle.gr_model.specs.Reports.{Lists}
+use Rattle.gr_model.proofs.Common.{◌≡◌, ◌⊎◌, ℕ, suc, ◌<◌, List, [], ◌∷◌, length, slice_index_or, Contains, AllPairs, refl, sym, subst, arith}
+use Rattle.gr_model.specs.Prelude.{Lists}
 
 Contains-cases : {X : Type 0} (y : X) (ys : List X) (x : X) (k : ℕ) → k < length (y ∷ ys) → slice_index_or (y ∷ ys) k x ≡ x → (y ≡ x) ⊎ Contains ys x
 Contains-cases y ys x k lt at = grind arith

@@ -1,7 +1,7 @@
 -- The cause of a divergent instance: there is one at most, and what has one diverges.
-use Rattle.std.proofs.Common.{◌≡◌, ℕ, Bool, arith}
+use Rattle.gr_model.proofs.Common.{◌≡◌, ℕ, Bool, arith}
 use Rattle.gr_model.specs.declared.report.DivergenceCause.{DivergenceCause}
-use Rattle.gr_model.specs.Instances.{Arrivals, HasDivergenceCause, IsDivergentOf}
+use Rattle.gr_model.specs.Prelude.{Arrivals, HasDivergenceCause, IsDivergentOf}
 
 pub one_cause : (complete : Bool) (size : ℕ) (arrived : Arrivals) (c d : DivergenceCause) → HasDivergenceCause complete size arrived c → HasDivergenceCause complete size arrived d → c ≡ d
 one_cause complete size arrived c d p q = grind arith

@@ -1,6 +1,6 @@
 -- What a class keeps of a kind.
-use Rattle.std.proofs.Common.{arith, rules}
-use Rattle.gr_model.specs.ClassLaws.{ClassesTellModifies, ClassesTellScopes, ExemptionIsOfKinds}
+use Rattle.gr_model.proofs.Common.{arith, rules}
+use Rattle.gr_model.specs.Prelude.{ClassesTellModifies, ClassesTellScopes, ExemptionIsOfKinds}
 
 modifies_told : ClassesTellModifies
 modifies_told k a e = search rules

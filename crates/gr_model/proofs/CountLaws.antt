@@ -1,12 +1,9 @@
 -- The counts of an event that is grounded stay where lists that are not complete grow.
-use Rattle.std.proofs.Common.{◌≡◌, ◌↔◌, ℕ, zero, suc, ◌+◌, ◌<◌, ◌≤◌, length, arith, length-append}
-use Rattle.std.proofs.lemmas.Option.{slice_get_within}
+use Rattle.gr_model.proofs.Common.{◌≡◌, ◌↔◌, ℕ, zero, suc, ◌+◌, ◌<◌, ◌≤◌, length, arith, length-append, slice_get_within}
 use Rattle.gr_model.specs.declared.event.Space.{Space}
 use Rattle.gr_model.specs.declared.event.ItemId.{ItemId}
 use Rattle.gr_model.specs.declared.event.EventId.{EventId}
-use Rattle.gr_model.specs.Streams.{Streams, Grows, trace_of, IsEvent}
-use Rattle.gr_model.specs.Waits.{Stage}
-use Rattle.gr_model.specs.Counts.{IsNumberOf, Sees, IsCount}
+use Rattle.gr_model.specs.Prelude.{Streams, Grows, trace_of, IsEvent, Stage, IsNumberOf, Sees, IsCount}
 use Rattle.gr_model.proofs.Descent.{below_before, stage_descends}
 use Rattle.gr_model.proofs.GrowthLaws.{stage_event, trace_grows, before_grows, before_shrinks}
 

@@ -1,7 +1,7 @@
 -- A word's hits are those of the accesses to it.
-use Rattle.std.proofs.Common.{◌≡◌, ◌↔◌, Bool, true, List, filter, ap, ◌∙◌}
+use Rattle.gr_model.proofs.Common.{◌≡◌, ◌↔◌, Bool, true, List, filter, ap, ◌∙◌}
 use Rattle.gr_model.specs.declared.event.Word.{Word}
-use Rattle.gr_model.specs.Hits.{ClashesAt, IsHit}
+use Rattle.gr_model.specs.Prelude.{ClashesAt, IsHit}
 use Rattle.gr_model.proofs.Pairs.{SomePair-filter}
 
 -- a word is hit among some accesses where it is hit among those of any set of words that has it

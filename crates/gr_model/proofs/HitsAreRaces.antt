@@ -1,15 +1,9 @@
 -- Along a lawful order the words hit are the racy ones.
-use Rattle.std.proofs.Common.{◌≡◌, ℕ, ◌<◌, List, ⊎_elim, arith, eqb}
+use Rattle.gr_model.proofs.Common.{◌≡◌, ℕ, ◌<◌, List, ⊎_elim, arith, eqb, cases_lt, nat_tests}
 use Rattle.std.proofs.Math.Bool.{or_comm}
-use Rattle.std.proofs.lemmas.Bool.{cases_lt}
-use Rattle.std.proofs.lemmas.Bool.Decides.{nat_tests}
 use Rattle.gr_model.specs.declared.event.EventId.{EventId}
 use Rattle.gr_model.specs.declared.event.Word.{Word}
-use Rattle.gr_model.specs.Access.{memory_of}
-use Rattle.gr_model.specs.Hits.{SomePair}
-use Rattle.gr_model.specs.LawfulOrders.{IsAt, IsLawful}
-use Rattle.gr_model.specs.Races.{RacesInOrder, MayRace, IsRace, IsRacy}
-use Rattle.gr_model.specs.Streams.{Streams}
+use Rattle.gr_model.specs.Prelude.{memory_of, SomePair, IsAt, IsLawful, RacesInOrder, MayRace, IsRace, IsRacy, Streams}
 use Rattle.gr_model.proofs.Descent.{below_before, lawful_descends}
 
 pub eqb_swap : (a b : ℕ) → eqb a b ≡ eqb b a

@@ -20,3 +20,4 @@ pub mod Causes
 pub mod StreamPrefixes
 pub mod RacePairLaws
 pub mod ClassLemmas
+pub mod Common

@@ -1,6 +1,6 @@
 -- Counts of places at which a fact holds.
-use Rattle.std.proofs.Common.{◌≡◌, ◌↔◌, ℕ, zero, suc, ◌<◌, ◌≤◌, inl, inr, ⊎_elim, arith, eq-or-lt_of_le}
-use Rattle.gr_model.specs.Counts.{IsNumberOf}
+use Rattle.gr_model.proofs.Common.{◌≡◌, ◌↔◌, ℕ, zero, suc, ◌<◌, ◌≤◌, inl, inr, ⊎_elim, arith, eq-or-lt_of_le}
+use Rattle.gr_model.specs.Prelude.{IsNumberOf}
 
 -- a fact that holds of just the first n places holds n times
 pub number_of_prefix : (P : ℕ → Type 0) (bound n : ℕ) → n ≤ bound → ((k : ℕ) → k < bound → P k ↔ (k < n)) → IsNumberOf P bound n

@@ -1,6 +1,6 @@
 -- An element of which something holds, and a pair of elements, an earlier and a later one, that are related.
-use Rattle.std.proofs.Common.{◌≡◌, ◌⊎◌, ◌↔◌, ℕ, suc, Bool, true, List, [], ◌∷◌, Some, slice_get, filter, refl, inl, inr, arith}
-use Rattle.gr_model.specs.Hits.{SomePair}
+use Rattle.gr_model.proofs.Common.{◌≡◌, ◌⊎◌, ◌↔◌, ℕ, suc, Bool, true, List, [], ◌∷◌, Some, slice_get, filter, refl, inl, inr, arith}
+use Rattle.gr_model.specs.Prelude.{SomePair}
 
 -- P holds of an element
 abbrev pub SomeOf : {X : Type 0} → (X → Type 0) → List X → Type 0

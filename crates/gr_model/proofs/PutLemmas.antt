@@ -1,9 +1,6 @@
 -- Lists with an element at a place after their end.
-use Rattle.std.proofs.Common.{◌≡◌, ℕ, zero, suc, ◌+◌, ◌<◌, ◌≤◌, max, All, List, [], ◌∷◌, ◌++◌, length, get_or, map, set, sum, refl, sym, ap, ◌∙◌, arith}
-use Rattle.std.proofs.lemmas.List.{get_or_default, get_or_past}
-use Rattle.std.proofs.lemmas.List.Sums.{sum_by-cons}
-use Rattle.std.specs.Prelude.{◌≢◌}
-use Rattle.gr_model.specs.Groups.{put}
+use Rattle.gr_model.proofs.Common.{◌≡◌, ℕ, zero, suc, ◌+◌, ◌<◌, ◌≤◌, max, All, List, [], ◌∷◌, ◌++◌, length, get_or, map, set, sum, refl, sym, ap, ◌∙◌, arith, get_or_default, get_or_past, sum_by-cons, ◌≢◌}
+use Rattle.gr_model.specs.Prelude.{put}
 
 pub put_same : {X : Type 0} (none : X) (xs : List X) (p : ℕ) (x : X) → get_or (put none xs p x) p none ≡ x
 put_same none [] (suc p) x = put_same none [] p x

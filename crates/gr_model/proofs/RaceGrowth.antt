@@ -1,11 +1,8 @@
 -- A race of events that are grounded stays one where lists that are not complete grow.
-use Rattle.std.proofs.Common.{List, arith}
+use Rattle.gr_model.proofs.Common.{List, arith}
 use Rattle.gr_model.specs.declared.event.EventId.{EventId}
 use Rattle.gr_model.specs.declared.event.Word.{Word}
-use Rattle.gr_model.specs.LawfulOrders.{IsIn, IsLawful}
-use Rattle.gr_model.specs.Races.{IsRace, IsRacy}
-use Rattle.gr_model.specs.Streams.{Grows, Streams}
-use Rattle.gr_model.specs.Waits.{IsGrounded}
+use Rattle.gr_model.specs.Prelude.{IsIn, IsLawful, IsRace, IsRacy, Grows, Streams, IsGrounded}
 use Rattle.gr_model.proofs.Descent.{lawful_is_grounded}
 use Rattle.gr_model.proofs.GrowthLaws.{before_shrinks, event_grows, stage_grows, word_grows}
 

@@ -1,12 +1,8 @@
 -- A race of two events is one of them in their order.
-use Rattle.std.proofs.Common.{arith}
+use Rattle.gr_model.proofs.Common.{arith}
 use Rattle.gr_model.specs.declared.event.EventId.{EventId}
 use Rattle.gr_model.specs.declared.event.Word.{Word}
-use Rattle.gr_model.specs.RacePairs.{IsRacePair, IsTurned, Pair}
-use Rattle.gr_model.specs.Races.{IsRace}
-use Rattle.gr_model.specs.Reports.{EventBelow}
-use Rattle.gr_model.specs.Streams.{Streams}
-use Rattle.gr_model.specs.Waits.{IsGrounded}
+use Rattle.gr_model.specs.Prelude.{IsRacePair, IsTurned, Pair, IsRace, EventBelow, Streams, IsGrounded}
 use Rattle.gr_model.proofs.HitsAreRaces.{may_race_swaps}
 
 pub race_swap : (s : Streams) (w : Word) (e f : EventId) → IsRace s w e f → IsRace s w f e

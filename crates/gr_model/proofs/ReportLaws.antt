@@ -1,16 +1,8 @@
 -- Lists have one report.
-use Rattle.std.proofs.Common.{◌≡◌, ℕ, zero, suc, ◌<◌, All, List, [], ◌∷◌, length, slice_index, map, refl, sym, ◌∙◌, arith}
-use Rattle.std.specs.List.{flat_map, range_with_len, sum_by}
-use Rattle.std.proofs.lemmas.List.Sums.{sum_by-cons}
+use Rattle.gr_model.proofs.Common.{◌≡◌, ℕ, zero, suc, ◌<◌, All, List, [], ◌∷◌, length, slice_index, map, refl, sym, ◌∙◌, arith, range_with_len, sum_by, sum_by-cons, All-append, All-head, All-map, All-nil, All-tail, get_or-range_with_len, length-range_with_len}
+use Rattle.std.specs.List.{flat_map}
 use Rattle.std.proofs.lemmas.List.Concat.{flat_map-cons}
-use Rattle.std.proofs.lemmas.List.Elements.{All-append, All-head, All-map, All-nil, All-tail}
-use Rattle.std.proofs.lemmas.List.FromFn.{get_or-range_with_len, length-range_with_len}
-use Rattle.gr_model.specs.Counts.{IsNumberOf}
-use Rattle.gr_model.specs.Reports.{DivergenceBelow, IsCut, IsDivergence, IsReportOf, IsUnmatchedEntry, UnmatchedBelow, WholeReport, WordBelow}
-use Rattle.gr_model.specs.Races.{IsRacy}
-use Rattle.gr_model.specs.Shapes.{HasItem, items_of}
-use Rattle.gr_model.specs.Streams.{Streams}
-use Rattle.gr_model.specs.Waits.{IsGrounded}
+use Rattle.gr_model.specs.Prelude.{IsNumberOf, DivergenceBelow, IsCut, IsDivergence, IsReportOf, IsUnmatchedEntry, UnmatchedBelow, WholeReport, WordBelow, IsRacy, HasItem, items_of, Streams, IsGrounded}
 use Rattle.gr_model.proofs.AscendingLists.{one_list}
 
 -- ---- numbers

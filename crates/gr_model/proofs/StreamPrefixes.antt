@@ -1,11 +1,8 @@
 -- Prefixes of a work-group's stream: they grow by records that may come next, and a complete one is the whole.
-use Rattle.std.proofs.Common.{◌≡◌, ℕ, ◌-◌, ◌<◌, List, [], ◌∷◌, ◌++◌, length, arith, length-append, IsTrue, IsFalse}
-use Rattle.std.proofs.lemmas.Grind.{common_steps}
-use Rattle.std.proofs.lemmas.Option.{gets, slice_get_within, slice_get-get_or}
+use Rattle.gr_model.proofs.Common.{◌≡◌, ℕ, ◌-◌, ◌<◌, List, [], ◌∷◌, ◌++◌, length, arith, length-append, IsTrue, IsFalse, common_steps, gets, slice_get_within, slice_get-get_or}
 use Rattle.gr_model.specs.declared.event.Event.{Event}
 use Rattle.gr_model.specs.declared.limits.TheConstants.{MOST_RECORDS}
-use Rattle.gr_model.specs.Events.{IsEventOk}
-use Rattle.gr_model.specs.Streams.{IsPrefix, is_complete}
+use Rattle.gr_model.specs.Prelude.{IsEventOk, IsPrefix, is_complete}
 use Rattle.gr_model.proofs.ListsOfRecords.{is_complete-last}
 use Rattle.gr_model.proofs.Places.{slice_get-append}
 

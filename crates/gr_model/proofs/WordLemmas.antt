@@ -1,10 +1,9 @@
 -- The order of words.
-use Rattle.std.proofs.Common.{◌≡◌, true, arith}
-use Rattle.std.proofs.lemmas.Bool.Decides.{nat_tests}
+use Rattle.gr_model.proofs.Common.{◌≡◌, true, arith, nat_tests}
 use Rattle.std.specs.declared.cmp.Ordering.TheVariants.{Less}
 use Rattle.std.specs.Ordering.{eq_by_cmp}
 use Rattle.gr_model.specs.declared.event.Word.{Word}
-use Rattle.gr_model.specs.Reports.{WordBelow}
+use Rattle.gr_model.specs.Prelude.{WordBelow}
 use Rattle.gr_model.specs.contracts.event.WordOrd.TheImpl as order
 use Rattle.gr_model.specs.contracts.event.WordPartialEq.TheImpl as equality
 

@@ -22,3 +22,4 @@ pub mod Laws
 pub mod Conflicts
 pub mod Classes
 pub mod ClassLaws
+pub mod Prelude

@@ -1,5 +1,5 @@
 -- The definitions, tried on small lists.
-use Rattle.std.proofs.Common.{◌≡◌, ℕ, zero, suc, ◌<◌, true, false, Option, Some, None, Contains, [], ◌∷◌, refl, sym, ◌∙◌, ap, inl, inr, lit<, option_map, subst, arith, IsTrue}
+use Rattle.gr_model.proofs.Common.{◌≡◌, ℕ, zero, suc, ◌<◌, true, false, Option, Some, None, Contains, [], ◌∷◌, refl, sym, ◌∙◌, ap, inl, inr, lit<, option_map, subst, arith, IsTrue}
 use Rattle.gr_model.specs.declared.event.Space.TheVariants.{Global, Local}
 use Rattle.gr_model.specs.declared.event.Scope.TheVariants.{Group, Device}
 use Rattle.gr_model.specs.declared.event.Order.TheVariants.{Acquire, Both, Release}
@@ -11,14 +11,7 @@ use Rattle.gr_model.specs.declared.event.Word.{Word}
 use Rattle.gr_model.specs.declared.event.Word.TheVariants.{Global as GlobalWord, Local as LocalWord}
 use Rattle.gr_model.specs.declared.report.AcquireCause.TheVariants.{Absent, OtherWord, Behind}
 use Rattle.gr_model.specs.declared.report.DivergenceCause.TheVariants.{Missing}
-use Rattle.gr_model.specs.Access.{inclusive}
-use Rattle.gr_model.specs.Barriers.{IsConvergent, IsDivergent, Together, arrivals}
-use Rattle.gr_model.specs.HappensBefore.{HappensBefore, BasePair, IsInclusive, sequenced, synchronized, behind_barrier, by_pair, through}
-use Rattle.gr_model.specs.Instances.{HasDivergenceCause, Mark}
-use Rattle.gr_model.specs.Names.{Matches, HasAcquireCause, HasName, IsAbsent, IsOfItsWord}
-use Rattle.gr_model.specs.Reports.{IsCut}
-use Rattle.gr_model.specs.Streams.{Streams}
-use Rattle.gr_model.specs.Waits.{Stage, IsGrounded, IsPrevious, Waits, for_previous, for_release}
+use Rattle.gr_model.specs.Prelude.{inclusive, IsConvergent, IsDivergent, Together, arrivals, HappensBefore, BasePair, IsInclusive, sequenced, synchronized, behind_barrier, by_pair, through, HasDivergenceCause, Mark, Matches, HasAcquireCause, HasName, IsAbsent, IsOfItsWord, IsCut, Streams, Stage, IsGrounded, IsPrevious, Waits, for_previous, for_release}
 use Rattle.gr_model.proofs.Descent.{stage_descends}
 use Rattle.gr_model_tests.specs.Examples.{access, acquire, acquire_of, the_end, release, event, half_there, handed_by_two, handed_over, names_itself, crossed, scopes_differ, two_releases, mixed, waiting, met, the_mark}
 

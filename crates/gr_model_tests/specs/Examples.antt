@@ -9,8 +9,7 @@ use Rattle.gr_model.specs.declared.event.Kind.TheVariants.{Read, Write, Load, St
 use Rattle.gr_model.specs.declared.event.Name.{Name}
 use Rattle.gr_model.specs.declared.event.Event.{Event}
 use Rattle.gr_model.specs.declared.event.EventId.{EventId}
-use Rattle.gr_model.specs.Instances.{Mark}
-use Rattle.gr_model.specs.Streams.{Streams}
+use Rattle.gr_model.specs.Prelude.{Mark, Streams}
 
 -- a record without names, one with some names and one with one, a barrier and an end
 abbrev pub access : ℕ → Kind → Space → ℕ → Event

@@ -1,14 +1,8 @@
 //! The definitions, tried on small lists. Each clause is a worked example, proved.
 
 ghost use Rattle.std.specs.Prelude.{◌≡◌, true, Some, None, IsFalse};
-ghost use Rattle.gr_model.specs.Access.{word_in};
-ghost use Rattle.gr_model.specs.Barriers.{IsConvergent, IsDivergent, arrivals};
-ghost use Rattle.gr_model.specs.HappensBefore.{BasePair, HappensBefore};
-ghost use Rattle.gr_model.specs.Instances.{HasDivergenceCause, Mark, flags};
-ghost use Rattle.gr_model.specs.Names.{HasAcquireCause, release_place};
-ghost use Rattle.gr_model.specs.Reports.{IsCut};
-ghost use Rattle.gr_model.specs.Streams.{word_at};
-ghost use Rattle.gr_model.specs.Waits.{IsGrounded, Waits};
+ghost use Rattle.gr_model.specs.Prelude.{word_in, IsConvergent, IsDivergent, arrivals, BasePair, HappensBefore, HasDivergenceCause, Mark};
+ghost use Rattle.gr_model.specs.Prelude.{flags, HasAcquireCause, release_place, IsCut, word_at, IsGrounded, Waits};
 ghost use Rattle.gr_model.specs.declared.event.Space.TheVariants.{Global, Local};
 ghost use Rattle.gr_model.specs.declared.report.AcquireCause.TheVariants.{Absent, OtherWord, Behind};
 ghost use Rattle.gr_model.specs.declared.report.DivergenceCause.TheVariants.{Missing};

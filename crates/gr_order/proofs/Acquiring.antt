@@ -1,7 +1,5 @@
 -- The unmatched acquires, found one after the other.
-use Rattle.std.proofs.Common.{◌≡◌, ◌≢◌, ◌⊎◌, ℕ, ◌+◌, ◌<◌, ◌≤◌, List, [], ◌∷◌, ◌++◌, length, Some, None, refl, sym, ap, ◌∙◌, subst, inl, arith, Any, Contains, Option, get_or}
-use Rattle.std.proofs.lemmas.Grind.{common_steps}
-use Rattle.std.proofs.lemmas.List.Elements.{Contains-get_or}
+use Rattle.gr_model.proofs.Common.{◌≡◌, ◌≢◌, ◌⊎◌, ℕ, ◌+◌, ◌<◌, ◌≤◌, List, [], ◌∷◌, ◌++◌, length, Some, None, refl, sym, ap, ◌∙◌, subst, inl, arith, Any, Contains, Option, get_or, common_steps, Contains-get_or}
 use Rattle.gr_model.specs.declared.event.Event.{Event}
 use Rattle.gr_model.specs.declared.event.EventId.{EventId}
 use Rattle.gr_model.specs.declared.event.ItemId.{ItemId}
@@ -10,9 +8,7 @@ use Rattle.gr_model.specs.declared.event.Word.{Word}
 use Rattle.gr_model.specs.declared.report.AcquireCause.{AcquireCause}
 use Rattle.gr_model.specs.declared.report.AcquireCause.TheVariants.{Absent, Behind, OtherWord}
 use Rattle.gr_model.specs.declared.report.Unmatched.{Unmatched}
-use Rattle.gr_model.specs.Names.{HasAcquireCause, HasName, IsAbsent, IsOfItsWord, names_at, names_of, release_place}
-use Rattle.gr_model.specs.Reports.{IsUnmatchedAcquire, IsUnmatchedEntry, Lists, UnmatchedBelow}
-use Rattle.gr_model.specs.Streams.{ArePrefixes, Streams, event_at, size_of, word_at}
+use Rattle.gr_model.specs.Prelude.{HasAcquireCause, HasName, IsAbsent, IsOfItsWord, names_at, names_of, release_place, IsUnmatchedAcquire, IsUnmatchedEntry, Lists, UnmatchedBelow, ArePrefixes, Streams, event_at, size_of, word_at}
 use Rattle.gr_model.proofs.Cuts.{same_event}
 use Rattle.gr_clocks.specs.Counts.{Counts, count_of}
 use Rattle.gr_order.specs.Acquires.{AreUnmatchedBefore, IsElsewhere, IsGroundedFrontier, IsItemBefore}

@@ -1,12 +1,8 @@
 -- What is kept where a group comes.
-use Rattle.std.proofs.Common.{◌≡◌, ◌↔◌, ℕ, ◌<◌, List, [], length, not, filter, refl, sym, ap, ◌∙◌, subst, arith}
-use Rattle.std.proofs.lemmas.List.{get_or_past}
+use Rattle.gr_model.proofs.Common.{◌≡◌, ◌↔◌, ℕ, ◌<◌, List, [], length, not, filter, refl, sym, ap, ◌∙◌, subst, arith, get_or_past}
 use Rattle.std.proofs.Math.ListN.{get_or-map}
-use Rattle.gr_model.specs.Events.{is_end}
-use Rattle.gr_model.specs.LawfulOrders.{IsIn}
-use Rattle.gr_model.specs.Groups.{CanAdd, put}
+use Rattle.gr_model.specs.Prelude.{is_end, IsIn, CanAdd, put, ArePrefixes, Streams}
 use Rattle.gr_model.specs.Groups as model
-use Rattle.gr_model.specs.Streams.{ArePrefixes, Streams}
 use Rattle.gr_model.proofs.GroupLaws.{group_grows, list_stays, prefixes_with_group}
 use Rattle.gr_steps.proofs.StepGrowth.{lawful_grows}
 use Rattle.gr_clocks.specs.Counts.{AddsCounts, Counts, count_of}

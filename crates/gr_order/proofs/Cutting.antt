@@ -1,7 +1,6 @@
 -- The groups whose streams were cut, found one after the other.
-use Rattle.std.proofs.Common.{◌≡◌, ◌⊎◌, ℕ, ◌+◌, ◌<◌, ◌≤◌, List, [], ◌∷◌, ◌++◌, length, subst, inl, inr, ⊎_elim, arith}
-use Rattle.gr_model.specs.Reports.{Lists, IsCut}
-use Rattle.gr_model.specs.Streams.{Streams}
+use Rattle.gr_model.proofs.Common.{◌≡◌, ◌⊎◌, ℕ, ◌+◌, ◌<◌, ◌≤◌, List, [], ◌∷◌, ◌++◌, length, subst, inl, inr, ⊎_elim, arith}
+use Rattle.gr_model.specs.Prelude.{Lists, IsCut, Streams}
 use Rattle.gr_barriers.proofs.Lists.{listed_push, listed_same}
 
 abbrev pub Above : ℕ → ℕ → Type 0

@@ -1,17 +1,10 @@
 -- Instances and releases, by what is looked at.
-use Rattle.std.proofs.Common.{Bool, Contains, IsTrue, ◌↔◌, true, true≢false, ◌≡◌, ℕ, ◌<◌, false, List, [], Some, None, refl, sym, ap, ◌∙◌, subst, arith, option_and_then}
-use Rattle.std.proofs.lemmas.Grind.{common_steps}
+use Rattle.gr_model.proofs.Common.{Bool, Contains, IsTrue, ◌↔◌, true, true≢false, ◌≡◌, ℕ, ◌<◌, false, List, [], Some, None, refl, sym, ap, ◌∙◌, subst, arith, option_and_then, common_steps, All, MatchOption, All-contains, All-contains_itself, All-weaker}
 use Rattle.std.specs.Bool.{then_some}
-use Rattle.std.specs.Prelude.{All, MatchOption}
-use Rattle.std.proofs.lemmas.List.Elements.{All-contains, All-contains_itself, All-weaker}
 use Rattle.gr_model.specs.declared.event.Event.{Event}
-use Rattle.gr_model.specs.Barriers.{IsDivergent, StandsIn, is_barrier}
+use Rattle.gr_model.specs.Prelude.{IsDivergent, StandsIn, is_barrier, event_word, IsLawful, HasName, names_of, release_place, ArePrefixes, Streams, event_at, place_of, trace_of, word_at}
 use Rattle.gr_model.specs.declared.event.ItemId.{ItemId}
 use Rattle.gr_model.specs.declared.event.Name.{Name}
-use Rattle.gr_model.specs.Access.{event_word}
-use Rattle.gr_model.specs.LawfulOrders.{IsLawful}
-use Rattle.gr_model.specs.Names.{HasName, names_of, release_place}
-use Rattle.gr_model.specs.Streams.{ArePrefixes, Streams, event_at, place_of, trace_of, word_at}
 use Rattle.gr_model.specs.declared.event.EventId.{EventId}
 use Rattle.gr_model.proofs.Cuts.{same_event}
 use Rattle.gr_steps.proofs.BarrierPlaces.{barrier_there, same_instance}

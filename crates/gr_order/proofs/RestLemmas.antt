@@ -1,6 +1,5 @@
 -- No step is left where none is left in any group.
-use Rattle.std.proofs.Common.{ℕ, ◌<◌, ◌≤◌, length, sym, subst, ⊎_elim}
-use Rattle.std.proofs.lemmas.Bool.{cases_lt}
+use Rattle.gr_model.proofs.Common.{ℕ, ◌<◌, ◌≤◌, length, sym, subst, ⊎_elim, cases_lt}
 use Rattle.gr_steps.specs.Steps.{CanHandle, IsAtRest}
 use Rattle.gr_steps.proofs.Resting.{rest_grounded}
 use Rattle.gr_steps.proofs.EventRecords.{group_of_event, item_of_event}

@@ -1,23 +1,16 @@
 -- An order stays one where a record is taken, and where an event is handled.
-use Rattle.std.proofs.Common.{◌≡◌, ◌⊎◌, ℕ, ◌+◌, ◌<◌, List, [], ◌∷◌, ◌++◌, length, get_or, Some, refl, sym, ap, ◌∙◌, subst, inl, inr, arith}
-use Rattle.std.proofs.lemmas.Grind.{common_steps}
-use Rattle.std.specs.Prelude.{not}
-use Rattle.std.proofs.lemmas.List.{length_push}
-use Rattle.std.proofs.lemmas.List.Sums.{sum_by-le}
+use Rattle.gr_model.proofs.Common.{◌≡◌, ◌⊎◌, ℕ, ◌+◌, ◌<◌, List, [], ◌∷◌, ◌++◌, length, get_or, Some, refl, sym, ap, ◌∙◌, subst, inl, inr, arith, common_steps, not, length_push, sum_by-le}
 use Rattle.std.specs.Int.{from_bool}
-use Rattle.gr_model.specs.Events.{is_end}
+use Rattle.gr_model.specs.Prelude.{is_end, ArePrefixes, Streams, IsIn, IsLawful, HasItem, items_of}
 use Rattle.gr_model.specs.declared.event.Event.{Event}
 use Rattle.gr_model.specs.declared.event.EventId.{EventId}
 use Rattle.gr_model.specs.declared.event.ItemId.{ItemId}
-use Rattle.gr_model.specs.Streams.{ArePrefixes, Streams}
-use Rattle.gr_model.specs.LawfulOrders.{IsIn, IsLawful}
 use Rattle.gr_steps.proofs.StepGrowth.{lawful_grows}
 use Rattle.gr_steps.proofs.Handling.{lawful_handle}
 use Rattle.gr_steps.proofs.NextEvents.{ready_is_next}
 use Rattle.gr_steps.proofs.Orders.{at_behind, lawful_empty, split_last}
 use Rattle.gr_steps.specs.Steps.{IsReady}
 use Rattle.gr_steps.proofs.EventRecords.{group_of_event, item_of_event}
-use Rattle.gr_model.specs.Shapes.{HasItem, items_of}
 use Rattle.gr_model.proofs.Places.{slice_get-append}
 use Rattle.gr_model.proofs.Cuts.{same_event}
 use Rattle.gr_clocks.specs.Counts.{Counts, IsTick, IsZero, count_of, tick_at}

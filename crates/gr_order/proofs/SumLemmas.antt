@@ -1,16 +1,10 @@
 -- Sums over the items of a shape, and over the lists of groups.
-use Rattle.std.proofs.Common.{◌≡◌, ℕ, zero, suc, ◌+◌, ◌-◌, ◌<◌, ◌≤◌, List, [], ◌∷◌, length, map, get_or, refl, sym, ap, ◌∙◌, arith}
-use Rattle.std.proofs.lemmas.Grind.{common_steps}
-use Rattle.std.specs.List.{flat_map, range_with_len, sum_by}
-use Rattle.std.proofs.lemmas.Bool.{cases_eq}
+use Rattle.gr_model.proofs.Common.{◌≡◌, ℕ, zero, suc, ◌+◌, ◌-◌, ◌<◌, ◌≤◌, List, [], ◌∷◌, length, map, get_or, refl, sym, ap, ◌∙◌, arith, common_steps, range_with_len, sum_by, cases_eq, fill_by_all, sum_by-append, sum_by-cons, get_or_past}
+use Rattle.std.specs.List.{flat_map}
 use Rattle.std.proofs.lemmas.List.Concat.{flat_map-cons}
-use Rattle.std.proofs.lemmas.List.FromFn.{fill_by_all}
-use Rattle.std.proofs.lemmas.List.Sums.{sum_by-append, sum_by-cons}
 use Rattle.gr_model.specs.declared.event.ItemId.{ItemId}
-use Rattle.gr_model.specs.Groups.{put}
-use Rattle.gr_model.specs.Shapes.{HasItem, items_of}
+use Rattle.gr_model.specs.Prelude.{put, HasItem, items_of}
 use Rattle.gr_model.proofs.PutLemmas.{length_put, put_other}
-use Rattle.std.proofs.lemmas.List.{get_or_past}
 use Rattle.gr_clocks.specs.Tables.{item_of}
 
 -- the sum of n numbers, from the one at a on

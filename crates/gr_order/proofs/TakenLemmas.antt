@@ -1,18 +1,10 @@
 -- How many events were taken: of each item, of each group, and in all.
-use Rattle.std.proofs.Common.{◌≡◌, ℕ, zero, suc, ◌+◌, ◌*◌, ◌<◌, ◌≤◌, Bool, not, List, [], ◌∷◌, length, filter, map, Some, slice_get, refl, ap, ◌∙◌, arith}
-use Rattle.std.proofs.lemmas.Grind.{common_steps}
+use Rattle.gr_model.proofs.Common.{◌≡◌, ℕ, zero, suc, ◌+◌, ◌*◌, ◌<◌, ◌≤◌, Bool, not, List, [], ◌∷◌, length, filter, map, Some, slice_get, refl, ap, ◌∙◌, arith, common_steps, sum_by, eq-eqb, ne_eqb, length-append, filter-append, sum_by-cons, sum_by-set}
 use Rattle.std.specs.Int.{from_bool}
-use Rattle.std.specs.List.{sum_by}
-use Rattle.std.proofs.lemmas.Bool.{eq-eqb, ne_eqb}
-use Rattle.std.proofs.lemmas.List.{length-append}
-use Rattle.std.proofs.lemmas.List.Elements.{filter-append}
-use Rattle.std.proofs.lemmas.List.Sums.{sum_by-cons, sum_by-set}
 use Rattle.gr_model.specs.declared.event.Event.{Event}
 use Rattle.gr_model.specs.declared.event.ItemId.{ItemId}
 use Rattle.gr_model.specs.declared.limits.TheConstants.{MOST_GROUPS, MOST_RECORDS}
-use Rattle.gr_model.specs.Events.{is_end}
-use Rattle.gr_model.specs.Shapes.{items_of}
-use Rattle.gr_model.specs.Streams.{ArePrefixes, Streams, is_of, list_of, size_of, trace_of}
+use Rattle.gr_model.specs.Prelude.{is_end, items_of, ArePrefixes, Streams, is_of, list_of, size_of, trace_of}
 use Rattle.gr_model.proofs.ListsOfRecords.{length-filter_le}
 use Rattle.gr_lanes.specs.Takes.{CanTake, nothing_taken, with_record}
 use Rattle.gr_order.specs.Sequences.{event_count}

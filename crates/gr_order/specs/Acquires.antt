@@ -5,10 +5,7 @@ use Rattle.gr_model.specs.declared.event.ItemId.{ItemId}
 use Rattle.gr_model.specs.declared.event.Name.{Name}
 use Rattle.gr_model.specs.declared.event.Word.{Word}
 use Rattle.gr_model.specs.declared.report.Unmatched.{Unmatched}
-use Rattle.gr_model.specs.Names.{release_place}
-use Rattle.gr_model.specs.Reports.{IsUnmatchedEntry, Lists, UnmatchedBelow}
-use Rattle.gr_model.specs.Streams.{Streams, word_at}
-use Rattle.gr_model.specs.Waits.{IsGrounded}
+use Rattle.gr_model.specs.Prelude.{release_place, IsUnmatchedEntry, Lists, UnmatchedBelow, Streams, word_at, IsGrounded}
 use Rattle.gr_clocks.specs.Counts.{Counts, count_of}
 
 -- the grounded events of each item are its first ones, as many as the clock counts

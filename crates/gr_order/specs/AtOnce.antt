@@ -3,8 +3,7 @@
 use Rattle.std.specs.Prelude.{◌≡◌, ◌≢◌, ℕ, []}
 use Rattle.gr_model.specs.declared.event.Event.{Event}
 use Rattle.gr_model.specs.declared.event.EventId.{EventId}
-use Rattle.gr_model.specs.LawfulOrders.{IsIn}
-use Rattle.gr_model.specs.Streams.{IsEvent, list_of}
+use Rattle.gr_model.specs.Prelude.{IsIn, IsEvent, list_of}
 use Rattle.gr_lanes.specs.Takes.{CanTake, IsMereAccess, next_of}
 use Rattle.gr_order.specs.Sequences.{Sequence}
 

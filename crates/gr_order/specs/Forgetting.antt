@@ -3,10 +3,7 @@
 use Rattle.std.specs.Prelude.{◌≡◌, ◌⊎◌, ℕ, ◌<◌, List, Some}
 use Rattle.gr_model.specs.declared.event.EventId.{EventId}
 use Rattle.gr_model.specs.declared.report.Divergence.{Divergence}
-use Rattle.gr_model.specs.Barriers.{IsDivergent, is_barrier}
-use Rattle.gr_model.specs.LawfulOrders.{IsIn}
-use Rattle.gr_model.specs.Reports.{IsDivergence}
-use Rattle.gr_model.specs.Streams.{Streams, place_of, size_of}
+use Rattle.gr_model.specs.Prelude.{IsDivergent, is_barrier, IsIn, IsDivergence, Streams, place_of, size_of}
 use Rattle.gr_clocks.specs.Counts.{Counts, count_of}
 use Rattle.gr_lanes.specs.Remembered.{AreDecided, Remembered, deciding, forgetting, forgotten_of}
 use Rattle.gr_order.specs.Readiness.{IsNextInstance}

@@ -3,11 +3,7 @@ use Rattle.std.specs.Prelude.{◌≡◌, ℕ, ◌<◌, ◌⊎◌, All, Option, N
 use Rattle.gr_model.specs.declared.event.Event.{Event}
 use Rattle.gr_model.specs.declared.event.EventId.{EventId}
 use Rattle.gr_model.specs.declared.event.Name.{Name}
-use Rattle.gr_model.specs.Access.{event_word}
-use Rattle.gr_model.specs.Barriers.{IsDivergent, StandsIn, arrivals, is_barrier}
-use Rattle.gr_model.specs.Instances.{Mark}
-use Rattle.gr_model.specs.Names.{release_place}
-use Rattle.gr_model.specs.Streams.{Streams, place_of, size_of, word_at}
+use Rattle.gr_model.specs.Prelude.{event_word, IsDivergent, StandsIn, arrivals, is_barrier, Mark, release_place, Streams, place_of, size_of, word_at}
 use Rattle.gr_clocks.specs.Counts.{Counts, count_of}
 
 -- ---- instances

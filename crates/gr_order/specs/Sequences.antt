@@ -5,11 +5,8 @@ use Rattle.std.specs.List.{sum_by}
 use Rattle.gr_model.specs.declared.event.Event.{Event}
 use Rattle.gr_model.specs.declared.event.EventId.{EventId}
 use Rattle.gr_model.specs.declared.event.ItemId.{ItemId}
-use Rattle.gr_model.specs.Events.{is_end}
+use Rattle.gr_model.specs.Prelude.{is_end, Mark, Streams, ArePrefixes, size_of, IsLawful}
 use Rattle.gr_model.specs.Groups as model
-use Rattle.gr_model.specs.Instances.{Mark}
-use Rattle.gr_model.specs.Streams.{Streams, ArePrefixes, size_of}
-use Rattle.gr_model.specs.LawfulOrders.{IsLawful}
 use Rattle.gr_lanes.specs.Takes.{nothing_taken, with_record}
 use Rattle.gr_steps.specs.Steps.{Handles, Meets, CanHandle, CanMeet, IsAtRest, IsMeeting, AreGrounded}
 

@@ -3,10 +3,9 @@ use Rattle.std.specs.Prelude.{◌≡◌, ◌↔◌, ℕ, ◌+◌, ◌<◌, List,
 use Rattle.std.specs.List.{range_with_len, sum_by}
 use Rattle.gr_model.specs.declared.event.EventId.{EventId}
 use Rattle.gr_model.specs.declared.event.ItemId.{ItemId}
-use Rattle.gr_model.specs.LawfulOrders.{IsIn}
+use Rattle.gr_model.specs.Prelude.{IsIn, items_of}
 use Rattle.gr_clocks.specs.Counts.{Counts, count_of, sizes_of}
 use Rattle.gr_clocks.specs.Tables.{IsBeyond, item_of}
-use Rattle.gr_model.specs.Shapes.{items_of}
 use Rattle.gr_order.specs.Sequences.{Sequence, IsSequence, event_count}
 
 -- how many events a clock counts of the items of a shape

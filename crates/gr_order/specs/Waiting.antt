@@ -3,7 +3,7 @@ use Rattle.std.specs.Prelude.{◌≡◌, ℕ, Bool, List, [], ◌∷◌, ◌++�
 use Rattle.gr_model.specs.declared.event.Event.{Event}
 use Rattle.gr_model.specs.declared.event.ItemId.{ItemId}
 use Rattle.gr_model.specs.declared.event.EventId.{EventId}
-use Rattle.gr_model.specs.Streams.{is_of}
+use Rattle.gr_model.specs.Prelude.{is_of}
 use Rattle.gr_lanes.specs.Remembered.{Remembered}
 use Rattle.gr_clocks.specs.Counts.{Counts}
 use Rattle.gr_windows.specs.Windows.{AreWaiting, Table, window_of}

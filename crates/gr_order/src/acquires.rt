@@ -5,9 +5,7 @@
 
 ghost use Rattle.std.specs.Prelude.{◌≡◌, ◌≢◌, ◌↔◌, ◌<◌, ◌+◌, Any, IfOk, IsTrue, MatchOption, OnOk, Some, length};
 ghost use Rattle.gr_model.specs.declared.report.Unmatched.{Unmatched as Finding};
-ghost use Rattle.gr_model.specs.Names.{HasAcquireCause, IsAbsent, names_at};
-ghost use Rattle.gr_model.specs.Streams.{word_at};
-ghost use Rattle.gr_model.specs.Reports.{IsUnmatchedEntry, Lists, UnmatchedBelow};
+ghost use Rattle.gr_model.specs.Prelude.{HasAcquireCause, IsAbsent, names_at, word_at, IsUnmatchedEntry, Lists, UnmatchedBelow};
 ghost use Rattle.gr_windows.specs.Windows.{AreWaiting};
 ghost use Rattle.gr_order.specs.Acquires.{AreUnmatchedBefore, IsElsewhere, IsGroundedFrontier};
 

@@ -1,7 +1,7 @@
 //! Which instances of barriers are forgotten: the first ones of each group, once all its items have passed them.
 
 ghost use Rattle.std.specs.Prelude.{◌<◌, ◌≤◌, ℕ, IsTrue, MatchOption, ⊤, length};
-ghost use Rattle.gr_model.specs.Streams.{size_of};
+ghost use Rattle.gr_model.specs.Prelude.{size_of};
 ghost use Rattle.gr_lanes.specs.Remembered.{forgotten_of};
 ghost use Rattle.gr_order.specs.Forgetting.{ForgetsNext, ForgetsPassed, HasPassed, HaveAllPassed};
 ghost use Rattle.gr_order.specs.Readiness.{IsNextInstance};

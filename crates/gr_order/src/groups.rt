@@ -1,7 +1,7 @@
 //! The work-groups whose streams were cut.
 
 ghost use Rattle.std.specs.Prelude.{◌<◌, ℕ, IfOk};
-ghost use Rattle.gr_model.specs.Reports.{Lists, IsCut};
+ghost use Rattle.gr_model.specs.Prelude.{Lists, IsCut};
 
 use gr_lanes::lanes::Lanes;
 use gr_model::memory::Memory;

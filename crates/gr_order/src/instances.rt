@@ -3,10 +3,8 @@
 //! The k-th barriers of a group's items are its instance k (docs/MODEL.md, "Barriers").
 
 ghost use Rattle.std.specs.Prelude.{◌<◌, ◌≤◌, ◌+◌, IfOk, MatchOption, OnOk, length};
-ghost use Rattle.gr_model.specs.Barriers.{IsDivergent, arrivals};
-ghost use Rattle.gr_model.specs.Instances.{HasDivergenceCause};
-ghost use Rattle.gr_model.specs.Reports.{DivergenceBelow, IsDivergence, Lists};
-ghost use Rattle.gr_model.specs.Streams.{is_complete, list_of, size_of};
+ghost use Rattle.gr_model.specs.Prelude.{IsDivergent, arrivals, HasDivergenceCause, DivergenceBelow, IsDivergence, Lists, is_complete};
+ghost use Rattle.gr_model.specs.Prelude.{list_of, size_of};
 ghost use Rattle.gr_barriers.specs.Listings.{AreListedBefore};
 ghost use Rattle.gr_lanes.specs.Remembered.{AreDecided, forgotten_of};
 

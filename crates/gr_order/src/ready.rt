@@ -2,7 +2,7 @@
 
 ghost use Rattle.std.specs.Prelude.{◌≡◌, ◌↔◌, ◌<◌, ◌≤◌, [], true, false, IsTrue, MatchOption, Some, is_some, length, ℕ};
 ghost use Rattle.gr_model.specs.Barriers as model_barriers;
-ghost use Rattle.gr_model.specs.Barriers.{mark_of};
+ghost use Rattle.gr_model.specs.Prelude.{mark_of};
 ghost use Rattle.gr_model.specs.Streams as model;
 ghost use Rattle.gr_windows.specs.Windows.{AreWaiting};
 ghost use Rattle.gr_lanes.specs.Instances.{HasCome};

@@ -6,12 +6,10 @@
 
 ghost use Rattle.std.specs.Prelude.{[], ◌≡◌, ◌+◌, ◌<◌, IsOkUnless, IfOk, IfErr, IfSome, OnOk, MatchOption, OnErr, length, IsTrue, ◌↔◌};
 ghost use Rattle.gr_model.specs.declared.limits.TheConstants.{MOST_RECORDS};
-ghost use Rattle.gr_model.specs.Reports.{IsHeld};
-ghost use Rattle.gr_model.specs.Streams.{AreComplete, event_at, list_of};
+ghost use Rattle.gr_model.specs.Prelude.{IsHeld, AreComplete, event_at, list_of, Mark, CanAdd};
 ghost use Rattle.gr_order.specs.declared.go_error.GoError.TheVariants.{NotReady};
 ghost use Rattle.gr_lanes.specs.Takes.{CanTake, IsEventButItem, IsTakeFault, next_of, nothing_taken, with_record};
 ghost use Rattle.gr_steps.specs.Steps.{CanHandle, CanMeet, IsAtRest, IsMeeting, IsReady};
-ghost use Rattle.gr_model.specs.Instances.{Mark};
 ghost use Rattle.gr_order.specs.Answers.{CanMake, IsHandleFault, IsMeetFault};
 ghost use Rattle.gr_order.specs.AtOnce.{GoesAtOnce};
 ghost use Rattle.gr_clocks.specs.Counts.{Counts, count_of, sizes_of};
@@ -19,7 +17,6 @@ ghost use Rattle.gr_windows.specs.Windows.{AreWaiting};
 ghost use Rattle.gr_lanes.specs.Remembered.{IsWhole};
 ghost use Rattle.gr_order.specs.States.{AreBelowFrontier};
 ghost use Rattle.gr_order.specs.Forgetting.{ForgetsHandled};
-ghost use Rattle.gr_model.specs.Groups.{CanAdd};
 ghost use Rattle.gr_order.specs.Sequences.{HandlesEvent, IsDone, IsGroupAtRest, IsSequence, MeetsInstance, MeetsNext, event_count, nothing, with_group, taking};
 
 use crate::forgetting::{forget_if_passed, forget_next};

@@ -2,7 +2,7 @@
 
 ghost use Rattle.std.specs.Prelude.{◌≡◌, OnOk, OnErr, length, map};
 ghost use Rattle.gr_clocks.specs.Tables.{item_of};
-ghost use Rattle.gr_model.specs.Shapes.{HasItem};
+ghost use Rattle.gr_model.specs.Prelude.{HasItem};
 ghost use Rattle.gr_windows.specs.Windows.{Table};
 ghost use Rattle.gr_order.specs.Waiting.{AreSame, Keeps};
 

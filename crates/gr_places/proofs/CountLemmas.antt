@@ -1,5 +1,5 @@
 -- How many records of a kind a list has.
-use Rattle.std.proofs.Common.{◌≤◌, List, length}
+use Rattle.gr_model.proofs.Common.{◌≤◌, List, length}
 use Rattle.gr_model.proofs.ListsOfRecords.{length-filter_le}
 use Rattle.gr_model.specs.declared.event.Event.{Event}
 use Rattle.gr_places.specs.declared.counts.RecordKind.{RecordKind}

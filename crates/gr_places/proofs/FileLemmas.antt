@@ -1,7 +1,7 @@
 -- Answers about open files, or why there is none.
-use Rattle.std.proofs.Common.{◌≡◌, ℕ, List, Option, Result, Ok, Err, inl, inr, map, IfSome}
+use Rattle.gr_model.proofs.Common.{◌≡◌, ℕ, List, Option, Result, Ok, Err, inl, inr, map, IfSome}
 use Rattle.gr_record.proofs.Outside.{at_known}
-use Rattle.gr_record.specs.InputFaults.{IsOutside}
+use Rattle.gr_record.specs.Prelude.{IsOutside}
 use Rattle.gr_places.specs.SideLines.{BufferSaid, PlaceSaid, buffers_in, places_in}
 use Rattle.gr_record.specs.declared.fault.Fault.{Fault}
 use Rattle.gr_replay.specs.Each.{all_known}

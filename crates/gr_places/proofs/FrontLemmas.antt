@@ -1,10 +1,9 @@
 -- The records that are accepted at the front of bytes, counted one by one.
-use Rattle.std.proofs.Common.{◌≡◌, ℕ, suc, ◌+◌, ◌-◌, ◌<◌, ◌≤◌, true, false, List, [], ◌∷◌, length, take, drop, Result, Ok, Err, ap, subst, ◌∙◌, arith, inl, inr}
-use Rattle.std.proofs.lemmas.Bool.{cases_lt}
+use Rattle.gr_model.proofs.Common.{◌≡◌, ℕ, suc, ◌+◌, ◌-◌, ◌<◌, ◌≤◌, true, false, List, [], ◌∷◌, length, take, drop, Result, Ok, Err, ap, subst, ◌∙◌, arith, inl, inr, cases_lt}
 use Rattle.gr_model.specs.declared.event.Event.{Event}
-use Rattle.gr_model.specs.Events.{is_end}
+use Rattle.gr_model.specs.Prelude.{is_end}
 use Rattle.gr_record.specs.declared.error.RecordError.{RecordError}
-use Rattle.gr_record.specs.Fronts.{Records, step, records_at}
+use Rattle.gr_record.specs.Prelude.{Records, step, records_at}
 use Rattle.gr_record.proofs.Loop.{next, short, too_many}
 
 -- n records and then these events are all that are read, and this is left

@@ -1,7 +1,5 @@
 -- The index of lines, made from the last line to the first.
-use Rattle.std.proofs.Common.{◌≡◌, ◌<◌, ◌+◌, ℕ, Bool, cond, List, arith, ◌∷◌, Option, Some, Bor, ap, drop, get_or, length, map, refl, sym, ◌∙◌, option_map}
-use Rattle.std.specs.List.{position_from}
-use Rattle.std.proofs.lemmas.List.{at_drop_more}
+use Rattle.gr_model.proofs.Common.{◌≡◌, ◌<◌, ◌+◌, ℕ, Bool, cond, List, arith, ◌∷◌, Option, Some, Bor, ap, drop, get_or, length, map, refl, sym, ◌∙◌, option_map, position_from, at_drop_more}
 use Rattle.gr_text.specs.LineReading.{same}
 use Rattle.gr_places.specs.declared.places.Placed.{Placed}
 use Rattle.gr_places.specs.declared.places.PlaceLine.{PlaceLine}

@@ -1,6 +1,5 @@
 -- A fault of the stream of an input, and where reading of that input stops.
-use Rattle.std.proofs.Common.{◌≡◌, ℕ, suc, ◌+◌, Bool, true, false, List, [], ◌∷◌, ◌++◌, length, Some, Result, Ok, Err, refl, sym, ap, ◌∙◌, arith, inl, inr, ◌==◌, if◌then◌else◌, not, slice_get, ne_eqb, length-append}
-use Rattle.std.specs.List.{list_any}
+use Rattle.gr_model.proofs.Common.{◌≡◌, ℕ, suc, ◌+◌, Bool, true, false, List, [], ◌∷◌, ◌++◌, length, Some, Result, Ok, Err, refl, sym, ap, ◌∙◌, arith, inl, inr, ◌==◌, if◌then◌else◌, not, slice_get, ne_eqb, length-append, list_any}
 use Rattle.gr_model.specs.declared.event.Event.{Event}
 use Rattle.gr_model.specs.declared.limits.TheConstants.{MOST_RECORDS}
 use Rattle.gr_record.specs.declared.error.RecordError.{RecordError}
@@ -10,9 +9,7 @@ use Rattle.gr_record.specs.declared.fault.Fault.TheVariants as faults
 use Rattle.gr_record.specs.declared.header.Header.{Header}
 use Rattle.gr_record.specs.declared.stop.Stop.{Stop}
 use Rattle.gr_record.specs.declared.stop.Stop.TheVariants.{Inside, AtEnd, AtFault}
-use Rattle.gr_record.specs.Decoding.{close, last_answer, reading}
-use Rattle.gr_record.specs.Fronts.{records_of}
-use Rattle.gr_record.specs.WholeStreams.{front_header_at, front_records_at, up_to}
+use Rattle.gr_record.specs.Prelude.{close, last_answer, reading, records_of, front_header_at, front_records_at, up_to}
 use Rattle.gr_replay.specs.Each.{each_at, only_stream_at}
 use Rattle.gr_intake.specs.Joined.{Flat, ◌>>=◌, at_place, stream_at}
 use Rattle.gr_places.specs.Laws.{FaultsAreWhereReadingStops}

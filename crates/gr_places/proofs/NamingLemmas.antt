@@ -1,10 +1,6 @@
 -- Texts of the form NAME[INDEX], and the words of buffers that they name.
-use Rattle.std.proofs.Common.{◌≡◌, ◌≢◌, ℕ, suc, ◌+◌, ◌-◌, ◌^◌, ◌<◌, Bool, Bor, true, false, List, [], ◌∷◌, ◌++◌, Option, Some, None, refl, sym, ap, subst, ◌∙◌, length, arith, nat_eq, take, drop, get_or, map, MatchOption, decimal, find, is_some, option_map}
+use Rattle.gr_model.proofs.Common.{◌≡◌, ◌≢◌, ℕ, suc, ◌+◌, ◌-◌, ◌^◌, ◌<◌, Bool, Bor, true, false, List, [], ◌∷◌, ◌++◌, Option, Some, None, refl, sym, ap, subst, ◌∙◌, length, arith, nat_eq, take, drop, get_or, map, MatchOption, decimal, find, is_some, option_map, nat_tests, and_parts, cond_both, eq-eqb, eqb-true, option_and_then_some, append_cancel_left, append_cancel_right, drop_at, length-append, take-append-drop, take_at}
 use Rattle.std.specs.Cmp.Lexicographic.{pointwise, same_text, other_text}
-use Rattle.std.proofs.lemmas.Bool.Decides.{nat_tests}
-use Rattle.std.proofs.lemmas.Bool.{and_parts, cond_both, eq-eqb, eqb-true}
-use Rattle.std.proofs.lemmas.Option.{option_and_then_some}
-use Rattle.std.proofs.lemmas.List.{append_cancel_left, append_cancel_right, drop_at, length-append, take-append-drop, take_at}
 use Rattle.gr_text.specs.LineReading as reading
 use Rattle.gr_text.proofs.LineNumbers.{number_back, number_found, same_is, same_self}
 use Rattle.gr_model.specs.declared.event.Word.{Word}

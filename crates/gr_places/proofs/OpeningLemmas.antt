@@ -1,7 +1,5 @@
 -- Files that are opened one by one.
-use Rattle.std.proofs.Common.{◌≡◌, ℕ, ◌+◌, ◌<◌, List, [], ◌∷◌, ◌++◌, length, map, take, drop, get_or, Result, Ok, Err, sym, ap, subst, ◌∙◌, Bor, suc, arith, option_map}
-use Rattle.std.proofs.lemmas.Option.{slice_get-get_or, slice_get-map, get_or_from_slice_get}
-use Rattle.std.proofs.Math.Seq.{split_at, take-suc}
+use Rattle.gr_model.proofs.Common.{◌≡◌, ℕ, ◌+◌, ◌<◌, List, [], ◌∷◌, ◌++◌, length, map, take, drop, get_or, Result, Ok, Err, sym, ap, subst, ◌∙◌, Bor, suc, arith, option_map, slice_get-get_or, slice_get-map, get_or_from_slice_get, split_at, take-suc}
 use Rattle.gr_places.specs.Files.{AreOpened, IsFirstUnopened}
 
 module _ {T E : Type 0} (Gives : List ℕ → Result T E → Type 0) where

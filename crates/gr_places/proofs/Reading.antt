@@ -1,7 +1,6 @@
 -- What the lines of a file say, as a loop reads them, and how something is found in them.
-use Rattle.std.proofs.Common.{◌≡◌, ℕ, Bool, List, [], ◌∷◌, ◌++◌, Option, Some, None, Result, Ok, Err, refl, ap, map, length, arith, find, is_some, option_and_then, option_map, IsUtf8, append-nil}
+use Rattle.gr_model.proofs.Common.{◌≡◌, ℕ, Bool, List, [], ◌∷◌, ◌++◌, Option, Some, None, Result, Ok, Err, refl, ap, map, length, arith, find, is_some, option_and_then, option_map, IsUtf8, append-nil, false_from_ne_true}
 use Rattle.std.specs.Result.{MatchResult, result_ok}
-use Rattle.std.proofs.lemmas.Bool.{false_from_ne_true}
 use Rattle.std.proofs.lemmas.Str.{IsUtf8-from_is_utf8, is_utf8-from_IsUtf8}
 use Rattle.gr_model.specs.declared.event.Word.{Word}
 use Rattle.gr_places.specs.declared.buffers.BufferLine.{BufferLine}

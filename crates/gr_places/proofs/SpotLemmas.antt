@@ -1,17 +1,14 @@
 -- What is read of bytes, by the header at their front.
-use Rattle.std.proofs.Common.{◌≡◌, ◌≢◌, ℕ, ◌-◌, ◌≤◌, List, [], ◌∷◌, ◌++◌, length, take, drop, None, Some, Option, Result, Ok, Err, refl, sym, ap, ◌∙◌, arith, inl, inr, length-drop, length-take, take-append-drop}
-use Rattle.std.proofs.lemmas.Bool.{cases_lt, lt-ltb, le-ltb}
+use Rattle.gr_model.proofs.Common.{◌≡◌, ◌≢◌, ℕ, ◌-◌, ◌≤◌, List, [], ◌∷◌, ◌++◌, length, take, drop, None, Some, Option, Result, Ok, Err, refl, sym, ap, ◌∙◌, arith, inl, inr, length-drop, length-take, take-append-drop, cases_lt, lt-ltb, le-ltb}
 use Rattle.gr_model.specs.declared.limits.TheConstants.{MOST_RECORDS}
 use Rattle.gr_record.specs.declared.error.RecordError.{RecordError}
 use Rattle.gr_record.specs.declared.error.RecordError.TheVariants as errors
 use Rattle.gr_record.specs.declared.header.Header.{Header}
 use Rattle.gr_record.specs.declared.header.Version.{Version}
 use Rattle.gr_record.specs.declared.layout.TheConstants.{HEADER_LENGTH}
-use Rattle.gr_record.specs.Decoding.{Reading, close, closed, last_answer, read_from, reading, under}
-use Rattle.gr_record.specs.Fronts.{records_of}
+use Rattle.gr_record.specs.Prelude.{Reading, close, closed, last_answer, read_from, reading, under, records_of, header_at, ◌>>=◌, front_header_at}
 use Rattle.gr_record.specs.Reading as reading_spec
-use Rattle.gr_record.specs.Reading.{header_at}
-use Rattle.gr_record.specs.WholeStreams.{◌>>=◌, Fails, front_header_at}
+use Rattle.gr_record.specs.WholeStreams.{Fails}
 use Rattle.gr_places.specs.declared.spot.Spot.TheVariants as spots
 use Rattle.gr_places.specs.Spots.{behind_header, spot}
 

@@ -1,8 +1,8 @@
 -- The outcome of a check of files, and why there is none.
 -- Source: docs/OUTPUT.md, "check".
 use Rattle.std.specs.Prelude.{◌≡◌, ◌⊎◌, ℕ, Bool, true, false, List, Option, Result, IfSome}
-use Rattle.gr_model.specs.Streams.{AreAccepted, Streams}
-use Rattle.gr_record.specs.InputFaults.{IsOutside}
+use Rattle.gr_model.specs.Prelude.{AreAccepted, Streams}
+use Rattle.gr_record.specs.Prelude.{IsOutside}
 use Rattle.gr_record.specs.declared.fault.Fault.{Fault}
 use Rattle.gr_record.specs.declared.fault.Fault.TheVariants as faults
 use Rattle.gr_places.specs.Files.{HoldsOfFiles, IsOpeningFault}

@@ -5,7 +5,7 @@ use Rattle.std.specs.List.{sum_by}
 use Rattle.gr_model.specs.declared.event.Event.{Event}
 use Rattle.gr_model.specs.declared.event.Kind.{Kind}
 use Rattle.gr_model.specs.declared.event.Kind.TheVariants.{Read, Write, Load, Store, Rmw, Barrier, End}
-use Rattle.gr_model.specs.Streams.{Streams}
+use Rattle.gr_model.specs.Prelude.{Streams}
 use Rattle.gr_places.specs.declared.counts.Counts.{Counts}
 use Rattle.gr_places.specs.declared.counts.RecordKind.{RecordKind}
 use Rattle.gr_places.specs.declared.counts.RecordKind.TheVariants as kinds

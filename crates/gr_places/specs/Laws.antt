@@ -3,7 +3,7 @@ use Rattle.std.specs.Prelude.{◌≡◌, ℕ, List, Some, slice_get, Err}
 use Rattle.gr_model.specs.declared.limits.TheConstants.{MOST_RECORDS}
 use Rattle.gr_record.specs.declared.error.RecordError.{RecordError}
 use Rattle.gr_record.specs.declared.fault.Fault.TheVariants as faults
-use Rattle.gr_record.specs.Decoding.{last_answer, reading}
+use Rattle.gr_record.specs.Prelude.{last_answer, reading}
 use Rattle.gr_replay.specs.Each.{IsEachFault}
 
 -- a fault of the stream of an input is the fault at which a decoder of its bytes stops: this is the place of the fault

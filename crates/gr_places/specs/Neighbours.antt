@@ -4,7 +4,7 @@ use Rattle.std.specs.Prelude.{ℕ, ◌+◌, Bool, false, ◌&&◌, nat_le, List,
 use Rattle.gr_model.specs.declared.limits.TheConstants.{MOST_GROUPS}
 use Rattle.gr_record.specs.declared.error.RecordError.{RecordError}
 use Rattle.gr_record.specs.declared.header.Header.{Header}
-use Rattle.gr_record.specs.WholeStreams.{front_header_at}
+use Rattle.gr_record.specs.Prelude.{front_header_at}
 
 abbrev pub group_of : Result (Header × List ℕ) RecordError → Option ℕ
 group_of (Ok h) = Some h.0.group

@@ -1,7 +1,7 @@
 -- Answers about a launch whose streams and side files are in files, and why there is none.
 -- Source: docs/OUTPUT.md, "races" and docs/FORMATS.md, "Side files".
 use Rattle.std.specs.Prelude.{◌≡◌, ◌⊎◌, ℕ, List, [], ◌∷◌, ◌++◌, map, Option, None, Some, Result, Ok, Err, IfSome, option_map}
-use Rattle.gr_record.specs.InputFaults.{IsOutside}
+use Rattle.gr_record.specs.Prelude.{IsOutside}
 use Rattle.gr_places.specs.SideLines.{buffers_in, places_in}
 use Rattle.gr_record.specs.declared.fault.Fault.{Fault}
 use Rattle.gr_replay.specs.Each.{all_known}

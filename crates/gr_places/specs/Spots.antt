@@ -5,7 +5,7 @@ use Rattle.gr_model.specs.declared.limits.TheConstants.{MOST_RECORDS}
 use Rattle.gr_record.specs.declared.error.RecordError.{RecordError}
 use Rattle.gr_record.specs.declared.error.RecordError.TheVariants.{AfterEnd}
 use Rattle.gr_record.specs.declared.header.Header.{Header}
-use Rattle.gr_record.specs.Decoding.{reading}
+use Rattle.gr_record.specs.Prelude.{reading}
 use Rattle.gr_places.specs.declared.spot.Spot.{Spot}
 use Rattle.gr_places.specs.declared.spot.Spot.TheVariants as spots
 

@@ -5,7 +5,7 @@ ghost use Rattle.std.specs.Fn.{FnReturnsAt};
 ghost use Rattle.gr_places.specs.Checked.{IsCheckFileFault, IsCheckedAsKnown, checked_said};
 ghost use Rattle.gr_places.specs.Files.{HoldsOfFiles};
 ghost use Rattle.gr_record.specs.declared.fault.Fault.TheVariants as faults;
-ghost use Rattle.gr_record.specs.InputFaults.{IsOutside};
+ghost use Rattle.gr_record.specs.Prelude.{IsOutside};
 ghost use Rattle.gr_replay.specs.Each.{all_known};
 
 use crate::checking::{Checked, check};

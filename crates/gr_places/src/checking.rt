@@ -1,9 +1,8 @@
 //! Whether inputs are the streams of a launch.
 
 ghost use Rattle.std.specs.Prelude.{◌≡◌, IfErr, IfOk, map};
-ghost use Rattle.gr_record.specs.InputFaults.{IsOutside};
-ghost use Rattle.gr_model.specs.Streams.{AreAccepted};
-ghost use Rattle.gr_record.specs.Faults.{IsOfValues};
+ghost use Rattle.gr_record.specs.Prelude.{IsOutside, IsOfValues};
+ghost use Rattle.gr_model.specs.Prelude.{AreAccepted};
 ghost use Rattle.gr_replay.specs.Each.{IsEachFault, ReadsEach, inputs_of};
 ghost use Rattle.gr_places.specs.Checked.{IsChecked, checked_said, is_accepted};
 

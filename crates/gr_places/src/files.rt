@@ -3,7 +3,7 @@
 ghost use Rattle.std.specs.Prelude.{◌≡◌, ◌<◌, ◌++◌, false, IfErr, IfOk, IfSome, IsOk, IsTrue, length, map};
 ghost use Rattle.std.specs.Fn.{FnReturnsAt};
 ghost use Rattle.std.specs.Option.{is_some};
-ghost use Rattle.gr_record.specs.InputFaults.{IsOutside};
+ghost use Rattle.gr_record.specs.Prelude.{IsOutside};
 ghost use Rattle.gr_places.specs.SideLines.{buffer_line, buffers_in, place_line, places_in};
 ghost use Rattle.gr_places.specs.Opening as spec;
 ghost use Rattle.gr_places.specs.Files.{IsOpeningFault};

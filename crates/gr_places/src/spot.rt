@@ -2,7 +2,7 @@
 
 ghost use Rattle.std.specs.Prelude.{◌≡◌, ◌≤◌, length};
 ghost use Rattle.gr_model.specs.declared.limits.TheConstants.{MOST_RECORDS};
-ghost use Rattle.gr_record.specs.Fronts.{records_of};
+ghost use Rattle.gr_record.specs.Prelude.{records_of};
 ghost use Rattle.gr_places.specs.Spots.{behind_header, spot};
 
 use gr_model::limits::MOST_RECORDS;

@@ -4,7 +4,7 @@ use Rattle.std.specs.Prelude.{ℕ, List, ◌++◌, Option, None, Some, decimal, 
 use Rattle.gr_model.specs.declared.event.EventId.{EventId}
 use Rattle.gr_model.specs.declared.event.Word.{Word}
 use Rattle.gr_model.specs.declared.event.Word.TheVariants.{Global, Local}
-use Rattle.gr_model.specs.RacePairs.{Pair}
+use Rattle.gr_model.specs.Prelude.{Pair}
 
 -- a word of memory
 abbrev pub word_text : Word → List ℕ

@@ -1,9 +1,7 @@
 -- A word has an account exactly if it is racy.
-use Rattle.std.proofs.Common.{◌↔◌, ℕ, IsTrue, Option, None, Some, is_some, refl, sym, true≢false, option_map}
+use Rattle.gr_model.proofs.Common.{◌↔◌, ℕ, IsTrue, Option, None, Some, is_some, refl, sym, true≢false, option_map}
 use Rattle.gr_model.specs.declared.event.Word.{Word}
-use Rattle.gr_model.specs.Races.{IsRacy}
-use Rattle.gr_model.specs.Streams.{Streams}
-use Rattle.gr_model.specs.Waits.{IsGrounded}
+use Rattle.gr_model.specs.Prelude.{IsRacy, Streams, IsGrounded}
 use Rattle.gr_places.specs.declared.places.Placed.{Placed}
 use Rattle.gr_races.specs.declared.account.Account.{Account}
 use Rattle.gr_races.specs.Accounts.{IsAccountOf, account_said}

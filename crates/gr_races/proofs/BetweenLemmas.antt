@@ -1,9 +1,7 @@
 -- Acquires of an item's trace.
-use Rattle.std.proofs.Common.{◌≡◌, ◌<◌, ◌+◌, ◌∙◌, ◌&&◌, ℕ, List, Option, Some, arith, drop, filter, get_or, if◌then◌else◌, length, nat_lt, true}
-use Rattle.std.specs.List.{last_or}
-use Rattle.std.proofs.lemmas.List.{at_drop_more}
+use Rattle.gr_model.proofs.Common.{◌≡◌, ◌<◌, ◌+◌, ◌∙◌, ◌&&◌, ℕ, List, Option, Some, arith, drop, filter, get_or, if◌then◌else◌, length, nat_lt, true, last_or, at_drop_more}
 use Rattle.gr_model.specs.declared.event.Event.{Event}
-use Rattle.gr_model.specs.Streams.{is_of, places_from}
+use Rattle.gr_model.specs.Prelude.{is_of, places_from}
 use Rattle.gr_races.specs.Between.{is_acquire}
 
 -- the last acquire below an index in a list whose first record of the item is the item's record `at`, or else what was found before

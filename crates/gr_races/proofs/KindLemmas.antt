@@ -1,14 +1,9 @@
 -- Each race of a launch has a kind, and it is said whether there is one.
-use Rattle.std.proofs.Common.{suc, inl, inr, ◌≡◌, ◌↔◌, ⊎_elim, subst, cond, ℕ, Bool, true, false, List, [], ◌∷◌, ◌++◌, Option, Some, Contains, IsTrue, All, None, option_and_then, ap, arith, length, map, refl, sym, ◌∙◌, true≢false, AllPairs, if◌then◌else◌, filter, nat_lt, not, option_map}
-use Rattle.std.specs.List.{list_any}
+use Rattle.gr_model.proofs.Common.{suc, inl, inr, ◌≡◌, ◌↔◌, ⊎_elim, subst, cond, ℕ, Bool, true, false, List, [], ◌∷◌, ◌++◌, Option, Some, Contains, IsTrue, All, None, option_and_then, ap, arith, length, map, refl, sym, ◌∙◌, true≢false, AllPairs, if◌then◌else◌, filter, nat_lt, not, option_map, list_any, nat_tests, and_parts, cond_both, false_from_ne_true, lt-ltb, ltb-true, All-cons, All-contains, All-contains_itself, All-filter, All-nil, Contains-append_cases, Contains-append_left, Contains-append_right, Contains-push, list_any-append, list_any_at}
 use Rattle.std.proofs.Math.Bool.{beq}
-use Rattle.std.proofs.lemmas.Bool.Decides.{nat_tests}
-use Rattle.std.proofs.lemmas.Bool.{and_parts, cond_both, false_from_ne_true, lt-ltb, ltb-true}
-use Rattle.std.proofs.lemmas.List.Elements.{All-cons, All-contains, All-contains_itself, All-filter, All-nil, Contains-append_cases, Contains-append_left, Contains-append_right, Contains-push}
-use Rattle.std.proofs.lemmas.List.Folds.{list_any-append, list_any_at}
 use Rattle.std.proofs.lemmas.List.Quantifiers.{all_pairs_push}
 use Rattle.gr_races.specs.declared.cause.Cause.{Cause}
-use Rattle.gr_model.specs.Access.{event_word, word_if_access, word_in}
+use Rattle.gr_model.specs.Prelude.{event_word, word_if_access, word_in, IsRacy, AreRaces, Streams, event_at, word_at, IsGrounded}
 use Rattle.gr_model.specs.declared.event.Event.{Event}
 use Rattle.gr_model.specs.declared.event.EventId.{EventId}
 use Rattle.gr_model.specs.declared.event.Kind.{Kind}
@@ -16,10 +11,6 @@ use Rattle.gr_model.specs.declared.event.Kind.TheVariants as kinds
 use Rattle.gr_model.specs.declared.event.Word.{Word}
 use Rattle.gr_model.specs.contracts.event.SpacePartialEq.TheImpl as spaces
 use Rattle.gr_model.specs.declared.race.Race.{Race}
-use Rattle.gr_model.specs.Races.{IsRacy}
-use Rattle.gr_model.specs.Reports.{AreRaces}
-use Rattle.gr_model.specs.Streams.{Streams, event_at, word_at}
-use Rattle.gr_model.specs.Waits.{IsGrounded}
 use Rattle.gr_places.specs.declared.places.Placed.{Placed}
 use Rattle.gr_places.specs.declared.places.Placed.TheVariants as of_places
 use Rattle.gr_races.specs.declared.kinds.KindedRace.{KindedRace}

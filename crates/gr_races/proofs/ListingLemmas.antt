@@ -1,9 +1,7 @@
 -- Races with their kinds, one after another.
-use Rattle.std.proofs.Common.{zero, suc, ◌≡◌, ◌≤◌, ◌<◌, ◌+◌, ℕ, List, [], ◌∷◌, ◌++◌, Option, None, Some, ap, append_assoc, arith, drop, get_or, length, refl, slice_get, sym, ◌∙◌}
-use Rattle.std.specs.List.{cons_option}
-use Rattle.std.proofs.lemmas.List.{append-nil, at_drop_all, at_drop_more}
+use Rattle.gr_model.proofs.Common.{zero, suc, ◌≡◌, ◌≤◌, ◌<◌, ◌+◌, ℕ, List, [], ◌∷◌, ◌++◌, Option, None, Some, ap, append_assoc, arith, drop, get_or, length, refl, slice_get, sym, ◌∙◌, cons_option, append-nil, at_drop_all, at_drop_more}
 use Rattle.gr_model.specs.declared.race.Race.{Race}
-use Rattle.gr_model.specs.Streams.{Streams}
+use Rattle.gr_model.specs.Prelude.{Streams}
 use Rattle.gr_places.specs.declared.places.Placed.{Placed}
 use Rattle.gr_races.specs.declared.cause.Cause.{Cause}
 use Rattle.gr_places.specs.PlaceIndexes.{Indexed, Indexes, number_at}

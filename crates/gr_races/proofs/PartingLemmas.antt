@@ -1,10 +1,7 @@
 -- Where an event comes after its item's barrier of an instance.
-use Rattle.std.proofs.Common.{inl, inr, ◌≡◌, ℕ, zero, suc, ◌+◌, ◌<◌, ◌≤◌, Bool, get_or, List, [], ◌∷◌, Some, slice_get, arith, subst, ⊎_elim, ◌↔◌}
-use Rattle.std.proofs.lemmas.Bool.{cases_lt}
-use Rattle.std.proofs.lemmas.Option.{slice_get-get_or, slice_get_within}
+use Rattle.gr_model.proofs.Common.{inl, inr, ◌≡◌, ℕ, zero, suc, ◌+◌, ◌<◌, ◌≤◌, Bool, get_or, List, [], ◌∷◌, Some, slice_get, arith, subst, ⊎_elim, ◌↔◌, cases_lt, slice_get-get_or, slice_get_within}
 use Rattle.gr_model.specs.declared.event.EventId.{EventId}
-use Rattle.gr_model.specs.Barriers.{is_barrier}
-use Rattle.gr_model.specs.Streams.{Streams, places_from, trace_of}
+use Rattle.gr_model.specs.Prelude.{is_barrier, Streams, places_from, trace_of}
 use Rattle.gr_steps.proofs.BarrierPlaces.{places_from-ordered}
 use Rattle.gr_races.specs.Parting.{HasDivergent, IsBehind, IsParting}
 

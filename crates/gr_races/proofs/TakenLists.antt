@@ -1,8 +1,7 @@
 -- What lanes have taken of a launch, list after list.
-use Rattle.std.proofs.Common.{◌≡◌, ℕ, ◌+◌, ◌<◌, ◌≤◌, List, [], ◌∷◌, ◌++◌, length, get_or, set-set, take, refl, sym, ◌∙◌, arith}
-use Rattle.std.proofs.lemmas.List.{ext_get_or, get_or-set_other, get_or-set_same, length-map, length-set, take_more}
+use Rattle.gr_model.proofs.Common.{◌≡◌, ℕ, ◌+◌, ◌<◌, ◌≤◌, List, [], ◌∷◌, ◌++◌, length, get_or, set-set, take, refl, sym, ◌∙◌, arith, ext_get_or, get_or-set_other, get_or-set_same, length-map, length-set, take_more}
 use Rattle.gr_model.specs.declared.event.Event.{Event}
-use Rattle.gr_model.specs.Streams.{Streams, AreAccepted, ArePrefixes, list_of}
+use Rattle.gr_model.specs.Prelude.{Streams, AreAccepted, ArePrefixes, list_of}
 use Rattle.gr_model.proofs.GroupLaws.{part_of_shape}
 use Rattle.gr_lanes.specs.Remembered.{Remembered, remembering}
 use Rattle.gr_lanes.specs.Takes.{nothing_taken, with_record}

@@ -4,9 +4,7 @@ use Rattle.std.specs.Prelude.{◌≡◌, ◌∷◌, ◌==◌, ◌&&◌, ◌||◌
 use Rattle.gr_model.specs.declared.event.EventId.{EventId}
 use Rattle.gr_model.specs.declared.event.Word.{Word}
 use Rattle.gr_model.specs.declared.race.Race.{Race}
-use Rattle.gr_model.specs.Races.{IsRacy}
-use Rattle.gr_model.specs.Streams.{Streams}
-use Rattle.gr_model.specs.Waits.{IsGrounded}
+use Rattle.gr_model.specs.Prelude.{IsRacy, Streams, IsGrounded}
 use Rattle.gr_explain.specs.LeastRaces.{IsLeastRace}
 use Rattle.gr_explain.specs.TagRaces.{AreTagRaces}
 use Rattle.gr_places.specs.declared.places.Placed.{Placed}

@@ -5,10 +5,7 @@ use Rattle.std.specs.List.{enumerate_from, last_or}
 use Rattle.gr_model.specs.declared.event.Event.{Event}
 use Rattle.gr_model.specs.declared.event.EventId.{EventId}
 use Rattle.gr_model.specs.declared.event.ItemId.{ItemId}
-use Rattle.gr_model.specs.Access.{is_acquire_kind, is_release}
-use Rattle.gr_model.specs.Barriers.{is_barrier, mark_of}
-use Rattle.gr_model.specs.Instances.{Mark}
-use Rattle.gr_model.specs.Streams.{Streams, places_from, trace_of}
+use Rattle.gr_model.specs.Prelude.{is_acquire_kind, is_release, is_barrier, mark_of, Mark, Streams, places_from, trace_of}
 use Rattle.gr_races.specs.declared.between.Between.{Between}
 use Rattle.gr_races.specs.declared.between.Crossing.{Crossing}
 use Rattle.gr_races.specs.declared.between.DetailedEvent.{DetailedEvent}

@@ -5,9 +5,7 @@ use Rattle.std.specs.List.{AllZip}
 use Rattle.gr_model.specs.declared.event.EventId.{EventId}
 use Rattle.gr_model.specs.declared.event.Word.{Word}
 use Rattle.gr_model.specs.declared.race.Race.{Race}
-use Rattle.gr_model.specs.RacePairs.{IsRacePair}
-use Rattle.gr_model.specs.Races.{IsRace}
-use Rattle.gr_model.specs.Streams.{Streams}
+use Rattle.gr_model.specs.Prelude.{IsRacePair, IsRace, Streams}
 use Rattle.gr_explain.specs.Judgements.{AreJudged}
 use Rattle.gr_races.specs.declared.cause.Cause.{Cause}
 use Rattle.gr_races.specs.declared.cause.Cause.TheVariants.{Flags, Scope, Divergence, NoBarrier, NoHandOver}

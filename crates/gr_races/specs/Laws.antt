@@ -6,7 +6,7 @@ use Rattle.gr_races.specs.declared.cause.Cause.{Cause}
 use Rattle.gr_model.specs.declared.event.EventId.{EventId}
 use Rattle.gr_model.specs.declared.event.Word.{Word}
 use Rattle.gr_model.specs.declared.race.Race.{Race}
-use Rattle.gr_model.specs.Streams.{AreAccepted, Streams}
+use Rattle.gr_model.specs.Prelude.{AreAccepted, Streams}
 use Rattle.gr_places.specs.declared.places.Placed.{Placed}
 use Rattle.gr_races.specs.declared.kinds.KindedRace.{KindedRace}
 use Rattle.gr_races.specs.declared.kinds.PlacedOperation.{PlacedOperation}

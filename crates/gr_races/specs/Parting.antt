@@ -2,8 +2,7 @@
 -- Source: docs/OUTPUT.md, "explain --long". They are this project's own.
 use Rattle.std.specs.Prelude.{◌≡◌, ◌⊎◌, ℕ, ◌<◌, ◌≤◌, Some}
 use Rattle.gr_model.specs.declared.event.EventId.{EventId}
-use Rattle.gr_model.specs.Barriers.{IsDivergent, is_barrier}
-use Rattle.gr_model.specs.Streams.{Streams, place_of}
+use Rattle.gr_model.specs.Prelude.{IsDivergent, is_barrier, Streams, place_of}
 
 -- an event comes after its item's barrier of an instance
 abbrev pub IsBehind : Streams → EventId → ℕ → Type 0

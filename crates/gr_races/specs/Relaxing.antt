@@ -6,7 +6,7 @@ use Rattle.gr_model.specs.declared.event.Kind.{Kind}
 use Rattle.gr_model.specs.declared.event.Kind.TheVariants.{Load, Store, Rmw, Barrier}
 use Rattle.gr_model.specs.declared.event.Scope.{Scope}
 use Rattle.gr_model.specs.declared.event.Scope.TheVariants.{Device, Group}
-use Rattle.gr_model.specs.Streams.{Streams}
+use Rattle.gr_model.specs.Prelude.{Streams}
 use Rattle.gr_taking.specs.Taken.{read_by}
 use Rattle.gr_races.specs.declared.relaxing.Relaxation.{Relaxation}
 use Rattle.gr_races.specs.declared.relaxing.Relaxation.TheVariants.{BothFlags, DeviceScope}

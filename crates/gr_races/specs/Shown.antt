@@ -3,10 +3,7 @@
 use Rattle.std.specs.Prelude.{◌≡◌, ℕ, Bool, List, Option, length}
 use Rattle.gr_model.specs.declared.event.Word.{Word}
 use Rattle.gr_model.specs.declared.race.Race.{Race}
-use Rattle.gr_model.specs.Races.{IsRacy}
-use Rattle.gr_model.specs.Reports.{AreRaces}
-use Rattle.gr_model.specs.Streams.{Streams}
-use Rattle.gr_model.specs.Waits.{IsGrounded}
+use Rattle.gr_model.specs.Prelude.{IsRacy, AreRaces, Streams, IsGrounded}
 use Rattle.gr_explain.specs.TagRaces.{AreTagRaces}
 use Rattle.gr_races.specs.declared.cause.Cause.{Cause}
 use Rattle.gr_races.specs.Causes.{AreTold}

@@ -3,8 +3,7 @@
 
 ghost use Rattle.std.specs.Prelude.{◌≡◌, ◌≤◌, ◌<◌, ◌&&◌, IfOk, None, Some, drop, filter, filter_map, find, if◌then◌else◌, length, nat_lt, option_and_then, take};
 ghost use Rattle.std.specs.List.{enumerate_from, last_or};
-ghost use Rattle.gr_model.specs.Access.{is_release};
-ghost use Rattle.gr_model.specs.Barriers.{is_barrier};
+ghost use Rattle.gr_model.specs.Prelude.{is_release, is_barrier};
 ghost use Rattle.gr_model.specs.Streams as model;
 ghost use Rattle.gr_races.specs.Between as spec;
 

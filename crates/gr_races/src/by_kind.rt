@@ -1,7 +1,7 @@
 //! The races of a launch kind by kind.
 
 ghost use Rattle.std.specs.Prelude.{◌≡◌, IfOk, map};
-ghost use Rattle.gr_model.specs.Reports.{AreRaces, IsReportOf};
+ghost use Rattle.gr_model.specs.Prelude.{AreRaces, IsReportOf};
 ghost use Rattle.gr_report.specs.Whole.{whole_of};
 ghost use Rattle.gr_places.specs.PlaceIndexes.{number_at};
 ghost use Rattle.gr_places.specs.SideLines.{place_number};

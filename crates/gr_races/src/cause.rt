@@ -3,8 +3,7 @@
 ghost use Rattle.std.specs.Prelude.{◌≡◌, ◌↔◌, All, IfOk, IsTrue, map};
 ghost use Rattle.gr_model.specs.declared.event.EventId.{EventId as AnyEvent};
 ghost use Rattle.gr_model.specs.declared.event.Word.{Word as AnyWord};
-ghost use Rattle.gr_model.specs.RacePairs.{IsRacePair};
-ghost use Rattle.gr_model.specs.Streams.{ArePrefixes, Streams};
+ghost use Rattle.gr_model.specs.Prelude.{IsRacePair, ArePrefixes, Streams};
 ghost use Rattle.gr_explain.specs.declared.judging.Judgement.TheVariants.{Race as AsRace};
 ghost use Rattle.gr_explain.specs.Judgements.{IsJudgement};
 ghost use Rattle.gr_explain.specs.Judged.{AreJudgements};

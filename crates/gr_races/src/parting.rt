@@ -1,7 +1,7 @@
 //! Divergent instances of barriers that lie between two events of one work-group.
 
 ghost use Rattle.std.specs.Prelude.{◌≡◌, ◌↔◌, ◌<◌, ◌≤◌, ℕ, IsTrue, length};
-ghost use Rattle.gr_model.specs.Shapes.{HasItem};
+ghost use Rattle.gr_model.specs.Prelude.{HasItem};
 ghost use Rattle.gr_lanes.specs.Remembered.{IsAllRemembered, IsRemembered, forgotten_of};
 ghost use Rattle.gr_races.specs.Parting.{AreParted, HasDivergent, IsBehind};
 

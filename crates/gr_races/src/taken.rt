@@ -1,7 +1,7 @@
 //! All records of a launch, with their index. Nothing of them is forgotten, since nothing is handled.
 
 ghost use Rattle.std.specs.Prelude.{◌≡◌, ◌<◌, [], IfOk, OnOk, length};
-ghost use Rattle.gr_model.specs.Streams.{ArePrefixes, IsAccepted, list_of, size_of};
+ghost use Rattle.gr_model.specs.Prelude.{ArePrefixes, IsAccepted, list_of, size_of};
 ghost use Rattle.gr_lanes.specs.Remembered.{IsAllRemembered, remembering};
 ghost use Rattle.gr_taking.specs.Taken.{with_list};
 

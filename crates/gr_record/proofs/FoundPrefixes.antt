@@ -1,24 +1,14 @@
 -- What is read of bytes is a prefix, and is spelled so.
-use Rattle.std.proofs.Common.{◌≡◌, ℕ, zero, suc, ◌<◌, ◌≤◌, Bool, true, false, List, [], ◌∷◌, ◌++◌, length, take, drop, Result, Ok, Err, refl, sym, ap, ◌∙◌, append_assoc, arith, inl, inr}
-use Rattle.std.proofs.lemmas.Bool.{lt-ltb, le-ltb, cases_lt, cases_Bool, both_ways}
-use Rattle.std.proofs.lemmas.List.{take-append-drop, append-nil, length-take, get_or-take, get_or_past, take-take}
+use Rattle.gr_model.proofs.Common.{◌≡◌, ℕ, zero, suc, ◌<◌, ◌≤◌, Bool, true, false, List, [], ◌∷◌, ◌++◌, length, take, drop, Result, Ok, Err, refl, sym, ap, ◌∙◌, append_assoc, arith, inl, inr, lt-ltb, le-ltb, cases_lt, cases_Bool, both_ways, take-append-drop, append-nil, length-take, get_or-take, get_or_past, take-take}
 use Rattle.gr_model.specs.declared.event.Event.{Event}
-use Rattle.gr_model.specs.Events.{is_end}
-use Rattle.gr_model.specs.Streams.{is_complete}
+use Rattle.gr_model.specs.Prelude.{is_end, is_complete}
 use Rattle.gr_record.specs.declared.error.RecordError.{RecordError}
 use Rattle.gr_record.specs.declared.header.Header.{Header}
 use Rattle.gr_record.specs.declared.stop.Stop.{Stop}
 use Rattle.gr_record.specs.declared.stop.Stop.TheVariants.{Inside, AtEnd, AtFault}
 use Rattle.gr_record.specs.declared.layout.TheConstants.{HEADER_LENGTH}
-use Rattle.gr_record.specs.Versions.{record_length}
+use Rattle.gr_record.specs.Prelude.{record_length, events_of, sited, all_sited, event_spelling, events_spelling, header_spelling, header_at, event_at, Records, step, records_of, AreBytes, close, under, read_from, Runs, IsReadingOf, ReadPrefixIsSpelled}
 use Rattle.gr_record.specs.declared.header.Version.{Version}
-use Rattle.gr_record.specs.Sites.{events_of, sited, all_sited}
-use Rattle.gr_record.specs.Spelling.{event_spelling, events_spelling, header_spelling}
-use Rattle.gr_record.specs.Reading.{header_at, event_at}
-use Rattle.gr_record.specs.Fronts.{Records, step, records_of}
-use Rattle.gr_record.specs.Laws.{AreBytes}
-use Rattle.gr_record.specs.Decoding.{close, under, read_from}
-use Rattle.gr_record.specs.PrefixLaws.{Runs, IsReadingOf, ReadPrefixIsSpelled}
 use Rattle.gr_record.proofs.Loop.{short, too_many, next}
 use Rattle.gr_record.proofs.Places.{bytes_drop}
 use Rattle.gr_record.proofs.Found.{read_is_spelled, read_header_is_spelled}

@@ -1,8 +1,6 @@
 -- A decoder that goes on from what it kept reads what one reads that begins anew.
-use Rattle.std.proofs.Common.{◌∙◌, ap, ◌≡◌, ℕ, ◌-◌, ◌≤◌, List, [], ◌∷◌, ◌++◌, map, length, take, drop, Some, None, Result, Ok, Err, refl, arith, inl, inr}
-use Rattle.std.proofs.lemmas.Bool.{lt-ltb, le-ltb, cases_lt}
+use Rattle.gr_model.proofs.Common.{◌∙◌, ap, ◌≡◌, ℕ, ◌-◌, ◌≤◌, List, [], ◌∷◌, ◌++◌, map, length, take, drop, Some, None, Result, Ok, Err, refl, arith, inl, inr, lt-ltb, le-ltb, cases_lt, take-append-le, drop-append-le, length-append, map-append, append-nil}
 use Rattle.std.proofs.Math.Nat.{sub-zero, zero-add}
-use Rattle.std.proofs.lemmas.List.{take-append-le, drop-append-le, length-append, map-append, append-nil}
 use Rattle.gr_model.specs.declared.event.Event.{Event}
 use Rattle.gr_record.specs.declared.error.RecordError.{RecordError}
 use Rattle.gr_record.specs.declared.header.Header.{Header}
@@ -10,11 +8,7 @@ use Rattle.gr_record.specs.declared.part.Part.TheVariants as parts
 use Rattle.gr_record.specs.declared.stop.Stop.{Stop}
 use Rattle.gr_record.specs.declared.stop.Stop.TheVariants.{Inside}
 use Rattle.gr_record.specs.declared.layout.TheConstants.{HEADER_LENGTH}
-use Rattle.gr_record.specs.Versions.{record_length}
-use Rattle.gr_record.specs.Reading.{header_at, event_at}
-use Rattle.gr_record.specs.Fronts.{records_of}
-use Rattle.gr_record.specs.Decoding.{Reading, Standing, closed, under, read_from, reading, parts_of, standing, still, still_at, standing_after}
-use Rattle.gr_record.specs.PrefixLaws.{FaultStays}
+use Rattle.gr_record.specs.Prelude.{record_length, header_at, event_at, records_of, Reading, Standing, closed, under, read_from, reading, parts_of, standing, still, still_at, standing_after, FaultStays}
 use Rattle.gr_record.proofs.Growing.{grown, records_grow}
 
 -- a reading of more bytes goes on from a reading of fewer

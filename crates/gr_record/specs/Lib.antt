@@ -9,3 +9,4 @@ pub mod Spelling
 pub mod Versions
 pub mod WholeStreams
 pub mod InputFaults
+pub mod Prelude

@@ -2,8 +2,7 @@
 -- Source: docs/FORMATS.md, "Stream".
 use Rattle.std.specs.Prelude.{◌≡◌, ℕ, ◌<◌, ◌≤◌, List, [], ◌∷◌, ◌++◌, length, drop, Option, Some, None, IsTrue, ⊤, if◌then◌else◌}
 use Rattle.gr_model.specs.declared.event.Event.{Event}
-use Rattle.gr_model.specs.Events.{is_end}
-use Rattle.gr_model.specs.Streams.{is_complete}
+use Rattle.gr_model.specs.Prelude.{is_end, is_complete}
 use Rattle.gr_record.specs.declared.error.RecordError.{RecordError}
 use Rattle.gr_record.specs.declared.header.Header.{Header}
 use Rattle.gr_record.specs.declared.stop.Stop.{Stop}

@@ -14,7 +14,7 @@ use Rattle.gr_model.specs.declared.event.Kind.TheVariants.{Read, Write, Load, St
 use Rattle.gr_model.specs.declared.event.Name.{Name}
 use Rattle.gr_model.specs.declared.event.Event.{Event}
 use Rattle.gr_model.specs.declared.limits.TheConstants.{MOST_NAMES, MOST_RECORDS}
-use Rattle.gr_model.specs.Access.{acquires, releases, is_acquire_kind}
+use Rattle.gr_model.specs.Prelude.{acquires, releases, is_acquire_kind}
 use Rattle.gr_record.specs.declared.header.Header.{Header}
 use Rattle.gr_record.specs.declared.header.Version.{Version}
 use Rattle.gr_record.specs.declared.header.Version.TheVariants.{One, Two, Three, Four}

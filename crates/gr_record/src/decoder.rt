@@ -5,7 +5,7 @@
 
 ghost use Rattle.std.specs.Prelude.{◌≡◌, ◌≢◌, ◌+◌, ◌<◌, ◌≤◌, ℕ, List, [], ◌∷◌, ◌++◌, length, Err, Some, None, IsSome, IsTrue, IsFalse, ◌↔◌, ◌^◌};
 ghost use Rattle.std.specs.Vec.{vec_len, vec_capacity};
-ghost use Rattle.gr_model.specs.Events.{is_end};
+ghost use Rattle.gr_model.specs.Prelude.{is_end};
 ghost use Rattle.gr_record.specs.declared.error.RecordError.TheVariants.{Memory as OutOfMemory};
 ghost use Rattle.gr_record.specs.declared.header.Header.{Header};
 ghost use Rattle.gr_record.specs.declared.part.Part.{Part};

@@ -2,7 +2,7 @@
 
 ghost use Rattle.std.specs.Prelude.{◌≡◌, ◌≤◌, length};
 ghost use Rattle.std.specs.List.{slice_get};
-ghost use Rattle.gr_model.specs.Events.{IsEventOk};
+ghost use Rattle.gr_model.specs.Prelude.{IsEventOk};
 ghost use Rattle.gr_record.specs.declared.header.Version.TheVariants.{One, Two, Three, Four};
 ghost use Rattle.gr_record.specs.Sites.{unsited};
 ghost use Rattle.gr_record.specs.Spelling.{IsHeader, header_spelling, event_spelling, kind_bytes, fields_bytes, place_bytes, space_byte, scope_byte, order_byte, bit, version_byte};

@@ -1,7 +1,5 @@
 -- One stream, and the bytes that follow it.
-use Rattle.std.proofs.Common.{◌≡◌, ℕ, ◌≤◌, List, [], ◌++◌, length, Result, Ok, Err, sym, ap, ◌∙◌, subst, arith, append-nil, append_assoc, eqb-true, not, ◌==◌, if◌then◌else◌}
-use Rattle.std.specs.List.{list_any}
-use Rattle.std.proofs.lemmas.List.{length-take, nil_from_length, take-append-drop}
+use Rattle.gr_model.proofs.Common.{◌≡◌, ℕ, ◌≤◌, List, [], ◌++◌, length, Result, Ok, Err, sym, ap, ◌∙◌, subst, arith, append-nil, append_assoc, eqb-true, not, ◌==◌, if◌then◌else◌, list_any, length-take, nil_from_length, take-append-drop}
 use Rattle.gr_model.specs.declared.event.Event.{Event}
 use Rattle.gr_record.specs.declared.error.RecordError.{RecordError}
 use Rattle.gr_record.specs.declared.error.RecordError.TheVariants as errors
@@ -9,7 +7,7 @@ use Rattle.gr_record.specs.declared.fault.Fault.{Fault}
 use Rattle.gr_record.specs.declared.fault.Fault.TheVariants as faults
 use Rattle.gr_record.specs.declared.header.Header.{Header}
 use Rattle.gr_record.specs.declared.layout.TheConstants.{HEADER_LENGTH}
-use Rattle.gr_record.specs.WholeStreams.{front_header_at, front_records_at, whole}
+use Rattle.gr_record.specs.Prelude.{front_header_at, front_records_at, whole}
 use Rattle.gr_record.proofs.Growing.{grown, records_grow}
 use Rattle.gr_intake.specs.Joined.{Flat, ◌>>=◌, stream_at}
 use Rattle.gr_intake.proofs.Accepted.{BeginsWith, follows, same_ok}

@@ -1,6 +1,5 @@
 -- An input that is read piece by piece.
-use Rattle.std.proofs.Common.{◌≡◌, ℕ, List, ◌++◌, Option, None, Some, sym, ap, ◌∙◌, subst, append_assoc, IfSome}
-use Rattle.std.specs.Io.KnownBytes.{Consumes}
+use Rattle.gr_model.proofs.Common.{◌≡◌, ℕ, List, ◌++◌, Option, None, Some, sym, ap, ◌∙◌, subst, append_assoc, IfSome, Consumes}
 use Rattle.gr_intake.specs.declared.intake.Intake.{Intake}
 use Rattle.gr_intake.specs.Intakes.{Moves, behind}
 use Rattle.gr_intake.specs.Joined.{joined_of}

@@ -1,5 +1,5 @@
 -- Inputs, each of which is one stream, and their bytes one after another.
-use Rattle.std.proofs.Common.{◌≡◌, ℕ, zero, suc, ◌≤◌, List, [], ◌∷◌, ◌++◌, length, All, Result, Ok, Err, refl, sym, ◌∙◌, subst, arith, length-append}
+use Rattle.gr_model.proofs.Common.{◌≡◌, ℕ, zero, suc, ◌≤◌, List, [], ◌∷◌, ◌++◌, length, All, Result, Ok, Err, refl, sym, ◌∙◌, subst, arith, length-append}
 use Rattle.gr_record.specs.declared.fault.Fault.{Fault}
 use Rattle.gr_intake.specs.Joined.{Flat, ◌>>=◌, joined_at, joined_of}
 use Rattle.gr_intake.specs.Launch.{Reads}

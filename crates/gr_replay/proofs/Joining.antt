@@ -1,17 +1,13 @@
 -- Reading streams one after the other, as a loop does.
-use Rattle.std.proofs.Common.{◌≡◌, ℕ, zero, suc, ◌+◌, ◌-◌, ◌<◌, ◌≤◌, true, false, List, [], ◌∷◌, ◌++◌, length, Result, Ok, Err, refl, sym, ◌∙◌, arith, not, ◌==◌}
-use Rattle.std.specs.List.{list_any}
-use Rattle.std.proofs.lemmas.List.{length-map}
+use Rattle.gr_model.proofs.Common.{◌≡◌, ℕ, zero, suc, ◌+◌, ◌-◌, ◌<◌, ◌≤◌, true, false, List, [], ◌∷◌, ◌++◌, length, Result, Ok, Err, refl, sym, ◌∙◌, arith, not, ◌==◌, list_any, length-map}
 use Rattle.gr_model.specs.declared.event.Event.{Event}
 use Rattle.gr_record.specs.declared.error.RecordError.{RecordError}
 use Rattle.gr_record.specs.declared.header.Header.{Header}
 use Rattle.gr_record.specs.declared.fault.Fault.{Fault}
 use Rattle.gr_record.specs.declared.fault.Fault.TheVariants as faults
-use Rattle.gr_record.specs.Faults.{stream_fault}
+use Rattle.gr_record.specs.Prelude.{stream_fault, front_header_at, front_records_at, Fails}
 use Rattle.gr_record.specs.WholeStreams as record_spec
-use Rattle.gr_record.specs.WholeStreams.{front_header_at, front_records_at}
 use Rattle.gr_replay.specs.declared.joined.Stream.{Stream}
-use Rattle.gr_record.specs.InputFaults.{Fails}
 use Rattle.gr_intake.specs.Joined.{Flat, stream_at, joined_at}
 use Rattle.gr_replay.specs.InMemory.{flat, flats}
 use Rattle.gr_intake.proofs.Faults.{fault_at-fails}

@@ -1,18 +1,10 @@
 -- From streams to the launch that they are of.
 use mathlib.Core.List.{map-map}
-use Rattle.std.proofs.Common.{◌≡◌, ◌≢◌, ◌⊎◌, ℕ, zero, suc, ◌<◌, ◌≤◌, List, [], ◌∷◌, length, map, get_or, AllPairs, IsPermutation, Some, slice_get, slice_index, sym, ap, ◌∙◌, subst, ⊎_elim, arith, eqb, eq-or-lt_of_le, option_map, inl, inr}
-use Rattle.std.proofs.lemmas.Bool.{cases_lt}
-use Rattle.std.proofs.lemmas.Bool.Decides.{Decides-eqb}
-use Rattle.std.proofs.lemmas.List.{get_or-map, get_or_default, length-map}
-use Rattle.std.proofs.lemmas.List.Elements.{All-contains, Contains-get_or}
-use Rattle.std.proofs.lemmas.List.Sorted.{IsPermutation-map, IsPermutation-sym, Contains-permutation}
+use Rattle.gr_model.proofs.Common.{◌≡◌, ◌≢◌, ◌⊎◌, ℕ, zero, suc, ◌<◌, ◌≤◌, List, [], ◌∷◌, length, map, get_or, AllPairs, IsPermutation, Some, slice_get, slice_index, sym, ap, ◌∙◌, subst, ⊎_elim, arith, eqb, eq-or-lt_of_le, option_map, inl, inr, cases_lt, Decides-eqb, get_or-map, get_or_default, length-map, All-contains, Contains-get_or, IsPermutation-map, IsPermutation-sym, Contains-permutation, AllPairs-from_IsDistinct, IsDistinct-from_AllPairs, get_or_from_slice_get, slice_get-map}
 use Rattle.std.proofs.lemmas.Map.Keys.{IsDistinct-IsPermutation}
-use Rattle.std.proofs.lemmas.Map.Made.{AllPairs-from_IsDistinct, IsDistinct-from_AllPairs}
-use Rattle.std.proofs.lemmas.Option.{get_or_from_slice_get, slice_get-map}
 use Rattle.std.specs.List.Sorted.{IsNonDecreasingBy}
-use Rattle.gr_model.specs.Shapes.{IsShape}
+use Rattle.gr_model.specs.Prelude.{IsShape, Streams, IsAccepted, AreAccepted}
 use Rattle.gr_model.specs.declared.event.Event.{Event}
-use Rattle.gr_model.specs.Streams.{Streams, IsAccepted, AreAccepted}
 use Rattle.gr_model.proofs.HitsAreRaces.{eqb_swap}
 use Rattle.gr_model.proofs.Places.{Contains-at}
 use Rattle.gr_replay.specs.declared.joined.Stream.{Stream}

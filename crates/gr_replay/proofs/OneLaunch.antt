@@ -1,9 +1,6 @@
 -- Bytes are the streams of one launch at most, and so are inputs.
-use Rattle.std.proofs.Common.{◌≡◌, ℕ, ◌<◌, ◌≤◌, List, [], length, get_or, Result, Ok, sym, ◌∙◌, subst, arith, inl, inr, ext_get_or}
-use Rattle.std.proofs.lemmas.Bool.{cases_lt}
-use Rattle.std.proofs.lemmas.Option.{get_or_from_slice_get, slice_get_within}
-use Rattle.gr_model.specs.Reports.{IsReportOf}
-use Rattle.gr_model.specs.Streams.{Streams}
+use Rattle.gr_model.proofs.Common.{◌≡◌, ℕ, ◌<◌, ◌≤◌, List, [], length, get_or, Result, Ok, sym, ◌∙◌, subst, arith, inl, inr, ext_get_or, cases_lt, get_or_from_slice_get, slice_get_within}
+use Rattle.gr_model.specs.Prelude.{IsReportOf, Streams}
 use Rattle.gr_model.proofs.ReportLaws.{one_report}
 use Rattle.gr_record.specs.declared.fault.Fault.{Fault}
 use Rattle.gr_intake.specs.Joined.{Flat}

@@ -1,12 +1,9 @@
 -- Bytes that are read as a launch are inputs one after another, each of which is one stream.
-use Rattle.std.proofs.Common.{◌≡◌, ℕ, zero, suc, ◌≤◌, Bool, true, false, cond, List, [], ◌∷◌, ◌++◌, length, Result, Ok, Err, refl, sym, ap, subst, ◌∙◌, arith, append_assoc, eqb-true, ◌==◌}
-use Rattle.std.proofs.lemmas.List.{length-append, nil_from_length}
+use Rattle.gr_model.proofs.Common.{◌≡◌, ℕ, zero, suc, ◌≤◌, Bool, true, false, cond, List, [], ◌∷◌, ◌++◌, length, Result, Ok, Err, refl, sym, ap, subst, ◌∙◌, arith, append_assoc, eqb-true, ◌==◌, length-append, nil_from_length}
 use Rattle.gr_model.specs.declared.event.Event.{Event}
-use Rattle.gr_model.specs.Streams.{is_complete}
+use Rattle.gr_model.specs.Prelude.{is_complete}
 use Rattle.gr_record.specs.declared.fault.Fault.{Fault}
-use Rattle.gr_record.specs.Laws.{AreBytes}
-use Rattle.gr_record.specs.Sites.{all_sited}
-use Rattle.gr_record.specs.Spelling.{events_spelling, header_spelling}
+use Rattle.gr_record.specs.Prelude.{AreBytes, all_sited, events_spelling, header_spelling}
 use Rattle.gr_record.proofs.FoundPrefixes.{events_sited}
 use Rattle.gr_text.specs.Dumps.{WholeStream}
 use Rattle.gr_text.specs.Wholes.{IsWhole}

@@ -1,14 +1,10 @@
 -- Streams and what they are upgraded to are read as the same launch.
 use mathlib.Core.List.{map-map}
-use Rattle.std.proofs.Common.{◌≡◌, ℕ, suc, ◌≤◌, List, [], ◌∷◌, ◌++◌, length, map, slice_get, Some, inl, inr, All, Result, Ok, Err, refl, sym, ap, ◌∙◌, subst, arith, append-nil}
-use Rattle.std.proofs.lemmas.List.{length-map, map_push}
-use Rattle.std.proofs.lemmas.List.Folds.{flat_map-map}
-use Rattle.gr_model.specs.Streams.{Streams}
+use Rattle.gr_model.proofs.Common.{◌≡◌, ℕ, suc, ◌≤◌, List, [], ◌∷◌, ◌++◌, length, map, slice_get, Some, inl, inr, All, Result, Ok, Err, refl, sym, ap, ◌∙◌, subst, arith, append-nil, length-map, map_push, flat_map-map}
+use Rattle.gr_model.specs.Prelude.{Streams}
 use Rattle.gr_record.specs.declared.fault.Fault.{Fault}
-use Rattle.gr_record.specs.Laws.{AreBytes}
-use Rattle.gr_record.specs.Spelling.{events_spelling}
+use Rattle.gr_record.specs.Prelude.{AreBytes, events_spelling, front_records_at, stream_spelling}
 use Rattle.gr_record.proofs.Places.{header_items}
-use Rattle.gr_record.specs.WholeStreams.{front_records_at, stream_spelling}
 use Rattle.gr_text.specs.Dumps.{WholeStream, upgraded, upgraded_header}
 use Rattle.gr_text.specs.Wholes.{IsWhole, bytes_of, upgraded_stream}
 use Rattle.gr_text.proofs.SpelledStreams.{events_before, header_before}

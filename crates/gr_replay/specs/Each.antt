@@ -1,11 +1,11 @@
 -- Streams of a launch that come from an input each.
 -- Source: docs/FORMATS.md, "Several streams".
 use Rattle.std.specs.Prelude.{◌≡◌, ◌⊎◌, ℕ, List, [], ◌∷◌, ◌++◌, length, map, Option, Some, None, option_map, IfSome, Result, Ok, Err, Vec, ⊤, ◌==◌, if◌then◌else◌}
-use Rattle.gr_model.specs.Streams.{Streams}
+use Rattle.gr_model.specs.Prelude.{Streams}
 use Rattle.gr_record.specs.declared.error.RecordError.TheVariants.{AfterEnd}
 use Rattle.gr_record.specs.declared.fault.Fault.{Fault}
 use Rattle.gr_record.specs.declared.fault.Fault.TheVariants as faults
-use Rattle.gr_record.specs.InputFaults.{Fails}
+use Rattle.gr_record.specs.Prelude.{Fails}
 use Rattle.gr_intake.specs.Joined.{Flat, ◌>>=◌, stream_at}
 use Rattle.gr_intake.specs.Launch.{IsLaunchOf, IsLaunchFault}
 

@@ -3,10 +3,8 @@
 use Rattle.std.specs.Prelude.{◌≡◌, ◌⊎◌, ◌↔◌, ℕ, List, [], ◌∷◌, map, All, Ok, ⊤}
 use Rattle.std.specs.List.{flat_map}
 use Rattle.std.specs.List.Sorted.{IsPermutation}
-use Rattle.gr_model.specs.Reports.{WholeReport}
-use Rattle.gr_model.specs.Streams.{Streams}
-use Rattle.gr_record.specs.Laws.{AreBytes}
-use Rattle.gr_record.specs.Sites.{events_of}
+use Rattle.gr_model.specs.Prelude.{WholeReport, Streams}
+use Rattle.gr_record.specs.Prelude.{AreBytes, events_of}
 use Rattle.gr_text.specs.Dumps.{WholeStream, upgraded}
 use Rattle.gr_text.specs.Wholes.{IsWhole, bytes_of}
 use Rattle.gr_intake.specs.Joined.{Flat, joined_of}

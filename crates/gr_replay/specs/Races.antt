@@ -2,8 +2,7 @@
 -- Source: docs/MODEL.md, "Hits" and "Races".
 use Rattle.std.specs.Prelude.{◌≡◌, ◌≢◌, List, All, map}
 use Rattle.gr_model.specs.declared.race.Race.{Race}
-use Rattle.gr_model.specs.RacePairs.{IsTurned}
-use Rattle.gr_model.specs.Reports.{EventBelow, Lists, WordBelow}
+use Rattle.gr_model.specs.Prelude.{IsTurned, EventBelow, Lists, WordBelow}
 use Rattle.gr_clocks.specs.ClockedAccess.{ClockedAccess}
 use Rattle.gr_shadow.specs.declared.clash.Clash.{Clash}
 use Rattle.gr_shadow.specs.Clashes.{IsClashIn, IsHitIn}

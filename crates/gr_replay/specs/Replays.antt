@@ -1,8 +1,7 @@
 -- The report of bytes and of inputs, and why bytes are not replayed.
 -- Source: docs/FORMATS.md, "Faults", and docs/MODEL.md, "The report".
 use Rattle.std.specs.Prelude.{◌≡◌, ◌⊎◌, ℕ, List, Option}
-use Rattle.gr_model.specs.Streams.{AreAccepted, Streams}
-use Rattle.gr_model.specs.Reports.{WholeReport, IsReportOf}
+use Rattle.gr_model.specs.Prelude.{AreAccepted, Streams, WholeReport, IsReportOf}
 use Rattle.gr_record.specs.declared.fault.Fault.{Fault}
 use Rattle.gr_record.specs.declared.fault.Fault.TheVariants as faults
 use Rattle.gr_report.specs.Putting.{AppendsPrefix}

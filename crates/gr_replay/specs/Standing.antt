@@ -3,7 +3,7 @@ use Rattle.std.specs.Prelude.{◌≡◌, ℕ, List, [], Result, Ok, Err}
 use Rattle.gr_model.specs.declared.event.Event.{Event}
 use Rattle.gr_record.specs.declared.error.RecordError.{RecordError}
 use Rattle.gr_record.specs.declared.header.Header.{Header}
-use Rattle.gr_record.specs.WholeStreams.{front_records_at}
+use Rattle.gr_record.specs.Prelude.{front_records_at}
 
 abbrev pub events_in : Result (List Event × List ℕ) RecordError → List Event
 events_in (Ok x) = x.0

@@ -1,8 +1,7 @@
 //! The report of a launch, and its races.
 
 ghost use Rattle.std.specs.Prelude.{IfOk};
-ghost use Rattle.gr_model.specs.RacePairs.{ArePairedRaces};
-ghost use Rattle.gr_model.specs.Reports.{IsReportOf};
+ghost use Rattle.gr_model.specs.Prelude.{ArePairedRaces, IsReportOf};
 ghost use Rattle.gr_report.specs.Whole.{whole_of};
 
 use crate::races::races_of;

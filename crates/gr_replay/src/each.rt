@@ -1,9 +1,8 @@
 //! The streams of a launch that come from a reader each.
 
 ghost use Rattle.std.specs.Prelude.{◌≡◌, ◌++◌, ◌∷◌, [], IfErr, IfOk, IfSome, OnOk, map};
-ghost use Rattle.gr_record.specs.Faults.{IsOfReading, IsOfValues};
+ghost use Rattle.gr_record.specs.Prelude.{IsOfReading, IsOfValues, Gives, IsOutside};
 ghost use Rattle.gr_replay.specs.Each.{AreRead, IsEachFault, ReadsEach, all_known, each_of, inputs_of, only_stream_at};
-ghost use Rattle.gr_record.specs.InputFaults.{Gives, IsOutside};
 ghost use Rattle.gr_replay.specs.InMemory.{flat, flats};
 ghost use Rattle.gr_intake.specs.Laws.{AreStreams};
 

@@ -2,8 +2,7 @@
 
 ghost use Rattle.std.specs.Prelude.{[], ◌≡◌, ◌++◌, ◌<◌, ℕ, List, Option, IfErr, IfOk, IfSome, None, Ok, OnOk, length};
 ghost use Rattle.std.specs.Io.KnownBytes.{Consumes, IsAtEnd};
-ghost use Rattle.gr_record.specs.InputFaults.{Fails};
-ghost use Rattle.gr_record.specs.Faults.{IsOfReading, IsOfValues};
+ghost use Rattle.gr_record.specs.Prelude.{Fails, IsOfReading, IsOfValues};
 ghost use Rattle.gr_intake.specs.Intakes.{IsBetween, IsIntake, IsNew, Moves, behind, streams_in, unit_of};
 ghost use Rattle.gr_intake.specs.Joined.{joined_of};
 

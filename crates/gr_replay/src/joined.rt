@@ -2,8 +2,7 @@
 
 ghost use Rattle.std.specs.Prelude.{◌≡◌, ◌==◌, ◌++◌, ◌∷◌, [], not, length, IfErr, IfOk, OnOk, Ok};
 ghost use Rattle.std.specs.List.{list_any};
-ghost use Rattle.gr_record.specs.Faults.{IsOfValues};
-ghost use Rattle.gr_record.specs.InputFaults.{Gives};
+ghost use Rattle.gr_record.specs.Prelude.{IsOfValues, Gives};
 ghost use Rattle.gr_intake.specs.Laws.{AreStreams};
 ghost use Rattle.gr_intake.specs.Joined.{stream_at, joined_of};
 ghost use Rattle.gr_replay.specs.InMemory.{flat, flats};

@@ -1,7 +1,7 @@
 //! The launch of streams.
 
 ghost use Rattle.std.specs.Prelude.{◌≡◌, IfOk, IfErr, IfSome, MatchOption, IsPermutation, map};
-ghost use Rattle.gr_record.specs.Faults.{IsOfReading, IsOfValues};
+ghost use Rattle.gr_record.specs.Prelude.{IsOfReading, IsOfValues};
 ghost use Rattle.gr_replay.specs.InMemory.{flats};
 ghost use Rattle.gr_intake.specs.Laws.{AreStreams};
 ghost use Rattle.gr_intake.specs.Launch.{AreApart, AreRising, ArePlaced, IsLeastMissing, IsLaunchOf, IsLaunchFault, Reads, IsReadFault};

@@ -4,7 +4,8 @@
 //! kept.
 
 ghost use Rattle.std.specs.Prelude.{◌≡◌, IfOk};
-ghost use Rattle.gr_record.specs.WholeStreams.{Gives, front_records_at};
+ghost use Rattle.gr_record.specs.WholeStreams.{Gives};
+ghost use Rattle.gr_record.specs.Prelude.{front_records_at};
 
 use gr_model::event::Event;
 use gr_model::memory::Memory;

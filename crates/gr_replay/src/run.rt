@@ -5,7 +5,7 @@ ghost use Rattle.std.specs.Io.KnownBytes.{Appends, Keeps};
 ghost use Rattle.gr_intake.specs.Intakes.{IsIntake, IsNew};
 ghost use Rattle.gr_intake.specs.Launch.{IsReadFault};
 ghost use Rattle.gr_record.specs.declared.fault.Fault.TheVariants as faults;
-ghost use Rattle.gr_record.specs.Faults.{IsOfReading};
+ghost use Rattle.gr_record.specs.Prelude.{IsOfReading};
 ghost use Rattle.gr_replay.specs.Replays.{IsExact, IsReplayFault, WritesPrefix};
 ghost use Rattle.gr_report.specs.ReportText.{report_text};
 ghost use Rattle.gr_report.specs.Whole.{whole_of};

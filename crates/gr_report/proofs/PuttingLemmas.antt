@@ -1,9 +1,7 @@
 -- Texts that are written one after the other.
-use Rattle.std.proofs.Common.{[], ◌∷◌, ◌≡◌, ℕ, List, ◌++◌, Option, Result, Ok, Err, refl, sym, ap, ◌∙◌, append_assoc, length, take, drop, arith, ◌+◌, ◌-◌, ◌<◌, get_or, IsErr, flat_map}
-use Rattle.std.specs.Io.KnownBytes.{Appends, Keeps}
+use Rattle.gr_model.proofs.Common.{[], ◌∷◌, ◌≡◌, ℕ, List, ◌++◌, Option, Result, Ok, Err, refl, sym, ap, ◌∙◌, append_assoc, length, take, drop, arith, ◌+◌, ◌-◌, ◌<◌, get_or, IsErr, flat_map, Appends, Keeps, at_drop_more, append-nil, length-drop, take-append-drop, take_all}
 use Rattle.std.proofs.KnownBytes.{Appends-trans, Appends-kept}
 use Rattle.std.proofs.lemmas.List.Concat.{flat_map-cons}
-use Rattle.std.proofs.lemmas.List.{at_drop_more, append-nil, length-drop, take-append-drop, take_all}
 use Rattle.gr_report.specs.declared.putting.WriteFault.{WriteFault}
 use Rattle.gr_report.specs.Putting.{Puts, ended}
 

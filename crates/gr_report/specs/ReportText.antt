@@ -10,7 +10,7 @@ use Rattle.gr_model.specs.declared.report.DivergenceCause.TheVariants.{Missing, 
 use Rattle.gr_model.specs.declared.report.Unmatched.{Unmatched}
 use Rattle.gr_model.specs.declared.report.AcquireCause.{AcquireCause}
 use Rattle.gr_model.specs.declared.report.AcquireCause.TheVariants.{Absent, OtherWord, Behind}
-use Rattle.gr_model.specs.Reports.{WholeReport}
+use Rattle.gr_model.specs.Prelude.{WholeReport}
 use Rattle.gr_report.specs.Putting.{field, line}
 
 -- the version, and how large the launch is

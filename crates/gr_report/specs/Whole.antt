@@ -1,6 +1,6 @@
 -- A report as the definitions see it, and whether it finds anything.
 use Rattle.std.specs.Prelude.{◌≢◌, ◌⊎◌, []}
-use Rattle.gr_model.specs.Reports.{WholeReport}
+use Rattle.gr_model.specs.Prelude.{WholeReport}
 use Rattle.gr_report.specs.declared.report.Report.{Report}
 
 -- the same report, in the words of the definitions

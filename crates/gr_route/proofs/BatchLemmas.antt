@@ -1,9 +1,7 @@
 -- Batches, and what is left of one.
-use Rattle.std.proofs.Common.{◌≡◌, ◌≢◌, ℕ, List, [], ◌∷◌, ◌++◌, refl, sym, ap, ◌∙◌, append_assoc, append-nil, length-append, arith}
-use Rattle.std.proofs.lemmas.Bool.Decides.{nat_tests}
-use Rattle.std.proofs.Math.Seq.{take-append_seam}
+use Rattle.gr_model.proofs.Common.{◌≡◌, ◌≢◌, ℕ, List, [], ◌∷◌, ◌++◌, refl, sym, ap, ◌∙◌, append_assoc, append-nil, length-append, arith, nat_tests, take-append_seam}
 use Rattle.gr_model.specs.declared.event.Event.{Event}
-use Rattle.gr_model.specs.Streams.{events_of}
+use Rattle.gr_model.specs.Prelude.{events_of}
 use Rattle.gr_route.specs.Batches.{all_of, front, sent_by}
 use Rattle.gr_route.specs.IntakeRule.{events_in}
 

@@ -1,6 +1,5 @@
 -- Each kind of step keeps the rule of an intake queue, and what a seat learns by the steps.
-use Rattle.std.proofs.Common.{cond, eqb, eq-eqb, ne_eqb, ◌≡◌, ◌≢◌, ℕ, ◌<◌, List, [], ◌∷◌, ◌++◌, length, set, sym, refl, ap, ◌∙◌, subst, append_assoc, append-nil, arith, slice_index, All, get_or-set_same, get_or-set_other}
-use Rattle.std.proofs.lemmas.List.Elements.{All-nil, All-contains, All-push, All-weaker, Contains-push}
+use Rattle.gr_model.proofs.Common.{cond, eqb, eq-eqb, ne_eqb, ◌≡◌, ◌≢◌, ℕ, ◌<◌, List, [], ◌∷◌, ◌++◌, length, set, sym, refl, ap, ◌∙◌, subst, append_assoc, append-nil, arith, slice_index, All, get_or-set_same, get_or-set_other, All-nil, All-contains, All-push, All-weaker, Contains-push}
 use mathlib.Core.Logic.{dite}
 use mathlib.Core.Option as seat
 use native.Mathlib.Decide.{ℕ_discrete}
@@ -8,7 +7,7 @@ use Rattle.crossbeam_queue.specs.Fifo as queue
 use Rattle.crossbeam_queue.specs.Passes.{IsSamePass, Pass, view}
 use Rattle.gr_model.specs.declared.event.Event.{Event}
 use Rattle.gr_model.specs.declared.event.Sent.{Sent}
-use Rattle.gr_model.specs.Streams.{IsPrefix, events_of}
+use Rattle.gr_model.specs.Prelude.{IsPrefix, events_of}
 use Rattle.gr_model.proofs.Sending.{events_append, events_here}
 use Rattle.gr_model.proofs.StreamPrefixes.{prefix_prefix, prefix_nil, next_ok, next_unended, next_room}
 use Rattle.gr_route.specs.declared.intake_rule.Joined.{Joined}

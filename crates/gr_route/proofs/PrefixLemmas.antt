@@ -1,7 +1,7 @@
 -- Prefixes of lists, and what a prefix of a work-group's stream says.
-use Rattle.std.proofs.Common.{arith, ◌≡◌, ℕ, List, [], ◌∷◌, ◌++◌, refl, subst, append-nil}
+use Rattle.gr_model.proofs.Common.{arith, ◌≡◌, ℕ, List, [], ◌∷◌, ◌++◌, refl, subst, append-nil}
 use Rattle.gr_model.specs.declared.event.Event.{Event}
-use Rattle.gr_model.specs.Streams.{IsPrefix}
+use Rattle.gr_model.specs.Prelude.{IsPrefix}
 use Rattle.gr_model.proofs.StreamPrefixes.{prefix_whole}
 use Rattle.gr_route.specs.Prefixes.{EndMakesAccepted, EndMakesWhole}
 

@@ -1,7 +1,5 @@
 -- The sizes when no group has had a seat.
-use Rattle.std.proofs.Common.{◌≡◌, ℕ, get_or, length, replicate, arith}
-use Rattle.std.proofs.Math.ListN.{get_or-eq_default}
-use Rattle.std.proofs.lemmas.List.{get_or-replicate, length-replicate}
+use Rattle.gr_model.proofs.Common.{◌≡◌, ℕ, get_or, length, replicate, arith, get_or-eq_default, get_or-replicate, length-replicate}
 use Rattle.gr_model.specs.declared.limits.TheConstants.{MOST_GROUPS}
 use Rattle.gr_route.specs.IntakeRule.{no_sizes}
 

@@ -1,5 +1,5 @@
 -- What holds of each seat's view, after one view changes or one is added.
-use Rattle.std.proofs.Common.{arith, ◌≡◌, ◌≢◌, ℕ, zero, suc, false, true, true≢false, List, [], ◌∷◌, ◌++◌, length, set, sym, refl, subst}
+use Rattle.gr_model.proofs.Common.{arith, ◌≡◌, ◌≢◌, ℕ, zero, suc, false, true, true≢false, List, [], ◌∷◌, ◌++◌, length, set, sym, refl, subst}
 use mathlib.Core.Option.{some, some-injective, some-ne-none}
 use lib.ListN.{get_elem?}
 use Rattle.crossbeam_queue.specs.Fifo.{Learns}

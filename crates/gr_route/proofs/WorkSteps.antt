@@ -1,6 +1,5 @@
 -- Each kind of step keeps the rule of a work queue, and what a seat learns by the steps.
-use Rattle.std.proofs.Common.{arith, ◌≡◌, ℕ, Bool, false, List, [], ◌∷◌, ◌++◌, Option, Some, length, set, sym, refl, ap, ◌∙◌, subst, append_assoc, append-nil, IsTrue, IsFalse, IfSome}
-use Rattle.std.proofs.lemmas.Option.{IfSome_then}
+use Rattle.gr_model.proofs.Common.{arith, ◌≡◌, ℕ, Bool, false, List, [], ◌∷◌, ◌++◌, Option, Some, length, set, sym, refl, ap, ◌∙◌, subst, append_assoc, append-nil, IsTrue, IsFalse, IfSome, IfSome_then}
 use mathlib.Core.Option as seat
 use Rattle.crossbeam_queue.specs.Fifo as queue
 use Rattle.crossbeam_queue.specs.Passes.{IsSamePass, Pass, view}

@@ -7,7 +7,7 @@ use lib.ListN.{get_elem?}
 use Rattle.gr_model.specs.declared.event.Event.{Event}
 use Rattle.gr_model.specs.declared.event.Sent.{Sent}
 use Rattle.gr_model.specs.declared.limits.TheConstants.{MOST_GROUPS}
-use Rattle.gr_model.specs.Streams.{IsPrefix, events_of}
+use Rattle.gr_model.specs.Prelude.{IsPrefix, events_of}
 use Rattle.gr_route.specs.declared.intake_rule.Joined.{Joined}
 use Rattle.gr_route.specs.declared.intake_rule.IntakeView.{IntakeView}
 use Rattle.gr_route.specs.Batches.{all_of}

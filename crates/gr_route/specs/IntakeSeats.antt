@@ -7,8 +7,7 @@ use Rattle.crossbeam_queue.specs.Passes.{Pass, view}
 use Rattle.gr_model.specs.declared.event.Event.{Event}
 use Rattle.gr_model.specs.declared.event.Sent.{Sent}
 use Rattle.gr_model.specs.declared.limits.TheConstants.{MOST_GROUPS, MOST_RECORDS}
-use Rattle.gr_model.specs.Events.{IsEventOk}
-use Rattle.gr_model.specs.Streams.{IsPrefix, events_of, is_complete}
+use Rattle.gr_model.specs.Prelude.{IsEventOk, IsPrefix, events_of, is_complete}
 use Rattle.gr_route.specs.declared.intake_rule.IntakeView.{IntakeView}
 use Rattle.gr_route.specs.declared.intake_rule.Joined.{Joined}
 use Rattle.gr_route.specs.Batches.{front}

@@ -2,7 +2,7 @@
 -- Source: docs/QUEUES.md, "What is sent".
 use Rattle.std.specs.Prelude.{◌≡◌, ℕ, List, ◌++◌, IsTrue}
 use Rattle.gr_model.specs.declared.event.Event.{Event}
-use Rattle.gr_model.specs.Streams.{IsAccepted, IsPrefix, is_complete}
+use Rattle.gr_model.specs.Prelude.{IsAccepted, IsPrefix, is_complete}
 
 -- the list begins with these
 abbrev pub StartsWith : {T : Type 0} → List T → List T → Type 0

@@ -9,8 +9,7 @@
 ghost use Rattle.std.specs.Prelude.{◌≡◌, ◌≢◌, ◌<◌, ◌≤◌, All, [], ◌∷◌, ◌++◌, length, replicate, slice_index, slice_set, IfOk, IfErr, OnOk, IfSome, IfNone, IsTrue, IsFalse};
 ghost use Rattle.crossbeam_queue.specs.Fifo.{Forks, Held};
 ghost use Rattle.crossbeam_queue.specs.Passes.{view as known, IsSamePass, IsPassOf};
-ghost use Rattle.gr_model.specs.Events.{IsEventOk};
-ghost use Rattle.gr_model.specs.Streams.{IsPrefix, is_complete};
+ghost use Rattle.gr_model.specs.Prelude.{IsEventOk, IsPrefix, is_complete};
 ghost use Rattle.gr_route.specs.Batches.{all_of};
 ghost use Rattle.gr_route.specs.IntakeRule.{BatchesAgree, after_split, events_in, no_sizes, seat_of};
 ghost use Rattle.gr_route.specs.IntakeSeats.{AgreesWithSeat, AgreesWithTaker, IsDelivered, IsDelivery, IsNextPopped, popped_of};

@@ -1,18 +1,12 @@
 -- What is known where an event is handled.
 use Rattle.gr_order.proofs.StateLemmas.{item_cases}
-use Rattle.std.proofs.Common.{◌≡◌, ◌≢◌, ◌↔◌, ℕ, ◌+◌, ◌<◌, max, All, List, [], ◌∷◌, ◌++◌, Some, IsTrue, map, refl, ◌∙◌, inl, ⊎_elim, arith}
-use Rattle.std.proofs.lemmas.List.{map-id}
+use Rattle.gr_model.proofs.Common.{◌≡◌, ◌≢◌, ◌↔◌, ℕ, ◌+◌, ◌<◌, max, All, List, [], ◌∷◌, ◌++◌, Some, IsTrue, map, refl, ◌∙◌, inl, ⊎_elim, arith, map-id}
 use Rattle.gr_model.specs.declared.event.Event.{Event}
 use Rattle.gr_model.specs.declared.event.EventId.{EventId}
 use Rattle.gr_model.specs.declared.event.ItemId.{ItemId}
 use Rattle.gr_model.specs.declared.event.Space.{Space}
 use Rattle.gr_model.specs.declared.event.Space.TheVariants.{Global}
-use Rattle.gr_model.specs.Access.{is_release, memory_of}
-use Rattle.gr_model.specs.Counts.{Sees}
-use Rattle.gr_model.specs.LawfulOrders.{IsIn}
-use Rattle.gr_model.specs.Shapes.{HasItem}
-use Rattle.gr_model.specs.Streams.{Streams, event_at}
-use Rattle.gr_model.specs.Waits.{for_release}
+use Rattle.gr_model.specs.Prelude.{is_release, memory_of, Sees, IsIn, HasItem, Streams, event_at, for_release}
 use Rattle.gr_steps.specs.Steps.{Handles}
 use Rattle.gr_steps.proofs.EventRecords.{group_of_event, item_of_event}
 use Rattle.gr_clocks.specs.declared.clock.TheConstants.{LARGEST_COUNT}

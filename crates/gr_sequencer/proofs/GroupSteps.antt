@@ -1,17 +1,10 @@
 -- What is known where an instance meets.
-use Rattle.std.proofs.Common.{◌≡◌, ◌≢◌, ◌↔◌, ℕ, zero, suc, ◌+◌, ◌<◌, Bool, true, false, List, ◌++◌, map, length, refl, ◌∙◌, ⊎_elim, arith}
-use Rattle.std.proofs.lemmas.Bool.{cases_eq}
-use Rattle.std.specs.Prelude.{slice_index}
+use Rattle.gr_model.proofs.Common.{◌≡◌, ◌≢◌, ◌↔◌, ℕ, zero, suc, ◌+◌, ◌<◌, Bool, true, false, List, ◌++◌, map, length, refl, ◌∙◌, ⊎_elim, arith, cases_eq, slice_index}
 use Rattle.gr_model.specs.declared.event.EventId.{EventId}
 use Rattle.gr_model.specs.declared.event.ItemId.{ItemId}
 use Rattle.gr_model.specs.declared.event.Space.{Space}
 use Rattle.gr_model.specs.declared.event.Space.TheVariants.{Global}
-use Rattle.gr_model.specs.Barriers.{StandsIn}
-use Rattle.gr_model.specs.Counts.{Sees}
-use Rattle.gr_model.specs.Instances.{Mark, flags}
-use Rattle.gr_model.specs.LawfulOrders.{IsLawful}
-use Rattle.gr_model.specs.Shapes.{HasItem}
-use Rattle.gr_model.specs.Streams.{ArePrefixes, Streams, size_of}
+use Rattle.gr_model.specs.Prelude.{StandsIn, Sees, Mark, flags, IsLawful, HasItem, ArePrefixes, Streams, size_of}
 use Rattle.gr_steps.specs.Steps.{AreBarriers, IsMeeting, Meets}
 use Rattle.gr_steps.proofs.BarrierPlaces.{barrier_of, barrier_there}
 use Rattle.gr_steps.proofs.EventRecords.{group_of_event, item_of_event}

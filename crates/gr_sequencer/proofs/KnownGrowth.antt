@@ -1,14 +1,10 @@
 -- What is known where a record is taken, and where a group comes.
-use Rattle.std.proofs.Common.{◌≡◌, ◌≢◌, ◌⊎◌, inl, inr, ◌↔◌, ℕ, ◌<◌, List, refl, ap, ◌∙◌, arith}
-use Rattle.std.proofs.lemmas.Bool.{cases_eq}
+use Rattle.gr_model.proofs.Common.{◌≡◌, ◌≢◌, ◌⊎◌, inl, inr, ◌↔◌, ℕ, ◌<◌, List, refl, ap, ◌∙◌, arith, cases_eq}
 use Rattle.gr_model.specs.declared.event.Event.{Event}
 use Rattle.gr_model.specs.declared.event.EventId.{EventId}
 use Rattle.gr_model.specs.declared.event.ItemId.{ItemId}
 use Rattle.gr_model.specs.declared.event.Space.{Space}
-use Rattle.gr_model.specs.LawfulOrders.{IsIn, IsLawful}
-use Rattle.gr_model.specs.Shapes.{HasItem}
-use Rattle.gr_model.specs.Groups.{CanAdd, put, with_group}
-use Rattle.gr_model.specs.Streams.{ArePrefixes, Grows, Streams}
+use Rattle.gr_model.specs.Prelude.{IsIn, IsLawful, HasItem, CanAdd, put, with_group, ArePrefixes, Grows, Streams}
 use Rattle.gr_model.proofs.GroupLaws.{group_grows, item_was, nothing_came, size_now}
 use Rattle.gr_model.proofs.GrowthLaws.{event_grows, word_grows}
 use Rattle.gr_clocks.specs.Counts.{count_of}

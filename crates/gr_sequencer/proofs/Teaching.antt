@@ -1,19 +1,11 @@
 -- What an event learns from the releases that it names.
 use mathlib.Core.List.{map-map}
-use Rattle.std.proofs.Common.{◌≡◌, ◌≢◌, ◌⊎◌, ◌↔◌, ℕ, ◌+◌, ◌<◌, ◌≤◌, All, Contains, List, [], ◌∷◌, ◌++◌, length, get_or, map, take, Some, IsTrue, refl, ◌∙◌, ⊎_elim, suc, arith}
-use Rattle.std.proofs.lemmas.List.Elements.{All-push, Contains-append_left, Contains-push, Contains-push_cases}
-use Rattle.std.proofs.lemmas.List.{length-append}
-use Rattle.std.proofs.Math.Seq.{take-suc}
+use Rattle.gr_model.proofs.Common.{◌≡◌, ◌≢◌, ◌⊎◌, ◌↔◌, ℕ, ◌+◌, ◌<◌, ◌≤◌, All, Contains, List, [], ◌∷◌, ◌++◌, length, get_or, map, take, Some, IsTrue, refl, ◌∙◌, ⊎_elim, suc, arith, All-push, Contains-append_left, Contains-push, Contains-push_cases, length-append, take-suc}
 use Rattle.gr_model.specs.declared.event.Event.{Event}
 use Rattle.gr_model.specs.declared.event.EventId.{EventId}
 use Rattle.gr_model.specs.declared.event.Name.{Name}
 use Rattle.gr_model.specs.declared.event.Space.{Space}
-use Rattle.gr_model.specs.Access.{inclusive, is_release, memory_of}
-use Rattle.gr_model.specs.HappensBefore.{IsInclusive}
-use Rattle.gr_model.specs.LawfulOrders.{IsIn}
-use Rattle.gr_model.specs.Names.{MatchesBy, release_place}
-use Rattle.gr_model.specs.Streams.{Streams, event_at, word_at}
-use Rattle.gr_model.specs.Waits.{for_release}
+use Rattle.gr_model.specs.Prelude.{inclusive, is_release, memory_of, IsInclusive, IsIn, MatchesBy, release_place, Streams, event_at, word_at, for_release}
 use Rattle.gr_model.proofs.Places.{places_from-there}
 use Rattle.gr_model.proofs.Cuts.{same_event}
 use Rattle.gr_steps.specs.Steps.{IsReady}

@@ -7,11 +7,7 @@ use Rattle.gr_model.specs.declared.event.ItemId.{ItemId}
 use Rattle.gr_model.specs.declared.event.EventId.{EventId}
 use Rattle.gr_model.specs.declared.event.Event.{Event}
 use Rattle.gr_model.specs.contracts.event.EventIdPartialEq.TheImpl as equality
-use Rattle.gr_model.specs.Access.{is_release, memory_of}
-use Rattle.gr_model.specs.Counts.{Sees}
-use Rattle.gr_model.specs.LawfulOrders.{IsIn, IsLawful}
-use Rattle.gr_model.specs.Shapes.{HasItem}
-use Rattle.gr_model.specs.Streams.{Streams, ArePrefixes, event_at, word_at}
+use Rattle.gr_model.specs.Prelude.{is_release, memory_of, Sees, IsIn, IsLawful, HasItem, Streams, ArePrefixes, event_at, word_at}
 use Rattle.gr_lanes.specs.Takes.{with_record}
 use Rattle.gr_order.specs.Sequences.{Sequence}
 use Rattle.gr_steps.specs.Steps.{IsReady}

@@ -4,11 +4,7 @@ use Rattle.std.specs.Prelude.{◌≡◌, ◌≢◌, ◌↔◌, ◌<◌, All, Lis
 use Rattle.gr_model.specs.declared.event.EventId.{EventId}
 use Rattle.gr_model.specs.declared.event.Name.{Name}
 use Rattle.gr_model.specs.declared.event.Space.{Space}
-use Rattle.gr_model.specs.Access.{memory_of}
-use Rattle.gr_model.specs.Counts.{Sees}
-use Rattle.gr_model.specs.HappensBefore.{IsInclusive}
-use Rattle.gr_model.specs.Names.{MatchesBy}
-use Rattle.gr_model.specs.Streams.{Streams, word_at}
+use Rattle.gr_model.specs.Prelude.{memory_of, Sees, IsInclusive, MatchesBy, Streams, word_at}
 use Rattle.gr_clocks.specs.Counts.{greatest_count}
 use Rattle.gr_clocks.specs.ItemClocks.{ReleaseClock, clocks_left}
 use Rattle.gr_closure.specs.Accesses.{CountsJust}

@@ -3,10 +3,7 @@
 ghost use Rattle.std.specs.Prelude.{◌≡◌, ◌≢◌, ◌<◌, ◌++◌, ◌∷◌, [], Some, IfOk, OnErr, OnOk, IsTrue, length};
 ghost use Rattle.gr_model.specs.declared.event.EventId.{EventId as AnyEvent};
 ghost use Rattle.gr_model.specs.Access as model;
-ghost use Rattle.gr_model.specs.Barriers.{IsConvergent};
-ghost use Rattle.gr_model.specs.Instances.{Mark};
-ghost use Rattle.gr_model.specs.Streams.{event_at, word_at};
-ghost use Rattle.gr_model.specs.Counts.{Sees};
+ghost use Rattle.gr_model.specs.Prelude.{IsConvergent, Mark, event_at, word_at, Sees};
 ghost use Rattle.gr_steps.specs.Steps.{HasMet};
 ghost use Rattle.gr_clocks.specs.ItemClocks.{AddsGroup, IsGroupSpent, MeetsClocks};
 ghost use Rattle.gr_closure.specs.Accesses.{CountsJust, IsAccess, IsAccessOf};

@@ -5,9 +5,8 @@
 
 ghost use Rattle.std.specs.Prelude.{[], ◌≡◌, ◌↔◌, ◌+◌, ◌<◌, ℕ, IsTrue, IfOk, IfErr, IfNone, IfSome, OnOk, OnErr, MatchOption, length};
 ghost use Rattle.gr_model.specs.declared.limits.TheConstants.{MOST_RECORDS};
-ghost use Rattle.gr_model.specs.Groups.{CanAdd};
-ghost use Rattle.gr_model.specs.Streams.{AreComplete, list_of};
-ghost use Rattle.gr_model.specs.Reports.{Lists, DivergenceBelow, IsDivergence, IsCut, IsHeld, IsUnmatchedEntry, UnmatchedBelow};
+ghost use Rattle.gr_model.specs.Prelude.{CanAdd, AreComplete, list_of, Lists, DivergenceBelow, IsDivergence, IsCut, IsHeld};
+ghost use Rattle.gr_model.specs.Prelude.{IsUnmatchedEntry, UnmatchedBelow};
 ghost use Rattle.gr_lanes.specs.Takes.{CanTake, IsEventButItem, IsTakeFault, next_of, with_record};
 ghost use Rattle.gr_steps.specs.Steps.{CanMeet, IsAtRest, IsReady};
 ghost use Rattle.gr_order.specs.Sequences.{CanStep, IsDone, IsSequence, event_count, nothing, taking, with_group};

@@ -2,8 +2,7 @@
 
 ghost use Rattle.std.specs.Prelude.{◌≡◌, ◌<◌, ◌++◌, ◌∷◌, [], Some, MatchOption, Contains, map, length};
 ghost use Rattle.gr_model.specs.declared.limits.TheConstants.{MOST_NAMES};
-ghost use Rattle.gr_model.specs.Names.{release_place};
-ghost use Rattle.gr_model.specs.Streams.{event_at};
+ghost use Rattle.gr_model.specs.Prelude.{release_place, event_at};
 ghost use Rattle.gr_steps.specs.Steps.{IsReady};
 ghost use Rattle.gr_sequencer.specs.Known.{AreSnapshots};
 ghost use Rattle.gr_sequencer.specs.Sources.{AreSources, IsSource, LearnsNothing, sources_in};

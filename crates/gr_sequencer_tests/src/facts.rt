@@ -1,7 +1,7 @@
 //! Facts that follow from the contracts alone, and that a wrong body would break. Each returns whether it was reached.
 
 ghost use Rattle.std.specs.Prelude.{IfOk, OnOk, length, map};
-ghost use Rattle.gr_model.specs.Shapes.{HasItem};
+ghost use Rattle.gr_model.specs.Prelude.{HasItem};
 ghost use Rattle.gr_lanes.specs.Remembered.{IsWhole};
 
 use crate::calls::{is_lawful, shape_of, take};

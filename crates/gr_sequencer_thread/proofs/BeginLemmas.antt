@@ -1,11 +1,8 @@
 -- Where the sequencer's thread begins.
-use Rattle.std.proofs.Common.{◌≡◌, ℕ, ◌%◌, List, [], length, get_or, false, sym, ap, ◌∙◌, arith, mod-lt, All}
+use Rattle.gr_model.proofs.Common.{◌≡◌, ℕ, ◌%◌, List, [], length, get_or, false, sym, ap, ◌∙◌, arith, mod-lt, All, get_or-map, All-map}
 use Rattle.std.proofs.Math.ListN.{get_or-map as get_or-map_all}
-use Rattle.std.proofs.lemmas.List.{get_or-map}
-use Rattle.std.proofs.lemmas.List.Elements.{All-map}
 use Rattle.gr_model.specs.declared.event.Event.{Event}
-use Rattle.gr_model.specs.Configs.{IsConfig, Settings}
-use Rattle.gr_model.specs.Streams.{events_of, list_of, size_of}
+use Rattle.gr_model.specs.Prelude.{IsConfig, Settings, events_of, list_of, size_of}
 use Rattle.gr_model.proofs.StreamPrefixes.{prefix_nil}
 use Rattle.gr_clocks.specs.ClockedAccess.{ClockedAccess}
 use Rattle.gr_closure.specs.AccessesAlong.{of_none}

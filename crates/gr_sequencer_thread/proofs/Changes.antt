@@ -1,8 +1,5 @@
 -- What is so of each item of a list, where one item changed.
-use Rattle.std.proofs.Common.{◌≡◌, ◌∙◌, ℕ, ◌<◌, List, [], ap, length, get_or, map, sym, ⊎_elim, All}
-use Rattle.std.proofs.Math.ListN.{get_or-eq_default}
-use Rattle.std.proofs.lemmas.Bool.{cases_lt}
-use Rattle.std.proofs.lemmas.List.{length-map}
+use Rattle.gr_model.proofs.Common.{◌≡◌, ◌∙◌, ℕ, ◌<◌, List, [], ap, length, get_or, map, sym, ⊎_elim, All, get_or-eq_default, cases_lt, length-map}
 
 pub none_at : {X : Type 0} (ls : List (List X)) → All (λ l. l ≡ []) ls → (k : ℕ) → get_or ls k [] ≡ []
 none_at ls none k = ⊎_elim (λ (below : k < length ls). none k [] below) (λ above. get_or-eq_default ls [] above) (cases_lt k (length ls))

@@ -1,18 +1,14 @@
 -- What the workers were given, and what is on its way to them, after a step.
-use Rattle.std.proofs.Common.{◌≡◌, ◌==◌, ℕ, ◌<◌, List, [], ◌∷◌, ◌++◌, length, get_or, set, get_or-set_other, sym, ap, ◌∙◌, arith, append_assoc, append-nil, IsFalse, mod-lt, All}
-use Rattle.std.proofs.lemmas.List.{get_or-map, get_or_default, length-map, length-set, map-set}
-use Rattle.std.proofs.lemmas.List.Elements.{filter-append}
+use Rattle.gr_model.proofs.Common.{◌≡◌, ◌==◌, ℕ, ◌<◌, List, [], ◌∷◌, ◌++◌, length, get_or, set, get_or-set_other, sym, ap, ◌∙◌, arith, append_assoc, append-nil, IsFalse, mod-lt, All, get_or-map, get_or_default, length-map, length-set, map-set, filter-append, nat_tests, get_or-set_at}
 use Rattle.gr_model.specs.declared.event.Word.{Word}
 use Rattle.gr_model.specs.declared.event.Word.TheVariants.{Global, Local}
-use Rattle.gr_model.specs.Configs.{worker_number}
+use Rattle.gr_model.specs.Prelude.{worker_number}
 use Rattle.gr_clocks.specs.ClockedAccess.{ClockedAccess}
 use Rattle.gr_route.specs.declared.work.Work.{Work}
 use Rattle.gr_route.specs.WorkRule.{is_stopped}
 use Rattle.gr_route.specs.WorkSeats.{Giver}
 use Rattle.gr_threads.specs.Given.{accesses_in}
 use Rattle.gr_threads.proofs.Givens.{more_given}
-use Rattle.std.proofs.lemmas.Bool.Decides.{nat_tests}
-use Rattle.std.proofs.lemmas.Grind.{get_or-set_at}
 use Rattle.gr_clocks.proofs.RowLemmas.{each_set}
 use Rattle.gr_sequencer_thread.proofs.Changes.{none_at}
 use Rattle.gr_sequencer_thread.specs.Feeds.{AreOpen, AreSplit, accesses_for, accesses_on_way, given_of, towards}

@@ -1,11 +1,7 @@
 -- What was popped may come, and in the end all that was popped was taken.
-use Rattle.std.proofs.Common.{◌≡◌, ◌≢◌, ◌==◌, Bool, false, ℕ, ◌<◌, ◌%◌, List, [], ◌∷◌, ◌++◌, length, get_or, set, cond, get_or-set_other, refl, sym, ap, ◌∙◌, subst, ⊎_elim, arith, append_assoc, append-nil, length-append, All}
-use Rattle.std.proofs.Math.ListN.{get_or-eq_default}
-use Rattle.std.proofs.lemmas.Bool.{cases_eq}
-use Rattle.std.proofs.lemmas.List.{get_or-map, get_or_default, length-map, length-set}
+use Rattle.gr_model.proofs.Common.{◌≡◌, ◌≢◌, ◌==◌, Bool, false, ℕ, ◌<◌, ◌%◌, List, [], ◌∷◌, ◌++◌, length, get_or, set, cond, get_or-set_other, refl, sym, ap, ◌∙◌, subst, ⊎_elim, arith, append_assoc, append-nil, length-append, All, get_or-eq_default, cases_eq, get_or-map, get_or_default, length-map, length-set, nat_tests, get_or-set_at}
 use Rattle.gr_model.specs.declared.event.Event.{Event}
-use Rattle.gr_model.specs.Configs.{Settings}
-use Rattle.gr_model.specs.Streams.{IsPrefix, Streams, events_of, list_of, size_of}
+use Rattle.gr_model.specs.Prelude.{Settings, IsPrefix, Streams, events_of, list_of, size_of}
 use Rattle.gr_model.proofs.Sending.{events_append}
 use Rattle.gr_clocks.specs.ClockedAccess.{ClockedAccess}
 use Rattle.gr_order.specs.Sequences.{Sequence}
@@ -14,8 +10,6 @@ use Rattle.gr_route.specs.IntakeSeats.{IsDelivery, Taker, popped_of}
 use Rattle.gr_route.proofs.BatchLemmas.{sent_else, sent_here}
 use Rattle.gr_taking.specs.Sources.{ListedRecords, MayCome, come_of}
 use Rattle.gr_sequencer_thread.specs.Feeds.{ArePopped, AreSeated, AreTaken, Feed, IsFeed, IsGood, come_in}
-use Rattle.std.proofs.lemmas.Bool.Decides.{nat_tests}
-use Rattle.std.proofs.lemmas.Grind.{get_or-set_at}
 use Rattle.gr_clocks.proofs.RowLemmas.{each_set}
 
 -- the seat after events of a group were popped

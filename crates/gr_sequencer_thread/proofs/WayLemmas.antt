@@ -1,6 +1,5 @@
 -- The work on its way to a worker.
-use Rattle.std.proofs.Common.{◌≡◌, true≢false, List, [], ◌∷◌, ◌++◌, ◌||◌, Option, None, Some, sym, ap, ◌∙◌, append_assoc, append-nil, IsFalse}
-use Rattle.std.proofs.lemmas.Bool.{or_from, or_parts}
+use Rattle.gr_model.proofs.Common.{◌≡◌, true≢false, List, [], ◌∷◌, ◌++◌, ◌||◌, Option, None, Some, sym, ap, ◌∙◌, append_assoc, append-nil, IsFalse, or_from, or_parts}
 use Rattle.gr_route.specs.declared.work.Work.{Work}
 use Rattle.gr_route.specs.WorkRule.{StopsLast, is_stopped}
 use Rattle.gr_route.proofs.BatchLemmas.{all_of_push}

@@ -2,8 +2,7 @@
 -- Source: docs/QUEUES.md, "The work queue", and docs/MODEL.md, "The world".
 use Rattle.std.specs.Prelude.{◌≡◌, ℕ, List, length, Option, IfSome}
 use Rattle.atomic_table.specs.Seated.{TableId}
-use Rattle.gr_model.specs.Configs.{IsConfig, Settings}
-use Rattle.gr_model.specs.Reports.{IsReportButRaces, WholeReport}
+use Rattle.gr_model.specs.Prelude.{IsConfig, Settings, IsReportButRaces, WholeReport}
 use Rattle.gr_order.specs.Sequences.{Sequence}
 use Rattle.gr_route.specs.IntakeSeats.{Taker}
 use Rattle.gr_route.specs.WorkSeats.{Giver}

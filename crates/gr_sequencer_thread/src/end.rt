@@ -3,7 +3,7 @@
 ghost use Rattle.std.specs.Prelude.{◌≡◌, false, length, IfOk, IfSome, OnSome};
 ghost use Rattle.std.specs.List.{sum_by};
 ghost use Rattle.std.specs.Option.{option_map};
-ghost use Rattle.gr_model.specs.Reports.{IsReportButRaces};
+ghost use Rattle.gr_model.specs.Prelude.{IsReportButRaces};
 ghost use Rattle.gr_steps.specs.Steps.{IsAtRest};
 ghost use Rattle.gr_report.specs.Whole.{whole_of};
 ghost use Rattle.gr_sequencer_thread.specs.Ends as spec;

@@ -2,7 +2,7 @@
 
 ghost use Rattle.std.specs.Prelude.{◌≡◌, ◌<◌, ◌≤◌, ◌++◌, ◌∷◌, [], IfNone, IfOk, IfSome, IsTrue, OnErr, OnOk, slice_index, slice_set};
 ghost use Rattle.std.specs.Arc.{arc_value};
-ghost use Rattle.gr_model.specs.Streams.{is_complete};
+ghost use Rattle.gr_model.specs.Prelude.{is_complete};
 ghost use Rattle.gr_route.specs.Batches.{sent_by};
 ghost use Rattle.gr_route.specs.IntakeRule.{no_sizes};
 ghost use Rattle.gr_route.specs.IntakeSeats.{IsDelivery, popped_of};

@@ -1,6 +1,6 @@
 -- The hits of a list with one more access.
-use Rattle.std.proofs.Common.{◌⊎◌, ◌↔◌, List, [], ◌∷◌, ◌++◌, arith}
-use Rattle.gr_model.specs.Hits.{SomePair}
+use Rattle.gr_model.proofs.Common.{◌⊎◌, ◌↔◌, List, [], ◌∷◌, ◌++◌, arith}
+use Rattle.gr_model.specs.Prelude.{SomePair}
 use Rattle.gr_model.proofs.Pairs.{SomeOf, PairIn, SomePair-from_in, PairIn-from_some}
 
 SomeOf-push : {X : Type 0} (P : X → Type 0) (xs : List X) (y : X) → SomeOf P (xs ++ y ∷ []) ↔ (SomeOf P xs ⊎ P y)

@@ -1,17 +1,10 @@
 -- Shadows of a launch, memory by memory.
-use Rattle.std.proofs.Common.{◌≡◌, ◌≢◌, ◌⊎◌, ◌↔◌, inl, inr, ℕ, ◌+◌, ◌<◌, Bool, true, false, List, [], ◌∷◌, ◌++◌, filter, length, get_or, slice_set, slice_get, Option, Result, IfOk, Some, None, refl, sym, ◌∙◌, ap, subst, arith, ⊎_elim, true≢false}
-use Rattle.std.specs.List.{list_any}
-use Rattle.std.proofs.lemmas.Bool.{cases_lt, eq-eqb}
-use Rattle.std.proofs.lemmas.Bool.Decides.{nat_tests}
-use Rattle.std.proofs.lemmas.Grind.{get_or-set_at}
-use Rattle.std.proofs.lemmas.Result.{IfOk-weaker}
-use Rattle.std.proofs.lemmas.List.{get_or_append_left, get_or_push, get_or-set_other, length_push, length-set}
-use Rattle.std.proofs.lemmas.Option.{gets, slice_get-get_or, slice_get_past, slice_get_within}
+use Rattle.gr_model.proofs.Common.{◌≡◌, ◌≢◌, ◌⊎◌, ◌↔◌, inl, inr, ℕ, ◌+◌, ◌<◌, Bool, true, false, List, [], ◌∷◌, ◌++◌, filter, length, get_or, slice_set, slice_get, Option, Result, IfOk, Some, None, refl, sym, ◌∙◌, ap, subst, arith, ⊎_elim, true≢false, list_any, cases_lt, eq-eqb, nat_tests, get_or-set_at, IfOk-weaker, get_or_append_left, get_or_push, get_or-set_other, length_push, length-set, gets, slice_get-get_or, slice_get_past, slice_get_within}
 use Rattle.indexmap.proofs.SetLemmas.{filter_keep, filter_skip}
 use Rattle.gr_model.specs.declared.event.Word.{Word}
 use Rattle.gr_model.specs.declared.event.Word.TheVariants.{Global, Local}
 use Rattle.gr_model.specs.declared.memory.Memory.{Memory}
-use Rattle.gr_model.specs.Hits.{SomePair}
+use Rattle.gr_model.specs.Prelude.{SomePair}
 use Rattle.gr_model.proofs.HitLaws.{IsHit-filter}
 use Rattle.gr_model.proofs.Pairs.{PairIn, PairIn-from_some, SomeOf, SomePair-from_in}
 use Rattle.gr_shadow.specs.Clashes.{ClockedAccess, IsHitIn, clashes}

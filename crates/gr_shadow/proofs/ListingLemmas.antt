@@ -1,9 +1,8 @@
 -- The clashes of the words that are hit.
-use Rattle.std.proofs.Common.{◌≡◌, List, [], ◌∷◌, Option, Some, All, Contains, map, refl}
+use Rattle.gr_model.proofs.Common.{◌≡◌, List, [], ◌∷◌, Option, Some, All, Contains, map, refl, All-cons, All-nil}
 use Rattle.std.specs.List.{filter_map}
-use Rattle.std.proofs.lemmas.List.Elements.{All-cons, All-nil}
 use Rattle.gr_model.specs.declared.event.Word.{Word}
-use Rattle.gr_model.specs.Reports.{Lists, WordBelow}
+use Rattle.gr_model.specs.Prelude.{Lists, WordBelow}
 use Rattle.gr_clocks.specs.ClockedAccess.{ClockedAccess}
 use Rattle.gr_shadow.specs.declared.clash.Clash.{Clash}
 use Rattle.gr_shadow.specs.Clashes.{IsClashIn, IsHitIn}

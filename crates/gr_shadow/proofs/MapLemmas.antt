@@ -1,8 +1,6 @@
 -- A map of shadows as what is kept of each word.
-use Rattle.std.proofs.Common.{◌≡◌, ◌↔◌, true, IsTrue, List, [], ◌∷◌, cond, Some, Contains, refl, ◌∙◌, arith}
+use Rattle.gr_model.proofs.Common.{◌≡◌, ◌↔◌, true, IsTrue, List, [], ◌∷◌, cond, Some, Contains, refl, ◌∙◌, arith, IsDistinct, get_or_from_slice_get, slice_get_within}
 use Rattle.std.specs.Map.{lookup, keys_of}
-use Rattle.std.specs.List.{IsDistinct}
-use Rattle.std.proofs.lemmas.Option.{get_or_from_slice_get, slice_get_within}
 use Rattle.std.proofs.lemmas.Map.{lookup-none}
 use Rattle.std.proofs.lemmas.Map.Entries.{none_past_head}
 use Rattle.std.proofs.lemmas.Map.Keys.{IsDistinct-tail}

@@ -1,13 +1,10 @@
 -- What shadows say of the accesses that they represent.
-use Rattle.std.proofs.Common.{◌≡◌, ◌⊎◌, ◌↔◌, inl, inr, Bool, true, false, ◌&&◌, ◌||◌, IsTrue, List, [], ◌∷◌, ◌++◌, map, cond, Option, Some, None, refl, sym, ◌∙◌, ap, arith}
-use Rattle.std.proofs.lemmas.Bool.{and_from, and_parts, or_parts}
-use Rattle.std.proofs.lemmas.Bool.Decides.{Decides-or}
-use Rattle.std.specs.List.{find, list_any}
-use Rattle.std.proofs.lemmas.List.{map_push}
+use Rattle.gr_model.proofs.Common.{◌≡◌, ◌⊎◌, ◌↔◌, inl, inr, Bool, true, false, ◌&&◌, ◌||◌, IsTrue, List, [], ◌∷◌, ◌++◌, map, cond, Option, Some, None, refl, sym, ◌∙◌, ap, arith, and_from, and_parts, or_parts, Decides-or, list_any, map_push}
+use Rattle.std.specs.List.{find}
 use Rattle.indexmap.proofs.SetLemmas.{filter_keep, filter_skip}
 use Rattle.gr_model.specs.declared.event.Word.{Word}
 use Rattle.gr_model.specs.contracts.event.WordEq.TheImpl.Laws as equal
-use Rattle.gr_model.specs.Hits.{ClashesAt}
+use Rattle.gr_model.specs.Prelude.{ClashesAt}
 use Rattle.gr_model.proofs.Pairs.{SomeOf, SomeOf-at, SomeOf-place}
 use Rattle.gr_model.proofs.WordLemmas.{same_from_equal}
 use Rattle.gr_clocks.specs.ClockedAccess.{ClockedAccess}

@@ -4,9 +4,8 @@ use Rattle.std.specs.Prelude.{◌≡◌, ℕ, Bool, ◌&&◌, not, nat_lt, List}
 use Rattle.gr_model.specs.declared.event.EventId.{EventId}
 use Rattle.gr_model.specs.declared.event.ItemId.{ItemId}
 use Rattle.gr_model.specs.declared.event.Word.{Word}
-use Rattle.gr_model.specs.Hits.{ClashesAt, IsHit, SomePair}
+use Rattle.gr_model.specs.Prelude.{ClashesAt, IsHit, SomePair, exempt}
 use Rattle.gr_model.specs.declared.class.Class.{Class}
-use Rattle.gr_model.specs.Classes.{exempt}
 use Rattle.gr_clocks.specs.Rows.{same_item}
 use Rattle.gr_clocks.specs.Counts.{count_of}
 pub use Rattle.gr_clocks.specs.ClockedAccess.{ClockedAccess, clocked}

@@ -6,7 +6,7 @@
 ghost use Rattle.std.specs.Prelude.{◌≡◌, ◌<◌, ◌++◌, ◌∷◌, [], ℕ, ◌↔◌, ◌⊎◌, true, All, Contains, IfOk, IsFalse, List, OnErr, OnOk, Some, length, map, slice_get};
 ghost use Rattle.std.specs.List.{filter_map};
 ghost use Rattle.gr_model.specs.declared.event.Word.{Word as AnyWord};
-ghost use Rattle.gr_model.specs.Reports.{Lists, WordBelow};
+ghost use Rattle.gr_model.specs.Prelude.{Lists, WordBelow};
 ghost use Rattle.gr_clocks.specs.ClockedAccess.{ClockedAccess, clocked};
 ghost use Rattle.gr_shadow.specs.Clashes.{IsClashIn, IsHitIn};
 ghost use Rattle.gr_shadow.specs.Launches.{StandsForLaunch, StandsForLocal, is_local_of, launch_clash_at, local_clash_at};

@@ -1,7 +1,7 @@
 //! The union of two lists of words.
 
 ghost use Rattle.std.specs.Prelude.{◌⊎◌, IfOk, Contains};
-ghost use Rattle.gr_model.specs.Reports.{Lists, WordBelow};
+ghost use Rattle.gr_model.specs.Prelude.{Lists, WordBelow};
 
 use gr_model::event::Word;
 use gr_model::memory::Memory;

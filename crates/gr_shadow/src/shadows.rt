@@ -8,7 +8,7 @@ ghost use Rattle.std.specs.Prelude.{◌≡◌, ◌↔◌, IfOk, OnOk, OnErr, Lis
 ghost use Rattle.std.specs.List.{IsDistinct, list_any};
 ghost use Rattle.std.specs.Map.{keys_of};
 ghost use Rattle.gr_model.specs.declared.event.Word.{Word as AnyWord};
-ghost use Rattle.gr_model.specs.Reports.{Lists, WordBelow};
+ghost use Rattle.gr_model.specs.Prelude.{Lists, WordBelow};
 ghost use Rattle.gr_clocks.specs.ClockedAccess.{ClockedAccess, clocked};
 ghost use Rattle.gr_shadow.specs.Clashes.{IsHitIn};
 ghost use Rattle.gr_shadow.specs.Kept.{shadow_at, same_word, is_first_hit, IsAfter, answered_words, clash_at};

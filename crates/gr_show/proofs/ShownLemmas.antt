@@ -1,8 +1,7 @@
 -- Whether a word is racy, by its least racing pair.
-use Rattle.std.proofs.Common.{◌↔◌, IsTrue, Option, None, Some, is_some, refl, sym, true≢false}
+use Rattle.gr_model.proofs.Common.{◌↔◌, IsTrue, Option, None, Some, is_some, refl, sym, true≢false}
 use Rattle.gr_model.specs.declared.event.Word.{Word}
-use Rattle.gr_model.specs.RacePairs.{Pair}
-use Rattle.gr_model.specs.Streams.{Streams}
+use Rattle.gr_model.specs.Prelude.{Pair, Streams}
 use Rattle.gr_timeline.specs.Racy.{IsRacyIn}
 use Rattle.gr_show.specs.Shown.{IsExplanation}
 

@@ -1,5 +1,5 @@
 -- Faults of reading streams are faults of an answer about them.
-use Rattle.std.proofs.Common.{ℕ, List, Option, None, Some, inl, inr, refl, IfSome}
+use Rattle.gr_model.proofs.Common.{ℕ, List, Option, None, Some, inl, inr, refl, IfSome}
 use Rattle.gr_record.specs.declared.fault.Fault.{Fault}
 use Rattle.gr_record.specs.declared.fault.Fault.TheVariants.{Write}
 use Rattle.gr_replay.specs.Each.{IsEachFault}

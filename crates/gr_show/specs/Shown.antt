@@ -3,12 +3,8 @@
 use Rattle.std.specs.Prelude.{◌≡◌, ◌↔◌, ℕ, Bool, IsTrue, List, Option, MatchOption, map}
 use Rattle.gr_model.specs.declared.event.EventId.{EventId}
 use Rattle.gr_model.specs.declared.event.Word.{Word}
-use Rattle.gr_model.specs.Races.{IsRacy}
-use Rattle.gr_model.specs.Streams.{Streams}
-use Rattle.gr_model.specs.Waits.{IsGrounded}
+use Rattle.gr_model.specs.Prelude.{IsRacy, Streams, IsGrounded, Pair, IsReportOf, WholeReport}
 use Rattle.gr_explain.specs.LeastRaces.{IsLeastRace}
-use Rattle.gr_model.specs.RacePairs.{Pair}
-use Rattle.gr_model.specs.Reports.{IsReportOf, WholeReport}
 use Rattle.gr_report.specs.Whole.{whole_of}
 use Rattle.gr_places.specs.SideLines.{place_number}
 use Rattle.gr_places.specs.Sides.{SidesSaid}

@@ -1,7 +1,7 @@
 -- Answers about a launch, and their text as it is written.
 use Rattle.std.specs.Prelude.{◌↔◌, ℕ, Bool, List, Option, IfSome, IsTrue}
 use Rattle.std.specs.Io.KnownBytes.{Appends}
-use Rattle.gr_model.specs.Streams.{AreAccepted, Streams}
+use Rattle.gr_model.specs.Prelude.{AreAccepted, Streams}
 use Rattle.gr_replay.specs.Each.{ReadsEach}
 use Rattle.gr_report.specs.Putting.{AppendsPrefix}
 

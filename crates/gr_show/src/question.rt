@@ -1,7 +1,7 @@
 //! What a question about a launch is.
 
 ghost use Rattle.std.specs.Prelude.{◌↔◌, ℕ, IfOk, IsTrue, List};
-ghost use Rattle.gr_model.specs.Streams.{Streams};
+ghost use Rattle.gr_model.specs.Prelude.{Streams};
 ghost use Rattle.gr_places.specs.Sides.{SidesSaid, sides_said};
 
 use gr_model::memory::Memory;

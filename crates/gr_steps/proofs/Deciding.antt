@@ -1,8 +1,8 @@
 -- What can be decided of numbers, words, marks and events, of all numbers below a bound, and of all elements of a list.
-use Rattle.std.proofs.Common.{◌≡◌, ◌⊎◌, ℕ, zero, suc, ◌<◌, List, [], ◌∷◌, Contains, Option, Some, refl, inl, inr, ⊎_elim, arith}
+use Rattle.gr_model.proofs.Common.{◌≡◌, ◌⊎◌, ℕ, zero, suc, ◌<◌, List, [], ◌∷◌, Contains, Option, Some, refl, inl, inr, ⊎_elim, arith}
 use Rattle.gr_model.specs.declared.event.EventId.{EventId}
 use Rattle.gr_model.specs.declared.event.Word.{Word}
-use Rattle.gr_model.specs.LawfulOrders.{IsIn}
+use Rattle.gr_model.specs.Prelude.{IsIn}
 use Rattle.gr_steps.proofs.Orders.{in_cases, in_either}
 
 pub dec_map : {P Q : Type 0} → (P → Q) → (Q → P) → Dec P → Dec Q

@@ -1,9 +1,7 @@
 -- A lawful order stays lawful where an event that is ready comes after it.
-use Rattle.std.proofs.Common.{◌≡◌, ℕ, List, [], ◌∷◌, ◌++◌, sym, subst, inr, arith}
+use Rattle.gr_model.proofs.Common.{◌≡◌, ℕ, List, [], ◌∷◌, ◌++◌, sym, subst, inr, arith}
 use Rattle.gr_model.specs.declared.event.EventId.{EventId}
-use Rattle.gr_model.specs.LawfulOrders.{IsAt, IsLawful}
-use Rattle.gr_model.specs.Streams.{IsEvent, Streams}
-use Rattle.gr_model.specs.Waits.{IsSettled, Waits}
+use Rattle.gr_model.specs.Prelude.{IsAt, IsLawful, IsEvent, Streams, IsSettled, Waits}
 use Rattle.gr_model.proofs.GrowthLaws.{not_both}
 use Rattle.gr_steps.specs.Steps.{IsReady}
 use Rattle.gr_steps.proofs.Orders.{lawful_longer}

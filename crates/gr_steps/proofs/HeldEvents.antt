@@ -1,15 +1,8 @@
 -- How many events are held where no step is left.
-use Rattle.std.proofs.Common.{ℕ, zero, suc, ◌-◌, ◌<◌, ◌≤◌, List, length, arith, refl}
-use Rattle.std.specs.List.{sum_by}
-use Rattle.std.proofs.lemmas.Option.{slice_get_within}
+use Rattle.gr_model.proofs.Common.{ℕ, zero, suc, ◌-◌, ◌<◌, ◌≤◌, List, length, arith, refl, sum_by, slice_get_within}
 use Rattle.gr_model.specs.declared.event.EventId.{EventId}
 use Rattle.gr_model.specs.declared.event.ItemId.{ItemId}
-use Rattle.gr_model.specs.Counts.{IsNumberOf}
-use Rattle.gr_model.specs.LawfulOrders.{IsLawful}
-use Rattle.gr_model.specs.Reports.{IsHeld}
-use Rattle.gr_model.specs.Shapes.{items_of}
-use Rattle.gr_model.specs.Streams.{Streams, trace_of}
-use Rattle.gr_model.specs.Waits.{IsGrounded}
+use Rattle.gr_model.specs.Prelude.{IsNumberOf, IsLawful, IsHeld, items_of, Streams, trace_of, IsGrounded}
 use Rattle.gr_steps.specs.Steps.{AreFirst, AreGrounded}
 
 -- what holds from c on, and not before it, holds below a bound as often as c is below it

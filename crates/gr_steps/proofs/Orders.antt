@@ -1,14 +1,8 @@
 -- Places in an order and in a longer one, and what a lawful order has.
-use Rattle.std.proofs.Common.{◌≡◌, ◌⊎◌, ℕ, suc, ◌+◌, ◌-◌, ◌<◌, List, [], ◌∷◌, ◌++◌, length, Some, slice_get, refl, sym, ap, inl, inr, arith, ◌≤◌, ⊎_elim}
-use Rattle.std.proofs.lemmas.Grind.{common_steps}
-use Rattle.std.proofs.lemmas.Option.{gets, slice_get_cases, slice_get_within}
+use Rattle.gr_model.proofs.Common.{◌≡◌, ◌⊎◌, ℕ, suc, ◌+◌, ◌-◌, ◌<◌, List, [], ◌∷◌, ◌++◌, length, Some, slice_get, refl, sym, ap, inl, inr, arith, ◌≤◌, ⊎_elim, common_steps, gets, slice_get_cases, slice_get_within}
 use Rattle.gr_model.specs.declared.event.EventId.{EventId}
-use Rattle.gr_model.specs.Barriers.{Together}
-use Rattle.gr_model.specs.Instances.{Mark}
-use Rattle.gr_model.specs.LawfulOrders.{IsAt, IsIn, IsLawful}
-use Rattle.gr_model.specs.Streams.{IsEvent, Streams}
+use Rattle.gr_model.specs.Prelude.{Together, Mark, IsAt, IsIn, IsLawful, IsEvent, Streams, IsPrevious, IsSettled, Waits}
 use Rattle.gr_model.proofs.Descent.{below_in_item, lawful_descends}
-use Rattle.gr_model.specs.Waits.{IsPrevious, IsSettled, Waits}
 use Rattle.gr_model.proofs.Places.{slice_get-append}
 use Rattle.gr_model.proofs.Cuts.{same_event}
 

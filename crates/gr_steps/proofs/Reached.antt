@@ -1,17 +1,9 @@
 -- In complete lists the grounded events are those of a list that can be found, so each event is grounded or is not.
-use Rattle.std.proofs.Common.{Option, ◌≡◌, ◌⊎◌, ℕ, zero, suc, ◌+◌, ◌<◌, ◌≤◌, List, [], ◌∷◌, length, Some, None, slice_get, map, refl, sym, ap, subst, inl, inr, ⊎_elim, arith}
-use Rattle.std.specs.List.{flat_map, range_with_len}
-use Rattle.std.proofs.lemmas.List.FromFn.{get_or-range_with_len, length-range_with_len}
-use Rattle.std.proofs.lemmas.Bool.{and_parts}
-use Rattle.std.proofs.lemmas.Bool.Decides.{nat_tests}
-use Rattle.std.proofs.lemmas.Option.{slice_get-map, slice_get-get_or, slice_get_within, gets}
-use Rattle.std.proofs.lemmas.Grind.{common_steps}
+use Rattle.gr_model.proofs.Common.{Option, ◌≡◌, ◌⊎◌, ℕ, zero, suc, ◌+◌, ◌<◌, ◌≤◌, List, [], ◌∷◌, length, Some, None, slice_get, map, refl, sym, ap, subst, inl, inr, ⊎_elim, arith, range_with_len, get_or-range_with_len, length-range_with_len, and_parts, nat_tests, slice_get-map, slice_get-get_or, slice_get_within, gets, common_steps}
+use Rattle.std.specs.List.{flat_map}
 use Rattle.gr_model.specs.declared.event.Event.{Event}
 use Rattle.gr_model.specs.declared.event.EventId.{EventId}
-use Rattle.gr_model.specs.LawfulOrders.{IsIn}
-use Rattle.gr_model.specs.Names.{HasItsReleases}
-use Rattle.gr_model.specs.Streams.{AreComplete, IsEvent, Streams, event_at, is_of, list_of, trace_of}
-use Rattle.gr_model.specs.Waits.{IsSettled, IsGrounded, Stage, Waits}
+use Rattle.gr_model.specs.Prelude.{IsIn, HasItsReleases, AreComplete, IsEvent, Streams, event_at, is_of, list_of, trace_of, IsSettled, IsGrounded, Stage, Waits}
 use Rattle.gr_model.proofs.Descent.{stage_up}
 use Rattle.gr_model.proofs.Places.{slice_get-append}
 use Rattle.gr_steps.proofs.DecidedWaits.{settled, waits_dec}

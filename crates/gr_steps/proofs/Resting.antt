@@ -1,11 +1,7 @@
 -- Where no event may be handled and no instance may meet, every grounded event is handled.
-use Rattle.std.proofs.Common.{ℕ, zero, suc, List, refl, ⊎_elim, arith}
+use Rattle.gr_model.proofs.Common.{ℕ, zero, suc, List, refl, ⊎_elim, arith}
 use Rattle.gr_model.specs.declared.event.EventId.{EventId}
-use Rattle.gr_model.specs.Barriers.{Together, IsConvergent, IsDivergent, StandsIn}
-use Rattle.gr_model.specs.Instances.{Mark}
-use Rattle.gr_model.specs.LawfulOrders.{IsIn, IsLawful}
-use Rattle.gr_model.specs.Streams.{IsEvent, Streams}
-use Rattle.gr_model.specs.Waits.{IsSettled, Stage, Waits, for_arrival}
+use Rattle.gr_model.specs.Prelude.{Together, IsConvergent, IsDivergent, StandsIn, Mark, IsIn, IsLawful, IsEvent, Streams, IsSettled, Stage, Waits, for_arrival}
 use Rattle.gr_model.proofs.Descent.{together-swap, lawful_is_grounded}
 use Rattle.gr_steps.specs.Steps.{AreGrounded, IsAtRest}
 use Rattle.gr_steps.proofs.BarrierPlaces.{same_instance, standing}

@@ -1,13 +1,7 @@
 -- A lawful order, and a step after it, stay so where lists that are not complete grow.
-use Rattle.std.proofs.Common.{ℕ, suc, List, [], ◌∷◌, ◌++◌, length, arith}
-use Rattle.std.proofs.lemmas.Grind.{common_steps}
-use Rattle.std.proofs.lemmas.Option.{gets}
+use Rattle.gr_model.proofs.Common.{ℕ, suc, List, [], ◌∷◌, ◌++◌, length, arith, common_steps, gets}
 use Rattle.gr_model.specs.declared.event.EventId.{EventId}
-use Rattle.gr_model.specs.Barriers.{IsConvergent, IsDivergent, StandsIn}
-use Rattle.gr_model.specs.Instances.{Mark}
-use Rattle.gr_model.specs.LawfulOrders.{IsAt, IsIn, IsLawful}
-use Rattle.gr_model.specs.Streams.{Grows, Streams}
-use Rattle.gr_model.specs.Waits.{Stage, Waits}
+use Rattle.gr_model.specs.Prelude.{IsConvergent, IsDivergent, StandsIn, Mark, IsAt, IsIn, IsLawful, Grows, Streams, Stage, Waits}
 use Rattle.gr_model.proofs.Descent.{lawful_stage}
 use Rattle.gr_model.proofs.GrowthLaws.{convergent_grows, divergent_grows, size_of_met, stage_grows, stands_grows, stands_shrinks, together_shrinks, waits_shrink}
 use Rattle.gr_steps.specs.Steps.{AreBarriers, Handles, Meets}

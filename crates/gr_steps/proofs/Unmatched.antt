@@ -1,12 +1,10 @@
 -- An unmatched acquire has a cause, so a report names each.
-use Rattle.std.proofs.Common.{◌≡◌, ◌⊎◌, Some, None, [], inl, inr, ⊎_elim, arith, refl}
+use Rattle.gr_model.proofs.Common.{◌≡◌, ◌⊎◌, Some, None, [], inl, inr, ⊎_elim, arith, refl}
 use Rattle.gr_model.specs.declared.event.EventId.{EventId}
 use Rattle.gr_model.specs.declared.event.Name.{Name}
 use Rattle.gr_model.specs.declared.report.AcquireCause.{AcquireCause}
 use Rattle.gr_model.specs.declared.report.AcquireCause.TheVariants.{Absent, Behind, OtherWord}
-use Rattle.gr_model.specs.Names.{HasAcquireCause, HasName, IsAbsent, IsOfItsWord, IsOfOtherWord, names_at, release_place}
-use Rattle.gr_model.specs.Reports.{IsReportButRaces, IsUnmatchedAcquire, WholeReport}
-use Rattle.gr_model.specs.Streams.{Streams, word_at}
+use Rattle.gr_model.specs.Prelude.{HasAcquireCause, HasName, IsAbsent, IsOfItsWord, IsOfOtherWord, names_at, release_place, IsReportButRaces, IsUnmatchedAcquire, WholeReport, Streams, word_at}
 use Rattle.gr_steps.proofs.Deciding.{all_or_some, by_cases, option_dec, word_dec}
 
 -- one of an event's names has no release, or else one has another word, or else each has the event's word

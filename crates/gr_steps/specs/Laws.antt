@@ -4,12 +4,7 @@ use Rattle.std.specs.List.{sum_by}
 use Rattle.gr_model.specs.declared.event.EventId.{EventId}
 use Rattle.gr_model.specs.declared.event.ItemId.{ItemId}
 use Rattle.gr_model.specs.declared.event.Word.{Word}
-use Rattle.gr_model.specs.Shapes.{items_of}
-use Rattle.gr_model.specs.Streams.{Streams, ArePrefixes, AreComplete, Grows, IsEvent, trace_of}
-use Rattle.gr_model.specs.Waits.{IsGrounded}
-use Rattle.gr_model.specs.LawfulOrders.{IsLawful, IsIn}
-use Rattle.gr_model.specs.Races.{IsRacy}
-use Rattle.gr_model.specs.Reports.{IsHeld, IsUnmatchedAcquire, WholeReport, IsReportButRaces}
+use Rattle.gr_model.specs.Prelude.{items_of, Streams, ArePrefixes, AreComplete, Grows, IsEvent, trace_of, IsGrounded, IsLawful, IsIn, IsRacy, IsHeld, IsUnmatchedAcquire, WholeReport, IsReportButRaces}
 use Rattle.gr_steps.specs.Steps.{IsReady, Handles, Meets, IsAtRest, AreGrounded, AreFirst}
 
 -- an event that may be handled is the next of its item: the handled ones are those before it

@@ -3,12 +3,7 @@
 use Rattle.std.specs.Prelude.{◌≡◌, ◌↔◌, ℕ, ◌<◌, List, [], ◌∷◌, ◌++◌, length, Some, slice_get}
 use Rattle.gr_model.specs.declared.event.EventId.{EventId}
 use Rattle.gr_model.specs.declared.event.ItemId.{ItemId}
-use Rattle.gr_model.specs.Instances.{Mark}
-use Rattle.gr_model.specs.Streams.{Streams, IsEvent, size_of}
-use Rattle.gr_model.specs.Names.{HasItsReleases}
-use Rattle.gr_model.specs.Barriers.{StandsIn, IsConvergent, IsDivergent}
-use Rattle.gr_model.specs.Waits.{Waits, IsPrevious, IsGrounded}
-use Rattle.gr_model.specs.LawfulOrders.{IsIn}
+use Rattle.gr_model.specs.Prelude.{Mark, Streams, IsEvent, size_of, HasItsReleases, StandsIn, IsConvergent, IsDivergent, Waits, IsPrevious, IsGrounded, IsIn}
 
 -- ---- what may be done
 

@@ -1,6 +1,5 @@
 -- Inputs are the same streams if their headers and their records are read separately.
-use Rattle.std.proofs.Common.{◌≡◌, ℕ, Bool, List, [], ◌∷◌, ◌++◌, length, Result, Ok, Err, refl, ap, arith, not, ◌==◌, ◌||◌, length-append}
-use Rattle.std.specs.List.{list_any}
+use Rattle.gr_model.proofs.Common.{◌≡◌, ℕ, Bool, List, [], ◌∷◌, ◌++◌, length, Result, Ok, Err, refl, ap, arith, not, ◌==◌, ◌||◌, length-append, list_any}
 use Rattle.gr_model.specs.declared.event.Event.{Event}
 use Rattle.gr_record.specs.declared.header.Header.{Header}
 use Rattle.gr_record.specs.declared.fault.Fault.{Fault}

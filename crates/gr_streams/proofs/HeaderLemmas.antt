@@ -1,11 +1,9 @@
 -- A header at the front of bytes, after other headers.
-use Rattle.std.proofs.Common.{◌≡◌, ℕ, ◌<◌, ◌≤◌, List, [], ◌++◌, length, Option, None, Some, Result, Ok, refl, sym, ap, ◌∙◌, subst, arith, inl, inr, append-nil, IfSome}
-use Rattle.std.specs.Io.KnownBytes.{Consumes, IsAtEnd}
-use Rattle.std.proofs.lemmas.Bool.{cases_lt}
+use Rattle.gr_model.proofs.Common.{◌≡◌, ℕ, ◌<◌, ◌≤◌, List, [], ◌++◌, length, Option, None, Some, Result, Ok, refl, sym, ap, ◌∙◌, subst, arith, inl, inr, append-nil, IfSome, Consumes, IsAtEnd, cases_lt}
 use Rattle.gr_record.specs.declared.header.Header.{Header}
 use Rattle.gr_record.specs.declared.fault.Fault.{Fault}
 use Rattle.gr_record.specs.declared.layout.TheConstants.{HEADER_LENGTH}
-use Rattle.gr_record.specs.WholeStreams.{front_header_at}
+use Rattle.gr_record.specs.Prelude.{front_header_at}
 use Rattle.gr_intake.proofs.Behind.{front_of_unit, header_found}
 use Rattle.gr_replay.proofs.Alone.{header_long}
 use Rattle.gr_streams.specs.Headers.{header_behind}

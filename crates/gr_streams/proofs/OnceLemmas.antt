@@ -1,5 +1,5 @@
 -- The streams of a launch are of different groups, so of each group there is one receipt.
-use Rattle.std.proofs.Common.{◌≡◌, ◌≢◌, ℕ, zero, suc, List, [], ◌∷◌, length, Contains, refl, sym, ap, ◌∙◌, subst, arith, eq-eqb, ne_eqb, ◌==◌, filter}
+use Rattle.gr_model.proofs.Common.{◌≡◌, ◌≢◌, ℕ, zero, suc, List, [], ◌∷◌, length, Contains, refl, sym, ap, ◌∙◌, subst, arith, eq-eqb, ne_eqb, ◌==◌, filter}
 use Rattle.gr_detector.specs.Refusals.{IsHandedBack}
 use Rattle.gr_detector.specs.Runs.{IsEachOnce, Run}
 use Rattle.gr_detector.specs.declared.error.FinishError.{FinishError}

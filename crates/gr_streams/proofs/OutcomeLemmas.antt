@@ -1,5 +1,5 @@
 -- The outcome of a stream is the same, read piece by piece or as a whole.
-use Rattle.std.proofs.Common.{◌≡◌, ℕ, ◌≤◌, List, [], length, take, drop, Some, Result, Ok, Err, refl, sym, ap, ◌∙◌, arith, le-ltb, length-take, take-append-drop}
+use Rattle.gr_model.proofs.Common.{◌≡◌, ℕ, ◌≤◌, List, [], length, take, drop, Some, Result, Ok, Err, refl, sym, ap, ◌∙◌, arith, le-ltb, length-take, take-append-drop}
 use Rattle.gr_model.specs.declared.event.Event.{Event}
 use Rattle.gr_model.specs.declared.limits.TheConstants.{MOST_RECORDS}
 use Rattle.gr_record.specs.declared.error.RecordError.{RecordError}
@@ -8,10 +8,7 @@ use Rattle.gr_record.specs.declared.header.Header.{Header}
 use Rattle.gr_record.specs.declared.stop.Stop.{Stop}
 use Rattle.gr_record.specs.declared.stop.Stop.TheVariants.{Inside, AtEnd, AtFault}
 use Rattle.gr_record.specs.declared.layout.TheConstants.{HEADER_LENGTH}
-use Rattle.gr_record.specs.Decoding.{closed, read_from, reading}
-use Rattle.gr_record.specs.Fronts.{records_of}
-use Rattle.gr_record.specs.Reading.{header_at}
-use Rattle.gr_record.specs.WholeStreams.{front_header_at, front_records_at, up_to}
+use Rattle.gr_record.specs.Prelude.{closed, read_from, reading, records_of, header_at, front_header_at, front_records_at, up_to}
 use Rattle.gr_intake.specs.Joined.{at_place}
 use Rattle.gr_intake.proofs.Accepted.{AreRead, records_read}
 use Rattle.gr_streams.specs.Records.{events_at}

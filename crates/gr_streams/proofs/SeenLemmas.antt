@@ -1,16 +1,8 @@
 -- Whether a group was seen, and which launch the headers are of, without a look at each header; and the sizes of its groups.
-use Rattle.std.proofs.Common.{Decides, ◌≡◌, ◌≢◌, ℕ, zero, suc, ◌<◌, List, [], ◌∷◌, ◌++◌, length, map, replicate, slice_get, slice_index, get_or, Contains, Some, refl, sym, ap, ◌∙◌, subst, arith, inl, inr, not, ◌==◌, All}
-use Rattle.std.specs.List.{list_any}
-use Rattle.std.proofs.lemmas.List.{get_or-map, get_or-replicate, length-map, length-replicate}
-use Rattle.std.proofs.lemmas.Bool.{cases_Bool, eq-eqb, eqb-true, true_from_ne_false}
-use Rattle.std.proofs.lemmas.List.Elements.{All-contains, All-push}
-use Rattle.std.proofs.lemmas.List.Folds.{Any-from_list_any, list_any_at, list_any_none}
+use Rattle.gr_model.proofs.Common.{Decides, ◌≡◌, ◌≢◌, ℕ, zero, suc, ◌<◌, List, [], ◌∷◌, ◌++◌, length, map, replicate, slice_get, slice_index, get_or, Contains, Some, refl, sym, ap, ◌∙◌, subst, arith, inl, inr, not, ◌==◌, All, list_any, get_or-map, get_or-replicate, length-map, length-replicate, cases_Bool, eq-eqb, eqb-true, true_from_ne_false, All-contains, All-push, Any-from_list_any, list_any_at, list_any_none, get_or_from_slice_get, slice_get-get_or, slice_get_within}
 use Rattle.std.proofs.lemmas.List.Quantifiers.{all_pairs_push}
-use Rattle.std.proofs.lemmas.Option.{get_or_from_slice_get, slice_get-get_or, slice_get_within}
-use Rattle.gr_model.specs.Groups.{CanAdd, put}
-use Rattle.gr_model.specs.Shapes.{HasItem, IsPartOfShape}
-use Rattle.gr_model.specs.Streams.{Streams}
-use Rattle.gr_record.specs.Spelling.{IsHeader}
+use Rattle.gr_model.specs.Prelude.{CanAdd, put, HasItem, IsPartOfShape, Streams}
+use Rattle.gr_record.specs.Prelude.{IsHeader}
 use Rattle.gr_record.specs.declared.header.Header.{Header}
 use Rattle.gr_intake.specs.Intakes.{AreGroupsOf, headers_of}
 use Rattle.gr_intake.specs.Waiting.{Coming}

@@ -5,13 +5,12 @@ use Rattle.std.specs.List.{list_any}
 use Rattle.gr_record.specs.declared.header.Header.{Header}
 use Rattle.gr_record.specs.declared.fault.Fault.{Fault}
 use Rattle.gr_record.specs.declared.fault.Fault.TheVariants as faults
-use Rattle.gr_record.specs.Spelling.{IsHeader}
-use Rattle.gr_record.specs.WholeStreams.{front_header_at}
+use Rattle.gr_record.specs.Prelude.{IsHeader, front_header_at}
 use Rattle.gr_intake.specs.Intakes.{AreGroupsOf}
 use Rattle.gr_intake.specs.Launch.{IsLaunchOf}
 use Rattle.gr_intake.specs.Joined.{Flat, ◌>>=◌, at_place}
 use Rattle.gr_model.specs.declared.event.Event.{Event}
-use Rattle.gr_model.specs.Streams.{Streams}
+use Rattle.gr_model.specs.Prelude.{Streams}
 
 -- a header, unless its group is one of these headers', or its launch is another
 abbrev pub unless_seen : List Header → Header → Result Header Fault

@@ -5,7 +5,7 @@ use Rattle.gr_model.specs.declared.event.Event.{Event}
 use Rattle.gr_record.specs.declared.error.RecordError.TheVariants.{AfterEnd}
 use Rattle.gr_record.specs.declared.fault.Fault.{Fault}
 use Rattle.gr_record.specs.declared.fault.Fault.TheVariants as faults
-use Rattle.gr_record.specs.WholeStreams.{front_header_at, front_records_at}
+use Rattle.gr_record.specs.Prelude.{front_header_at, front_records_at}
 use Rattle.gr_intake.specs.Joined.{◌>>=◌, at_place}
 
 -- the records of the input at a place, which is one stream

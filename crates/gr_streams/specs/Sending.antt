@@ -5,14 +5,12 @@ use Rattle.gr_model.specs.declared.event.Event.{Event}
 use Rattle.gr_model.specs.declared.event.Kind.{Kind}
 use Rattle.gr_model.specs.declared.event.Kind.TheVariants.{Read, Write, Load, Store, Rmw, Barrier, End}
 use Rattle.gr_model.specs.declared.limits.TheConstants.{MOST_RECORDS}
-use Rattle.gr_model.specs.Events.{end_of, is_end}
-use Rattle.gr_model.specs.Streams.{is_complete}
+use Rattle.gr_model.specs.Prelude.{end_of, is_end, is_complete}
 use Rattle.gr_record.specs.declared.fault.Fault.{Fault}
 use Rattle.gr_record.specs.declared.fault.Fault.TheVariants as faults
 use Rattle.gr_record.specs.declared.part.Part.{Part}
 use Rattle.gr_record.specs.declared.part.Part.TheVariants as parts
-use Rattle.gr_record.specs.Decoding.{StandsFor, Standing, reading}
-use Rattle.gr_record.specs.Laws.{AreBytes}
+use Rattle.gr_record.specs.Prelude.{StandsFor, Standing, reading, AreBytes}
 use Rattle.gr_threads.specs.Refusals.{IsSendable}
 use Rattle.gr_threads.specs.Senders.{Sending}
 

@@ -7,7 +7,7 @@ use Rattle.std.specs.Io.KnownBytes.{prepend_known}
 use Rattle.gr_model.specs.declared.limits.TheConstants.{MOST_RECORDS}
 use Rattle.gr_record.specs.declared.header.Header.{Header}
 use Rattle.gr_record.specs.declared.layout.TheConstants.{HEADER_LENGTH}
-use Rattle.gr_record.specs.WholeStreams.{front_header_at}
+use Rattle.gr_record.specs.Prelude.{front_header_at}
 use Rattle.gr_record.specs.declared.fault.Fault.{Fault}
 use Rattle.gr_record.specs.declared.fault.Fault.TheVariants as faults
 use Rattle.gr_route.specs.IntakeSeats.{Seat}

@@ -2,10 +2,9 @@
 
 ghost use Rattle.std.specs.Prelude.{◌≡◌, ◌≢◌, ◌++◌, ◌∷◌, [], ℕ, List, Some, None, IfOk, IfErr, IfSome, IsFalse, IsTrue, take};
 ghost use Rattle.gr_model.specs.declared.event.Event.{Event as AnyEvent};
-ghost use Rattle.gr_model.specs.Streams.{is_complete};
+ghost use Rattle.gr_model.specs.Prelude.{is_complete};
 ghost use Rattle.gr_model.specs.declared.limits.TheConstants.{MOST_RECORDS};
-ghost use Rattle.gr_record.specs.Decoding.{HasMemory, answer, last_answer};
-ghost use Rattle.gr_record.specs.Faults.{stream_fault};
+ghost use Rattle.gr_record.specs.Prelude.{HasMemory, answer, last_answer, stream_fault};
 ghost use Rattle.gr_record.specs.declared.fault.Fault.TheVariants as faults;
 ghost use Rattle.gr_streams.specs.Sending.{AreSent, IsFed, IsSameSender, MayFollow, events_in, sent_as};
 

@@ -1,8 +1,7 @@
 //! The headers of all streams. All of them are read before any record is.
 
 ghost use Rattle.std.specs.Prelude.{◌≡◌, ◌++◌, ◌∷◌, [], All, IfErr, IfOk, IfSome, Ok, OnOk, map};
-ghost use Rattle.gr_record.specs.InputFaults.{Fails};
-ghost use Rattle.gr_record.specs.Faults.{IsOfReading};
+ghost use Rattle.gr_record.specs.Prelude.{Fails, IsOfReading};
 ghost use Rattle.gr_replay.specs.Each.{all_known};
 ghost use Rattle.gr_streams.specs.Headers.{AreApart, headers_of};
 ghost use Rattle.gr_streams.specs.Sources.{AreKnown, IsHeaded, known_of};

@@ -2,8 +2,8 @@
 
 ghost use Rattle.std.specs.Prelude.{◌≡◌, ◌≢◌, ◌⊎◌, ℕ, List, All, IfErr, IfOk, IfSome, None, Ok, Some, map};
 ghost use Rattle.std.specs.Io.KnownBytes.{Appends, Keeps};
-ghost use Rattle.gr_record.specs.InputFaults.{Fails};
-ghost use Rattle.gr_model.specs.Shapes.{IsShape};
+ghost use Rattle.gr_record.specs.Prelude.{Fails};
+ghost use Rattle.gr_model.specs.Prelude.{IsShape};
 ghost use Rattle.gr_record.specs.declared.fault.Fault.TheVariants as faults;
 ghost use Rattle.gr_replay.specs.Each.{all_known};
 ghost use Rattle.gr_report.specs.ReportText.{report_text};

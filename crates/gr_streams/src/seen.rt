@@ -2,8 +2,8 @@
 
 ghost use Rattle.std.specs.Prelude.{◌≡◌, ◌≢◌, ◌==◌, ◌++◌, ◌∷◌, [], not, length, All, IfErr, IfOk};
 ghost use Rattle.std.specs.List.{list_any};
-ghost use Rattle.gr_model.specs.Shapes.{IsShape};
-ghost use Rattle.gr_record.specs.Spelling.{IsHeader};
+ghost use Rattle.gr_model.specs.Prelude.{IsShape};
+ghost use Rattle.gr_record.specs.Prelude.{IsHeader};
 ghost use Rattle.gr_intake.specs.Launch.{IsLaunchFault};
 ghost use Rattle.gr_streams.specs.Headers.{AreHeadersOf, bares};
 

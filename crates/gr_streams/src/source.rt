@@ -2,11 +2,9 @@
 
 ghost use Rattle.std.specs.Prelude.{◌≡◌, ◌≢◌, ◌<◌, ◌≤◌, length, All, IfErr, IfOk, IfSome, Ok, Some};
 ghost use Rattle.std.specs.Io.KnownBytes.{Consumes, IsAtEnd};
-ghost use Rattle.gr_record.specs.InputFaults.{Fails, Gives};
+ghost use Rattle.gr_record.specs.Prelude.{Fails, Gives, IsOfReading, IsHeader};
 ghost use Rattle.gr_record.specs.declared.fault.Fault.TheVariants as faults;
 ghost use Rattle.gr_record.specs.declared.layout.TheConstants.{HEADER_LENGTH};
-ghost use Rattle.gr_record.specs.Faults.{IsOfReading};
-ghost use Rattle.gr_record.specs.Spelling.{IsHeader};
 ghost use Rattle.gr_streams.specs.Headers.{header_behind};
 ghost use Rattle.gr_streams.specs.Sources.{IsHeaded, known_of};
 

@@ -1,20 +1,13 @@
 -- A lawful order has no more events than the lists have.
-use Rattle.std.proofs.Common.{[], ◌≡◌, ℕ, zero, suc, ◌<◌, ◌≤◌, true, false, List, ◌∷◌, Contains, get_or, length, map, ap, ◌∙◌, arith}
+use Rattle.gr_model.proofs.Common.{[], ◌≡◌, ℕ, zero, suc, ◌<◌, ◌≤◌, true, false, List, ◌∷◌, Contains, get_or, length, map, ap, ◌∙◌, arith, range_with_len, get_or-map, length-map, Contains-append_left, Contains-append_right, get_or-range_with_len, length-range_with_len, length-le_from_is_member, slice_get-get_or, slice_get_within}
 use Rattle.std.specs.Set.{is_member}
-use Rattle.std.specs.List.{flat_map, range_with_len}
-use Rattle.std.proofs.lemmas.List.{get_or-map, length-map}
+use Rattle.std.specs.List.{flat_map}
 use Rattle.std.proofs.lemmas.List.Concat.{flat_map-cons, length-flat_map}
-use Rattle.std.proofs.lemmas.List.Elements.{Contains-append_left, Contains-append_right}
-use Rattle.std.proofs.lemmas.List.FromFn.{get_or-range_with_len, length-range_with_len}
 use Rattle.std.proofs.lemmas.Map.Keys.{IsDistinct-from_apart}
-use Rattle.std.proofs.lemmas.Map.Made.{length-le_from_is_member}
 use Rattle.std.proofs.lemmas.Map.Views.{Contains-from_any, list_any-from_Contains}
-use Rattle.std.proofs.lemmas.Option.{slice_get-get_or, slice_get_within}
 use Rattle.gr_model.specs.declared.event.EventId.{EventId}
 use Rattle.gr_model.specs.contracts.event.EventIdEq.TheImpl.Laws as equal
-use Rattle.gr_model.specs.LawfulOrders.{IsLawful}
-use Rattle.gr_model.specs.Shapes.{items_of}
-use Rattle.gr_model.specs.Streams.{ArePrefixes, IsEvent, Streams, size_of, trace_of}
+use Rattle.gr_model.specs.Prelude.{IsLawful, items_of, ArePrefixes, IsEvent, Streams, size_of, trace_of}
 use Rattle.gr_steps.proofs.EventRecords.{group_of_event, item_of_event}
 use Rattle.gr_order.specs.Sequences.{event_count}
 use Rattle.gr_order.proofs.TakenLemmas.{taken_events}

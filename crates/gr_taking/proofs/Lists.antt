@@ -1,10 +1,8 @@
 -- The lists of a launch, of which all records are to come, and then none is.
-use Rattle.std.proofs.Common.{[], ◌≡◌, ◌<◌, ◌∷◌, ℕ, List, length, get_or, map, map-id, refl, sym, ap, ◌∙◌, append-nil, arith}
-use Rattle.std.specs.Prelude.{All}
-use Rattle.std.proofs.lemmas.List.{ext_get_or, get_or-map, length-map}
+use Rattle.gr_model.proofs.Common.{[], ◌≡◌, ◌<◌, ◌∷◌, ℕ, List, length, get_or, map, map-id, refl, sym, ap, ◌∙◌, append-nil, arith, All, ext_get_or, get_or-map, length-map}
 use Rattle.std.proofs.Math.ListN.{get_or-map as map_at}
 use Rattle.gr_model.specs.declared.event.Event.{Event}
-use Rattle.gr_model.specs.Streams.{Streams, AreAccepted, list_of}
+use Rattle.gr_model.specs.Prelude.{Streams, AreAccepted, list_of}
 use Rattle.gr_lanes.specs.Takes.{nothing_taken}
 use Rattle.gr_taking.specs.Sources.{AreListsOf, ListedRecords, MayCome, come_from, come_of}
 use Rattle.gr_taking.specs.Taken.{read_by}

@@ -1,12 +1,7 @@
 -- What is to come of several streams, taken as their groups take turns.
-use Rattle.std.proofs.Common.{[], ◌≡◌, ◌≢◌, ◌⊎◌, ℕ, ◌+◌, ◌<◌, ◌≤◌, Bool, List, length, get_or, set, IsTrue, ap, arith, append_assoc}
-use Rattle.std.specs.Prelude.{IsFalse}
-use Rattle.std.specs.List.{sum_by}
-use Rattle.std.proofs.lemmas.Bool.{cases_eq}
-use Rattle.std.proofs.lemmas.List.{ext_get_or, get_or-map, get_or-set_other, get_or-set_same, length-append, length-map, length-set}
-use Rattle.std.proofs.lemmas.List.Sums.{sum_by-set}
+use Rattle.gr_model.proofs.Common.{[], ◌≡◌, ◌≢◌, ◌⊎◌, ℕ, ◌+◌, ◌<◌, ◌≤◌, Bool, List, length, get_or, set, IsTrue, ap, arith, append_assoc, IsFalse, sum_by, cases_eq, ext_get_or, get_or-map, get_or-set_other, get_or-set_same, length-append, length-map, length-set, sum_by-set}
 use Rattle.gr_model.specs.declared.event.Event.{Event}
-use Rattle.gr_model.specs.Streams.{Streams}
+use Rattle.gr_model.specs.Prelude.{Streams}
 use Rattle.gr_taking.specs.Sources.{AreTakenFrom, MayCome, MayTake, come_from, come_of}
 
 module _ {X Y : Type 0} (header : X → Y) (group : Y → ℕ) (coming : X → List Event) where

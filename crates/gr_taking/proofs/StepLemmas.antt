@@ -1,6 +1,5 @@
 -- What a step does to the accesses along the order, and to the number of the handled events.
-use Rattle.std.proofs.Common.{◌-◌, ◌<◌, List, ◌++◌, length, Some, None, arith, append-nil}
-use Rattle.std.proofs.lemmas.List.{length-append}
+use Rattle.gr_model.proofs.Common.{◌-◌, ◌<◌, List, ◌++◌, length, Some, None, arith, append-nil, length-append}
 use Rattle.gr_closure.specs.AccessesAlong.{AreAccesses}
 use Rattle.gr_closure.proofs.Adding.{bare_access, handled_adds, met_add_none, others_add_none}
 use Rattle.gr_order.specs.Sequences.{Sequence, IsSequence, event_count}

@@ -1,7 +1,7 @@
 -- What a sequencer has taken, and what stands for the accesses that it answers.
-use Rattle.std.proofs.Common.{[], ◌≡◌, ℕ, zero, suc, List, ◌∷◌, map, get_or, refl}
+use Rattle.gr_model.proofs.Common.{[], ◌≡◌, ℕ, zero, suc, List, ◌∷◌, map, get_or, refl}
 use Rattle.gr_model.specs.declared.event.Event.{Event}
-use Rattle.gr_model.specs.Streams.{Streams}
+use Rattle.gr_model.specs.Prelude.{Streams}
 use Rattle.gr_lanes.specs.Takes.{CanTake, with_record}
 use Rattle.gr_lanes.proofs.Growth.{record_grows}
 use Rattle.gr_order.specs.Sequences.{IsDone, IsSequence, Sequence, taking}

@@ -1,9 +1,8 @@
 -- The first of the records that are to come of a group may be taken, and was.
-use Rattle.std.proofs.Common.{◌≡◌, ℕ, ◌<◌, List, ◌∷◌, length, sym, ap, ◌∙◌, subst, append_assoc, set-set, get_or-set_same, arith}
-use Rattle.std.proofs.lemmas.List.{length-append, length-set, get_or_past}
+use Rattle.gr_model.proofs.Common.{◌≡◌, ℕ, ◌<◌, List, ◌∷◌, length, sym, ap, ◌∙◌, subst, append_assoc, set-set, get_or-set_same, arith, length-append, length-set, get_or_past}
 use Rattle.gr_model.specs.declared.event.Event.{Event}
 use Rattle.gr_model.specs.declared.limits.TheConstants.{MOST_RECORDS}
-use Rattle.gr_model.specs.Streams.{Streams, list_of, size_of}
+use Rattle.gr_model.specs.Prelude.{Streams, list_of, size_of}
 use Rattle.gr_model.proofs.StreamPrefixes.{next_ok, next_room, next_unended}
 use Rattle.gr_lanes.specs.Takes.{CanTake, IsEventButItem, with_record}
 use Rattle.gr_taking.specs.Sources.{AreTakenFrom, MayTake}

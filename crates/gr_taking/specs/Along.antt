@@ -2,8 +2,7 @@
 -- Source: docs/MODEL.md, "Steps" and "Hits".
 use Rattle.std.specs.Prelude.{List, [], ◌∷◌, Some}
 use Rattle.gr_model.specs.declared.event.EventId.{EventId}
-use Rattle.gr_model.specs.LawfulOrders.{IsWholeOrder}
-use Rattle.gr_model.specs.Streams.{Streams}
+use Rattle.gr_model.specs.Prelude.{IsWholeOrder, Streams}
 use Rattle.gr_clocks.specs.ClockedAccess.{ClockedAccess, clocked}
 use Rattle.gr_closure.specs.AccessesAlong.{AreAccesses}
 use Rattle.gr_order.specs.Sequences.{Sequence}

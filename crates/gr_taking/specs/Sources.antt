@@ -1,7 +1,7 @@
 -- Streams of which records are to come, and a sequencer that takes some of them.
 use Rattle.std.specs.Prelude.{◌≡◌, ◌≢◌, ℕ, ◌<◌, Bool, List, [], ◌++◌, All, AllPairs, IsFalse, IsTrue, length, map, slice_index, slice_index_or}
 use Rattle.gr_model.specs.declared.event.Event.{Event}
-use Rattle.gr_model.specs.Streams.{Streams, IsPrefix, list_of, size_of}
+use Rattle.gr_model.specs.Prelude.{Streams, IsPrefix, list_of, size_of}
 use Rattle.gr_taking.specs.Taken.{with_list}
 
 -- records of a group that are to come

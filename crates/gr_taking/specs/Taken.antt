@@ -1,7 +1,7 @@
 -- What a sequencer has taken of a launch.
 use Rattle.std.specs.Prelude.{ℕ, List, map, slice_set}
 use Rattle.gr_model.specs.declared.event.Event.{Event}
-use Rattle.gr_model.specs.Streams.{Streams}
+use Rattle.gr_model.specs.Prelude.{Streams}
 
 -- streams with this list of a group
 abbrev pub with_list : Streams → ℕ → List Event → Streams

@@ -5,7 +5,7 @@
 
 ghost use Rattle.std.specs.Prelude.{◌≡◌, ◌<◌, OnOk, length};
 ghost use Rattle.gr_model.specs.declared.limits.TheConstants.{MOST_RECORDS};
-ghost use Rattle.gr_model.specs.Streams.{list_of};
+ghost use Rattle.gr_model.specs.Prelude.{list_of};
 ghost use Rattle.gr_lanes.specs.Takes.{CanTake, IsEventButItem, with_record};
 ghost use Rattle.gr_order.specs.Sequences.{IsSequence};
 ghost use Rattle.gr_taking.specs.Along.{IsAlong};

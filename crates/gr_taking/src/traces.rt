@@ -1,7 +1,7 @@
 //! All records of a launch, taken by a sequencer and handled as they can be.
 
 ghost use Rattle.std.specs.Prelude.{◌≡◌, [], IfOk, OnOk};
-ghost use Rattle.gr_model.specs.Streams.{AreAccepted};
+ghost use Rattle.gr_model.specs.Prelude.{AreAccepted};
 ghost use Rattle.gr_order.specs.Sequences.{IsDone, IsSequence};
 ghost use Rattle.gr_taking.specs.Along.{IsAlong, IsAlongWhole};
 ghost use Rattle.gr_taking.specs.Sources.{AreListsOf};

@@ -1,7 +1,6 @@
 -- A number's text says that number, and no other word says one.
-use Rattle.std.proofs.Common.{◌≡◌, ℕ, ◌^◌, ◌<◌, true, List, Option, Some, None, refl, sym, arith, decimal, IfSome, lt-ltb}
+use Rattle.gr_model.proofs.Common.{◌≡◌, ℕ, ◌^◌, ◌<◌, true, List, Option, Some, None, refl, sym, arith, decimal, IfSome, lt-ltb, nat_tests}
 use Rattle.std.specs.Cmp.Lexicographic.{same_text}
-use Rattle.std.proofs.lemmas.Bool.Decides.{nat_tests}
 use Rattle.std.proofs.lemmas.Cmp.{nat_list_eq_equiv}
 use Rattle.std.proofs.lemmas.Fmt.{decimal_is_IsNumeral}
 use Rattle.gr_text.specs.LineReading.{same, number_of}

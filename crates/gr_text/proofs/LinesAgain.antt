@@ -1,5 +1,5 @@
 -- What has a line is read from it.
-use Rattle.std.proofs.Common.{◌≡◌, ℕ, ◌^◌, ◌<◌, ◌≤◌, true, false, List, [], ◌∷◌, ◌++◌, length, zero, suc, All, Option, Some, None, refl, ap, arith, not, decimal, codes, lt-ltb, le-leb}
+use Rattle.gr_model.proofs.Common.{◌≡◌, ℕ, ◌^◌, ◌<◌, ◌≤◌, true, false, List, [], ◌∷◌, ◌++◌, length, zero, suc, All, Option, Some, None, refl, ap, arith, not, decimal, codes, lt-ltb, le-leb}
 use Rattle.gr_model.specs.declared.event.Space.{Space}
 use Rattle.gr_model.specs.declared.event.Scope.{Scope}
 use Rattle.gr_model.specs.declared.event.Order.{Order}
@@ -7,13 +7,11 @@ use Rattle.gr_model.specs.declared.event.Kind.{Kind}
 use Rattle.gr_model.specs.declared.event.Kind.TheVariants.{Read, Write, Load, Store, Rmw, Barrier, End}
 use Rattle.gr_model.specs.declared.event.Name.{Name}
 use Rattle.gr_model.specs.declared.event.Event.{Event}
-use Rattle.gr_model.specs.Events.{IsNamingOk, IsKindOk}
+use Rattle.gr_model.specs.Prelude.{IsNamingOk, IsKindOk, IsNameInRange}
 use Rattle.gr_record.specs.declared.header.Version.{Version}
 use Rattle.gr_record.specs.declared.header.Version.TheVariants.{One, Four}
-use Rattle.gr_model.specs.NameLists.{IsNameInRange}
 use Rattle.gr_text.specs.declared.line.Line.TheVariants as lines
-use Rattle.gr_record.specs.Versions.{most_groups, most_items}
-use Rattle.gr_record.specs.Reading.{is_order_ok, is_naming_ok}
+use Rattle.gr_record.specs.Prelude.{most_groups, most_items, is_order_ok, is_naming_ok}
 use Rattle.gr_text.specs.LineText.{space_word, scope_word, order_word, flags_word, version_words, names_words, later_text, line_text}
 use Rattle.gr_text.specs.LineReading.{same, IsWord, first_of, header_said, version_said, name_said, names_said, kind_said, atomic_said, barrier_said, event_said, line_said}
 use Rattle.gr_text.specs.LineLaws.{TextIsRead}

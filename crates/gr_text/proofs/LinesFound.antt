@@ -1,7 +1,5 @@
 -- What is read from a line has that line.
-use Rattle.std.proofs.Common.{◌≡◌, ℕ, ◌^◌, ◌<◌, Bool, true, false, cond, List, [], ◌∷◌, ◌++◌, zero, suc, Option, Some, None, refl, ap, subst, ◌∙◌, arith, decimal, codes, IfSome}
-use Rattle.std.proofs.lemmas.Bool.{ltb-true, and_parts}
-use Rattle.std.proofs.lemmas.Bool.Decides.{nat_tests}
+use Rattle.gr_model.proofs.Common.{◌≡◌, ℕ, ◌^◌, ◌<◌, Bool, true, false, cond, List, [], ◌∷◌, ◌++◌, zero, suc, Option, Some, None, refl, ap, subst, ◌∙◌, arith, decimal, codes, IfSome, ltb-true, and_parts, nat_tests}
 use Rattle.gr_model.specs.declared.event.Space.{Space}
 use Rattle.gr_model.specs.declared.event.Scope.{Scope}
 use Rattle.gr_model.specs.declared.event.Order.{Order}
@@ -10,13 +8,12 @@ use Rattle.gr_model.specs.declared.event.Kind.TheVariants.{Read, Write, Load, St
 use Rattle.gr_model.specs.declared.event.Name.{Name}
 use Rattle.gr_model.specs.declared.event.Event.{Event}
 use Rattle.gr_model.specs.declared.limits.TheConstants.{MOST_NAMES}
-use Rattle.gr_model.specs.Events.{IsKindOk, IsNamingOk}
+use Rattle.gr_model.specs.Prelude.{IsKindOk, IsNamingOk}
 use Rattle.gr_record.proofs.Places.{naming_found}
 use Rattle.gr_record.specs.declared.header.Version.{Version}
 use Rattle.gr_text.specs.declared.line.Line.{Line}
 use Rattle.gr_text.specs.declared.line.Line.TheVariants as lines
-use Rattle.gr_record.specs.Reading.{is_naming_ok, is_order_ok}
-use Rattle.gr_record.specs.Spelling.{IsHeader, AreNamesOf}
+use Rattle.gr_record.specs.Prelude.{is_naming_ok, is_order_ok, IsHeader, AreNamesOf}
 use Rattle.gr_text.specs.LineText.{space_word, scope_word, order_word, version_words, names_words, first_word, later_words, later_text, line_text}
 use Rattle.gr_text.specs.LineReading.{same, number_of, short_of, behind_space, first_of, ◌>>=◌, at_end, space_said, scope_said, order_said, flags_said, header_said, name_said, names_said, kind_said, atomic_said, barrier_said, event_said, checked, end_said, line_said}
 use Rattle.gr_text.specs.LineLaws.{IsSaid, ReadIsText}

@@ -1,25 +1,17 @@
 -- A text that is packed is one of whole streams.
-use Rattle.std.proofs.Common.{◌≡◌, ◌⊎◌, ℕ, ◌+◌, ◌-◌, ◌<◌, ◌≤◌, Bool, true, false, cond, List, [], ◌∷◌, ◌++◌, length, map, All, Option, Some, None, Ok, refl, sym, ap, ap₂, subst, ◌∙◌, arith, inl, inr, IsTrue, true≢false, append_assoc, append-nil}
-use Rattle.std.specs.List.{flat_map, onto_first}
-use Rattle.std.proofs.lemmas.Bool.{both_ways}
-use Rattle.std.proofs.lemmas.List.Elements.{All-cons, All-head, All-tail}
-use Rattle.std.proofs.lemmas.List.Folds.{flat_map-map}
+use Rattle.gr_model.proofs.Common.{◌≡◌, ◌⊎◌, ℕ, ◌+◌, ◌-◌, ◌<◌, ◌≤◌, Bool, true, false, cond, List, [], ◌∷◌, ◌++◌, length, map, All, Option, Some, None, Ok, refl, sym, ap, ap₂, subst, ◌∙◌, arith, inl, inr, IsTrue, true≢false, append_assoc, append-nil, onto_first, both_ways, All-cons, All-head, All-tail, flat_map-map, nat_tests}
+use Rattle.std.specs.List.{flat_map}
 use Rattle.gr_model.specs.declared.limits.TheConstants.{MOST_RECORDS}
-use Rattle.std.proofs.lemmas.Bool.Decides.{nat_tests}
-use Rattle.gr_model.specs.Events.{is_end}
-use Rattle.gr_model.specs.Streams.{is_complete}
+use Rattle.gr_model.specs.Prelude.{is_end, is_complete}
 use Rattle.gr_record.specs.declared.header.Header.{Header}
 use Rattle.gr_text.specs.declared.line.Line.{Line}
 use Rattle.gr_text.specs.declared.line.Line.TheVariants as lines
 use Rattle.gr_record.specs.declared.header.Version.TheVariants.{One}
-use Rattle.gr_record.specs.Versions.{places}
-use Rattle.gr_record.specs.PrefixLaws.{Runs}
+use Rattle.gr_record.specs.Prelude.{places, Runs, Sited, events_of, IsRecord, header_spelling, events_spelling}
 use Rattle.gr_text.specs.declared.line.SitedLine.{SitedLine}
-use Rattle.gr_record.specs.Sites.{Sited, events_of}
 use Rattle.gr_text.specs.LineLaws.{IsSitedSaid}
 use Rattle.gr_text.specs.LineReading.{sited_said}
 use Rattle.gr_text.specs.LineText.{sited_text}
-use Rattle.gr_record.specs.Spelling.{IsRecord, header_spelling, events_spelling}
 use Rattle.gr_record.proofs.FoundPrefixes.{complete_behind}
 use Rattle.gr_text.proofs.LineSites.{sited_read_is_text}
 use Rattle.gr_text.specs.declared.place.Place.{Place}

@@ -1,23 +1,15 @@
 -- The bytes of whole streams are dumped and their text is packed; and what is packed is dumped again, what is dumped packed again.
-use Rattle.std.proofs.Common.{◌≡◌, ℕ, zero, suc, ◌+◌, ◌≤◌, false, List, [], ◌∷◌, ◌++◌, length, All, Ok, refl, sym, ap, ◌∙◌, append_assoc, arith, IsTrue, true≢false, ◌-◌, ◌^◌, ◌<◌, map, length-append, flat_map}
-use Rattle.std.specs.Prelude.{◌==◌}
-use Rattle.std.proofs.lemmas.Bool.{le-ltb, ne_eqb, and_parts, ltb-true, lt-leb}
-use Rattle.std.proofs.lemmas.List.Elements.{All-append, All-cons, All-head, All-nil, All-tail}
+use Rattle.gr_model.proofs.Common.{◌≡◌, ℕ, zero, suc, ◌+◌, ◌≤◌, false, List, [], ◌∷◌, ◌++◌, length, All, Ok, refl, sym, ap, ◌∙◌, append_assoc, arith, IsTrue, true≢false, ◌-◌, ◌^◌, ◌<◌, map, length-append, flat_map, ◌==◌, le-ltb, ne_eqb, and_parts, ltb-true, lt-leb, All-append, All-cons, All-head, All-nil, All-tail}
 use Rattle.gr_model.specs.declared.event.Event.{Event}
 use Rattle.gr_model.specs.declared.limits.TheConstants.{MOST_ITEMS_OF_A_GROUP, MOST_RECORDS}
-use Rattle.gr_model.specs.Streams.{is_complete}
+use Rattle.gr_model.specs.Prelude.{is_complete}
 use Rattle.gr_record.specs.declared.header.Header.{Header}
 use Rattle.gr_record.specs.declared.layout.TheConstants.{HEADER_LENGTH}
-use Rattle.gr_record.specs.Versions.{record_length, most_items, places}
-use Rattle.gr_record.specs.PrefixLaws.{Runs}
-use Rattle.gr_record.specs.Reading.{event_at}
-use Rattle.gr_record.specs.Spelling.{IsHeader, events_spelling, header_spelling, IsEvent}
-use Rattle.gr_record.specs.WholeStreams.{front_header_at, front_records_at, stream_spelling}
+use Rattle.gr_record.specs.Prelude.{record_length, most_items, places, Runs, event_at, IsHeader, events_spelling, header_spelling, IsEvent, front_header_at, front_records_at, stream_spelling, Sited, events_of}
 use Rattle.gr_record.proofs.FoundPrefixes.{complete_behind}
 use Rattle.gr_record.proofs.Growing.{records_grow}
 use Rattle.gr_record.proofs.Places.{header_items, each_in_range}
 use Rattle.gr_record.proofs.SpelledPrefixes.{records_spelled, sites_spelled}
-use Rattle.gr_record.specs.Sites.{Sited, events_of}
 use Rattle.gr_record.proofs.Spelled.{spelled_header_is_read}
 use Rattle.gr_text.specs.Dumps.{WholeStream, stream_at, streams_at, dumped, parts_in}
 use Rattle.gr_text.specs.Wholes.{IsWhole, bytes_of, text_of, WholeStreamsAreDumped, PackedIsDumpedAgain, WholeStreamsArePacked, DumpedIsPackedAgain}

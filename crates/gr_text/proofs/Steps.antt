@@ -1,28 +1,21 @@
 -- Rows of steps, each of which may fail, and what is known where the row came to its end.
-use Rattle.std.proofs.Common.{◌≡◌, ◌⊎◌, ℕ, ◌-◌, ◌<◌, ◌≤◌, false, cond, List, [], ◌++◌, append-nil, append_assoc, drop, length, Option, Some, None, Result, Ok, Err, refl, arith, IfOk}
-use Rattle.std.proofs.lemmas.Bool.Decides.{nat_tests}
-use Rattle.std.proofs.lemmas.List.{length-set, take_more_set}
+use Rattle.gr_model.proofs.Common.{◌≡◌, ◌⊎◌, ℕ, ◌-◌, ◌<◌, ◌≤◌, false, cond, List, [], ◌++◌, append-nil, append_assoc, drop, length, Option, Some, None, Result, Ok, Err, refl, arith, IfOk, nat_tests, length-set, take_more_set}
 use Rattle.gr_model.specs.declared.event.Event.{Event}
 use Rattle.gr_record.specs.declared.error.RecordError.{RecordError}
 use Rattle.gr_record.specs.declared.fault.Fault.{Fault}
 use Rattle.gr_record.specs.declared.fault.Fault.TheVariants as faults
 use Rattle.gr_record.specs.declared.stop.Stop.{Stop}
 use Rattle.gr_record.specs.declared.stop.Stop.TheVariants.{AtEnd}
-use Rattle.gr_record.specs.Fronts.{records_at}
-use Rattle.gr_record.specs.Reading.{event_at}
-use Rattle.gr_record.specs.Spelling.{IsHeader}
-use Rattle.gr_record.specs.WholeStreams.{up_to}
+use Rattle.gr_record.specs.Prelude.{records_at, event_at, IsHeader, up_to, Sited, places, record_length}
 use Rattle.gr_record.proofs.Found.{read_is_ok}
 use Rattle.gr_record.proofs.FoundPrefixes.{is_at_end}
 use Rattle.gr_record.proofs.Judging.{passed}
 use Rattle.gr_record.proofs.Numbers.{one_left}
 use Rattle.gr_record.proofs.Places.{header_items, names_few}
 use Rattle.gr_model.specs.declared.limits.TheConstants.{MOST_ITEMS_OF_A_GROUP}
-use Rattle.gr_model.specs.Events.{IsEventOk, is_end}
+use Rattle.gr_model.specs.Prelude.{IsEventOk, is_end}
 use Rattle.gr_record.specs.declared.header.Header.{Header}
 use Rattle.gr_record.specs.declared.header.Version.{Version}
-use Rattle.gr_record.specs.Sites.{Sited}
-use Rattle.gr_record.specs.Versions.{places, record_length}
 use Rattle.gr_text.specs.declared.line.SitedLine.{SitedLine}
 use Rattle.gr_text.specs.declared.place.Place.{Place}
 use Rattle.gr_text.specs.declared.place.Place.TheVariants.{Outside, Inside}

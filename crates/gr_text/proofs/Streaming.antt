@@ -1,19 +1,11 @@
 -- The streams in a list of bytes, one after another, as a loop reads them.
-use Rattle.std.proofs.Common.{◌≡◌, ℕ, zero, suc, ◌+◌, ◌<◌, ◌≤◌, true, false, List, [], ◌∷◌, ◌++◌, length, drop, Ok, refl, sym, ap, ap₂, subst, ◌∙◌, append_assoc, arith, inl, inr, IsTrue, All, nat_lt, ◌==◌, flat_map}
-use Rattle.std.proofs.lemmas.Bool.{ltb-false, cases_Bool, eqb-true}
-use Rattle.std.proofs.lemmas.List.{append-nil, get_or-append-add, take-append-drop, length-append, nil_from_length}
+use Rattle.gr_model.proofs.Common.{◌≡◌, ℕ, zero, suc, ◌+◌, ◌<◌, ◌≤◌, true, false, List, [], ◌∷◌, ◌++◌, length, drop, Ok, refl, sym, ap, ap₂, subst, ◌∙◌, append_assoc, arith, inl, inr, IsTrue, All, nat_lt, ◌==◌, flat_map, ltb-false, cases_Bool, eqb-true, append-nil, get_or-append-add, take-append-drop, length-append, nil_from_length, All-cons, All-nil, flat_map-map}
 use Rattle.gr_model.specs.declared.event.Event.{Event}
 use Rattle.gr_model.specs.declared.limits.TheConstants.{MOST_RECORDS}
-use Rattle.gr_model.specs.Streams.{is_complete}
+use Rattle.gr_model.specs.Prelude.{is_complete}
 use Rattle.gr_record.specs.declared.header.Header.{Header}
 use Rattle.gr_record.specs.declared.layout.TheConstants.{HEADER_LENGTH}
-use Rattle.gr_record.specs.Fronts.{records_of}
-use Rattle.gr_record.specs.PrefixLaws.{Runs}
-use Rattle.gr_record.specs.Laws.{AreBytes}
-use Rattle.gr_record.specs.Reading.{header_at}
-use Rattle.gr_record.specs.Sites.{all_sited}
-use Rattle.gr_record.specs.Spelling.{IsHeader, header_spelling, events_spelling}
-use Rattle.gr_record.specs.WholeStreams.{front_header_at, front_records_at, stream_spelling}
+use Rattle.gr_record.specs.Prelude.{records_of, Runs, AreBytes, header_at, all_sited, IsHeader, header_spelling, events_spelling, front_header_at, front_records_at, stream_spelling}
 use Rattle.gr_record.proofs.Found.{read_header_is_spelled}
 use Rattle.gr_record.proofs.FoundPrefixes.{is_at_end, records_found, events_sited}
 use Rattle.gr_record.proofs.Numbers.{one_left}
@@ -21,8 +13,6 @@ use Rattle.gr_record.proofs.Places.{bytes_drop}
 use Rattle.gr_text.specs.Texts.{header_line, record_line, whole_line}
 use Rattle.gr_text.proofs.Steps.{bind_ok, map_ok, up_to_ok, at_place_ok, no_more}
 use Rattle.gr_text.specs.Dumps.{WholeStream, stream_at, streams_at, formed, parts_in}
-use Rattle.std.proofs.lemmas.List.Elements.{All-cons, All-nil}
-use Rattle.std.proofs.lemmas.List.Folds.{flat_map-map}
 use Rattle.std.proofs.lemmas.List.Concat.{flat_map-append}
 use Rattle.gr_text.specs.declared.forming.Form.TheVariants.{Text}
 use Rattle.gr_text.specs.Wholes.{IsWhole, bytes_of, text_of, DumpedAreStreams}

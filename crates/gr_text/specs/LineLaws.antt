@@ -5,9 +5,7 @@ use Rattle.gr_text.specs.declared.line.Line.{Line}
 use Rattle.gr_text.specs.declared.line.Line.TheVariants as lines
 use Rattle.gr_text.specs.declared.line.SitedLine.{SitedLine}
 use Rattle.gr_record.specs.declared.header.Version.{Version}
-use Rattle.gr_record.specs.Spelling.{IsHeader, IsEvent, AreNamesOf}
-use Rattle.gr_record.specs.Versions.{most_items}
-use Rattle.gr_record.specs.Sites.{IsSite}
+use Rattle.gr_record.specs.Prelude.{IsHeader, IsEvent, AreNamesOf, most_items, IsSite}
 use Rattle.gr_text.specs.LineText.{line_text, sited_text}
 use Rattle.gr_text.specs.LineReading.{line_said, sited_said}
 

@@ -13,14 +13,14 @@ use Rattle.gr_model.specs.declared.event.Kind.TheVariants.{Read, Write, Load, St
 use Rattle.gr_model.specs.declared.event.Name.{Name}
 use Rattle.gr_model.specs.declared.event.Event.{Event}
 use Rattle.gr_model.specs.declared.limits.TheConstants.{MOST_ITEMS_OF_A_GROUP}
-use Rattle.gr_model.specs.Events.{IsEventOk}
+use Rattle.gr_model.specs.Prelude.{IsEventOk}
 use Rattle.gr_record.specs.declared.header.Header.{Header}
 use Rattle.gr_record.specs.declared.header.Version.{Version}
 use Rattle.gr_record.specs.declared.header.Version.TheVariants.{One, Two, Three, Four}
 use Rattle.gr_text.specs.declared.line.Line.{Line}
 use Rattle.gr_text.specs.declared.line.Line.TheVariants as lines
 use Rattle.gr_text.specs.declared.line.SitedLine.{SitedLine}
-use Rattle.gr_record.specs.Spelling.{IsHeader}
+use Rattle.gr_record.specs.Prelude.{IsHeader}
 
 abbrev pub space_word : Space → List ℕ
 space_word Global = codes "g"

@@ -4,19 +4,14 @@ use Rattle.std.specs.Prelude.{◌≡◌, ◌⊎◌, ℕ, zero, suc, List, [], �
 use Rattle.std.specs.Option.{option_map_or}
 use Rattle.std.specs.List.{flat_map}
 use Rattle.gr_model.specs.declared.limits.TheConstants.{MOST_RECORDS}
-use Rattle.gr_model.specs.Streams.{is_complete}
+use Rattle.gr_model.specs.Prelude.{is_complete}
 use Rattle.gr_text.specs.declared.line.SitedLine.{SitedLine}
 use Rattle.gr_record.specs.declared.error.RecordError.{RecordError}
 use Rattle.gr_record.specs.declared.fault.Fault.TheVariants as faults
 use Rattle.gr_record.specs.declared.header.Header.{Header}
 use Rattle.gr_record.specs.declared.stop.Stop.{Stop}
 use Rattle.gr_record.specs.declared.stop.Stop.TheVariants.{AtEnd}
-use Rattle.gr_record.specs.Fronts.{records_of}
-use Rattle.gr_record.specs.Laws.{AreBytes}
-use Rattle.gr_record.specs.PrefixLaws.{IsPrefix}
-use Rattle.gr_record.specs.Sites.{all_sited, events_of}
-use Rattle.gr_record.specs.Spelling.{events_spelling}
-use Rattle.gr_record.specs.WholeStreams.{front_header_at, front_records_at, stream_spelling}
+use Rattle.gr_record.specs.Prelude.{records_of, AreBytes, IsPrefix, all_sited, events_of, events_spelling, front_header_at, front_records_at, stream_spelling}
 use Rattle.gr_text.specs.Texts.{header_line, record_line, whole_line}
 use Rattle.gr_text.specs.Dumps.{WholeStream, parts_in, dumped}
 use Rattle.gr_text.specs.Wholes.{IsWhole, bytes_of, text_of}

@@ -2,7 +2,7 @@
 -- Source: docs/FORMATS.md, "Text form" and "Faults".
 use Rattle.std.specs.Prelude.{ℕ, ⊤, ◌≤◌, ◌+◌, ◌-◌, ◌==◌, nat_le, nat_lt, ◌||◌, length, if◌then◌else◌, List, [], ◌∷◌, ◌++◌, Option, Some, None, Result, Ok, Err}
 use Rattle.gr_model.specs.declared.limits.TheConstants.{MOST_RECORDS}
-use Rattle.gr_model.specs.Events.{is_end}
+use Rattle.gr_model.specs.Prelude.{is_end}
 use Rattle.gr_record.specs.declared.fault.Fault.{Fault}
 use Rattle.gr_record.specs.declared.fault.Fault.TheVariants as faults
 use Rattle.gr_text.specs.declared.line.Line.{Line}
@@ -10,9 +10,7 @@ use Rattle.gr_text.specs.declared.line.Line.TheVariants as lines
 use Rattle.gr_text.specs.declared.line.SitedLine.{SitedLine}
 use Rattle.gr_text.specs.LineReading.{sited_said}
 use Rattle.gr_text.specs.LineText.{sited_text}
-use Rattle.gr_record.specs.Sites.{Sited}
-use Rattle.gr_record.specs.Spelling.{header_spelling, event_spelling}
-use Rattle.gr_record.specs.Versions.{places}
+use Rattle.gr_record.specs.Prelude.{Sited, header_spelling, event_spelling, places}
 use Rattle.gr_record.specs.declared.header.Header.{Header}
 use Rattle.gr_record.specs.declared.header.Version.{Version}
 use Rattle.gr_record.specs.declared.header.Version.TheVariants.{One}

@@ -3,11 +3,8 @@
 use Rattle.std.specs.Prelude.{◌≡◌, ◌⊎◌, ℕ, List, [], ◌∷◌, ◌++◌, map, All, Ok, IsTrue}
 use Rattle.std.specs.List.{flat_map}
 use Rattle.gr_model.specs.declared.limits.TheConstants.{MOST_RECORDS}
-use Rattle.gr_model.specs.Streams.{is_complete}
-use Rattle.gr_record.specs.PrefixLaws.{IsPrefix}
-use Rattle.gr_record.specs.Laws.{AreBytes}
-use Rattle.gr_record.specs.Sites.{events_of}
-use Rattle.gr_record.specs.WholeStreams.{stream_spelling}
+use Rattle.gr_model.specs.Prelude.{is_complete}
+use Rattle.gr_record.specs.Prelude.{IsPrefix, AreBytes, events_of, stream_spelling}
 use Rattle.gr_text.specs.Texts.{packed, whole_line}
 use Rattle.gr_text.specs.Dumps.{WholeStream, parts_in, dumped, upgraded, upgraded_header}
 

@@ -1,13 +1,10 @@
 //! From a text to the bytes of its streams.
 
 ghost use Rattle.std.specs.Prelude.{◌≡◌, ◌≤◌, ◌++◌, length, IfErr, OnOk};
-ghost use Rattle.gr_record.specs.InputFaults.{Gives};
-ghost use Rattle.gr_record.specs.Faults.{IsOfValues};
+ghost use Rattle.gr_record.specs.Prelude.{Gives, IsOfValues, IsHeader, header_spelling, event_spelling, places};
 ghost use Rattle.gr_text.specs.LineLaws.{IsSaid};
-ghost use Rattle.gr_model.specs.Events.{IsEventOk};
+ghost use Rattle.gr_model.specs.Prelude.{IsEventOk};
 ghost use Rattle.gr_model.specs.declared.limits.TheConstants.{MOST_ITEMS_OF_A_GROUP};
-ghost use Rattle.gr_record.specs.Spelling.{IsHeader, header_spelling, event_spelling};
-ghost use Rattle.gr_record.specs.Versions.{places};
 ghost use Rattle.gr_text.specs.Texts.{line_bytes, packed, HasRoom};
 
 use crate::line::{Line, SitedLine};

@@ -2,7 +2,7 @@
 
 ghost use Rattle.std.specs.Prelude.{◌≡◌, ◌≢◌, ◌++◌, IfOk, IfSome, IsOk, MatchOption, OnOk, Err, option_map};
 ghost use Rattle.std.specs.List.{flat_map};
-ghost use Rattle.gr_record.specs.InputFaults.{IsOutside};
+ghost use Rattle.gr_record.specs.Prelude.{IsOutside};
 ghost use Rattle.gr_record.specs.declared.fault.Fault.TheVariants as faults;
 ghost use Rattle.gr_text.specs.Texts.{whole_line};
 ghost use Rattle.gr_text.specs.Dumps.{dumped};

@@ -1,9 +1,8 @@
 -- What a sender keeps whose events wait.
-use Rattle.std.proofs.Common.{◌≡◌, ℕ, ◌+◌, ◌<◌, ◌≤◌, Bool, true, false, true≢false, List, [], ◌∷◌, ◌++◌, length, Result, Ok, Err, refl, sym, ap, ◌∙◌, subst, arith, append_assoc, append-nil, length-append, IsFalse, IfErr, OnOk}
+use Rattle.gr_model.proofs.Common.{◌≡◌, ℕ, ◌+◌, ◌<◌, ◌≤◌, Bool, true, false, true≢false, List, [], ◌∷◌, ◌++◌, length, Result, Ok, Err, refl, sym, ap, ◌∙◌, subst, arith, append_assoc, append-nil, length-append, IsFalse, IfErr, OnOk}
 use Rattle.gr_model.specs.declared.event.Event.{Event}
 use Rattle.gr_model.specs.declared.limits.TheConstants.{MOST_RECORDS}
-use Rattle.gr_model.specs.Events.{end_of}
-use Rattle.gr_model.specs.Streams.{IsPrefix, is_complete}
+use Rattle.gr_model.specs.Prelude.{end_of, IsPrefix, is_complete}
 use Rattle.gr_model.proofs.Sending.{is_complete-push}
 use Rattle.gr_model.proofs.StreamPrefixes.{prefix_push}
 use Rattle.gr_threads.specs.declared.sender.SendError.{SendError}

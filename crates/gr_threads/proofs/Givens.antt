@@ -1,6 +1,5 @@
 -- The accesses among work that was given, as more is given.
-use Rattle.std.proofs.Common.{◌≡◌, true, List, [], ◌∷◌, ◌++◌, refl, ap, ◌∙◌, append-nil, ◌||◌}
-use Rattle.std.proofs.lemmas.Bool.{or_right}
+use Rattle.gr_model.proofs.Common.{◌≡◌, true, List, [], ◌∷◌, ◌++◌, refl, ap, ◌∙◌, append-nil, ◌||◌, or_right}
 use Rattle.gr_clocks.specs.ClockedAccess.{ClockedAccess, clocked}
 use Rattle.gr_route.specs.declared.work.Work.{Work}
 use Rattle.gr_route.specs.declared.work.Work.TheVariants.{Access, Stop}

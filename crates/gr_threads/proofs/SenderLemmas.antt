@@ -1,8 +1,7 @@
 -- What a sender keeps over a push.
-use Rattle.std.proofs.Common.{◌≡◌, ℕ, ◌+◌, ◌<◌, Bool, [], ◌∷◌, ◌++◌, length, sym, ◌∙◌, subst, arith, length-append, IsFalse}
+use Rattle.gr_model.proofs.Common.{◌≡◌, ℕ, ◌+◌, ◌<◌, Bool, [], ◌∷◌, ◌++◌, length, sym, ◌∙◌, subst, arith, length-append, IsFalse}
 use Rattle.gr_model.specs.declared.event.Event.{Event}
-use Rattle.gr_model.specs.Streams.{is_complete}
-use Rattle.gr_model.specs.Events.{is_end}
+use Rattle.gr_model.specs.Prelude.{is_complete, is_end}
 use Rattle.gr_model.proofs.Sending.{is_complete-push}
 use Rattle.gr_route.specs.IntakeSeats.{Seat}
 use Rattle.gr_route.specs.Rooms.{Room}

@@ -3,8 +3,7 @@
 use Rattle.std.specs.Prelude.{◌≡◌, ◌<◌, ◌≤◌, ◌+◌, ℕ, Bool, true, false, length, MatchOption, Option, IsTrue, IsFalse}
 use Rattle.crossbeam_queue.specs.Fifo.{Held}
 use Rattle.gr_model.specs.declared.event.Event.{Event}
-use Rattle.gr_model.specs.Events.{IsEventOk, end_of, is_end}
-use Rattle.gr_model.specs.Streams.{is_complete}
+use Rattle.gr_model.specs.Prelude.{IsEventOk, end_of, is_end, is_complete}
 use Rattle.gr_route.specs.Batches.{all_of}
 use Rattle.gr_route.specs.IntakeSeats.{AgreesWithSeat}
 use Rattle.gr_threads.specs.declared.sender.SendError.{SendError}

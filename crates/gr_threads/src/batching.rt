@@ -3,8 +3,7 @@
 //! Invariant: the events that wait may be pushed after what the sender has sent. No event waits once the end was sent.
 
 ghost use Rattle.std.specs.Prelude.{◌≡◌, ◌+◌, [], ◌∷◌, ◌++◌, IfErr, IfOk, OnErr, OnOk, IsTrue, IsFalse};
-ghost use Rattle.gr_model.specs.Events.{end_of};
-ghost use Rattle.gr_model.specs.Streams.{is_complete};
+ghost use Rattle.gr_model.specs.Prelude.{end_of, is_complete};
 ghost use Rattle.gr_threads.specs.Refusals.{IsRefusalOfEnd, IsSendRefusal, MaySend, is_full};
 ghost use Rattle.gr_threads.specs.Senders.{MayPush, with_waiting};
 

@@ -1,7 +1,7 @@
 //! What is left of a sender that was closed.
 
 ghost use Rattle.std.specs.Prelude.{◌≡◌, IsTrue};
-ghost use Rattle.gr_model.specs.Streams.{is_complete};
+ghost use Rattle.gr_model.specs.Prelude.{is_complete};
 
 use gr_route::intake::IntakeSeat;
 use std::alloc::{Allocator, Global};
@@ -16,7 +16,7 @@ pub struct Receipt<A: Allocator = Global> {
 
 impl<A: Allocator> Model for Receipt<A> {
     ghost use Rattle.std.specs.Prelude.{IsTrue};
-    ghost use Rattle.gr_model.specs.Streams.{is_complete};
+    ghost use Rattle.gr_model.specs.Prelude.{is_complete};
     ghost use Rattle.gr_route.specs.IntakeSeats.{Seat};
 
     ghost Value = { Seat };

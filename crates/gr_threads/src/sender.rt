@@ -7,8 +7,7 @@
 
 ghost use Rattle.std.specs.Prelude.{◌≡◌, ◌+◌, ◌<◌, ◌≤◌, [], ◌∷◌, ◌++◌, length, IfOk, IfErr, IfSome, OnOk, OnErr, MatchOption, IsTrue, IsFalse};
 ghost use Rattle.std.specs.Arc.{arc_value};
-ghost use Rattle.gr_model.specs.Events.{IsEventOk, end_of, is_end};
-ghost use Rattle.gr_model.specs.Streams.{is_complete};
+ghost use Rattle.gr_model.specs.Prelude.{IsEventOk, end_of, is_end, is_complete};
 ghost use Rattle.gr_threads.specs.Refusals.{IsFull, IsSendRefusal, IsRefusalOfEnd, MaySend, IsFirstCause, WasFull, is_full};
 ghost use Rattle.gr_threads.specs.Senders.{MayPush, with_waiting};
 

@@ -1,8 +1,7 @@
 -- Words that are hit in the work of a worker.
-use Rattle.std.proofs.Common.{◌≡◌, ◌<◌, List, [], ◌∷◌, length, refl, subst, arith}
+use Rattle.gr_model.proofs.Common.{◌≡◌, ◌<◌, List, [], ◌∷◌, length, refl, subst, arith}
 use Rattle.gr_model.specs.declared.event.Word.{Word}
-use Rattle.gr_model.specs.Hits.{ClashesAt}
-use Rattle.gr_model.specs.Reports.{Lists, WordBelow}
+use Rattle.gr_model.specs.Prelude.{ClashesAt, Lists, WordBelow}
 use Rattle.gr_clocks.specs.declared.access.Access.{Access as AnyAccess}
 use Rattle.gr_route.specs.declared.work.Work.{Work}
 use Rattle.gr_route.specs.declared.work.Work.TheVariants.{Access, Stop}

@@ -1,24 +1,15 @@
 -- What is known of the events of a group, with one record more, and of those of all groups below a bound.
-use Rattle.std.proofs.Common.{◌≡◌, ℕ, suc, ◌+◌, ◌<◌, Bool, true, false, cond, List, [], ◌∷◌, ◌++◌, length, filter, slice_get, refl, ap, ◌∙◌, arith, append-nil, if◌then◌else◌, Some, option_map, sym, ◌≢◌, ◌≤◌, ◌==◌, not, length-append, Option, None, take, subst, inl, inr, ⊎_elim, eqb-true, true≢false, get_or}
-use Rattle.std.proofs.lemmas.List.Elements.{filter-append}
-use Rattle.std.proofs.lemmas.Grind.{common_steps}
-use Rattle.std.proofs.lemmas.Option.{gets, slice_get_past, slice_get_read}
+use Rattle.gr_model.proofs.Common.{◌≡◌, ℕ, suc, ◌+◌, ◌<◌, Bool, true, false, cond, List, [], ◌∷◌, ◌++◌, length, filter, slice_get, refl, ap, ◌∙◌, arith, append-nil, if◌then◌else◌, Some, option_map, sym, ◌≢◌, ◌≤◌, ◌==◌, not, length-append, Option, None, take, subst, inl, inr, ⊎_elim, eqb-true, true≢false, get_or, filter-append, common_steps, gets, slice_get_past, slice_get_read, length_push, take-append-le, length-take-le, take_more, take-append_seam, and_parts, cases_order, eq-eqb, false_from_ne_true}
 use Rattle.gr_model.specs.declared.event.Event.{Event}
-use Rattle.gr_model.specs.Streams.{is_of, places_from, IsAccepted, Streams}
+use Rattle.gr_model.specs.Prelude.{is_of, places_from, IsAccepted, Streams, is_barrier, event_word, word_if_access, is_end, is_end_kind}
 use Rattle.gr_model.proofs.Places.{places_from-append}
-use Rattle.std.proofs.lemmas.List.{length_push, take-append-le, length-take-le, take_more}
 use Rattle.gr_model.proofs.ListsOfRecords.{length-filter_le}
 use Rattle.gr_model.specs.declared.limits.TheConstants.{MOST_RECORDS}
-use Rattle.gr_model.specs.Barriers.{is_barrier}
 use Rattle.gr_timeline.specs.declared.counting.Count.{Count}
 use Rattle.gr_timeline.specs.Counting.{AreCounts, IsSmall, after_record, counted}
-use Rattle.std.proofs.Math.Seq.{take-append_seam}
-use Rattle.std.proofs.lemmas.Bool.{and_parts, cases_order, eq-eqb, false_from_ne_true}
 use Rattle.gr_model.specs.declared.event.EventId.{EventId}
 use Rattle.gr_model.specs.declared.event.Kind.{Kind}
 use Rattle.gr_model.specs.declared.event.Word.{Word}
-use Rattle.gr_model.specs.Access.{event_word, word_if_access}
-use Rattle.gr_model.specs.Events.{is_end, is_end_kind}
 use Rattle.gr_timeline.specs.declared.details.Details.{Details}
 use Rattle.gr_timeline.specs.Accesses.{details_at, IsKnown}
 use Rattle.gr_explain.specs.Events.{same_event}

@@ -1,19 +1,13 @@
 -- The accesses to a word that are held are those that are left of all if the grounded ones are taken away.
-use Rattle.std.proofs.Common.{◌≡◌, ◌≢◌, ◌↔◌, ℕ, ◌+◌, ◌<◌, ◌&&◌, not, Bool, true, false, List, filter, get_or, length, Option, Some, None, is_some, slice_get, refl, sym, ap, ◌∙◌, subst, arith, true≢false, [], Decides}
-use Rattle.std.specs.List.{AllPairs, IsDistinct}
+use Rattle.gr_model.proofs.Common.{◌≡◌, ◌≢◌, ◌↔◌, ℕ, ◌+◌, ◌<◌, ◌&&◌, not, Bool, true, false, List, filter, get_or, length, Option, Some, None, is_some, slice_get, refl, sym, ap, ◌∙◌, subst, arith, true≢false, [], Decides, IsDistinct, and_parts, and_right, not-true, length-map, AllPairs-from_IsDistinct, IsDistinct-from_AllPairs, is_member-filter, is_some-lookup, length-intersection_difference, get_or_from_slice_get, slice_get-get_or, slice_get_within}
+use Rattle.std.specs.List.{AllPairs}
 use Rattle.std.specs.Map.{keys_of}
 use Rattle.std.specs.Set.{IsDifference, IsIntersection, is_member}
-use Rattle.std.proofs.lemmas.Bool.{and_parts, and_right, not-true}
-use Rattle.std.proofs.lemmas.List.{length-map}
 use Rattle.std.proofs.lemmas.List.Kept.{AllPairs-filter}
-use Rattle.std.proofs.lemmas.Map.Made.{AllPairs-from_IsDistinct, IsDistinct-from_AllPairs, is_member-filter, is_some-lookup, length-intersection_difference}
 use Rattle.std.proofs.lemmas.Map.Views.{Contains-from_any, list_any-from_Contains}
-use Rattle.std.proofs.lemmas.Option.{get_or_from_slice_get, slice_get-get_or, slice_get_within}
 use Rattle.gr_model.specs.declared.event.EventId.{EventId}
 use Rattle.gr_model.specs.declared.event.Word.{Word}
-use Rattle.gr_model.specs.LawfulOrders.{IsAt, IsIn}
-use Rattle.gr_model.specs.Streams.{Streams}
-use Rattle.gr_model.specs.Waits.{IsGrounded}
+use Rattle.gr_model.specs.Prelude.{IsAt, IsIn, Streams, IsGrounded}
 use Rattle.gr_model.proofs.Places.{Contains-at}
 use Rattle.gr_timeline.specs.declared.details.Details.{Details}
 use Rattle.gr_explain.specs.Events.{same_event}

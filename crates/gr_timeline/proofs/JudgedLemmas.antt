@@ -1,13 +1,8 @@
 -- If all that can be handled was handled, the events that are grounded are the first ones of their items.
-use Rattle.std.proofs.Common.{◌≡◌, ◌↔◌, ℕ, ◌+◌, ◌-◌, ◌<◌, ◌≤◌, List, drop, slice_get, refl, sym, ap, ◌∙◌, ⊎_elim, arith}
-use Rattle.std.proofs.lemmas.Bool.{cases_lt}
-use Rattle.std.proofs.lemmas.Grind.{common_steps}
-use Rattle.std.proofs.lemmas.Option.{gets}
+use Rattle.gr_model.proofs.Common.{◌≡◌, ◌↔◌, ℕ, ◌+◌, ◌-◌, ◌<◌, ◌≤◌, List, drop, slice_get, refl, sym, ap, ◌∙◌, ⊎_elim, arith, cases_lt, common_steps, gets}
 use Rattle.gr_model.specs.declared.event.EventId.{EventId}
 use Rattle.gr_model.specs.declared.event.ItemId.{ItemId}
-use Rattle.gr_model.specs.LawfulOrders.{IsIn, IsWholeOrder}
-use Rattle.gr_model.specs.Streams.{Streams, event_at}
-use Rattle.gr_model.specs.Waits.{IsGrounded}
+use Rattle.gr_model.specs.Prelude.{IsIn, IsWholeOrder, Streams, event_at, IsGrounded}
 use Rattle.gr_clocks.specs.Counts.{Counts, count_of}
 use Rattle.gr_windows.specs.Windows.{AreWaiting, Table, window_of}
 use Rattle.gr_order.specs.Sequences.{IsDone, IsSequence, Sequence}

@@ -1,5 +1,5 @@
 -- The elements of a list for which something holds, and the lines of entries, as the list grows.
-use Rattle.std.proofs.Common.{◌≡◌, ◌↔◌, ℕ, zero, suc, List, Some, None, ap, arith, refl, slice_get, subst, sym, Bool, true, false, cond, [], ◌∷◌, ◌++◌, filter, length, map, true≢false, ◌∙◌, lt-ltb, ltb-true}
+use Rattle.gr_model.proofs.Common.{◌≡◌, ◌↔◌, ℕ, zero, suc, List, Some, None, ap, arith, refl, slice_get, subst, sym, Bool, true, false, cond, [], ◌∷◌, ◌++◌, filter, length, map, true≢false, ◌∙◌, lt-ltb, ltb-true}
 use Rattle.gr_timeline.specs.Selections.{AreThose, of_none, of_one, of_other}
 use Rattle.gr_model.specs.declared.event.EventId.{EventId}
 use Rattle.gr_clocks.specs.Counts.{Counts, count_of}

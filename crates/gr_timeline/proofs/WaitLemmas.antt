@@ -1,15 +1,8 @@
 -- Why the first held event of an item is held: one of its names, or an event before a barrier that it meets.
-use Rattle.std.proofs.Common.{◌≡◌, ◌↔◌, ℕ, ◌+◌, ◌<◌, ◌≤◌, List, Option, None, Some, refl, slice_get, eq-or-lt_of_le, sym, ap, ◌∙◌, ⊎_elim, arith, MatchOption}
-use Rattle.std.proofs.lemmas.Option.{slice_get_within}
+use Rattle.gr_model.proofs.Common.{◌≡◌, ◌↔◌, ℕ, ◌+◌, ◌<◌, ◌≤◌, List, Option, None, Some, refl, slice_get, eq-or-lt_of_le, sym, ap, ◌∙◌, ⊎_elim, arith, MatchOption, slice_get_within}
 use Rattle.gr_model.specs.declared.event.EventId.{EventId}
 use Rattle.gr_model.specs.declared.event.Name.{Name}
-use Rattle.gr_model.specs.Access.{is_release}
-use Rattle.gr_model.specs.Barriers.{IsConvergent, IsDivergent, StandsIn}
-use Rattle.gr_model.specs.Instances.{Mark}
-use Rattle.gr_model.specs.LawfulOrders.{IsWholeOrder}
-use Rattle.gr_model.specs.Names.{HasName, IsOfItsWord, Matches, release_place}
-use Rattle.gr_model.specs.Streams.{AreComplete, IsEvent, Streams, trace_of}
-use Rattle.gr_model.specs.Waits.{IsGrounded, IsPrevious, Waits, for_arrival, for_meeting, for_previous, for_release}
+use Rattle.gr_model.specs.Prelude.{is_release, IsConvergent, IsDivergent, StandsIn, Mark, IsWholeOrder, HasName, IsOfItsWord, Matches, release_place, AreComplete, IsEvent, Streams, trace_of, IsGrounded, IsPrevious, Waits, for_arrival, for_meeting, for_previous, for_release}
 use Rattle.gr_model.proofs.Descent.{lawful_is_grounded}
 use Rattle.gr_model.proofs.GrowthLaws.{not_both}
 use Rattle.gr_model.proofs.Places.{places_from-there}

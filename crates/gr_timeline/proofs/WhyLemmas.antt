@@ -1,8 +1,7 @@
 -- What an answer says of an event.
-use Rattle.std.proofs.Common.{◌↔◌, IsTrue, zero, suc, refl, sym, true≢false}
+use Rattle.gr_model.proofs.Common.{◌↔◌, IsTrue, zero, suc, refl, sym, true≢false}
 use Rattle.gr_model.specs.declared.event.EventId.{EventId}
-use Rattle.gr_model.specs.Streams.{IsEvent, Streams}
-use Rattle.gr_model.specs.Waits.{IsGrounded}
+use Rattle.gr_model.specs.Prelude.{IsEvent, Streams, IsGrounded}
 use Rattle.gr_timeline.specs.Waiting.{IsHeldEvent}
 use Rattle.gr_timeline.specs.Why.{Answer, IsWhy, held, judged, no_record, says_held}
 

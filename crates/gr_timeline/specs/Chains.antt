@@ -2,8 +2,7 @@
 -- Source: docs/MODEL.md, "What waits for what".
 use Rattle.std.specs.Prelude.{◌≡◌, ℕ, ◌<◌, List, [], ◌∷◌, IfSome, Option, None, Some, option_map, slice_get}
 use Rattle.gr_model.specs.declared.event.EventId.{EventId}
-use Rattle.gr_model.specs.Names.{HasName, IsAbsent, IsOfOtherWord, Matches}
-use Rattle.gr_model.specs.Streams.{Streams}
+use Rattle.gr_model.specs.Prelude.{HasName, IsAbsent, IsOfOtherWord, Matches, Streams}
 use Rattle.gr_timeline.specs.declared.reason.Link.{Link}
 use Rattle.gr_timeline.specs.declared.reason.Reason.{Reason}
 use Rattle.gr_timeline.specs.declared.reason.Reason.TheVariants.{Behind, Release, Barrier, Absent, OtherWord, Circle}

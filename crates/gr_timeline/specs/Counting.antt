@@ -2,8 +2,7 @@
 use Rattle.std.specs.Prelude.{◌≡◌, ℕ, ◌+◌, ◌<◌, List, Some, filter, if◌then◌else◌, length, slice_get}
 use Rattle.gr_model.specs.declared.event.Event.{Event}
 use Rattle.gr_model.specs.declared.limits.TheConstants.{MOST_RECORDS}
-use Rattle.gr_model.specs.Barriers.{is_barrier}
-use Rattle.gr_model.specs.Streams.{is_of}
+use Rattle.gr_model.specs.Prelude.{is_barrier, is_of}
 use Rattle.gr_timeline.specs.declared.counting.Count.{Count}
 
 -- those of an item in a list

@@ -3,8 +3,7 @@
 use Rattle.std.specs.Prelude.{ℕ, Option, filter, length, option_and_then, option_map, slice_get, take}
 use Rattle.gr_model.specs.declared.event.Event.{Event}
 use Rattle.gr_model.specs.declared.event.EventId.{EventId}
-use Rattle.gr_model.specs.Barriers.{is_barrier}
-use Rattle.gr_model.specs.Streams.{Streams, event_at, is_of, list_of, places_from, trace_of}
+use Rattle.gr_model.specs.Prelude.{is_barrier, Streams, event_at, is_of, list_of, places_from, trace_of}
 use Rattle.gr_timeline.specs.declared.details.Details.{Details}
 
 -- the number of an event's record in its group's stream

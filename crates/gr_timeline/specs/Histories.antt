@@ -3,10 +3,7 @@
 use Rattle.std.specs.Prelude.{◌≡◌, ℕ, ◌<◌, Bool, List, [], ◌∷◌, ◌++◌, Some, filter, length, map, nat_lt, slice_get, take}
 use Rattle.gr_model.specs.declared.event.EventId.{EventId}
 use Rattle.gr_model.specs.declared.event.Word.{Word}
-use Rattle.gr_model.specs.Access.{memory_of}
-use Rattle.gr_model.specs.HappensBefore.{HappensBefore}
-use Rattle.gr_model.specs.LawfulOrders.{IsWholeOrder}
-use Rattle.gr_model.specs.Streams.{Streams}
+use Rattle.gr_model.specs.Prelude.{memory_of, HappensBefore, IsWholeOrder, Streams}
 use Rattle.gr_clocks.specs.ClockedAccess.{ClockedAccess}
 use Rattle.gr_clocks.specs.Counts.{Counts, count_of}
 use Rattle.gr_timeline.specs.Accesses.{IsOn}

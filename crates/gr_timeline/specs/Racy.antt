@@ -1,8 +1,6 @@
 -- Whether a word of a launch is racy.
 use Rattle.gr_model.specs.declared.event.Word.{Word}
-use Rattle.gr_model.specs.Races.{IsRacy}
-use Rattle.gr_model.specs.Streams.{Streams}
-use Rattle.gr_model.specs.Waits.{IsGrounded}
+use Rattle.gr_model.specs.Prelude.{IsRacy, Streams, IsGrounded}
 
 -- the word is racy in a launch
 abbrev pub IsRacyIn : Word → Streams → Type 0

@@ -3,11 +3,7 @@
 use Rattle.std.specs.Prelude.{◌≡◌, ◌<◌, ℕ, Some}
 use Rattle.gr_model.specs.declared.event.EventId.{EventId}
 use Rattle.gr_model.specs.declared.event.Name.{Name}
-use Rattle.gr_model.specs.Barriers.{StandsIn, Together, is_barrier}
-use Rattle.gr_model.specs.Instances.{Mark}
-use Rattle.gr_model.specs.Names.{MatchesBy}
-use Rattle.gr_model.specs.Streams.{IsEvent, Streams, place_of}
-use Rattle.gr_model.specs.Waits.{IsGrounded, IsPrevious}
+use Rattle.gr_model.specs.Prelude.{StandsIn, Together, is_barrier, Mark, MatchesBy, IsEvent, Streams, place_of, IsGrounded, IsPrevious}
 use Rattle.gr_lanes.specs.Remembered.{Remembered, forgotten_of}
 
 -- an event that is there and is not grounded

@@ -2,8 +2,7 @@
 -- Source: docs/MODEL.md, "What waits for what".
 use Rattle.std.specs.Prelude.{Bool, true, false, List}
 use Rattle.gr_model.specs.declared.event.EventId.{EventId}
-use Rattle.gr_model.specs.Streams.{IsEvent, Streams}
-use Rattle.gr_model.specs.Waits.{IsGrounded}
+use Rattle.gr_model.specs.Prelude.{IsEvent, Streams, IsGrounded}
 use Rattle.gr_timeline.specs.declared.reason.Link.{Link}
 use Rattle.gr_timeline.specs.declared.why.WhyHeld.{WhyHeld}
 use Rattle.gr_timeline.specs.declared.why.WhyHeld.TheVariants as answers

@@ -2,7 +2,7 @@
 
 ghost use Rattle.std.specs.Prelude.{◌≡◌, None, IfOk, OnOk};
 ghost use Rattle.gr_model.specs.declared.event.EventId.{EventId as AnyEvent};
-ghost use Rattle.gr_model.specs.Streams.{IsAccepted};
+ghost use Rattle.gr_model.specs.Prelude.{IsAccepted};
 ghost use Rattle.gr_timeline.specs.Accesses.{AreAccesses, details_at};
 ghost use Rattle.gr_timeline.specs.Gathering.{AreKnownIn, AreOthersKept, KeepsRecord};
 

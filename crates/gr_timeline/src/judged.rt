@@ -4,10 +4,9 @@
 
 ghost use Rattle.std.specs.Prelude.{◌≡◌, ◌↔◌, ◌<◌, IfOk, IsTrue, List};
 ghost use Rattle.gr_model.specs.declared.event.EventId.{EventId as AnyEvent};
-ghost use Rattle.gr_model.specs.LawfulOrders.{IsWholeOrder};
+ghost use Rattle.gr_model.specs.Prelude.{IsWholeOrder, IsGrounded};
 ghost use Rattle.gr_model.specs.Streams as model;
 ghost use Rattle.gr_timeline.specs.Waiting.{ForgetsGrounded};
-ghost use Rattle.gr_model.specs.Waits.{IsGrounded};
 
 use gr_lanes::lanes::Lanes;
 use gr_model::event::{Event, EventId, ItemId};
@@ -27,7 +26,7 @@ pub(crate) struct Judged<A: Allocator = Global> {
 }
 
 impl<A: Allocator> Model for Judged<A> {
-    ghost use Rattle.gr_model.specs.Streams.{AreComplete, Streams};
+    ghost use Rattle.gr_model.specs.Prelude.{AreComplete, Streams};
     ghost use Rattle.gr_order.specs.Sequences.{IsDone};
 
     ghost Value = { Streams };

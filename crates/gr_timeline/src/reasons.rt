@@ -6,10 +6,7 @@
 ghost use Rattle.std.specs.Prelude.{◌≡◌, ◌<◌, ℕ, All, Contains, MatchOption, None, Some, length};
 ghost use Rattle.gr_model.specs.declared.event.EventId.{EventId as AnyEvent};
 ghost use Rattle.gr_model.specs.declared.event.Name.{Name as AnyName};
-ghost use Rattle.gr_model.specs.Barriers.{StandsIn};
-ghost use Rattle.gr_model.specs.Names.{HasName, IsOfItsWord, Matches, release_place};
-ghost use Rattle.gr_model.specs.Streams.{size_of, word_at};
-ghost use Rattle.gr_model.specs.Waits.{IsGrounded, IsPrevious};
+ghost use Rattle.gr_model.specs.Prelude.{StandsIn, HasName, IsOfItsWord, Matches, release_place, size_of, word_at, IsGrounded, IsPrevious};
 ghost use Rattle.gr_timeline.specs.Chains.{IsCause, LeadsToHeld, leads_to};
 ghost use Rattle.gr_timeline.specs.Waiting.{HasGroundedRelease, HaveArrived, IsHeldEvent, IsLate, IsPassed, IsStuck};
 

@@ -1,12 +1,6 @@
 -- The windows of a group's items: what is read, what is written at an item, and that those in which nothing waits can go.
-use Rattle.std.proofs.lemmas.Bool.Decides.{nat_tests}
-use Rattle.std.proofs.lemmas.Grind.{common_steps}
-use Rattle.std.proofs.lemmas.List.{get_or_append_left, get_or-append_right}
-use Rattle.std.proofs.Common.{◌≡◌, ◌⊎◌, inr, ⊎_elim, ℕ, zero, suc, ◌+◌, ◌-◌, ◌<◌, ◌≤◌, ◌==◌, List, [], ◌∷◌, ◌++◌, length, get_or, set, drop, refl, sym, ◌∙◌, ap, arith, append-nil}
+use Rattle.gr_model.proofs.Common.{nat_tests, common_steps, get_or_append_left, get_or-append_right, ◌≡◌, ◌⊎◌, inr, ⊎_elim, ℕ, zero, suc, ◌+◌, ◌-◌, ◌<◌, ◌≤◌, ◌==◌, List, [], ◌∷◌, ◌++◌, length, get_or, set, drop, refl, sym, ◌∙◌, ap, arith, append-nil, sum_by, get_or_past, get_or_read, length-append, length-drop, length-replicate, length-set, set-append_left, set-get_or, get_or-le-sum_by, sum_by-cons, sum_by-set}
 use Rattle.std.specs.Int.{from_bool}
-use Rattle.std.specs.List.{sum_by}
-use Rattle.std.proofs.lemmas.List.{get_or_past, get_or_read, length-append, length-drop, length-replicate, length-set, set-append_left, set-get_or}
-use Rattle.std.proofs.lemmas.List.Sums.{get_or-le-sum_by, sum_by-cons, sum_by-set}
 use Rattle.gr_model.specs.declared.event.Event.{Event}
 use Rattle.gr_windows.specs.Rows.{IsRowKept, begun, padded, waits}
 use Rattle.gr_windows.proofs.WindowLemmas.{none_is, none_of}

@@ -1,18 +1,11 @@
 -- The events of items in a table: what is read, and what is written at an item.
-use Rattle.std.proofs.lemmas.Grind.{common_steps, get_or-set_at}
-use Rattle.std.proofs.lemmas.Option.{gets}
+use Rattle.gr_model.proofs.Common.{common_steps, get_or-set_at, gets, drop_all, drop-drop, get_or-replicate, ◌≡◌, ℕ, zero, suc, ◌+◌, ◌-◌, ◌<◌, List, [], ◌∷◌, ◌++◌, map, length, get_or, set, slice_get, replicate, drop, take, refl, sym, ◌∙◌, ap, subst, arith, get_or_past, get_or_read, get_or-set_other, length-replicate, length-set, map-set_same}
 use Rattle.gr_clocks.proofs.RowLemmas.{one_item, row_of_item, row_size}
-use Rattle.std.proofs.lemmas.List.{drop_all, drop-drop, get_or-replicate}
-use Rattle.std.proofs.Common.{◌≡◌, ℕ, zero, suc, ◌+◌, ◌-◌, ◌<◌, List, [], ◌∷◌, ◌++◌, map, length, get_or, set, slice_get, replicate, drop, take, refl, sym, ◌∙◌, ap, subst, arith}
-use Rattle.std.proofs.lemmas.List.{get_or_past, get_or_read, get_or-set_other, length-replicate, length-set}
-use Rattle.std.proofs.Math.Seq.{map-set_same}
 use Rattle.gr_model.specs.declared.event.Event.{Event}
 use Rattle.gr_model.specs.declared.event.EventId.{EventId}
 use Rattle.gr_model.specs.declared.event.ItemId.{ItemId}
-use Rattle.gr_model.specs.Groups.{put}
-use Rattle.gr_model.specs.Shapes.{HasItem}
+use Rattle.gr_model.specs.Prelude.{put, HasItem, Streams, event_at}
 use Rattle.gr_model.proofs.PutLemmas.{map_put, put_other, put_same}
-use Rattle.gr_model.specs.Streams.{Streams, event_at}
 use Rattle.gr_clocks.specs.Counts.{Counts, count_of}
 use Rattle.gr_clocks.specs.Tables.{item_of}
 use Rattle.gr_windows.specs.Windows.{AddsItems, AreWaiting, Changes, DropsItems, IsEmpty, Table, window_of}

@@ -1,7 +1,7 @@
 //! For each work-item, the events that wait.
 
 ghost use Rattle.std.specs.Prelude.{◌≡◌, ◌-◌, ◌<◌, ◌≤◌, ◌++◌, ◌∷◌, [], IfOk, OnOk, OnErr, drop, length, map, slice_get, slice_index, take};
-ghost use Rattle.gr_model.specs.Shapes.{HasItem};
+ghost use Rattle.gr_model.specs.Prelude.{HasItem};
 ghost use Rattle.gr_windows.specs.Windows.{AddsItems, Changes, DropsItems, IsEmpty, window_of};
 
 use crate::row::Row;

@@ -1,7 +1,5 @@
 -- What holds for each item of a list after one item changed, and of a list whose accesses are seen without allocators.
-use Rattle.std.proofs.Common.{◌≡◌, ◌≢◌, ℕ, ◌<◌, List, length, get_or, set, sym, subst, refl, [], ◌∷◌, ⊎_elim, get_or-set_other, get_or-set_same}
-use Rattle.std.proofs.lemmas.Bool.{cases_eq}
-use Rattle.std.proofs.lemmas.List.{length-map, map-append}
+use Rattle.gr_model.proofs.Common.{◌≡◌, ◌≢◌, ℕ, ◌<◌, List, length, get_or, set, sym, subst, refl, [], ◌∷◌, ⊎_elim, get_or-set_other, get_or-set_same, cases_eq, length-map, map-append}
 use Rattle.gr_clocks.specs.declared.access.Access.{Access}
 use Rattle.gr_world.specs.Queues.{all_clocked}
 

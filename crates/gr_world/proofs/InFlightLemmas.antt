@@ -1,14 +1,10 @@
 -- A world in which an event was handled, an instance met, or an access went on, is a world.
-use Rattle.std.proofs.Common.{◌≡◌, ◌≢◌, ℕ, ◌<◌, ◌≤◌, true≢false, IsFalse, IsTrue, Bool, true, false, List, [], ◌∷◌, ◌++◌, length, get_or, set, Option, Some, None, refl, sym, ap, ◌∙◌, subst, arith, append_assoc, append-nil, eq-eqb, ne_eqb, mod-lt, option_map, is_some}
-use Rattle.std.proofs.lemmas.List.{get_or_default, length-set, set-get_or}
-use Rattle.std.proofs.lemmas.List.Elements.{filter-append}
+use Rattle.gr_model.proofs.Common.{◌≡◌, ◌≢◌, ℕ, ◌<◌, ◌≤◌, true≢false, IsFalse, IsTrue, Bool, true, false, List, [], ◌∷◌, ◌++◌, length, get_or, set, Option, Some, None, refl, sym, ap, ◌∙◌, subst, arith, append_assoc, append-nil, eq-eqb, ne_eqb, mod-lt, option_map, is_some, get_or_default, length-set, set-get_or, filter-append}
 use Rattle.gr_model.specs.declared.event.EventId.{EventId}
 use Rattle.gr_model.specs.declared.event.Word.{Word}
 use Rattle.gr_model.specs.declared.event.Word.TheVariants.{Global, Local}
-use Rattle.gr_model.specs.Configs.{worker_number}
-use Rattle.gr_model.specs.Streams.{Streams}
+use Rattle.gr_model.specs.Prelude.{worker_number, Streams, HasItem}
 use Rattle.gr_model.specs.declared.event.ItemId.{ItemId}
-use Rattle.gr_model.specs.Shapes.{HasItem}
 use Rattle.gr_clocks.specs.declared.access.Access.{Access}
 use Rattle.gr_closure.specs.Accesses.{IsAccessOf}
 use Rattle.gr_closure.specs.AccessesAlong.{AreAccesses, in_flight_list}

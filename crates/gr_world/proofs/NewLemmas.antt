@@ -1,13 +1,8 @@
 -- A world in which nothing was sent is a world.
-use Rattle.std.proofs.Common.{◌≡◌, ℕ, zero, suc, ◌%◌, ◌<◌, ◌≤◌, List, [], ◌∷◌, ◌++◌, length, refl, sym, ap, ◌∙◌, subst, ⊎_elim, arith, Contains}
-use Rattle.std.proofs.Math.ListN.{get_or-eq_default}
-use Rattle.std.proofs.lemmas.Bool.{cases_lt}
-use Rattle.std.proofs.lemmas.List.{get_or-replicate, length-replicate}
+use Rattle.gr_model.proofs.Common.{◌≡◌, ℕ, zero, suc, ◌%◌, ◌<◌, ◌≤◌, List, [], ◌∷◌, ◌++◌, length, refl, sym, ap, ◌∙◌, subst, ⊎_elim, arith, Contains, get_or-eq_default, cases_lt, get_or-replicate, length-replicate}
 use Rattle.gr_model.specs.declared.event.Event.{Event}
 use Rattle.gr_model.specs.declared.event.Sent.{Sent}
-use Rattle.gr_model.specs.Configs.{IsConfig, Settings}
-use Rattle.gr_model.specs.Shapes.{IsShape}
-use Rattle.gr_model.specs.Streams.{ArePrefixes, events_of, list_of}
+use Rattle.gr_model.specs.Prelude.{IsConfig, Settings, IsShape, ArePrefixes, events_of, list_of}
 use Rattle.gr_steps.proofs.Orders.{lawful_empty}
 use Rattle.gr_closure.specs.AccessesAlong.{of_none}
 use Rattle.gr_lanes.specs.Takes.{nothing_taken}

@@ -1,10 +1,7 @@
 -- A word that is hit in what a worker received is racy, and stays racy if lists grow.
-use Rattle.std.proofs.Common.{◌≡◌, ℕ, ◌<◌, ◌==◌, true, List, ◌++◌, sym, ap, ◌∙◌, subst}
+use Rattle.gr_model.proofs.Common.{◌≡◌, ℕ, ◌<◌, ◌==◌, true, List, ◌++◌, sym, ap, ◌∙◌, subst}
 use Rattle.gr_model.specs.declared.event.Word.{Word}
-use Rattle.gr_model.specs.Configs.{worker_number}
-use Rattle.gr_model.specs.Races.{IsRacy}
-use Rattle.gr_model.specs.Streams.{Grows, Streams}
-use Rattle.gr_model.specs.Waits.{IsGrounded}
+use Rattle.gr_model.specs.Prelude.{worker_number, IsRacy, Grows, Streams, IsGrounded}
 use Rattle.gr_model.proofs.HitLaws.{IsHit-filter}
 use Rattle.gr_model.proofs.Places.{slice_get-append}
 use Rattle.gr_model.proofs.RaceGrowth.{races_stay}

@@ -1,13 +1,8 @@
 -- A world at rest: all that was sent was taken, and all that was passed on was received. And the hits of all workers.
-use Rattle.std.proofs.Common.{◌≡◌, ◌⊎◌, ◌↔◌, ℕ, ◌<◌, ◌==◌, List, [], ◌∷◌, ◌++◌, length, None, refl, sym, ap, ◌∙◌, subst, inl, inr, ⊎_elim, arith, append-nil, eq-eqb, Contains}
-use Rattle.std.proofs.lemmas.Bool.{eqb-true}
-use Rattle.std.proofs.lemmas.List.{ext_get_or, get_or_default}
-use Rattle.std.proofs.lemmas.List.Elements.{Contains-append_left, Contains-push, Contains-push_cases}
+use Rattle.gr_model.proofs.Common.{◌≡◌, ◌⊎◌, ◌↔◌, ℕ, ◌<◌, ◌==◌, List, [], ◌∷◌, ◌++◌, length, None, refl, sym, ap, ◌∙◌, subst, inl, inr, ⊎_elim, arith, append-nil, eq-eqb, Contains, eqb-true, ext_get_or, get_or_default, Contains-append_left, Contains-push, Contains-push_cases}
 use Rattle.gr_model.specs.declared.event.Word.{Word}
-use Rattle.gr_model.specs.Configs.{worker_number}
+use Rattle.gr_model.specs.Prelude.{worker_number, AreRaces, Lists, WordBelow, AreComplete, Streams}
 use Rattle.gr_model.proofs.HitLaws.{IsHit-filter}
-use Rattle.gr_model.specs.Reports.{AreRaces, Lists, WordBelow}
-use Rattle.gr_model.specs.Streams.{AreComplete, Streams}
 use Rattle.gr_steps.specs.Steps.{AreGrounded, IsAtRest}
 use Rattle.gr_closure.proofs.Clashing.{lists_as, whole_hits_are_races}
 use Rattle.gr_order.specs.Sequences.{IsDone}

@@ -1,9 +1,7 @@
 -- What follows for every world: the contract of a function that does nothing.
 use Rattle.std.specs.Prelude.{ℕ, ◌<◌}
 use Rattle.gr_model.specs.declared.event.Word.{Word}
-use Rattle.gr_model.specs.Races.{IsRacy}
-use Rattle.gr_model.specs.Streams.{Grows, Streams}
-use Rattle.gr_model.specs.Waits.{IsGrounded}
+use Rattle.gr_model.specs.Prelude.{IsRacy, Grows, Streams, IsGrounded}
 use Rattle.gr_shadow.specs.Clashes.{IsHitIn}
 use Rattle.gr_world.specs.Worlds.{IsWorld, World, work_at}
 

@@ -5,9 +5,7 @@ use Rattle.gr_model.specs.declared.event.Event.{Event}
 use Rattle.gr_model.specs.declared.event.EventId.{EventId}
 use Rattle.gr_model.specs.declared.event.Sent.{Sent}
 use Rattle.gr_model.specs.declared.limits.TheConstants.{MOST_RECORDS}
-use Rattle.gr_model.specs.Events.{IsEventOk, end_of, is_end}
-use Rattle.gr_model.specs.Shapes.{HasItem}
-use Rattle.gr_model.specs.Streams.{Streams, is_complete, list_of, size_of, word_at}
+use Rattle.gr_model.specs.Prelude.{IsEventOk, end_of, is_end, HasItem, Streams, is_complete, list_of, size_of, word_at}
 use Rattle.gr_steps.specs.Steps.{CanHandle, CanMeet}
 use Rattle.gr_closure.specs.Accesses.{IsAccess}
 use Rattle.gr_clocks.specs.ClockedAccess.{bare}

@@ -5,10 +5,8 @@ use Rattle.std.specs.Option.{option_map}
 use Rattle.gr_model.specs.declared.event.Event.{Event}
 use Rattle.gr_model.specs.declared.event.Sent.{Sent}
 use Rattle.gr_model.specs.declared.event.Word.{Word}
-use Rattle.gr_model.specs.Configs.{IsConfig, Settings, worker_number}
+use Rattle.gr_model.specs.Prelude.{IsConfig, Settings, worker_number, IsShape, AreComplete, ArePrefixes, Streams, events_of, is_complete, list_of}
 use Rattle.gr_model.specs.declared.limits.TheConstants.{MOST_RECORDS}
-use Rattle.gr_model.specs.Shapes.{IsShape}
-use Rattle.gr_model.specs.Streams.{AreComplete, ArePrefixes, Streams, events_of, is_complete, list_of}
 use Rattle.gr_steps.specs.Steps.{IsAtRest}
 use Rattle.gr_lanes.specs.Takes.{nothing_taken, with_record}
 use Rattle.gr_order.specs.Sequences.{IsSequence, Sequence, nothing, taking}

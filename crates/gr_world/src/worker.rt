@@ -3,7 +3,7 @@
 //! Invariant: its shadows represent the accesses that it received.
 
 ghost use Rattle.std.specs.Prelude.{◌≡◌, ◌↔◌, [], IsTrue, IfOk, OnErr};
-ghost use Rattle.gr_model.specs.Reports.{Lists, WordBelow};
+ghost use Rattle.gr_model.specs.Prelude.{Lists, WordBelow};
 ghost use Rattle.gr_shadow.specs.Clashes.{IsHitIn, clocked};
 ghost use Rattle.gr_world.specs.Queues.{HasRoom, Receives, no_work, queueing};
 

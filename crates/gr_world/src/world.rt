@@ -6,10 +6,8 @@
 
 ghost use Rattle.std.specs.Prelude.{◌≡◌, ◌≢◌, ◌↔◌, ◌<◌, ◌+◌, IsTrue, IsFalse, IfOk, IfErr, OnOk, OnErr, length, replicate};
 ghost use Rattle.gr_model.specs.declared.limits.TheConstants.{MOST_RECORDS};
-ghost use Rattle.gr_model.specs.Events.{IsEventOk, is_end};
+ghost use Rattle.gr_model.specs.Prelude.{IsEventOk, is_end, IsReportOf, Lists, WordBelow, list_of, size_of};
 ghost use Rattle.std.specs.List.{sum_by};
-ghost use Rattle.gr_model.specs.Reports.{IsReportOf, Lists, WordBelow};
-ghost use Rattle.gr_model.specs.Streams.{list_of, size_of};
 ghost use Rattle.gr_steps.specs.Steps.{AreGrounded};
 ghost use Rattle.gr_report.specs.Whole.{whole_of};
 ghost use Rattle.gr_world.specs.declared.step.Step.TheVariants as steps;

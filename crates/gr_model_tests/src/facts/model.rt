@@ -1,7 +1,7 @@
 //! Facts of records, shapes, words and traces.
 
 ghost use Rattle.std.specs.Prelude.{◌≡◌, ◌∷◌, [], false, length, map};
-ghost use Rattle.gr_model.specs.Events.{end_of};
+ghost use Rattle.gr_model.specs.Prelude.{end_of};
 
 use gr_model::config::worker_of;
 use gr_model::event::{Event, ItemId, Kind, Name, Order, Scope, Space, Word, event_ok, word_of};

@@ -6,7 +6,7 @@ ghost use Rattle.gr_clocks.specs.ClockedAccess.{clocked};
 ghost use Rattle.gr_clocks.specs.Counts.{count_of};
 ghost use Rattle.gr_model.specs.declared.event.ItemId.{ItemId as AnyItem};
 ghost use Rattle.gr_model.specs.declared.event.Word.TheVariants as words;
-ghost use Rattle.gr_model.specs.Hits.{ClashesAt};
+ghost use Rattle.gr_model.specs.Prelude.{ClashesAt};
 ghost use Rattle.gr_route.specs.declared.work.Work.TheVariants as works;
 ghost use Rattle.gr_model.specs.declared.class.Class.TheVariants as classes;
 ghost use Rattle.gr_shadow.specs.Clashes.{ClockedAccess, clashes};

@@ -2,8 +2,7 @@
 
 ghost use Rattle.std.specs.Prelude.{◌≡◌, ◌<◌, ◌≤◌, ◌==◌, ℕ, false, [], slice_index, slice_index_or, slice_set, if◌then◌else◌, IfOk, IfSome, OnOk};
 ghost use Rattle.std.specs.Arc.{arc_value};
-ghost use Rattle.gr_model.specs.Events.{is_end};
-ghost use Rattle.gr_model.specs.Streams.{events_of};
+ghost use Rattle.gr_model.specs.Prelude.{is_end, events_of};
 ghost use Rattle.gr_route.specs.IntakeRule.{no_sizes};
 ghost use Rattle.gr_route.specs.IntakeSeats.{popped_of};
 ghost use Rattle.gr_threads_tests.specs.Sent.{AreFreshSenders, HasAll, HasEnds, IsFreshSender, IsSeatOf, stream_of, write_of};

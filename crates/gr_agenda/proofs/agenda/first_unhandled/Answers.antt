@@ -1,6 +1,4 @@
-use Rattle.std.proofs.Common.{arith, refl, subst, sym}
-use Rattle.std.proofs.lemmas.List.{get_or_default}
-use Rattle.std.proofs.lemmas.List.Elements.{All-from_all_within, All-same, AllWithin-more, AllWithin-upto}
+use Rattle.gr_model.proofs.Common.{arith, refl, subst, sym, get_or_default, All-from_all_within, All-same, AllWithin-more, AllWithin-upto}
 use Rattle.gr_agenda.specs.Kept.{IsReleaseHandled}
 use Rattle.gr_agenda.proofs.agenda.first_unhandled.Goals as goal
 

@@ -1,4 +1,4 @@
-use Rattle.std.specs.List.{AllWithin}
+use Rattle.gr_model.proofs.Common.{AllWithin}
 use Rattle.gr_agenda.specs.Kept.{IsReleaseHandled}
 use Rattle.gr_agenda.proofs.agenda.first_unhandled.Given as goal
 

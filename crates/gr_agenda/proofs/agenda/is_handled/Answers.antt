@@ -1,4 +1,4 @@
-use Rattle.std.proofs.Common.{refl, sym, arith}
+use Rattle.gr_model.proofs.Common.{refl, sym, arith}
 use Rattle.gr_model.specs.declared.event.EventId.{EventId}
 use Rattle.gr_agenda.proofs.agenda.is_handled.Goals as goal
 

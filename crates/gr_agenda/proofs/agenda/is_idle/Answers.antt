@@ -1,4 +1,4 @@
-use Rattle.std.proofs.Common.{arith}
+use Rattle.gr_model.proofs.Common.{arith}
 use Rattle.gr_clocks.specs.Counts.{count_of}
 use Rattle.gr_order.proofs.ReadyLemmas.{none_next}
 use Rattle.gr_agenda.proofs.Named.{next_there}

@@ -1,4 +1,4 @@
-use Rattle.std.proofs.Common.{arith}
+use Rattle.gr_model.proofs.Common.{arith}
 use Rattle.gr_agenda.proofs.UndivergedLemmas.{undiverged_if}
 use Rattle.gr_agenda.proofs.agenda.mark_undiverged.Goals as goal
 

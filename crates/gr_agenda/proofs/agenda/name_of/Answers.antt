@@ -1,6 +1,5 @@
-use Rattle.std.proofs.Common.{arith}
-use Rattle.gr_model.specs.Access.{is_release}
-use Rattle.gr_model.specs.Streams.{trace_of}
+use Rattle.gr_model.proofs.Common.{arith}
+use Rattle.gr_model.specs.Prelude.{is_release, trace_of}
 use Rattle.gr_steps.proofs.BarrierPlaces.{places_from-once}
 use Rattle.gr_agenda.proofs.agenda.name_of.Goals as goal
 

@@ -1,4 +1,4 @@
-use Rattle.std.proofs.Common.{◌∙◌, arith, sym}
+use Rattle.gr_model.proofs.Common.{◌∙◌, arith, sym}
 use Rattle.gr_agenda.proofs.Named.{next_held_by, next_there}
 use Rattle.gr_agenda.proofs.agenda.named_by.Goals as goal
 

@@ -1,4 +1,4 @@
-use Rattle.std.proofs.Common.{arith}
+use Rattle.gr_model.proofs.Common.{arith}
 use Rattle.gr_model.specs.declared.event.EventId.{EventId}
 use Rattle.gr_order.proofs.ForgetLemmas.{unhandled_remembered}
 use Rattle.gr_agenda.proofs.agenda.next_barrier.Goals as goal

@@ -1,5 +1,4 @@
-use Rattle.std.proofs.Common.{◌≡◌, arith}
-use Rattle.std.proofs.lemmas.Result.{on_ok_weaker}
+use Rattle.gr_model.proofs.Common.{◌≡◌, arith, on_ok_weaker}
 use Rattle.gr_order.specs.declared.steps.Ready.TheVariants.{Item}
 use Rattle.gr_agenda.proofs.agenda.note.Goals as goal
 

@@ -1,4 +1,4 @@
-use Rattle.std.proofs.Common.{arith}
+use Rattle.gr_model.proofs.Common.{arith}
 use Rattle.gr_agenda.proofs.Named.{barrier_next}
 use Rattle.gr_agenda.proofs.agenda.put_group.Goals as goal
 

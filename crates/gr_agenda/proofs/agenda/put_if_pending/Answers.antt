@@ -1,4 +1,4 @@
-use Rattle.std.proofs.Common.{◌≡◌, ap, refl, ⊎_elim}
+use Rattle.gr_model.proofs.Common.{◌≡◌, ap, refl, ⊎_elim}
 use Rattle.gr_model.specs.declared.event.EventId.{EventId}
 use Rattle.gr_model.specs.declared.event.Name.{Name}
 use Rattle.gr_order.specs.declared.steps.Ready.TheVariants.{Item}

@@ -1,4 +1,4 @@
-use Rattle.std.proofs.Common.{◌<◌, ℕ}
+use Rattle.gr_model.proofs.Common.{◌<◌, ℕ}
 use Rattle.gr_order.specs.declared.steps.Ready.TheVariants.{Item}
 use Rattle.gr_agenda.specs.Kept.{IsPending}
 use Rattle.gr_agenda.specs.Lists.{Has, KeepsSteps}

@@ -1,6 +1,4 @@
-use Rattle.std.proofs.Common.{◌<◌, ◌≤◌, ⊎_elim, arith}
-use Rattle.std.proofs.lemmas.Bool.{cases_lt}
-use Rattle.std.proofs.lemmas.Option.{slice_get_within}
+use Rattle.gr_model.proofs.Common.{◌<◌, ◌≤◌, ⊎_elim, arith, cases_lt, slice_get_within}
 use Rattle.gr_agenda.proofs.ListLemmas.{at_index}
 use Rattle.gr_agenda.proofs.waiting.put_all.Goals as goal
 

@@ -1,4 +1,4 @@
-use Rattle.std.proofs.Common.{arith, refl, sym, subst}
+use Rattle.gr_model.proofs.Common.{arith, refl, sym, subst}
 use Rattle.gr_agenda.specs.Lists.{IsAmong}
 use Rattle.gr_agenda.proofs.ListLemmas.{among_last, among_more, waiting_kept, waiting_new}
 use Rattle.gr_agenda.proofs.waiting.wait.Goals as goal

@@ -1,4 +1,4 @@
-use Rattle.std.proofs.Common.{refl, arith, sym}
+use Rattle.gr_model.proofs.Common.{refl, arith, sym}
 use Rattle.gr_agenda.proofs.ListLemmas.{waiting_cases, waiting_in}
 use Rattle.gr_agenda.proofs.waiting.wake.Goals as goal
 

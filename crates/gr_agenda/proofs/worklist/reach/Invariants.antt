@@ -1,4 +1,4 @@
-use Rattle.std.proofs.Common.{◌≡◌, ◌-◌, ℕ, true, Some, slice_get, length}
+use Rattle.gr_model.proofs.Common.{◌≡◌, ◌-◌, ℕ, true, Some, slice_get, length}
 use Rattle.gr_agenda.proofs.worklist.reach.Given as goal
 
 abbrev pub invariant-loop-marks : goal.invariant-loop-marks

@@ -1,5 +1,4 @@
-use Rattle.std.proofs.Common.{◌≡◌, ◌∙◌, List, Result, ap, codes, true, [], IfOk}
-use Rattle.std.proofs.lemmas.Result.{IfOk-weaker}
+use Rattle.gr_model.proofs.Common.{◌≡◌, ◌∙◌, List, Result, ap, codes, true, [], IfOk, IfOk-weaker}
 use Rattle.clap.specs.declared.builder.command.Command.{Command}
 use Rattle.clap.specs.Words.{App, app_of, new_app}
 use Rattle.gr_arguments.specs.Commands.{alone}

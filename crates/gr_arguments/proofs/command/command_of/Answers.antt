@@ -1,5 +1,4 @@
-use Rattle.std.proofs.Common.{◌∙◌, ap₂, refl, sym}
-use Rattle.std.proofs.lemmas.List.Sums.{fold_more}
+use Rattle.gr_model.proofs.Common.{◌∙◌, ap₂, refl, sym, fold_more}
 use Rattle.clap.specs.Words.{new_app, with_rule}
 use Rattle.gr_arguments.specs.Pages.{rule_for}
 use Rattle.gr_arguments.proofs.command.command_of.Goals as goal

@@ -1,4 +1,4 @@
-use Rattle.std.proofs.Common.{◌≡◌, take, false}
+use Rattle.gr_model.proofs.Common.{◌≡◌, take, false}
 use Rattle.clap.specs.declared.builder.command.Command.TheViews.{out-Command as fields_of}
 use Rattle.clap.specs.Words.{app_of, new_app}
 use Rattle.gr_arguments.specs.Pages.{with_rules}

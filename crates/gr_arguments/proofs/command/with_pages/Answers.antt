@@ -1,5 +1,4 @@
-use Rattle.std.proofs.Common.{◌∙◌, ap₂, sym}
-use Rattle.std.proofs.lemmas.List.Sums.{fold_more}
+use Rattle.gr_model.proofs.Common.{◌∙◌, ap₂, sym, fold_more}
 use Rattle.clap.specs.Words.{app_of, with_subcommand}
 use Rattle.gr_arguments.specs.Pages.{shape_for, with_commands}
 use Rattle.gr_arguments.proofs.command.with_pages.Goals as goal

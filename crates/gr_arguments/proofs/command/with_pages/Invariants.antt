@@ -1,4 +1,4 @@
-use Rattle.std.proofs.Common.{◌≡◌, take}
+use Rattle.gr_model.proofs.Common.{◌≡◌, take}
 use Rattle.clap.specs.Words.{app_of}
 use Rattle.gr_arguments.specs.Pages.{with_commands}
 use Rattle.gr_arguments.proofs.command.with_pages.Given as goal

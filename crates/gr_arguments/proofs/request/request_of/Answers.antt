@@ -1,4 +1,4 @@
-use Rattle.std.proofs.Common.{◌≡◌, ◌∙◌, subst, sym, Result, Ok, Err, IsErrAnd}
+use Rattle.gr_model.proofs.Common.{◌≡◌, ◌∙◌, subst, sym, Result, Ok, Err, IsErrAnd}
 use Rattle.clap.specs.Words.{FailsBy, HasKind, Kinds}
 use Rattle.clap.specs.declared.error.Error.{Error}
 use Rattle.gr_arguments.proofs.Meeting.{asks_to, faults_are, is_free}

@@ -1,4 +1,4 @@
-use Rattle.std.proofs.Common.{◌≢◌, ◌∷◌, ℕ, List, arith}
+use Rattle.gr_model.proofs.Common.{◌≢◌, ◌∷◌, ℕ, List, arith}
 use Rattle.std.proofs.lemmas.Str.Pattern.{strip_prefix_char}
 use Rattle.gr_arguments.proofs.words.group_of.Goals as goal
 

@@ -1,4 +1,4 @@
-use Rattle.std.proofs.Common.{◌≡◌, ℕ, List, codes, true}
+use Rattle.gr_model.proofs.Common.{◌≡◌, ℕ, List, codes, true}
 use Rattle.gr_model.specs.declared.event.Word.{Word}
 use Rattle.gr_model.specs.declared.event.Word.TheVariants.{Global, Local}
 use Rattle.gr_arguments.specs.Naming.{IsGroupOf, Names}

@@ -1,4 +1,4 @@
-use Rattle.std.proofs.Common.{◌-◌, length}
+use Rattle.gr_model.proofs.Common.{◌-◌, length}
 use Rattle.gr_clocks.specs.Counts.{CountSame}
 use Rattle.gr_clocks.specs.Pages.{whole}
 use Rattle.gr_clocks.proofs.base.reach.Given as goal

@@ -1,4 +1,4 @@
-use Rattle.std.proofs.Common.{ℕ, ◌<◌, ◌≤◌, IsFalse, slice_index}
+use Rattle.gr_model.proofs.Common.{ℕ, ◌<◌, ◌≤◌, IsFalse, slice_index}
 use Rattle.gr_clocks.proofs.block.are_within.Given as goal
 
 abbrev pub invariant-loop-place : goal.invariant-loop-place

@@ -1,4 +1,4 @@
-use Rattle.std.proofs.Common.{◌≡◌, ℕ, ◌<◌, ◌≤◌, max, length, slice_index}
+use Rattle.gr_model.proofs.Common.{◌≡◌, ℕ, ◌<◌, ◌≤◌, max, length, slice_index}
 use Rattle.gr_clocks.proofs.block.learn.Given as goal
 
 abbrev pub invariant-loop-place : goal.invariant-loop-place

@@ -1,4 +1,4 @@
-use Rattle.std.proofs.Common.{◌≡◌, rules, sym}
+use Rattle.gr_model.proofs.Common.{◌≡◌, rules, sym}
 use Rattle.gr_clocks.proofs.ReleaseLemmas.{left_all, left_none, word_of_first}
 use Rattle.gr_clocks.proofs.clocks.are_in.Goals as goal
 

@@ -1,4 +1,4 @@
-use Rattle.std.proofs.Common.{◌≡◌, ◌↔◌, IsTrue, Any, rules}
+use Rattle.gr_model.proofs.Common.{◌≡◌, ◌↔◌, IsTrue, Any, rules}
 use Rattle.gr_clocks.specs.declared.clock.TheConstants.{LARGEST_COUNT}
 use Rattle.gr_clocks.specs.Counts.{count_of}
 use Rattle.gr_clocks.proofs.ReleaseLemmas.{all_have_room, some_spent}

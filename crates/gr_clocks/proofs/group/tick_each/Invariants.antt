@@ -1,4 +1,4 @@
-use Rattle.std.proofs.Common.{◌≡◌, ℕ, ◌<◌, ◌≤◌, get_or}
+use Rattle.gr_model.proofs.Common.{◌≡◌, ℕ, ◌<◌, ◌≤◌, get_or}
 use Rattle.gr_clocks.specs.Owned.{no_clock, TicksOwner}
 use Rattle.gr_clocks.proofs.group.tick_each.Given as goal
 

@@ -1,4 +1,4 @@
-use Rattle.std.proofs.Common.{subst, map}
+use Rattle.gr_model.proofs.Common.{subst, map}
 use Rattle.std.specs.Fn.{FnReturnsAt}
 use Rattle.gr_arguments.specs.Asked.{Asked, asked_of}
 use Rattle.gr_arguments.proofs.OneAsked.{words_ask_once}

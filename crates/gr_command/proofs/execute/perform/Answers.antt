@@ -1,5 +1,4 @@
-use Rattle.std.proofs.Common.{refl}
-use Rattle.std.proofs.lemmas.Result.{IfErr-weaker, IfOk-weaker}
+use Rattle.gr_model.proofs.Common.{refl, IfErr-weaker, IfOk-weaker}
 use Rattle.gr_record.specs.declared.fault.Fault.TheVariants.{Write}
 use Rattle.gr_report.specs.FaultText.{fault_line}
 use Rattle.gr_report.specs.ReportText.{report_text}

@@ -1,4 +1,4 @@
-use Rattle.std.proofs.Common.{◌≡◌, inl, inr, refl, true}
+use Rattle.gr_model.proofs.Common.{◌≡◌, inl, inr, refl, true}
 use Rattle.gr_command.proofs.status.status_of_report.Goals as goal
 
 pub returns-then-found : goal.returns-then-found

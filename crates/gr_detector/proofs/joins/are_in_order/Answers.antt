@@ -1,5 +1,4 @@
-use Rattle.std.proofs.Common.{◌∙◌, arith}
-use Rattle.std.proofs.lemmas.List.{get_or_default}
+use Rattle.gr_model.proofs.Common.{◌∙◌, arith, get_or_default}
 use Rattle.gr_detector.proofs.OrderLemmas.{each_once}
 use Rattle.gr_detector.proofs.joins.are_in_order.Goals as goal
 

@@ -1,4 +1,4 @@
-use Rattle.std.proofs.Common.{◌≡◌, ◌<◌, ℕ, get_or}
+use Rattle.gr_model.proofs.Common.{◌≡◌, ◌<◌, ℕ, get_or}
 use Rattle.gr_route.specs.IntakeSeats.{Seat}
 use Rattle.gr_detector.proofs.joins.are_in_order.Given as goal
 

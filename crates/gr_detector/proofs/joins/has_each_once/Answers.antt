@@ -1,4 +1,4 @@
-use Rattle.std.proofs.Common.{◌∙◌, arith, refl, sym, true≢false}
+use Rattle.gr_model.proofs.Common.{◌∙◌, arith, refl, sym, true≢false}
 use Rattle.gr_detector.proofs.joins.has_each_once.Goals as goal
 
 pub returns-then-count_of-ne1 : goal.returns-then-count_of-ne1

@@ -1,4 +1,4 @@
-use Rattle.std.proofs.Common.{◌≡◌, ◌<◌, ◌==◌, ℕ, length, filter}
+use Rattle.gr_model.proofs.Common.{◌≡◌, ◌<◌, ◌==◌, ℕ, length, filter}
 use Rattle.gr_route.specs.IntakeSeats.{Seat}
 use Rattle.gr_detector.proofs.joins.has_each_once.Given as goal
 

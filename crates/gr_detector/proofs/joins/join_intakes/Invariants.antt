@@ -1,5 +1,4 @@
-use Rattle.std.proofs.Common.{◌≡◌, All}
-use Rattle.std.specs.Vec.Iter.{into_iter_items}
+use Rattle.gr_model.proofs.Common.{◌≡◌, All, into_iter_items}
 use Rattle.gr_sequencer_thread.specs.Feeds.{intakes_of}
 use Rattle.gr_detector.specs.Settling.{ArePopped, IsHere, pops_of}
 use Rattle.gr_detector.proofs.joins.join_intakes.Given as goal

@@ -1,5 +1,5 @@
-use Rattle.std.proofs.lemmas.Result.{IfOk-at_ok, IfOk-weaker}
-use Rattle.gr_model.specs.Reports.{Lists, WordBelow}
+use Rattle.gr_model.proofs.Common.{IfOk-at_ok, IfOk-weaker}
+use Rattle.gr_model.specs.Prelude.{Lists, WordBelow}
 use Rattle.gr_shadow.specs.Clashes.{IsHitIn}
 use Rattle.gr_detector.specs.Settling.{IsHitAmong}
 use Rattle.gr_detector.proofs.HitLemmas.{both_are}

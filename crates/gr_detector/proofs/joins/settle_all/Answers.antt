@@ -1,7 +1,5 @@
-use Rattle.std.proofs.Common.{◌≡◌, ◌∙◌, ◌++◌, ◌∷◌, [], List, suc, rules, arith, length, ap, sym, subst, append-nil, append_assoc, IfOk}
-use Rattle.std.proofs.lemmas.List.{length-map, nil_from_length}
-use Rattle.std.specs.Vec.Iter.{into_iter_items}
-use Rattle.gr_model.specs.Reports.{Lists, WordBelow}
+use Rattle.gr_model.proofs.Common.{◌≡◌, ◌∙◌, ◌++◌, ◌∷◌, [], List, suc, rules, arith, length, ap, sym, subst, append-nil, append_assoc, IfOk, length-map, nil_from_length, into_iter_items}
+use Rattle.gr_model.specs.Prelude.{Lists, WordBelow}
 use Rattle.gr_route.specs.WorkSeats.{Giver}
 use Rattle.gr_sequencer_thread.specs.Feeds.{AreStopped, given_of}
 use Rattle.gr_shadow.specs.Clashes.{ClockedAccess}

@@ -1,6 +1,5 @@
-use Rattle.std.proofs.Common.{◌≡◌, ◌<◌, ◌++◌, ℕ, List, length, IsTrue, IfOk, slice_index_or}
-use Rattle.std.specs.Vec.Iter.{into_iter_items, into_iter_len}
-use Rattle.gr_model.specs.Reports.{Lists, WordBelow}
+use Rattle.gr_model.proofs.Common.{◌≡◌, ◌<◌, ◌++◌, ℕ, List, length, IsTrue, IfOk, slice_index_or, into_iter_items, into_iter_len}
+use Rattle.gr_model.specs.Prelude.{Lists, WordBelow}
 use Rattle.gr_route.specs.WorkRule.{is_stopped}
 use Rattle.gr_route.specs.WorkSeats.{Giver}
 use Rattle.gr_sequencer_thread.specs.Feeds.{given_of, works_of}

@@ -1,5 +1,4 @@
-use Rattle.std.proofs.Common.{◌≡◌, ◌∷◌, [], arith, ap, length, length-append}
-use Rattle.std.proofs.lemmas.List.Elements.{All-push}
+use Rattle.gr_model.proofs.Common.{◌≡◌, ◌∷◌, [], arith, ap, length, length-append, All-push}
 use Rattle.gr_route.specs.IntakeRule.{no_sizes}
 use Rattle.gr_route.specs.IntakeSeats.{Taker}
 use Rattle.gr_detector.proofs.setup.inlets_of.Goals as goal

@@ -1,4 +1,4 @@
-use Rattle.std.proofs.Common.{◌≡◌, [], length, All}
+use Rattle.gr_model.proofs.Common.{◌≡◌, [], length, All}
 use Rattle.gr_route.specs.IntakeRule.{no_sizes}
 use Rattle.gr_route.specs.IntakeSeats.{Taker}
 use Rattle.gr_detector.proofs.setup.inlets_of.Given as goal

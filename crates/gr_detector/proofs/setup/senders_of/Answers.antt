@@ -1,7 +1,4 @@
-use Rattle.std.proofs.Common.{◌≡◌, ◌∙◌, ◌<◌, ◌%◌, ◌++◌, ◌∷◌, ℕ, List, [], rules, arith, refl, ap, length, get_or, mod-lt, subst}
-use Rattle.std.proofs.Math.Seq.{map-set_same}
-use Rattle.std.proofs.lemmas.List.{length-append, length-set, take_all}
-use Rattle.std.proofs.lemmas.List.Elements.{All-set}
+use Rattle.gr_model.proofs.Common.{◌≡◌, ◌∙◌, ◌<◌, ◌%◌, ◌++◌, ◌∷◌, ℕ, List, [], rules, arith, refl, ap, length, get_or, mod-lt, subst, map-set_same, length-append, length-set, take_all, All-set}
 use Rattle.gr_model.specs.declared.limits.TheConstants.{MOST_GROUPS, MOST_RECORDS}
 use Rattle.gr_clocks.proofs.RowLemmas.{each_push}
 use Rattle.gr_route.specs.IntakeSeats.{Taker}

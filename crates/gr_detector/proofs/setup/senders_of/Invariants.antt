@@ -1,4 +1,4 @@
-use Rattle.std.proofs.Common.{◌≡◌, ◌<◌, ℕ, [], get_or, length, take, All}
+use Rattle.gr_model.proofs.Common.{◌≡◌, ◌<◌, ℕ, [], get_or, length, take, All}
 use Rattle.gr_model.specs.declared.limits.TheConstants.{MOST_GROUPS}
 use Rattle.gr_route.specs.IntakeSeats.{Taker}
 use Rattle.gr_threads.specs.Senders.{Sending}

@@ -1,6 +1,4 @@
-use Rattle.std.proofs.Common.{◌≡◌, ◌++◌, ◌∷◌, [], arith, ap, length}
-use Rattle.std.proofs.lemmas.List.{length-append, map-append}
-use Rattle.std.proofs.lemmas.Grind.{common_steps}
+use Rattle.gr_model.proofs.Common.{◌≡◌, ◌++◌, ◌∷◌, [], arith, ap, length, length-append, map-append, common_steps}
 use Rattle.gr_route.specs.WorkSeats.{Giver, Worker}
 use Rattle.gr_detector.proofs.setup.workers_of.Goals as goal
 

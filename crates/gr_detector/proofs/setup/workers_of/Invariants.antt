@@ -1,4 +1,4 @@
-use Rattle.std.proofs.Common.{◌≡◌, [], length, All}
+use Rattle.gr_model.proofs.Common.{◌≡◌, [], length, All}
 use Rattle.gr_route.specs.WorkSeats.{Giver}
 use Rattle.gr_sequencer_thread.specs.Feeds.{works_of}
 use Rattle.gr_detector.specs.Runs.{worker_queues}

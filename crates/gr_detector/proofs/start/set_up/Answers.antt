@@ -1,5 +1,4 @@
-use Rattle.std.proofs.Common.{◌≡◌, ◌∙◌, List, ap, sym, subst, arith, length}
-use Rattle.std.proofs.lemmas.List.{length-map}
+use Rattle.gr_model.proofs.Common.{◌≡◌, ◌∙◌, List, ap, sym, subst, arith, length, length-map}
 use Rattle.atomic_table.specs.Seated.{TableId}
 use Rattle.gr_route.specs.IntakeSeats.{Taker}
 use Rattle.gr_sequencer_thread.specs.Ends.{Begin}

@@ -1,6 +1,4 @@
-use Rattle.std.proofs.Common.{◌≡◌, ◌∙◌, ◌++◌, ◌∷◌, [], List, append_assoc, append-nil, ap, arith, length, rules, sym, take, take_all, vec_len}
-use Rattle.std.proofs.lemmas.List.{take-append-le, nil_from_length}
-use Rattle.std.specs.Vec.Iter.{into_iter_items}
+use Rattle.gr_model.proofs.Common.{◌≡◌, ◌∙◌, ◌++◌, ◌∷◌, [], List, append_assoc, append-nil, ap, arith, length, rules, sym, take, take_all, vec_len, take-append-le, nil_from_length, into_iter_items}
 use Rattle.gr_detector.proofs.start.start_all.Goals as goal
 
 pub loop-worker-preserved : goal.loop-worker-preserved

@@ -1,6 +1,4 @@
-use Rattle.std.proofs.Common.{◌≡◌, ◌∙◌, ◌++◌, ◌∷◌, [], List, append_assoc, append-nil, ap, arith, rules, sym, vec_len}
-use Rattle.std.proofs.lemmas.List.{map_push, nil_from_length}
-use Rattle.std.specs.Vec.Iter.{into_iter_items}
+use Rattle.gr_model.proofs.Common.{◌≡◌, ◌∙◌, ◌++◌, ◌∷◌, [], List, append_assoc, append-nil, ap, arith, rules, sym, vec_len, map_push, nil_from_length, into_iter_items}
 use Rattle.gr_detector.specs.Runs.{worker_queues}
 use Rattle.gr_detector.proofs.stop.join_workers.Goals as goal
 

@@ -1,5 +1,4 @@
-use Rattle.std.proofs.Common.{◌≡◌, ◌≤◌, ◌+◌, ◌++◌, vec_len, vec_capacity}
-use Rattle.std.specs.Vec.Iter.{into_iter_items, into_iter_len}
+use Rattle.gr_model.proofs.Common.{◌≡◌, ◌≤◌, ◌+◌, ◌++◌, vec_len, vec_capacity, into_iter_items, into_iter_len}
 use Rattle.gr_detector.specs.Runs.{worker_queues}
 use Rattle.gr_detector.proofs.stop.join_workers.Given as goal
 

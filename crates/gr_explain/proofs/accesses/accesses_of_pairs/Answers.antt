@@ -1,4 +1,4 @@
-use Rattle.std.proofs.lemmas.List.Elements.{All-weaker}
+use Rattle.gr_model.proofs.Common.{All-weaker}
 use Rattle.gr_taking.specs.Taken.{read_by}
 use Rattle.gr_explain.specs.Accesses.{AreBothKept, AreWanted}
 use Rattle.gr_explain.proofs.KeptLemmas.{both_kept}

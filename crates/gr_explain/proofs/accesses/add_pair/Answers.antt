@@ -1,4 +1,4 @@
-use Rattle.std.proofs.Common.{arith}
+use Rattle.gr_model.proofs.Common.{arith}
 use Rattle.gr_explain.proofs.accesses.add_pair.Goals as goal
 
 pub returns-clause-others : goal.returns-clause-others

@@ -1,5 +1,4 @@
-use Rattle.std.proofs.Common.{take, take_all}
-use Rattle.std.proofs.lemmas.List.Elements.{All-more, All-weaker}
+use Rattle.gr_model.proofs.Common.{take, take_all, All-more, All-weaker}
 use Rattle.gr_explain.specs.Accesses.{AreWanted}
 use Rattle.gr_explain.proofs.accesses.events_of.Goals as goal
 

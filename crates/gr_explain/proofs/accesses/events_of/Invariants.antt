@@ -1,4 +1,4 @@
-use Rattle.std.proofs.Common.{All, take}
+use Rattle.gr_model.proofs.Common.{All, take}
 use Rattle.gr_explain.specs.Accesses.{AreWanted}
 use Rattle.gr_explain.proofs.accesses.events_of.Given as goal
 

@@ -1,5 +1,4 @@
-use Rattle.std.proofs.lemmas.List.{take_all}
-use Rattle.std.proofs.lemmas.List.Elements.{All-get_or}
+use Rattle.gr_model.proofs.Common.{take_all, All-get_or}
 use Rattle.gr_taking.specs.Taken.{read_by}
 use Rattle.gr_explain.specs.Accesses.{AreBothKept}
 use Rattle.gr_explain.specs.Judged.{AreAccesses, IsJudged}

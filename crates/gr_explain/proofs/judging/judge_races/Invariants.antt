@@ -1,4 +1,4 @@
-use Rattle.std.proofs.Common.{take}
+use Rattle.gr_model.proofs.Common.{take}
 use Rattle.gr_taking.specs.Taken.{read_by}
 use Rattle.gr_explain.specs.Judged.{AreJudgements}
 use Rattle.gr_explain.proofs.judging.judge_races.Given as goal

@@ -1,4 +1,4 @@
-use Rattle.std.proofs.Common.{arith}
+use Rattle.gr_model.proofs.Common.{arith}
 use Rattle.gr_explain.proofs.RacePairs.{clashes_are_race, race_clashes}
 use Rattle.gr_explain.proofs.judging.judgement_of.Goals as goal
 

@@ -1,5 +1,4 @@
-use Rattle.std.proofs.Common.{◌≡◌, ◌⊎◌, [], ◌∷◌, ◌++◌, Some, inl, inr, ⊎_elim, take}
-use Rattle.std.proofs.lemmas.List.{take_all, take_more}
+use Rattle.gr_model.proofs.Common.{◌≡◌, ◌⊎◌, [], ◌∷◌, ◌++◌, Some, inl, inr, ⊎_elim, take, take_all, take_more}
 use Rattle.gr_clocks.specs.ClockedAccess.{clocked}
 use Rattle.gr_explain.specs.Search.{IsPairOf}
 use Rattle.gr_explain.specs.Seen.{IsPairWith}

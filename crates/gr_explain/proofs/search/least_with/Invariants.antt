@@ -1,4 +1,4 @@
-use Rattle.std.proofs.Common.{◌≡◌, ◌⊎◌, Some, take}
+use Rattle.gr_model.proofs.Common.{◌≡◌, ◌⊎◌, Some, take}
 use Rattle.gr_clocks.specs.ClockedAccess.{clocked}
 use Rattle.gr_explain.specs.LeastRaces.{IsLeastOf}
 use Rattle.gr_explain.specs.Search.{IsPairOf}

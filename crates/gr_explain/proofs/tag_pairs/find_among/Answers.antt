@@ -1,4 +1,4 @@
-use Rattle.std.proofs.Common.{arith}
+use Rattle.gr_model.proofs.Common.{arith}
 use Rattle.std.proofs.lemmas.List.Quantifiers.{position-Some}
 use Rattle.gr_clocks.specs.ClockedAccess.{clocked}
 use Rattle.gr_explain.specs.TagPairs.{is_of_tags}

@@ -1,5 +1,4 @@
-use Rattle.std.proofs.Common.{arith, take}
-use Rattle.std.proofs.lemmas.List.{take_more}
+use Rattle.gr_model.proofs.Common.{arith, take, take_more}
 use Rattle.gr_clocks.specs.ClockedAccess.{clocked}
 use Rattle.gr_explain.proofs.TagPairLemmas.{finds_more}
 use Rattle.gr_explain.proofs.tag_pairs.find_races.Goals as goal

@@ -1,4 +1,4 @@
-use Rattle.std.proofs.Common.{take}
+use Rattle.gr_model.proofs.Common.{take}
 use Rattle.gr_clocks.specs.ClockedAccess.{clocked}
 use Rattle.gr_explain.specs.TagPairs.{Finds}
 use Rattle.gr_explain.proofs.tag_pairs.find_races.Given as goal

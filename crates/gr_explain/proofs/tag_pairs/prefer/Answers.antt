@@ -1,4 +1,4 @@
-use Rattle.std.proofs.Common.{◌∙◌, arith, sym}
+use Rattle.gr_model.proofs.Common.{◌∙◌, arith, sym}
 use Rattle.gr_clocks.specs.ClockedAccess.{clocked}
 use Rattle.gr_explain.proofs.TagPairLemmas.{gives_way, stays}
 use Rattle.gr_explain.proofs.tag_pairs.prefer.Goals as goal

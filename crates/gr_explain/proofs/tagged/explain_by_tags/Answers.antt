@@ -1,4 +1,4 @@
-use Rattle.std.proofs.Common.{◌∷◌, [], arith}
+use Rattle.gr_model.proofs.Common.{◌∷◌, [], arith}
 use Rattle.gr_explain.proofs.RacePairs.{least_race}
 use Rattle.gr_explain.proofs.TagRaceLemmas.{tag_races}
 use Rattle.gr_explain.proofs.tagged.explain_by_tags.Goals as goal

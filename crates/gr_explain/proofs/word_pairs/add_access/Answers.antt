@@ -1,6 +1,5 @@
-use Rattle.std.proofs.Common.{ℕ, arith, ◌∙◌, ap, subst, sym, is_some}
+use Rattle.gr_model.proofs.Common.{ℕ, arith, ◌∙◌, ap, subst, sym, is_some, on_ok_weaker}
 use Rattle.std.specs.Option.{option_copied_mut}
-use Rattle.std.proofs.lemmas.Result.{on_ok_weaker}
 use Rattle.gr_clocks.specs.ClockedAccess.{clocked}
 use Rattle.gr_explain.specs.TagPairs.{IsTagAdded}
 use Rattle.gr_explain.proofs.WordPairLemmas.{no_word_added, word_added}

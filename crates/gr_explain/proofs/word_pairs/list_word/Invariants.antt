@@ -1,4 +1,4 @@
-use Rattle.std.proofs.Common.{◌≡◌, ◌++◌, map, take}
+use Rattle.gr_model.proofs.Common.{◌≡◌, ◌++◌, map, take}
 use Rattle.gr_explain.proofs.TagRaceLemmas.{race_of}
 use Rattle.gr_explain.proofs.word_pairs.list_word.Given as goal
 

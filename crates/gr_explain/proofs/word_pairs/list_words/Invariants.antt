@@ -1,4 +1,4 @@
-use Rattle.std.proofs.Common.{◌≡◌, ◌++◌, drop}
+use Rattle.gr_model.proofs.Common.{◌≡◌, ◌++◌, drop}
 use Rattle.gr_explain.specs.WordPairs.{races_at}
 use Rattle.gr_explain.proofs.word_pairs.list_words.Given as goal
 

@@ -1,4 +1,4 @@
-use Rattle.std.proofs.lemmas.List.{take_all}
+use Rattle.gr_model.proofs.Common.{take_all}
 use Rattle.gr_explain.proofs.WordPairLemmas.{word_more}
 use Rattle.gr_explain.proofs.word_pairs.pairs_of_words.Goals as goal
 

@@ -1,4 +1,4 @@
-use Rattle.std.proofs.Common.{ℕ, [], take}
+use Rattle.gr_model.proofs.Common.{ℕ, [], take}
 use Rattle.gr_model.specs.declared.event.EventId.{EventId}
 use Rattle.gr_explain.specs.WordPairs.{StandForWords}
 use Rattle.gr_explain.proofs.word_pairs.pairs_of_words.Given as goal

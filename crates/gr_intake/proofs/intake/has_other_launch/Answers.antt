@@ -1,4 +1,4 @@
-use Rattle.std.proofs.Common.{sym}
+use Rattle.gr_model.proofs.Common.{sym}
 use Rattle.gr_intake.proofs.Headers.{of_first}
 use Rattle.gr_intake.proofs.intake.has_other_launch.Goals as goal
 

@@ -1,5 +1,5 @@
-use Rattle.std.proofs.Common.{◌≡◌, ◌++◌, ℕ, List, length, Some}
-use Rattle.gr_record.specs.Versions.{record_length}
+use Rattle.gr_model.proofs.Common.{◌≡◌, ◌++◌, ℕ, List, length, Some}
+use Rattle.gr_record.specs.Prelude.{record_length}
 use Rattle.gr_intake.specs.Intakes.{IsKeptOpen, IsRead, come, come_of, read_behind}
 use Rattle.gr_intake.proofs.intake.take_records.Given as goal
 

@@ -1,4 +1,5 @@
-use Rattle.std.proofs.Common.{◌≡◌, ◌≤◌, ◌*◌, length, take, sum_by}
+use Rattle.std.proofs.Common.{sum_by}
+use Rattle.gr_model.proofs.Common.{◌≡◌, ◌≤◌, ◌*◌, length, take}
 use Rattle.gr_intake.proofs.reports.records_of.Given as goal
 
 abbrev pub invariant-loop-group : goal.invariant-loop-group

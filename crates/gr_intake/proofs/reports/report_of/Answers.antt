@@ -1,4 +1,4 @@
-use Rattle.std.proofs.Common.{◌∙◌, ap, length, refl, sum}
+use Rattle.gr_model.proofs.Common.{◌∙◌, ap, length, refl, sum}
 use Rattle.gr_intake.proofs.Reporting.{races_are_listed}
 use Rattle.gr_intake.proofs.reports.report_of.Goals as goal
 

@@ -1,4 +1,4 @@
-use Rattle.std.proofs.Common.{◌≡◌}
+use Rattle.gr_model.proofs.Common.{◌≡◌}
 use Rattle.std.proofs.Math.ListN.{replicate}
 use Rattle.gr_lanes.specs.Kept.{nothing_kept}
 use Rattle.gr_lanes.proofs.group.begin.Given as goal

@@ -1,4 +1,4 @@
-use Rattle.std.proofs.Common.{arith}
+use Rattle.gr_model.proofs.Common.{arith}
 use Rattle.std.proofs.lemmas.List.Edits.{map_over_more}
 use Rattle.gr_lanes.specs.Kept.{forgetting_one}
 use Rattle.gr_lanes.proofs.group.forget_one.Goals as goal

@@ -1,4 +1,4 @@
-use Rattle.std.proofs.Common.{◌≡◌, ◌++◌, drop, map, take}
+use Rattle.gr_model.proofs.Common.{◌≡◌, ◌++◌, drop, map, take}
 use Rattle.gr_lanes.specs.Kept.{forgetting_one}
 use Rattle.gr_lanes.proofs.group.forget_one.Given as goal
 

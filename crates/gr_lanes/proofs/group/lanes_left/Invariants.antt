@@ -1,4 +1,4 @@
-use Rattle.std.proofs.Common.{ℕ, ◌<◌, ◌≤◌, get_or, length}
+use Rattle.gr_model.proofs.Common.{ℕ, ◌<◌, ◌≤◌, get_or, length}
 use Rattle.gr_lanes.specs.Kept.{HasNothing, nothing_kept}
 use Rattle.gr_lanes.proofs.group.lanes_left.Given as goal
 

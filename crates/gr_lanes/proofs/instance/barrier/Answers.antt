@@ -1,4 +1,4 @@
-use Rattle.gr_model.specs.Streams.{trace_of}
+use Rattle.gr_model.specs.Prelude.{trace_of}
 use Rattle.gr_lanes.proofs.InstanceLemmas.{record_mark}
 use Rattle.gr_lanes.proofs.instance.barrier.Goals as goal
 

@@ -1,5 +1,5 @@
-use Rattle.std.proofs.Common.{◌≡◌, ◌∙◌, ◌+◌, arith, refl, sym, true≢false}
-use Rattle.gr_model.specs.Streams.{size_of}
+use Rattle.gr_model.proofs.Common.{◌≡◌, ◌∙◌, ◌+◌, arith, refl, sym, true≢false}
+use Rattle.gr_model.specs.Prelude.{size_of}
 use Rattle.gr_barriers.proofs.SummaryLemmas.{nobody_diverges}
 use Rattle.gr_lanes.proofs.InstanceLemmas.{diverges_still, not_divergent}
 use Rattle.gr_lanes.proofs.instance.is_divergent.Goals as goal

@@ -1,5 +1,4 @@
-use Rattle.gr_model.specs.Barriers.{arrivals}
-use Rattle.gr_model.specs.Instances.{IsDivergentOf}
+use Rattle.gr_model.specs.Prelude.{arrivals, IsDivergentOf}
 use Rattle.gr_barriers.specs.Summaries.{IsSummaryOf}
 use Rattle.gr_lanes.proofs.instance.is_divergent.Given as goal
 

@@ -1,5 +1,5 @@
-use Rattle.std.proofs.Common.{sym}
-use Rattle.gr_model.specs.Barriers.{arrivals}
+use Rattle.gr_model.proofs.Common.{sym}
+use Rattle.gr_model.specs.Prelude.{arrivals}
 use Rattle.gr_lanes.proofs.instance.summary.Goals as goal
 
 pub loop-item-init : goal.loop-item-init

@@ -1,4 +1,4 @@
-use Rattle.gr_model.specs.Barriers.{arrivals}
+use Rattle.gr_model.specs.Prelude.{arrivals}
 use Rattle.gr_barriers.specs.Summaries.{IsSummaryOf}
 use Rattle.gr_lanes.proofs.instance.summary.Given as goal
 

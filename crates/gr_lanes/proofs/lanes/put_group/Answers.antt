@@ -1,5 +1,5 @@
-use Rattle.std.proofs.Common.{◌∙◌, ℕ, set, ap, arith}
-use Rattle.gr_model.specs.Groups.{put}
+use Rattle.gr_model.proofs.Common.{◌∙◌, ℕ, set, ap, arith}
+use Rattle.gr_model.specs.Prelude.{put}
 use Rattle.gr_model.proofs.PutLemmas.{puts_last, puts_more}
 use Rattle.gr_lanes.specs.Indices.{empty}
 use Rattle.gr_lanes.proofs.lanes.put_group.Goals as goal

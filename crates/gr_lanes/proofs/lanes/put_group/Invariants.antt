@@ -1,5 +1,5 @@
-use Rattle.std.proofs.Common.{◌≡◌, ◌+◌, ◌-◌, length}
-use Rattle.gr_model.specs.Groups.{put}
+use Rattle.gr_model.proofs.Common.{◌≡◌, ◌+◌, ◌-◌, length}
+use Rattle.gr_model.specs.Prelude.{put}
 use Rattle.gr_lanes.specs.Indices.{GroupList, empty}
 use Rattle.gr_lanes.proofs.lanes.put_group.Given as goal
 

@@ -1,4 +1,4 @@
-use Rattle.std.proofs.Common.{arith}
+use Rattle.gr_model.proofs.Common.{arith}
 use Rattle.gr_model.proofs.Descent.{lawful_is_grounded}
 use Rattle.gr_model.proofs.HitsAreRaces.{hit_is_race, race_is_hit}
 use Rattle.gr_model.proofs.laws.hits_are_races.Goals as goal

@@ -1,5 +1,5 @@
-use Rattle.std.proofs.Common.{arith}
-use Rattle.gr_model.specs.LawfulOrders.{IsAt}
+use Rattle.gr_model.proofs.Common.{arith}
+use Rattle.gr_model.specs.Prelude.{IsAt}
 use Rattle.gr_model.proofs.Descent.{below_by_pair, below_before, lawful_descends}
 use Rattle.gr_model.proofs.laws.order_goes_forwards.Goals as goal
 

@@ -1,5 +1,5 @@
-use Rattle.std.specs.List.{AllAdjacentBelow}
-use Rattle.gr_model.specs.NameLists.{NameBelow}
+use Rattle.gr_model.proofs.Common.{AllAdjacentBelow}
+use Rattle.gr_model.specs.Prelude.{NameBelow}
 use Rattle.gr_model.proofs.names.are_ascending.Given as goal
 
 abbrev pub invariant-loop-i : goal.invariant-loop-i

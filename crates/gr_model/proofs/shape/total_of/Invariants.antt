@@ -1,4 +1,4 @@
-use Rattle.std.proofs.Common.{◌≡◌, ◌≤◌, ◌*◌, sum, take}
+use Rattle.gr_model.proofs.Common.{◌≡◌, ◌≤◌, ◌*◌, sum, take}
 use Rattle.gr_model.proofs.shape.total_of.Given as goal
 
 abbrev pub invariant-loop-size : goal.invariant-loop-size

@@ -1,4 +1,4 @@
-use Rattle.std.proofs.Common.{arith}
+use Rattle.gr_model.proofs.Common.{arith}
 use Rattle.gr_order.proofs.Acquiring.{group_done, item_with, item_without}
 use Rattle.gr_order.proofs.acquires.add_group.Goals as goal
 use Rattle.gr_order.proofs.acquires.add_group.Goals.{in-Some+in_ok-push, in_default}

@@ -1,4 +1,4 @@
-use Rattle.std.proofs.Common.{sym, true≢false, ◌∙◌}
+use Rattle.gr_model.proofs.Common.{sym, true≢false, ◌∙◌}
 use Rattle.gr_order.proofs.Acquiring.{cause_behind}
 use Rattle.gr_order.proofs.acquires.cause.Goals as goal
 

@@ -1,4 +1,4 @@
-use Rattle.std.proofs.Common.{length, ap, arith}
+use Rattle.gr_model.proofs.Common.{length, ap, arith}
 use Rattle.gr_order.proofs.Acquiring.{all_found}
 use Rattle.gr_order.proofs.acquires.unmatched.Goals as goal
 

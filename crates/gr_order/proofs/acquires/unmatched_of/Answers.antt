@@ -1,6 +1,5 @@
-use Rattle.std.proofs.Common.{◌≡◌, ◌∙◌, ap, arith, length, option_and_then, refl, sym}
-use Rattle.std.proofs.lemmas.Bool.{eqb-false, eqb-true}
-use Rattle.gr_model.specs.Access.{event_word}
+use Rattle.gr_model.proofs.Common.{◌≡◌, ◌∙◌, ap, arith, length, option_and_then, refl, sym, eqb-false, eqb-true}
+use Rattle.gr_model.specs.Prelude.{event_word}
 use Rattle.gr_order.proofs.WaitLemmas.{first_is}
 use Rattle.gr_order.proofs.Acquiring.{none_named, this_is}
 use Rattle.gr_order.proofs.acquires.unmatched_of.Goals as goal

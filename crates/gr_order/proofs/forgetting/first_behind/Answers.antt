@@ -1,4 +1,4 @@
-use Rattle.std.proofs.Common.{◌≡◌, ◌<◌, ◌≤◌, arith, eq-or-lt_of_le, ⊎_elim}
+use Rattle.gr_model.proofs.Common.{◌≡◌, ◌<◌, ◌≤◌, arith, eq-or-lt_of_le, ⊎_elim}
 use Rattle.gr_order.proofs.forgetting.first_behind.Goals as goal
 
 pub loop-item-preserved : goal.loop-item-preserved

@@ -1,4 +1,4 @@
-use Rattle.std.proofs.Common.{ℕ, ◌<◌, ◌≤◌}
+use Rattle.gr_model.proofs.Common.{ℕ, ◌<◌, ◌≤◌}
 use Rattle.gr_lanes.specs.Remembered.{forgotten_of}
 use Rattle.gr_order.specs.Forgetting.{HasPassed}
 use Rattle.gr_order.proofs.forgetting.first_behind.Given as goal

@@ -1,4 +1,4 @@
-use Rattle.std.proofs.Common.{◌∙◌, inr}
+use Rattle.gr_model.proofs.Common.{◌∙◌, inr}
 use Rattle.gr_lanes.specs.Remembered.{forgotten_of}
 use Rattle.gr_order.proofs.ForgetLemmas.{least_is_next, next_came}
 use Rattle.gr_order.proofs.forgetting.forget_next.Goals as goal

@@ -1,4 +1,4 @@
-use Rattle.std.proofs.Common.{length, ap, sym, ◌∙◌, arith, true≢false}
+use Rattle.gr_model.proofs.Common.{length, ap, sym, ◌∙◌, arith, true≢false}
 use Rattle.gr_order.proofs.Cutting.{all_cut, no_more_cut, one_more_cut}
 use Rattle.gr_order.proofs.groups.cut.Goals as goal
 use Rattle.gr_order.proofs.groups.cut.Goals.{then-is_cut+in_ok-push, else-is_cut}

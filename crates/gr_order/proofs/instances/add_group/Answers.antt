@@ -1,6 +1,5 @@
-use Rattle.std.proofs.Common.{arith}
-use Rattle.gr_model.specs.Barriers.{arrivals}
-use Rattle.gr_model.specs.Streams.{size_of}
+use Rattle.gr_model.proofs.Common.{arith}
+use Rattle.gr_model.specs.Prelude.{arrivals, size_of}
 use Rattle.gr_order.proofs.Diverging.{decided_found, found_turn, found_with, found_without, nobody_later, nobody_past}
 use Rattle.gr_order.proofs.instances.add_group.Goals as goal
 use Rattle.gr_order.proofs.instances.add_group.Goals.{in-Some+in_ok-push, in_default}

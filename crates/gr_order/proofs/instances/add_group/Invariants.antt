@@ -1,4 +1,4 @@
-use Rattle.gr_model.specs.Reports.{IsDivergence}
+use Rattle.gr_model.specs.Prelude.{IsDivergence}
 use Rattle.gr_barriers.specs.Listings.{AreListedBefore}
 use Rattle.gr_order.proofs.instances.add_group.Given as goal
 

@@ -1,5 +1,5 @@
-use Rattle.std.proofs.Common.{length, ap, arith}
-use Rattle.gr_model.specs.Reports.{IsDivergence}
+use Rattle.gr_model.proofs.Common.{length, ap, arith}
+use Rattle.gr_model.specs.Prelude.{IsDivergence}
 use Rattle.gr_barriers.proofs.Listing.{all_listed}
 use Rattle.gr_order.proofs.instances.divergences.Goals as goal
 

@@ -1,4 +1,4 @@
-use Rattle.std.proofs.Common.{◌≡◌, ◌++◌}
+use Rattle.gr_model.proofs.Common.{◌≡◌, ◌++◌}
 use Rattle.gr_order.specs.States.{next_events}
 use Rattle.gr_order.proofs.meeting.add_next_events.Given as goal
 

@@ -1,4 +1,4 @@
-use Rattle.std.proofs.Common.{arith}
+use Rattle.gr_model.proofs.Common.{arith}
 use Rattle.gr_order.proofs.PassLemmas.{item_waits, one_tick_more}
 use Rattle.gr_order.proofs.meeting.count_next_events.Goals as goal
 

@@ -1,4 +1,4 @@
-use Rattle.std.proofs.Common.{arith}
+use Rattle.gr_model.proofs.Common.{arith}
 use Rattle.gr_lanes.proofs.InstanceLemmas.{came_alike}
 use Rattle.gr_order.proofs.ready.all_stand_next.Goals as goal
 

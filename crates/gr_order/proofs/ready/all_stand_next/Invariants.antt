@@ -1,5 +1,5 @@
-use Rattle.std.proofs.Common.{ℕ, ◌<◌}
-use Rattle.gr_model.specs.Barriers.{mark_of}
+use Rattle.gr_model.proofs.Common.{ℕ, ◌<◌}
+use Rattle.gr_model.specs.Prelude.{mark_of}
 use Rattle.gr_order.specs.Readiness.{StandsNext}
 use Rattle.gr_order.proofs.ready.all_stand_next.Given as goal
 

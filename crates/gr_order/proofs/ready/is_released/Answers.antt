@@ -1,6 +1,5 @@
-use Rattle.std.proofs.Common.{◌≡◌, ◌∙◌, ap, option_and_then, refl, sym}
-use Rattle.gr_model.specs.Access.{event_word, is_release}
-use Rattle.gr_model.specs.Streams.{word_at}
+use Rattle.gr_model.proofs.Common.{◌≡◌, ◌∙◌, ap, option_and_then, refl, sym}
+use Rattle.gr_model.specs.Prelude.{event_word, is_release, word_at}
 use Rattle.gr_lanes.proofs.IndexLemmas.{record_is}
 use Rattle.gr_order.proofs.ReadyLemmas.{released_if, released_only}
 use Rattle.gr_order.proofs.ready.is_released.Goals as goal

@@ -1,4 +1,4 @@
-use Rattle.std.proofs.Common.{arith, refl}
+use Rattle.gr_model.proofs.Common.{arith, refl}
 use Rattle.gr_steps.proofs.BarrierPlaces.{barrier_there}
 use Rattle.gr_order.proofs.ReadyLemmas.{passes_if, stands_there}
 use Rattle.gr_order.proofs.ready.may_pass.Goals as goal

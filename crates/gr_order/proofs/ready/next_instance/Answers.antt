@@ -1,4 +1,4 @@
-use Rattle.std.proofs.Common.{arith, refl}
+use Rattle.gr_model.proofs.Common.{arith, refl}
 use Rattle.gr_clocks.specs.Tables.{item_of}
 use Rattle.gr_order.proofs.ForgetLemmas.{next_remembered}
 use Rattle.gr_order.proofs.WaitLemmas.{first_is}

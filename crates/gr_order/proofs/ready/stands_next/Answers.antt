@@ -1,6 +1,5 @@
-use Rattle.std.proofs.Common.{Some, ap, arith, sym, ◌∙◌}
-use Rattle.gr_model.specs.Barriers.{mark_of}
-use Rattle.gr_model.specs.Streams.{trace_of}
+use Rattle.gr_model.proofs.Common.{Some, ap, arith, sym, ◌∙◌}
+use Rattle.gr_model.specs.Prelude.{mark_of, trace_of}
 use Rattle.gr_model.proofs.Places.{place-filter_map}
 use Rattle.gr_order.proofs.ready.stands_next.Goals as goal
 

@@ -1,4 +1,4 @@
-use Rattle.std.proofs.Common.{◌∙◌, sym}
+use Rattle.gr_model.proofs.Common.{◌∙◌, sym}
 use Rattle.gr_order.proofs.WaitLemmas.{forgets_event}
 use Rattle.gr_order.proofs.waiting.forget.Goals as goal
 

@@ -1,4 +1,4 @@
-use Rattle.std.proofs.Common.{arith}
+use Rattle.gr_model.proofs.Common.{arith}
 use Rattle.gr_places.proofs.Reading.{element_found}
 use Rattle.gr_places.proofs.buffers.element_of.Goals as goal
 

@@ -1,5 +1,4 @@
-use Rattle.std.proofs.Common.{◌≡◌, refl}
-use Rattle.std.proofs.lemmas.Result.{IfOk-weaker}
+use Rattle.gr_model.proofs.Common.{◌≡◌, refl, IfOk-weaker}
 use Rattle.gr_replay.specs.Each.{inputs_of}
 use Rattle.gr_replay.proofs.Apart.{at_all_known}
 use Rattle.gr_places.proofs.checked.check_readers.Goals as goal

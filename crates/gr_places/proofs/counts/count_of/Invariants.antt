@@ -1,4 +1,5 @@
-use Rattle.std.proofs.Common.{◌≡◌, ◌≤◌, ◌*◌, take, sum_by}
+use Rattle.std.proofs.Common.{sum_by}
+use Rattle.gr_model.proofs.Common.{◌≡◌, ◌≤◌, ◌*◌, take}
 use Rattle.gr_places.specs.Counts.{count_in}
 use Rattle.gr_places.proofs.counts.count_of.Given as goal
 

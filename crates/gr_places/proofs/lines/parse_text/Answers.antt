@@ -1,4 +1,4 @@
-use Rattle.std.proofs.Common.{◌∙◌, ◌≡◌, ap, eq-eqb, length, option_map, true}
+use Rattle.gr_model.proofs.Common.{◌∙◌, ◌≡◌, ap, eq-eqb, length, option_map, true}
 use Rattle.gr_places.proofs.Reading.{text_read}
 use Rattle.gr_places.proofs.lines.parse_text.Goals as goal
 

@@ -1,4 +1,4 @@
-use Rattle.std.proofs.Common.{eqb-true, sym, ◌∙◌}
+use Rattle.gr_model.proofs.Common.{eqb-true, sym, ◌∙◌}
 use Rattle.gr_text.proofs.Splitting.{no_line}
 use Rattle.gr_places.proofs.Reading.{joined_all}
 use Rattle.gr_places.proofs.lines.read_lines.Goals as goal

@@ -1,4 +1,4 @@
-use Rattle.std.proofs.Common.{◌≡◌, ◌+◌, ◌≤◌, length, map}
+use Rattle.gr_model.proofs.Common.{◌≡◌, ◌+◌, ◌≤◌, length, map}
 use Rattle.gr_text.specs.Lines.{lines_of}
 use Rattle.gr_places.specs.SideLines.{said_from}
 use Rattle.gr_places.proofs.Reading.{joined}

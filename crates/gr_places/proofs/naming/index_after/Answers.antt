@@ -1,6 +1,4 @@
-use Rattle.std.proofs.Common.{◌++◌, List, [], ◌∷◌, ℕ, sym, ◌∙◌, ap, decimal}
-use Rattle.std.proofs.lemmas.List.{append_cancel_right}
-use Rattle.std.proofs.lemmas.Option.{MatchOption-at_none, MatchOption-at_some}
+use Rattle.gr_model.proofs.Common.{◌++◌, List, [], ◌∷◌, ℕ, sym, ◌∙◌, ap, decimal, append_cancel_right, MatchOption-at_none, MatchOption-at_some}
 use Rattle.gr_places.specs.Naming.{in_brackets}
 use Rattle.gr_places.proofs.NamingLemmas.{after, before, after_open, is_none, is_whole, not_open, read_index}
 use Rattle.gr_places.proofs.naming.index_after.Goals as goal

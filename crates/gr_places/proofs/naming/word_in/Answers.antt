@@ -1,5 +1,4 @@
-use Rattle.std.proofs.Common.{sym, ◌∙◌, map, arith}
-use Rattle.std.proofs.lemmas.Option.{MatchOption-at_some}
+use Rattle.gr_model.proofs.Common.{sym, ◌∙◌, map, arith, MatchOption-at_some}
 use Rattle.gr_places.specs.SideLines.{buffer_line}
 use Rattle.gr_places.proofs.NamingLemmas.{is_none, no_word, other_word, this_word}
 use Rattle.gr_places.proofs.naming.word_in.Goals as goal

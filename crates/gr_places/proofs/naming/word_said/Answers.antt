@@ -1,6 +1,4 @@
-use Rattle.std.proofs.Common.{below_more, sym, ◌∙◌, map, subst, arith}
-use Rattle.std.proofs.lemmas.List.{get_or_default}
-use Rattle.std.proofs.lemmas.Option.{MatchOption-at_none}
+use Rattle.gr_model.proofs.Common.{below_more, sym, ◌∙◌, map, subst, arith, get_or_default, MatchOption-at_none}
 use Rattle.gr_places.specs.declared.buffers.BufferLine.{BufferLine}
 use Rattle.gr_places.specs.SideLines.{buffer_line}
 use Rattle.gr_places.specs.Naming.{IsSaidIn}

@@ -1,4 +1,4 @@
-use Rattle.std.proofs.Common.{◌<◌, ℕ, get_or, map}
+use Rattle.gr_model.proofs.Common.{◌<◌, ℕ, get_or, map}
 use Rattle.gr_model.specs.declared.event.Word.{Word}
 use Rattle.gr_places.specs.declared.buffers.BufferLine.{BufferLine}
 use Rattle.gr_places.specs.SideLines.{buffer_line}

@@ -1,5 +1,4 @@
-use Rattle.std.proofs.Common.{◌<◌, length, map, arith, inl, inr, refl}
-use Rattle.std.proofs.lemmas.List.{length-map}
+use Rattle.gr_model.proofs.Common.{◌<◌, length, map, arith, inl, inr, refl, length-map}
 use Rattle.std.specs.Fn.{FnReturnsAt}
 use Rattle.gr_places.proofs.OpeningLemmas.{first_unopened, opened_more, text_at}
 use Rattle.gr_places.proofs.opening.open_all.Goals as goal

@@ -1,4 +1,4 @@
-use Rattle.std.proofs.Common.{map, take}
+use Rattle.gr_model.proofs.Common.{map, take}
 use Rattle.std.specs.Fn.{FnReturnsAt}
 use Rattle.gr_places.specs.Files.{AreOpened}
 use Rattle.gr_places.proofs.opening.open_all.Given as goal

@@ -1,4 +1,4 @@
-use Rattle.std.proofs.Common.{codes}
+use Rattle.gr_model.proofs.Common.{codes}
 use Rattle.gr_report.proofs.PuttingLemmas.{puts_then, puts_more, puts_err}
 use Rattle.gr_places.proofs.sides_fault.put_bad_line.Goals as goal
 

@@ -1,6 +1,5 @@
-use Rattle.std.proofs.Common.{◌≡◌, sym, ◌∙◌, take, Ok, Err, arith, rules, length-drop}
-use Rattle.gr_record.specs.Reading.{event_at}
-use Rattle.gr_record.specs.Versions.{record_length}
+use Rattle.gr_model.proofs.Common.{◌≡◌, sym, ◌∙◌, take, Ok, Err, arith, rules, length-drop}
+use Rattle.gr_record.specs.Prelude.{event_at, record_length}
 use Rattle.gr_places.proofs.FrontLemmas.{ended, goes_on, none_left, refused, stops_short}
 use Rattle.gr_places.proofs.spot.skip_accepted.Goals as goal
 

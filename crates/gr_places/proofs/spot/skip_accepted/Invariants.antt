@@ -1,6 +1,6 @@
-use Rattle.std.proofs.Common.{◌≤◌, ◌-◌, length}
+use Rattle.gr_model.proofs.Common.{◌≤◌, ◌-◌, length}
 use Rattle.gr_model.specs.declared.limits.TheConstants.{MOST_RECORDS}
-use Rattle.gr_record.specs.Fronts.{records_of}
+use Rattle.gr_record.specs.Prelude.{records_of}
 use Rattle.gr_places.proofs.FrontLemmas.{IsWhole}
 use Rattle.gr_places.proofs.spot.skip_accepted.Given as goal
 

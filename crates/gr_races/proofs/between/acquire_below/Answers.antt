@@ -1,6 +1,5 @@
-use Rattle.std.proofs.Common.{◌≡◌, ◌∙◌, true, arith}
-use Rattle.std.proofs.lemmas.Grind.{common_steps}
-use Rattle.gr_model.specs.Streams.{is_of}
+use Rattle.gr_model.proofs.Common.{◌≡◌, ◌∙◌, true, arith, common_steps}
+use Rattle.gr_model.specs.Prelude.{is_of}
 use Rattle.gr_races.proofs.BetweenLemmas.{record_seen}
 use Rattle.gr_races.proofs.between.acquire_below.Goals as goal
 use Rattle.gr_races.proofs.between.acquire_below.Goals.{then-is_of, else-is_of}

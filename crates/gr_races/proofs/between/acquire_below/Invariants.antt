@@ -1,4 +1,4 @@
-use Rattle.std.proofs.Common.{◌≡◌, ◌≤◌, None, drop}
+use Rattle.gr_model.proofs.Common.{◌≡◌, ◌≤◌, None, drop}
 use Rattle.gr_races.proofs.BetweenLemmas.{last_below}
 use Rattle.gr_races.proofs.between.acquire_below.Given as goal
 

@@ -1,9 +1,8 @@
-use Rattle.std.proofs.Common.{rules, tests}
+use Rattle.gr_model.proofs.Common.{rules, tests}
 use Rattle.std.proofs.lemmas.Iterator.{YieldsList-from_slice, YieldsList-from_take, items_from_collect}
 use Rattle.std.proofs.lemmas.Iterator.Adapters.{YieldsList-from_skip}
 use Rattle.std.proofs.lemmas.Iterator.Consumers.{YieldsList-at, YieldsList-from_enumerate, YieldsList-from_filter, YieldsList-from_filter_map}
-use Rattle.gr_model.specs.Barriers.{is_barrier}
-use Rattle.gr_model.specs.Streams.{is_of}
+use Rattle.gr_model.specs.Prelude.{is_barrier, is_of}
 use Rattle.gr_races.specs.Between.{crossing_of}
 use Rattle.gr_races.proofs.between.passed.Goals as goal
 

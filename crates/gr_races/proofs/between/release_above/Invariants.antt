@@ -1,6 +1,5 @@
-use Rattle.std.proofs.Common.{◌≡◌, ◌≤◌, drop, filter, find, nat_lt}
-use Rattle.gr_model.specs.Access.{is_release}
-use Rattle.gr_model.specs.Streams.{is_of, places_from}
+use Rattle.gr_model.proofs.Common.{◌≡◌, ◌≤◌, drop, filter, find, nat_lt}
+use Rattle.gr_model.specs.Prelude.{is_release, is_of, places_from}
 use Rattle.gr_races.proofs.between.release_above.Given as goal
 
 abbrev pub invariant-loop-event : goal.invariant-loop-event

@@ -1,4 +1,4 @@
-use Rattle.std.proofs.Common.{arith}
+use Rattle.gr_model.proofs.Common.{arith}
 use Rattle.std.proofs.lemmas.Slice.Zip.{AllZip-long}
 use Rattle.gr_races.specs.Causes.{IsCauseOf}
 use Rattle.gr_races.specs.Relaxing.{relaxed}

@@ -1,4 +1,4 @@
-use Rattle.std.proofs.Common.{take}
+use Rattle.gr_model.proofs.Common.{take}
 use Rattle.gr_races.specs.Causes.{AreCauses}
 use Rattle.gr_races.proofs.cause.causes_from.Given as goal
 

@@ -1,5 +1,4 @@
-use Rattle.std.proofs.lemmas.List.Elements.{All-weaker}
-use Rattle.std.proofs.lemmas.Result.{IfOk-weaker}
+use Rattle.gr_model.proofs.Common.{All-weaker, IfOk-weaker}
 use Rattle.gr_explain.specs.Judged.{AreAccesses}
 use Rattle.gr_races.specs.Causes.{IsPairOf}
 use Rattle.gr_races.specs.Relaxing.{relaxed}

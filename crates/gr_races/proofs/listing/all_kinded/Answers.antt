@@ -1,4 +1,4 @@
-use Rattle.std.proofs.Common.{◌≡◌, ◌∙◌, refl, sym}
+use Rattle.gr_model.proofs.Common.{◌≡◌, ◌∙◌, refl, sym}
 use Rattle.gr_places.specs.PlaceIndexes.{number_at}
 use Rattle.gr_races.specs.Listing.{with_row}
 use Rattle.gr_races.proofs.ListingLemmas.{row_kept_as, rows_are_all}

@@ -1,4 +1,4 @@
-use Rattle.std.proofs.Common.{◌≡◌, ◌++◌, drop}
+use Rattle.gr_model.proofs.Common.{◌≡◌, ◌++◌, drop}
 use Rattle.gr_places.specs.PlaceIndexes.{number_at}
 use Rattle.gr_races.specs.Kinds.{all_kinded, with_causes}
 use Rattle.gr_races.proofs.listing.all_kinded.Given as goal

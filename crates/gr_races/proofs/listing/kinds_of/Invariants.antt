@@ -1,4 +1,4 @@
-use Rattle.std.proofs.Common.{◌≡◌, drop}
+use Rattle.gr_model.proofs.Common.{◌≡◌, drop}
 use Rattle.gr_races.specs.Listing.{kinds_after, kinds_of}
 use Rattle.gr_races.proofs.listing.kinds_of.Given as goal
 

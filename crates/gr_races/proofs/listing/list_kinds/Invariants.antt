@@ -1,4 +1,4 @@
-use Rattle.std.proofs.Common.{◌≡◌, map, take}
+use Rattle.gr_model.proofs.Common.{◌≡◌, map, take}
 use Rattle.gr_races.specs.Listing.{entry, entry_of}
 use Rattle.gr_races.proofs.listing.list_kinds.Given as goal
 

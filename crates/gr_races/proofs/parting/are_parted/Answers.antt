@@ -1,4 +1,4 @@
-use Rattle.std.proofs.Common.{◌∙◌, inl, inr, sym, true≢false, ⊎_elim}
+use Rattle.gr_model.proofs.Common.{◌∙◌, inl, inr, sym, true≢false, ⊎_elim}
 use Rattle.gr_races.proofs.PartingLemmas.{is_parting, parting_is}
 use Rattle.gr_races.proofs.parting.are_parted.Goals as goal
 

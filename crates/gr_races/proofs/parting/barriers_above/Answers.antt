@@ -1,5 +1,4 @@
-use Rattle.std.proofs.Common.{inl, inr, ◌/◌, ◌+◌, ◌-◌, ◌∙◌, arith, sym, true≢false}
-use Rattle.std.proofs.lemmas.Bool.{cases_lt}
+use Rattle.gr_model.proofs.Common.{inl, inr, ◌/◌, ◌+◌, ◌-◌, ◌∙◌, arith, sym, true≢false, cases_lt}
 use Rattle.gr_races.proofs.PartingLemmas.{behind_before, number_below}
 use Rattle.gr_races.proofs.parting.barriers_above.Goals as goal
 

@@ -1,4 +1,4 @@
-use Rattle.std.proofs.Common.{ℕ, ◌-◌, ◌<◌, ◌≤◌}
+use Rattle.gr_model.proofs.Common.{ℕ, ◌-◌, ◌<◌, ◌≤◌}
 use Rattle.gr_races.specs.Parting.{IsBehind}
 use Rattle.gr_races.proofs.parting.barriers_above.Given as goal
 

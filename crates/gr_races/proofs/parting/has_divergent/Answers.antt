@@ -1,5 +1,4 @@
-use Rattle.std.proofs.Common.{inl, inr, ◌∙◌, arith, sym, true≢false}
-use Rattle.std.proofs.lemmas.Bool.{cases_eq}
+use Rattle.gr_model.proofs.Common.{inl, inr, ◌∙◌, arith, sym, true≢false, cases_eq}
 use Rattle.gr_races.proofs.parting.has_divergent.Goals as goal
 
 pub loop-number-preserved : goal.loop-number-preserved

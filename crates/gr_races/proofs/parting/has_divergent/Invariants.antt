@@ -1,5 +1,5 @@
-use Rattle.std.proofs.Common.{ℕ, ◌<◌, ◌≤◌}
-use Rattle.gr_model.specs.Barriers.{IsDivergent}
+use Rattle.gr_model.proofs.Common.{ℕ, ◌<◌, ◌≤◌}
+use Rattle.gr_model.specs.Prelude.{IsDivergent}
 use Rattle.gr_races.proofs.parting.has_divergent.Given as goal
 
 abbrev pub invariant-loop-number : goal.invariant-loop-number

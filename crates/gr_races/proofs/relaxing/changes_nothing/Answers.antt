@@ -1,5 +1,4 @@
-use Rattle.std.proofs.Common.{◌∙◌, ap, arith, inl, inr, length, sym}
-use Rattle.std.proofs.lemmas.Bool.{cases_eq}
+use Rattle.gr_model.proofs.Common.{◌∙◌, ap, arith, inl, inr, length, sym, cases_eq}
 use Rattle.gr_races.proofs.RelaxingLemmas.{same_launch, same_list}
 use Rattle.gr_races.proofs.relaxing.changes_nothing.Goals as goal
 

@@ -1,5 +1,5 @@
-use Rattle.std.proofs.Common.{◌≡◌, ◌<◌, ℕ, map}
-use Rattle.gr_model.specs.Streams.{list_of}
+use Rattle.gr_model.proofs.Common.{◌≡◌, ◌<◌, ℕ, map}
+use Rattle.gr_model.specs.Prelude.{list_of}
 use Rattle.gr_races.specs.Relaxing.{relaxed_event}
 use Rattle.gr_races.proofs.relaxing.changes_nothing.Given as goal
 

@@ -1,4 +1,4 @@
-use Rattle.std.proofs.Common.{◌≡◌, ◌++◌, drop, map}
+use Rattle.gr_model.proofs.Common.{◌≡◌, ◌++◌, drop, map}
 use Rattle.gr_races.specs.Runs.{runs_after, runs_of}
 use Rattle.gr_races.proofs.runs.runs_of.Given as goal
 

@@ -1,4 +1,4 @@
-use Rattle.std.proofs.Common.{◌<◌, ◌≤◌, ◌∙◌, length, ap, arith}
+use Rattle.gr_model.proofs.Common.{◌<◌, ◌≤◌, ◌∙◌, length, ap, arith}
 use Rattle.gr_lanes.specs.Remembered.{Remembered, forgotten_of}
 use Rattle.gr_races.proofs.TakenLists.{accepted_prefixes, all_are_taken, lanes_are_new, list_taken}
 use Rattle.gr_races.proofs.taken.take_all.Goals as goal

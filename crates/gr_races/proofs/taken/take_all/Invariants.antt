@@ -1,4 +1,4 @@
-use Rattle.std.proofs.Common.{◌≡◌, ℕ}
+use Rattle.gr_model.proofs.Common.{◌≡◌, ℕ}
 use Rattle.gr_lanes.specs.Remembered.{forgotten_of}
 use Rattle.gr_races.proofs.TakenLists.{TakenBelow}
 use Rattle.gr_races.proofs.taken.take_all.Given as goal

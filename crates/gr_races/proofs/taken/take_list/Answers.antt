@@ -1,5 +1,4 @@
-use Rattle.std.proofs.Common.{Some, ap, sym, ◌∙◌}
-use Rattle.std.proofs.lemmas.Option.{slice_get-get_or}
+use Rattle.gr_model.proofs.Common.{Some, ap, sym, ◌∙◌, slice_get-get_or}
 use Rattle.gr_lanes.specs.Remembered.{remembering}
 use Rattle.gr_lanes.specs.Takes.{with_record}
 use Rattle.gr_races.proofs.TakenLists.{record_taken}

@@ -1,4 +1,4 @@
-use Rattle.std.proofs.Common.{◌≡◌, take}
+use Rattle.gr_model.proofs.Common.{◌≡◌, take}
 use Rattle.gr_lanes.specs.Remembered.{remembering}
 use Rattle.gr_taking.specs.Taken.{with_list}
 use Rattle.gr_races.proofs.taken.take_list.Given as goal

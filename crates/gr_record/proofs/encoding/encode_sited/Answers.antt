@@ -1,5 +1,5 @@
-use Rattle.std.proofs.Common.{ℕ, List, ◌++◌, ap, ◌∙◌}
-use Rattle.gr_record.specs.Spelling.{fields_bytes, place_bytes}
+use Rattle.gr_model.proofs.Common.{ℕ, List, ◌++◌, ap, ◌∙◌}
+use Rattle.gr_record.specs.Prelude.{fields_bytes, place_bytes}
 use Rattle.gr_record.proofs.Written.{one_written, fields_length, one_place}
 use Rattle.gr_record.proofs.encoding.encode_sited.Goals as goal
 

@@ -1,5 +1,5 @@
-use Rattle.std.proofs.Common.{ℕ, List, ◌++◌, ap, ◌∙◌}
-use Rattle.gr_record.specs.Spelling.{fields_bytes}
+use Rattle.gr_model.proofs.Common.{ℕ, List, ◌++◌, ap, ◌∙◌}
+use Rattle.gr_record.specs.Prelude.{fields_bytes}
 use Rattle.gr_record.proofs.Places.{few_names}
 use Rattle.gr_record.proofs.Written.{four_written, fields_length, four_places, place_length}
 use Rattle.gr_record.proofs.encoding.encode_sited2.Goals as goal

@@ -1,4 +1,4 @@
-use Rattle.std.proofs.Common.{arith}
+use Rattle.gr_model.proofs.Common.{arith}
 use Rattle.gr_record.proofs.Consuming.{Consumes-then, Consumes-end}
 use Rattle.gr_record.proofs.input.read_all.Goals as goal
 

@@ -1,4 +1,4 @@
-use Rattle.std.specs.Io.KnownBytes.{Consumes}
+use Rattle.gr_model.proofs.Common.{Consumes}
 use Rattle.gr_record.proofs.input.read_all.Given as goal
 
 -- what was read so far was at the front

@@ -1,6 +1,5 @@
-use Rattle.std.proofs.Common.{arith}
-use Rattle.std.proofs.lemmas.List.{length-drop, take_rest}
-use Rattle.gr_record.specs.Reading.{are_unused}
+use Rattle.gr_model.proofs.Common.{arith, length-drop, take_rest}
+use Rattle.gr_record.specs.Prelude.{are_unused}
 use Rattle.gr_record.proofs.Numbers.{one_left}
 use Rattle.gr_record.proofs.reading.are_unused.Goals as goal
 

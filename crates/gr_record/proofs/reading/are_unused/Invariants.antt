@@ -1,5 +1,5 @@
-use Rattle.std.proofs.Common.{◌≡◌, ◌-◌, ◌*◌, ◌≤◌, length}
-use Rattle.gr_record.specs.Reading.{are_unused}
+use Rattle.gr_model.proofs.Common.{◌≡◌, ◌-◌, ◌*◌, ◌≤◌, length}
+use Rattle.gr_record.specs.Prelude.{are_unused}
 use Rattle.gr_record.proofs.reading.are_unused.Given as goal
 
 abbrev pub invariant-loop : goal.invariant-loop

@@ -1,5 +1,5 @@
-use Rattle.std.proofs.Common.{◌≡◌, ◌-◌}
-use Rattle.gr_record.specs.Reading.{bad_field, bad_field_from}
+use Rattle.gr_model.proofs.Common.{◌≡◌, ◌-◌}
+use Rattle.gr_record.specs.Prelude.{bad_field, bad_field_from}
 use Rattle.gr_record.proofs.reading.find_bad_field.Given as goal
 
 abbrev pub invariant-loop-place : goal.invariant-loop-place

@@ -1,5 +1,4 @@
-use Rattle.std.proofs.Common.{sym, ◌∙◌, refl}
-use Rattle.std.proofs.lemmas.List.{take_rest}
+use Rattle.gr_model.proofs.Common.{sym, ◌∙◌, refl, take_rest}
 use Rattle.gr_record.proofs.Places.{names_none}
 use Rattle.gr_record.proofs.reading.put_names.Goals as goal
 

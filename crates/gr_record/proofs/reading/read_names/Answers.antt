@@ -1,6 +1,5 @@
-use Rattle.std.proofs.Common.{arith, append_assoc}
-use Rattle.std.proofs.lemmas.List.{length-set, length-drop, take_rest, take_more_set}
-use Rattle.gr_record.specs.Reading.{names_in}
+use Rattle.gr_model.proofs.Common.{arith, append_assoc, length-set, length-drop, take_rest, take_more_set}
+use Rattle.gr_record.specs.Prelude.{names_in}
 use Rattle.gr_record.proofs.Numbers.{one_left}
 use Rattle.gr_record.proofs.reading.read_names.Goals as goal
 

@@ -1,5 +1,5 @@
-use Rattle.std.proofs.Common.{◌≡◌, ◌-◌, ◌*◌, ◌≤◌, ◌++◌, length, take}
-use Rattle.gr_record.specs.Reading.{names_in}
+use Rattle.gr_model.proofs.Common.{◌≡◌, ◌-◌, ◌*◌, ◌≤◌, ◌++◌, length, take}
+use Rattle.gr_record.specs.Prelude.{names_in}
 use Rattle.gr_record.proofs.reading.read_names.Given as goal
 
 abbrev pub invariant-loop-place : goal.invariant-loop-place

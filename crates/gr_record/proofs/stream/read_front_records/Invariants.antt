@@ -1,7 +1,6 @@
-use Rattle.std.proofs.Common.{◌≡◌, ◌-◌}
+use Rattle.gr_model.proofs.Common.{◌≡◌, ◌-◌}
 use Rattle.gr_model.specs.declared.limits.TheConstants.{MOST_RECORDS}
-use Rattle.gr_record.specs.Fronts.{records_of}
-use Rattle.gr_record.specs.WholeStreams.{whole, front_records_at}
+use Rattle.gr_record.specs.Prelude.{records_of, whole, front_records_at}
 use Rattle.gr_record.proofs.Loop.{with_prefix}
 use Rattle.gr_record.proofs.stream.read_front_records.Given as goal
 

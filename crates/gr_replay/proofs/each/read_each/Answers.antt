@@ -1,5 +1,4 @@
-use Rattle.std.proofs.Common.{arith}
-use Rattle.std.proofs.lemmas.Result.{err_from_is_err_and, IfOk-weaker, IfErr-weaker}
+use Rattle.gr_model.proofs.Common.{arith, err_from_is_err_and, IfOk-weaker, IfErr-weaker}
 use Rattle.gr_replay.proofs.Apart.{at_all_known}
 use Rattle.gr_replay.proofs.each.read_each.Goals as goal
 

@@ -1,4 +1,4 @@
-use Rattle.std.proofs.Common.{map}
+use Rattle.gr_model.proofs.Common.{map}
 use Rattle.gr_replay.specs.Each.{AreRead, inputs_of}
 use Rattle.gr_replay.proofs.each.read_inputs.Given as goal
 

@@ -1,6 +1,4 @@
-use Rattle.std.proofs.Common.{arith, sym, ◌∙◌}
-use Rattle.std.proofs.lemmas.List.{length-map}
-use Rattle.std.proofs.lemmas.Result.{err_from_is_err_and}
+use Rattle.gr_model.proofs.Common.{arith, sym, ◌∙◌, length-map, err_from_is_err_and}
 use Rattle.gr_replay.specs.InMemory.{flat, flats}
 use Rattle.gr_intake.proofs.Accepted.{stream_is_one}
 use Rattle.gr_replay.proofs.Apart.{only_fails, only_one, more_behind}

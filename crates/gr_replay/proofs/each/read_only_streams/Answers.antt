@@ -1,6 +1,4 @@
-use Rattle.std.proofs.Common.{◌≡◌, ◌<◌, ◌++◌, ◌∷◌, [], length, arith}
-use Rattle.std.proofs.lemmas.List.{length-map, map_push}
-use Rattle.std.proofs.lemmas.Result.{err_from_is_err_and}
+use Rattle.gr_model.proofs.Common.{◌≡◌, ◌<◌, ◌++◌, ◌∷◌, [], length, arith, length-map, map_push, err_from_is_err_and}
 use Rattle.gr_replay.specs.Each.{inputs_of}
 use Rattle.gr_replay.specs.InMemory.{flat, flats}
 use Rattle.gr_replay.proofs.Apart.{all_read, input_at, input_fails, input_read}

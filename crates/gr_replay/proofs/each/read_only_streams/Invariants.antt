@@ -1,4 +1,4 @@
-use Rattle.std.proofs.Common.{◌≡◌, drop}
+use Rattle.gr_model.proofs.Common.{◌≡◌, drop}
 use Rattle.gr_replay.specs.Each.{each_at, each_of, inputs_of}
 use Rattle.gr_replay.specs.InMemory.{flats}
 use Rattle.gr_intake.specs.Laws.{AreStreams}

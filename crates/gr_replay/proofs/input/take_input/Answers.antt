@@ -1,6 +1,5 @@
-use Rattle.std.proofs.Common.{◌++◌, ℕ, List, sym, subst}
-use Rattle.std.proofs.lemmas.Result.{err_from_is_err_and}
-use Rattle.gr_record.specs.InputFaults.{Fails}
+use Rattle.gr_model.proofs.Common.{◌++◌, ℕ, List, sym, subst, err_from_is_err_and}
+use Rattle.gr_record.specs.Prelude.{Fails}
 use Rattle.gr_record.proofs.Consuming.{Consumes-then}
 use Rattle.gr_intake.specs.Joined.{joined_of}
 use Rattle.gr_replay.proofs.Inputs.{StandsSoFar, at_consumed, piece_more, piece_taken}

@@ -1,5 +1,4 @@
-use Rattle.std.proofs.Common.{◌<◌, ℕ, List, length}
-use Rattle.std.specs.Io.KnownBytes.{Consumes}
+use Rattle.gr_model.proofs.Common.{◌<◌, ℕ, List, length, Consumes}
 use Rattle.gr_intake.specs.Intakes.{IsIntake, unit_of}
 use Rattle.gr_replay.proofs.Inputs.{StandsSoFar}
 use Rattle.gr_replay.proofs.input.take_input.Given as goal

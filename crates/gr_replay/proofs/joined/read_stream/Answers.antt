@@ -1,4 +1,4 @@
-use Rattle.std.proofs.Common.{sym, ◌∙◌}
+use Rattle.gr_model.proofs.Common.{sym, ◌∙◌}
 use Rattle.gr_replay.proofs.Joining.{header_fails, same_group, other_launch, records_fail, one_stream}
 use Rattle.gr_replay.proofs.joined.read_stream.Goals as goal
 

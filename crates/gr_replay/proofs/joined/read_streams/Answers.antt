@@ -1,6 +1,4 @@
-use Rattle.std.proofs.Common.{arith, [], length, sym, ◌∙◌}
-use Rattle.std.proofs.lemmas.List.{map_push}
-use Rattle.std.proofs.lemmas.Result.{err_from_is_err_and}
+use Rattle.gr_model.proofs.Common.{arith, [], length, sym, ◌∙◌, map_push, err_from_is_err_and}
 use Rattle.gr_replay.specs.InMemory.{flats}
 use Rattle.gr_intake.proofs.Accepted.{joined_are, none_are}
 use Rattle.gr_replay.proofs.Joining.{ends, is_full, stream_fails, goes_on}

@@ -1,4 +1,4 @@
-use Rattle.std.proofs.Common.{◌≡◌, ◌-◌, length}
+use Rattle.gr_model.proofs.Common.{◌≡◌, ◌-◌, length}
 use Rattle.gr_intake.specs.Joined.{joined_at, joined_of}
 use Rattle.gr_replay.specs.InMemory.{flats}
 use Rattle.gr_replay.proofs.joined.read_streams.Given as goal

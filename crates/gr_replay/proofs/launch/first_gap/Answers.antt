@@ -1,5 +1,4 @@
-use Rattle.std.proofs.Common.{◌≡◌, ◌<◌, ◌≤◌, get_or, arith, sym, ap, ◌∙◌, eq-or-lt_of_le, ⊎_elim, subst}
-use Rattle.std.proofs.lemmas.List.{get_or_default, length-map}
+use Rattle.gr_model.proofs.Common.{◌≡◌, ◌<◌, ◌≤◌, get_or, arith, sym, ap, ◌∙◌, eq-or-lt_of_le, ⊎_elim, subst, get_or_default, length-map}
 use Rattle.gr_intake.specs.Joined.{Flat}
 use Rattle.gr_replay.specs.InMemory.{flat, flats}
 use Rattle.gr_replay.proofs.Launching.{gap, at_least, group_at}

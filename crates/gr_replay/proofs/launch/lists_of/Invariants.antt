@@ -1,4 +1,4 @@
-use Rattle.std.proofs.Common.{◌≡◌, map, take}
+use Rattle.gr_model.proofs.Common.{◌≡◌, map, take}
 use Rattle.gr_replay.proofs.launch.lists_of.Given as goal
 
 abbrev pub invariant-loop-stream : goal.invariant-loop-stream

@@ -1,5 +1,4 @@
-use Rattle.std.proofs.Common.{rules}
-use Rattle.std.proofs.lemmas.List.Sorted.{IsNonDecreasingBy-from_sort_by_key, IsPermutation-map}
+use Rattle.gr_model.proofs.Common.{rules, IsNonDecreasingBy-from_sort_by_key, IsPermutation-map}
 use Rattle.gr_replay.specs.InMemory.{flat, flats}
 use Rattle.gr_replay.proofs.Launching.{apart_permutation, rising_from}
 use Rattle.gr_replay.proofs.launch.order_by_group.Goals as goal

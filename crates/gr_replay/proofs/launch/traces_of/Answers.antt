@@ -1,6 +1,5 @@
-use Rattle.std.proofs.Common.{refl, subst, sym, ◌∙◌}
-use Rattle.gr_model.specs.Shapes.{IsShape, IsShapeFault}
-use Rattle.gr_model.specs.Streams.{Streams, AreAccepted}
+use Rattle.gr_model.proofs.Common.{refl, subst, sym, ◌∙◌}
+use Rattle.gr_model.specs.Prelude.{IsShape, IsShapeFault, Streams, AreAccepted}
 use Rattle.gr_replay.specs.InMemory.{flats}
 use Rattle.gr_intake.specs.Launch.{IsLaunchOf}
 use Rattle.gr_replay.proofs.Launching.{launch_of, missing_permutation, launch_is, is_launch, launch_accepts}

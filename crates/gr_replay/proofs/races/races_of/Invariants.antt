@@ -1,4 +1,4 @@
-use Rattle.std.proofs.Common.{◌≡◌, All, Contains, map, take}
+use Rattle.gr_model.proofs.Common.{◌≡◌, All, Contains, map, take}
 use Rattle.gr_shadow.specs.declared.clash.Clash.{Clash}
 use Rattle.gr_replay.specs.Races.{IsRaceOf}
 use Rattle.gr_replay.proofs.races.races_of.Given as goal

@@ -1,4 +1,4 @@
-use Rattle.std.proofs.Common.{arith}
+use Rattle.gr_model.proofs.Common.{arith}
 use Rattle.gr_replay.proofs.run.report_by.Goals as goal
 
 pub returns-clause-fault : goal.returns-clause-fault

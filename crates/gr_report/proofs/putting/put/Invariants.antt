@@ -1,4 +1,4 @@
-use Rattle.std.proofs.Common.{length}
+use Rattle.gr_model.proofs.Common.{length}
 use Rattle.gr_report.proofs.PuttingLemmas.{Prefix}
 use Rattle.gr_report.proofs.putting.put.Given as goal
 

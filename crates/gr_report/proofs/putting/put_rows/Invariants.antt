@@ -1,4 +1,4 @@
-use Rattle.std.proofs.Common.{drop, flat_map}
+use Rattle.gr_model.proofs.Common.{drop, flat_map}
 use Rattle.gr_report.proofs.PuttingLemmas.{Prefix}
 use Rattle.gr_report.proofs.putting.put_rows.Given as goal
 

@@ -1,4 +1,4 @@
-use Rattle.std.proofs.Common.{append_assoc}
+use Rattle.gr_model.proofs.Common.{append_assoc}
 use Rattle.gr_report.proofs.report_text.put_head.Goals as goal
 
 pub returns : goal.returns

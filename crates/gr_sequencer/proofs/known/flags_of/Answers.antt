@@ -1,4 +1,4 @@
-use Rattle.std.proofs.Common.{refl}
+use Rattle.gr_model.proofs.Common.{refl}
 use Rattle.gr_model.specs.declared.event.ItemId.{ItemId}
 use Rattle.gr_order.proofs.ForgetLemmas.{barrier_remembered}
 use Rattle.gr_sequencer.proofs.known.flags_of.Goals as goal

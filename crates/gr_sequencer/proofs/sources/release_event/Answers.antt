@@ -1,5 +1,5 @@
-use Rattle.std.proofs.Common.{arith}
-use Rattle.gr_model.specs.Access.{is_release}
+use Rattle.gr_model.proofs.Common.{arith}
+use Rattle.gr_model.specs.Prelude.{is_release}
 use Rattle.gr_lanes.proofs.IndexLemmas.{record_is}
 use Rattle.gr_sequencer.proofs.sources.release_event.Goals as goal
 

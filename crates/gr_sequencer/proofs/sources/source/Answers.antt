@@ -1,7 +1,6 @@
-use Rattle.std.proofs.Common.{◌≡◌, Some, ap, arith, refl, sym, ◌∙◌}
+use Rattle.gr_model.proofs.Common.{◌≡◌, Some, ap, arith, refl, sym, ◌∙◌}
 use Rattle.gr_model.specs.declared.event.EventId.{EventId}
-use Rattle.gr_model.specs.Names.{release_place}
-use Rattle.gr_model.specs.Streams.{event_at}
+use Rattle.gr_model.specs.Prelude.{release_place, event_at}
 use Rattle.gr_sequencer.proofs.Teaching.{given_releases, release_handled, source_of}
 use Rattle.gr_sequencer.proofs.sources.source.Goals as goal
 

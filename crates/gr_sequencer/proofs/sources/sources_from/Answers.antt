@@ -1,5 +1,4 @@
-use Rattle.std.proofs.Common.{◌≡◌, ap, arith, length, take}
-use Rattle.std.proofs.lemmas.List.{take_all}
+use Rattle.gr_model.proofs.Common.{◌≡◌, ap, arith, length, take, take_all}
 use Rattle.gr_model.specs.declared.event.Name.{Name}
 use Rattle.gr_sequencer.proofs.Teaching.{next_names, sources_all, sources_more, sources_same}
 use Rattle.gr_sequencer.proofs.sources.sources_from.Goals as goal

@@ -1,4 +1,4 @@
-use Rattle.std.proofs.Common.{take}
+use Rattle.gr_model.proofs.Common.{take}
 use Rattle.gr_sequencer.specs.Sources.{sources_in}
 use Rattle.gr_sequencer.proofs.Teaching.{AreSourcesOf}
 use Rattle.gr_sequencer.proofs.sources.sources_from.Given as goal

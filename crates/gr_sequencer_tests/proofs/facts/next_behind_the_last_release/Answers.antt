@@ -1,11 +1,8 @@
-use Rattle.std.proofs.Common.{rules, ◌≡◌, ◌∙◌, ℕ, ◌<◌, List, Contains, Some, slice_get, ap, subst, sym, option_copied}
-use Rattle.std.proofs.lemmas.Option.{get_or_from_slice_get, slice_get_within}
+use Rattle.gr_model.proofs.Common.{rules, ◌≡◌, ◌∙◌, ℕ, ◌<◌, List, Contains, Some, slice_get, ap, subst, sym, option_copied, get_or_from_slice_get, slice_get_within}
 use Rattle.gr_model.specs.declared.event.Event.{Event}
 use Rattle.gr_model.specs.declared.event.EventId.{EventId}
 use Rattle.gr_model.specs.declared.event.Name.{Name}
-use Rattle.gr_model.specs.Names.{names_of, release_place}
-use Rattle.gr_model.specs.Streams.{Streams, event_at}
-use Rattle.gr_model.specs.Waits.{for_release}
+use Rattle.gr_model.specs.Prelude.{names_of, release_place, Streams, event_at, for_release}
 use Rattle.gr_steps.specs.Steps.{IsReady}
 use Rattle.gr_clocks.specs.Counts.{Counts, count_of}
 use Rattle.gr_order.specs.States.{AreBelowFrontier}

@@ -1,4 +1,4 @@
-use Rattle.std.proofs.Common.{rules, ◌≡◌, ◌∙◌, List, [], ◌∷◌, drop, slice_get, ap, refl}
+use Rattle.gr_model.proofs.Common.{rules, ◌≡◌, ◌∙◌, List, [], ◌∷◌, drop, slice_get, ap, refl}
 use Rattle.gr_model.specs.declared.event.Event.{Event}
 use Rattle.gr_windows.specs.Windows.{window_of}
 use Rattle.gr_sequencer_tests.proofs.facts.pop_first_of_two.Goals as goal

@@ -1,5 +1,4 @@
-use Rattle.std.proofs.Common.{◌≡◌, ◌∙◌, false, Option, None, Some, is_some, true≢false, subst, sym}
-use Rattle.std.specs.Prelude.{MatchOption}
+use Rattle.gr_model.proofs.Common.{◌≡◌, ◌∙◌, false, Option, None, Some, is_some, true≢false, subst, sym, MatchOption}
 use Rattle.gr_order.specs.declared.steps.Ready.{Ready}
 use Rattle.gr_order.specs.declared.steps.Ready.TheVariants.{Item}
 use Rattle.gr_order.specs.Answers.{CanMake}

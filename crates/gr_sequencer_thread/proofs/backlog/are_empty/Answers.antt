@@ -1,6 +1,4 @@
-use Rattle.std.proofs.Common.{◌≡◌, ◌∙◌, ap, arith, get_or, refl, sym, ⊎_elim}
-use Rattle.std.proofs.lemmas.Bool.{cases_eq}
-use Rattle.std.proofs.lemmas.List.{get_or_default}
+use Rattle.gr_model.proofs.Common.{◌≡◌, ◌∙◌, ap, arith, get_or, refl, sym, ⊎_elim, cases_eq, get_or_default}
 use Rattle.gr_taking.specs.Sources.{ListedRecords}
 use Rattle.gr_sequencer_thread.proofs.backlog.are_empty.Goals as goal
 

@@ -1,7 +1,4 @@
-use Rattle.std.proofs.Common.{◌≡◌, ◌∙◌, ◌<◌, ◌++◌, ◌∷◌, [], List, ap, arith, get_or, length, length-append, sym, ⊎_elim}
-use Rattle.std.proofs.Math.ListN.{get_or-append}
-use Rattle.std.proofs.Math.Seq.{get_or-append_seam}
-use Rattle.std.proofs.lemmas.Bool.{cases_lt}
+use Rattle.gr_model.proofs.Common.{◌≡◌, ◌∙◌, ◌<◌, ◌++◌, ◌∷◌, [], List, ap, arith, get_or, length, length-append, sym, ⊎_elim, get_or-append, get_or-append_seam, cases_lt}
 use Rattle.gr_model.specs.declared.event.Event.{Event}
 use Rattle.gr_route.specs.Batches.{all_of}
 use Rattle.gr_taking.specs.Sources.{ListedRecords}

@@ -1,4 +1,4 @@
-use Rattle.std.proofs.Common.{◌≡◌, ◌<◌, ℕ, [], get_or, length}
+use Rattle.gr_model.proofs.Common.{◌≡◌, ◌<◌, ℕ, [], get_or, length}
 use Rattle.gr_taking.specs.Sources.{ListedRecords}
 use Rattle.gr_sequencer_thread.proofs.backlog.backlogs_of.Given as goal
 

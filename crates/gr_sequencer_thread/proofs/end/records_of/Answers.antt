@@ -1,6 +1,5 @@
-use Rattle.std.proofs.Common.{◌<◌, ◌≤◌, [], length, ap, arith}
-use Rattle.std.proofs.lemmas.List.Sums.{sum_by_more}
-use Rattle.gr_model.specs.Streams.{list_of}
+use Rattle.gr_model.proofs.Common.{◌<◌, ◌≤◌, [], length, ap, arith, sum_by_more}
+use Rattle.gr_model.specs.Prelude.{list_of}
 use Rattle.gr_sequencer_thread.proofs.end.records_of.Goals as goal
 
 pub loop-group-preserved : goal.loop-group-preserved

@@ -1,5 +1,4 @@
-use Rattle.std.proofs.Common.{rules, ◌≡◌, ◌∙◌, ◌<◌, ◌+◌, arith, ap, length, get_or-set_other, length-set, IsTrue}
-use Rattle.std.proofs.Math.Seq.{map-set_same}
+use Rattle.gr_model.proofs.Common.{rules, ◌≡◌, ◌∙◌, ◌<◌, ◌+◌, arith, ap, length, get_or-set_other, length-set, IsTrue, map-set_same}
 use Rattle.gr_clocks.proofs.RowLemmas.{each_set}
 use Rattle.gr_route.specs.WorkRule.{is_stopped}
 use Rattle.gr_route.specs.WorkSeats.{Giver}

@@ -1,4 +1,4 @@
-use Rattle.std.proofs.Common.{◌≡◌, ◌≤◌, ◌<◌, ℕ, get_or, length, IsTrue}
+use Rattle.gr_model.proofs.Common.{◌≡◌, ◌≤◌, ◌<◌, ℕ, get_or, length, IsTrue}
 use Rattle.gr_route.specs.WorkRule.{is_stopped}
 use Rattle.gr_route.specs.WorkSeats.{Giver}
 use Rattle.gr_sequencer_thread.specs.Feeds.{given_of, works_of}

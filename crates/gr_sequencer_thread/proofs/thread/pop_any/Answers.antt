@@ -1,5 +1,4 @@
-use Rattle.std.proofs.Common.{◌∙◌, ap}
-use Rattle.std.proofs.Math.Seq.{map-set_same}
+use Rattle.gr_model.proofs.Common.{◌∙◌, ap, map-set_same}
 use Rattle.gr_route.specs.IntakeSeats.{Taker}
 use Rattle.gr_sequencer_thread.proofs.thread.pop_any.Goals as goal
 

@@ -1,4 +1,4 @@
-use Rattle.std.proofs.Common.{◌≡◌}
+use Rattle.gr_model.proofs.Common.{◌≡◌}
 use Rattle.gr_sequencer_thread.specs.Ends.{feed_line}
 use Rattle.gr_sequencer_thread.proofs.thread.run.Given as goal
 

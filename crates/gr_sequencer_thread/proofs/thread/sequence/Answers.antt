@@ -1,4 +1,4 @@
-use Rattle.std.proofs.Common.{◌∙◌, ap}
+use Rattle.gr_model.proofs.Common.{◌∙◌, ap}
 use Rattle.gr_route.specs.IntakeSeats.{Taker}
 use Rattle.gr_route.specs.WorkSeats.{Giver}
 use Rattle.gr_sequencer_thread.specs.Ends.{Begin, begin_line}

@@ -1,4 +1,4 @@
-use Rattle.std.proofs.Common.{arith}
+use Rattle.gr_model.proofs.Common.{arith}
 use Rattle.gr_shadow.proofs.KeepsLemmas.{Contains-append}
 use Rattle.gr_shadow.proofs.launch.add_racy.Goals as goal
 

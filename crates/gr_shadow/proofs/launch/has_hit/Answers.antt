@@ -1,4 +1,4 @@
-use Rattle.std.proofs.Common.{sym, ◌∙◌}
+use Rattle.gr_model.proofs.Common.{sym, ◌∙◌}
 use Rattle.gr_shadow.proofs.LaunchLemmas.{none_hit}
 use Rattle.gr_shadow.proofs.launch.has_hit.Goals as goal
 

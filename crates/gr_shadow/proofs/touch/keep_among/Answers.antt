@@ -1,4 +1,4 @@
-use Rattle.std.proofs.Common.{rules}
+use Rattle.gr_model.proofs.Common.{rules}
 use Rattle.gr_shadow.proofs.KeepsLemmas.{Keeps-at}
 use Rattle.gr_shadow.proofs.touch.keep_among.Goals as goal
 

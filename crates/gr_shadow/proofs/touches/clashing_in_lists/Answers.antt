@@ -1,4 +1,4 @@
-use Rattle.std.proofs.Common.{sym, ◌∙◌, arith}
+use Rattle.gr_model.proofs.Common.{sym, ◌∙◌, arith}
 use Rattle.gr_clocks.specs.ClockedAccess.{clocked}
 use Rattle.gr_shadow.specs.Keeps.{touch_clashes}
 use Rattle.gr_shadow.proofs.KeepsLemmas.{found_at, found_nowhere}

@@ -1,4 +1,4 @@
-use Rattle.std.proofs.Common.{◌≡◌, drop}
+use Rattle.gr_model.proofs.Common.{◌≡◌, drop}
 use Rattle.std.specs.List.{find}
 use Rattle.gr_clocks.specs.ClockedAccess.{clocked}
 use Rattle.gr_shadow.specs.Keeps.{all_touches, touch_clashes}

@@ -1,4 +1,4 @@
-use Rattle.std.proofs.Common.{rules}
+use Rattle.gr_model.proofs.Common.{rules}
 use Rattle.gr_shadow.proofs.KeepsLemmas.{Keeps-trans, Keeps-permutation, Keeps-deduped, taking}
 use Rattle.gr_shadow.proofs.touches.compact.Goals as goal
 

@@ -1,6 +1,4 @@
-use Rattle.std.proofs.Common.{◌∷◌, [], ap, ◌∙◌, slice_set, rules}
-use Rattle.std.proofs.lemmas.List.{set-get_or}
-use Rattle.std.proofs.lemmas.Result.{on_ok_weaker, on_err_weaker}
+use Rattle.gr_model.proofs.Common.{◌∷◌, [], ap, ◌∙◌, slice_set, rules, set-get_or, on_ok_weaker, on_err_weaker}
 use Rattle.gr_shadow.proofs.KeepsLemmas.{Keeps-set, Keeps-push}
 use Rattle.gr_shadow.proofs.touches.put.Goals as goal
 

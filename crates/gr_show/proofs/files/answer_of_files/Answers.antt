@@ -1,5 +1,4 @@
-use Rattle.std.proofs.Common.{◌∙◌, ap, sym}
-use Rattle.std.proofs.lemmas.Result.{err_from_is_err_and}
+use Rattle.gr_model.proofs.Common.{◌∙◌, ap, sym, err_from_is_err_and}
 use Rattle.gr_places.specs.SideLines.{buffers_in, places_in}
 use Rattle.gr_places.proofs.FileLemmas.{buffers_refused, holds_of_all, places_refused, streams_refused, unread}
 use Rattle.gr_show.proofs.StreamLemmas.{shown_fault}

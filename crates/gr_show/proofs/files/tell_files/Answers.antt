@@ -1,4 +1,4 @@
-use Rattle.std.proofs.Common.{inr}
+use Rattle.gr_model.proofs.Common.{inr}
 use Rattle.gr_show.proofs.StreamLemmas.{writing_fault}
 use Rattle.gr_show.proofs.files.tell_files.Goals as goal
 

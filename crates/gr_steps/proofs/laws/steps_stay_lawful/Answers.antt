@@ -1,6 +1,6 @@
-use Rattle.std.proofs.Common.{List, subst, sym}
+use Rattle.gr_model.proofs.Common.{List, subst, sym}
 use Rattle.gr_model.specs.declared.event.EventId.{EventId}
-use Rattle.gr_model.specs.LawfulOrders.{IsLawful}
+use Rattle.gr_model.specs.Prelude.{IsLawful}
 use Rattle.gr_steps.proofs.Handling.{lawful_handle}
 use Rattle.gr_steps.proofs.Meeting.{lawful_meet}
 use Rattle.gr_steps.proofs.StepGrowth.{lawful_grows}

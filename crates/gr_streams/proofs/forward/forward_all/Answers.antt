@@ -1,4 +1,4 @@
-use Rattle.std.proofs.Common.{◌∙◌, ◌++◌, append_assoc, rules, sym, take, take_all}
+use Rattle.gr_model.proofs.Common.{◌∙◌, ◌++◌, append_assoc, rules, sym, take, take_all}
 use Rattle.gr_streams.specs.Sending.{events_in}
 use Rattle.gr_streams.proofs.SendingLemmas.{next_part}
 use Rattle.gr_streams.proofs.forward.forward_all.Goals as goal

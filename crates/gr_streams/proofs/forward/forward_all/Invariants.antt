@@ -1,4 +1,4 @@
-use Rattle.std.proofs.Common.{◌≡◌, ◌++◌, List, take}
+use Rattle.gr_model.proofs.Common.{◌≡◌, ◌++◌, List, take}
 use Rattle.gr_model.specs.declared.event.Event.{Event}
 use Rattle.gr_model.specs.declared.limits.TheConstants.{MOST_RECORDS}
 use Rattle.gr_streams.specs.Sending.{AreSent, IsSameSender, events_in}

@@ -1,4 +1,4 @@
-use Rattle.std.proofs.Common.{subst}
+use Rattle.gr_model.proofs.Common.{subst}
 use Rattle.gr_streams.specs.Sending.{AreSent}
 use Rattle.gr_streams.proofs.SendingLemmas.{stuck_more}
 use Rattle.gr_streams.proofs.forward.forward_one.Goals as goal

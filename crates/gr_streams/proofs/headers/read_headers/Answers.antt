@@ -1,11 +1,6 @@
-use Rattle.std.proofs.Common.{◌≡◌, ◌≢◌, ◌∙◌, ◌++◌, ◌∷◌, [], Ok, ap, arith, append_assoc, map, refl, rules, sym}
-use Rattle.std.specs.Vec.Iter.{into_iter_items}
-use Rattle.std.proofs.lemmas.List.{map-append, map_push}
-use Rattle.std.proofs.lemmas.List.Elements.{All-push}
+use Rattle.gr_model.proofs.Common.{◌≡◌, ◌≢◌, ◌∙◌, ◌++◌, ◌∷◌, [], Ok, ap, arith, append_assoc, map, refl, rules, sym, into_iter_items, map-append, map_push, All-push, same_Some, err_from_is_err_and}
 use Rattle.std.proofs.lemmas.List.Quantifiers.{all_pairs_push}
-use Rattle.std.proofs.lemmas.Option.{same_Some}
-use Rattle.std.proofs.lemmas.Result.{err_from_is_err_and}
-use Rattle.gr_record.specs.InputFaults.{Fails}
+use Rattle.gr_record.specs.Prelude.{Fails}
 use Rattle.gr_record.specs.declared.header.Header.{Header}
 use Rattle.gr_streams.specs.Headers.{header_behind, headers_behind, headers_of}
 use Rattle.gr_streams.specs.Sources.{IsHeaded, known_of}

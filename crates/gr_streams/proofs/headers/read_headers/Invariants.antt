@@ -1,5 +1,4 @@
-use Rattle.std.proofs.Common.{◌≡◌, ◌++◌, All, IfSome, Ok, map}
-use Rattle.std.specs.Vec.Iter.{into_iter_items}
+use Rattle.gr_model.proofs.Common.{◌≡◌, ◌++◌, All, IfSome, Ok, map, into_iter_items}
 use Rattle.gr_replay.specs.Each.{all_known}
 use Rattle.gr_streams.specs.Headers.{AreApart, headers_of}
 use Rattle.gr_streams.specs.Sources.{AreKnown, IsHeaded, known_of}

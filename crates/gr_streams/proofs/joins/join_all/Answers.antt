@@ -1,6 +1,4 @@
-use Rattle.std.proofs.Common.{◌≡◌, ◌∙◌, ◌++◌, List, Some, append_assoc, ap, arith, length, refl, rules, sym}
-use Rattle.std.specs.Vec.Iter.{into_iter_items}
-use Rattle.std.proofs.lemmas.List.{length-append, length-map, nil_from_length}
+use Rattle.gr_model.proofs.Common.{◌≡◌, ◌∙◌, ◌++◌, List, Some, append_assoc, ap, arith, length, refl, rules, sym, into_iter_items, length-append, length-map, nil_from_length}
 use Rattle.std.proofs.lemmas.Slice.Zip.{AllZip-long}
 use Rattle.gr_route.specs.Batches.{all_of}
 use Rattle.gr_route.proofs.BatchLemmas.{all_of_push}

@@ -1,5 +1,4 @@
-use Rattle.std.proofs.Common.{◌≡◌, ◌≤◌, ◌+◌, ◌++◌, length, vec_len, vec_capacity}
-use Rattle.std.specs.Vec.Iter.{into_iter_items}
+use Rattle.gr_model.proofs.Common.{◌≡◌, ◌≤◌, ◌+◌, ◌++◌, length, vec_len, vec_capacity, into_iter_items}
 use Rattle.gr_route.specs.Batches.{all_of}
 use Rattle.gr_streams.specs.Sources.{AreLeft}
 use Rattle.gr_streams.proofs.joins.join_all.Given as goal

@@ -1,5 +1,4 @@
-use Rattle.std.proofs.Common.{◌≡◌, ◌≢◌, ◌∙◌, ◌+◌, ◌++◌, ◌∷◌, [], List, Option, Some, Result, append-nil, append_assoc, ap, arith, length, map, rules, subst, sym, IfSome}
-use Rattle.std.proofs.lemmas.List.{length-map, length_push, map_push, nil_from_length}
+use Rattle.gr_model.proofs.Common.{◌≡◌, ◌≢◌, ◌∙◌, ◌+◌, ◌++◌, ◌∷◌, [], List, Option, Some, Result, append-nil, append_assoc, ap, arith, length, map, rules, subst, sym, IfSome, length-map, length_push, map_push, nil_from_length}
 use Rattle.std.proofs.lemmas.Slice.Zip.{AllZip-long}
 use Rattle.gr_model.specs.declared.event.Event.{Event}
 use Rattle.gr_record.specs.declared.fault.Fault.{Fault}

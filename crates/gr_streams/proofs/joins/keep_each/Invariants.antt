@@ -1,5 +1,4 @@
-use Rattle.std.proofs.Common.{◌≡◌, ◌≤◌, ◌+◌, ◌++◌, List, length, vec_len, vec_capacity}
-use Rattle.std.specs.Vec.Iter.{into_iter_items, into_iter_len}
+use Rattle.gr_model.proofs.Common.{◌≡◌, ◌≤◌, ◌+◌, ◌++◌, List, length, vec_len, vec_capacity, into_iter_items, into_iter_len}
 use Rattle.gr_streams.specs.Sources.{AreEndsOf, AreLeft, Begun}
 use Rattle.gr_streams.proofs.joins.keep_each.Given as goal
 

@@ -1,5 +1,4 @@
-use Rattle.std.proofs.Common.{◌≡◌, ◌≤◌, ◌+◌, ◌++◌, All, ℕ, None, Some, get_or, length, map, vec_len, vec_capacity}
-use Rattle.std.specs.Vec.Iter.{into_iter_items, into_iter_len}
+use Rattle.gr_model.proofs.Common.{◌≡◌, ◌≤◌, ◌+◌, ◌++◌, All, ℕ, None, Some, get_or, length, map, vec_len, vec_capacity, into_iter_items, into_iter_len}
 use Rattle.gr_detector.specs.Runs.{Run}
 use Rattle.gr_route.specs.Batches.{all_of}
 use Rattle.gr_threads.specs.Senders.{Sending}

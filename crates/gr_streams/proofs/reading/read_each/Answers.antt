@@ -1,7 +1,4 @@
-use Rattle.std.proofs.Common.{append_assoc, arith, map, subst, All}
-use Rattle.std.specs.Vec.Iter.{into_iter_items}
-use Rattle.std.proofs.lemmas.List.{map_push}
-use Rattle.std.proofs.lemmas.List.Elements.{All-head, All-tail}
+use Rattle.gr_model.proofs.Common.{append_assoc, arith, map, subst, All, into_iter_items, map_push, All-head, All-tail}
 use Rattle.std.proofs.lemmas.Slice.Zip.{all_zipped_more}
 use Rattle.gr_streams.specs.Sources.{IsEndOf, IsUnread, begun_of}
 use Rattle.gr_streams.proofs.reading.read_each.Goals as goal

@@ -1,5 +1,4 @@
-use Rattle.std.proofs.Common.{◌≡◌, ◌≤◌, ◌+◌, ◌++◌, All, map, vec_len, vec_capacity}
-use Rattle.std.specs.Vec.Iter.{into_iter_items, into_iter_len}
+use Rattle.gr_model.proofs.Common.{◌≡◌, ◌≤◌, ◌+◌, ◌++◌, All, map, vec_len, vec_capacity, into_iter_items, into_iter_len}
 use Rattle.gr_streams.specs.Sources.{AreEndsOf, IsUnread, begun_of}
 use Rattle.gr_streams.proofs.reading.read_each.Given as goal
 

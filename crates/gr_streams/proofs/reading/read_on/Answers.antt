@@ -1,5 +1,5 @@
-use Rattle.std.proofs.Common.{◌∙◌, ◌++◌, [], ap}
-use Rattle.gr_record.specs.Decoding.{HasMemory}
+use Rattle.gr_model.proofs.Common.{◌∙◌, ◌++◌, [], ap}
+use Rattle.gr_record.specs.Prelude.{HasMemory}
 use Rattle.gr_threads.specs.Senders.{Sending}
 use Rattle.gr_streams.specs.Records.{events_at}
 use Rattle.gr_streams.specs.Sending.{Tells}

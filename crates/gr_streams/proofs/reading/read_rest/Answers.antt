@@ -1,7 +1,7 @@
-use Rattle.std.proofs.Common.{◌∙◌, ◌++◌, append_assoc, arith, rules, take}
+use Rattle.gr_model.proofs.Common.{◌∙◌, ◌++◌, append_assoc, arith, rules, take}
 use Rattle.gr_record.proofs.Consuming.{Consumes-end, Consumes-then}
 use Rattle.gr_record.proofs.Outside.{at_known}
-use Rattle.gr_record.specs.Decoding.{HasMemory}
+use Rattle.gr_record.specs.Prelude.{HasMemory}
 use Rattle.gr_streams.specs.Records.{events_at}
 use Rattle.gr_streams.specs.Sending.{Tells}
 use Rattle.gr_streams.proofs.ReadingLemmas.{end_tells, of_known, refused_tells, regroup, still_headed}

@@ -1,5 +1,4 @@
-use Rattle.std.proofs.Common.{◌++◌, List, ℕ}
-use Rattle.std.specs.Io.KnownBytes.{Consumes}
+use Rattle.gr_model.proofs.Common.{◌++◌, List, ℕ, Consumes}
 use Rattle.gr_streams.specs.Sending.{IsFed, IsSameSender}
 use Rattle.gr_streams.proofs.reading.read_rest.Given as goal
 

@@ -1,6 +1,4 @@
-use Rattle.std.proofs.Common.{List, [], map, inl, inr, refl, subst, sym, ⊎_elim}
-use Rattle.std.proofs.lemmas.Option.{IfSome_then}
-use Rattle.std.proofs.lemmas.Result.{IfErr-weaker, IfOk-weaker, err_from_is_err_and}
+use Rattle.gr_model.proofs.Common.{List, [], map, inl, inr, refl, subst, sym, ⊎_elim, IfSome_then, IfErr-weaker, IfOk-weaker, err_from_is_err_and}
 use Rattle.gr_record.specs.declared.fault.Fault.TheVariants as faults
 use Rattle.gr_record.specs.declared.header.Header.{Header}
 use Rattle.gr_replay.specs.Each.{all_known}

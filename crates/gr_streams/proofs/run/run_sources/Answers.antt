@@ -1,10 +1,8 @@
-use Rattle.std.proofs.Common.{◌≡◌, ◌∙◌, ◌⊎◌, Result, ap, arith, inr, length, map, subst, sym, ⊎_elim}
-use Rattle.std.proofs.lemmas.List.{length-map}
-use Rattle.std.proofs.lemmas.Result.{IfErr-weaker, IfOk-at_ok, IfOk-weaker}
+use Rattle.gr_model.proofs.Common.{◌≡◌, ◌∙◌, ◌⊎◌, Result, ap, arith, inr, length, map, subst, sym, ⊎_elim, length-map, IfErr-weaker, IfOk-at_ok, IfOk-weaker}
 use Rattle.gr_detector.specs.Refusals.{IsHandedBack}
 use Rattle.gr_detector.specs.Runs.{IsEachOnce, sent_by}
-use Rattle.gr_model.specs.Reports.{IsReportOf}
-use Rattle.gr_record.specs.InputFaults.{Fails}
+use Rattle.gr_model.specs.Prelude.{IsReportOf}
+use Rattle.gr_record.specs.Prelude.{Fails}
 use Rattle.gr_record.specs.declared.fault.Fault.{Fault}
 use Rattle.gr_record.specs.declared.fault.Fault.TheVariants as faults
 use Rattle.gr_report.specs.Whole.{whole_of}

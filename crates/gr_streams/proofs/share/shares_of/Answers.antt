@@ -1,5 +1,4 @@
-use Rattle.std.proofs.Common.{◌≡◌, ◌∙◌, ◌++◌, ◌∷◌, [], List, append-nil, append_assoc, ap, refl, sym, Vec}
-use Rattle.std.specs.Vec.Iter.{into_iter_items}
+use Rattle.gr_model.proofs.Common.{◌≡◌, ◌∙◌, ◌++◌, ◌∷◌, [], List, append-nil, append_assoc, ap, refl, sym, Vec, into_iter_items}
 use Rattle.gr_route.specs.Batches.{all_of}
 use Rattle.gr_route.proofs.BatchLemmas.{all_of_push}
 use Rattle.gr_streams.proofs.JoinLemmas.{all_yielded}

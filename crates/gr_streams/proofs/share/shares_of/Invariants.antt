@@ -1,5 +1,4 @@
-use Rattle.std.proofs.Common.{◌≡◌, ◌++◌}
-use Rattle.std.specs.Vec.Iter.{into_iter_items}
+use Rattle.gr_model.proofs.Common.{◌≡◌, ◌++◌, into_iter_items}
 use Rattle.gr_route.specs.Batches.{all_of}
 use Rattle.gr_streams.proofs.share.shares_of.Given as goal
 

@@ -1,5 +1,5 @@
-use Rattle.std.proofs.Common.{[], arith, refl, sym, ◌∙◌}
-use Rattle.gr_record.specs.Laws.{AreBytes}
+use Rattle.gr_model.proofs.Common.{[], arith, refl, sym, ◌∙◌}
+use Rattle.gr_record.specs.Prelude.{AreBytes}
 use Rattle.gr_record.proofs.Found.{read_header_is_spelled}
 use Rattle.gr_intake.proofs.Behind.{header_found}
 use Rattle.gr_intake.proofs.Faults.{fault_at-fails}

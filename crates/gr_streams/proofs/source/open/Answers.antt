@@ -1,6 +1,5 @@
-use Rattle.std.proofs.Common.{◌≡◌, Ok, Result}
-use Rattle.std.proofs.lemmas.Result.{err_from_is_err_and}
-use Rattle.gr_record.specs.InputFaults.{Fails}
+use Rattle.gr_model.proofs.Common.{◌≡◌, Ok, Result, err_from_is_err_and}
+use Rattle.gr_record.specs.Prelude.{Fails}
 use Rattle.gr_record.specs.declared.fault.Fault.{Fault}
 use Rattle.gr_record.specs.declared.header.Header.{Header}
 use Rattle.gr_streams.proofs.HeaderLemmas.{header_known}

@@ -1,4 +1,4 @@
-use Rattle.std.proofs.Common.{◌++◌}
+use Rattle.gr_model.proofs.Common.{◌++◌}
 use Rattle.gr_sequencer.specs.Answers.{IsStep}
 use Rattle.gr_taking.specs.Along.{accesses_of}
 use Rattle.gr_taking.proofs.StepLemmas.{accesses_step, fewer_left}

@@ -1,4 +1,4 @@
-use Rattle.std.proofs.Common.{◌≡◌, ◌-◌, length}
+use Rattle.gr_model.proofs.Common.{◌≡◌, ◌-◌, length}
 use Rattle.gr_order.specs.Sequences.{event_count}
 use Rattle.gr_taking.specs.Along.{IsAlong}
 use Rattle.gr_taking.proofs.handling.handle_ready.Given as goal

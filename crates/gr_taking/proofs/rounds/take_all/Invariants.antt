@@ -1,5 +1,4 @@
-use Rattle.std.proofs.Common.{◌≡◌, length}
-use Rattle.std.specs.List.{sum_by}
+use Rattle.gr_model.proofs.Common.{◌≡◌, length, sum_by}
 use Rattle.gr_order.specs.Sequences.{IsSequence}
 use Rattle.gr_taking.specs.Along.{IsAlong}
 use Rattle.gr_taking.specs.Sources.{come_from}

@@ -1,4 +1,4 @@
-use Rattle.std.proofs.Common.{◌<◌, arith, get_or, inl, inr, length}
+use Rattle.gr_model.proofs.Common.{◌<◌, arith, get_or, inl, inr, length}
 use Rattle.gr_taking.proofs.RoundLemmas.{HadTurn, round_goes_on, round_may}
 use Rattle.gr_taking.proofs.rounds.take_round.Goals.{else-branch, then-branch}
 use Rattle.gr_taking.proofs.rounds.take_round.Goals as goal

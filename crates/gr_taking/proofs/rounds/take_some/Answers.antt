@@ -1,4 +1,4 @@
-use Rattle.std.proofs.Common.{arith}
+use Rattle.gr_model.proofs.Common.{arith}
 use Rattle.gr_taking.proofs.Turns.{fewer_come, next_can, next_good, next_taken, room_for_next}
 use Rattle.gr_taking.proofs.rounds.take_some.Goals as goal
 

@@ -1,4 +1,4 @@
-use Rattle.std.proofs.Common.{◌≡◌, ◌<◌, IsFalse, IsTrue, length}
+use Rattle.gr_model.proofs.Common.{◌≡◌, ◌<◌, IsFalse, IsTrue, length}
 use Rattle.gr_order.specs.Sequences.{IsSequence}
 use Rattle.gr_taking.specs.Along.{IsAlong}
 use Rattle.gr_taking.specs.Sources.{AreTakenFrom}

@@ -1,4 +1,4 @@
-use Rattle.std.proofs.Common.{◌++◌, refl}
+use Rattle.gr_model.proofs.Common.{◌++◌, refl}
 use Rattle.gr_order.specs.Sequences.{taking}
 use Rattle.gr_taking.specs.Along.{accesses_of}
 use Rattle.gr_taking.proofs.StepLemmas.{accesses_step}

@@ -1,5 +1,5 @@
-use Rattle.std.proofs.Common.{◌≡◌, IfOk, OnOk, subst}
-use Rattle.gr_model.specs.Streams.{AreAccepted, Streams}
+use Rattle.gr_model.proofs.Common.{◌≡◌, IfOk, OnOk, subst}
+use Rattle.gr_model.specs.Prelude.{AreAccepted, Streams}
 use Rattle.gr_taking.specs.Along.{IsAlongWhole}
 use Rattle.gr_taking.proofs.Lists.{read_unchanged}
 use Rattle.gr_taking.proofs.traces.follow.Goals as goal

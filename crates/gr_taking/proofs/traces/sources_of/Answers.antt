@@ -1,5 +1,4 @@
-use Rattle.std.proofs.Common.{◌≡◌, ap, arith, length, sym, ◌∙◌}
-use Rattle.std.proofs.lemmas.List.FromFn.{get_or-map-range_with_len, length-map-range_with_len, map-range_with_len_more}
+use Rattle.gr_model.proofs.Common.{◌≡◌, ap, arith, length, sym, ◌∙◌, get_or-map-range_with_len, length-map-range_with_len, map-range_with_len_more}
 use Rattle.gr_taking.proofs.Lists.{read_list}
 use Rattle.gr_taking.proofs.traces.sources_of.Goals as goal
 

@@ -1,6 +1,5 @@
-use Rattle.std.proofs.Common.{◌≡◌, map}
-use Rattle.std.specs.List.{range_with_len}
-use Rattle.gr_model.specs.Streams.{list_of}
+use Rattle.gr_model.proofs.Common.{◌≡◌, map, range_with_len}
+use Rattle.gr_model.specs.Prelude.{list_of}
 use Rattle.gr_taking.proofs.traces.sources_of.Given as goal
 
 abbrev pub invariant-loop-group : goal.invariant-loop-group

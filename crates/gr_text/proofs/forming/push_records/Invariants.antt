@@ -1,7 +1,6 @@
-use Rattle.std.proofs.Common.{◌≡◌, ◌-◌, ◌++◌, flat_map}
+use Rattle.gr_model.proofs.Common.{◌≡◌, ◌-◌, ◌++◌, flat_map}
 use Rattle.gr_model.specs.declared.limits.TheConstants.{MOST_RECORDS}
-use Rattle.gr_record.specs.Fronts.{records_of}
-use Rattle.gr_record.specs.Sites.{all_sited}
+use Rattle.gr_record.specs.Prelude.{records_of, all_sited}
 use Rattle.gr_text.specs.Dumps.{formed_event}
 use Rattle.gr_text.specs.Partial.{behind_end}
 use Rattle.gr_text.proofs.forming.push_records.Given as goal

@@ -1,4 +1,4 @@
-use Rattle.std.proofs.Common.{◌+◌, append_assoc, arith, sym}
+use Rattle.gr_model.proofs.Common.{◌+◌, append_assoc, arith, sym}
 use Rattle.gr_text.specs.LineReading.{sited_said}
 use Rattle.gr_text.specs.Texts.{said_from, version_at}
 use Rattle.gr_text.proofs.Steps.{line_at_ok}

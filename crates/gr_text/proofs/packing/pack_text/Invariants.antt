@@ -1,4 +1,4 @@
-use Rattle.std.proofs.Common.{◌≡◌, ◌+◌, ◌≤◌, length}
+use Rattle.gr_model.proofs.Common.{◌≡◌, ◌+◌, ◌≤◌, length}
 use Rattle.gr_text.specs.Lines.{lines_of}
 use Rattle.gr_text.specs.Texts.{version_at, said_from, packed}
 use Rattle.gr_text.proofs.Steps.{bytes_behind}

@@ -1,4 +1,4 @@
-use Rattle.std.proofs.Common.{◌≡◌, ◌-◌, ◌++◌, length, take, Some, option_map}
+use Rattle.gr_model.proofs.Common.{◌≡◌, ◌-◌, ◌++◌, length, take, Some, option_map}
 use Rattle.gr_text.specs.LineReading.{◌>>=◌, names_said}
 use Rattle.gr_text.proofs.parsing.parse_names.Given as goal
 

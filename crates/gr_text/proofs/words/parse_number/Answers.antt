@@ -1,5 +1,4 @@
-use Rattle.std.proofs.Common.{◌≡◌, ◌^◌, ◌<◌, ℕ, List, Some, None, cond, sym, ap, ◌∙◌, arith, inl, inr, decimal}
-use Rattle.std.proofs.lemmas.Bool.{cases_Bool}
+use Rattle.gr_model.proofs.Common.{◌≡◌, ◌^◌, ◌<◌, ℕ, List, Some, None, cond, sym, ap, ◌∙◌, arith, inl, inr, decimal, cases_Bool}
 use Rattle.std.proofs.lemmas.Fmt.{IsAscii-decimal, parse-decimal}
 use Rattle.std.proofs.lemmas.Str.{IsUtf8-from_ascii}
 use Rattle.gr_text.specs.LineReading.{same, number_of}

@@ -1,5 +1,4 @@
-use Rattle.std.proofs.Common.{◌≡◌, ◌∙◌, ◌+◌, ◌++◌, ◌∷◌, [], List, append-nil, append_assoc, ap, arith, drop, refl, subst, sym}
-use Rattle.std.proofs.lemmas.List.{drop_all}
+use Rattle.gr_model.proofs.Common.{◌≡◌, ◌∙◌, ◌+◌, ◌++◌, ◌∷◌, [], List, append-nil, append_assoc, ap, arith, drop, refl, subst, sym, drop_all}
 use Rattle.gr_clocks.specs.ClockedAccess.{ClockedAccess}
 use Rattle.gr_route.specs.declared.work.Work.{Work}
 use Rattle.gr_shadow.specs.Launches.{StandsForLaunch}

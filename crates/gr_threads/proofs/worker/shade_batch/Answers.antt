@@ -1,4 +1,4 @@
-use Rattle.std.proofs.Common.{◌++◌, IfSome, subst}
+use Rattle.gr_model.proofs.Common.{◌++◌, IfSome, subst}
 use Rattle.gr_shadow.specs.Launches.{StandsForLaunch}
 use Rattle.gr_threads.specs.Given.{accesses_in}
 use Rattle.gr_threads.proofs.worker.shade_batch.Goals as goal

@@ -1,4 +1,4 @@
-use Rattle.std.proofs.Common.{◌++◌, List, IfSome}
+use Rattle.gr_model.proofs.Common.{◌++◌, List, IfSome}
 use Rattle.gr_clocks.specs.ClockedAccess.{ClockedAccess}
 use Rattle.gr_shadow.specs.Launches.{StandsForLaunch}
 use Rattle.gr_threads.specs.Given.{accesses_in}

@@ -1,4 +1,4 @@
-use Rattle.std.proofs.Common.{rules, true, append_assoc, ◌≡◌, ◌∙◌, ◌++◌, ◌∷◌, [], List, IfSome, ap, sym, subst}
+use Rattle.gr_model.proofs.Common.{rules, true, append_assoc, ◌≡◌, ◌∙◌, ◌++◌, ◌∷◌, [], List, IfSome, ap, sym, subst}
 use Rattle.gr_clocks.specs.ClockedAccess.{ClockedAccess}
 use Rattle.gr_route.specs.declared.work.Work.{Work}
 use Rattle.gr_route.specs.declared.work.Work.TheVariants.{Stop}

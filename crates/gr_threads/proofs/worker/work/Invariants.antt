@@ -1,4 +1,4 @@
-use Rattle.std.proofs.Common.{◌≡◌, IfSome}
+use Rattle.gr_model.proofs.Common.{◌≡◌, IfSome}
 use Rattle.std.specs.Arc.{arc_value}
 use Rattle.gr_shadow.specs.Launches.{StandsForLaunch}
 use Rattle.gr_threads.specs.Given.{accesses_in}

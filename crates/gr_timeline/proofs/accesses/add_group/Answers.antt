@@ -1,5 +1,4 @@
-use Rattle.std.proofs.Common.{◌≡◌, Some, arith, length, refl, slice_get}
-use Rattle.std.proofs.lemmas.Option.{slice_get_read}
+use Rattle.gr_model.proofs.Common.{◌≡◌, Some, arith, length, refl, slice_get, slice_get_read}
 use Rattle.gr_timeline.proofs.GroupLemmas.{count_small, counts_next, item_within, known_next, others_next}
 use Rattle.gr_timeline.proofs.accesses.add_group.Goals as goal
 

@@ -1,4 +1,4 @@
-use Rattle.std.proofs.Common.{take}
+use Rattle.gr_model.proofs.Common.{take}
 use Rattle.gr_timeline.specs.Counting.{AreCounts}
 use Rattle.gr_timeline.specs.Gathering.{AreKnownIn, AreOthersKept}
 use Rattle.gr_timeline.proofs.accesses.add_group.Given as goal

@@ -1,7 +1,6 @@
-use Rattle.std.proofs.Common.{◌≡◌, ◌∙◌, sym, None, Some, filter, arith, get_or}
-use Rattle.std.proofs.lemmas.Option.{slice_get-get_or, slice_get_within}
+use Rattle.gr_model.proofs.Common.{◌≡◌, ◌∙◌, sym, None, Some, filter, arith, get_or, slice_get-get_or, slice_get_within}
 use Rattle.gr_model.specs.declared.event.EventId.{EventId}
-use Rattle.gr_model.specs.Streams.{IsEvent, Streams, is_of, list_of, places_from}
+use Rattle.gr_model.specs.Prelude.{IsEvent, Streams, is_of, list_of, places_from}
 use Rattle.gr_timeline.specs.declared.details.Details.{Details}
 use Rattle.gr_timeline.proofs.GroupLemmas.{length-places}
 use Rattle.gr_timeline.specs.Details.{details_of, with_number}

@@ -1,5 +1,5 @@
-use Rattle.std.proofs.Common.{◌≡◌, drop, slice_get}
-use Rattle.gr_model.specs.Streams.{is_of, places_from}
+use Rattle.gr_model.proofs.Common.{◌≡◌, drop, slice_get}
+use Rattle.gr_model.specs.Prelude.{is_of, places_from}
 use Rattle.gr_timeline.proofs.details.record_number.Given as goal
 
 abbrev pub invariant-loop-place : goal.invariant-loop-place

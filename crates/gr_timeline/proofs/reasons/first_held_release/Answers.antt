@@ -1,6 +1,4 @@
-use Rattle.std.proofs.Common.{subst}
-use Rattle.std.proofs.lemmas.List.{get_or_default}
-use Rattle.std.proofs.lemmas.List.Elements.{AllWithin-more}
+use Rattle.gr_model.proofs.Common.{subst, get_or_default, AllWithin-more}
 use Rattle.gr_timeline.specs.Waiting.{HasGroundedRelease}
 use Rattle.gr_timeline.proofs.reasons.first_held_release.Goals as goal
 

@@ -1,4 +1,4 @@
-use Rattle.std.specs.List.{AllWithin}
+use Rattle.gr_model.proofs.Common.{AllWithin}
 use Rattle.gr_timeline.specs.Waiting.{HasGroundedRelease}
 use Rattle.gr_timeline.proofs.reasons.first_held_release.Given as goal
 

@@ -1,4 +1,4 @@
-use Rattle.std.proofs.Common.{◌∙◌, arith, refl, sym, true≢false}
+use Rattle.gr_model.proofs.Common.{◌∙◌, arith, refl, sym, true≢false}
 use Rattle.gr_timeline.proofs.reasons.held_before.Goals as goal
 
 pub returns-else-is_grounded : goal.returns-else-is_grounded

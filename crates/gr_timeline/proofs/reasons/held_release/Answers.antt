@@ -1,4 +1,4 @@
-use Rattle.std.proofs.Common.{◌∙◌, sym, true≢false}
+use Rattle.gr_model.proofs.Common.{◌∙◌, sym, true≢false}
 use Rattle.gr_timeline.proofs.WaitLemmas.{matches_of, release_there}
 use Rattle.gr_timeline.proofs.reasons.held_release.Goals as goal
 

@@ -1,4 +1,4 @@
-use Rattle.std.proofs.Common.{refl}
+use Rattle.gr_model.proofs.Common.{refl}
 use Rattle.gr_steps.proofs.EventRecords.{item_of_event}
 use Rattle.gr_timeline.proofs.WaitLemmas.{late_by}
 use Rattle.gr_timeline.proofs.reasons.late_arrival.Goals as goal

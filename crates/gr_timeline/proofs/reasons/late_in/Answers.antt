@@ -1,4 +1,4 @@
-use Rattle.std.proofs.Common.{arith}
+use Rattle.gr_model.proofs.Common.{arith}
 use Rattle.gr_timeline.proofs.WaitLemmas.{one_item_more}
 use Rattle.gr_timeline.proofs.reasons.late_in.Goals as goal
 

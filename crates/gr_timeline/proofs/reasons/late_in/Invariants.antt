@@ -1,7 +1,6 @@
-use Rattle.std.proofs.Common.{◌<◌}
+use Rattle.gr_model.proofs.Common.{◌<◌}
 use Rattle.gr_model.specs.declared.event.EventId.{EventId}
-use Rattle.gr_model.specs.Barriers.{StandsIn}
-use Rattle.gr_model.specs.Waits.{IsGrounded, IsPrevious}
+use Rattle.gr_model.specs.Prelude.{StandsIn, IsGrounded, IsPrevious}
 use Rattle.gr_timeline.proofs.reasons.late_in.Given as goal
 
 abbrev pub invariant-loop-item : goal.invariant-loop-item

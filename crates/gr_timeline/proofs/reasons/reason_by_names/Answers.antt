@@ -1,7 +1,6 @@
-use Rattle.std.proofs.Common.{◌≡◌, ◌∙◌, Contains, List, ap, subst, sym}
-use Rattle.std.proofs.lemmas.List.Elements.{All-contains}
+use Rattle.gr_model.proofs.Common.{◌≡◌, ◌∙◌, Contains, List, ap, subst, sym, All-contains}
 use Rattle.gr_model.specs.declared.event.Name.{Name}
-use Rattle.gr_model.specs.Names.{names_at, names_of}
+use Rattle.gr_model.specs.Prelude.{names_at, names_of}
 use Rattle.gr_timeline.specs.Waiting.{HasGroundedRelease}
 use Rattle.gr_timeline.proofs.reasons.reason_by_names.Goals as goal
 

@@ -1,7 +1,5 @@
-use Rattle.std.proofs.Common.{subst}
-use Rattle.std.proofs.lemmas.List.{get_or_default}
-use Rattle.std.proofs.lemmas.List.Elements.{AllWithin-more}
-use Rattle.gr_model.specs.Names.{IsOfItsWord}
+use Rattle.gr_model.proofs.Common.{subst, get_or_default, AllWithin-more}
+use Rattle.gr_model.specs.Prelude.{IsOfItsWord}
 use Rattle.gr_timeline.proofs.reasons.root_by_names.Goals as goal
 
 pub loop-name-preserved : goal.loop-name-preserved

@@ -1,5 +1,5 @@
-use Rattle.std.specs.List.{AllWithin}
-use Rattle.gr_model.specs.Names.{IsOfItsWord}
+use Rattle.gr_model.proofs.Common.{AllWithin}
+use Rattle.gr_model.specs.Prelude.{IsOfItsWord}
 use Rattle.gr_timeline.proofs.reasons.root_by_names.Given as goal
 
 abbrev pub invariant-loop-name : goal.invariant-loop-name

@@ -1,4 +1,4 @@
-use Rattle.std.specs.Prelude.{IfSome}
+use Rattle.gr_model.proofs.Common.{IfSome}
 use Rattle.gr_timeline.specs.Chains.{IsChainTo}
 use Rattle.gr_timeline.specs.Waiting.{IsHeldEvent}
 use Rattle.gr_timeline.specs.Walks.{AreVisited}

@@ -1,4 +1,4 @@
-use Rattle.std.proofs.Common.{arith}
+use Rattle.gr_model.proofs.Common.{arith}
 use Rattle.gr_timeline.specs.declared.reason.Reason.TheVariants.{Behind}
 use Rattle.gr_timeline.proofs.WalkLemmas.{chain_more, visited_stays}
 use Rattle.gr_timeline.proofs.WaitLemmas.{earlier_there, first_behind}

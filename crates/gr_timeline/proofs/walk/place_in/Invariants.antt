@@ -1,4 +1,4 @@
-use Rattle.std.proofs.Common.{◌≡◌, ◌<◌, ℕ, Some}
+use Rattle.gr_model.proofs.Common.{◌≡◌, ◌<◌, ℕ, Some}
 use Rattle.gr_timeline.specs.Chains.{event_of}
 use Rattle.gr_timeline.proofs.walk.place_in.Given as goal
 

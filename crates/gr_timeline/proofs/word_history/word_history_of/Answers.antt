@@ -1,4 +1,4 @@
-use Rattle.std.proofs.Common.{arith}
+use Rattle.gr_model.proofs.Common.{arith}
 use Rattle.gr_timeline.proofs.HeldLemmas.{others_are_held}
 use Rattle.gr_timeline.proofs.word_history.word_history_of.Goals as goal
 

@@ -1,4 +1,4 @@
-use Rattle.std.proofs.Common.{◌≡◌, [], replicate}
+use Rattle.gr_model.proofs.Common.{◌≡◌, [], replicate}
 use Rattle.gr_windows.proofs.row.windows_of.Given as goal
 
 abbrev pub invariant-loop-item : goal.invariant-loop-item

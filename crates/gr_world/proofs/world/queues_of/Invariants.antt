@@ -1,4 +1,4 @@
-use Rattle.std.proofs.Common.{◌≡◌, replicate}
+use Rattle.gr_model.proofs.Common.{◌≡◌, replicate}
 use Rattle.gr_world.specs.Queues.{empty_queue}
 use Rattle.gr_world.proofs.world.queues_of.Given as goal
 

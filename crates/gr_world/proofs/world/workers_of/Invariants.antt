@@ -1,4 +1,4 @@
-use Rattle.std.proofs.Common.{◌≡◌, replicate}
+use Rattle.gr_model.proofs.Common.{◌≡◌, replicate}
 use Rattle.gr_world.specs.Queues.{no_work}
 use Rattle.gr_world.proofs.world.workers_of.Given as goal
 

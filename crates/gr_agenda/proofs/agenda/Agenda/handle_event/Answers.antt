@@ -1,4 +1,4 @@
-use Rattle.std.proofs.Common.{◌≡◌, ◌∙◌, None, Some, inr, subst, sym}
+use Rattle.gr_model.proofs.Common.{◌≡◌, ◌∙◌, None, Some, inr, subst, sym}
 use Rattle.gr_model.specs.declared.event.Name.{Name}
 use Rattle.gr_agenda.specs.Lists.{IsWaiting}
 use Rattle.gr_agenda.proofs.KeptLemmas.{kept_handled}

@@ -1,4 +1,4 @@
-use Rattle.std.proofs.Common.{arith}
+use Rattle.gr_model.proofs.Common.{arith}
 use Rattle.gr_order.proofs.MeetLemmas.{no_group_meets}
 use Rattle.gr_agenda.proofs.KeptLemmas.{kept_met}
 use Rattle.gr_agenda.proofs.agenda.Agenda.meet_instance.Goals as goal

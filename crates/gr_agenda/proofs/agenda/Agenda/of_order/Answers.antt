@@ -1,4 +1,4 @@
-use Rattle.std.proofs.Common.{arith}
+use Rattle.gr_model.proofs.Common.{arith}
 use Rattle.gr_agenda.proofs.KeptLemmas.{kept_nothing}
 use Rattle.gr_agenda.proofs.agenda.Agenda.of_order.Goals as goal
 

@@ -1,4 +1,4 @@
-use Rattle.std.proofs.Common.{◌∙◌, refl, sym, true≢false}
+use Rattle.gr_model.proofs.Common.{◌∙◌, refl, sym, true≢false}
 use Rattle.gr_agenda.proofs.TakeFrames.{own_remembered, took_following, took_plain, took_told, took_undiverged, took_wide}
 use Rattle.gr_agenda.proofs.agenda.Agenda.take.Goals as goal
 

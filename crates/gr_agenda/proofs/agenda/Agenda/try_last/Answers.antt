@@ -1,4 +1,4 @@
-use Rattle.std.proofs.Common.{◌∙◌, inl, inr, subst, sym, true≢false}
+use Rattle.gr_model.proofs.Common.{◌∙◌, inl, inr, subst, sym, true≢false}
 use Rattle.gr_order.specs.declared.steps.Ready.TheVariants.{Item}
 use Rattle.gr_order.specs.Answers.{CanMake}
 use Rattle.gr_agenda.proofs.KeptLemmas.{kept_looked}

@@ -1,4 +1,4 @@
-use Rattle.std.proofs.Common.{arith}
+use Rattle.gr_model.proofs.Common.{arith}
 use Rattle.gr_agenda.proofs.ListLemmas.{has_less}
 use Rattle.gr_agenda.proofs.worklist.Worklist.drop_last.Goals as goal
 

@@ -1,4 +1,4 @@
-use Rattle.std.proofs.Common.{inr, arith}
+use Rattle.gr_model.proofs.Common.{inr, arith}
 use Rattle.gr_agenda.proofs.ListLemmas.{among_last, among_more, marked_more}
 use Rattle.gr_agenda.proofs.worklist.Worklist.put.Goals as goal
 

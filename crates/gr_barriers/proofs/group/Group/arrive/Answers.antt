@@ -1,4 +1,4 @@
-use Rattle.std.proofs.lemmas.Result.{err_from_is_err_and}
+use Rattle.gr_model.proofs.Common.{err_from_is_err_and}
 use Rattle.gr_barriers.proofs.GroupLemmas.{more_few, set_more, set_same}
 use Rattle.gr_barriers.proofs.group.Group.arrive.Goals as goal
 

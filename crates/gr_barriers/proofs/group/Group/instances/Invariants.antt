@@ -1,4 +1,4 @@
-use Rattle.std.proofs.Common.{◌≤◌, ◌<◌, ℕ, [], length, get_or}
+use Rattle.gr_model.proofs.Common.{◌≤◌, ◌<◌, ℕ, [], length, get_or}
 use Rattle.gr_model.specs.declared.limits.TheConstants.{MOST_RECORDS}
 use Rattle.gr_barriers.proofs.group.Group.instances.Given as goal
 

@@ -1,4 +1,4 @@
-use Rattle.std.proofs.Common.{◌≡◌, [], map, replicate}
+use Rattle.gr_model.proofs.Common.{◌≡◌, [], map, replicate}
 use Rattle.gr_barriers.proofs.group.Group.new.Given as goal
 
 abbrev pub invariant-loop-item : goal.invariant-loop-item

@@ -1,4 +1,4 @@
-use Rattle.std.proofs.Common.{sym}
+use Rattle.gr_model.proofs.Common.{sym}
 use Rattle.gr_barriers.specs.Arrived.{brought}
 use Rattle.gr_barriers.proofs.group.Group.summary.Goals as goal
 

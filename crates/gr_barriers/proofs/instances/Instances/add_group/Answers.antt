@@ -1,4 +1,4 @@
-use Rattle.std.proofs.Common.{arith}
+use Rattle.gr_model.proofs.Common.{arith}
 use Rattle.gr_barriers.proofs.InstanceLemmas.{group_read, listed_skip, listed_more, listed_turn}
 use Rattle.gr_barriers.proofs.instances.Instances.add_group.Goals as goal
 use Rattle.gr_barriers.proofs.instances.Instances.add_group.Goals.{in-Some+in_ok-push, in_default}

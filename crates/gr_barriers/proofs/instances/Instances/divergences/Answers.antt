@@ -1,4 +1,4 @@
-use Rattle.std.proofs.Common.{length, ap, arith}
+use Rattle.gr_model.proofs.Common.{length, ap, arith}
 use Rattle.gr_barriers.specs.Arrived.{IsDivergence}
 use Rattle.gr_barriers.proofs.Listing.{all_listed}
 use Rattle.gr_barriers.proofs.instances.Instances.divergences.Goals as goal

@@ -1,4 +1,4 @@
-use Rattle.std.proofs.Common.{length, ap, arith}
+use Rattle.gr_model.proofs.Common.{length, ap, arith}
 use Rattle.gr_barriers.proofs.InstanceLemmas.{group_ends}
 use Rattle.gr_barriers.proofs.instances.Instances.end_group.Goals as goal
 

@@ -1,4 +1,4 @@
-use Rattle.std.proofs.Common.{◌≡◌, map, take}
+use Rattle.gr_model.proofs.Common.{◌≡◌, map, take}
 use Rattle.gr_barriers.specs.Arrived.{fresh_group}
 use Rattle.gr_barriers.proofs.instances.Instances.new.Given as goal
 

@@ -1,4 +1,4 @@
-use Rattle.std.proofs.lemmas.Bool.{iff_false}
+use Rattle.gr_model.proofs.Common.{iff_false}
 use Rattle.gr_barriers.proofs.SummaryLemmas.{mixed, nobody_diverges, none_missing, not_divergent, one_site, partial}
 use Rattle.gr_barriers.proofs.summary.Summary.cause.Goals as goal
 use Rattle.gr_barriers.proofs.summary.Summary.cause.Goals.{else-ended-via-then-ended+else-self, else-ended-via-else-ended}

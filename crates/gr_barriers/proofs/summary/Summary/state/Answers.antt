@@ -1,4 +1,4 @@
-use Rattle.std.proofs.lemmas.Bool.{iff_false}
+use Rattle.gr_model.proofs.Common.{iff_false}
 use Rattle.gr_barriers.proofs.SummaryLemmas.{converges, waits}
 use Rattle.gr_barriers.proofs.summary.Summary.state.Goals as goal
 

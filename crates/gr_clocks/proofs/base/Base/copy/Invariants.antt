@@ -1,4 +1,4 @@
-use Rattle.std.proofs.Common.{◌≡◌, take}
+use Rattle.gr_model.proofs.Common.{◌≡◌, take}
 use Rattle.gr_clocks.proofs.base.Base.copy.Given as goal
 
 abbrev pub invariant-loop-place : goal.invariant-loop-place

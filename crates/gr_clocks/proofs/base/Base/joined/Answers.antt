@@ -1,4 +1,4 @@
-use Rattle.std.proofs.Common.{arith}
+use Rattle.gr_model.proofs.Common.{arith}
 use Rattle.gr_clocks.proofs.PageLemmas.{pages_joined_all}
 use Rattle.gr_clocks.proofs.RowLemmas.{more_are_each}
 use Rattle.gr_clocks.proofs.base.Base.joined.Goals as goal

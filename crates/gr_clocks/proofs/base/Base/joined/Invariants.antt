@@ -1,4 +1,4 @@
-use Rattle.std.proofs.Common.{[]}
+use Rattle.gr_model.proofs.Common.{[]}
 use Rattle.gr_clocks.specs.Counts.{IsJoin}
 use Rattle.gr_clocks.specs.Pages.{page_at}
 use Rattle.gr_clocks.proofs.RowLemmas.{AreEach}

@@ -1,6 +1,4 @@
-use Rattle.std.proofs.Common.{◌≡◌, length, drop, rules, arith}
-use Rattle.std.proofs.lemmas.List.{take_at}
-use Rattle.std.proofs.lemmas.List.Elements.{same_from_all_zip}
+use Rattle.gr_model.proofs.Common.{◌≡◌, length, drop, rules, arith, take_at, same_from_all_zip}
 use Rattle.gr_clocks.specs.Blocks.{IsRowJoin}
 use Rattle.gr_clocks.proofs.BlockLemmas.{joined_block}
 use Rattle.gr_clocks.proofs.block.Block.merged.Given as given

@@ -1,4 +1,4 @@
-use Rattle.std.proofs.Common.{rules}
+use Rattle.gr_model.proofs.Common.{rules}
 use Rattle.gr_clocks.proofs.BlockLemmas.{with_block}
 use Rattle.gr_clocks.proofs.block.Block.with.Goals as goal
 

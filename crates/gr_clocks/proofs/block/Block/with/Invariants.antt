@@ -1,4 +1,4 @@
-use Rattle.std.proofs.Common.{◌≡◌, ℕ, ◌+◌, ◌-◌, length, slice_index}
+use Rattle.gr_model.proofs.Common.{◌≡◌, ℕ, ◌+◌, ◌-◌, length, slice_index}
 use Rattle.gr_clocks.proofs.block.Block.with.Given as goal
 
 abbrev pub invariant-loop-changed : goal.invariant-loop-changed

@@ -1,4 +1,4 @@
-use Rattle.std.proofs.Common.{◌∙◌}
+use Rattle.gr_model.proofs.Common.{◌∙◌}
 use Rattle.gr_clocks.proofs.OwnLemmas.{own_whole}
 use Rattle.gr_clocks.proofs.clock.Clock.counts.Goals as goal
 

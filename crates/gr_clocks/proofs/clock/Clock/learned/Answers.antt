@@ -1,4 +1,4 @@
-use Rattle.std.proofs.Common.{◌∙◌}
+use Rattle.gr_model.proofs.Common.{◌∙◌}
 use Rattle.gr_clocks.proofs.JoinLemmas.{joined_more}
 use Rattle.gr_clocks.proofs.clock.Clock.learned.Goals as goal
 

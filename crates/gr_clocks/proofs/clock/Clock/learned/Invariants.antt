@@ -1,4 +1,4 @@
-use Rattle.std.proofs.Common.{◌≡◌, map, take}
+use Rattle.gr_model.proofs.Common.{◌≡◌, map, take}
 use Rattle.gr_clocks.specs.Counts.{IsJoinOfAll}
 use Rattle.gr_clocks.proofs.clock.Clock.learned.Given as goal
 

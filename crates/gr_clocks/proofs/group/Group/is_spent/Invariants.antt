@@ -1,4 +1,4 @@
-use Rattle.std.proofs.Common.{ℕ, ◌<◌}
+use Rattle.gr_model.proofs.Common.{ℕ, ◌<◌}
 use Rattle.gr_clocks.specs.Groups.{IsFullClock}
 use Rattle.gr_clocks.proofs.group.Group.is_spent.Given as goal
 

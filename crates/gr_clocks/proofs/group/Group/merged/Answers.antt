@@ -1,5 +1,4 @@
-use Rattle.std.proofs.Common.{◌<◌, ◌∙◌, length, arith}
-use Rattle.std.proofs.lemmas.Result.{IfOk-weaker}
+use Rattle.gr_model.proofs.Common.{◌<◌, ◌∙◌, length, arith, IfOk-weaker}
 use Rattle.gr_clocks.specs.Groups.{Merges}
 use Rattle.gr_clocks.proofs.GroupLemmas.{merges_met, merges_from, merges_kept, merges_more}
 use Rattle.gr_clocks.proofs.group.Group.merged.Goals as goal

@@ -1,4 +1,4 @@
-use Rattle.std.proofs.Common.{◌≡◌}
+use Rattle.gr_model.proofs.Common.{◌≡◌}
 use Rattle.gr_clocks.specs.Counts.{CountSame}
 use Rattle.gr_clocks.specs.Owned.{no_clock}
 use Rattle.gr_clocks.specs.Groups.{item_of}

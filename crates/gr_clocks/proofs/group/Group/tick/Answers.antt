@@ -1,5 +1,4 @@
-use Rattle.std.proofs.Common.{◌≡◌, arith, length}
-use Rattle.std.proofs.lemmas.List.{with_items_is}
+use Rattle.gr_model.proofs.Common.{◌≡◌, arith, length, with_items_is}
 use Rattle.gr_clocks.proofs.GroupLemmas.{all_have_room, all_ticked, ticks_each}
 use Rattle.gr_clocks.proofs.group.Group.tick.Given as given
 use Rattle.gr_clocks.proofs.group.Group.tick.Goals as goal

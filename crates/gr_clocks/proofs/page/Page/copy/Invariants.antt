@@ -1,4 +1,4 @@
-use Rattle.std.proofs.Common.{◌≡◌, take}
+use Rattle.gr_model.proofs.Common.{◌≡◌, take}
 use Rattle.gr_clocks.proofs.page.Page.copy.Given as goal
 
 abbrev pub invariant-loop-block : goal.invariant-loop-block

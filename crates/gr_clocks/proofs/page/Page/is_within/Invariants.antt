@@ -1,4 +1,4 @@
-use Rattle.std.proofs.Common.{◌<◌, ℕ, get_or, []}
+use Rattle.gr_model.proofs.Common.{◌<◌, ℕ, get_or, []}
 use Rattle.gr_clocks.specs.Blocks.{IsRowWithin}
 use Rattle.gr_clocks.proofs.page.Page.is_within.Given as goal
 

@@ -1,5 +1,4 @@
-use Rattle.std.proofs.Common.{rules, arith, ◌≡◌, ◌∙◌, [], get_or}
-use Rattle.std.proofs.lemmas.List.{get_or_past, get_or_read}
+use Rattle.gr_model.proofs.Common.{rules, arith, ◌≡◌, ◌∙◌, [], get_or, get_or_past, get_or_read}
 use Rattle.gr_clocks.specs.Blocks.{IsRowJoin}
 use Rattle.gr_clocks.proofs.RowLemmas.{more_are_each}
 use Rattle.gr_clocks.proofs.page.Page.merged.Goals as goal

@@ -1,4 +1,4 @@
-use Rattle.std.proofs.Common.{get_or, []}
+use Rattle.gr_model.proofs.Common.{get_or, []}
 use Rattle.gr_clocks.specs.Blocks.{IsRowJoin}
 use Rattle.gr_clocks.proofs.RowLemmas.{AreEach}
 use Rattle.gr_clocks.proofs.page.Page.merged.Given as goal

@@ -1,4 +1,4 @@
-use Rattle.std.proofs.lemmas.List.{map-set}
+use Rattle.gr_model.proofs.Common.{map-set}
 use Rattle.std.specs.Arc.{arc_value}
 use Rattle.gr_clocks.proofs.pages.Pages.put.Goals as goal
 

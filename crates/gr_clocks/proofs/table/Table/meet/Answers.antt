@@ -1,5 +1,4 @@
-use Rattle.std.proofs.Common.{◌<◌, length, arith}
-use Rattle.std.proofs.lemmas.List.{length-map}
+use Rattle.gr_model.proofs.Common.{◌<◌, length, arith, length-map}
 use Rattle.gr_clocks.specs.Groups.{item_of}
 use Rattle.gr_clocks.proofs.TableLemmas.{item_group, joins_group, ticks_group}
 use Rattle.gr_clocks.proofs.table.Table.meet.Goals as goal

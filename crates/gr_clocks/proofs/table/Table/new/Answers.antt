@@ -1,4 +1,4 @@
-use Rattle.std.proofs.Common.{arith}
+use Rattle.gr_model.proofs.Common.{arith}
 use Rattle.gr_clocks.proofs.RowLemmas.{more_are_each}
 use Rattle.gr_clocks.proofs.TableLemmas.{zero_groups, zero_table}
 use Rattle.gr_clocks.proofs.table.Table.new.Goals as goal

@@ -1,4 +1,4 @@
-use Rattle.std.proofs.Common.{slice_index}
+use Rattle.gr_model.proofs.Common.{slice_index}
 use Rattle.gr_clocks.specs.Groups.{no_group, IsShared}
 use Rattle.gr_clocks.proofs.RowLemmas.{AreEach}
 use Rattle.gr_clocks.proofs.table.Table.new.Given as goal

@@ -1,4 +1,4 @@
-use Rattle.std.proofs.Common.{◌≤◌, length, arith}
+use Rattle.gr_model.proofs.Common.{◌≤◌, length, arith}
 use Rattle.gr_clocks.proofs.TableLemmas.{added_groups, adds_items, reaches_more}
 use Rattle.gr_clocks.proofs.table.Table.with_group.Goals as goal
 

@@ -1,4 +1,4 @@
-use Rattle.std.proofs.Common.{◌+◌, ◌-◌, length}
+use Rattle.gr_model.proofs.Common.{◌+◌, ◌-◌, length}
 use Rattle.gr_clocks.proofs.TableLemmas.{Reaches}
 use Rattle.gr_clocks.proofs.table.Table.with_group.Given as goal
 

@@ -1,4 +1,4 @@
-use Rattle.std.proofs.Common.{arith}
+use Rattle.gr_model.proofs.Common.{arith}
 use Rattle.gr_clocks.proofs.BlockLemmas.{zero_base}
 use Rattle.gr_clocks.proofs.tally.Tally.new.Goals as goal
 

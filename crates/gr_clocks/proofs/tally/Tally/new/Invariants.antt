@@ -1,4 +1,4 @@
-use Rattle.std.proofs.Common.{◌≡◌, ℕ, ◌<◌, length, get_or, [], replicate, slice_index}
+use Rattle.gr_model.proofs.Common.{◌≡◌, ℕ, ◌<◌, length, get_or, [], replicate, slice_index}
 use Rattle.gr_clocks.proofs.tally.Tally.new.Given as goal
 
 abbrev pub invariant-loop-group : goal.invariant-loop-group

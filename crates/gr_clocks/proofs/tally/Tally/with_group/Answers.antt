@@ -1,4 +1,4 @@
-use Rattle.std.proofs.Common.{◌<◌, ◌≤◌, [], length, arith}
+use Rattle.gr_model.proofs.Common.{◌<◌, ◌≤◌, [], length, arith}
 use Rattle.gr_model.proofs.PutLemmas.{puts_last, puts_more}
 use Rattle.gr_clocks.proofs.TallyLemmas.{adds_counts}
 use Rattle.gr_clocks.proofs.tally.Tally.with_group.Goals as goal

@@ -1,5 +1,5 @@
-use Rattle.std.proofs.Common.{◌≡◌, ◌+◌, ◌-◌, List, ℕ, [], length}
-use Rattle.gr_model.specs.Groups.{put}
+use Rattle.gr_model.proofs.Common.{◌≡◌, ◌+◌, ◌-◌, List, ℕ, [], length}
+use Rattle.gr_model.specs.Prelude.{put}
 use Rattle.gr_clocks.proofs.tally.Tally.with_group.Given as goal
 
 abbrev pub invariant-loop-alloc : goal.invariant-loop-alloc

@@ -1,7 +1,5 @@
-use Rattle.std.proofs.Common.{arith, ◌≡◌, ◌∙◌, List, Some, refl, ap, sym, subst, length, option_map}
-use Rattle.std.proofs.lemmas.List.{length-map}
-use Rattle.std.proofs.lemmas.Result.{IfOk-at_ok}
-use Rattle.gr_model.specs.Reports.{Lists, WordBelow}
+use Rattle.gr_model.proofs.Common.{arith, ◌≡◌, ◌∙◌, List, Some, refl, ap, sym, subst, length, option_map, length-map, IfOk-at_ok}
+use Rattle.gr_model.specs.Prelude.{Lists, WordBelow}
 use Rattle.gr_report.specs.Whole.{whole_of}
 use Rattle.gr_route.specs.IntakeSeats.{Taker}
 use Rattle.gr_route.specs.WorkSeats.{Giver}

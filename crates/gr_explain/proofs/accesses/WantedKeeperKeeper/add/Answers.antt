@@ -1,4 +1,4 @@
-use Rattle.std.proofs.Common.{append-nil, ◌∙◌, arith, refl, sym}
+use Rattle.gr_model.proofs.Common.{append-nil, ◌∙◌, arith, refl, sym}
 use Rattle.gr_explain.proofs.KeptLemmas.{unwanted_added, wanted_added}
 use Rattle.gr_explain.proofs.accesses.WantedKeeperKeeper.add.Goals as goal
 

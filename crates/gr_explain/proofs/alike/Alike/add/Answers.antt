@@ -1,4 +1,4 @@
-use Rattle.std.proofs.Common.{arith}
+use Rattle.gr_model.proofs.Common.{arith}
 use Rattle.gr_clocks.specs.ClockedAccess.{clocked}
 use Rattle.gr_shadow.specs.Clashes.{event_of}
 use Rattle.gr_explain.proofs.AlikeLemmas.{events_of, inserted, only_kept}

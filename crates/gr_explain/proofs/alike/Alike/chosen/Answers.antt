@@ -1,5 +1,4 @@
-use Rattle.std.proofs.Common.{arith, false}
-use Rattle.std.proofs.lemmas.Bool.Decides.{nat_tests}
+use Rattle.gr_model.proofs.Common.{arith, false, nat_tests}
 use Rattle.gr_clocks.specs.ClockedAccess.{clocked}
 use Rattle.gr_explain.proofs.AlikeLemmas.{none_chosen, other_chosen, picked}
 use Rattle.gr_explain.proofs.alike.Alike.chosen.Goals as goal

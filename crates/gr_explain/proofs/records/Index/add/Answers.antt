@@ -1,6 +1,4 @@
-use Rattle.std.proofs.Common.{arith}
-use Rattle.std.proofs.lemmas.List.{get_or-map, get_or-set_other, get_or-set_same, length-map, map-set}
-use Rattle.std.proofs.lemmas.Bool.Decides.{nat_tests}
+use Rattle.gr_model.proofs.Common.{arith, get_or-map, get_or-set_other, get_or-set_same, length-map, map-set, nat_tests}
 use Rattle.gr_explain.proofs.records.Index.add.Goals as goal
 
 pub returns-in_ok-push-clause-each : goal.returns-in_ok-push-clause-each

@@ -1,4 +1,4 @@
-use Rattle.std.proofs.Common.{◌≡◌, ℕ, [], get_or, length, map}
+use Rattle.gr_model.proofs.Common.{◌≡◌, ℕ, [], get_or, length, map}
 use Rattle.gr_explain.proofs.records.Index.new.Given as goal
 
 abbrev pub invariant-loop : goal.invariant-loop

@@ -1,5 +1,4 @@
-use Rattle.std.proofs.Common.{ap, arith}
-use Rattle.std.proofs.lemmas.Option.{slice_get-get_or}
+use Rattle.gr_model.proofs.Common.{ap, arith, slice_get-get_or}
 use Rattle.gr_model.specs.declared.event.Event.{Event}
 use Rattle.gr_explain.proofs.RecordLemmas.{index_more}
 use Rattle.gr_explain.proofs.records.Index.of.Goals as goal

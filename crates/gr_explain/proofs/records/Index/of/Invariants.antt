@@ -1,4 +1,4 @@
-use Rattle.std.proofs.Common.{take}
+use Rattle.gr_model.proofs.Common.{take}
 use Rattle.gr_explain.specs.Records.{IsIndexOf}
 use Rattle.gr_explain.proofs.records.Index.of.Given as goal
 

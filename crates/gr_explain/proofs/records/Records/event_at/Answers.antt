@@ -1,4 +1,4 @@
-use Rattle.std.proofs.Common.{arith}
+use Rattle.gr_model.proofs.Common.{arith}
 use Rattle.gr_explain.proofs.RecordLemmas.{found_at_place, none_without_place, read_is}
 use Rattle.gr_explain.proofs.records.Records.event_at.Goals as goal
 

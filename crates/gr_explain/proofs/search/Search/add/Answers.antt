@@ -1,4 +1,4 @@
-use Rattle.std.proofs.Common.{◌≡◌, rules}
+use Rattle.gr_model.proofs.Common.{◌≡◌, rules}
 use Rattle.gr_clocks.specs.ClockedAccess.{clocked}
 use Rattle.gr_explain.proofs.SearchLemmas.{access_stands, other_stands}
 use Rattle.gr_explain.proofs.search.Search.add.Goals as goal

@@ -1,9 +1,7 @@
-use Rattle.std.proofs.Common.{◌≡◌, ◌⊎◌, ◌∙◌, [], ◌∷◌, ◌++◌, Some, ap, inl, inr, ⊎_elim, map, rules, subst, sym}
-use Rattle.std.proofs.lemmas.List.{map-append}
+use Rattle.gr_model.proofs.Common.{◌≡◌, ◌⊎◌, ◌∙◌, [], ◌∷◌, ◌++◌, Some, ap, inl, inr, ⊎_elim, map, rules, subst, sym, map-append}
 use Rattle.std.proofs.lemmas.Map.Iter.{iter_end, rest_more, rest_so_far}
 use Rattle.std.specs.Map.Iter.{deref}
-use Rattle.gr_model.specs.RacePairs.{IsTurned}
-use Rattle.gr_model.specs.Reports.{EventBelow}
+use Rattle.gr_model.specs.Prelude.{IsTurned, EventBelow}
 use Rattle.gr_clocks.specs.ClockedAccess.{clocked}
 use Rattle.gr_shadow.specs.Clashes.{event_of}
 use Rattle.gr_explain.specs.Seen.{HaveItems, IsFirstOf, IsPairWith, SeenList}

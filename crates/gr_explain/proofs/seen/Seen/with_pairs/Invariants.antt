@@ -1,4 +1,4 @@
-use Rattle.std.proofs.Common.{◌≡◌, ◌⊎◌, Some, map}
+use Rattle.gr_model.proofs.Common.{◌≡◌, ◌⊎◌, Some, map}
 use Rattle.std.specs.Map.Iter.{deref}
 use Rattle.gr_clocks.specs.ClockedAccess.{clocked}
 use Rattle.gr_explain.specs.LeastRaces.{IsLeastOf}

@@ -1,4 +1,4 @@
-use Rattle.std.proofs.lemmas.Result.{on_ok_weaker}
+use Rattle.gr_model.proofs.Common.{on_ok_weaker}
 use Rattle.gr_clocks.specs.ClockedAccess.{clocked}
 use Rattle.gr_explain.proofs.TagPairLemmas.{tag_stands}
 use Rattle.gr_explain.proofs.tag_pairs.TagPairs.add.Goals as goal

@@ -1,4 +1,4 @@
-use Rattle.std.proofs.Common.{◌∷◌, [], append-nil}
+use Rattle.gr_model.proofs.Common.{◌∷◌, [], append-nil}
 use Rattle.gr_explain.proofs.tagged.TaggedKeeperKeeper.add.Goals as goal
 
 pub returns-in_ok-add_access : goal.returns-in_ok-add_access

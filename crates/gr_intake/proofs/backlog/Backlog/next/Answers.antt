@@ -1,4 +1,4 @@
-use Rattle.std.proofs.Common.{arith}
+use Rattle.gr_model.proofs.Common.{arith}
 use Rattle.gr_intake.proofs.Backlogs.{coming, first_piece, nothing_in}
 use Rattle.gr_intake.proofs.backlog.Backlog.next.Goals as goal
 

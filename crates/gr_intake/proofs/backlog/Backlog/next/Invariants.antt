@@ -1,4 +1,4 @@
-use Rattle.std.proofs.Common.{◌≡◌, ◌-◌, length}
+use Rattle.gr_model.proofs.Common.{◌≡◌, ◌-◌, length}
 use Rattle.gr_intake.specs.Waiting.{ArePieces}
 use Rattle.gr_intake.proofs.Backlogs.{coming, waiting_in}
 use Rattle.gr_intake.proofs.backlog.Backlog.next.Given as goal

@@ -1,6 +1,4 @@
-use Rattle.std.proofs.Common.{◌∷◌, ◌++◌, [], List, ap, ◌∙◌, arith, rules}
-use Rattle.std.proofs.lemmas.List.{set-get_or}
-use Rattle.std.proofs.lemmas.Result.{err_from_is_err_and}
+use Rattle.gr_model.proofs.Common.{◌∷◌, ◌++◌, [], List, ap, ◌∙◌, arith, rules, set-get_or, err_from_is_err_and}
 use Rattle.gr_model.specs.declared.event.Event.{Event}
 use Rattle.gr_intake.specs.Waiting.{Coming}
 use Rattle.gr_intake.proofs.Backlogs.{coming, last_piece, last_written, waiting_grows, waiting_in}

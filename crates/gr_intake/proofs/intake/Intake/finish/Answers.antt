@@ -1,6 +1,4 @@
-use Rattle.std.proofs.Common.{◌≡◌, false, true≢false, Option, None, Some, refl, arith, eqb-true, is_some}
-use Rattle.std.proofs.lemmas.Bool.{eqb-false}
-use Rattle.std.proofs.lemmas.List.{length-map, nil_from_length}
+use Rattle.gr_model.proofs.Common.{◌≡◌, false, true≢false, Option, None, Some, refl, arith, eqb-true, is_some, eqb-false, length-map, nil_from_length}
 use Rattle.gr_intake.proofs.Comings.{ends_early, ends_whole}
 use Rattle.gr_intake.proofs.intake.Intake.finish.Goals.{else-is_none-via-else-is_none}
 use Rattle.gr_intake.proofs.intake.Intake.finish.Goals as goal

@@ -1,7 +1,6 @@
-use Rattle.std.proofs.Common.{◌≡◌, ◌↔◌, IsTrue, List, ℕ, arith, length, subst, sym, ◌∙◌}
-use Rattle.std.proofs.lemmas.List.{length-map}
-use Rattle.gr_model.specs.Shapes.{HasItem}
-use Rattle.gr_record.specs.Laws.{AreBytes}
+use Rattle.gr_model.proofs.Common.{◌≡◌, ◌↔◌, IsTrue, List, ℕ, arith, length, subst, sym, ◌∙◌, length-map}
+use Rattle.gr_model.specs.Prelude.{HasItem}
+use Rattle.gr_record.specs.Prelude.{AreBytes}
 use Rattle.gr_record.proofs.Found.{read_header_is_spelled}
 use Rattle.gr_intake.proofs.Behind.{header_failed, header_found, header_refused}
 use Rattle.gr_intake.proofs.Comings.{between}

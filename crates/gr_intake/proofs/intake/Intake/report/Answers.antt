@@ -1,5 +1,5 @@
-use Rattle.std.proofs.Common.{arith, ◌≡◌, List, subst, sym}
-use Rattle.gr_model.specs.Shapes.{IsShape}
+use Rattle.gr_model.proofs.Common.{arith, ◌≡◌, List, subst, sym}
+use Rattle.gr_model.specs.Prelude.{IsShape}
 use Rattle.gr_record.specs.declared.header.Header.{Header}
 use Rattle.gr_taking.specs.Sources.{MayCome, come_from}
 use Rattle.gr_intake.specs.Intakes.{come}

@@ -1,4 +1,4 @@
-use Rattle.std.proofs.Common.{length}
+use Rattle.gr_model.proofs.Common.{length}
 use Rattle.gr_intake.specs.Intakes.{Moves}
 use Rattle.gr_intake.proofs.intake.Intake.take.Given as goal
 

@@ -1,5 +1,5 @@
-use Rattle.std.proofs.Common.{◌≡◌, ◌++◌, ap, sym, subst, ◌∙◌, length, arith, length-take-le}
-use Rattle.gr_model.specs.Groups.{CanAdd}
+use Rattle.gr_model.proofs.Common.{◌≡◌, ◌++◌, ap, sym, subst, ◌∙◌, length, arith, length-take-le}
+use Rattle.gr_model.specs.Prelude.{CanAdd}
 use Rattle.gr_order.specs.Sequences.{Sequence, with_group}
 use Rattle.gr_record.specs.declared.layout.TheConstants.{HEADER_LENGTH}
 use Rattle.gr_intake.specs.Intakes.{behind}

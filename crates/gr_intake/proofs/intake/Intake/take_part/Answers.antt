@@ -1,4 +1,4 @@
-use Rattle.std.proofs.Common.{arith, length-append}
+use Rattle.gr_model.proofs.Common.{arith, length-append}
 use Rattle.gr_intake.proofs.intake.Intake.take_part.Goals as goal
 
 pub returns-then-not-ended-clause-moves : goal.returns-then-not-ended-clause-moves

@@ -1,4 +1,4 @@
-use Rattle.std.proofs.Common.{arith}
+use Rattle.gr_model.proofs.Common.{arith}
 use Rattle.gr_intake.specs.Intakes.{come_of}
 use Rattle.gr_intake.proofs.Comings.{can_take_open, one_more_counts, taken_comes}
 use Rattle.gr_intake.proofs.open.Open.take.Goals as goal

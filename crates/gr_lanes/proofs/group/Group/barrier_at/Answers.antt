@@ -1,4 +1,4 @@
-use Rattle.std.proofs.Common.{◌∙◌, ◌-◌, ap}
+use Rattle.gr_model.proofs.Common.{◌∙◌, ◌-◌, ap}
 use Rattle.gr_lanes.specs.Indices.{GroupList}
 use Rattle.gr_lanes.proofs.KeptLemmas.{gone_place, number_kept, place_read}
 use Rattle.gr_lanes.proofs.group.Group.barrier_at.Goals as goal

@@ -1,4 +1,4 @@
-use Rattle.std.proofs.Common.{◌∙◌, None, ap, slice_get}
+use Rattle.gr_model.proofs.Common.{◌∙◌, None, ap, slice_get}
 use Rattle.gr_lanes.specs.Indices.{Index}
 use Rattle.gr_lanes.proofs.KeptLemmas.{gone_event, lane_is, lane_read, number_kept}
 use Rattle.gr_lanes.proofs.group.Group.barrier_event.Goals as goal

@@ -1,6 +1,5 @@
-use Rattle.std.proofs.Common.{◌∙◌, ◌+◌, ◌-◌, ap, arith}
-use Rattle.std.proofs.lemmas.Option.{slice_get_within}
-use Rattle.gr_model.specs.Barriers.{is_barrier}
+use Rattle.gr_model.proofs.Common.{◌∙◌, ◌+◌, ◌-◌, ap, arith, slice_get_within}
+use Rattle.gr_model.specs.Prelude.{is_barrier}
 use Rattle.gr_lanes.specs.Indices.{GroupList}
 use Rattle.gr_lanes.proofs.KeptLemmas.{count_read, gone_number, place_read, places_few, rising}
 use Rattle.gr_lanes.proofs.group.Group.barrier_number.Goals as goal

@@ -1,4 +1,4 @@
-use Rattle.std.proofs.Common.{◌∙◌, ap, arith, is_some, length, sym}
+use Rattle.gr_model.proofs.Common.{◌∙◌, ap, arith, is_some, length, sym}
 use Rattle.gr_lanes.proofs.IndexLemmas.{end_is_complete}
 use Rattle.gr_lanes.proofs.KeptLemmas.{closed_kept}
 use Rattle.gr_lanes.proofs.group.Group.close.Goals as goal

@@ -1,5 +1,4 @@
-use Rattle.std.proofs.Common.{◌∙◌, ◌≡◌, ap, arith, length, map}
-use Rattle.std.proofs.lemmas.List.{length-map, with_items_is}
+use Rattle.gr_model.proofs.Common.{◌∙◌, ◌≡◌, ap, arith, length, map, length-map, with_items_is}
 use Rattle.gr_lanes.specs.Kept.{forgetting_one}
 use Rattle.gr_lanes.proofs.KeptLemmas.{forgotten_kept}
 use Rattle.gr_lanes.proofs.group.Group.forget.Goals as goal

@@ -1,4 +1,4 @@
-use Rattle.std.proofs.Common.{arith}
+use Rattle.gr_model.proofs.Common.{arith}
 use Rattle.gr_lanes.proofs.IndexLemmas.{cut_if_end, end_if_cut}
 use Rattle.gr_lanes.proofs.group.Group.is_cut.Goals as goal
 

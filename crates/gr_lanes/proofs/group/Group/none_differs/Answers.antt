@@ -1,4 +1,4 @@
-use Rattle.std.proofs.Common.{◌≡◌, ◌∙◌, arith, length, sym}
+use Rattle.gr_model.proofs.Common.{◌≡◌, ◌∙◌, arith, length, sym}
 use Rattle.gr_lanes.proofs.KeptLemmas.{none_differs}
 use Rattle.gr_lanes.proofs.group.Group.none_differs.Goals as goal
 

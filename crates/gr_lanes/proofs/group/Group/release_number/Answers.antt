@@ -1,6 +1,5 @@
-use Rattle.std.proofs.Common.{filter}
-use Rattle.gr_model.specs.Access.{is_release}
-use Rattle.gr_model.specs.Streams.{is_of}
+use Rattle.gr_model.proofs.Common.{filter}
+use Rattle.gr_model.specs.Prelude.{is_release, is_of}
 use Rattle.gr_lanes.proofs.IndexLemmas.{places_rise}
 use Rattle.gr_lanes.proofs.KeptLemmas.{places_few}
 use Rattle.gr_lanes.proofs.group.Group.release_number.Goals as goal

@@ -1,4 +1,4 @@
-use Rattle.std.proofs.Common.{◌∙◌, sym}
+use Rattle.gr_model.proofs.Common.{◌∙◌, sym}
 use Rattle.gr_lanes.proofs.IndexLemmas.{end_pushed}
 use Rattle.gr_lanes.proofs.KeptLemmas.{few_then, lane_then, same_then, taken_then}
 use Rattle.gr_lanes.proofs.group.Group.take.Goals as goal

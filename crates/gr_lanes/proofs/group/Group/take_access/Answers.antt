@@ -1,4 +1,4 @@
-use Rattle.std.proofs.Common.{◌∙◌, sym}
+use Rattle.gr_model.proofs.Common.{◌∙◌, sym}
 use Rattle.gr_lanes.proofs.IndexLemmas.{none_more}
 use Rattle.gr_lanes.proofs.KeptLemmas.{all_there, few_was, lane_was, taken_kept}
 use Rattle.gr_lanes.proofs.LaneLemmas.{arrives_access}

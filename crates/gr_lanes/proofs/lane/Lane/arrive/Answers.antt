@@ -1,4 +1,4 @@
-use Rattle.std.proofs.lemmas.Result.{on_ok_weaker}
+use Rattle.gr_model.proofs.Common.{on_ok_weaker}
 use Rattle.gr_lanes.proofs.LaneLemmas.{arrives_apart}
 use Rattle.gr_lanes.proofs.lane.Lane.arrive.Goals as goal
 

@@ -1,4 +1,4 @@
-use Rattle.std.proofs.Common.{refl}
+use Rattle.gr_model.proofs.Common.{refl}
 use Rattle.gr_lanes.proofs.GroupLemmas.{all_came, decided_groups, decided_is, few_forgotten}
 use Rattle.gr_lanes.proofs.lanes.Lanes.decide.Goals as goal
 

@@ -1,4 +1,4 @@
-use Rattle.std.proofs.Common.{arith}
+use Rattle.gr_model.proofs.Common.{arith}
 use Rattle.gr_lanes.proofs.GroupLemmas.{is_cut_if, is_cut_only}
 use Rattle.gr_lanes.proofs.lanes.Lanes.is_cut.Goals as goal
 

@@ -1,5 +1,4 @@
-use Rattle.std.proofs.Common.{◌∙◌, map, ap, arith}
-use Rattle.std.proofs.lemmas.List.{take_all}
+use Rattle.gr_model.proofs.Common.{◌∙◌, map, ap, arith, take_all}
 use Rattle.gr_model.proofs.GroupLaws.{part_of_shape}
 use Rattle.gr_lanes.specs.Indices.{empty}
 use Rattle.gr_lanes.proofs.GroupLemmas.{nothing_groups, nothing_is, whole_is}

@@ -1,4 +1,4 @@
-use Rattle.std.proofs.Common.{◌≡◌, map, take}
+use Rattle.gr_model.proofs.Common.{◌≡◌, map, take}
 use Rattle.gr_lanes.specs.Indices.{empty}
 use Rattle.gr_lanes.proofs.lanes.Lanes.new.Given as goal
 

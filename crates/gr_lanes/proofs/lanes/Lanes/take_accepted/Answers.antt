@@ -1,5 +1,4 @@
-use Rattle.std.proofs.Common.{ap, ◌∙◌}
-use Rattle.std.proofs.lemmas.Result.{err_from_is_err_and}
+use Rattle.gr_model.proofs.Common.{ap, ◌∙◌, err_from_is_err_and}
 use Rattle.gr_lanes.specs.Indices.{remembered_of}
 use Rattle.gr_lanes.proofs.GroupLemmas.{taken_groups, taken_is, unmoved}
 use Rattle.gr_lanes.proofs.lanes.Lanes.take_accepted.Goals as goal

@@ -1,4 +1,4 @@
-use Rattle.std.proofs.Common.{refl, arith}
+use Rattle.gr_model.proofs.Common.{refl, arith}
 use Rattle.gr_model.proofs.GroupLaws.{part_with_group}
 use Rattle.gr_model.proofs.PutLemmas.{puts_last, puts_more}
 use Rattle.gr_model.proofs.growing.GrowingShape.with_group.Goals as goal

@@ -1,5 +1,5 @@
-use Rattle.std.proofs.Common.{◌≡◌, ◌+◌, ◌-◌, ℕ, length}
-use Rattle.gr_model.specs.Groups.{put}
+use Rattle.gr_model.proofs.Common.{◌≡◌, ◌+◌, ◌-◌, ℕ, length}
+use Rattle.gr_model.specs.Prelude.{put}
 use Rattle.gr_model.proofs.growing.GrowingShape.with_group.Given as goal
 
 abbrev pub invariant-loop-sizes : goal.invariant-loop-sizes

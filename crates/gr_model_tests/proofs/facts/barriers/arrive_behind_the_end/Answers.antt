@@ -1,4 +1,4 @@
-use Rattle.std.proofs.Common.{arith}
+use Rattle.gr_model.proofs.Common.{arith}
 use Rattle.gr_model_tests.proofs.States.{none_came, is_refused}
 use Rattle.gr_model_tests.proofs.facts.barriers.arrive_behind_the_end.Goals as goal
 

@@ -1,4 +1,4 @@
-use Rattle.std.proofs.Common.{ap, arith, refl}
+use Rattle.gr_model.proofs.Common.{ap, arith, refl}
 use Rattle.gr_model.specs.declared.event.ItemId.{ItemId}
 use Rattle.gr_model.specs.declared.event.Space.TheVariants.{Global}
 use Rattle.gr_model_tests.proofs.States.{not_spent, counts_one}

@@ -1,4 +1,4 @@
-use Rattle.std.proofs.Common.{arith}
+use Rattle.gr_model.proofs.Common.{arith}
 use Rattle.gr_model.specs.declared.event.Space.TheVariants.{Global}
 use Rattle.gr_model_tests.proofs.States.{counts_one, learns_nothing}
 use Rattle.gr_model_tests.proofs.facts.clocks.acquire_of_a_global_word.Goals as goal

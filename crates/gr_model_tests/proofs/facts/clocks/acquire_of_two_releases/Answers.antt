@@ -1,4 +1,4 @@
-use Rattle.std.proofs.Common.{arith}
+use Rattle.gr_model.proofs.Common.{arith}
 use Rattle.gr_model_tests.proofs.States.{learns_of_both}
 use Rattle.gr_model_tests.proofs.facts.clocks.acquire_of_two_releases.Goals as goal
 

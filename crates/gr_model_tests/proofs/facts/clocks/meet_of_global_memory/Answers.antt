@@ -1,4 +1,4 @@
-use Rattle.std.proofs.Common.{arith}
+use Rattle.gr_model.proofs.Common.{arith}
 use Rattle.gr_model_tests.proofs.States.{orders_nothing}
 use Rattle.gr_model_tests.proofs.facts.clocks.meet_of_global_memory.Goals as goal
 

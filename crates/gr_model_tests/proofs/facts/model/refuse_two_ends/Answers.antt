@@ -1,4 +1,4 @@
-use Rattle.std.proofs.Common.{refl, arith}
+use Rattle.gr_model.proofs.Common.{refl, arith}
 use Rattle.gr_model_tests.proofs.States.{ends_twice}
 use Rattle.gr_model_tests.proofs.facts.model.refuse_two_ends.Goals as goal
 

@@ -1,4 +1,4 @@
-use Rattle.std.proofs.Common.{arith}
+use Rattle.gr_model.proofs.Common.{arith}
 use Rattle.gr_model_tests.proofs.States.{hit_by_write}
 use Rattle.gr_model_tests.proofs.facts.shadow.apply_of_a_write_behind_two_reads.Goals as goal
 

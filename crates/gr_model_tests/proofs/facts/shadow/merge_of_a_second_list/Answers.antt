@@ -1,4 +1,4 @@
-use Rattle.std.proofs.Common.{inr, refl, arith}
+use Rattle.gr_model.proofs.Common.{inr, refl, arith}
 use Rattle.gr_model.specs.declared.event.Word.TheVariants.{Global as GlobalWord}
 use Rattle.gr_model_tests.proofs.facts.shadow.merge_of_a_second_list.Goals as goal
 

@@ -1,4 +1,4 @@
-use Rattle.std.proofs.Common.{arith}
+use Rattle.gr_model.proofs.Common.{arith}
 use Rattle.gr_model_tests.proofs.States.{one}
 use Rattle.gr_model_tests.proofs.facts.shadow.read_after_three.Goals as goal
 

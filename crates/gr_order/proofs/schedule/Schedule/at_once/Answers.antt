@@ -1,4 +1,4 @@
-use Rattle.std.proofs.Common.{◌∙◌, ap, arith, length, subst, sym}
+use Rattle.gr_model.proofs.Common.{◌∙◌, ap, arith, length, subst, sym}
 use Rattle.gr_lanes.specs.Takes.{with_record}
 use Rattle.gr_steps.specs.Steps.{IsReady}
 use Rattle.gr_order.proofs.AtOnceLemmas.{count_is, goes_at_once, next_is, not_at_once, ready_at_once}

@@ -1,4 +1,4 @@
-use Rattle.std.proofs.Common.{◌∙◌}
+use Rattle.gr_model.proofs.Common.{◌∙◌}
 use Rattle.gr_clocks.specs.Counts.{count_of}
 use Rattle.gr_steps.proofs.NextEvents.{ready_is_next}
 use Rattle.gr_windows.proofs.WindowLemmas.{first_waits}

@@ -1,4 +1,4 @@
-use Rattle.std.proofs.Common.{◌≡◌, arith}
+use Rattle.gr_model.proofs.Common.{◌≡◌, arith}
 use Rattle.gr_order.proofs.ForgetLemmas.{forgets_passed}
 use Rattle.gr_order.proofs.schedule.Schedule.forget_behind.Goals as goal
 

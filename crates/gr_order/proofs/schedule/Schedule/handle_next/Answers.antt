@@ -1,4 +1,4 @@
-use Rattle.std.proofs.Common.{◌-◌, arith}
+use Rattle.gr_model.proofs.Common.{◌-◌, arith}
 use Rattle.gr_order.proofs.ForgetLemmas.{forgets_on, tick_counts}
 use Rattle.gr_order.proofs.HeldLemmas.{ready_can_count, ready_is_held}
 use Rattle.gr_order.proofs.StateLemmas.{after_handle}

@@ -1,5 +1,5 @@
-use Rattle.std.proofs.Common.{ℕ, ◌<◌, IsTrue}
-use Rattle.gr_model.specs.Streams.{is_complete, list_of}
+use Rattle.gr_model.proofs.Common.{ℕ, ◌<◌, IsTrue}
+use Rattle.gr_model.specs.Prelude.{is_complete, list_of}
 use Rattle.gr_order.proofs.schedule.Schedule.is_complete.Given as goal
 
 abbrev pub invariant-loop-group : goal.invariant-loop-group

@@ -1,4 +1,4 @@
-use Rattle.std.proofs.Common.{◌∙◌, refl, sym}
+use Rattle.gr_model.proofs.Common.{◌∙◌, refl, sym}
 use Rattle.gr_model.specs.declared.event.EventId.{EventId}
 use Rattle.gr_clocks.specs.Counts.{count_of}
 use Rattle.gr_order.proofs.ReadyLemmas.{ready_plain}

@@ -1,4 +1,4 @@
-use Rattle.std.proofs.Common.{◌≡◌, ◌-◌, arith}
+use Rattle.gr_model.proofs.Common.{◌≡◌, ◌-◌, arith}
 use Rattle.gr_order.proofs.ForgetLemmas.{forgets_met}
 use Rattle.gr_order.proofs.MeetLemmas.{meets_next}
 use Rattle.gr_order.proofs.PassLemmas.{after_pass, barriers_are_held, below_largest, passes}

@@ -1,5 +1,5 @@
 use Rattle.gr_order.proofs.ForgetLemmas.{next_remembered}
-use Rattle.std.proofs.Common.{arith}
+use Rattle.gr_model.proofs.Common.{arith}
 use Rattle.gr_order.proofs.ReadyLemmas.{none_next, ready_next}
 use Rattle.gr_order.proofs.WaitLemmas.{first_is}
 use Rattle.gr_order.proofs.schedule.Schedule.next.Goals as goal

@@ -1,5 +1,5 @@
 use Rattle.gr_order.proofs.ForgetLemmas.{next_remembered}
-use Rattle.std.proofs.Common.{arith}
+use Rattle.gr_model.proofs.Common.{arith}
 use Rattle.gr_order.proofs.MeetLemmas.{is_numbered, numbered_meets}
 use Rattle.gr_order.proofs.schedule.Schedule.next_meeting.Goals as goal
 

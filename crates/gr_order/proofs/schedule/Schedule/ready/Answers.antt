@@ -1,4 +1,4 @@
-use Rattle.std.proofs.Common.{arith, subst, below_more}
+use Rattle.gr_model.proofs.Common.{arith, subst, below_more}
 use Rattle.gr_order.specs.Sequences.{IsSequence}
 use Rattle.gr_order.proofs.RestLemmas.{all_rest, rest_is_done}
 use Rattle.gr_order.proofs.schedule.Schedule.ready.Goals as goal

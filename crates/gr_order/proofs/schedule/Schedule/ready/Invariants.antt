@@ -1,4 +1,4 @@
-use Rattle.std.proofs.Common.{ℕ, ◌<◌}
+use Rattle.gr_model.proofs.Common.{ℕ, ◌<◌}
 use Rattle.gr_order.specs.Sequences.{IsGroupAtRest}
 use Rattle.gr_order.proofs.schedule.Schedule.ready.Given as goal
 

@@ -1,4 +1,4 @@
-use Rattle.std.proofs.Common.{◌≡◌, arith, refl, subst}
+use Rattle.gr_model.proofs.Common.{◌≡◌, arith, refl, subst}
 use Rattle.gr_clocks.specs.Counts.{count_of}
 use Rattle.gr_steps.specs.Steps.{IsReady}
 use Rattle.gr_steps.proofs.NextEvents.{ready_is_next}

@@ -1,4 +1,4 @@
-use Rattle.std.proofs.Common.{arith, below_more}
+use Rattle.gr_model.proofs.Common.{arith, below_more}
 use Rattle.gr_order.proofs.schedule.Schedule.ready_in.Goals as goal
 
 pub loop-item-preserved : goal.loop-item-preserved

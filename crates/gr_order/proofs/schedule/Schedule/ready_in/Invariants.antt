@@ -1,4 +1,4 @@
-use Rattle.std.proofs.Common.{ℕ, ◌<◌}
+use Rattle.gr_model.proofs.Common.{ℕ, ◌<◌}
 use Rattle.gr_steps.specs.Steps.{CanHandle}
 use Rattle.gr_order.proofs.schedule.Schedule.ready_in.Given as goal
 

@@ -1,6 +1,6 @@
-use Rattle.std.proofs.Common.{◌≡◌, ◌∙◌, ◌+◌, ℕ, ap, arith, not}
+use Rattle.gr_model.proofs.Common.{◌≡◌, ◌∙◌, ◌+◌, ℕ, ap, arith, not}
 use Rattle.std.specs.Int.{from_bool}
-use Rattle.gr_model.specs.Events.{is_end}
+use Rattle.gr_model.specs.Prelude.{is_end}
 use Rattle.gr_lanes.specs.Remembered.{Remembered}
 use Rattle.gr_order.proofs.ForgetLemmas.{forgets_taken}
 use Rattle.gr_order.proofs.HeldLemmas.{held_most}

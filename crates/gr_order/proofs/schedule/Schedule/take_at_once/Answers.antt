@@ -1,4 +1,4 @@
-use Rattle.std.proofs.Common.{ap}
+use Rattle.gr_model.proofs.Common.{ap}
 use Rattle.gr_lanes.specs.Remembered.{Remembered}
 use Rattle.gr_clocks.specs.Tables.{item_of}
 use Rattle.gr_order.proofs.ForgetLemmas.{forgets_taken, tick_counts}

@@ -1,4 +1,4 @@
-use Rattle.std.proofs.Common.{◌∙◌, refl}
+use Rattle.gr_model.proofs.Common.{◌∙◌, refl}
 use Rattle.gr_model.specs.declared.event.EventId.{EventId}
 use Rattle.gr_clocks.specs.Counts.{count_of}
 use Rattle.gr_windows.proofs.WindowLemmas.{first_waits}

@@ -1,5 +1,5 @@
 use Rattle.gr_lanes.specs.Remembered.{Remembered}
-use Rattle.std.proofs.Common.{ap}
+use Rattle.gr_model.proofs.Common.{ap}
 use Rattle.gr_order.proofs.ForgetLemmas.{forgets_with_group}
 use Rattle.gr_order.proofs.ComingLemmas.{kept_with_group}
 use Rattle.gr_order.proofs.schedule.Schedule.with_group.Goals as goal

@@ -1,4 +1,4 @@
-use Rattle.std.proofs.Common.{◌≡◌, ◌<◌, ◌+◌, ◌-◌, length, arith}
+use Rattle.gr_model.proofs.Common.{◌≡◌, ◌<◌, ◌+◌, ◌-◌, length, arith}
 use Rattle.gr_text.specs.LineReading.{same}
 use Rattle.gr_places.proofs.IndexLemmas.{numbers_more, texts_more}
 use Rattle.gr_places.proofs.index.PlaceIndex.of.Goals as goal

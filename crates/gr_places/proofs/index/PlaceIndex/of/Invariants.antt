@@ -1,4 +1,4 @@
-use Rattle.std.proofs.Common.{drop, length, map, ◌≤◌}
+use Rattle.gr_model.proofs.Common.{drop, length, map, ◌≤◌}
 use Rattle.gr_places.specs.SideLines.{place_line}
 use Rattle.gr_places.proofs.IndexLemmas.{AreNumbersFrom, AreTexts}
 use Rattle.gr_places.proofs.index.PlaceIndex.of.Given as goal

@@ -1,5 +1,5 @@
-use Rattle.std.proofs.Common.{[], subst, rules}
-use Rattle.gr_record.specs.Decoding.{IsStanding, Continues}
+use Rattle.gr_model.proofs.Common.{[], subst, rules}
+use Rattle.gr_record.specs.Prelude.{IsStanding, Continues}
 use Rattle.gr_record.proofs.Steps.{fed}
 use Rattle.gr_record.proofs.decoder.Decoder.feed.Goals as goal
 use Rattle.gr_record.proofs.decoder.Decoder.feed.Goals.{then-is_inside+in_ok-reserve, else-is_inside}

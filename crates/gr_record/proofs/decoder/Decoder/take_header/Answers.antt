@@ -1,4 +1,4 @@
-use Rattle.std.proofs.Common.{Err, sym, ap, ◌∙◌}
+use Rattle.gr_model.proofs.Common.{Err, sym, ap, ◌∙◌}
 use Rattle.gr_record.proofs.Judging.{header_apart}
 use Rattle.gr_record.proofs.Steps.{fails_standing, header_continues, header_fails}
 use Rattle.gr_record.proofs.decoder.Decoder.take_header.Goals as goal

@@ -1,4 +1,4 @@
-use Rattle.std.proofs.Common.{Err, refl, sym, ap, ◌∙◌, arith}
+use Rattle.gr_model.proofs.Common.{Err, refl, sym, ap, ◌∙◌, arith}
 use Rattle.gr_record.proofs.Judging.{event_apart}
 use Rattle.gr_record.proofs.Steps.{fails_standing, one_too_many, record_fails, record_taken}
 use Rattle.gr_record.proofs.decoder.Decoder.take_record.Goals as goal

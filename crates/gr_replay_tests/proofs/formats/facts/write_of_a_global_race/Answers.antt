@@ -1,10 +1,10 @@
-use Rattle.std.proofs.Common.{◌≡◌, ℕ, refl, ap, ◌∙◌, List, [], ◌∷◌, ◌++◌, length}
+use Rattle.gr_model.proofs.Common.{◌≡◌, ℕ, refl, ap, ◌∙◌, List, [], ◌∷◌, ◌++◌, length}
 use Rattle.std.specs.Fmt.{digits}
 use Rattle.gr_model.specs.declared.event.Word.{Word}
 use Rattle.gr_model.specs.declared.event.Word.TheVariants.{Global}
 use Rattle.gr_model.specs.declared.report.Divergence.{Divergence}
 use Rattle.gr_model.specs.declared.report.Unmatched.{Unmatched}
-use Rattle.gr_model.specs.Reports.{WholeReport}
+use Rattle.gr_model.specs.Prelude.{WholeReport}
 use Rattle.gr_report.specs.Putting.{field}
 use Rattle.gr_report.specs.ReportText.{report_text}
 use Rattle.gr_replay_tests.proofs.formats.facts.write_of_a_global_race.Goals as goal

@@ -1,4 +1,4 @@
-use Rattle.std.proofs.Common.{refl, rules}
+use Rattle.gr_model.proofs.Common.{refl, rules}
 use Rattle.gr_route.proofs.PrefixLemmas.{end_makes_whole}
 use Rattle.gr_route.proofs.IntakeSteps.{delivered_last, delivery, joins_as, turned}
 use Rattle.gr_route.proofs.intake.Intake.join_back.Goals as goal

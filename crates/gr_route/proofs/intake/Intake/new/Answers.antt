@@ -1,4 +1,4 @@
-use Rattle.std.proofs.Common.{ap}
+use Rattle.gr_model.proofs.Common.{ap}
 use Rattle.gr_route.specs.Batches.{sent_by}
 use Rattle.gr_route.proofs.IntakeSteps.{begins, begun}
 use Rattle.gr_route.proofs.intake.Intake.new.Goals as goal

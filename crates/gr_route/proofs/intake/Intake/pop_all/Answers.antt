@@ -1,4 +1,4 @@
-use Rattle.std.proofs.Common.{◌++◌, ◌∙◌, List, ap, append-nil, rules, sym}
+use Rattle.gr_model.proofs.Common.{◌++◌, ◌∙◌, List, ap, append-nil, rules, sym}
 use Rattle.gr_model.specs.declared.event.Sent.{Sent}
 use Rattle.gr_route.specs.Batches.{sent_by}
 use Rattle.gr_route.proofs.IntakeSteps.{Hands, delivery, hands, hands_left, pops_as}

@@ -1,5 +1,5 @@
-use Rattle.std.proofs.Common.{arith, ◌++◌, sym, subst}
-use Rattle.gr_model.specs.Streams.{IsPrefix}
+use Rattle.gr_model.proofs.Common.{arith, ◌++◌, sym, subst}
+use Rattle.gr_model.specs.Prelude.{IsPrefix}
 use Rattle.gr_route.specs.IntakeSeats.{Seat}
 use Rattle.gr_route.proofs.BatchLemmas.{events_of_sent}
 use Rattle.gr_route.proofs.IntakeSteps.{pushes_as}

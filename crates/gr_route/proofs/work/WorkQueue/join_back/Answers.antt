@@ -1,4 +1,4 @@
-use Rattle.std.proofs.Common.{rules}
+use Rattle.gr_model.proofs.Common.{rules}
 use Rattle.gr_route.proofs.WorkSteps.{delivered_back, delivery, joins_as, stop_makes_whole, turned}
 use Rattle.gr_route.proofs.work.WorkQueue.join_back.Goals as goal
 

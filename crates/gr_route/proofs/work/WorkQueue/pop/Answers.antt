@@ -1,4 +1,4 @@
-use Rattle.std.proofs.Common.{[], ◌∷◌, ◌++◌, ◌∙◌, ap, rules}
+use Rattle.gr_model.proofs.Common.{[], ◌∷◌, ◌++◌, ◌∙◌, ap, rules}
 use Rattle.gr_route.proofs.WorkSteps.{Hands, delivery, hands, hands_left, pops_as, unstopped_before}
 use Rattle.gr_route.proofs.work.WorkQueue.pop.Given.{Over}
 use Rattle.gr_route.proofs.work.WorkQueue.pop.Goals as goal

@@ -1,4 +1,4 @@
-use Rattle.std.proofs.Common.{arith, rules, append-nil}
+use Rattle.gr_model.proofs.Common.{arith, rules, append-nil}
 use Rattle.gr_route.proofs.WorkSteps.{Hands, delivery, hands, hands_left, pops_as}
 use Rattle.gr_route.proofs.work.WorkQueue.pop_all.Given.{Over}
 use Rattle.gr_route.proofs.work.WorkQueue.pop_all.Goals as goal

@@ -1,4 +1,4 @@
-use Rattle.std.proofs.Common.{◌++◌, sym, subst}
+use Rattle.gr_model.proofs.Common.{◌++◌, sym, subst}
 use Rattle.gr_route.specs.WorkRule.{StopsLast}
 use Rattle.gr_route.specs.WorkSeats.{Giver}
 use Rattle.gr_route.proofs.WorkSteps.{pushes_as}

@@ -1,4 +1,4 @@
-use Rattle.std.proofs.Common.{Err, ap, arith, sym, ◌∙◌, ⊎_elim}
+use Rattle.gr_model.proofs.Common.{Err, ap, arith, sym, ◌∙◌, ⊎_elim}
 use Rattle.gr_sequencer.proofs.EventSteps.{has_clock, learns_nothing_true, sources_true, sources_unspent, unspent}
 use Rattle.gr_sequencer.proofs.Teaching.{of_one_word}
 use Rattle.gr_sequencer.proofs.known.Known.advance.Goals as goal

@@ -1,5 +1,5 @@
-use Rattle.std.proofs.Common.{Err, ap, ◌∙◌}
-use Rattle.gr_model.specs.Access.{memory_of}
+use Rattle.gr_model.proofs.Common.{Err, ap, ◌∙◌}
+use Rattle.gr_model.specs.Prelude.{memory_of}
 use Rattle.gr_clocks.specs.Counts.{count_of}
 use Rattle.gr_sequencer.proofs.EventSteps.{known_or_learned_room, known_or_learned_sees}
 use Rattle.gr_sequencer.proofs.known.Known.clock_of.Goals as goal

@@ -1,6 +1,5 @@
-use Rattle.std.proofs.Common.{ap, arith, ◌∙◌}
-use Rattle.gr_model.specs.Access.{memory_of}
-use Rattle.gr_model.specs.Counts.{Sees}
+use Rattle.gr_model.proofs.Common.{ap, arith, ◌∙◌}
+use Rattle.gr_model.specs.Prelude.{memory_of, Sees}
 use Rattle.gr_clocks.specs.Counts.{count_of}
 use Rattle.gr_clocks.specs.ItemClocks.{clock_in}
 use Rattle.gr_closure.specs.Accesses.{CountsJust}

@@ -1,4 +1,4 @@
-use Rattle.std.proofs.Common.{◌≡◌, ◌≢◌, Some, ap, arith, cond, ◌∙◌}
+use Rattle.gr_model.proofs.Common.{◌≡◌, ◌≢◌, Some, ap, arith, cond, ◌∙◌}
 use Rattle.gr_model.specs.declared.event.EventId.{EventId}
 use Rattle.gr_clocks.specs.ItemClocks.{ReleaseClock}
 use Rattle.gr_sequencer.specs.Known.{Snapshots, same_event, snapshot_at}

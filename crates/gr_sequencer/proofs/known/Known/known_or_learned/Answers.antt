@@ -1,5 +1,5 @@
-use Rattle.std.proofs.Common.{◌≡◌, All, arith}
-use Rattle.gr_model.specs.Access.{memory_of}
+use Rattle.gr_model.proofs.Common.{◌≡◌, All, arith}
+use Rattle.gr_model.specs.Prelude.{memory_of}
 use Rattle.gr_clocks.specs.ItemClocks.{ReleaseClock}
 use Rattle.gr_sequencer.proofs.EventSteps.{has_clock, known_or_learned_alone, known_or_learned_sources}
 use Rattle.gr_sequencer.proofs.Teaching.{clocks_referred}

@@ -1,4 +1,4 @@
-use Rattle.std.proofs.Common.{arith}
+use Rattle.gr_model.proofs.Common.{arith}
 use Rattle.gr_sequencer.proofs.known.Known.new.Goals as goal
 
 pub returns : goal.returns

@@ -1,7 +1,6 @@
-use Rattle.std.proofs.Common.{◌≡◌, Some, IsTrue, arith}
+use Rattle.gr_model.proofs.Common.{◌≡◌, Some, IsTrue, arith}
 use Rattle.gr_model.specs.declared.event.Event.{Event}
-use Rattle.gr_model.specs.Access.{is_release}
-use Rattle.gr_model.specs.Streams.{event_at}
+use Rattle.gr_model.specs.Prelude.{is_release, event_at}
 use Rattle.gr_sequencer.specs.Known.{IsNext, IsSnapshotBy, snapshot_at}
 use Rattle.gr_sequencer.proofs.EventSteps.{snapshots_longer}
 use Rattle.gr_sequencer.proofs.sequencer.Sequencer.handle_event.Goals as goal

@@ -1,4 +1,4 @@
-use Rattle.std.proofs.Common.{refl}
+use Rattle.gr_model.proofs.Common.{refl}
 use Rattle.gr_sequencer.proofs.GroupSteps.{group_unspent, meets_true, snapshots_behind}
 use Rattle.gr_sequencer.proofs.sequencer.Sequencer.meet_next.Goals as goal
 

@@ -1,4 +1,4 @@
-use Rattle.std.proofs.Common.{inl, inr, refl}
+use Rattle.gr_model.proofs.Common.{inl, inr, refl}
 use Rattle.gr_order.specs.Sequences.{CanStep, Sequence}
 use Rattle.gr_sequencer.specs.Answers.{IsStep}
 use Rattle.gr_sequencer.specs.declared.handled.Handled.{Handled}

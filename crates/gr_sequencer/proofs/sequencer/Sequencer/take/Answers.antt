@@ -1,4 +1,4 @@
-use Rattle.std.proofs.Common.{arith}
+use Rattle.gr_model.proofs.Common.{arith}
 use Rattle.gr_sequencer.proofs.KnownGrowth.{known_takes}
 use Rattle.gr_sequencer.proofs.sequencer.Sequencer.take.Goals as goal
 

@@ -1,4 +1,4 @@
-use Rattle.std.proofs.Common.{◌≡◌, ◌++◌}
+use Rattle.gr_model.proofs.Common.{◌≡◌, ◌++◌}
 use Rattle.gr_route.specs.Batches.{all_of}
 use Rattle.gr_sequencer_thread.specs.Feeds.{left_of}
 use Rattle.gr_sequencer_thread.proofs.backlog.Backlog.give_back.Given as goal

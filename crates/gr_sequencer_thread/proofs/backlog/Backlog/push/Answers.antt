@@ -1,4 +1,4 @@
-use Rattle.std.proofs.Common.{◌≡◌, ◌∙◌, ◌++◌, ap, append_assoc, sym}
+use Rattle.gr_model.proofs.Common.{◌≡◌, ◌∙◌, ◌++◌, ap, append_assoc, sym}
 use Rattle.gr_route.specs.Batches.{all_of}
 use Rattle.gr_route.proofs.BatchLemmas.{all_of_push}
 use Rattle.gr_taking.specs.Sources.{ListedRecords}

@@ -1,5 +1,4 @@
-use Rattle.std.proofs.Common.{◌≡◌, length, arith, ap, rules}
-use Rattle.std.proofs.lemmas.List.{length-map}
+use Rattle.gr_model.proofs.Common.{◌≡◌, length, arith, ap, rules, length-map}
 use Rattle.gr_sequencer_thread.specs.Ends.{Line}
 use Rattle.gr_sequencer_thread.specs.Feeds.{Feed}
 use Rattle.gr_sequencer_thread.proofs.feed.Feed.drain_all.Goals as goal

@@ -1,4 +1,4 @@
-use Rattle.std.proofs.Common.{◌∙◌}
+use Rattle.gr_model.proofs.Common.{◌∙◌}
 use Rattle.gr_route.specs.WorkSeats.{Giver}
 use Rattle.gr_sequencer_thread.proofs.Changes.{as_many}
 use Rattle.gr_sequencer_thread.proofs.feed.Feed.pass.Goals as goal

@@ -1,6 +1,4 @@
-use Rattle.std.proofs.Common.{◌≡◌, ◌∙◌, ◌<◌, ℕ, List, ap, subst, length, get_or, set, arith, rules}
-use Rattle.std.proofs.lemmas.List.{set-get_or}
-use Rattle.std.proofs.Math.Seq.{map-set_same}
+use Rattle.gr_model.proofs.Common.{◌≡◌, ◌∙◌, ◌<◌, ℕ, List, ap, subst, length, get_or, set, arith, rules, set-get_or, map-set_same}
 use Rattle.gr_route.specs.IntakeSeats.{IsDelivery, Taker}
 use Rattle.gr_sequencer_thread.specs.Ends.{feed_line}
 use Rattle.gr_sequencer_thread.specs.Feeds.{Feed, works_of}

@@ -1,6 +1,6 @@
-use Rattle.std.proofs.Common.{◌≡◌, ◌∙◌, List, [], Option, None, Some, false, ap, sym, subst, option_map, IfSome, OnSome}
+use Rattle.gr_model.proofs.Common.{◌≡◌, ◌∙◌, List, [], Option, None, Some, false, ap, sym, subst, option_map, IfSome, OnSome}
 use Rattle.gr_clocks.specs.ClockedAccess.{ClockedAccess}
-use Rattle.gr_model.specs.Reports.{IsReportButRaces, WholeReport}
+use Rattle.gr_model.specs.Prelude.{IsReportButRaces, WholeReport}
 use Rattle.gr_steps.specs.Steps.{IsAtRest}
 use Rattle.gr_report.specs.declared.report.Report.{Report}
 use Rattle.gr_report.specs.Whole.{whole_of}

@@ -1,5 +1,4 @@
-use Rattle.std.proofs.Common.{◌≡◌, ◌∙◌, ◌++◌, ℕ, List, length, take, drop, append-nil, ap, sym, subst, arith, true, true≢false}
-use Rattle.std.proofs.lemmas.List.{drop_all, take_all}
+use Rattle.gr_model.proofs.Common.{◌≡◌, ◌∙◌, ◌++◌, ℕ, List, length, take, drop, append-nil, ap, sym, subst, arith, true, true≢false, drop_all, take_all}
 use Rattle.gr_taking.specs.Along.{IsAlong}
 use Rattle.gr_taking.specs.Sources.{ListedRecords, MayCome}
 use Rattle.gr_sequencer_thread.specs.Feeds.{AreSplit, come_in, given_of}

@@ -1,6 +1,4 @@
-use Rattle.std.proofs.Common.{rules, ◌≡◌, ◌∙◌, ◌<◌, List, [], ap, arith, get_or, length, refl, subst, sym, ⊎_elim}
-use Rattle.std.proofs.lemmas.Bool.{cases_eq}
-use Rattle.std.proofs.lemmas.List.{get_or-map}
+use Rattle.gr_model.proofs.Common.{rules, ◌≡◌, ◌∙◌, ◌<◌, List, [], ap, arith, get_or, length, refl, subst, sym, ⊎_elim, cases_eq, get_or-map}
 use Rattle.gr_clocks.specs.ClockedAccess.{ClockedAccess}
 use Rattle.gr_threads.specs.Given.{accesses_in}
 use Rattle.gr_sequencer_thread.proofs.on_way.OnWay.is_empty.Goals as goal

@@ -1,4 +1,4 @@
-use Rattle.std.proofs.Common.{◌≡◌, ◌<◌, ℕ, List, [], get_or}
+use Rattle.gr_model.proofs.Common.{◌≡◌, ◌<◌, ℕ, List, [], get_or}
 use Rattle.gr_clocks.specs.ClockedAccess.{ClockedAccess}
 use Rattle.gr_sequencer_thread.proofs.on_way.OnWay.is_empty.Given as goal
 

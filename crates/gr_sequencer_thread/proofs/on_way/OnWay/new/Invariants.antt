@@ -1,4 +1,4 @@
-use Rattle.std.proofs.Common.{◌≡◌, [], length, All}
+use Rattle.gr_model.proofs.Common.{◌≡◌, [], length, All}
 use Rattle.gr_sequencer_thread.specs.Feeds.{accesses_on_way}
 use Rattle.gr_sequencer_thread.proofs.on_way.OnWay.new.Given as goal
 

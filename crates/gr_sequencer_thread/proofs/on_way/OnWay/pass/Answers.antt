@@ -1,5 +1,4 @@
-use Rattle.std.proofs.Common.{rules, ◌≡◌, ◌∙◌, ◌<◌, ap, arith, length, length-set}
-use Rattle.std.proofs.Math.Seq.{map-set_same}
+use Rattle.gr_model.proofs.Common.{rules, ◌≡◌, ◌∙◌, ◌<◌, ap, arith, length, length-set, map-set_same}
 use Rattle.gr_route.specs.WorkSeats.{Giver}
 use Rattle.gr_sequencer_thread.proofs.StepLemmas.{same_towards, still_open}
 use Rattle.gr_sequencer_thread.proofs.on_way.OnWay.pass.Goals as goal

@@ -1,4 +1,4 @@
-use Rattle.std.proofs.Common.{◌≡◌, ℕ, length}
+use Rattle.gr_model.proofs.Common.{◌≡◌, ℕ, length}
 use Rattle.gr_sequencer_thread.specs.Feeds.{AreOpen, towards, works_of}
 use Rattle.gr_sequencer_thread.proofs.on_way.OnWay.pass.Given as goal
 

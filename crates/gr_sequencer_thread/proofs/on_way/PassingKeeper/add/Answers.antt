@@ -1,6 +1,5 @@
-use Rattle.std.proofs.Common.{rules, append-nil, ◌≡◌, ◌∙◌, ◌<◌, ◌∷◌, ◌++◌, [], List, ap, arith, get_or, length, set, sym, subst, option_map}
-use Rattle.std.proofs.lemmas.List.{get_or-map, length-map, map-set}
-use Rattle.gr_model.specs.Configs.{worker_number}
+use Rattle.gr_model.proofs.Common.{rules, append-nil, ◌≡◌, ◌∙◌, ◌<◌, ◌∷◌, ◌++◌, [], List, ap, arith, get_or, length, set, sym, subst, option_map, get_or-map, length-map, map-set}
+use Rattle.gr_model.specs.Prelude.{worker_number}
 use Rattle.gr_clocks.specs.ClockedAccess.{ClockedAccess, clocked}
 use Rattle.gr_closure.specs.AccessesAlong.{in_flight_list}
 use Rattle.gr_route.specs.declared.work.Work.TheVariants.{Access}

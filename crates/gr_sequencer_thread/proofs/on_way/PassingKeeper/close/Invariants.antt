@@ -1,4 +1,4 @@
-use Rattle.std.proofs.Common.{◌≡◌}
+use Rattle.gr_model.proofs.Common.{◌≡◌}
 use Rattle.gr_sequencer_thread.proofs.on_way.PassingKeeper.close.Given as goal
 
 abbrev pub invariant-loop-worker : goal.invariant-loop-worker

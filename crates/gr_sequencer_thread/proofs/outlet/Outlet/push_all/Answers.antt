@@ -1,4 +1,4 @@
-use Rattle.std.proofs.Common.{◌++◌, ap, ◌∙◌}
+use Rattle.gr_model.proofs.Common.{◌++◌, ap, ◌∙◌}
 use Rattle.gr_route.specs.WorkRule.{is_stopped}
 use Rattle.gr_route.specs.WorkSeats.{Giver}
 use Rattle.gr_sequencer_thread.proofs.WayLemmas.{both_unstopped, stops_last}

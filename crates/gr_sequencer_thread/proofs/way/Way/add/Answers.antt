@@ -1,4 +1,4 @@
-use Rattle.std.proofs.Common.{◌++◌, ◌∷◌, [], List, ap, refl}
+use Rattle.gr_model.proofs.Common.{◌++◌, ◌∷◌, [], List, ap, refl}
 use Rattle.gr_route.specs.declared.work.Work.{Work}
 use Rattle.gr_route.specs.declared.work.Work.TheVariants.{Access}
 use Rattle.gr_sequencer_thread.specs.Feeds.{work_on_way}

@@ -1,4 +1,4 @@
-use Rattle.std.proofs.Common.{◌≡◌}
+use Rattle.gr_model.proofs.Common.{◌≡◌}
 use Rattle.gr_sequencer_thread.specs.Feeds.{work_on_way}
 use Rattle.gr_sequencer_thread.proofs.way.Way.find_lists.Given as goal
 

@@ -1,4 +1,4 @@
-use Rattle.std.proofs.Common.{◌≡◌, ◌++◌, ◌+◌, length, IsFalse}
+use Rattle.gr_model.proofs.Common.{◌≡◌, ◌++◌, ◌+◌, length, IsFalse}
 use Rattle.gr_route.specs.WorkRule.{is_stopped}
 use Rattle.gr_sequencer_thread.proofs.way.Way.pass_all.Given as goal
 

@@ -1,4 +1,4 @@
-use Rattle.std.proofs.Common.{◌≡◌, arith, refl, true}
+use Rattle.gr_model.proofs.Common.{◌≡◌, arith, refl, true}
 use Rattle.gr_clocks.specs.ClockedAccess.{clocked}
 use Rattle.gr_shadow.specs.Launches.{accesses_in, is_global}
 use Rattle.gr_shadow.proofs.LaunchLemmas.{hit_by_part}

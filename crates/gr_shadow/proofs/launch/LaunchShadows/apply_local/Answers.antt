@@ -1,5 +1,4 @@
-use Rattle.std.proofs.Common.{◌<◌, List, Some, arith, length}
-use Rattle.std.proofs.lemmas.Result.{on_ok_weaker, on_err_weaker}
+use Rattle.gr_model.proofs.Common.{◌<◌, List, Some, arith, length, on_ok_weaker, on_err_weaker}
 use Rattle.gr_clocks.specs.ClockedAccess.{ClockedAccess, clocked}
 use Rattle.gr_shadow.specs.Launches.{LaunchKept, StandsForLaunch, StandsForLocal, accesses_in, is_local_of}
 use Rattle.gr_shadow.proofs.LaunchLemmas.{answers_by_part, local_at, local_more, local_put}

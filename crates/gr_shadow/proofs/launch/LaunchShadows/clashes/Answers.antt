@@ -1,4 +1,4 @@
-use Rattle.std.proofs.lemmas.Result.{IfOk-weaker}
+use Rattle.gr_model.proofs.Common.{IfOk-weaker}
 use Rattle.gr_shadow.specs.Launches.{launch_clash_at}
 use Rattle.gr_shadow.proofs.LaunchLemmas.{launch_clash_there}
 use Rattle.gr_shadow.proofs.ListingLemmas.{listed_clashes}

@@ -1,4 +1,4 @@
-use Rattle.std.proofs.Common.{◌<◌, arith, length}
+use Rattle.gr_model.proofs.Common.{◌<◌, arith, length}
 use Rattle.gr_shadow.specs.Launches.{accesses_in, is_local_of}
 use Rattle.gr_shadow.proofs.LaunchLemmas.{local_at, local_put}
 use Rattle.gr_shadow.proofs.launch.LaunchShadows.close.Goals as goal

@@ -1,4 +1,4 @@
-use Rattle.std.proofs.Common.{◌+◌, ◌-◌, List, length}
+use Rattle.gr_model.proofs.Common.{◌+◌, ◌-◌, List, length}
 use Rattle.gr_shadow.specs.Clashes.{ClockedAccess}
 use Rattle.gr_shadow.specs.Launches.{StandsForLaunch}
 use Rattle.gr_shadow.proofs.launch.LaunchShadows.make_room.Given as goal

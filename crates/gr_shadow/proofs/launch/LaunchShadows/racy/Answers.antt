@@ -1,4 +1,4 @@
-use Rattle.std.proofs.Common.{◌≡◌, ap, arith, inl, length}
+use Rattle.gr_model.proofs.Common.{◌≡◌, ap, arith, inl, length}
 use Rattle.gr_shadow.specs.Launches.{accesses_in, is_global, is_local_of}
 use Rattle.gr_shadow.proofs.LaunchLemmas.{below_more, below_none, hit_below, iff_more, local_at}
 use Rattle.gr_shadow.proofs.MapLemmas.{iff_trans}

@@ -1,4 +1,4 @@
-use Rattle.std.proofs.Common.{◌↔◌, Contains, List}
+use Rattle.gr_model.proofs.Common.{◌↔◌, Contains, List}
 use Rattle.gr_model.specs.declared.event.Word.{Word}
 use Rattle.gr_shadow.specs.Clashes.{ClockedAccess}
 use Rattle.gr_shadow.specs.Launches.{StandsForLaunch}

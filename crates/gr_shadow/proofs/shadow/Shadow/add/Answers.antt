@@ -1,4 +1,4 @@
-use Rattle.std.proofs.Common.{◌≡◌, false, None, arith, rules, sym, ◌∙◌}
+use Rattle.gr_model.proofs.Common.{◌≡◌, false, None, arith, rules, sym, ◌∙◌}
 use Rattle.gr_clocks.specs.ClockedAccess.{clocked}
 use Rattle.gr_shadow.specs.Keeps.{touch_clashes}
 use Rattle.gr_shadow.proofs.KeepsLemmas.{find_told}

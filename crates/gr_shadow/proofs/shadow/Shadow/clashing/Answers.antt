@@ -1,5 +1,4 @@
-use Rattle.std.proofs.Common.{arith}
-use Rattle.std.proofs.lemmas.List.Folds.{find-append}
+use Rattle.gr_model.proofs.Common.{arith, find-append}
 use Rattle.gr_clocks.specs.ClockedAccess.{clocked}
 use Rattle.gr_shadow.specs.Keeps.{all_touches, touch_clashes}
 use Rattle.gr_shadow.proofs.shadow.Shadow.clashing.Goals as goal

@@ -1,5 +1,4 @@
-use Rattle.std.proofs.Common.{◌∷◌, [], ◌++◌, refl}
-use Rattle.std.proofs.lemmas.Result.{on_ok_weaker}
+use Rattle.gr_model.proofs.Common.{◌∷◌, [], ◌++◌, refl, on_ok_weaker}
 use Rattle.gr_shadow.specs.Keeps.{all_touches}
 use Rattle.gr_shadow.proofs.KeepsLemmas.{Keeps-self, Keeps-first, Keeps-second}
 use Rattle.gr_shadow.proofs.shadow.Shadow.keep.Goals as goal

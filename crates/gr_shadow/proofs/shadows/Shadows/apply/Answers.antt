@@ -1,4 +1,4 @@
-use Rattle.std.proofs.Common.{arith}
+use Rattle.gr_model.proofs.Common.{arith}
 use Rattle.gr_clocks.specs.ClockedAccess.{clocked}
 use Rattle.gr_shadow.proofs.ShadowLemmas.{answer_told, stands_after}
 use Rattle.gr_shadow.proofs.shadows.Shadows.apply.Goals as goal

@@ -1,4 +1,4 @@
-use Rattle.std.proofs.Common.{arith}
+use Rattle.gr_model.proofs.Common.{arith}
 use Rattle.gr_shadow.proofs.MapLemmas.{answered_words_told}
 use Rattle.gr_shadow.proofs.shadows.Shadows.racy.Goals as goal
 

@@ -1,4 +1,4 @@
-use Rattle.std.proofs.Common.{rules}
+use Rattle.gr_model.proofs.Common.{rules}
 use Rattle.gr_shadow.proofs.KeepsLemmas.{Keeps-one, Keeps-other}
 use Rattle.gr_shadow.proofs.touch.Touch.takes.Goals as goal
 

@@ -1,4 +1,4 @@
-use Rattle.std.proofs.lemmas.List.Elements.{All-push}
+use Rattle.gr_model.proofs.Common.{All-push}
 use Rattle.gr_shadow.specs.Keeps.{IsOfClass}
 use Rattle.gr_shadow.proofs.KeepsLemmas.{All-kept}
 use Rattle.gr_shadow.proofs.touches.Touches.add.Goals as goal

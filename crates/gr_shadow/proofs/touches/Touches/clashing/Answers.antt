@@ -1,4 +1,4 @@
-use Rattle.std.proofs.Common.{arith}
+use Rattle.gr_model.proofs.Common.{arith}
 use Rattle.gr_clocks.specs.ClockedAccess.{clocked}
 use Rattle.gr_shadow.proofs.KeepsLemmas.{class_told}
 use Rattle.gr_shadow.proofs.touches.Touches.clashing.Goals as goal

@@ -1,4 +1,4 @@
-use Rattle.std.proofs.lemmas.Result.{IfOk-weaker}
+use Rattle.gr_model.proofs.Common.{IfOk-weaker}
 use Rattle.gr_show.proofs.questions.LeastRaceQuestion.text.Goals as goal
 
 pub returns : goal.returns

@@ -1,5 +1,5 @@
-use Rattle.std.proofs.Common.{arith}
-use Rattle.gr_record.specs.Decoding.{read_from}
+use Rattle.gr_model.proofs.Common.{arith}
+use Rattle.gr_record.specs.Prelude.{read_from}
 use Rattle.gr_streams.proofs.forward.Forward.new.Goals as goal
 
 pub returns-clause-fed : goal.returns-clause-fed

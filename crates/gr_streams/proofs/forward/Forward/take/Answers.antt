@@ -1,7 +1,6 @@
-use Rattle.std.proofs.Common.{◌∙◌, ◌++◌, arith}
+use Rattle.gr_model.proofs.Common.{◌∙◌, ◌++◌, arith}
 use Rattle.gr_model.specs.declared.limits.TheConstants.{MOST_RECORDS}
-use Rattle.gr_record.specs.Decoding.{reading}
-use Rattle.gr_record.specs.Laws.{AreBytes}
+use Rattle.gr_record.specs.Prelude.{reading, AreBytes}
 use Rattle.gr_streams.proofs.SendingLemmas.{bytes_append, piece_events}
 use Rattle.gr_streams.proofs.forward.Forward.take.Goals as goal
 

@@ -1,5 +1,4 @@
-use Rattle.std.proofs.Common.{subst}
-use Rattle.std.proofs.lemmas.Bool.Decides.{same_from_decides}
+use Rattle.gr_model.proofs.Common.{subst, same_from_decides}
 use Rattle.gr_streams.specs.Headers.{AreSeen}
 use Rattle.gr_streams.proofs.SeenLemmas.{group_came}
 use Rattle.gr_streams.proofs.seen.Seen.has_group.Goals as goal

@@ -1,4 +1,4 @@
-use Rattle.std.proofs.Common.{rules, subst, sym}
+use Rattle.gr_model.proofs.Common.{rules, subst, sym}
 use Rattle.gr_streams.specs.Headers.{AreSeen}
 use Rattle.gr_streams.proofs.SeenLemmas.{first_tells}
 use Rattle.gr_streams.proofs.seen.Seen.has_other_launch.Goals as goal

@@ -1,5 +1,5 @@
-use Rattle.std.proofs.Common.{◌∙◌, List, ℕ, subst, sym}
-use Rattle.gr_model.specs.Shapes.{IsShapeFault}
+use Rattle.gr_model.proofs.Common.{◌∙◌, List, ℕ, subst, sym}
+use Rattle.gr_model.specs.Prelude.{IsShapeFault}
 use Rattle.gr_streams.proofs.seen.Seen.shape.Goals as goal
 
 pub returns-in-Ok-clause-launch : goal.returns-in-Ok-clause-launch

@@ -1,4 +1,4 @@
-use Rattle.std.proofs.Common.{arith, length, ◌≤◌, take_all}
+use Rattle.gr_model.proofs.Common.{arith, length, ◌≤◌, take_all}
 use Rattle.gr_streams.proofs.SeenLemmas.{launch}
 use Rattle.gr_streams.proofs.seen.Seen.sizes.Goals as goal
 

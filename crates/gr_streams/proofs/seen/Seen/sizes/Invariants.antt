@@ -1,4 +1,4 @@
-use Rattle.std.proofs.Common.{◌≡◌, take}
+use Rattle.gr_model.proofs.Common.{◌≡◌, take}
 use Rattle.gr_intake.proofs.Judged.{AreSomeBelow}
 use Rattle.gr_streams.proofs.seen.Seen.sizes.Given as goal
 

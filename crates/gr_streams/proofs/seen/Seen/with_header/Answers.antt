@@ -1,5 +1,5 @@
-use Rattle.std.proofs.Common.{subst}
-use Rattle.gr_model.specs.Shapes.{IsPartOfShape}
+use Rattle.gr_model.proofs.Common.{subst}
+use Rattle.gr_model.specs.Prelude.{IsPartOfShape}
 use Rattle.gr_streams.specs.Headers.{AreSeen}
 use Rattle.gr_streams.proofs.SeenLemmas.{can_add, seen_more}
 use Rattle.gr_streams.proofs.seen.Seen.with_header.Goals as goal

@@ -1,8 +1,4 @@
-use Rattle.std.proofs.Common.{◌≡◌, ◌∙◌, ◌++◌, ◌∷◌, [], List}
-use Rattle.std.proofs.Common.{append-nil, append_assoc, arith, length, map, rules, refl, subst, sym}
-use Rattle.std.specs.Vec.Iter.{into_iter_items}
-use Rattle.std.proofs.lemmas.List.{nil_from_length, length-map, length_push, map_push}
-use Rattle.std.proofs.lemmas.List.Elements.{All-head, All-nil, All-push, All-tail}
+use Rattle.gr_model.proofs.Common.{◌≡◌, ◌∙◌, ◌++◌, ◌∷◌, [], List, append-nil, append_assoc, arith, length, map, rules, refl, subst, sym, into_iter_items, nil_from_length, length-map, length_push, map_push, All-head, All-nil, All-push, All-tail}
 use Rattle.gr_detector.specs.Runs.{IsOfRun}
 use Rattle.gr_record.specs.declared.header.Header.{Header}
 use Rattle.gr_streams.specs.Sources.{AreServed, Begun, IsHeaded, IsUnread, begun_of, known_of}

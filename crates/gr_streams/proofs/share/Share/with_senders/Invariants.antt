@@ -1,5 +1,4 @@
-use Rattle.std.proofs.Common.{◌≡◌, ◌≤◌, ◌+◌, ◌++◌, All, List, ℕ, None, Some, get_or, length, map, vec_len, vec_capacity}
-use Rattle.std.specs.Vec.Iter.{into_iter_items, into_iter_len}
+use Rattle.gr_model.proofs.Common.{◌≡◌, ◌≤◌, ◌+◌, ◌++◌, All, List, ℕ, None, Some, get_or, length, map, vec_len, vec_capacity, into_iter_items, into_iter_len}
 use Rattle.gr_detector.specs.Runs.{Run}
 use Rattle.gr_record.specs.declared.header.Header.{Header}
 use Rattle.gr_threads.specs.Senders.{Sending}

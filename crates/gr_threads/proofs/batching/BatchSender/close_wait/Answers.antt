@@ -1,6 +1,5 @@
-use Rattle.std.proofs.Common.{◌∙◌, ◌++◌, ◌∷◌, [], sym, ap}
-use Rattle.gr_model.specs.Events.{end_of}
-use Rattle.gr_model.specs.Streams.{is_complete}
+use Rattle.gr_model.proofs.Common.{◌∙◌, ◌++◌, ◌∷◌, [], sym, ap}
+use Rattle.gr_model.specs.Prelude.{end_of, is_complete}
 use Rattle.gr_threads.specs.Senders.{Sending}
 use Rattle.gr_threads.proofs.BatchLemmas.{ended_so, ends}
 use Rattle.gr_threads.proofs.batching.BatchSender.close_wait.Goals as goal

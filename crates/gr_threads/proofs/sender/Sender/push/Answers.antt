@@ -1,5 +1,5 @@
-use Rattle.std.proofs.Common.{◌+◌, ◌<◌, length, sym, subst, IsFalse}
-use Rattle.gr_model.specs.Events.{is_end}
+use Rattle.gr_model.proofs.Common.{◌+◌, ◌<◌, length, sym, subst, IsFalse}
+use Rattle.gr_model.specs.Prelude.{is_end}
 use Rattle.gr_threads.specs.Senders.{Sending}
 use Rattle.gr_threads.proofs.SenderLemmas.{after_push}
 use Rattle.gr_threads.proofs.sender.Sender.push.Goals as goal

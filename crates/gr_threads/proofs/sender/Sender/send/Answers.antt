@@ -1,5 +1,5 @@
-use Rattle.std.proofs.Common.{ap, ◌∙◌, length}
-use Rattle.gr_model.specs.Streams.{is_complete}
+use Rattle.gr_model.proofs.Common.{ap, ◌∙◌, length}
+use Rattle.gr_model.specs.Prelude.{is_complete}
 use Rattle.gr_threads.specs.Senders.{Sending}
 use Rattle.gr_threads.proofs.sender.Sender.send.Goals as goal
 

@@ -1,4 +1,4 @@
-use Rattle.std.proofs.Common.{◌≡◌}
+use Rattle.gr_model.proofs.Common.{◌≡◌}
 use Rattle.gr_threads.proofs.sender.Sender.send_wait.Given as goal
 
 abbrev pub invariant-loop : goal.invariant-loop

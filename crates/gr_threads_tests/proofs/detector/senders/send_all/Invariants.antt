@@ -1,4 +1,4 @@
-use Rattle.std.proofs.Common.{◌≡◌}
+use Rattle.gr_model.proofs.Common.{◌≡◌}
 use Rattle.gr_threads_tests.specs.Senders.{IsSameSender}
 use Rattle.gr_threads_tests.proofs.detector.senders.send_all.Given as goal
 

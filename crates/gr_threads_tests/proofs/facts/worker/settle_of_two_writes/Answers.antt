@@ -1,4 +1,4 @@
-use Rattle.std.proofs.Common.{◌≡◌, ◌<◌, ap, arith, length, rules, vec_len}
+use Rattle.gr_model.proofs.Common.{◌≡◌, ◌<◌, ap, arith, length, rules, vec_len}
 use Rattle.gr_model.specs.declared.event.Word.TheVariants as words
 use Rattle.gr_threads_tests.proofs.FactLemmas.{some_hit}
 use Rattle.gr_threads_tests.proofs.facts.worker.settle_of_two_writes.Goals as goal

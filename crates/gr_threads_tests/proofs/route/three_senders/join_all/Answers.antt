@@ -1,4 +1,4 @@
-use Rattle.std.proofs.Common.{ap, ◌∙◌, arith}
+use Rattle.gr_model.proofs.Common.{ap, ◌∙◌, arith}
 use Rattle.gr_route.specs.IntakeSeats.{Taker}
 use Rattle.gr_threads_tests.proofs.RunLemmas.{joined_whole}
 use Rattle.gr_threads_tests.proofs.route.three_senders.join_all.Goals as goal

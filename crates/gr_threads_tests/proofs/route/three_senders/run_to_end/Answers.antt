@@ -1,5 +1,5 @@
-use Rattle.std.proofs.Common.{rules, ◌≡◌}
-use Rattle.gr_model.specs.Streams.{events_of}
+use Rattle.gr_model.proofs.Common.{rules, ◌≡◌}
+use Rattle.gr_model.specs.Prelude.{events_of}
 use Rattle.gr_threads_tests.specs.Sent.{stream_of}
 use Rattle.gr_threads_tests.proofs.RunLemmas.{each_of_three}
 use Rattle.gr_threads_tests.proofs.route.three_senders.run_to_end.Goals as goal

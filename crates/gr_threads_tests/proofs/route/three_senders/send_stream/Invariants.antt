@@ -1,4 +1,4 @@
-use Rattle.std.proofs.Common.{◌≡◌}
+use Rattle.gr_model.proofs.Common.{◌≡◌}
 use Rattle.gr_threads_tests.specs.Sent.{writes_below}
 use Rattle.gr_threads_tests.proofs.route.three_senders.send_stream.Given as goal
 

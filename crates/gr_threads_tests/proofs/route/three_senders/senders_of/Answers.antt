@@ -1,4 +1,4 @@
-use Rattle.std.proofs.Common.{◌≡◌, ◌≢◌, ℕ, List, get_or, set, ap, ◌∙◌, arith, get_or-set_other}
+use Rattle.gr_model.proofs.Common.{◌≡◌, ◌≢◌, ℕ, List, get_or, set, ap, ◌∙◌, arith, get_or-set_other}
 use Rattle.gr_route.specs.IntakeRule.{no_sizes}
 use Rattle.gr_route.specs.IntakeSeats.{Taker}
 use Rattle.gr_route.proofs.Sizes.{none_has_size}

@@ -1,4 +1,4 @@
-use Rattle.std.proofs.Common.{rules}
+use Rattle.gr_model.proofs.Common.{rules}
 use Rattle.gr_threads_tests.proofs.RunLemmas.{ended_next}
 use Rattle.gr_threads_tests.proofs.route.three_senders.take_all.Goals as goal
 

@@ -1,5 +1,5 @@
-use Rattle.std.proofs.Common.{◌≡◌, ℕ, ◌<◌, false, slice_index_or}
-use Rattle.gr_model.specs.Streams.{is_complete}
+use Rattle.gr_model.proofs.Common.{◌≡◌, ℕ, ◌<◌, false, slice_index_or}
+use Rattle.gr_model.specs.Prelude.{is_complete}
 use Rattle.gr_route.specs.IntakeSeats.{popped_of}
 use Rattle.gr_threads_tests.proofs.route.three_senders.take_all.Given as goal
 

@@ -1,4 +1,4 @@
-use Rattle.std.proofs.Common.{◌≡◌, ◌∙◌, ◌++◌, Some, refl, subst, sym, option_map}
+use Rattle.gr_model.proofs.Common.{◌≡◌, ◌∙◌, ◌++◌, Some, refl, subst, sym, option_map}
 use Rattle.gr_closure.specs.AccessesAlong.{in_flight_list}
 use Rattle.gr_timeline.specs.Histories.{IsKeptOf}
 use Rattle.gr_clocks.specs.ClockedAccess.{clocked}

@@ -1,4 +1,4 @@
-use Rattle.std.proofs.Common.{refl, ltb-true, lt-ltb}
+use Rattle.gr_model.proofs.Common.{refl, ltb-true, lt-ltb}
 use Rattle.gr_timeline.proofs.judged.Judged.is_grounded.Goals as goal
 
 pub returns : goal.returns

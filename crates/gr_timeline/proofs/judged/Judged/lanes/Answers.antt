@@ -1,4 +1,4 @@
-use Rattle.std.proofs.Common.{ap, refl, sym}
+use Rattle.gr_model.proofs.Common.{ap, refl, sym}
 use Rattle.gr_order.specs.Sequences.{Sequence}
 use Rattle.gr_timeline.proofs.JudgedLemmas.{forgets_grounded, whole_order}
 use Rattle.gr_timeline.proofs.judged.Judged.lanes.Goals as goal

@@ -1,4 +1,4 @@
-use Rattle.std.proofs.Common.{◌∙◌, arith}
+use Rattle.gr_model.proofs.Common.{◌∙◌, arith}
 use Rattle.gr_timeline.proofs.JudgedLemmas.{not_below, record_waits}
 use Rattle.gr_timeline.proofs.judged.Judged.record_of.Goals as goal
 

@@ -1,4 +1,4 @@
-use Rattle.std.proofs.Common.{◌∙◌, ap}
+use Rattle.gr_model.proofs.Common.{◌∙◌, ap}
 use Rattle.gr_windows.specs.Rows.{padded}
 use Rattle.gr_windows.proofs.RowLemmas.{none_kept}
 use Rattle.gr_windows.proofs.row.Row.free.Goals as goal

@@ -1,6 +1,5 @@
-use Rattle.std.proofs.Common.{◌-◌, ◌∙◌, ap, arith, length, refl}
+use Rattle.gr_model.proofs.Common.{◌-◌, ◌∙◌, ap, arith, length, refl, length-take-le}
 use Rattle.std.specs.Int.{from_bool}
-use Rattle.std.proofs.lemmas.List.{length-take-le}
 use Rattle.gr_windows.proofs.RowLemmas.{less_kept}
 use Rattle.gr_windows.proofs.row.Row.pop_last.Goals as goal
 

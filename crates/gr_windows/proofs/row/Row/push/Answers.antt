@@ -1,5 +1,4 @@
-use Rattle.std.proofs.Common.{◌∙◌, ap, arith}
-use Rattle.std.proofs.lemmas.Result.{err_from_is_err_and}
+use Rattle.gr_model.proofs.Common.{◌∙◌, ap, arith, err_from_is_err_and}
 use Rattle.std.specs.Int.{from_bool}
 use Rattle.gr_windows.proofs.RowLemmas.{fits_more, kept_more, kept_still, written_more, written_still}
 use Rattle.gr_windows.proofs.row.Row.push.Goals as goal

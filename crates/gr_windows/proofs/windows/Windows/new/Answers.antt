@@ -1,5 +1,4 @@
-use Rattle.std.proofs.Common.{◌≡◌, ◌∙◌, ap, arith, map, take}
-use Rattle.std.proofs.lemmas.List.{take_all}
+use Rattle.gr_model.proofs.Common.{◌≡◌, ◌∙◌, ap, arith, map, take, take_all}
 use Rattle.gr_windows.proofs.WindowLemmas.{none_of, new_empty}
 use Rattle.gr_windows.proofs.windows.Windows.new.Goals as goal
 

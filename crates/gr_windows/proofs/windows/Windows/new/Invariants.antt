@@ -1,4 +1,4 @@
-use Rattle.std.proofs.Common.{◌≡◌, map, take}
+use Rattle.gr_model.proofs.Common.{◌≡◌, map, take}
 use Rattle.gr_windows.proofs.WindowLemmas.{none_of}
 use Rattle.gr_windows.proofs.windows.Windows.new.Given as goal
 

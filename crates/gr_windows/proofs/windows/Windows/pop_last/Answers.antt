@@ -1,4 +1,4 @@
-use Rattle.std.proofs.Common.{◌-◌, length, take}
+use Rattle.gr_model.proofs.Common.{◌-◌, length, take}
 use Rattle.gr_windows.proofs.WindowLemmas.{row_writes}
 use Rattle.gr_windows.proofs.windows.Windows.pop_last.Goals as goal
 

@@ -1,5 +1,4 @@
-use Rattle.std.proofs.Common.{◌++◌, ◌∷◌, []}
-use Rattle.std.proofs.lemmas.Result.{on_ok_weaker}
+use Rattle.gr_model.proofs.Common.{◌++◌, ◌∷◌, [], on_ok_weaker}
 use Rattle.gr_windows.proofs.WindowLemmas.{row_writes}
 use Rattle.gr_windows.proofs.windows.Windows.push.Goals as goal
 

@@ -1,4 +1,4 @@
-use Rattle.std.proofs.Common.{[], arith}
+use Rattle.gr_model.proofs.Common.{[], arith}
 use Rattle.gr_model.proofs.PutLemmas.{puts_last, puts_more}
 use Rattle.gr_windows.proofs.WindowLemmas.{adds_items}
 use Rattle.gr_windows.proofs.windows.Windows.with_group.Goals as goal

@@ -1,6 +1,6 @@
-use Rattle.std.proofs.Common.{◌≡◌, ◌+◌, ◌-◌, List, [], length}
+use Rattle.gr_model.proofs.Common.{◌≡◌, ◌+◌, ◌-◌, List, [], length}
 use Rattle.gr_model.specs.declared.event.Event.{Event}
-use Rattle.gr_model.specs.Groups.{put}
+use Rattle.gr_model.specs.Prelude.{put}
 use Rattle.gr_windows.proofs.windows.Windows.with_group.Given as goal
 
 abbrev pub invariant-loop-alloc : goal.invariant-loop-alloc

@@ -1,5 +1,4 @@
-use Rattle.std.proofs.Common.{◌≡◌, ◌∙◌, ◌∷◌, [], ◌++◌, ap, refl, sym}
-use Rattle.std.proofs.lemmas.List.{map-append}
+use Rattle.gr_model.proofs.Common.{◌≡◌, ◌∙◌, ◌∷◌, [], ◌++◌, ap, refl, sym, map-append}
 use Rattle.gr_shadow.specs.Clashes.{clocked}
 use Rattle.gr_shadow.specs.StandsFor.{StandsFor}
 use Rattle.gr_world.specs.Queues.{Work, all_clocked, work_of}

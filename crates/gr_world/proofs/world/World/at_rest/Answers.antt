@@ -1,4 +1,4 @@
-use Rattle.std.proofs.Common.{rules}
+use Rattle.gr_model.proofs.Common.{rules}
 use Rattle.gr_world.proofs.RestLemmas.{grounded, rests}
 use Rattle.gr_world.proofs.InFlightLemmas.{no_in_flight}
 use Rattle.gr_world.proofs.world.World.at_rest.Goals as goal

@@ -1,5 +1,5 @@
-use Rattle.std.proofs.Common.{◌<◌, ap, arith, length, rules, subst}
-use Rattle.gr_model.specs.Streams.{size_of}
+use Rattle.gr_model.proofs.Common.{◌<◌, ap, arith, length, rules, subst}
+use Rattle.gr_model.specs.Prelude.{size_of}
 use Rattle.gr_world.specs.Worlds.{World, world_of}
 use Rattle.gr_world.proofs.world.World.close.Goals as goal
 

@@ -1,4 +1,4 @@
-use Rattle.std.proofs.Common.{rules, option_map}
+use Rattle.gr_model.proofs.Common.{rules, option_map}
 use Rattle.gr_shadow.specs.Clashes.{clocked}
 use Rattle.gr_sequencer.specs.Answers.{IsStep as IsSequencerStep}
 use Rattle.gr_sequencer.specs.declared.handled.Handled.TheVariants.{One}

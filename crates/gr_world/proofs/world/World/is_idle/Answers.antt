@@ -1,5 +1,4 @@
-use Rattle.std.proofs.lemmas.Grind.{common_steps, elements}
-use Rattle.std.proofs.Common.{◌∙◌, ap, arith, get_or, length, refl, sym, rules, true≢false}
+use Rattle.gr_model.proofs.Common.{common_steps, elements, ◌∙◌, ap, arith, get_or, length, refl, sym, rules, true≢false}
 use Rattle.gr_world.specs.Queues.{Work}
 use Rattle.gr_world.specs.Worlds.{World}
 use Rattle.gr_world.proofs.world.World.is_idle.Goals as goal

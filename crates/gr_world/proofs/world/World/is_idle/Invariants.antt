@@ -1,4 +1,4 @@
-use Rattle.std.proofs.Common.{◌≡◌, ℕ, ◌<◌, [], slice_index_or}
+use Rattle.gr_model.proofs.Common.{◌≡◌, ℕ, ◌<◌, [], slice_index_or}
 use Rattle.gr_world.specs.Queues.{Work}
 use Rattle.gr_world.proofs.world.World.is_idle.Given as goal
 

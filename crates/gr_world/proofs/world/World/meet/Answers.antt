@@ -1,5 +1,4 @@
-use Rattle.std.proofs.Common.{ℕ, rules, subst}
-use Rattle.std.proofs.lemmas.Result.{err_from_is_err_and}
+use Rattle.gr_model.proofs.Common.{ℕ, rules, subst, err_from_is_err_and}
 use Rattle.gr_order.specs.Sequences.{MeetsInstance, Sequence}
 use Rattle.gr_sequencer.specs.Answers.{IsOfGroup, IsStep as IsSequencerStep}
 use Rattle.gr_sequencer.specs.declared.handled.Handled.{Handled}

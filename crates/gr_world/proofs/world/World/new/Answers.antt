@@ -1,5 +1,5 @@
-use Rattle.std.proofs.Common.{◌∙◌, None, ap, replicate, subst, sym}
-use Rattle.gr_model.specs.Streams.{ArePrefixes}
+use Rattle.gr_model.proofs.Common.{◌∙◌, None, ap, replicate, subst, sym}
+use Rattle.gr_model.specs.Prelude.{ArePrefixes}
 use Rattle.gr_lanes.specs.Takes.{nothing_taken}
 use Rattle.gr_world.specs.Queues.{empty_queue, no_work}
 use Rattle.gr_world.specs.Worlds.{IsWorld}

@@ -1,4 +1,4 @@
-use Rattle.std.proofs.Common.{◌∙◌, ap, rules, sym, option_map}
+use Rattle.gr_model.proofs.Common.{◌∙◌, ap, rules, sym, option_map}
 use Rattle.gr_shadow.specs.Clashes.{clocked}
 use Rattle.gr_world.proofs.InFlightLemmas.{passed_is_step, passed_is_world}
 use Rattle.gr_world.proofs.world.World.pass.Goals as goal

@@ -1,5 +1,4 @@
-use Rattle.std.proofs.Common.{◌∙◌, ap, rules, subst, sym, true≢false}
-use Rattle.std.proofs.lemmas.Result.{err_from_is_err_and}
+use Rattle.gr_model.proofs.Common.{◌∙◌, ap, rules, subst, sym, true≢false, err_from_is_err_and}
 use Rattle.gr_model.specs.declared.event.Sent.{Sent}
 use Rattle.gr_lanes.specs.Remembered.{Remembered}
 use Rattle.gr_world.specs.Queues.{HasRoom}

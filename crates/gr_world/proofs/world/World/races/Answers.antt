@@ -1,5 +1,4 @@
-use Rattle.std.proofs.Common.{◌∙◌, ap, sym, take, take_all}
-use Rattle.std.proofs.lemmas.List.{take_more}
+use Rattle.gr_model.proofs.Common.{◌∙◌, ap, sym, take, take_all, take_more}
 use Rattle.gr_world.specs.Worlds.{World}
 use Rattle.gr_world.proofs.RestLemmas.{one_more_at_work}
 use Rattle.gr_world.proofs.world.World.races.Goals as goal

@@ -1,5 +1,5 @@
-use Rattle.std.proofs.Common.{take}
-use Rattle.gr_model.specs.Reports.{Lists, WordBelow}
+use Rattle.gr_model.proofs.Common.{take}
+use Rattle.gr_model.specs.Prelude.{Lists, WordBelow}
 use Rattle.gr_world.specs.Worlds.{IsHitAtWork}
 use Rattle.gr_world.proofs.world.World.races.Given as goal
 

@@ -1,5 +1,5 @@
-use Rattle.std.proofs.Common.{◌≡◌, ◌∙◌, ap, length, subst, sum, sym}
-use Rattle.gr_model.specs.Streams.{Streams}
+use Rattle.gr_model.proofs.Common.{◌≡◌, ◌∙◌, ap, length, subst, sum, sym}
+use Rattle.gr_model.specs.Prelude.{Streams}
 use Rattle.gr_steps.proofs.Resting.{rest_grounded}
 use Rattle.gr_world.specs.Worlds.{IsWorldAtRest, World, world_of}
 use Rattle.gr_world.proofs.RestLemmas.{drained_is_sent, races_are_told}

@@ -1,5 +1,4 @@
-use Rattle.std.proofs.Common.{◌≡◌, ◌+◌, ◌<◌, ◌∷◌, [], ◌++◌, ℕ, slice_index_or, suc, List, length, subst, sym, take, arith}
-use Rattle.std.proofs.lemmas.List.{take_more}
+use Rattle.gr_model.proofs.Common.{◌≡◌, ◌+◌, ◌<◌, ◌∷◌, [], ◌++◌, ℕ, slice_index_or, suc, List, length, subst, sym, take, arith, take_more}
 use Rattle.gr_world.specs.declared.step.Step.{Step}
 use Rattle.gr_world.specs.Steps.{Runs, made, nothing_tried, refused_once}
 use Rattle.gr_world.specs.Worlds.{World}

@@ -1,4 +1,4 @@
-use Rattle.std.proofs.Common.{◌≤◌, take}
+use Rattle.gr_model.proofs.Common.{◌≤◌, take}
 use Rattle.gr_world.specs.Steps.{Runs}
 use Rattle.gr_world.proofs.world.World.run.Given as goal
 

@@ -1,5 +1,4 @@
-use Rattle.std.proofs.Common.{◌<◌, ◌≤◌, ℕ, rules, ◌⊎◌, inl, inr, ap, arith, length, subst, sym, true≢false, ⊎_elim}
-use Rattle.std.proofs.lemmas.Result.{IfErr-weaker, on_ok_weaker}
+use Rattle.gr_model.proofs.Common.{◌<◌, ◌≤◌, ℕ, rules, ◌⊎◌, inl, inr, ap, arith, length, subst, sym, true≢false, ⊎_elim, IfErr-weaker, on_ok_weaker}
 use Rattle.gr_model.specs.declared.event.Event.{Event}
 use Rattle.gr_world.specs.declared.step.Step.TheVariants.{Send}
 use Rattle.gr_world.specs.declared.step.StepError.{StepError}

@@ -1,4 +1,4 @@
-use Rattle.std.proofs.Common.{rules}
+use Rattle.gr_model.proofs.Common.{rules}
 use Rattle.gr_world.proofs.TakeLemmas.{event_good, may_take, room_there, take_allowed, taken_is_step, taken_is_world}
 use Rattle.gr_world.proofs.world.World.take.Goals as goal
 

@@ -1,5 +1,4 @@
-use Rattle.std.proofs.Common.{◌∙◌, rules, subst, sym}
-use Rattle.std.proofs.lemmas.Result.{err_from_is_err_and}
+use Rattle.gr_model.proofs.Common.{◌∙◌, rules, subst, sym, err_from_is_err_and}
 use Rattle.gr_world.specs.Worlds.{IsWorld}
 use Rattle.gr_world.proofs.InFlightLemmas.{receive_allowed, received_is_step, received_is_world, unreceived, worker_back}
 use Rattle.gr_world.proofs.world.World.work_take.Goals as goal
