@@ -1,7 +1,9 @@
 -- Each race of a launch has a kind, and it is said whether there is one.
-use Rattle.gr_model.proofs.Common.{suc, inl, inr, ◌≡◌, ◌↔◌, ⊎_elim, subst, cond, ℕ, Bool, true, false, List, [], ◌∷◌, ◌++◌, Option, Some, Contains, IsTrue, All, None, option_and_then, ap, arith, length, map, refl, sym, ◌∙◌, true≢false, AllPairs, if◌then◌else◌, filter, nat_lt, not, option_map, list_any, nat_tests, and_parts, cond_both, false_from_ne_true, lt-ltb, ltb-true, All-cons, All-contains, All-contains_itself, All-filter, All-nil, Contains-append_cases, Contains-append_left, Contains-append_right, Contains-push, list_any-append, list_any_at}
+use Rattle.gr_model.proofs.Common.{suc, ◌≡◌, ◌↔◌, ℕ, true, false, List, [], ◌∷◌, ◌++◌, Option, Some, Contains, IsTrue, All, option_and_then, ap, arith, length, map, refl, sym, ◌∙◌, true≢false, AllPairs, if◌then◌else◌, filter_map, nat_lt, slice_get, ◌+◌, not, option_map, list_any, nat_tests, and_parts, false_from_ne_true, lt-ltb, ltb-true, All-cons, All-nil, Contains-permutation, IsPermutation-sym, list_any-append, list_any_at}
 use Rattle.std.proofs.Math.Bool.{beq}
 use Rattle.std.proofs.lemmas.List.Quantifiers.{all_pairs_push}
+use Rattle.std.proofs.lemmas.List.Sorted.{IsPermutation-filter_both}
+use Rattle.std.specs.List.{enumerate_from}
 use Rattle.gr_races.specs.declared.cause.Cause.{Cause}
 use Rattle.gr_model.specs.Prelude.{event_word, word_if_access, word_in, IsRacy, AreRaces, Streams, event_at, word_at, IsGrounded}
 use Rattle.gr_model.specs.declared.event.Event.{Event}
@@ -11,6 +13,8 @@ use Rattle.gr_model.specs.declared.event.Kind.TheVariants as kinds
 use Rattle.gr_model.specs.declared.event.Word.{Word}
 use Rattle.gr_model.specs.contracts.event.SpacePartialEq.TheImpl as spaces
 use Rattle.gr_model.specs.declared.race.Race.{Race}
+use Rattle.gr_places.specs.PlaceIndexes.{Indexed, Indexes, number_at}
+use Rattle.gr_places.specs.SideLines.{PlaceSaid, place_number}
 use Rattle.gr_places.specs.declared.places.Placed.{Placed}
 use Rattle.gr_places.specs.declared.places.Placed.TheVariants as of_places
 use Rattle.gr_races.specs.declared.kinds.KindedRace.{KindedRace}
@@ -19,10 +23,13 @@ use Rattle.gr_races.specs.declared.kinds.PlacedOperation.{PlacedOperation}
 use Rattle.gr_races.specs.declared.kinds.RaceKind.{RaceKind}
 use Rattle.gr_races.specs.contracts.kinds.PlacedOperationPartialEq.TheImpl as placed
 use Rattle.gr_races.specs.contracts.kinds.RaceKindEq.TheImpl.Laws as equal
-use Rattle.gr_explain.proofs.Lists.{first_or_rest}
 use Rattle.gr_races.specs.Causes.{IsPairOf}
-use Rattle.gr_races.specs.Kinds.{all_kinded, by_tags, is_alike, operation_of, placed_at, same_kind, tag_at, with_causes}
+use Rattle.gr_races.specs.Kinds.{all_kinded, by_tags, is_alike, kinded, operation_of, placed_at, same_kind, tag_at}
 use Rattle.gr_races.specs.Listing.{in_order, kinds_after, kinds_of, with_kind}
+
+-- the numbers that an index has are those that lines say
+pub numbers_said : (i : Indexed) (lines : List PlaceSaid) → Indexes i lines → number_at i ≡ place_number lines
+numbers_said i lines is = λ j p. is.numbers p j
 
 -- ---- a launch has a racy word exactly if it has a race
 
@@ -33,13 +40,9 @@ race_said s (w ∷ racy) n are same = (λ _. (w, (are.exact w).0 (0, omega arith
 -- ---- each race has a kind
 
 some_operation : (k : Kind) (v w : Word) → word_if_access k v ≡ Some w → (a : Operation) × (operation_of k ≡ Some a)
-some_operation kinds.Read v w is = (_, refl)
-some_operation kinds.Write v w is = (_, refl)
-some_operation (kinds.Load scope order) v w is = (_, refl)
-some_operation (kinds.Store scope order) v w is = (_, refl)
-some_operation (kinds.Rmw scope order) v w is = (_, refl)
 some_operation (kinds.Barrier global local) v w is = cc
 some_operation (kinds.End cut) v w is = cc
+some_operation k v w is = (_, refl)
 
 module _ (s : Streams) (numbers : Placed → Option ℕ) where
   placed_there : (e : EventId) (x : Event) (w : Word) → event_at s e ≡ Some x → word_at s e ≡ Some w → (p : PlacedOperation) × (placed_at s numbers e ≡ Some p)
@@ -47,36 +50,29 @@ module _ (s : Streams) (numbers : Placed → Option ℕ) where
       let is = some_operation x.kind (word_in x.space e.at.group x.word) w (sym (ap (option_and_then (event_word e.at.group)) at) ∙ word) in
       (record { operation = is.0; place = numbers (of_places.Event e) }, ap (option_map (λ (o : Operation). record { operation = o; place = numbers (of_places.Event e) })) (ap (option_and_then (λ (x : Event). operation_of x.kind)) at ∙ is.1))
 
-  one_more : (r : Race) (cause : Option Cause) (rest : List (Race × Option Cause)) (races : List Race) → IsPairOf s r → map (λ (row : KindedRace). row.race) (all_kinded s numbers rest) ≡ races → map (λ (row : KindedRace). row.race) (all_kinded s numbers ((r, cause) ∷ rest)) ≡ by_tags (tag_at s numbers) r ∷ races
-  one_more r cause rest races pair more =
+  abbrev races_of : List Cause → List (ℕ × Race) → List Race
+  races_of told races = map (λ (row : KindedRace). row.race) (filter_map (λ x. kinded s numbers (x.1, slice_get told x.0)) races)
+
+  one_more : (told : List Cause) (n : ℕ) (r : Race) (rest : List (ℕ × Race)) (races : List Race) → IsPairOf s r → races_of told rest ≡ races → races_of told ((n, r) ∷ rest) ≡ by_tags (tag_at s numbers) r ∷ races
+  one_more told n r rest races pair more =
       let may_race = pair.race.may_race in
       let a = placed_there r.first may_race.first r.word may_race.at_first may_race.word_first in
       let b = placed_there r.second may_race.second r.word may_race.at_second may_race.word_second in
       rw a.1 (rw b.1 (grind (arith, more)))
 
-  pub every_race_has_a_kind : (races : List Race) (told : List Cause) → All (IsPairOf s) races → map (λ (row : KindedRace). row.race) (all_kinded s numbers (with_causes races told)) ≡ map (by_tags (tag_at s numbers)) races
-  every_race_has_a_kind [] told pairs = refl
-  every_race_has_a_kind (r ∷ races) [] pairs = one_more r None (with_causes races []) _ (pairs 0 r (omega arith)) (every_race_has_a_kind races [] (λ k d lt. pairs (suc k) d (omega (arith, lt))))
-  every_race_has_a_kind (r ∷ races) (cause ∷ told) pairs = one_more r (Some cause) (with_causes races told) _ (pairs 0 r (omega arith)) (every_race_has_a_kind races told (λ k d lt. pairs (suc k) d (omega (arith, lt))))
+  kinds_from : (told : List Cause) (n : ℕ) (races : List Race) → All (IsPairOf s) races → races_of told (enumerate_from n races) ≡ map (by_tags (tag_at s numbers)) races
+  kinds_from told n [] pairs = refl
+  kinds_from told n (r ∷ races) pairs = one_more told n r (enumerate_from (n + 1) races) _ (pairs 0 r (omega arith)) (kinds_from told (n + 1) races (λ k d lt. pairs (suc k) d (omega (arith, lt))))
+
+  pub every_race_has_a_kind : (races : List Race) (told : List Cause) → All (IsPairOf s) races → map (λ (row : KindedRace). row.race) (all_kinded s numbers races told) ≡ map (by_tags (tag_at s numbers)) races
+  every_race_has_a_kind races told pairs = kinds_from told 0 races pairs
 
 -- ---- races in order
 
-filtered_from : {X : Type 0} (keep : X → Bool) (xs : List X) (x : X) → Contains (filter keep xs) x → Contains xs x
-filtered_from keep xs x there = All-contains (Contains xs) (filter keep xs) x (All-filter keep (Contains xs) xs (All-contains_itself xs)) there
-
-filtered_there : {X : Type 0} (keep : X → Bool) (xs : List X) (x : X) → keep x ≡ true → Contains xs x → Contains (filter keep xs) x
-filtered_there keep [] x kept there = there
-filtered_there keep (z ∷ xs) x kept there = elim (first_or_rest z xs x there) [
-  | inl is ↦ subst (Contains (cond (keep z) (z ∷ filter keep xs) (filter keep xs))) is (rw (ap keep is ∙ kept) (Contains-append_left (z ∷ []) (filter keep xs) z (Contains-push [] z)))
-  | inr rest ↦ cond_both (keep z) (z ∷ filter keep xs) (filter keep xs) (λ l. Contains l x) (λ _. Contains-append_right (z ∷ []) (filter keep xs) x (filtered_there keep xs x kept rest)) (λ _. filtered_there keep xs x kept rest)
-]
-
 pub each_race_is_in_order : (rows : List KindedRace) (row : KindedRace) → Contains (in_order rows) row ↔ Contains rows row
-each_race_is_in_order rows row = (λ there. ⊎_elim (filtered_from _ rows row) (filtered_from _ rows row) (Contains-append_cases _ _ row there), by (is_alike row.kind) refl)
-  where
-    by : (b : Bool) → is_alike row.kind ≡ b → Contains rows row → Contains (in_order rows) row
-    by true is there = Contains-append_right _ _ row (filtered_there (λ (q : KindedRace). is_alike q.kind) rows row is there)
-    by false is there = Contains-append_left _ _ row (filtered_there (λ (q : KindedRace). not (is_alike q.kind)) rows row (ap not is) there)
+each_race_is_in_order rows row =
+    let same = IsPermutation-filter_both (λ q. not (is_alike q.kind)) (λ q. is_alike q.kind) (λ q. grind arith) rows in
+    (Contains-permutation (in_order rows) rows row (IsPermutation-sym rows (in_order rows) same), Contains-permutation rows (in_order rows) row same)
 
 -- ---- each kind is listed once
 

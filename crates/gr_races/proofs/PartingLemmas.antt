@@ -1,9 +1,9 @@
 -- Where an event comes after its item's barrier of an instance.
-use Rattle.gr_model.proofs.Common.{inl, inr, ◌≡◌, ℕ, zero, suc, ◌+◌, ◌<◌, ◌≤◌, Bool, get_or, List, [], ◌∷◌, Some, slice_get, arith, subst, ⊎_elim, ◌↔◌, cases_lt, slice_get-get_or, slice_get_within}
+use Rattle.gr_model.proofs.Common.{inl, inr, ◌≡◌, ◌⊎◌, ℕ, zero, suc, ◌+◌, ◌<◌, ◌≤◌, Bool, get_or, List, [], ◌∷◌, Some, slice_get, arith, subst, ⊎_elim, ◌↔◌, cases_lt, slice_get-get_or, slice_get_within}
 use Rattle.gr_model.specs.declared.event.EventId.{EventId}
 use Rattle.gr_model.specs.Prelude.{is_barrier, Streams, places_from, trace_of}
 use Rattle.gr_steps.proofs.BarrierPlaces.{places_from-ordered}
-use Rattle.gr_races.specs.Parting.{HasDivergent, IsBehind, IsParting}
+use Rattle.gr_races.specs.Parting.{AreParted, HasDivergent, IsBehind, IsParting}
 
 -- the k-th place of a list is not below k
 place_at_least : {X : Type 0} (test : X → Bool) (i : ℕ) (xs : List X) (k p : ℕ) → slice_get (places_from test i xs) k ≡ Some p → i + k ≤ p
@@ -26,10 +26,20 @@ behind_before s e k m le behind = elim (cases_lt k m) [
   | inr ge ↦ let same : m ≡ k = omega (arith, ge, le) in subst (IsBehind s e) same behind
 ]
 
--- a divergent instance between two events is one between the counts of the barriers before them
-module _ (s : Streams) (e f : EventId) (m n : ℕ) (of_e : (k : ℕ) → k < m ↔ IsBehind s e k) (of_f : (k : ℕ) → k < n ↔ IsBehind s f k) where
-  pub is_parting : HasDivergent s e.at.group n m → (k : ℕ) × IsParting s k e f
+-- an event comes after so many of its item's barriers
+abbrev pub CountsBehind : Streams → EventId → ℕ → Type 0
+CountsBehind s e m = (k : ℕ) → k < m ↔ IsBehind s e k
+
+module _ (s : Streams) (e f : EventId) (m n : ℕ) (of_e : CountsBehind s e m) (of_f : CountsBehind s f n) where
+  is_parting : HasDivergent s e.at.group n m → (k : ℕ) × IsParting s k e f
   is_parting h = (h.0, record { behind = (of_e h.0).0 h.2; not_behind = λ is. let below = (of_f h.0).1 is in omega (arith, below, h.1); divergent = h.3 })
 
-  pub parting_is : (k : ℕ) → IsParting s k e f → HasDivergent s e.at.group n m
+  parting_is : (k : ℕ) → IsParting s k e f → HasDivergent s e.at.group n m
   parting_is k is = (k, ⊎_elim (λ (lt : k < n). absurd (is.not_behind ((of_f k).0 lt))) (λ (ge : n ≤ k). ge) (cases_lt k n), (of_e k).1 is.behind, is.divergent)
+
+-- a divergent instance lies between two events if it does between the counts of the barriers before them
+pub parted : (s : Streams) (e f : EventId) (m n : ℕ) → CountsBehind s e m → CountsBehind s f n → AreParted s e f ↔ (HasDivergent s e.at.group n m ⊎ HasDivergent s f.at.group m n)
+parted s e f m n of_e of_f = (
+  λ h. ⊎_elim (λ p. inl (parting_is s e f m n of_e of_f h.0 p)) (λ p. inr (parting_is s f e n m of_f of_e h.0 p)) h.1,
+  ⊎_elim (λ h. let p = is_parting s e f m n of_e of_f h in (p.0, inl p.1)) (λ h. let p = is_parting s f e n m of_f of_e h in (p.0, inr p.1)),
+)

@@ -1,10 +1,9 @@
 -- If a rule is relaxed, lists that are accepted still are.
-use Rattle.gr_model.proofs.Common.{◌≡◌, ℕ, ◌<◌, ◌≤◌, ◌==◌, ◌&&◌, Bool, true, List, [], ◌∷◌, All, filter, length, map, Option, Some, None, option_and_then, option_map, slice_get, suc, refl, sym, ap, ◌∙◌, subst, arith, not, list_all, and_parts, slice_get-map, ext_get_or, length-map}
+use Rattle.gr_model.proofs.Common.{◌≡◌, ℕ, ◌<◌, ◌≤◌, ◌==◌, ◌&&◌, Bool, true, List, [], ◌∷◌, All, filter, length, map, Option, Some, None, option_and_then, option_map, slice_get, suc, refl, sym, ap, ◌∙◌, subst, arith, not, list_all, nat_tests, and_parts, slice_get-map, ext_get_or, length-map}
 use Rattle.std.proofs.Math.ListN.{get_or-map}
 use Rattle.gr_model.specs.declared.event.Event.{Event}
 use Rattle.gr_model.specs.declared.event.EventId.{EventId}
 use Rattle.gr_model.specs.declared.event.Kind.{Kind}
-use Rattle.gr_model.specs.declared.event.Kind.TheVariants.{Read}
 use Rattle.gr_model.specs.declared.event.Name.{Name}
 use Rattle.gr_model.specs.declared.event.Space.{Space}
 use Rattle.gr_model.specs.declared.event.Word.{Word}
@@ -12,7 +11,6 @@ use Rattle.gr_model.specs.declared.race.Race.{Race}
 use Rattle.gr_model.specs.declared.limits.TheConstants.{MOST_RECORDS}
 use Rattle.gr_model.specs.Prelude.{event_word, is_acquire_kind, word_if_access, word_in, IsKindOk, IsNamingOk, is_end_kind, AreAccepted, AreGood, IsAccepted, IsGoodAt, Streams, event_at, is_complete, is_of, list_of, size_of, word_at}
 use Rattle.gr_races.specs.declared.relaxing.Relaxation.{Relaxation}
-use Rattle.gr_races.specs.declared.relaxing.Relaxation.TheVariants.{BothFlags}
 use Rattle.gr_explain.specs.declared.judging.Judgement.TheVariants.{Race as AsRace}
 use Rattle.gr_explain.specs.Judged.{AreAccesses, AreJudgements}
 use Rattle.gr_races.specs.Causes.{IsPairOf}
@@ -21,16 +19,13 @@ use Rattle.gr_races.specs.Relaxing.{is_relaxed, relaxed, relaxed_event, relaxed_
 -- ---- one record
 
 same_kind : (r : Relaxation) (k : Kind) → (is_end_kind (relaxed_kind r k) ≡ is_end_kind k) × (is_acquire_kind (relaxed_kind r k) ≡ is_acquire_kind k) × ((w : Word) → word_if_access (relaxed_kind r k) w ≡ word_if_access k w) × (is_relaxed r k ≡ true → relaxed_kind r k ≡ k)
-same_kind r k = (grind arith, grind arith, λ w. grind arith, λ is. grind arith)
+same_kind r k = (grind arith, grind arith, λ w. grind arith, λ is. grind (arith, nat_tests))
 
 still_kind : (r : Relaxation) (k : Kind) (item : ℕ) (space : Space) (word : ℕ) → IsKindOk k item space word → IsKindOk (relaxed_kind r k) item space word
-still_kind BothFlags Read item space word ok = ok
-still_kind r Read item space word ok = ok
-still_kind r k item space word ok = ok
+still_kind r k item space word ok = grind arith
 
 still_naming : (r : Relaxation) (k : Kind) (names : List Name) → IsNamingOk k names → IsNamingOk (relaxed_kind r k) names
-still_naming r k [] ok = ok
-still_naming r k (n ∷ names) ok = ((same_kind r k).1 ∙ ok.0, ok.1)
+still_naming r k names ok = grind (arith, same_kind r k)
 
 -- ---- one list
 

@@ -9,7 +9,7 @@ use Rattle.gr_explain.specs.LeastRaces.{IsLeastRace}
 use Rattle.gr_explain.specs.TagRaces.{AreTagRaces}
 use Rattle.gr_places.specs.declared.places.Placed.{Placed}
 use Rattle.gr_races.specs.declared.kinds.KindedRace.{KindedRace}
-use Rattle.gr_races.specs.Kinds.{all_kinded, is_of_tags, tag_at, with_causes}
+use Rattle.gr_races.specs.Kinds.{all_kinded, is_of_tags, tag_at}
 use Rattle.gr_races.specs.Listing.{in_order}
 use Rattle.gr_races.specs.declared.cause.Cause.{Cause}
 use Rattle.gr_races.specs.Causes.{IsCause}
@@ -27,7 +27,7 @@ others_of rows a b one_group = filter (λ row. not (is_of_tags row.kind a b) || 
 pub record AreOthers (s : Streams) (numbers : Placed → Option ℕ) (w : Word) (first second : EventId) (others : List KindedRace) : Type 0 where
   pub races : List Race
   pub exact : AreTagRaces s (tag_at s numbers) (w ∷ []) races
-  pub listed : others ≡ others_of (in_order (all_kinded s numbers (with_causes races []))) (tag_at s numbers first) (tag_at s numbers second) (first.at.group == second.at.group)
+  pub listed : others ≡ others_of (in_order (all_kinded s numbers races [])) (tag_at s numbers first) (tag_at s numbers second) (first.at.group == second.at.group)
 
 -- what is said of a racing pair
 pub record AccountSaid : Type 0 where

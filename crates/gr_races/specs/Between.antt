@@ -1,11 +1,12 @@
 -- What lies between the two accesses of a racing pair.
 -- Source: docs/OUTPUT.md, "explain --long".
-use Rattle.std.specs.Prelude.{ℕ, Bool, List, [], Option, None, drop, filter, filter_map, find, if◌then◌else◌, nat_lt, option_and_then, option_map, take, ◌==◌}
-use Rattle.std.specs.List.{enumerate_from, last_or}
+use Rattle.std.specs.Prelude.{ℕ, Bool, false, List, [], Option, None, drop, filter, filter_map, find, if◌then◌else◌, nat_lt, option_and_then, option_map, take, ◌==◌}
+use Rattle.std.specs.List.{enumerate_from, last_or, range_with_len}
+use Rattle.std.specs.Option.{option_map_or}
 use Rattle.gr_model.specs.declared.event.Event.{Event}
 use Rattle.gr_model.specs.declared.event.EventId.{EventId}
 use Rattle.gr_model.specs.declared.event.ItemId.{ItemId}
-use Rattle.gr_model.specs.Prelude.{is_acquire_kind, is_release, is_barrier, mark_of, Mark, Streams, places_from, trace_of}
+use Rattle.gr_model.specs.Prelude.{is_acquire_kind, is_release, is_barrier, mark_of, Mark, Streams, event_at, places_from, trace_of}
 use Rattle.gr_races.specs.declared.between.Between.{Between}
 use Rattle.gr_races.specs.declared.between.Crossing.{Crossing}
 use Rattle.gr_races.specs.declared.between.DetailedEvent.{DetailedEvent}
@@ -34,8 +35,9 @@ crossings s e f =
 
 -- ---- halves of hand-overs
 
-abbrev pub is_acquire : Event → Bool
-is_acquire e = is_acquire_kind e.kind
+-- whether an item's event of this index is an acquire
+abbrev pub is_acquire_at : Streams → ItemId → ℕ → Bool
+is_acquire_at s i k = let e : EventId = record { at = i; index = k } in option_map_or (λ x. is_acquire_kind x.kind) (event_at s e) false
 
 abbrev pub with_details : EventId → Details → DetailedEvent
 with_details e d = record { event = e; details = d }
@@ -50,7 +52,7 @@ release_behind s e = option_and_then (detailed_at s e.at) (find (nat_lt e.index)
 
 -- the last acquire of its item's trace before an event
 abbrev pub acquire_before : Streams → EventId → Option DetailedEvent
-acquire_before s e = option_and_then (detailed_at s e.at) (last_or None (filter (λ k. nat_lt k e.index) (places_from is_acquire 0 (trace_of s e.at))))
+acquire_before s e = option_and_then (detailed_at s e.at) (last_or None (filter (is_acquire_at s e.at) (range_with_len 0 e.index)))
 
 -- ---- both
 

@@ -1,7 +1,7 @@
 -- Kinds of races.
 -- Source: docs/OUTPUT.md, "races". They are this project's own.
-use Rattle.std.specs.Prelude.{ℕ, ◌+◌, ◌*◌, Bool, ◌==◌, ◌&&◌, ◌||◌, is_some, nat_lt, if◌then◌else◌, Option, None, Some, option_and_then, option_map, List, [], ◌∷◌}
-use Rattle.std.specs.List.{filter_map}
+use Rattle.std.specs.Prelude.{ℕ, ◌+◌, ◌*◌, Bool, ◌==◌, ◌&&◌, ◌||◌, is_some, nat_lt, if◌then◌else◌, Option, None, Some, option_and_then, option_map, List, slice_get}
+use Rattle.std.specs.List.{enumerate_from, filter_map}
 use Rattle.std.specs.Option.{option_map_or}
 use Rattle.gr_races.specs.declared.cause.Cause.{Cause}
 use Rattle.gr_model.specs.Prelude.{memory_of, Streams, event_at}
@@ -90,15 +90,9 @@ kinded s numbers (r, cause) = option_and_then (λ a. option_map (λ b. with_oper
 abbrev pub by_tags : (EventId → ℕ) → Race → Race
 by_tags tag r = if nat_lt (tag r.second) (tag r.first) then turned r else r
 
--- races, each with its cause, if causes were found
-abbrev pub with_causes : List Race → List Cause → List (Race × Option Cause)
-with_causes [] causes = []
-with_causes (r ∷ races) [] = (r, None) ∷ with_causes races []
-with_causes (r ∷ races) (c ∷ causes) = (r, Some c) ∷ with_causes races causes
-
--- races with their kinds, each with its cause if that was found
-abbrev pub all_kinded : Streams → (Placed → Option ℕ) → List (Race × Option Cause) → List KindedRace
-all_kinded s numbers races = filter_map (kinded s numbers) races
+-- races with their kinds, each with its cause, the first of the first race, if that was found
+abbrev pub all_kinded : Streams → (Placed → Option ℕ) → List Race → List Cause → List KindedRace
+all_kinded s numbers races causes = filter_map (λ x. kinded s numbers (x.1, slice_get causes x.0)) (enumerate_from 0 races)
 
 abbrev pub same_kind : RaceKind → RaceKind → Bool
 same_kind k l = (equality.eq-value).it k l

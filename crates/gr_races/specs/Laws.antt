@@ -13,13 +13,13 @@ use Rattle.gr_races.specs.declared.kinds.PlacedOperation.{PlacedOperation}
 use Rattle.gr_races.specs.declared.kinds.RaceKind.{RaceKind}
 use Rattle.gr_races.specs.declared.relaxing.Relaxation.{Relaxation}
 use Rattle.gr_races.specs.Causes.{IsCause, IsPairOf}
-use Rattle.gr_races.specs.Kinds.{all_kinded, by_tags, same_kind, tag_at, tag_of, with_causes}
+use Rattle.gr_races.specs.Kinds.{all_kinded, by_tags, same_kind, tag_at, tag_of}
 use Rattle.gr_races.specs.Listing.{in_order, kinds_of}
 use Rattle.gr_races.specs.Relaxing.{relaxed}
 
 -- no race is without a kind, and that of each has the event with the lesser tag first
 abbrev pub EveryRaceHasAKind : Type 0
-EveryRaceHasAKind = (s : Streams) (numbers : Placed → Option ℕ) (races : List Race) (told : List Cause) → All (IsPairOf s) races → map (λ row. row.race) (all_kinded s numbers (with_causes races told)) ≡ map (by_tags (tag_at s numbers)) races
+EveryRaceHasAKind = (s : Streams) (numbers : Placed → Option ℕ) (races : List Race) (told : List Cause) → All (IsPairOf s) races → map (λ row. row.race) (all_kinded s numbers races told) ≡ map (by_tags (tag_at s numbers)) races
 
 -- no race is lost or added if they are put in order
 abbrev pub EachRaceIsInOrder : Type 0

@@ -1,6 +1,6 @@
 -- Races kind by kind.
 -- Source: docs/OUTPUT.md, "races".
-use Rattle.std.specs.Prelude.{if◌then◌else◌, List, [], ◌∷◌, ◌++◌, Option, None, Some, filter, map, not}
+use Rattle.std.specs.Prelude.{if◌then◌else◌, List, [], ◌∷◌, ◌++◌, filter, map, not}
 use Rattle.std.specs.List.{list_any}
 use Rattle.gr_model.specs.declared.race.Race.{Race}
 use Rattle.gr_races.specs.declared.kinds.KindedRace.{KindedRace}
@@ -9,11 +9,6 @@ use Rattle.gr_races.specs.declared.listing.KindEntry.{KindEntry}
 use Rattle.gr_races.specs.declared.runs.Run.{Run}
 use Rattle.gr_races.specs.Kinds.{is_alike, same_kind}
 use Rattle.gr_races.specs.Runs.{runs_of}
-
--- rows, and one after them if there is one
-abbrev pub with_row : List KindedRace → Option KindedRace → List KindedRace
-with_row rows None = rows
-with_row rows (Some row) = rows ++ row ∷ []
 
 -- races of two tags before those of one
 abbrev pub in_order : List KindedRace → List KindedRace

@@ -1,19 +1,15 @@
 -- A launch with one of its rules relaxed: the same records, but for the flags of its barriers or the scopes of its atomics.
 -- Source: docs/OUTPUT.md, "explain --long". What is relaxed is this project's own.
-use Rattle.std.specs.Prelude.{Bool, true, false, ◌&&◌}
+use Rattle.std.specs.Prelude.{Bool, true}
 use Rattle.gr_model.specs.declared.event.Event.{Event}
 use Rattle.gr_model.specs.declared.event.Kind.{Kind}
 use Rattle.gr_model.specs.declared.event.Kind.TheVariants.{Load, Store, Rmw, Barrier}
-use Rattle.gr_model.specs.declared.event.Scope.{Scope}
-use Rattle.gr_model.specs.declared.event.Scope.TheVariants.{Device, Group}
+use Rattle.gr_model.specs.declared.event.Scope.TheVariants.{Device}
 use Rattle.gr_model.specs.Prelude.{Streams}
+use Rattle.gr_model.specs.contracts.event.KindPartialEq.TheImpl as equality
 use Rattle.gr_taking.specs.Taken.{read_by}
 use Rattle.gr_races.specs.declared.relaxing.Relaxation.{Relaxation}
 use Rattle.gr_races.specs.declared.relaxing.Relaxation.TheVariants.{BothFlags, DeviceScope}
-
-abbrev pub is_device : Scope → Bool
-is_device Group = false
-is_device Device = true
 
 -- what a record says if a rule is relaxed: the flags of a barrier name both memories, or an atomic access has device scope
 abbrev pub relaxed_kind : Relaxation → Kind → Kind
@@ -25,11 +21,7 @@ relaxed_kind r kind = kind
 
 -- relaxing the rule leaves what a record says
 abbrev pub is_relaxed : Relaxation → Kind → Bool
-is_relaxed BothFlags (Barrier global local) = global && local
-is_relaxed DeviceScope (Load scope order) = is_device scope
-is_relaxed DeviceScope (Store scope order) = is_device scope
-is_relaxed DeviceScope (Rmw scope order) = is_device scope
-is_relaxed r kind = true
+is_relaxed r kind = (equality.eq-value).it (relaxed_kind r kind) kind
 
 -- the same record but for its kind
 abbrev pub relaxed_event : Relaxation → Event → Event

@@ -11,8 +11,7 @@ pub use Rattle.gr_places.specs.Naming.{number_of}
 abbrev pub comes_next : Word → ℕ → Word → Bool
 comes_next (Global m) last (Global n) = last + 1 == n
 comes_next (Local g m) last (Local h n) = (g == h) && (last + 1 == n)
-comes_next (Global m) last (Local h n) = false
-comes_next (Local g m) last (Global n) = false
+comes_next first last w = false
 
 abbrev pub run_of : Word → Run
 run_of w = record { first = w; last = number_of w }

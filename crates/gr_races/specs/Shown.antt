@@ -8,7 +8,7 @@ use Rattle.gr_explain.specs.TagRaces.{AreTagRaces}
 use Rattle.gr_races.specs.declared.cause.Cause.{Cause}
 use Rattle.gr_races.specs.Causes.{AreTold}
 use Rattle.gr_places.specs.declared.places.Placed.{Placed}
-use Rattle.gr_races.specs.Kinds.{all_kinded, tag_at, with_causes}
+use Rattle.gr_races.specs.Kinds.{all_kinded, tag_at}
 use Rattle.gr_races.specs.Listing.{Entry, entries, in_order}
 
 -- the races of a launch if places have these numbers, one for each racy word and each two tags that race on it, kind by kind, with
@@ -20,7 +20,7 @@ pub record AreListedRaces (s : Streams) (numbers : Placed → Option ℕ) (cause
   pub exact : AreTagRaces s (tag_at s numbers) racy races
   pub told : List Cause
   pub causes_told : AreTold s causes races told
-  pub listed : by_kind ≡ entries (in_order (all_kinded s numbers (with_causes races told)))
+  pub listed : by_kind ≡ entries (in_order (all_kinded s numbers races told))
   pub counted : count ≡ length racy
 
 -- a word is racy

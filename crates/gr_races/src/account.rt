@@ -136,7 +136,7 @@ fn account_by<A: Allocator + Copy>(
 ///
 /// # Errors
 /// `Memory`: out of memory.
-#[tactic(auto, using(crate::proofs::ListingLemmas::numbers_said))]
+#[tactic(auto, using(crate::proofs::KindLemmas::numbers_said))]
 pub fn account_of<A: Allocator + Copy>(
     alloc: A,
     traces: &Traces<A>,

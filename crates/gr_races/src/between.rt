@@ -2,7 +2,7 @@
 //! first and an acquire before the second.
 
 ghost use Rattle.std.specs.Prelude.{◌≡◌, ◌≤◌, ◌<◌, ◌&&◌, IfOk, None, Some, drop, filter, filter_map, find, if◌then◌else◌, length, nat_lt, option_and_then, take};
-ghost use Rattle.std.specs.List.{enumerate_from, last_or};
+ghost use Rattle.std.specs.List.{enumerate_from, last_or, range_with_len};
 ghost use Rattle.gr_model.specs.Prelude.{is_release, is_barrier};
 ghost use Rattle.gr_model.specs.Streams as model;
 ghost use Rattle.gr_races.specs.Between as spec;
@@ -125,29 +125,22 @@ fn release_above(list: &[Event], item: u16, index: u32) -> Option<u32>
     None
 }
 
-/// This index of a record, if it is an acquire below an index; else what was found before.
-fn nearest(found: Option<u32>, at: u32, index: u32, event: &Event) -> Option<u32>
-    ensures { result ≡ if (nat_lt at index && spec.is_acquire event.now) then Some at else found }
+/// Whether an item's event of this index is an acquire.
+fn is_acquire_at<A: Allocator>(records: &Records<'_, A>, at: ItemId, index: u32) -> bool
+    ensures { result ≡ spec.is_acquire_at records.now at index }
 {
-    (at < index && event.kind.is_acquire())
-        .then_some(at)
-        .or(found)
+    records
+        .event_at(EventId { at, index })
+        .is_some_and(|event| event.kind.is_acquire())
 }
 
-/// The greatest index below this one of an acquire of an item in a list.
-fn acquire_below(list: &[Event], item: u16, index: u32) -> Option<u32>
-    requires { length list.now ≤ MOST_RECORDS }
-    ensures { result ≡ last_or None (filter (λ k. nat_lt k index) (model.places_from spec.is_acquire 0 (filter (model.is_of item) list.now))) }
+/// The greatest index below this one of an acquire of an item.
+fn acquire_below<A: Allocator>(records: &Records<'_, A>, at: ItemId, index: u32) -> Option<u32>
+    ensures { result ≡ last_or None (filter (spec.is_acquire_at records.now at) (range_with_len 0 index)) }
 {
-    let mut at = 0;
-    let mut found = None;
-    for event in list {
-        if is_of(event, item) {
-            found = nearest(found, at, index, event);
-            at += 1;
-        }
-    }
-    found
+    (0..index)
+        .filter(|index| is_acquire_at(records, at, *index))
+        .last()
 }
 
 /// An item's event of this index with its details, if there is one.
@@ -186,7 +179,7 @@ pub fn between_of<A: Allocator>(
     let within = first.at.group < groups && second.at.group < groups;
     prove!(within);
     let release = release_above(traces.list(first.at.group), first.at.item, first.index);
-    let acquire = acquire_below(traces.list(second.at.group), second.at.item, second.index);
+    let acquire = acquire_below(records, second.at, second.index);
     Ok(Between {
         crossings: crossings(alloc, traces, first, second)?,
         release: detailed_at(traces, records, first.at, release),

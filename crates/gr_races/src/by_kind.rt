@@ -92,7 +92,7 @@ fn list_races<A: Allocator + Copy>(
 ///
 /// # Errors
 /// `Memory`: out of memory.
-#[tactic(auto, using(crate::proofs::ListingLemmas::numbers_said))]
+#[tactic(auto, using(crate::proofs::KindLemmas::numbers_said))]
 pub fn races_by_kind<A: Allocator + Copy>(
     alloc: A,
     traces: &Traces<A>,

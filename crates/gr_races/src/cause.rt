@@ -7,9 +7,9 @@ ghost use Rattle.gr_model.specs.Prelude.{IsRacePair, ArePrefixes, Streams};
 ghost use Rattle.gr_explain.specs.declared.judging.Judgement.TheVariants.{Race as AsRace};
 ghost use Rattle.gr_explain.specs.Judgements.{IsJudgement};
 ghost use Rattle.gr_explain.specs.Judged.{AreJudgements};
-ghost use Rattle.gr_lanes.specs.Remembered.{IsAllRemembered};
 ghost use Rattle.gr_races.specs.declared.relaxing.Relaxation.{Relaxation as AnyRelaxation};
 ghost use Rattle.gr_races.specs.declared.relaxing.Relaxation.TheVariants as relaxations;
+ghost use Rattle.gr_lanes.specs.Remembered.{IsWhole};
 ghost use Rattle.gr_races.specs.Causes.{AreCauses, IsCause, IsCauseOf, IsMended, IsPairOf};
 ghost use Rattle.gr_races.specs.Relaxing as spec;
 
@@ -74,7 +74,7 @@ fn is_mended(judgement: Judgement) -> bool
 fn cause_from<A: Allocator>(lanes: &Lanes<A>, race: &Race, by_flags: bool, by_scope: bool) -> Cause
     requires pair { IsPairOf lanes.now.streams race.now }
     requires prefixes { ArePrefixes lanes.now.streams }
-    requires whole { IsAllRemembered lanes.now }
+    requires whole { IsWhole lanes.now }
     requires flags { IsTrue by_flags ↔ IsMended lanes.now.streams relaxations.BothFlags race.now.word race.now.first race.now.second }
     requires scope { IsTrue by_scope ↔ IsMended lanes.now.streams relaxations.DeviceScope race.now.word race.now.first race.now.second }
     ensures { IsCauseOf lanes.now.streams race.now result }
@@ -105,7 +105,7 @@ fn causes_from<A: Allocator + Copy>(
 ) -> Result<Vec<Cause, A>, Memory>
     requires pairs { All (IsPairOf lanes.now.streams) races.now }
     requires prefixes { ArePrefixes lanes.now.streams }
-    requires whole { IsAllRemembered lanes.now }
+    requires whole { IsWhole lanes.now }
     requires flags { AreJudgements (spec.relaxed relaxations.BothFlags lanes.now.streams) races.now with_flags.now }
     requires scope { AreJudgements (spec.relaxed relaxations.DeviceScope lanes.now.streams) races.now with_scope.now }
     ensures { IfOk result (λ causes. AreCauses lanes.now.streams races.now causes.items) }

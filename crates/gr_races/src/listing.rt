@@ -3,7 +3,7 @@
 ghost use Rattle.std.specs.Prelude.{◌≡◌, IfOk, OnOk, map, slice_get};
 ghost use Rattle.std.specs.List.{list_any};
 ghost use Rattle.gr_places.specs.PlaceIndexes.{number_at};
-ghost use Rattle.gr_races.specs.Kinds.{all_kinded, same_kind, with_causes};
+ghost use Rattle.gr_races.specs.Kinds.{all_kinded, same_kind};
 ghost use Rattle.gr_races.specs.Listing as spec;
 
 use crate::cause::Cause;
@@ -42,14 +42,13 @@ fn all_kinded<A: Allocator + Copy>(
     races: &[Race],
     causes: &[Cause],
 ) -> Result<Vec<KindedRace, A>, Memory>
-    ensures { IfOk result (λ rows. rows.items ≡ all_kinded records.now (number_at index.now) (with_causes races.now causes.now)) }
+    ensures { IfOk result (λ rows. rows.items ≡ all_kinded records.now (number_at index.now) races.now causes.now) }
 {
-    let mut rows = Vec::new(alloc);
-    for (place, race) in races.iter().enumerate() {
-        if let Some(row) = kinded(records, index, race, cause_at(causes, place)) {
-            rows.push(row)?;
-        }
-    }
+    let rows = races
+        .iter()
+        .enumerate()
+        .filter_map(|(place, race)| kinded(records, index, race, cause_at(causes, place)))
+        .collect(alloc)?;
     Ok(rows)
 }
 
@@ -133,7 +132,7 @@ pub(crate) fn ordered_rows<A: Allocator + Copy>(
     races: &[Race],
     causes: &[Cause],
 ) -> Result<Vec<KindedRace, A>, Memory>
-    ensures { IfOk result (λ rows. rows.items ≡ spec.in_order (all_kinded records.now (number_at index.now) (with_causes races.now causes.now))) }
+    ensures { IfOk result (λ rows. rows.items ≡ spec.in_order (all_kinded records.now (number_at index.now) races.now causes.now)) }
 {
     let rows = all_kinded(alloc, records, index, races, causes)?;
     let mut ordered: Vec<KindedRace, A> = rows
@@ -158,7 +157,7 @@ pub(crate) fn entries_of<A: Allocator + Copy>(
     races: &[Race],
     causes: &[Cause],
 ) -> Result<Vec<KindEntry<A>, A>, Memory>
-    ensures { IfOk result (λ entries. map spec.entry_of entries.items ≡ spec.entries (spec.in_order (all_kinded records.now (number_at index.now) (with_causes races.now causes.now)))) }
+    ensures { IfOk result (λ entries. map spec.entry_of entries.items ≡ spec.entries (spec.in_order (all_kinded records.now (number_at index.now) races.now causes.now))) }
 {
     let rows = ordered_rows(alloc, records, index, races, causes)?;
     list_kinds(alloc, &rows)

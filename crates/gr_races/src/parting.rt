@@ -1,8 +1,8 @@
 //! Divergent instances of barriers that lie between two events of one work-group.
 
-ghost use Rattle.std.specs.Prelude.{◌≡◌, ◌↔◌, ◌<◌, ◌≤◌, ℕ, IsTrue, length};
+ghost use Rattle.std.specs.Prelude.{◌↔◌, ◌<◌, ℕ, IsTrue, length};
 ghost use Rattle.gr_model.specs.Prelude.{HasItem};
-ghost use Rattle.gr_lanes.specs.Remembered.{IsAllRemembered, IsRemembered, forgotten_of};
+ghost use Rattle.gr_lanes.specs.Remembered.{IsRemembered, IsWhole};
 ghost use Rattle.gr_races.specs.Parting.{AreParted, HasDivergent, IsBehind};
 
 use gr_lanes::instance::is_divergent;
@@ -23,7 +23,7 @@ fn is_behind<A: Allocator>(lanes: &Lanes<A>, event: EventId, number: u32) -> boo
 /// How many of its item's barriers come before an event.
 fn barriers_above<A: Allocator>(lanes: &Lanes<A>, event: EventId) -> u32
     requires item { HasItem lanes.now.streams.sizes event.at }
-    requires whole { IsAllRemembered lanes.now }
+    requires whole { IsWhole lanes.now }
     ensures { (k : ℕ) → k < result ↔ IsBehind lanes.now.streams event k }
 {
     let (mut least, mut most) = (0, event.index);
@@ -39,10 +39,10 @@ fn barriers_above<A: Allocator>(lanes: &Lanes<A>, event: EventId) -> u32
 }
 
 /// Whether an instance of a group's barriers, from one number to below another, is divergent.
-/// Requires: none of them is forgotten.
+/// Requires: none is forgotten.
 fn has_divergent<A: Allocator>(lanes: &Lanes<A>, group: u16, from: u32, to: u32) -> bool
     requires group { group < length lanes.now.streams.sizes }
-    requires remembered { (k : ℕ) → k < to → forgotten_of lanes.now group ≤ k }
+    requires whole { IsWhole lanes.now }
     ensures { IsTrue result ↔ HasDivergent lanes.now.streams group from to }
 {
     for number in from..to {
@@ -57,7 +57,7 @@ fn has_divergent<A: Allocator>(lanes: &Lanes<A>, group: u16, from: u32, to: u32)
 pub(crate) fn are_parted<A: Allocator>(lanes: &Lanes<A>, first: EventId, second: EventId) -> bool
     requires first { HasItem lanes.now.streams.sizes first.at }
     requires second { HasItem lanes.now.streams.sizes second.at }
-    requires whole { IsAllRemembered lanes.now }
+    requires whole { IsWhole lanes.now }
     ensures { IsTrue result ↔ AreParted lanes.now.streams first second }
 {
     let above_first = barriers_above(lanes, first);

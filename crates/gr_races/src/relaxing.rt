@@ -51,25 +51,12 @@ impl Reading for Relaxation {
     }
 }
 
-/// Whether relaxing a rule leaves a record as it is.
-fn is_relaxed(relaxation: Relaxation, event: &Event) -> bool
-    ensures { result ≡ spec.is_relaxed relaxation event.now.kind }
-{
-    match (relaxation, event.kind) {
-        (Relaxation::BothFlags, Kind::Barrier { global, local }) => global && local,
-        (
-            Relaxation::DeviceScope,
-            Kind::Load(scope, _) | Kind::Store(scope, _) | Kind::Rmw(scope, _),
-        ) => scope == Scope::Device,
-        _ => true,
-    }
-}
-
 /// Whether relaxing a rule leaves all records of a list as they are.
 fn are_relaxed(relaxation: Relaxation, list: &[Event]) -> bool
     ensures { result ≡ list_all (λ x. spec.is_relaxed relaxation x.kind) list.now }
 {
-    list.iter().all(|event| is_relaxed(relaxation, event))
+    list.iter()
+        .all(|event| relaxation.relaxed_kind(event.kind) == event.kind)
 }
 
 /// Whether relaxing a rule leaves a launch as it is.

@@ -2,7 +2,7 @@
 
 ghost use Rattle.std.specs.Prelude.{◌≡◌, ◌<◌, [], IfOk, OnOk, length};
 ghost use Rattle.gr_model.specs.Prelude.{ArePrefixes, IsAccepted, list_of, size_of};
-ghost use Rattle.gr_lanes.specs.Remembered.{IsAllRemembered, remembering};
+ghost use Rattle.gr_lanes.specs.Remembered.{IsWhole, remembering};
 ghost use Rattle.gr_taking.specs.Taken.{with_list};
 
 use gr_lanes::lanes::Lanes;
@@ -38,7 +38,7 @@ pub(crate) fn take_all<A: Allocator + Copy>(
 ) -> Result<Lanes<A>, Memory>
     ensures streams { IfOk result (λ lanes. lanes.streams ≡ traces.now) }
     ensures prefixes { IfOk result (λ lanes. ArePrefixes lanes.streams) }
-    ensures whole { IfOk result (λ lanes. IsAllRemembered lanes) }
+    ensures whole { IfOk result (λ lanes. IsWhole lanes) }
 {
     let mut lanes = Lanes::new(alloc, traces.shape().copy()?)?;
     for group in 0..traces.shape().groups() {

@@ -1,14 +1,11 @@
-use Rattle.gr_model.proofs.Common.{◌≡◌, ◌∙◌, true, arith, common_steps}
-use Rattle.gr_model.specs.Prelude.{is_of}
-use Rattle.gr_races.proofs.BetweenLemmas.{record_seen}
+use Rattle.gr_model.proofs.Common.{◌∙◌, None, ap, arith, last_or, map-id, rules, sym, tests}
+use Rattle.std.proofs.lemmas.Iterator.{YieldsList-from_range, items_from_drains}
+use Rattle.std.proofs.lemmas.Iterator.Consumers.{YieldsList-from_filter}
+use Rattle.gr_races.specs.Between.{is_acquire_at}
 use Rattle.gr_races.proofs.between.acquire_below.Goals as goal
-use Rattle.gr_races.proofs.between.acquire_below.Goals.{then-is_of, else-is_of}
 
-pub loop-event-preserved : goal.loop-event-preserved
-loop-event-preserved c =
-    elim c.if-is_of.branch [
-      | then-is_of w ↦
-          let mine : is_of c.args.item c.event-item.result ≡ true = cc in
-          record { few = omega arith; same = c.loop-event.invariant.same ∙ record_seen _ _ _ _ _ _ c.args.list.now c.loop-event.event-index c.event-item.result c.loop-event-test.true c.event-item.is mine w.at-is (w.found-is ∙ w.nearest-found.ensures) }
-      | else-is_of w ↦ record { few = omega arith; same = grind (arith, common_steps) }
-    ]
+pub returns : goal.returns
+returns g c =
+    let ran = c.last.ensures.ran in
+    ran.2 ∙ ap (last_or None) (sym (map-id ran.0) ∙ items_from_drains ran.0 (ran.1.1.0, ran.1.1.1, λ _. (ran.1.0, ran.1.1.2))
+    (YieldsList-from_filter _ (is_acquire_at c.args.records.now c.args.at) (YieldsList-from_range 0 c.args.index c.args.index (cc) (omega arith)) c.filter.ensures.closure (λ x r q k. search (rules, tests))))

@@ -1,4 +1,4 @@
-use Rattle.gr_model.proofs.Common.{inl, inr, ◌/◌, ◌+◌, ◌-◌, ◌∙◌, arith, sym, true≢false, cases_lt}
+use Rattle.gr_model.proofs.Common.{◌/◌, ◌+◌, ◌-◌, ◌∙◌, arith, sym, true≢false}
 use Rattle.gr_races.proofs.PartingLemmas.{behind_before, number_below}
 use Rattle.gr_races.proofs.parting.barriers_above.Goals as goal
 
@@ -8,6 +8,9 @@ loop-least-init g c = record {
   beyond = λ k from is. let below = number_below c.args.lanes.now.streams c.args.event k is in omega (arith, from, below);
   order = omega arith;
 }
+
+pub is_behind-requires : goal.is_behind-requires
+is_behind-requires g c p at = omega (arith, c.requires.whole.forgotten c.args.event.at.group)
 
 pub loop-least-preserved-then-is_behind : goal.loop-least-preserved-then-is_behind
 loop-least-preserved-then-is_behind g c =
@@ -26,10 +29,4 @@ loop-least-preserved g c =
     }
 
 pub returns : goal.returns
-returns g c = λ k. (
-  c.loop-least.invariant.behind k,
-  λ is. elim (cases_lt k c.loop-least.least) [
-    | inl lt ↦ lt
-    | inr ge ↦ absurd (c.loop-least.invariant.beyond k (omega (arith, ge, c.loop-least-test.false, c.loop-least.invariant.order)) is)
-  ],
-)
+returns g c k = grind (arith, c.loop-least.invariant.behind k, c.loop-least.invariant.beyond k)

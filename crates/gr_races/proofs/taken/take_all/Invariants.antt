@@ -1,7 +1,6 @@
-use Rattle.gr_model.proofs.Common.{◌≡◌, ℕ}
-use Rattle.gr_lanes.specs.Remembered.{forgotten_of}
+use Rattle.gr_lanes.specs.Remembered.{IsWhole}
 use Rattle.gr_races.proofs.TakenLists.{TakenBelow}
 use Rattle.gr_races.proofs.taken.take_all.Given as goal
 
 abbrev pub invariant-loop-group : goal.invariant-loop-group
-invariant-loop-group g l = record { taken : TakenBelow l.traces l.group l.lanes.streams; forgotten : (k : ℕ) → forgotten_of l.lanes k ≡ 0 }
+invariant-loop-group g l = record { taken : TakenBelow l.traces l.group l.lanes.streams; whole : IsWhole l.lanes }
