@@ -41,14 +41,6 @@ option_rule id = record (new_rule id) { long = Some id; value_names = 1 }
 abbrev pub command_with : Text → List Rule → Shape
 command_with name rules = (fold with_rule (new_app name) rules).top
 
--- the command that reports on streams: whether as JSON
-abbrev pub replaying : Shape
-replaying = command_with (codes "replay") (flag_rule (codes "json") ∷ [])
-
--- the command that writes streams as text: whether also what comes before a fault
-abbrev pub dumping : Shape
-dumping = command_with (codes "dump") (flag_rule (codes "partial") ∷ [])
-
 -- the files of places and of buffers
 abbrev pub side_rules : List Rule
 side_rules = option_rule (codes "places") ∷ option_rule (codes "buffers") ∷ []
@@ -61,39 +53,27 @@ word_rules = wanted (codes "SPACE") ∷ wanted (codes "WORD") ∷ wanted_files �
 abbrev pub explaining : Shape
 explaining = command_with (codes "explain") (flag_rule (codes "long") ∷ side_rules ++ flag_rule (codes "json") ∷ word_rules)
 
--- the command that shows all races: how many kinds at most, the side files, whether with causes and as JSON, and the files
-abbrev pub racing : Shape
-racing =
-    command_with (codes "races")
-    (option_rule (codes "most") ∷ side_rules ++ flag_rule (codes "causes") ∷ flag_rule (codes "json") ∷ wanted_files ∷ [])
-
--- the command that lists all accesses to one word: the side files, whether as JSON, the word, and the files
-abbrev pub recalling : Shape
-recalling = command_with (codes "history") (side_rules ++ flag_rule (codes "json") ∷ word_rules)
-
--- the command that judges a launch in threads: how many workers and queues, the room of a queue, whether as JSON, and the files
-abbrev pub running : Shape
-running =
-    command_with (codes "run")
-    (option_rule (codes "workers") ∷ option_rule (codes "queues") ∷ option_rule (codes "capacity")
-    ∷ flag_rule (codes "json") ∷ wanted_files ∷ [])
-
--- the command that checks files: whether as JSON, and the files
-abbrev pub checking : Shape
-checking = command_with (codes "check") (flag_rule (codes "json") ∷ wanted_files ∷ [])
-
--- the command that reports why an event is held: whether as JSON, the event, and the files
-abbrev pub inquiring : Shape
-inquiring =
-    command_with (codes "why-held")
-    (flag_rule (codes "json") ∷ wanted (codes "GROUP") ∷ wanted (codes "ITEM") ∷ wanted (codes "INDEX") ∷ wanted_files ∷ [])
-
 -- the program with its commands
 abbrev pub gpurace : App
 gpurace =
     fold with_subcommand (record { top = alone; subs = [] })
-    (replaying ∷ command_with (codes "pack") [] ∷ dumping ∷ command_with (codes "upgrade") []
-    ∷ explaining ∷ racing ∷ recalling ∷ running ∷ checking ∷ inquiring ∷ [])
+    -- reports on streams: whether as JSON
+    (command_with (codes "replay") (flag_rule (codes "json") ∷ [])
+    ∷ command_with (codes "pack") []
+    -- writes streams as text: whether also what comes before a fault
+    ∷ command_with (codes "dump") (flag_rule (codes "partial") ∷ [])
+    ∷ command_with (codes "upgrade") []
+    ∷ explaining
+    -- shows all races: how many kinds at most, the side files, whether with causes and as JSON, and the files
+    ∷ command_with (codes "races") (option_rule (codes "most") ∷ side_rules ++ flag_rule (codes "causes") ∷ flag_rule (codes "json") ∷ wanted_files ∷ [])
+    -- lists all accesses to one word: the side files, whether as JSON, the word, and the files
+    ∷ command_with (codes "history") (side_rules ++ flag_rule (codes "json") ∷ word_rules)
+    -- judges a launch in threads: how many workers and queues, the room of a queue, whether as JSON, and the files
+    ∷ command_with (codes "run") (option_rule (codes "workers") ∷ option_rule (codes "queues") ∷ option_rule (codes "capacity") ∷ flag_rule (codes "json") ∷ wanted_files ∷ [])
+    -- checks files: whether as JSON, and the files
+    ∷ command_with (codes "check") (flag_rule (codes "json") ∷ wanted_files ∷ [])
+    -- reports why an event is held: whether as JSON, the event, and the files
+    ∷ command_with (codes "why-held") (flag_rule (codes "json") ∷ wanted (codes "GROUP") ∷ wanted (codes "ITEM") ∷ wanted (codes "INDEX") ∷ wanted_files ∷ []) ∷ [])
 
 -- ---- the command that words name
 

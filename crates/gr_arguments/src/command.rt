@@ -65,87 +65,7 @@ const USAGE: &str = "\
 gpurace [--json] [FILE]...
        gpurace <COMMAND> ...";
 
-const AFTER_REPLAY: &str = "\
-Example:
-  gpurace replay group*.gpurace
-  gpurace 1
-  groups 1 items 2 records 3
-  race global 16
-  end races 1 diverge 0 unmatched 0 held 0";
-
-const AFTER_PACK: &str = "\
-Example, with a text of two work-items, of which item 0 writes word 16 of global memory and item 1 reads it:
-  gpurace pack < trace.txt > trace.gpurace
-  group 0 items 2 launch 7
-  0 w g 16
-  1 r g 16
-  end";
-
-const LONG_DUMP: &str = "\
-Writes the text of the trace in files, or on standard input, a line for each header and each record.
-
-If the trace is refused, nothing is written; with --partial the lines of all headers and records before the fault are written.
-Either way the status is that of the fault, and standard error says where and why.";
-
-const AFTER_DUMP: &str = "\
-Example:
-  gpurace dump --partial < trace.gpurace
-  group 0 items 2 launch 7
-  0 w g 16
-  gpurace: stream 0: truncated";
-
 const PARTIAL: &str = "If the trace is refused, writes what comes before the fault";
-
-const LONG_UPGRADE: &str = "\
-Writes the trace in files, or on standard input: each stream of version 1 as one of version 2, and all others as they are.
-
-In version 1 an acquire names one release at most, in version 2 up to four. The trace says the same as before, and its report is the
-same. If the trace is refused, nothing is written.";
-
-const AFTER_UPGRADE: &str = "\
-Example:
-  gpurace upgrade old.gpurace > new.gpurace
-  gpurace dump new.gpurace | head -n 1
-  group 0 items 2 launch 7 v2";
-
-const LONG_EXPLAIN: &str = "\
-Reports which two accesses race on one word, or that it has no race.
-
-An access is written as GROUP ITEM INDEX; the records of an item are counted from 0. Of all racing pairs the least is shown,
-by its first access and then by its second.
-
-With --long more lines follow the line of a race. They say what each of the two accesses is, with the number of its record in
-the stream of its group, from 0, and how many barriers of its item come before it. Then they say what is between the two, if
-anything is: each barrier of their group that comes before only one of them, a release after the first, and an acquire before
-the second. Then comes the cause of the race, and after it further races of the word. With --buffers there is also the buffer of
-the word, and with --places the place in the source of each of these records and barriers, if the files have it.
-
-A trace of a million records takes about a second. Accesses that an unmatched acquire holds back are not judged; replay and
-run report what is held, and everything else that is not a race.
-
-If a file of buffers is given, or a folder has one, a word may be given by its name in place of SPACE and WORD, as in
-`gpurace explain FOLDER 'partial[10]'`.";
-
-const AFTER_EXPLAIN: &str = "\
-Examples:
-  gpurace explain l0 4 group*.gpurace
-  race local 0 4: 0 0 0 with 0 1 0
-
-  gpurace explain --long g 16 group*.gpurace
-  race global 16: 0 0 0 with 0 1 1
-  first write record 0 phase 0
-  second read record 3 phase 1
-  barrier 0 site 1 l
-  cause flags: with CLK_LOCAL_MEM_FENCE | CLK_GLOBAL_MEM_FENCE at every barrier the two would be ordered
-
-With side files, whose lines say where records and barriers are in the source and which words are which buffer:
-  gpurace explain --long --places places --buffers buffers g 16 group*.gpurace
-  race global 16: 0 0 0 with 0 1 1
-  buffer words[16]
-  first write record 0 phase 0 at flag.cl:3:19
-  second read record 3 phase 1 at flag.cl:6:19
-  barrier 0 site 1 l at flag.cl:4:5
-  cause flags: with CLK_LOCAL_MEM_FENCE | CLK_GLOBAL_MEM_FENCE at every barrier the two would be ordered";
 
 const LONG: &str =
     "Also says what the two accesses are, what is between them, and the cause of their race";
@@ -166,58 +86,10 @@ const WORD: &str = "The number of the word, below 4294967296";
 const FILES: &str =
     "The streams of the launch: files with one or several, a folder of them, or - for standard input";
 
-const LONG_RACES: &str = "\
-Reports all words that have a race, kind by kind: which words they are, and two accesses that race on the first of them.
-
-A kind is the memory, what the two accesses do, whether they are of one work-group, where they are in the source if --places
-has both, and with --causes the cause of the race. An access is written as GROUP ITEM INDEX; the records of an item are counted
-from 0. The races are found by clocks, as replay finds them. Divergent barriers come first, because they may cause races; the
-last line counts them, unmatched acquires and what these hold back.";
-
-const AFTER_RACES: &str = "\
-Example:
-  gpurace races --most 1 group*.gpurace
-  kind global write read one group words 48
-  words global 896..943
-  race global 896: 0 3 12 with 0 7 14
-  end kinds 1 races 48 diverge 0 unmatched 0 held 0
-
-With side files, whose lines say where accesses are in the source and which words are which buffer:
-  gpurace races --places places --buffers buffers --most 1 group*.gpurace
-  kind global write read one group words 48
-  words global 896..943
-  race global 896: 0 3 12 with 0 7 14
-  buffer psc[448]
-  first scan.cl:4992:7
-  second scan.cl:5001:16
-  end kinds 1 races 48 diverge 0 unmatched 0 held 0
-
-With --causes the last line of a kind is the cause of all its races, as explain --long gives it:
-  gpurace races --causes --most 1 group*.gpurace
-  kind global write read one group words 48
-  words global 896..943
-  race global 896: 0 3 12 with 0 7 14
-  cause no-barrier: nothing orders the two; a barrier with CLK_GLOBAL_MEM_FENCE between them would
-  end kinds 1 races 48 diverge 0 unmatched 0 held 0";
-
 const PLACES: &str = "A file of lines GROUP ITEM INDEX TEXT: where in the source the access is";
 
 const BUFFERS: &str =
     "A file of lines g FIRST WORDS NAME or l GROUP FIRST WORDS NAME: which words are which buffer";
-
-const LONG_RUN: &str = "\
-Reports on the trace in files, by several threads: what is written and the status are those of replay on the same streams.
-
-Each file has a thread that reads it and sends its records on; one thread puts all records in order; workers look for races.
-So the files may be pipes that are still being written. If the whole trace is there already, replay takes less processor time.
-A file that cannot be opened is reported first, and then the faults of headers, in the order of the files.";
-
-const AFTER_RUN: &str = "\
-Example:
-  gpurace run --workers 4 group*.gpurace
-  gpurace 1
-  groups 4 items 1024 records 81920
-  end races 0 diverge 0 unmatched 0 held 0";
 
 const WORKERS: &str = "How many threads look for races, 1 to 8; 2 if not given";
 
@@ -225,55 +97,6 @@ const QUEUES: &str = "How many queues the records come through, 1 to 4; 1 if not
 
 const CAPACITY: &str =
     "For how many batches of records each queue has room, 1 to 65536; 1024 if not given";
-
-const LONG_CHECK: &str = "\
-Reports which record of which file is at fault, what is wrong with it and what would be right; or, if the trace is accepted, how
-many groups, items and records of each kind it has. It does not look for races.";
-
-const AFTER_CHECK: &str = "\
-Example:
-  gpurace check group*.gpurace
-  gpurace: stream 1: unknown item
-  file group1.gpurace
-  record 17 byte 352
-  wrong: the record's work-item is not below the header's number of work-items
-  right: bytes 4 and 5 are the work-item by its place in the group, from 0; often the global number was written in its place";
-
-const LONG_WHY_HELD: &str = "\
-Reports why an event is held, and so not judged: what it waits for, what that waits for, and so on, up to an acquire that names a
-release that is not there, or to events that wait for one another in a circle. An event is written as GROUP ITEM INDEX, as the report
-writes an unmatched acquire; the records of an item are counted from 0.
-
-The status is 1 if the event is held, and else 0.";
-
-const AFTER_WHY_HELD: &str = "\
-Example:
-  gpurace why-held 0 1 1 group*.gpurace
-  held 0 1 1 behind 0 1 0
-  held 0 1 0 release 0 0 1
-  held 0 0 1 behind 0 0 0
-  held 0 0 0 absent 0 3 0";
-
-const LONG_HISTORY: &str = "\
-Lists all accesses to one word, in an order in which they may have happened. Each line says after which of the accesses above it
-this access is ordered. Two accesses of different work-items race if neither is ordered after the other, unless both read or both
-are atomic with inclusive scope. Accesses that are held are left out.
-
-An access is written as GROUP ITEM INDEX; the records of an item are counted from 0. A word may be given by its name, as in explain.";
-
-const AFTER_HISTORY: &str = "\
-Examples:
-  gpurace history l0 4 group*.gpurace
-  access 0 0 0 write record 0 phase 0 behind none
-  access 0 1 1 read record 3 phase 1 behind all
-  end accesses 2 held 0 races no
-
-With side files, whose lines say where accesses are in the source and which words are which buffer:
-  gpurace history --places places --buffers buffers l0 4 group*.gpurace
-  buffer tile[4]
-  access 0 0 0 write record 0 phase 0 behind none at scan.cl:12:5
-  access 0 1 1 read record 3 phase 1 behind all at scan.cl:14:9
-  end accesses 2 held 0 races no";
 
 /// What a command takes.
 #[derive(Clone, Copy)]
@@ -306,7 +129,13 @@ const PAGES: [Page; 10] = [
         usage: "gpurace replay [OPTIONS] [FILE]...",
         about: "Reports on the trace in files, or on standard input; the default without a command",
         long_about: None,
-        example: AFTER_REPLAY,
+        example: "\
+Example:
+  gpurace replay group*.gpurace
+  gpurace 1
+  groups 1 items 2 records 3
+  race global 16
+  end races 1 diverge 0 unmatched 0 held 0",
         parameters: &[Parameter::Flag("json", JSON)],
     },
     Page {
@@ -314,31 +143,95 @@ const PAGES: [Page; 10] = [
         usage: "gpurace pack [FILE]...",
         about: "Writes the bytes of the trace whose text is in files, or on standard input, as in `pack TEXT > FILE`",
         long_about: None,
-        example: AFTER_PACK,
+        example: "\
+Example, with a text of two work-items, of which item 0 writes word 16 of global memory and item 1 reads it:
+  gpurace pack < trace.txt > trace.gpurace
+  group 0 items 2 launch 7
+  0 w g 16
+  1 r g 16
+  end",
         parameters: &[],
     },
     Page {
         name: "dump",
         usage: "gpurace dump [OPTIONS] [FILE]...",
         about: "Writes the text of the trace in files, or on standard input",
-        long_about: Some(LONG_DUMP),
-        example: AFTER_DUMP,
+        long_about: Some(
+            "\
+Writes the text of the trace in files, or on standard input, a line for each header and each record.
+
+If the trace is refused, nothing is written; with --partial the lines of all headers and records before the fault are written.
+Either way the status is that of the fault, and standard error says where and why.",
+        ),
+        example: "\
+Example:
+  gpurace dump --partial < trace.gpurace
+  group 0 items 2 launch 7
+  0 w g 16
+  gpurace: stream 0: truncated",
         parameters: &[Parameter::Flag("partial", PARTIAL)],
     },
     Page {
         name: "upgrade",
         usage: "gpurace upgrade [FILE]...",
         about: "Writes the trace in files, or on standard input, with version 2 in place of version 1, as in `upgrade OLD > NEW`",
-        long_about: Some(LONG_UPGRADE),
-        example: AFTER_UPGRADE,
+        long_about: Some(
+            "\
+Writes the trace in files, or on standard input: each stream of version 1 as one of version 2, and all others as they are.
+
+In version 1 an acquire names one release at most, in version 2 up to four. The trace says the same as before, and its report is the
+same. If the trace is refused, nothing is written.",
+        ),
+        example: "\
+Example:
+  gpurace upgrade old.gpurace > new.gpurace
+  gpurace dump new.gpurace | head -n 1
+  group 0 items 2 launch 7 v2",
         parameters: &[],
     },
     Page {
         name: "explain",
         usage: EXPLAIN_USAGE,
         about: "Reports which two accesses race on one word",
-        long_about: Some(LONG_EXPLAIN),
-        example: AFTER_EXPLAIN,
+        long_about: Some(
+            "\
+Reports which two accesses race on one word, or that it has no race.
+
+An access is written as GROUP ITEM INDEX; the records of an item are counted from 0. Of all racing pairs the least is shown,
+by its first access and then by its second.
+
+With --long more lines follow the line of a race. They say what each of the two accesses is, with the number of its record in
+the stream of its group, from 0, and how many barriers of its item come before it. Then they say what is between the two, if
+anything is: each barrier of their group that comes before only one of them, a release after the first, and an acquire before
+the second. Then comes the cause of the race, and after it further races of the word. With --buffers there is also the buffer of
+the word, and with --places the place in the source of each of these records and barriers, if the files have it.
+
+A trace of a million records takes about a second. Accesses that an unmatched acquire holds back are not judged; replay and
+run report what is held, and everything else that is not a race.
+
+If a file of buffers is given, or a folder has one, a word may be given by its name in place of SPACE and WORD, as in
+`gpurace explain FOLDER 'partial[10]'`.",
+        ),
+        example: "\
+Examples:
+  gpurace explain l0 4 group*.gpurace
+  race local 0 4: 0 0 0 with 0 1 0
+
+  gpurace explain --long g 16 group*.gpurace
+  race global 16: 0 0 0 with 0 1 1
+  first write record 0 phase 0
+  second read record 3 phase 1
+  barrier 0 site 1 l
+  cause flags: with CLK_LOCAL_MEM_FENCE | CLK_GLOBAL_MEM_FENCE at every barrier the two would be ordered
+
+With side files, whose lines say where records and barriers are in the source and which words are which buffer:
+  gpurace explain --long --places places --buffers buffers g 16 group*.gpurace
+  race global 16: 0 0 0 with 0 1 1
+  buffer words[16]
+  first write record 0 phase 0 at flag.cl:3:19
+  second read record 3 phase 1 at flag.cl:6:19
+  barrier 0 site 1 l at flag.cl:4:5
+  cause flags: with CLK_LOCAL_MEM_FENCE | CLK_GLOBAL_MEM_FENCE at every barrier the two would be ordered",
         parameters: &[
             Parameter::Flag("long", LONG),
             Parameter::Valued("places", "FILE", LONG_PLACES),
@@ -353,8 +246,40 @@ const PAGES: [Page; 10] = [
         name: "races",
         usage: RACES_USAGE,
         about: "Reports all races, kind by kind, with two accesses that race",
-        long_about: Some(LONG_RACES),
-        example: AFTER_RACES,
+        long_about: Some(
+            "\
+Reports all words that have a race, kind by kind: which words they are, and two accesses that race on the first of them.
+
+A kind is the memory, what the two accesses do, whether they are of one work-group, where they are in the source if --places
+has both, and with --causes the cause of the race. An access is written as GROUP ITEM INDEX; the records of an item are counted
+from 0. The races are found by clocks, as replay finds them. Divergent barriers come first, because they may cause races; the
+last line counts them, unmatched acquires and what these hold back.",
+        ),
+        example: "\
+Example:
+  gpurace races --most 1 group*.gpurace
+  kind global write read one group words 48
+  words global 896..943
+  race global 896: 0 3 12 with 0 7 14
+  end kinds 1 races 48 diverge 0 unmatched 0 held 0
+
+With side files, whose lines say where accesses are in the source and which words are which buffer:
+  gpurace races --places places --buffers buffers --most 1 group*.gpurace
+  kind global write read one group words 48
+  words global 896..943
+  race global 896: 0 3 12 with 0 7 14
+  buffer psc[448]
+  first scan.cl:4992:7
+  second scan.cl:5001:16
+  end kinds 1 races 48 diverge 0 unmatched 0 held 0
+
+With --causes the last line of a kind is the cause of all its races, as explain --long gives it:
+  gpurace races --causes --most 1 group*.gpurace
+  kind global write read one group words 48
+  words global 896..943
+  race global 896: 0 3 12 with 0 7 14
+  cause no-barrier: nothing orders the two; a barrier with CLK_GLOBAL_MEM_FENCE between them would
+  end kinds 1 races 48 diverge 0 unmatched 0 held 0",
         parameters: &[
             Parameter::Valued("most", "N", "How many kinds to report at most"),
             Parameter::Valued("places", "FILE", PLACES),
@@ -371,8 +296,27 @@ const PAGES: [Page; 10] = [
         name: "history",
         usage: HISTORY_USAGE,
         about: "Lists all accesses to one word, and which are ordered after which",
-        long_about: Some(LONG_HISTORY),
-        example: AFTER_HISTORY,
+        long_about: Some(
+            "\
+Lists all accesses to one word, in an order in which they may have happened. Each line says after which of the accesses above it
+this access is ordered. Two accesses of different work-items race if neither is ordered after the other, unless both read or both
+are atomic with inclusive scope. Accesses that are held are left out.
+
+An access is written as GROUP ITEM INDEX; the records of an item are counted from 0. A word may be given by its name, as in explain.",
+        ),
+        example: "\
+Examples:
+  gpurace history l0 4 group*.gpurace
+  access 0 0 0 write record 0 phase 0 behind none
+  access 0 1 1 read record 3 phase 1 behind all
+  end accesses 2 held 0 races no
+
+With side files, whose lines say where accesses are in the source and which words are which buffer:
+  gpurace history --places places --buffers buffers l0 4 group*.gpurace
+  buffer tile[4]
+  access 0 0 0 write record 0 phase 0 behind none at scan.cl:12:5
+  access 0 1 1 read record 3 phase 1 behind all at scan.cl:14:9
+  end accesses 2 held 0 races no",
         parameters: &[
             Parameter::Valued("places", "FILE", PLACES),
             Parameter::Valued("buffers", "FILE", BUFFERS),
@@ -386,8 +330,20 @@ const PAGES: [Page; 10] = [
         name: "run",
         usage: RUN_USAGE,
         about: "Reports on the trace in files, by several threads",
-        long_about: Some(LONG_RUN),
-        example: AFTER_RUN,
+        long_about: Some(
+            "\
+Reports on the trace in files, by several threads: what is written and the status are those of replay on the same streams.
+
+Each file has a thread that reads it and sends its records on; one thread puts all records in order; workers look for races.
+So the files may be pipes that are still being written. If the whole trace is there already, replay takes less processor time.
+A file that cannot be opened is reported first, and then the faults of headers, in the order of the files.",
+        ),
+        example: "\
+Example:
+  gpurace run --workers 4 group*.gpurace
+  gpurace 1
+  groups 4 items 1024 records 81920
+  end races 0 diverge 0 unmatched 0 held 0",
         parameters: &[
             Parameter::Valued("workers", "N", WORKERS),
             Parameter::Valued("queues", "N", QUEUES),
@@ -400,16 +356,40 @@ const PAGES: [Page; 10] = [
         name: "check",
         usage: "gpurace check [OPTIONS] <FILE>...",
         about: "Reports which record of a trace is at fault, and what would be right",
-        long_about: Some(LONG_CHECK),
-        example: AFTER_CHECK,
+        long_about: Some(
+            "\
+Reports which record of which file is at fault, what is wrong with it and what would be right; or, if the trace is accepted, how
+many groups, items and records of each kind it has. It does not look for races.",
+        ),
+        example: "\
+Example:
+  gpurace check group*.gpurace
+  gpurace: stream 1: unknown item
+  file group1.gpurace
+  record 17 byte 352
+  wrong: the record's work-item is not below the header's number of work-items
+  right: bytes 4 and 5 are the work-item by its place in the group, from 0; often the global number was written in its place",
         parameters: &[Parameter::Flag("json", JSON), Parameter::Files],
     },
     Page {
         name: "why-held",
         usage: WHY_HELD_USAGE,
         about: "Reports why an event is held",
-        long_about: Some(LONG_WHY_HELD),
-        example: AFTER_WHY_HELD,
+        long_about: Some(
+            "\
+Reports why an event is held, and so not judged: what it waits for, what that waits for, and so on, up to an acquire that names a
+release that is not there, or to events that wait for one another in a circle. An event is written as GROUP ITEM INDEX, as the report
+writes an unmatched acquire; the records of an item are counted from 0.
+
+The status is 1 if the event is held, and else 0.",
+        ),
+        example: "\
+Example:
+  gpurace why-held 0 1 1 group*.gpurace
+  held 0 1 1 behind 0 1 0
+  held 0 1 0 release 0 0 1
+  held 0 0 1 behind 0 0 0
+  held 0 0 0 absent 0 3 0",
         parameters: &[
             Parameter::Flag("json", JSON),
             Parameter::Wanted("GROUP", "The number of the event's work-group"),

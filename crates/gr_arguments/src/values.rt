@@ -159,15 +159,11 @@ pub(crate) fn ask<'a>(
         Ok(query) => query,
         Err(misuse) => return Ok(Request::Refuse(misuse)),
     };
-    let places = side_of(&query, "places", values);
-    let buffers = side_of(&query, "buffers", values);
-    let json = asks_for(values, "json");
-    let files = files_of(alloc, values)?;
     Ok(Request::Ask(Arguments {
+        places: side_of(&query, "places", values),
+        buffers: side_of(&query, "buffers", values),
+        json: asks_for(values, "json"),
+        files: files_of(alloc, values)?,
         query,
-        places,
-        buffers,
-        json,
-        files,
     }))
 }

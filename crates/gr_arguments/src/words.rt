@@ -22,12 +22,8 @@ pub fn number_of(text: &str) -> Option<u32>
 pub fn group_of(space: &str) -> Option<u16>
     ensures { MatchOption result ((g : ℕ) → ¬ IsGroupOf space.now g) (λ g. IsGroupOf space.now g) }
 {
-    let group = number_of(space.strip_prefix('l')?)?;
-    if (group as usize) < MOST_GROUPS {
-        Some(group as u16)
-    } else {
-        None
-    }
+    let group = short_of(space.strip_prefix('l')?)?;
+    (usize::from(group) < MOST_GROUPS).then_some(group)
 }
 
 /// The word that a space, `g` or `l` with a group from 0 to 65534 as in `l3`, and a number name.
