@@ -1,7 +1,7 @@
 -- What is known of the events of a group, with one record more, and of those of all groups below a bound.
-use Rattle.gr_model.proofs.Common.{◌≡◌, ℕ, suc, ◌+◌, ◌<◌, Bool, true, false, cond, List, [], ◌∷◌, ◌++◌, length, filter, slice_get, refl, ap, ◌∙◌, arith, append-nil, if◌then◌else◌, Some, option_map, sym, ◌≢◌, ◌≤◌, ◌==◌, not, length-append, Option, None, take, subst, inl, inr, ⊎_elim, eqb-true, true≢false, get_or, filter-append, common_steps, gets, slice_get_past, slice_get_read, length_push, take-append-le, length-take-le, take_more, take-append_seam, and_parts, cases_order, eq-eqb, false_from_ne_true}
+use Rattle.gr_model.proofs.Common.{◌≡◌, ℕ, suc, ◌+◌, ◌<◌, Bool, true, false, cond, List, [], ◌∷◌, ◌++◌, length, filter, slice_get, refl, ap, ◌∙◌, arith, append-nil, if◌then◌else◌, Some, option_map, sym, ◌≢◌, ◌≤◌, ◌==◌, not, length-append, Option, None, take, subst, inl, inr, ⊎_elim, eqb-true, true≢false, get_or, filter-append, common_steps, gets, is_some, slice_get-get_or, slice_get_past, slice_get_read, slice_get_within, length_push, take-append-le, length-take-le, take_more, take-append_seam, and_parts, cases_order, eq-eqb, false_from_ne_true}
 use Rattle.gr_model.specs.declared.event.Event.{Event}
-use Rattle.gr_model.specs.Prelude.{is_of, places_from, IsAccepted, Streams, is_barrier, event_word, word_if_access, is_end, is_end_kind}
+use Rattle.gr_model.specs.Prelude.{is_of, list_of, places_from, trace_of, IsAccepted, IsEvent, Streams, is_barrier, event_word, word_if_access, is_end, is_end_kind}
 use Rattle.gr_model.proofs.Places.{places_from-append}
 use Rattle.gr_model.proofs.ListsOfRecords.{length-filter_le}
 use Rattle.gr_model.specs.declared.limits.TheConstants.{MOST_RECORDS}
@@ -12,6 +12,7 @@ use Rattle.gr_model.specs.declared.event.Kind.{Kind}
 use Rattle.gr_model.specs.declared.event.Word.{Word}
 use Rattle.gr_timeline.specs.declared.details.Details.{Details}
 use Rattle.gr_timeline.specs.Accesses.{details_at, IsKnown}
+use Rattle.gr_timeline.specs.Details.{details_of}
 use Rattle.gr_explain.specs.Events.{same_event}
 use Rattle.gr_explain.proofs.Lists.{at_last}
 use Rattle.gr_explain.proofs.Sets.{event_from_equal, event_itself}
@@ -38,6 +39,13 @@ module _ (list : List Event) (x : Event) (i : ℕ) where
 pub length-places : {X : Type 0} (test : X → Bool) (n : ℕ) (xs : List X) → length (places_from test n xs) ≡ length (filter test xs)
 length-places test n [] = refl
 length-places test n (x ∷ xs) = grind (arith, length-places test (suc n) xs)
+
+-- each event has details
+pub event_is_told : (s : Streams) (e : EventId) → IsEvent s e → is_some (details_of s e) ≡ true
+event_is_told s e there =
+    let places = places_from (is_of e.at.item) 0 (list_of s e.at.group) in
+    let at = slice_get-get_or places e.index 0 (omega (arith, length-places (is_of e.at.item) 0 (list_of s e.at.group), slice_get_within (trace_of s e.at) e.index there.0 there.1)) in
+    rw (there.1, at) refl
 
 barriers_pushed : (trace : List Event) (x : Event) → length (filter is_barrier (trace ++ x ∷ [])) ≡ length (filter is_barrier trace) + (if is_barrier x then 1 else 0)
 barriers_pushed trace x = grind (arith, common_steps, filter-append)

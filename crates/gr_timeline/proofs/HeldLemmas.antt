@@ -17,7 +17,7 @@ use Rattle.gr_timeline.specs.Held.{AreHeld}
 use Rattle.gr_timeline.specs.declared.entry.Entry.{Entry}
 use Rattle.gr_model.proofs.Descent.{lawful_is_grounded}
 use Rattle.gr_timeline.specs.Histories.{IsHistory, Line, events_of, lines_of}
-use Rattle.gr_timeline.proofs.SelectionLemmas.{those_have, those_hold, those_once, those_within, length_below}
+use Rattle.gr_timeline.proofs.SelectionLemmas.{those_have, those_once, those_within, length_below}
 use Rattle.gr_model.specs.contracts.event.EventIdEq.TheImpl.Laws as equal
 
 decides : (d e : EventId) → Decides (same_event d e) (d ≡ e)
@@ -27,16 +27,8 @@ decides d e = (event_from_equal d e, λ same. subst (λ (x : EventId). same_even
 
 apart : (events : List EventId) → ((p q : ℕ) (e : EventId) → IsAt events p e → IsAt events q e → p ≡ q) → AllPairs (λ x y. x ≢ y) events
 apart events once i j d before there same =
-    let first : slice_get events i ≡ Some (get_or events i d) = slice_get-get_or events i d (omega (arith, before, there)) in
-    let second : slice_get events j ≡ Some (get_or events i d) = slice_get-get_or events j d there ∙ ap Some (sym same) in
-    absurd (omega (arith, before, once i j (get_or events i d) first second))
-
-not_before : (events : List EventId) → AllPairs (λ x y. x ≢ y) events → (p q : ℕ) (e : EventId) → IsAt events p e → IsAt events q e → ¬ (p < q)
-not_before events pairs p q e first second before =
-    pairs p q e before (slice_get_within events q e second) (get_or_from_slice_get events p e e first ∙ sym (get_or_from_slice_get events q e e second))
-
-each_once : (events : List EventId) → AllPairs (λ x y. x ≢ y) events → (p q : ℕ) (e : EventId) → IsAt events p e → IsAt events q e → p ≡ q
-each_once events pairs p q e first second = omega (arith, not_before events pairs p q e first second, not_before events pairs q p e second first)
+    let first = slice_get-get_or events i d (omega (arith, before, there)) in
+    absurd (omega (arith, before, once i j (get_or events i d) first (slice_get-get_or events j d there ∙ ap Some (sym same))))
 
 member_in : (events : List EventId) (e : EventId) → is_member same_event events e ≡ true → IsIn events e
 member_in events e is = let there = Contains-from_any event_from_equal e events is in (there.0, Contains-at events e there)
@@ -94,7 +86,7 @@ module _ (s : Streams) (w : Word) (known : List (EventId × Details)) (distinct 
     pub held_are_left : (held : List EventId) × AreHeld s w held × (length those + length held ≡ length known)
     held_are_left = (
       left,
-      record { each = λ e. (left_held e, held_left e); once = each_once left left_pairs },
+      record { each = λ e. (left_held e, held_left e); once = left_pairs },
       length-intersection_difference equal.laws-law keys those those left distinct (IsDistinct-from_AllPairs decides those (apart those once)) (IsDistinct-from_AllPairs decides left left_pairs) shared rest ∙ length-map known (λ x. x.0),
     )
 
@@ -106,10 +98,9 @@ module _ {Z : Type 0} (s : Streams) (w : Word) (entries : List (Entry Z)) (histo
 
   grounded_there : (e : EventId) → IsIn (events_of lines) e ↔ (IsOn s w e × IsGrounded s e)
   grounded_there e = (
-    λ there. (
-      those_hold (IsOn s w) history.order (events_of lines) there.0 e history.along.events there.1,
-      let ordered = those_within (IsOn s w) history.order (events_of lines) there.0 e history.along.events there.1 in lawful_is_grounded s history.order e history.whole.lawful ordered,
-    ),
+    λ there.
+        let ordered = those_within (IsOn s w) history.order (events_of lines) there.0 e history.along.events there.1 in
+        (ordered.2, lawful_is_grounded s history.order e history.whole.lawful (ordered.0, ordered.1)),
     λ is. let ordered = history.whole.whole e is.1 in those_have (IsOn s w) history.order (events_of lines) ordered.0 e history.along.events ordered.1 is.0,
   )
 

@@ -2,11 +2,13 @@
 use Rattle.gr_model.proofs.Common.{◌≡◌, ◌≢◌, ◌↔◌, ◌<◌, ℕ, zero, suc, Bool, true, false, cond, Contains, List, [], ◌∷◌, ◌++◌, Some, None, append-nil, append_assoc, filter, length, map, slice_get, take, refl, sym, ap, ◌∙◌, subst, inr, ⊎_elim, arith, true≢false, length-map, length-take-le, map-append, common_steps, get_or_from_slice_get, gets, slice_get_within, All-contains, All-contains_itself, All-filter, filter-append, filter_passes}
 use Rattle.gr_model.specs.declared.event.EventId.{EventId}
 use Rattle.gr_model.specs.declared.event.Word.{Word}
+use Rattle.std.proofs.lemmas.Simd.{map-map}
 use Rattle.gr_model.specs.contracts.event.WordEq.TheImpl.Laws as equal
 use Rattle.gr_model.specs.Prelude.{memory_of, HappensBefore, IsWholeOrder, Streams}
 use Rattle.gr_model.proofs.Cuts.{same_event}
 use Rattle.gr_model.proofs.WordLemmas.{same_from_equal}
 use Rattle.gr_clocks.specs.ClockedAccess.{ClockedAccess, bare}
+use Rattle.gr_clocks.specs.Counts.{Counts}
 use Rattle.gr_closure.specs.Accesses.{IsAccess}
 use Rattle.gr_closure.specs.AccessesAlong.{AreAccesses, of_none, of_access, of_other}
 use Rattle.gr_closure.proofs.Clashing.{whole_hits_are_races}
@@ -34,10 +36,6 @@ entry_added w accesses y old new x shadows shadowed pushed same on stands (are, 
     (rw (pushed, more, map-append, map-append, are, same), rw more stands)
 
 -- ---- lists of pairs
-
-firsts : {X Y Z : Type 0} (f : Y → X × Z) (ys : List Y) → map (λ p. p.0) (map f ys) ≡ map (λ y. (f y).0) ys
-firsts f [] = refl
-firsts f (y ∷ ys) = ap (λ l. (f y).0 ∷ l) (firsts f ys)
 
 -- what a mapped list has at a place is that of the element there
 mapped_at : {X Y : Type 0} (f : X → Y) (xs : List X) (p : ℕ) (y : Y) → slice_get (map f xs) p ≡ Some y → (x : X) × (slice_get xs p ≡ Some x) × (f x ≡ y)
@@ -93,7 +91,9 @@ module _ {Z : Type 0} (s : Streams) (w : Word) (entries : List (Entry Z)) (order
   events = map (λ x. x.event) entries
 
   events_are : AreThose (IsOn s w) order events
-  events_are = subst (AreThose (IsOn s w) order) (rw (← firsts access_pair (filter (is_on w) accesses), ← stands) (firsts entry_pair entries)) (events_on s w order accesses are)
+  events_are =
+      let event : EventId × Counts → EventId = λ p. p.0 in
+      subst (AreThose (IsOn s w) order) (rw (← map-map event access_pair (filter (is_on w) accesses), ← stands) (map-map event entry_pair entries)) (events_on s w order accesses are)
 
   -- the access of an entry
   record IsOfEntry (x : Entry Z) : Type 0 where

@@ -7,25 +7,18 @@ use Rattle.gr_timeline.specs.declared.entry.Entry.{Entry}
 use Rattle.gr_timeline.specs.Histories.{IsCounted, events_of, is_counted, lines_below}
 
 module _ {X : Type 0} (P : X → Type 0) where
-  -- each of those is an element of the list
-  pub those_within : (xs those : List X) (i : ℕ) (x : X) → AreThose P xs those → slice_get those i ≡ Some x → (p : ℕ) × (slice_get xs p ≡ Some x)
+  -- each of those is an element of the list, and it is so of it
+  pub those_within : (xs those : List X) (i : ℕ) (x : X) → AreThose P xs those → slice_get those i ≡ Some x → (p : ℕ) × (slice_get xs p ≡ Some x) × P x
   those_within _ _ i x of_none at = let no : None ≡ Some x = at in cc
-  those_within _ _ zero x (of_one is rest) at = (0, at)
-  those_within _ _ (suc i) x (of_one {xs = xs} {those = those} is rest) at = let deeper = those_within xs those i x rest at in (suc deeper.0, deeper.1)
-  those_within _ _ i x (of_other {xs = xs} {those = those} is_not rest) at = let deeper = those_within xs those i x rest at in (suc deeper.0, deeper.1)
+  those_within _ _ zero x (of_one {x = y} is rest) at = let h : Some y ≡ Some x = at in let same : y ≡ x = cc in (0, at, subst P same is)
+  those_within _ _ (suc i) x (of_one {xs = xs} {those = those} is rest) at = let deeper = those_within xs those i x rest at in (suc deeper.0, deeper.1, deeper.2)
+  those_within _ _ i x (of_other {xs = xs} {those = those} is_not rest) at = let deeper = those_within xs those i x rest at in (suc deeper.0, deeper.1, deeper.2)
 
   -- they are the same if the same is so of the list's elements
   pub those_where : (Q : X → Type 0) (xs those : List X) → ((i : ℕ) (x : X) → slice_get xs i ≡ Some x → P x ↔ Q x) → AreThose P xs those → AreThose Q xs those
   those_where Q _ _ same of_none = of_none
   those_where Q _ _ same (of_one {x = x} {xs = xs} {those = those} is rest) = of_one ((same 0 x refl).0 is) (those_where Q xs those (λ i y at. same (suc i) y at) rest)
   those_where Q _ _ same (of_other {x = x} {xs = xs} {those = those} is_not rest) = of_other (λ is. is_not ((same 0 x refl).1 is)) (those_where Q xs those (λ i y at. same (suc i) y at) rest)
-
-  -- it is so of each of those
-  pub those_hold : (xs those : List X) (i : ℕ) (x : X) → AreThose P xs those → slice_get those i ≡ Some x → P x
-  those_hold _ _ i x of_none at = let no : None ≡ Some x = at in cc
-  those_hold _ _ zero x (of_one {x = y} is rest) at = let h : Some y ≡ Some x = at in let same : y ≡ x = cc in subst P same is
-  those_hold _ _ (suc i) x (of_one {xs = xs} {those = those} is rest) at = those_hold xs those i x rest at
-  those_hold _ _ i x (of_other {xs = xs} {those = those} is_not rest) at = those_hold xs those i x rest at
 
   -- each element for which it holds is one of those
   pub those_have : (xs those : List X) (i : ℕ) (x : X) → AreThose P xs those → slice_get xs i ≡ Some x → P x → (p : ℕ) × (slice_get those p ≡ Some x)

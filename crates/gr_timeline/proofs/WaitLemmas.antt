@@ -18,31 +18,23 @@ use Rattle.gr_timeline.specs.Waiting.{HasGroundedRelease, HaveArrived, IsArrival
 
 -- with an event, the earlier ones of its item are there
 pub earlier_there : (s : Streams) (d e : EventId) → IsEvent s e → d.at ≡ e.at → d.index < e.index → IsEvent s d
-earlier_there s d e there at lt =
-    rw at (there_is (trace_of s e.at) d.index (omega (arith, lt, slice_get_within (trace_of s e.at) e.index there.0 there.1)))
+earlier_there s d e there at lt = grind (arith, there_is (trace_of s e.at) d.index, slice_get_within (trace_of s e.at) e.index there.0 there.1)
 
 -- a release that has a name is there
 pub release_there : (s : Streams) (n : Name) (k : ℕ) → release_place s n ≡ Some k → IsEvent s (record { at = n.at; index = k })
-release_there s n k place =
-    let h = places_from-there is_release 0 (trace_of s n.at) n.release k place in
-    (h.1, (let same : k ≡ h.0 = omega (arith, h.2) in ap (slice_get (trace_of s n.at)) same ∙ h.3))
+release_there s n k place = grind (arith, places_from-there is_release 0 (trace_of s n.at) n.release k place)
 
 -- ---- what holds an event
 
 module _ (s : Streams) (complete : AreComplete s) (order : List EventId) (whole : IsWholeOrder s order) where
   -- an event that is held, though all before it in its item and all releases that it names are grounded
   module _ (e : EventId) (held : IsHeldEvent s e) (passed : IsPassed s e) (names : (n : Name) → HasName s e n → HasGroundedRelease s e n) where
-    previous : (d : EventId) → IsPrevious d e → IsGrounded s d
-    previous d p = passed d p.item (omega (arith, p.next))
-
     waits : ((d : EventId) → IsArrival s e d → IsGrounded s d) → (d : EventId) → Waits s e d → IsGrounded s d
-    waits arrival d (for_previous p) = previous d p
-    waits arrival d (for_release match) =
-        let there = names match.name match.by.named in
-        rw (sym (one_release s match.name e there.0 d there.1 match.by)) there.2
+    waits arrival d (for_previous p) = passed d p.item (omega (arith, p.next))
+    waits arrival d (for_release match) = grind (arith, names match.name match.by.named, one_release s match.name e, match.by)
     waits arrival d (for_arrival a b met p) = arrival d (record { mark = a; barrier = b; together = met; previous = p })
     waits arrival d (for_meeting a c p met) =
-        let there = whole.whole c (previous c p) in
+        let there = whole.whole c (passed c p.item (omega (arith, p.next))) in
         let other = whole.lawful.together there.0 c d a there.1 met in
         lawful_is_grounded s order d whole.lawful (other.0, other.2)
 
@@ -81,32 +73,18 @@ late_held s g k d late =
 module _ (s : Streams) where
   -- the events before the barriers of one item more are grounded
   pub one_item_more : (g k i : ℕ) → ((b d : EventId) → b.at.item < i → StandsIn s b g k → IsPrevious d b → IsGrounded s d) → ((b d : EventId) → b.at ≡ record { group = g; item = i } → StandsIn s b g k → IsPrevious d b → IsGrounded s d) → (b d : EventId) → b.at.item < i + 1 → StandsIn s b g k → IsPrevious d b → IsGrounded s d
-  one_item_more g k i before here b d lt stands p =
-      ⊎_elim
-      (λ (same : b.at.item ≡ i). here b d (λ j. record { group = stands.group j; item = same j }) stands p)
-      (λ (less : b.at.item < i). before b d less stands p)
-      (eq-or-lt_of_le (let le : b.at.item ≤ i = omega arith in le))
+  one_item_more g k i before here b d lt stands p = grind (arith, before b d, here b d)
 
   -- an event belongs to one instance alone
   pub late_by : (e : EventId) (n : ℕ) (o : Option EventId) → StandsIn s e e.at.group n → MatchOption o (HaveArrived s e.at.group n) (λ d. IsLate s e.at.group n d) → MatchOption o ((g k : ℕ) → StandsIn s e g k → HaveArrived s g k) (λ d. (g k : ℕ) × StandsIn s e g k × IsLate s g k d)
-  late_by e n None here arrived = λ g k stands b d other p.
-      let same = same_instance s e g k e.at.group n stands here in
-      arrived b d (moved s b g k e.at.group n same.0 same.1 other) p
+  late_by e n None here arrived = λ g k stands b d other p. grind (arith, arrived b d, same_instance s e g k e.at.group n stands here, moved s b g k)
   late_by e n (Some d) here late = (e.at.group, n, here, late)
 
   -- the release of a name, on the word of the event that has the name
   pub matches_of : (e : EventId) (n : Name) (index : ℕ) → HasName s e n → IsOfItsWord s e n → release_place s n ≡ Some index → Matches s e (record { at = n.at; index = index })
-  matches_of e n index named its place =
-      let same : its.0 ≡ index = let is : Some its.0 ≡ Some index = sym its.1 ∙ place in cc in
-      record {
-        name = n;
-        by = record { named = named; item = refl; place = place; word = rw (← same) (sym its.2) };
-      }
+  matches_of e n index named its place = record { name = n; by = record { named = named; item = refl; place = place; word = grind (arith, its) } }
 
   -- the first event of an item that is not grounded, before another of the item
   pub first_behind : (e first : EventId) → first.at ≡ e.at → ((d : EventId) → d.at ≡ e.at → IsGrounded s d ↔ (d.index < first.index)) → first.index < e.index → IsBehind s e first
-  first_behind e first at grounded before = record {
-    item = at;
-    before = before;
-    first = record { held = λ g. let lt = (grounded first at).0 g in omega (arith, lt); passed = λ d here lt. (grounded d (here ∙ at)).1 lt };
-  }
+  first_behind e first at grounded before =
+      record { item = at; before = before; first = record { held = λ g. omega (arith, (grounded first at).0 g); passed = λ d here lt. (grounded d (here ∙ at)).1 lt } }

@@ -1,8 +1,9 @@
 -- Chains that grow by a link, and the items that a walk has visited.
-use Rattle.gr_model.proofs.Common.{◌≡◌, ℕ, zero, suc, ◌<◌, List, [], ◌∷◌, ◌++◌, length, Option, Some, slice_get, refl, subst, ⊎_elim, arith, ◌↔◌, Bool, false, IsTrue, true≢false, ◌-◌, None, sym, ap, ◌∙◌, IfSome, gets, cases_eq, common_steps}
+use Rattle.gr_model.proofs.Common.{◌≡◌, ℕ, suc, ◌<◌, List, [], ◌∷◌, ◌++◌, length, Option, Some, slice_get, refl, inl, inr, ⊎_elim, arith, ◌↔◌, Bool, false, IsTrue, true≢false, ◌-◌, None, sym, ap, ◌∙◌, IfSome, gets, cases_eq, common_steps}
 use Rattle.gr_model.specs.declared.event.EventId.{EventId}
 use Rattle.gr_model.specs.Prelude.{Streams, ArePrefixes, HasItem}
 use Rattle.gr_model.proofs.Places.{slice_get-append}
+use Rattle.gr_explain.proofs.Lists.{last_cases}
 use Rattle.gr_timeline.specs.declared.reason.Link.{Link}
 use Rattle.gr_timeline.specs.declared.reason.Reason.{Reason}
 use Rattle.gr_timeline.specs.declared.reason.Reason.TheVariants.{Circle}
@@ -30,10 +31,7 @@ event_within links k e at = grind (arith, gets)
 
 -- what is so of each link of a list and of one after them
 pushed_each : {X : Type 0} (P : ℕ → X → Type 0) (xs : List X) (x : X) → ((p : ℕ) (l : X) → slice_get xs p ≡ Some l → P p l) → P (length xs) x → (p : ℕ) (l : X) → slice_get (xs ++ x ∷ []) p ≡ Some l → P p l
-pushed_each P [] x each last zero l at = let h : Some x ≡ Some l = at in let same : x ≡ l = cc in subst (P 0) same last
-pushed_each P [] x each last (suc p) l at = cc
-pushed_each P (y ∷ xs) x each last zero l at = each 0 l at
-pushed_each P (y ∷ xs) x each last (suc p) l at = pushed_each (λ q m. P (suc q) m) xs x (λ q m a. each (suc q) m a) last p l at
+pushed_each P xs x each last p l at = elim (last_cases xs x p l at) [ inl h ↦ each p l h.1 | inr h ↦ rw (h.0, h.1) last ]
 
 module _ (s : Streams) where
   -- and so do their reasons

@@ -1,15 +1,16 @@
 -- The accesses of a launch to one word that are held.
 -- Source: docs/MODEL.md, "What waits for what".
-use Rattle.std.specs.Prelude.{◌≡◌, ◌↔◌, ℕ, List, length}
+use Rattle.std.specs.Prelude.{◌≡◌, ◌≢◌, ◌↔◌, ℕ, List, length}
+use Rattle.std.specs.List.{AllPairs}
 use Rattle.gr_model.specs.declared.event.EventId.{EventId}
 use Rattle.gr_model.specs.declared.event.Word.{Word}
-use Rattle.gr_model.specs.Prelude.{IsAt, IsIn, Streams, IsGrounded}
+use Rattle.gr_model.specs.Prelude.{IsIn, Streams, IsGrounded}
 use Rattle.gr_timeline.specs.Accesses.{IsOn}
 
 -- each access to the word that is not grounded, once
 pub record AreHeld (s : Streams) (w : Word) (held : List EventId) : Type 0 where
   pub each : (e : EventId) → IsIn held e ↔ (IsOn s w e × ¬ IsGrounded s e)
-  pub once : (p q : ℕ) (e : EventId) → IsAt held p e → IsAt held q e → p ≡ q
+  pub once : AllPairs (λ d e. d ≢ e) held
 
 -- so many are held
 pub record IsHeldCount (s : Streams) (w : Word) (count : ℕ) : Type 0 where

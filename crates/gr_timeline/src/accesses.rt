@@ -33,21 +33,14 @@ fn keep<A: Allocator>(
     ensures { OnOk result (KeepsRecord word group number event.now count known.old.entries known.new.entries) }
 {
     if word_of(group, event) == Some(word) {
-        let at = ItemId {
-            group,
-            item: event.item,
+        let (item, kind, index) = (event.item, event.kind, count.records);
+        let at = ItemId { group, item };
+        let details = Details {
+            kind,
+            number,
+            phase: count.barriers,
         };
-        known.insert(
-            EventId {
-                at,
-                index: count.records,
-            },
-            Details {
-                kind: event.kind,
-                number,
-                phase: count.barriers,
-            },
-        )?;
+        known.insert(EventId { at, index }, details)?;
     }
     Ok(())
 }

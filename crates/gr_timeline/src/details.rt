@@ -77,6 +77,7 @@ pub fn details_at<A: Allocator>(
 }
 
 /// The details of an event of a launch. It takes time that grows with the records of the event's group.
+#[tactic(auto, using(crate::proofs::GroupLemmas::event_is_told))]
 pub fn details_of<A: Allocator>(
     traces: &Traces<A>,
     records: &Records<'_, A>,
@@ -88,8 +89,5 @@ pub fn details_of<A: Allocator>(
 {
     let within = event.at.group < traces.shape().groups();
     prove!(within);
-    match details_at(traces, records, event) {
-        None => unreachable!(),
-        Some(details) => details,
-    }
+    details_at(traces, records, event).unwrap()
 }

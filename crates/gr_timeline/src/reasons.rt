@@ -37,13 +37,8 @@ fn root_by_name<A: Allocator>(
 {
     match judged.lanes().release_at(name) {
         None => Some(Reason::Absent(name)),
-        Some(index) => {
-            if release_word(judged, name, index) == word {
-                None
-            } else {
-                Some(Reason::OtherWord(name))
-            }
-        }
+        Some(index) if release_word(judged, name, index) == word => None,
+        Some(_) => Some(Reason::OtherWord(name)),
     }
 }
 

@@ -82,11 +82,9 @@ pub struct Above<A: Allocator = Global> {
 
 impl<A: Allocator + Copy> Named<A> {
     /// So many events, none of them by name.
-    fn new(alloc: A, count: usize) -> Named<A> {
-        Named {
-            events: Vec::new(alloc),
-            others: count,
-        }
+    fn new(alloc: A, others: usize) -> Named<A> {
+        let events = Vec::new(alloc);
+        Named { events, others }
     }
 
     /// How many there are.
@@ -146,23 +144,19 @@ impl<A: Allocator + Copy> ClassCounts<A> {
     /// Corrects the counts: of some accesses of a class, the last clock counts `after`, and the one before it counted `before`.
     fn recount(&mut self, class: Class, before: usize, after: usize) {
         self.counted = self.counted.saturating_sub(before).saturating_add(after);
-        for count in self.classes.iter_mut() {
-            if count.class == class {
-                count.counted = count.counted.saturating_sub(before).saturating_add(after);
-            }
+        if let Some(count) = self.classes.iter_mut().find(|count| count.class == class) {
+            count.counted = count.counted.saturating_sub(before).saturating_add(after);
         }
     }
 
     /// How many accesses the last clock does not count: of those that never race with an access of this class and group if they are of
     /// the group `at`, or of those that can.
     fn uncounted(&self, at: u16, class: Class, group: u16, is_exempt: bool) -> usize {
-        let mut sum: usize = 0;
-        for count in &self.classes {
-            if exempt(count.class, at, class, group) == is_exempt {
-                sum = sum.saturating_add(count.all.saturating_sub(count.counted));
-            }
-        }
-        sum
+        self.classes
+            .iter()
+            .filter(|count| exempt(count.class, at, class, group) == is_exempt)
+            .map(|count| count.all.saturating_sub(count.counted))
+            .fold(0, |sum: usize, count| sum.saturating_add(count))
     }
 }
 
@@ -170,13 +164,20 @@ impl<A: Allocator + Copy> GroupAbove<A> {
     /// Adds an access, which the last clock counts.
     fn add(&mut self, alloc: A, item: u16, index: u32, class: Class) -> Result<(), Memory> {
         self.counts.add(class)?;
-        if self.items.get(&item).is_none() {
-            self.items.insert(item, Vec::new(alloc))?;
+        let trails = self.items.entry(item)?.or_insert(Vec::new(alloc));
+        let place = trails.iter().position(|trail| trail.class == class);
+        let place = place.unwrap_or(trails.len());
+        if place == trails.len() {
+            let indices = Vec::new(alloc);
+            trails.push(Trail {
+                class,
+                indices,
+                counted: 0,
+            })?;
         }
-        match self.items.get_mut(&item) {
-            Some(trails) => put(alloc, trails, class, index),
-            None => Ok(()),
-        }
+        trails[place].indices.push(index)?;
+        trails[place].counted = trails[place].indices.len();
+        Ok(())
     }
 
     /// Takes what a clock counts of the group's items in place of what the last one did.
@@ -187,24 +188,21 @@ impl<A: Allocator + Copy> GroupAbove<A> {
         }
     }
 
-    /// Names accesses that the last clock does not count, those that can race with an access of this class and group apart from the others.
+    /// Names accesses that the last clock does not count, those that can race with an access of this class and other group apart from the rest.
     fn name(
         &self,
-        number: u16,
-        class: Class,
         group: u16,
+        class: Class,
+        other: u16,
         standing: &mut Standing<A>,
     ) -> Result<(), Memory> {
         for (item, trails) in self.items.iter() {
             if standing.is_named() {
                 break;
             }
-            let at = ItemId {
-                group: number,
-                item: *item,
-            };
+            let at = ItemId { group, item: *item };
             for trail in trails {
-                if exempt(trail.class, number, class, group) {
+                if exempt(trail.class, group, class, other) {
                     standing.unordered.name(at, trail)?;
                 } else {
                     standing.races.name(at, trail)?;
@@ -230,31 +228,6 @@ fn turn<A: Allocator + Copy>(
     }
 }
 
-/// Adds an index to those of its class, which the last clock counts.
-fn put<A: Allocator + Copy>(
-    alloc: A,
-    trails: &mut Vec<Trail<A>, A>,
-    class: Class,
-    index: u32,
-) -> Result<(), Memory> {
-    match trails.iter().position(|trail| trail.class == class) {
-        Some(place) => {
-            trails[place].indices.push(index)?;
-            trails[place].counted = trails[place].indices.len();
-        }
-        None => {
-            let mut indices = Vec::new(alloc);
-            indices.push(index)?;
-            trails.push(Trail {
-                class,
-                indices,
-                counted: 1,
-            })?;
-        }
-    }
-    Ok(())
-}
-
 impl<A: Allocator + Copy> Above<A> {
     /// No accesses.
     pub fn new(alloc: A) -> Above<A> {
@@ -274,17 +247,11 @@ impl<A: Allocator + Copy> Above<A> {
         }
     }
 
-    /// How many accesses of an item there are.
-    fn count_of(&self, at: ItemId) -> usize {
-        let mut count: usize = 0;
-        if let Some(group) = self.groups.get(&at.group) {
-            if let Some(trails) = group.items.get(&at.item) {
-                for trail in trails {
-                    count = count.saturating_add(trail.indices.len());
-                }
-            }
-        }
-        count
+    /// How many accesses of an item there are, if there is one.
+    fn count_of(&self, at: ItemId) -> Option<usize> {
+        let trails = self.groups.get(&at.group)?.items.get(&at.item)?;
+        let counts = trails.iter().map(|trail| trail.indices.len());
+        Some(counts.fold(0, |sum: usize, count| sum.saturating_add(count)))
     }
 
     /// Takes what the clock of an access counts in place of what the last one did.
@@ -296,7 +263,7 @@ impl<A: Allocator + Copy> Above<A> {
             self.turn_item(last.at, clock);
         }
         self.turn_item(at, clock);
-        let own = self.count_of(at);
+        let own = self.count_of(at).unwrap_or(0);
         if self.counts.counted == own && clock.lacks_all(at) {
             return;
         }
@@ -352,16 +319,12 @@ impl<A: Allocator + Copy> Above<A> {
             behind: self.counts.counted,
         };
         self.name(class, at.group, &mut standing)?;
-        if self.groups.get(&at.group).is_none() {
-            let none = GroupAbove {
-                items: IndexMap::new(alloc),
-                counts: ClassCounts::new(alloc),
-            };
-            self.groups.insert(at.group, none)?;
-        }
-        if let Some(group) = self.groups.get_mut(&at.group) {
-            group.add(alloc, at.item, index, class)?;
-        }
+        let group = self.groups.entry(at.group)?;
+        let group = group.or_insert_with(|| GroupAbove {
+            items: IndexMap::new(alloc),
+            counts: ClassCounts::new(alloc),
+        });
+        group.add(alloc, at.item, index, class)?;
         self.counts.add(class)?;
         self.last = Some(entry.event);
         Ok(standing)

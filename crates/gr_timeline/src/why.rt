@@ -29,10 +29,7 @@ impl<A: Allocator> WhyHeld<A> {
     pub fn is_held(&self) -> bool
         ensures { result ≡ says_held (answer_of self.now) }
     {
-        match self {
-            WhyHeld::NoRecord | WhyHeld::Judged => false,
-            WhyHeld::Held(_) => true,
-        }
+        matches!(self, WhyHeld::Held(_))
     }
 }
 
