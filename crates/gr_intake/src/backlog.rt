@@ -38,9 +38,6 @@ impl<A: Allocator> Model for Backlog<A> {
 }
 
 /// The place of the last of the pieces, which has room for one more record.
-///
-/// # Errors
-/// `Memory`: out of memory.
 fn last_with_room<A: Allocator + Copy>(
     alloc: A,
     pieces: &mut Vec<Piece<A>, A>,

@@ -75,9 +75,6 @@ impl<A: Allocator + Copy> Open<A> {
     }
 
     /// Has a sequencer take the stream's next record, or keeps it where records of the stream wait.
-    ///
-    /// # Errors
-    /// `Memory`: out of memory.
     #[inline(always)]
     pub(crate) fn take(
         &mut self,

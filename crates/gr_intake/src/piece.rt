@@ -41,9 +41,6 @@ impl<A: Allocator> Model for Piece<A> {
 
 impl<A: Allocator + Copy> Piece<A> {
     /// A piece without records.
-    ///
-    /// # Errors
-    /// `Memory`: out of memory.
     #[tactic(auto, using(crate::proofs::Backlogs::none_yet))]
     pub(crate) fn new(alloc: A) -> Result<Piece<A>, Memory>
         ensures { IfOk result (λ p. p ≡ []) }

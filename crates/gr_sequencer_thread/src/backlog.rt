@@ -169,9 +169,6 @@ pub(crate) fn note<A: Allocator>(
 }
 
 /// A backlog without events for each group of a shape, in their order.
-///
-/// # Errors
-/// `Memory`: out of memory.
 pub(crate) fn backlogs_of<A: Allocator + Copy>(
     alloc: A,
     shape: &Shape<A>,

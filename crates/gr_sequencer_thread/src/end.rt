@@ -1,7 +1,6 @@
 //! What the sequencer's thread leaves.
 
-ghost use Rattle.std.specs.Prelude.{◌≡◌, false, length, IfOk, IfSome, OnSome};
-ghost use Rattle.std.specs.List.{sum_by};
+ghost use Rattle.std.specs.Prelude.{◌≡◌, false, IfSome, OnSome};
 ghost use Rattle.std.specs.Option.{option_map};
 ghost use Rattle.gr_model.specs.Prelude.{IsReportButRaces};
 ghost use Rattle.gr_steps.specs.Steps.{IsAtRest};
@@ -11,11 +10,10 @@ ghost use Rattle.gr_sequencer_thread.specs.Ends as spec;
 use crate::inlet::Inlet;
 use crate::outlet::Outlet;
 use gr_model::config::Config;
-use gr_model::memory::Memory;
 use gr_model::shape::Shape;
 use gr_report::report::Report;
-use gr_report::rows::Rows;
 use gr_sequencer::sequencer::Sequencer;
+use gr_taking::reports::report_with;
 use std::alloc::{Allocator, Global};
 use std::marker::Model;
 
@@ -65,64 +63,19 @@ impl<A: Allocator> SequencerEnd<A> {
     }
 }
 
-/// The report of a launch of this shape, without its races, unless memory ran out before, or does now.
-/// Requires: unless memory ran out before, the sequencer has taken all of the launch, and has no step left.
+/// The report of what a sequencer took, without its races, unless memory ran out before, or does now.
+/// Requires: unless memory ran out before, no step is left.
 pub(crate) fn findings<A: Allocator + Copy>(
     alloc: A,
-    shape: &Shape<A>,
     sequencer: &Sequencer<A>,
     failed: bool,
 ) -> Option<Report<A>>
-    requires shape { failed ≡ false → sequencer.now.taken.sizes ≡ shape.now }
-    requires rest { failed ≡ false → IsAtRest sequencer.now.taken sequencer.now.handled }
+    requires { failed ≡ false → IsAtRest sequencer.now.taken sequencer.now.handled }
     ensures failed { OnSome result (failed ≡ false) }
     ensures report { IfSome result (λ report. IsReportButRaces sequencer.now.taken (whole_of report)) }
 {
     if failed {
         return None;
     }
-    report_of(alloc, shape, sequencer).ok()
-}
-
-/// The report of a launch of this shape, without its races.
-/// Requires: the sequencer has taken all of the launch, and has no step left.
-///
-/// # Errors
-/// `Memory`: out of memory.
-fn report_of<A: Allocator + Copy>(
-    alloc: A,
-    shape: &Shape<A>,
-    sequencer: &Sequencer<A>,
-) -> Result<Report<A>, Memory>
-    requires shape { sequencer.now.taken.sizes ≡ shape.now }
-    requires rest { IsAtRest sequencer.now.taken sequencer.now.handled }
-    ensures { IfOk result (λ report. IsReportButRaces sequencer.now.taken (whole_of report)) }
-{
-    let divergences = sequencer.divergences()?;
-    let unmatched = sequencer.unmatched()?;
-    let cut = sequencer.cut()?;
-    Ok(Report {
-        races: Rows::of(Vec::new(alloc)),
-        divergences: Rows::of(divergences),
-        unmatched: Rows::of(unmatched),
-        cut: Rows::of(cut),
-        held: sequencer.held(),
-        groups: shape.groups(),
-        items: shape.total(),
-        records: records_of(shape, sequencer),
-    })
-}
-
-/// How many records were taken, ends included.
-fn records_of<A: Allocator>(shape: &Shape<A>, sequencer: &Sequencer<A>) -> u64
-    requires { sequencer.now.taken.sizes ≡ shape.now }
-    ensures { result ≡ sum_by length sequencer.now.taken.lists }
-{
-    // For the proof: no list that a sequencer took is longer than a stream may be.
-    let _ = sequencer.at_end();
-    let mut records: u64 = 0;
-    for group in 0..shape.groups() {
-        records += u64::from(sequencer.taken(group));
-    }
-    records
+    report_with(sequencer, Vec::new(alloc)).ok()
 }

@@ -251,7 +251,7 @@ impl<A: Allocator + Copy> Feed<A> {
             due: _,
         } = self;
         stop_all(rt, &mut outlets);
-        let report = findings(alloc, &shape, &sequencer, failed);
+        let report = findings(alloc, &sequencer, failed);
         SequencerEnd {
             config,
             shape,

@@ -44,9 +44,6 @@ impl<A: Allocator> Model for OnWay<A> {
 
 impl<A: Allocator + Copy> OnWay<A> {
     /// No access is on its way.
-    ///
-    /// # Errors
-    /// `Memory`: out of memory.
     pub(crate) fn new(alloc: A) -> Result<OnWay<A>, Memory>
         ensures { IfOk result (λ w. All (λ l. l ≡ []) w) }
     {

@@ -105,9 +105,6 @@ fn pop_all<R: Wait + Clock, A: Allocator, W: Watch>(
 }
 
 /// What the thread works with, for a launch of this shape, before any event has come.
-///
-/// # Errors
-/// `Memory`: out of memory.
 fn fresh<A: Allocator + Copy>(
     alloc: A,
     shape: &Shape<A>,

@@ -204,9 +204,6 @@ impl<A: Allocator + Copy> Way<A> {
     }
 
     /// Adds an access after the others.
-    ///
-    /// # Errors
-    /// `Memory`: out of memory.
     #[inline(always)]
     pub(crate) fn add(&mut self, alloc: A, access: Access<A>) -> Result<(), Memory>
         ensures { OnOk result (self.new ≡ self.old ++ OfAccess access ∷ []) }
@@ -218,9 +215,6 @@ impl<A: Allocator + Copy> Way<A> {
     }
 
     /// Adds an access when the waiting ones are full: they become a batch.
-    ///
-    /// # Errors
-    /// `Memory`: out of memory.
     fn add_in_next(&mut self, alloc: A, work: Work<A>) -> Result<(), Memory>
         requires { (access : AnyAccess A) × (work ≡ OfAccess access) }
         ensures { OnOk result (self.new ≡ self.old ++ work ∷ []) }

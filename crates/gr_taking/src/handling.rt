@@ -12,9 +12,6 @@ use gr_sequencer::sequencer::Sequencer;
 use std::alloc::Allocator;
 
 /// Has a keeper add the access of a step, if it has one.
-///
-/// # Errors
-/// `Memory`: out of memory.
 #[inline(always)]
 pub(crate) fn give<A: Allocator, K: Keeper<A>>(
     keeper: &K,

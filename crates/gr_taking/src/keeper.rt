@@ -20,9 +20,6 @@ pub trait Keeper<A: Allocator> {
     ghost stands: { Self → List ClockedAccess → Self.Kept → Type 0 };
 
     /// Adds the access of an event, if it has one: it comes after all others. It may be taken out.
-    ///
-    /// # Errors
-    /// `Memory`: out of memory.
     fn add(&self, kept: &mut Self::Kept, access: &mut Option<Access<A>>) -> Result<(), Memory>
         ensures { OnOk result ((accesses : List ClockedAccess) → stands self.now accesses kept.old → stands self.now (accesses ++ in_flight_list (option_map clocked access.old)) kept.new) };
 

@@ -4,6 +4,7 @@
 
 pub mod handling;
 pub mod keeper;
+pub mod reports;
 pub mod rounds;
 pub mod source;
 pub mod taking;

@@ -18,9 +18,6 @@ use std::alloc::Allocator;
 
 /// Has a sequencer take some of the records that are to come of a stream. Tells whether it took one; none is to come where it
 /// did not.
-///
-/// # Errors
-/// `Memory`: out of memory.
 fn take_some<A: Allocator + Copy, K: Keeper<A>, S: Source>(
     sequencer: &mut Sequencer<A>,
     keeper: &K,

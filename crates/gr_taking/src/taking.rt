@@ -21,9 +21,6 @@ use std::alloc::Allocator;
 
 /// Has a sequencer take a record of a group, and handle its event where that can be done at once. Tells whether the event
 /// waits.
-///
-/// # Errors
-/// `Memory`: out of memory.
 #[inline(always)]
 fn take_one<A: Allocator + Copy, K: Keeper<A>>(
     sequencer: &mut Sequencer<A>,

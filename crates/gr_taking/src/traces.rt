@@ -16,9 +16,6 @@ use gr_sequencer::sequencer::Sequencer;
 use std::alloc::Allocator;
 
 /// The lists of a launch's groups, of which all records are to come.
-///
-/// # Errors
-/// `Memory`: out of memory.
 fn sources_of<A: Allocator + Copy, R: Reading>(
     alloc: A,
     traces: &Traces<A>,

@@ -7,7 +7,6 @@
 ghost use Rattle.std.specs.Prelude.{◌≡◌, ◌≢◌, ◌↔◌, ◌<◌, ◌+◌, IsTrue, IsFalse, IfOk, IfErr, OnOk, OnErr, length, replicate};
 ghost use Rattle.gr_model.specs.declared.limits.TheConstants.{MOST_RECORDS};
 ghost use Rattle.gr_model.specs.Prelude.{IsEventOk, is_end, IsReportOf, Lists, WordBelow, list_of, size_of};
-ghost use Rattle.std.specs.List.{sum_by};
 ghost use Rattle.gr_steps.specs.Steps.{AreGrounded};
 ghost use Rattle.gr_report.specs.Whole.{whole_of};
 ghost use Rattle.gr_world.specs.declared.step.Step.TheVariants as steps;
@@ -28,10 +27,10 @@ use gr_model::limits::MOST_RECORDS;
 use gr_model::memory::Memory;
 use gr_model::shape::Shape;
 use gr_report::report::Report;
-use gr_report::rows::Rows;
 use gr_sequencer::handled::Handled;
 use gr_sequencer::sequencer::Sequencer;
 use gr_shadow::merge::merge;
+use gr_taking::reports::report_with;
 use std::alloc::{Allocator, Global};
 use std::marker::Model;
 
@@ -160,19 +159,8 @@ impl<A: Allocator + Copy> World<A> {
         ensures { IfOk result (λ report. IsReportOf self.now.sent (whole_of report)) }
     {
         let races = self.races()?;
-        let divergences = self.sequencer.divergences()?;
-        let unmatched = self.sequencer.unmatched()?;
-        let cut = self.sequencer.cut()?;
-        Ok(Report {
-            races: Rows::of(races),
-            divergences: Rows::of(divergences),
-            unmatched: Rows::of(unmatched),
-            cut: Rows::of(cut),
-            held: self.sequencer.held(),
-            groups: self.sent.shape().groups(),
-            items: self.sent.shape().total(),
-            records: self.records(),
-        })
+        let report = report_with(&self.sequencer, races)?;
+        Ok(report)
     }
 
     /// Handles an item's next event. If the event has an access, it is then on its way.
@@ -342,17 +330,6 @@ impl<A: Allocator> World<A> {
             return false;
         }
         self.sequencer.at_end()
-    }
-
-    /// How many records were sent, ends included.
-    fn records(&self) -> u64
-        ensures { result ≡ sum_by length self.now.sent.lists }
-    {
-        let mut records: u64 = 0;
-        for group in 0..self.sent.shape().groups() {
-            records += u64::from(self.sent.taken(group));
-        }
-        records
     }
 
     /// Whether a group must not send this event: it is an end, is not allowed in the group, or leaves no room for the end.

@@ -46,11 +46,8 @@ invariant_of-result g c =
           });
     }
 
-pub findings-report-requires-clause-shape : goal.findings-report-requires-clause-shape
-findings-report-requires-clause-shape g c = λ f. (c.self.invariant.good f).same
-
-pub findings-report-requires-clause-rest : goal.findings-report-requires-clause-rest
-findings-report-requires-clause-rest g c = λ f.
+pub findings-report-requires : goal.findings-report-requires
+findings-report-requires g c = λ f.
     subst (λ (u : Feed g.row.A.Denot). IsAtRest u.sequence.taken u.sequence.handled) (sym c.self.view_is)
     (c.requires (sym (ap (λ (u : Feed g.row.A.Denot). u.failed) c.self.view_is) ∙ f)).done.rest
 
