@@ -7,7 +7,7 @@ use Rattle.gr_record.specs.declared.fault.Fault.{Fault}
 use Rattle.gr_replay.specs.Each.{all_known}
 use Rattle.gr_places.specs.declared.sides_fault.SidesFault.{SidesFault}
 use Rattle.gr_places.specs.declared.sides_fault.SidesFault.TheVariants.{Buffers, Places, Run}
-use Rattle.gr_places.specs.Opening.{AreAllOpened, HoldsOfAllFiles, IsSidesFault, Pair, RefusesBuffers, RefusesPlaces, Say, known_of}
+use Rattle.gr_places.specs.Opening.{AreAllOpened, HoldsOfAllFiles, IsSidesFault, Pair, RefusesBuffers, RefusesPlaces, known_of}
 use Rattle.gr_places.specs.Sides.{SidesSaid}
 use Rattle.gr_places.specs.Files.{IsShowFault}
 
@@ -21,30 +21,24 @@ module _ {T E : Type 0} (remaining : T → Option (List ℕ)) (Gives : List ℕ 
       record { sides = sides; files = files; opened = opened; holds = at_known (known_of remaining sides.places) bytes (λ known. places_in known ≡ Err line) read h }
   places_refused bytes read (Buffers line) h = absurd h
 
-module _ {T E : Type 0} (remaining : T → Option (List ℕ)) (Gives : List ℕ → Result T E → Type 0) (named : Pair (List ℕ)) (names : List (List ℕ)) (sides : Pair T) (files : List T) (opened : AreAllOpened Gives named names sides files) (place_bytes : List ℕ) (places_read : IfSome (known_of remaining sides.places) (λ bytes. place_bytes ≡ bytes)) (places : List PlaceSaid) (places_said : places_in place_bytes ≡ Ok places) (buffer_bytes : List ℕ) (buffers_read : IfSome (known_of remaining sides.buffers) (λ bytes. buffer_bytes ≡ bytes)) where
-  pub buffers_refused : (f : SidesFault) → RefusesBuffers buffer_bytes f → IsSidesFault remaining Gives named names f
-  buffers_refused (Run f) memory = inl (inl memory)
-  buffers_refused (Places line) h = absurd h
-  buffers_refused (Buffers line) h =
-      record {
-        sides = sides;
-        files = files;
-        opened = opened;
-        holds = (at_known (known_of remaining sides.places) place_bytes (λ bytes. (said : List PlaceSaid) × (places_in bytes ≡ Ok said)) places_read (places, places_said), at_known (known_of remaining sides.buffers) buffer_bytes (λ bytes. buffers_in bytes ≡ Err line) buffers_read h);
-      }
+  module _ (place_bytes : List ℕ) (places_read : IfSome (known_of remaining sides.places) (λ bytes. place_bytes ≡ bytes)) (places : List PlaceSaid) (places_said : places_in place_bytes ≡ Ok places) (buffer_bytes : List ℕ) (buffers_read : IfSome (known_of remaining sides.buffers) (λ bytes. buffer_bytes ≡ bytes)) where
+    pub buffers_refused : (f : SidesFault) → RefusesBuffers buffer_bytes f → IsSidesFault remaining Gives named names f
+    buffers_refused (Run f) memory = inl (inl memory)
+    buffers_refused (Places line) h = absurd h
+    buffers_refused (Buffers line) h =
+        let in_form = at_known (known_of remaining sides.places) place_bytes (λ bytes. (said : List PlaceSaid) × (places_in bytes ≡ Ok said)) places_read (places, places_said) in
+        let bad = at_known (known_of remaining sides.buffers) buffer_bytes (λ bytes. buffers_in bytes ≡ Err line) buffers_read h in
+        record { sides = sides; files = files; opened = opened; holds = (in_form, bad) }
 
-  module _ (buffers : List BufferSaid) (buffers_said : buffers_in buffer_bytes ≡ Ok buffers) where
-    abbrev all_said : SidesSaid
-    all_said = record { places = places; buffers = buffers }
+    module _ (buffers : List BufferSaid) (buffers_said : buffers_in buffer_bytes ≡ Ok buffers) where
+      abbrev all_said : SidesSaid
+      all_said = record { places = places; buffers = buffers }
 
-    say : Say remaining sides all_said
-    say = record {
-      places = at_known (known_of remaining sides.places) place_bytes (λ bytes. places_in bytes ≡ Ok places) places_read places_said;
-      buffers = at_known (known_of remaining sides.buffers) buffer_bytes (λ bytes. buffers_in bytes ≡ Ok buffers) buffers_read buffers_said;
-    }
+      pub holds_of_all : (Holds : Option (List (List ℕ)) → SidesSaid → Type 0) → Holds (all_known (map remaining files)) all_said → HoldsOfAllFiles remaining Gives named names Holds
+      holds_of_all Holds shown =
+          let places_known = at_known (known_of remaining sides.places) place_bytes (λ bytes. places_in bytes ≡ Ok places) places_read places_said in
+          let buffers_known = at_known (known_of remaining sides.buffers) buffer_bytes (λ bytes. buffers_in bytes ≡ Ok buffers) buffers_read buffers_said in
+          record { sides = sides; files = files; opened = opened; said = all_said; say = record { places = places_known; buffers = buffers_known }; shown = shown }
 
-    pub streams_refused : (f : Fault) → IfSome (all_known (map remaining files)) (λ inputs. IsShowFault inputs f) → IsSidesFault remaining Gives named names (Run f)
-    streams_refused f fault = inr (inr (record { sides = sides; files = files; opened = opened; said = all_said; say = say; fault = fault }))
-
-    pub holds_of_all : (Holds : Option (List (List ℕ)) → SidesSaid → Type 0) → Holds (all_known (map remaining files)) all_said → HoldsOfAllFiles remaining Gives named names Holds
-    holds_of_all Holds shown = record { sides = sides; files = files; opened = opened; said = all_said; say = say; shown = shown }
+      pub streams_refused : (f : Fault) → IfSome (all_known (map remaining files)) (λ inputs. IsShowFault inputs f) → IsSidesFault remaining Gives named names (Run f)
+      streams_refused f fault = inr (inr (holds_of_all (λ known said. IfSome known (λ inputs. IsShowFault inputs f)) fault))

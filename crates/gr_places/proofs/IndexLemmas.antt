@@ -1,5 +1,6 @@
 -- The index of lines, made from the last line to the first.
-use Rattle.gr_model.proofs.Common.{◌≡◌, ◌<◌, ◌+◌, ℕ, Bool, cond, List, arith, ◌∷◌, Option, Some, Bor, ap, drop, get_or, length, map, refl, sym, ◌∙◌, option_map, position_from, at_drop_more}
+use Rattle.gr_model.proofs.Common.{◌≡◌, ◌<◌, ◌+◌, ℕ, cond, List, arith, Some, Bor, ap, drop, get_or, length, map, ◌∙◌, option_map, position_from}
+use Rattle.std.proofs.lemmas.List.{drop_more}
 use Rattle.gr_text.specs.LineReading.{same}
 use Rattle.gr_places.specs.declared.places.Placed.{Placed}
 use Rattle.gr_places.specs.declared.places.PlaceLine.{PlaceLine}
@@ -14,29 +15,14 @@ AreTexts entries lines = (p : Placed) → option_map (λ text. text.now) (text_i
 abbrev pub AreNumbersFrom : ℕ → List (Bor (List ℕ) × ℕ) → List PlaceSaid → Type 0
 AreNumbersFrom n entries lines = (text : Bor (List ℕ)) → number_in entries text ≡ position_from (λ l. same l.text text.now) n lines
 
--- ---- the two tests are the same
-
-pub same_keys : (p q : Placed) → same_key p q ≡ same_placed p q
+-- the two tests are the same
+same_keys : (p q : Placed) → same_key p q ≡ same_placed p q
 same_keys p q = grind arith
 
--- ---- one more line, before those that are kept
-
-text_over : (line : PlaceSaid) (text : Bor (List ℕ)) (rest : Option (Bor (List ℕ))) (lines : List PlaceSaid) (p : Placed) → line.text ≡ text.now → option_map (λ (t : Bor (List ℕ)). t.now) rest ≡ place_of lines p → option_map (λ (t : Bor (List ℕ)). t.now) (cond (same_key line.of p) (Some text) rest) ≡ place_of (line ∷ lines) p
-text_over line text rest lines p of more = grind (arith, same_keys line.of p)
-
+-- one more line, before those that are kept
 module _ (lines : List PlaceLine) (i left : ℕ) (d : PlaceLine) (lt : i < length lines) (next : i + 1 ≡ left) where
   pub texts_more : (old new : List (Placed × Bor (List ℕ))) → ((p : Placed) → text_in new p ≡ cond (same_key (get_or lines i d).of p) (Some (get_or lines i d).text) (text_in old p)) → AreTexts old (map place_line (drop left lines)) → AreTexts new (map place_line (drop i lines))
-  texts_more old new update kept p =
-      ap (option_map (λ (t : Bor (List ℕ)). t.now)) (update p)
-      ∙ text_over (place_line (get_or lines i d)) (get_or lines i d).text (text_in old p) (map place_line (drop left lines)) p refl (kept p)
-      ∙ ap (λ (n : ℕ). place_of (place_line (get_or lines i d) ∷ map place_line (drop n lines)) p) (sym next)
-      ∙ sym (at_drop_more (λ (ls : List PlaceLine). place_of (map place_line ls) p) lines i d lt)
+  texts_more old new update kept = rw (drop_more lines i d lt, next) (λ p. grind (arith, same_keys (get_or lines i d).of p, update p, kept p))
 
   pub numbers_more : (old new : List (Bor (List ℕ) × ℕ)) → ((t : Bor (List ℕ)) → number_in new t ≡ cond (same (get_or lines i d).text.now t.now) (Some i) (number_in old t)) → AreNumbersFrom left old (map place_line (drop left lines)) → AreNumbersFrom i new (map place_line (drop i lines))
-  numbers_more old new update kept t =
-      let test : PlaceSaid → Bool = λ l. same l.text t.now in
-      let line = get_or lines i d in
-      update t
-      ∙ ap (cond (same line.text.now t.now) (Some i)) (kept t)
-      ∙ ap (λ (n : ℕ). cond (same line.text.now t.now) (Some i) (position_from test n (map place_line (drop n lines)))) (sym next)
-      ∙ sym (at_drop_more (λ (ls : List PlaceLine). position_from test i (map place_line ls)) lines i d lt)
+  numbers_more old new update kept = rw (drop_more lines i d lt, next) (λ t. update t ∙ ap (cond (same (get_or lines i d).text.now t.now) (Some i)) (kept t))

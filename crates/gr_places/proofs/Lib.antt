@@ -4,7 +4,6 @@ pub mod OpeningLemmas
 pub mod FileLemmas
 pub mod NamingLemmas
 mod CountLemmas
-mod FrontLemmas
 mod LawLemmas
 mod NeighbourLemmas
 mod SpotLemmas

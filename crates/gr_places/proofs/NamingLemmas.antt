@@ -1,147 +1,103 @@
 -- Texts of the form NAME[INDEX], and the words of buffers that they name.
-use Rattle.gr_model.proofs.Common.{◌≡◌, ◌≢◌, ℕ, suc, ◌+◌, ◌-◌, ◌^◌, ◌<◌, Bool, Bor, true, false, List, [], ◌∷◌, ◌++◌, Option, Some, None, refl, sym, ap, subst, ◌∙◌, length, arith, nat_eq, take, drop, get_or, map, MatchOption, decimal, find, is_some, option_map, nat_tests, and_parts, cond_both, eq-eqb, eqb-true, option_and_then_some, append_cancel_left, append_cancel_right, drop_at, length-append, take-append-drop, take_at}
-use Rattle.std.specs.Cmp.Lexicographic.{pointwise, same_text, other_text}
-use Rattle.gr_text.specs.LineReading as reading
-use Rattle.gr_text.proofs.LineNumbers.{number_back, number_found, same_is, same_self}
+use Rattle.gr_model.proofs.Common.{◌≡◌, ℕ, ◌-◌, ◌^◌, ◌<◌, ◌&&◌, ◌==◌, if◌then◌else◌, Bool, true, false, List, [], ◌∷◌, ◌++◌, Option, Some, None, refl, sym, ap, ◌∙◌, length, arith, map, MatchOption, decimal, find, is_some, nat_tests, and_parts, eq-eqb, eqb-true, option_map, option_and_then_some, subst, drop_at, length-append, take-append-drop, take_at, IfSome}
+use Rattle.std.proofs.lemmas.Option.{cond_some}
+use Rattle.gr_text.specs.LineReading.{◌>>=◌, same}
+use Rattle.gr_text.proofs.LineNumbers.{each_some, number_back, number_told, same_is, same_self, same_told}
 use Rattle.gr_model.specs.declared.event.Word.{Word}
 use Rattle.gr_places.specs.declared.buffers.BufferLine.{BufferLine}
-use Rattle.gr_places.specs.declared.buffers.Element.{Element}
-use Rattle.gr_places.specs.SideLines.{BufferSaid, ElementSaid, buffer_line, element, element_of, index_in}
+use Rattle.gr_places.specs.SideLines.{BufferSaid, ElementSaid, buffer_line, element_of, index_in}
 use Rattle.gr_places.proofs.Reading.{element_found, made}
-use Rattle.gr_places.specs.Naming.{IsSaid, IsSaidIn, IsText, in_brackets, is_same, number_of, word_at}
+use Rattle.gr_places.specs.Naming.{IsSaid, IsText, after, before, in_brackets, index_after, number_of, word_at, word_if, word_in}
 
--- ---- options
+-- ---- options and lists
 
-pub is_none : {X : Type 0} (A : Type 0) (P : X → Type 0) (o : Option X) → o ≡ None → A → MatchOption o A P
-is_none A P None e a = a
-is_none A P (Some x) e a = absurd cc
+from_both : {X Y : Type 0} (o : Option X) (f : X → Option Y) (y : Y) → (o >>= f) ≡ Some y → (x : X) × (o ≡ Some x) × (f x ≡ Some y)
+from_both None f y e = absurd cc
+from_both (Some x) f y e = (x, refl, e)
 
 from_map : {X Y : Type 0} (g : X → Y) (o : Option X) (y : Y) → option_map g o ≡ Some y → (x : X) × (o ≡ Some x) × (g x ≡ y)
 from_map g None y e = absurd cc
 from_map g (Some x) y e = (x, refl, cc)
 
-not_both : {X : Type 0} (o : Option X) (x : X) → o ≡ None → o ≡ Some x → ⊥
-not_both o x p q = absurd cc
+-- what is found passes, and is found by another test that it passes
+find_passes : {X : Type 0} (p : X → Bool) (xs : List X) (x : X) → find p xs ≡ Some x → p x ≡ true
+find_passes p [] x e = absurd cc
+find_passes p (y ∷ ys) x e = grind (arith, find_passes p ys x)
 
--- ---- bytes after and before others
-
-module _ (s p : List ℕ) where
-  pub after : (o : Option (Bor (List ℕ)))
-      → MatchOption o (pointwise nat_eq (take (length p) s) p ≡ false) (λ x. (pointwise nat_eq (take (length p) s) p ≡ true) × (x.now ≡ drop (length p) s) × (length x.now + length p ≡ length s))
-      → MatchOption o ((rest : List ℕ) → s ≢ p ++ rest) (λ x. s ≡ p ++ x.now)
-  after None e = λ rest is. other_text (take (length p) s) p (sym e) (ap (take (length p)) is ∙ take_at p rest (length p) refl)
-  after (Some x) e = cc (take-append-drop (length p) s, same_text (take (length p) s) p (sym e.0))
-
-  pub before : (o : Option (Bor (List ℕ)))
-      → MatchOption o (pointwise nat_eq (drop (length s - length p) s) p ≡ false) (λ x. (pointwise nat_eq (drop (length s - length p) s) p ≡ true) × (x.now ≡ take (length s - length p) s) × (length x.now + length p ≡ length s))
-      → MatchOption o ((rest : List ℕ) → s ≢ rest ++ p) (λ x. s ≡ x.now ++ p)
-  before None e = λ rest is.
-      let many = ap (λ (l : List ℕ). length l) is ∙ length-append rest p in
-      other_text (drop (length s - length p) s) p (sym e) (ap (drop (length s - length p)) is ∙ drop_at rest p (length s - length p) (omega (arith, many)))
-  before (Some x) e = cc (take-append-drop (length s - length p) s, same_text (drop (length s - length p) s) p (sym e.0))
+found_too : {X : Type 0} (p q : X → Bool) (xs : List X) (x : X) → find p xs ≡ Some x → q x ≡ true → is_some (find q xs) ≡ true
+found_too p q [] x e t = absurd cc
+found_too p q (y ∷ ys) x e t = grind (arith, found_too p q ys x)
 
 -- ---- a name and an index
 
--- after the name comes the bracket
-pub not_open : (name text indexed : List ℕ) → text ≡ name ++ indexed → ((rest : List ℕ) → indexed ≢ (91 ∷ []) ++ rest) → (k : ℕ) → ¬ IsText name k text
-not_open name text indexed is none k t = none (decimal k ++ (93 ∷ [])) (append_cancel_left name indexed (in_brackets k) (sym is ∙ t))
+after_told : (p s : List ℕ) → (after p s ≡ after p s) × IfSome (after p s) (λ r. s ≡ p ++ r)
+unfolding after
+after_told p s = (refl, each_some (after p s) (λ r. s ≡ p ++ r) (λ r is. grind (arith, same_told, take-append-drop (length p) s)))
 
--- what comes after the bracket
-pub after_open : (name text indexed closed : List ℕ) → text ≡ name ++ indexed → indexed ≡ (91 ∷ []) ++ closed → (k : ℕ) → IsText name k text → closed ≡ decimal k ++ (93 ∷ [])
-after_open name text indexed closed is opened k t =
-    append_cancel_left (91 ∷ []) closed (decimal k ++ (93 ∷ [])) (sym opened ∙ append_cancel_left name indexed (in_brackets k) (sym is ∙ t))
+before_told : (p s : List ℕ) → (before p s ≡ before p s) × IfSome (before p s) (λ r. s ≡ r ++ p)
+unfolding before
+before_told p s = (refl, each_some (before p s) (λ r. s ≡ r ++ p) (λ r is. grind (arith, same_told, take-append-drop (length s - length p) s)))
 
--- the text consists of its parts
-pub is_whole : (name text indexed closed digits : List ℕ) (k : ℕ) → text ≡ name ++ indexed → indexed ≡ (91 ∷ []) ++ closed → closed ≡ digits ++ (93 ∷ []) → digits ≡ decimal k → IsText name k text
-is_whole name text indexed closed digits k is opened shut number =
-    rw (is, opened, shut, number) refl
+index_found : (name text : List ℕ) (k : ℕ) → index_after name text ≡ Some k → IsText name k text
+unfolding index_after
+index_found name text k e = grind (arith, after_told, before_told, number_told)
 
--- a text has at most one index
-pub one_index : (name text : List ℕ) (k j : ℕ) → k < 2 ^ 32 → j < 2 ^ 32 → IsText name k text → IsText name j text → k ≡ j
-one_index name text k j kl jl a b =
-    let both : in_brackets k ≡ in_brackets j = append_cancel_left name (in_brackets k) (in_brackets j) (sym a ∙ b) in
-    let closed : decimal k ++ (93 ∷ []) ≡ decimal j ++ (93 ∷ []) = append_cancel_left (91 ∷ []) (decimal k ++ (93 ∷ [])) (decimal j ++ (93 ∷ [])) both in
-    let digits = append_cancel_right (decimal k) (decimal j) (93 ∷ []) closed in
-    let some : Some k ≡ Some j = sym (number_back k kl) ∙ ap reading.number_of digits ∙ number_back j jl in
-    cc
+index_back : (name : List ℕ) (k : ℕ) → k < 2 ^ 32 → index_after name (name ++ in_brackets k) ≡ Some k
+unfolding index_after after before
+index_back name k lt =
+    let digits = decimal k in
+    let n : length (digits ++ 93 ∷ []) - 1 ≡ length digits = omega (arith, length-append digits (93 ∷ [])) in
+    rw (take_at name (in_brackets k) (length name) refl, drop_at name (in_brackets k) (length name) refl, same_self name, same_self (91 ∷ []), n, drop_at digits (93 ∷ []) (length digits) refl, take_at digits (93 ∷ []) (length digits) refl, same_self (93 ∷ []))
+    (number_back k lt)
 
 -- ---- a word and its place in a line
 
-pub word_of_index : (b : BufferSaid) (w : Word) (k : ℕ) → index_in b w ≡ Some k → number_of w < 2 ^ 32 → word_at b k ≡ Some w
-word_of_index b w k e lt = grind (arith, nat_tests)
+word_of_index : (b : BufferSaid) (w : Word) (k : ℕ) → index_in b w ≡ Some k → number_of w < 2 ^ 32 → (word_at b k ≡ Some w) × (k < 2 ^ 32)
+word_of_index b w k e lt = (grind (arith, nat_tests), grind (arith, nat_tests))
 
-pub index_of_word : (b : BufferSaid) (w : Word) (k : ℕ) → word_at b k ≡ Some w → (index_in b w ≡ Some k) × (number_of w < 2 ^ 32)
-index_of_word b w k e = grind (arith, nat_tests)
+small_word : (b : BufferSaid) (w : Word) (k : ℕ) → word_at b k ≡ Some w → number_of w < 2 ^ 32
+small_word b w k e = grind (arith, nat_tests)
 
-pub small_index : (b : BufferSaid) (w : Word) (k : ℕ) → index_in b w ≡ Some k → number_of w < 2 ^ 32 → k < 2 ^ 32
-small_index b w k e lt = grind (arith, nat_tests)
+module _ (lines : List BufferSaid) (b : BufferSaid) (text : List ℕ) (w : Word) where
+  -- the word of a line is said
+  word_found : word_in lines b text ≡ Some w → IsSaid lines text w
+  unfolding word_in
+  word_found e =
+      let i = from_both (index_after b.name text) (λ k. word_at b k >>= word_if lines b.name k) w e in
+      let v = from_both (word_at b i.0) (word_if lines b.name i.0) w i.2 in
+      let s = from_both (element_of lines v.0) (λ (said : ElementSaid). if (said.index == i.0) && same said.name b.name then Some v.0 else None) w v.2 in
+      let p = cond_some ((s.0.index == i.0) && same s.0.name b.name) v.0 w s.2 in
+      let t = and_parts (s.0.index == i.0) (same s.0.name b.name) p.0 in
+      record {
+        said = s.0;
+        is_element = ap (element_of lines) (sym p.1) ∙ s.1;
+        is_text = rw (eqb-true s.0.index i.0 t.0, same_is s.0.name b.name t.1) (index_found b.name text i.0 i.1);
+        small = small_word b w i.0 (v.1 ∙ ap (λ (x : Word). Some x) p.1);
+      }
 
--- ---- the buffer of a word
+  -- a word that is said is that of its line
+  word_back : (k : ℕ) → index_in b w ≡ Some k → number_of w < 2 ^ 32 → element_of lines w ≡ Some (record { name = b.name; index = k }) → IsText b.name k text → word_in lines b text ≡ Some w
+  unfolding word_in
+  word_back k at small is t =
+      let back = word_of_index b w k at small in
+      rw (t, index_back b.name k back.1, back.0, is, eq-eqb k k refl, same_self b.name) refl
 
--- what passes the test is the element
-pub same_element : (o : Option Element) (name : List ℕ) (k : ℕ) → is_same o name k ≡ true → option_map element o ≡ Some (record { name = name; index = k })
-same_element None name k e = absurd cc
-same_element (Some it) name k e =
-    let p = and_parts _ _ e in
-    rw (same_is it.name.now name p.1, eqb-true it.index k p.0) refl
+module _ (lines : List BufferLine) (text : List ℕ) where
+  abbrev says : BufferLine → Bool
+  says l = is_some (word_in (map buffer_line lines) (buffer_line l) text)
 
--- the element passes the test
-pub element_same : (o : Option Element) (name : List ℕ) (k : ℕ) → option_map element o ≡ Some (record { name = name; index = k }) → is_same o name k ≡ true
-element_same None name k e = absurd cc
-element_same (Some it) name k e =
-    let same : element it ≡ record { name = name; index = k } = cc in
-    let n : it.name.now ≡ name = ap (λ (x : ElementSaid). x.name) same in
-    let i : it.index ≡ k = ap (λ (x : ElementSaid). x.index) same in
-    rw (eq-eqb it.index k i, n, same_self name) refl
+  abbrev has : Word → BufferLine → Bool
+  has w l = is_some (index_in (buffer_line l) w)
 
--- a line that is found is one of them, and passes
-found_line : (test : BufferLine → Bool) (lines : List BufferLine) (b : BufferLine) → find test lines ≡ Some b → (j : ℕ) × (j < length lines) × ((d : BufferLine) → get_or lines j d ≡ b) × (test b ≡ true)
-found_line test [] b e = absurd cc
-found_line test (l ∷ lines) b e = cond_both (test l) (Some l) (find test lines) (λ o. o ≡ Some b → (j : ℕ) × (j < length (l ∷ lines)) × ((d : BufferLine) → get_or (l ∷ lines) j d ≡ b) × (test b ≡ true))
-    (λ is at. let same : l ≡ b = cc in (0, omega arith, (λ d. same), subst (λ (it : BufferLine). test it ≡ true) same is))
-    (λ is at. let more = found_line test lines b at in let lt = more.1 in (suc more.0, omega (arith, lt), more.2, more.3))
-    e
+  pub one_said : (line : BufferLine) → find says lines ≡ Some line → (r : Option Word) → r ≡ word_in (map buffer_line lines) (buffer_line line) text → MatchOption r ((w : Word) → ¬ IsSaid (map buffer_line lines) text w) (λ w. IsSaid (map buffer_line lines) text w)
+  one_said line found None is = let bad : false ≡ true = ap (λ (o : Option Word). is_some o) is ∙ find_passes says lines line found in absurd cc
+  one_said line found (Some w) is = word_found (map buffer_line lines) (buffer_line line) text w (sym is)
 
--- ---- how an index is read
-
-pub read_index : (name text digits : List ℕ) (o : Option ℕ) → o ≡ reading.number_of digits → ((k : ℕ) → IsText name k text → digits ≡ decimal k) → ((k : ℕ) → digits ≡ decimal k → IsText name k text) → MatchOption o ((k : ℕ) → k < 2 ^ 32 → ¬ IsText name k text) (λ k. IsText name k text)
-read_index name text digits None is only whole = λ k lt t. not_both (reading.number_of digits) k (sym is) (ap reading.number_of (only k t) ∙ number_back k lt)
-read_index name text digits (Some n) is only whole = let found = number_found digits n (sym is) in whole n found.0
-
--- ---- the word of a line
-
-pub no_word : (lines : List BufferSaid) (line : BufferSaid) (text : List ℕ) (k : ℕ) → k < 2 ^ 32 → IsText line.name k text → word_at line k ≡ None → (w : Word) → ¬ IsSaidIn lines line text w
-no_word lines line text k lt t none w s =
-    let same = one_index line.name text s.index k (small_index line w s.index s.at_index s.small) lt s.is_text t in
-    not_both (word_at line k) w none (ap (word_at line) (sym same) ∙ word_of_index line w s.index s.at_index s.small)
-
-pub other_word : (lines : List BufferSaid) (line : BufferSaid) (text : List ℕ) (k : ℕ) (v : Word) (o : Option Element) → k < 2 ^ 32 → IsText line.name k text → word_at line k ≡ Some v → option_map element o ≡ element_of lines v → is_same o line.name k ≡ false → (w : Word) → ¬ IsSaidIn lines line text w
-other_word lines line text k v o lt t at found other w s =
-    let same = one_index line.name text s.index k (small_index line w s.index s.at_index s.small) lt s.is_text t in
-    let word : w ≡ v = cc (at, ap (word_at line) (sym same) ∙ word_of_index line w s.index s.at_index s.small) in
-    let is : option_map element o ≡ Some (record { name = line.name; index = k }) =
-    found ∙ ap (element_of lines) (sym word) ∙ s.is_element ∙ ap (λ (i : ℕ). Some (record { name = line.name; index = i })) same in
-    let yes = element_same o line.name k is in cc
-
-pub this_word : (lines : List BufferSaid) (line : BufferSaid) (text : List ℕ) (k : ℕ) (v : Word) (o : Option Element) → IsText line.name k text → word_at line k ≡ Some v → option_map element o ≡ element_of lines v → is_same o line.name k ≡ true → IsSaidIn lines line text v
-this_word lines line text k v o t at found same =
-    let i = index_of_word line v k at in
-    record { index = k; at_index = i.0; is_element = sym found ∙ same_element o line.name k same; is_text = t; small = i.1 }
-
--- ---- the word of all lines
-
-abbrev has : Word → BufferLine → Bool
-has w l = is_some (index_in (buffer_line l) w)
-
-pub said_in_line : (lines : List BufferLine) (text : List ℕ) (w : Word) → IsSaid (map buffer_line lines) text w → (b : BufferLine) × (j : ℕ) × (j < length lines) × IsSaidIn (map buffer_line lines) (buffer_line (get_or lines j b)) text w
-said_in_line lines text w s =
-    option_and_then_some (made w) (find (has w) lines) s.said (element_found lines w (find (has w) lines) refl ∙ s.is_element) (λ b found is.
-    let at = from_map (λ (k : ℕ). record { name = b.name.now; index = k }) (index_in (buffer_line b) w) s.said is in
-    let line = found_line (has w) lines b found in
-    let here : IsSaidIn (map buffer_line lines) (buffer_line b) text w =
-    record { index = at.0; at_index = at.1; is_element = s.is_element ∙ ap (λ (e : ElementSaid). Some e) (sym at.2); is_text = subst (λ (e : ElementSaid). IsText e.name e.index text) (sym at.2) s.is_text; small = s.small } in
-    (b, line.0, line.1, subst (λ (l : BufferLine). IsSaidIn (map buffer_line lines) (buffer_line l) text w) (sym (line.2 b)) here))
-
-pub no_option : {X : Type 0} (o : Option X) → is_some o ≡ false → o ≡ None
-no_option None e = refl
-no_option (Some x) e = absurd cc
+  pub none_said : find says lines ≡ None → (w : Word) → ¬ IsSaid (map buffer_line lines) text w
+  none_said none w s =
+      option_and_then_some (made w) (find (has w) lines) s.said (element_found lines w (find (has w) lines) refl ∙ s.is_element) (λ b found is.
+      let at = from_map (λ (k : ℕ). record { name = b.name.now; index = k }) (index_in (buffer_line b) w) s.said is in
+      let here : word_in (map buffer_line lines) (buffer_line b) text ≡ Some w =
+      word_back (map buffer_line lines) (buffer_line b) text w at.0 at.1 s.small (s.is_element ∙ ap (λ (e : ElementSaid). Some e) (sym at.2)) (subst (λ (e : ElementSaid). IsText e.name e.index text) (sym at.2) s.is_text) in
+      let bad : false ≡ true = ap (λ (o : Option BufferLine). is_some o) (sym none) ∙ found_too (has w) says lines b found (ap (λ (o : Option Word). is_some o) here) in
+      cc)

@@ -1,6 +1,7 @@
 -- Files that are opened by their names, and what holds of their bytes.
 -- Source: docs/OUTPUT.md, "explain".
-use Rattle.std.specs.Prelude.{◌≡◌, ◌⊎◌, ℕ, List, [], ◌∷◌, ◌++◌, map, Option, Result, Ok, Err, ⊤}
+use Rattle.std.specs.Prelude.{◌≡◌, ◌⊎◌, ℕ, List, ◌∷◌, ◌++◌, map, Option, Result, Ok, Err}
+use Rattle.std.specs.List.{AllZip}
 use Rattle.gr_record.specs.declared.fault.Fault.{Fault}
 use Rattle.gr_record.specs.declared.fault.Fault.TheVariants as faults
 use Rattle.gr_replay.specs.Each.{IsEachFault, all_known}
@@ -12,10 +13,7 @@ IsShowFault inputs f = IsEachFault inputs f ⊎ (f ≡ faults.Write)
 module _ {T E : Type 0} (Gives : List ℕ → Result T E → Type 0) where
   -- the files are those of the names, in their order
   abbrev pub AreOpened : List (List ℕ) → List T → Type 0
-  AreOpened [] [] = ⊤
-  AreOpened (name ∷ names) (file ∷ files) = Gives name (Ok file) × AreOpened names files
-  AreOpened [] (file ∷ files) = ⊥
-  AreOpened (name ∷ names) [] = ⊥
+  AreOpened names files = AllZip (λ name file. Gives name (Ok file)) names files
 
   -- the first name whose file can't be opened: all files of the names before it are open
   pub record IsFirstUnopened (names : List (List ℕ)) : Type 0 where

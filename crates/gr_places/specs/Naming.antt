@@ -1,12 +1,12 @@
 -- The word of memory that a text of the form NAME[INDEX] names.
 -- Source: docs/FORMATS.md, "Side files".
-use Rattle.std.specs.Prelude.{◌≡◌, ℕ, ◌+◌, ◌^◌, ◌<◌, Bool, false, ◌&&◌, ◌==◌, nat_lt, if◌then◌else◌, List, [], ◌∷◌, ◌++◌, Option, None, Some, decimal}
+use Rattle.std.specs.Prelude.{◌≡◌, ℕ, ◌+◌, ◌-◌, ◌^◌, ◌<◌, ◌&&◌, ◌==◌, nat_lt, if◌then◌else◌, List, [], ◌∷◌, ◌++◌, length, take, drop, Option, None, Some, decimal}
 use Rattle.std.specs.Option.{option_map}
-use Rattle.gr_text.specs.LineReading.{same}
+use Rattle.gr_text.specs.LineReading as reading
+use Rattle.gr_text.specs.LineReading.{◌>>=◌, same}
 use Rattle.gr_model.specs.declared.event.Word.{Word}
 use Rattle.gr_model.specs.declared.event.Word.TheVariants.{Global, Local}
-use Rattle.gr_places.specs.declared.buffers.Element.{Element}
-use Rattle.gr_places.specs.SideLines.{BufferSaid, ElementSaid, element_of, index_in}
+use Rattle.gr_places.specs.SideLines.{BufferSaid, ElementSaid, element_of}
 
 -- an index in brackets
 abbrev pub in_brackets : ℕ → List ℕ
@@ -28,15 +28,18 @@ pub record IsSaid (lines : List BufferSaid) (text : List ℕ) (w : Word) : Type 
   pub is_text : IsText said.name said.index text
   pub small : number_of w < 2 ^ 32
 
--- the same, and the word is at this index of this line, which has this name
-pub record IsSaidIn (lines : List BufferSaid) (line : BufferSaid) (text : List ℕ) (w : Word) : Type 0 where
-  pub index : ℕ
-  pub at_index : index_in line w ≡ Some index
-  pub is_element : element_of lines w ≡ Some (record { name = line.name; index = index })
-  pub is_text : IsText line.name index text
-  pub small : number_of w < 2 ^ 32
-
 -- ---- how the word is found
+
+-- what comes after these bytes at the front, and before these at the end, if they are there
+unfoldable pub after : List ℕ → List ℕ → Option (List ℕ)
+after front bytes = if same (take (length front) bytes) front then Some (drop (length front) bytes) else None
+
+unfoldable pub before : List ℕ → List ℕ → Option (List ℕ)
+before back bytes = if same (drop (length bytes - length back) bytes) back then Some (take (length bytes - length back) bytes) else None
+
+-- the index in a text that is this name, then an index in brackets
+unfoldable pub index_after : List ℕ → List ℕ → Option ℕ
+index_after name text = after name text >>= after (91 ∷ []) >>= before (93 ∷ []) >>= reading.number_of
 
 -- first + k, if it is below 2^32 and k is below words
 abbrev pub number_at : ℕ → ℕ → ℕ → Option ℕ
@@ -50,7 +53,10 @@ word_from (Local g first) words k = option_map (Local g) (number_at first words 
 abbrev pub word_at : BufferSaid → ℕ → Option Word
 word_at b k = word_from b.first b.words k
 
--- whether there is a word of a buffer, with this name and this index
-abbrev pub is_same : Option Element → List ℕ → ℕ → Bool
-is_same None name k = false
-is_same (Some e) name k = (e.index == k) && same e.name.now name
+-- a word, if the first line that has it gives it this name and this index
+abbrev pub word_if : List BufferSaid → List ℕ → ℕ → Word → Option Word
+word_if lines name k w = element_of lines w >>= λ e. if (e.index == k) && same e.name name then Some w else None
+
+-- the word of a line that the text names, if the first line that has the word has the name of this line
+unfoldable pub word_in : List BufferSaid → BufferSaid → List ℕ → Option Word
+word_in lines line text = index_after line.name text >>= λ k. word_at line k >>= word_if lines line.name k

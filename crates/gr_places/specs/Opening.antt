@@ -3,7 +3,6 @@
 use Rattle.std.specs.Prelude.{◌≡◌, ◌⊎◌, ℕ, List, [], ◌∷◌, ◌++◌, map, Option, None, Some, Result, Ok, Err, IfSome, option_map}
 use Rattle.gr_record.specs.Prelude.{IsOutside}
 use Rattle.gr_places.specs.SideLines.{buffers_in, places_in}
-use Rattle.gr_record.specs.declared.fault.Fault.{Fault}
 use Rattle.gr_replay.specs.Each.{all_known}
 use Rattle.gr_record.specs.declared.fault.Fault.TheVariants as faults
 use Rattle.gr_places.specs.declared.sides_fault.SidesFault.{SidesFault}
@@ -74,20 +73,11 @@ module _ {T E : Type 0} (remaining : T → Option (List ℕ)) (Gives : List ℕ 
     pub opened : AreAllOpened Gives named names sides files
     pub holds : Holds sides
 
-  -- the side files are in form, but the streams are not a launch, or the writer failed
-  pub record IsStreamsFault (f : Fault) : Type 0 where
-    pub sides : Pair T
-    pub files : List T
-    pub opened : AreAllOpened Gives named names sides files
-    pub said : SidesSaid
-    pub say : Say remaining sides said
-    pub fault : IfSome (all_known (map remaining files)) (λ inputs. IsShowFault inputs f)
-
   -- why there is no answer: a file can't be opened, a side file can't be read, the streams are not a launch, the writer failed, or there is no
   -- memory; this line of the places is the first that is out of form; or the places are in form, and this is the first line of the buffers
   -- that is not
   abbrev pub IsSidesFault : SidesFault → Type 0
-  IsSidesFault (Run f) = IsOpeningFault Gives (all_names named names) f ⊎ HoldsOfSides (λ sides. IsOutside f) ⊎ IsStreamsFault f
+  IsSidesFault (Run f) = IsOpeningFault Gives (all_names named names) f ⊎ HoldsOfSides (λ sides. IsOutside f) ⊎ HoldsOfAllFiles (λ known said. IfSome known (λ inputs. IsShowFault inputs f))
   IsSidesFault (Places line) = HoldsOfSides (λ sides. IfSome (known_of remaining sides.places) (λ bytes. places_in bytes ≡ Err line))
   IsSidesFault (Buffers line) =
       HoldsOfSides (λ sides. IfSome (known_of remaining sides.places) (λ bytes. (said : List _) × (places_in bytes ≡ Ok said)) × IfSome (known_of remaining sides.buffers) (λ bytes. buffers_in bytes ≡ Err line))

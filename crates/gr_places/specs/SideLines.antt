@@ -56,26 +56,20 @@ pub record PlaceSaid : Type 0 where
 abbrev pub place_line : PlaceLine → PlaceSaid
 place_line l = record { of = l.of; text = l.text.now }
 
--- a place does not begin with a digit
-unfoldable pub place_said : List ℕ → Option (List ℕ)
-place_said bytes = if begins_with_digit bytes then None else text_said bytes
-
--- the line of an event, by its group and the bytes after it
+-- the line of an event, by its group and the bytes after it; its place does not begin with a digit
 unfoldable pub event_said : List ℕ → List ℕ → Option PlaceSaid
 event_said group bytes =
     let item = first_of bytes in item.1 >>= λ b.
     let index = first_of b in
-    short_of group >>= λ g. short_of item.0 >>= λ i. number_of index.0 >>= λ n. index.1 >>= λ c. place_said c >>= λ t.
-    Some (record { of = Event (record { at = record { group = g; item = i }; index = n }); text = t })
+    short_of group >>= λ g. short_of item.0 >>= λ i. number_of index.0 >>= λ n. index.1 >>= λ c.
+    (if begins_with_digit c then None else text_said c >>= λ t. Some (record { of = Event (record { at = record { group = g; item = i }; index = n }); text = t }))
 
--- the line of a site, by its number and the bytes after it
-unfoldable pub site_said : List ℕ → List ℕ → Option PlaceSaid
-site_said site bytes = number_of site >>= λ s. place_said bytes >>= λ t. Some (record { of = Site s; text = t })
-
+-- the line of an event or of a site: after the site's number comes its place
 unfoldable pub place_line_said : List ℕ → Option PlaceSaid
 place_line_said line =
     let first = first_of line in first.1 >>= λ bytes.
-    (if begins_with_digit bytes then event_said first.0 bytes else site_said first.0 bytes)
+    (if begins_with_digit bytes then event_said first.0 bytes
+    else number_of first.0 >>= λ s. text_said bytes >>= λ t. Some (record { of = Site s; text = t }))
 
 -- what a file of places says, or the number of its first line that is out of form
 abbrev pub places_in : List ℕ → Result (List PlaceSaid) ℕ
@@ -111,25 +105,25 @@ pub record BufferSaid : Type 0 where
 abbrev pub buffer_line : BufferLine → BufferSaid
 buffer_line l = record { first = l.first; words = l.words; name = l.name.now }
 
--- the first word, how many there are, and the name
-unfoldable pub words_said : List ℕ → Option (ℕ × ℕ × List ℕ)
-words_said bytes =
+-- the word with this number, in this group's local memory or in global memory
+abbrev pub word_of : Option ℕ → ℕ → Word
+word_of None n = Global n
+word_of (Some g) n = Local g n
+
+-- a buffer, by the bytes of its line after the memory
+unfoldable pub buffer_said : Option ℕ → List ℕ → Option BufferSaid
+buffer_said group bytes =
     let first = first_of bytes in first.1 >>= λ b.
     let words = first_of b in
     number_of first.0 >>= λ f. number_of words.0 >>= λ n. words.1 >>= λ c. text_said c >>= λ t.
-    Some (f, n, t)
-
--- a buffer in local memory, by the bytes after l
-unfoldable pub local_said : List ℕ → Option BufferSaid
-local_said bytes =
-    let group = first_of bytes in short_of group.0 >>= λ g. group.1 >>= λ b. words_said b >>= λ x.
-    Some (record { first = Local g x.0; words = x.1; name = x.2 })
+    Some (record { first = word_of group f; words = n; name = t })
 
 unfoldable pub buffer_line_said : List ℕ → Option BufferSaid
 buffer_line_said line =
     let space = first_of line in space.1 >>= λ bytes.
-    (if same space.0 (codes "g") then (words_said bytes >>= λ x. Some (record { first = Global x.0; words = x.1; name = x.2 }))
-    else if same space.0 (codes "l") then local_said bytes
+    let group = first_of bytes in
+    (if same space.0 (codes "g") then buffer_said None bytes
+    else if same space.0 (codes "l") then (short_of group.0 >>= λ g. group.1 >>= λ b. buffer_said (Some g) b)
     else None)
 
 -- what a file of buffers says, or the number of its first line that is out of form

@@ -31,51 +31,36 @@ pub struct Element<'a> {
     pub index: u32,
 }
 
-/// The place of a number among `words` numbers from `first` on, if it is one of them.
-fn index_within(first: u32, words: u32, number: u32) -> Option<u32>
-    ensures { result ≡ spec.index_within first words number }
-{
-    let index = number.checked_sub(first)?;
-    if index < words { Some(index) } else { None }
-}
-
 impl<'a> BufferLine<'a> {
     /// The place of a word in the buffer, if it belongs to it.
     fn index_of(&self, word: Word) -> Option<u32>
         ensures { result ≡ spec.index_in (spec.buffer_line self.now) word }
     {
-        match (self.first, word) {
-            (Word::Global(first), Word::Global(number)) => index_within(first, self.words, number),
+        let index = match (self.first, word) {
+            (Word::Global(first), Word::Global(number)) => number.checked_sub(first),
             (Word::Local(group, first), Word::Local(other, number)) if group == other => {
-                index_within(first, self.words, number)
+                number.checked_sub(first)
             }
             _ => None,
-        }
+        }?;
+        (index < self.words).then_some(index)
     }
 }
 
-/// The first word, how many there are and the name, in the bytes of a line after the memory.
-#[tactic(auto, unfolding(crate::specs::SideLines::words_said))]
-fn parse_words(bytes: &[u8]) -> Option<(u32, u32, &str)>
-    ensures { option_map (λ x. (x.0, x.1, x.2.now)) result ≡ spec.words_said bytes.now }
+/// A buffer in this group's local memory, or in global memory, by the bytes of its line after the memory.
+#[tactic(auto, unfolding(crate::specs::SideLines::buffer_said))]
+fn parse_buffer(group: Option<u16>, bytes: &[u8]) -> Option<BufferLine<'_>>
+    ensures { option_map spec.buffer_line result ≡ spec.buffer_said group bytes.now }
 {
     let (first, rest) = split_word(bytes);
     let (words, rest) = split_word(rest?);
     let first = parse_number(first)?;
     let words = parse_number(words)?;
     let name = parse_text(rest?)?;
-    Some((first, words, name))
-}
-
-/// A buffer in a group's local memory, by the bytes of its line after the memory.
-#[tactic(auto, unfolding(crate::specs::SideLines::local_said))]
-fn parse_local(bytes: &[u8]) -> Option<BufferLine<'_>>
-    ensures { option_map spec.buffer_line result ≡ spec.local_said bytes.now }
-{
-    let (group, rest) = split_word(bytes);
-    let group = parse_short(group)?;
-    let (first, words, name) = parse_words(rest?)?;
-    let first = Word::Local(group, first);
+    let first = match group {
+        None => Word::Global(first),
+        Some(group) => Word::Local(group, first),
+    };
     Some(BufferLine { first, words, name })
 }
 
@@ -93,11 +78,11 @@ impl<'a> SideLine<'a> for BufferLine<'a> {
         let (space, rest) = split_word(line);
         let bytes = rest?;
         if is_word(space, "g") {
-            let (first, words, name) = parse_words(bytes)?;
-            let first = Word::Global(first);
-            Some(BufferLine { first, words, name })
-        } else if is_word(space, "l") {
-            parse_local(bytes)
+            return parse_buffer(None, bytes);
+        }
+        let (group, rest) = split_word(bytes);
+        if is_word(space, "l") {
+            parse_buffer(Some(parse_short(group)?), rest?)
         } else {
             None
         }
@@ -128,6 +113,7 @@ fn line_with<'a>(lines: &[BufferLine<'a>], word: Word) -> Option<BufferLine<'a>>
 }
 
 /// The buffer of a word and the word's place in it, by the first line that has the word, or `None` if no line has it.
+#[tactic(auto, using(crate::proofs::Reading::find_viewed))]
 pub fn element_of<'a>(lines: &[BufferLine<'a>], word: Word) -> Option<Element<'a>>
     ensures { option_map spec.element result ≡ spec.element_of (map spec.buffer_line lines.now) word }
 {

@@ -20,10 +20,7 @@ fn group_of(bytes: &[u8]) -> Option<u16>
 fn is_between(least: usize, most: usize, group: Option<u16>) -> bool
     ensures { result ≡ is_between least most group }
 {
-    match group {
-        None => false,
-        Some(group) => least <= usize::from(group) && usize::from(group) <= most,
-    }
+    group.is_some_and(|group| least <= usize::from(group) && usize::from(group) <= most)
 }
 
 /// The place of the first input whose group is from `least` to `most`.

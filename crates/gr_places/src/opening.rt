@@ -24,6 +24,7 @@ fn fault_of_opening(error: &io::Error) -> Fault
 ///
 /// # Errors
 /// `Read` at the first that can't be opened; `Memory`.
+#[tactic(auto, using(std::proofs::lemmas::List::take_all))]
 pub fn open_all<A: Allocator, T: Drop, O: Fn(&str) -> io::Result<T>>(
     alloc: A,
     names: &[&str],

@@ -28,17 +28,6 @@ pub struct PlaceLine<'a> {
     pub text: &'a str,
 }
 
-/// A place: it does not begin with a digit.
-#[tactic(auto, unfolding(crate::specs::SideLines::place_said))]
-fn parse_place(bytes: &[u8]) -> Option<&str>
-    ensures { option_map (λ text. text.now) result ≡ spec.place_said bytes.now }
-{
-    if is_digit_first(bytes) {
-        return None;
-    }
-    parse_text(bytes)
-}
-
 /// The line of an event, by its group and the bytes after the group.
 #[tactic(auto, unfolding(crate::specs::SideLines::event_said))]
 fn parse_event<'a>(group: &[u8], bytes: &'a [u8]) -> Option<PlaceLine<'a>>
@@ -51,18 +40,12 @@ fn parse_event<'a>(group: &[u8], bytes: &'a [u8]) -> Option<PlaceLine<'a>>
         item: parse_short(item)?,
     };
     let index = parse_number(index)?;
-    let text = parse_place(rest?)?;
+    let bytes = rest?;
+    if is_digit_first(bytes) {
+        return None;
+    }
+    let text = parse_text(bytes)?;
     let of = Placed::Event(EventId { at, index });
-    Some(PlaceLine { of, text })
-}
-
-/// The line of a site, by its number and the bytes after the number.
-#[tactic(auto, unfolding(crate::specs::SideLines::site_said))]
-fn parse_site<'a>(site: &[u8], bytes: &'a [u8]) -> Option<PlaceLine<'a>>
-    ensures { option_map spec.place_line result ≡ spec.site_said site.now bytes.entry.now }
-{
-    let of = Placed::Site(parse_number(site)?);
-    let text = parse_place(bytes)?;
     Some(PlaceLine { of, text })
 }
 
@@ -80,10 +63,11 @@ impl<'a> SideLine<'a> for PlaceLine<'a> {
         let (first, rest) = split_word(line);
         let bytes = rest?;
         if is_digit_first(bytes) {
-            parse_event(first, bytes)
-        } else {
-            parse_site(first, bytes)
+            return parse_event(first, bytes);
         }
+        let of = Placed::Site(parse_number(first)?);
+        let text = parse_text(bytes)?;
+        Some(PlaceLine { of, text })
     }
 }
 

@@ -30,18 +30,11 @@ impl From<Fault> for SidesFault {
     }
 }
 
-fn put_bad_line<W: Write>(writer: &mut W, before: &[u8], line: u64) -> Result<(), WriteFault>
+fn write_bad_line<W: Write>(writer: &mut W, before: &[u8], line: u64) -> Result<(), WriteFault>
     ensures { Puts (W.contents writer.old) (W.contents writer.new) result (spec.bad_line before.now line) }
 {
     put_field(writer, before, line)?;
-    put(writer, b": bad line\n")
-}
-
-fn write_bad_line<W: Write>(writer: &mut W, before: &[u8], line: u64) -> Result<(), WriteFault>
-    ensures whole { OnOk result (Appends (W.contents writer.old) (W.contents writer.new) (spec.bad_line before.now line)) }
-    ensures prefix { OnErr result (AppendsPrefix (W.contents writer.old) (W.contents writer.new) (spec.bad_line before.now line)) }
-{
-    put_bad_line(writer, before, line)?;
+    put(writer, b": bad line\n")?;
     finish(writer)
 }
 

@@ -24,6 +24,7 @@ pub enum Spot {
 
 /// How many records are accepted at the start of the bytes, in a stream of this header and up to its end, and the bytes after
 /// them.
+#[tactic(auto, using(gr_record::proofs::Loop::loop_steps))]
 fn skip_accepted(header: Header, bytes: &[u8]) -> (usize, &[u8])
     ensures number { result.0 ≡ length (records_of header MOST_RECORDS bytes.now).events }
     ensures rest { result.1.now ≡ (records_of header MOST_RECORDS bytes.now).rest }
@@ -38,13 +39,9 @@ fn skip_accepted(header: Header, bytes: &[u8]) -> (usize, &[u8])
         let (record, after) = rest.split_at(size);
         match read_event(header, record) {
             Err(_) => return (number, rest),
-            Ok(event) => {
-                if event.kind.is_end() {
-                    return (number + 1, after);
-                }
-            }
+            Ok(event) if event.kind.is_end() => return (number + 1, after),
+            Ok(_) => rest = after,
         }
-        rest = after;
     }
     (MOST_RECORDS, rest)
 }
@@ -61,7 +58,7 @@ fn behind_header(error: RecordError, number: u64, byte: u64) -> Spot
 
 /// Where this fault is in a stream of these bytes: at the header, if it can't be read; else at the first record that is not
 /// accepted, or after the end.
-#[tactic(auto, using(crate::proofs::SpotLemmas::nothing_read, crate::proofs::SpotLemmas::records_read, crate::proofs::SpotLemmas::rest_is_short))]
+#[tactic(auto, using(crate::proofs::SpotLemmas::rest_is_short))]
 pub(crate) fn spot_of(error: RecordError, bytes: &[u8]) -> Spot
     ensures { result ≡ spot error bytes.now }
 {

@@ -1,5 +1,5 @@
 -- The accesses to a word that are held are those that are left of all if the grounded ones are taken away.
-use Rattle.gr_model.proofs.Common.{◌≡◌, ◌≢◌, ◌↔◌, ℕ, ◌+◌, ◌<◌, ◌&&◌, not, Bool, true, false, List, filter, get_or, length, Option, Some, None, is_some, slice_get, refl, sym, ap, ◌∙◌, subst, arith, true≢false, [], Decides, IsDistinct, and_parts, and_right, not-true, length-map, AllPairs-from_IsDistinct, IsDistinct-from_AllPairs, is_member-filter, is_some-lookup, length-intersection_difference, get_or_from_slice_get, slice_get-get_or, slice_get_within}
+use Rattle.gr_model.proofs.Common.{◌≡◌, ◌≢◌, ◌↔◌, ℕ, ◌+◌, ◌&&◌, not, Bool, true, false, List, filter, get_or, length, Option, Some, None, is_some, refl, sym, ap, ◌∙◌, subst, arith, true≢false, [], Decides, IsDistinct, and_parts, and_right, not-true, length-map, AllPairs-from_IsDistinct, IsDistinct-from_AllPairs, is_member-filter, is_some-lookup, length-intersection_difference, get_or_from_slice_get, slice_get-get_or, slice_get_within}
 use Rattle.std.specs.List.{AllPairs}
 use Rattle.std.specs.Map.{keys_of}
 use Rattle.std.specs.Set.{IsDifference, IsIntersection, is_member}

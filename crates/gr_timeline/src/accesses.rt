@@ -19,9 +19,6 @@ use std::hash::{BuildHasherDefault, FoldHasher};
 pub type Accesses<A> = IndexMap<EventId, Details, BuildHasherDefault<FoldHasher>, A>;
 
 /// Keeps the details of a record of a group, of this number in the group's list, if it accesses the word.
-///
-/// # Errors
-/// `Memory`: out of memory.
 fn keep<A: Allocator>(
     known: &mut Accesses<A>,
     word: Word,
@@ -46,9 +43,6 @@ fn keep<A: Allocator>(
 }
 
 /// Adds the accesses of a group to a word.
-///
-/// # Errors
-/// `Memory`: out of memory.
 fn add_group<A: Allocator + Copy>(
     alloc: A,
     known: &mut Accesses<A>,

@@ -19,9 +19,6 @@ pub(crate) struct Count {
 }
 
 /// The counts of so many items at the start.
-///
-/// # Errors
-/// `Memory`: out of memory.
 pub(crate) fn none_counted<A: Allocator + Copy>(
     alloc: A,
     items: u16,

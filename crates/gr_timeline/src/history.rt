@@ -71,9 +71,6 @@ fn has(words: &[Word], word: Word) -> bool
 }
 
 /// Whether a word is hit in the accesses that the shadows represent.
-///
-/// # Errors
-/// `Memory`: out of memory.
 fn is_hit<A: Allocator + Copy>(shadows: &Shadows<A>, word: Word) -> Result<bool, Memory>
     ensures { (accesses : List ClockedAccess) → StandsFor accesses shadows.now → IfOk result (λ hit. IsTrue hit ↔ IsHitIn accesses word) }
 {

@@ -38,9 +38,6 @@ impl<A: Allocator> Model for Judged<A> {
 
 impl<A: Allocator + Copy> Judged<A> {
     /// Takes and handles the records of a launch.
-    ///
-    /// # Errors
-    /// `Memory`: out of memory.
     pub(crate) fn of(alloc: A, traces: &Traces<A>) -> Result<Judged<A>, Memory>
         ensures { IfOk result (λ j. j ≡ traces.now) }
     {

@@ -32,9 +32,6 @@ fn place_in(links: &[Link], event: EventId) -> usize
 }
 
 /// Goes from a held event to the first held one of its item.
-///
-/// # Errors
-/// `Memory`: out of memory.
 fn go_to_first<A: Allocator, B: Allocator>(
     judged: &Judged<A>,
     links: &mut Vec<Link, B>,
@@ -80,9 +77,6 @@ fn visit<A: Allocator>(
 }
 
 /// Goes from the first held event of an item to one for which it waits, if its reason leads to one.
-///
-/// # Errors
-/// `Memory`: out of memory.
 fn go_on<A: Allocator, B: Allocator>(
     judged: &Judged<A>,
     links: &mut Vec<Link, B>,
@@ -103,9 +97,6 @@ fn go_on<A: Allocator, B: Allocator>(
 }
 
 /// Follows the chain from a held event to its end, and puts its links into a list that has none.
-///
-/// # Errors
-/// `Memory`: out of memory.
 fn follow<A: Allocator, B: Allocator>(
     judged: &Judged<A>,
     links: &mut Vec<Link, B>,
@@ -128,9 +119,6 @@ fn follow<A: Allocator, B: Allocator>(
 /// The chain from a held event.
 ///
 /// It takes time and memory that grow with the work-items of the launch.
-///
-/// # Errors
-/// `Memory`: out of memory.
 pub(crate) fn chain_of<A: Allocator + Copy>(
     alloc: A,
     judged: &Judged<A>,

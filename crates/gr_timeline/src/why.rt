@@ -34,9 +34,6 @@ impl<A: Allocator> WhyHeld<A> {
 }
 
 /// Why an event of a launch is held, if it is, in a launch whose grounded events are known.
-///
-/// # Errors
-/// `Memory`: out of memory.
 fn why_in<A: Allocator + Copy>(
     alloc: A,
     judged: &Judged<A>,

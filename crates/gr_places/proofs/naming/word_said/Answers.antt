@@ -1,17 +1,9 @@
-use Rattle.gr_model.proofs.Common.{below_more, sym, ◌∙◌, map, subst, arith, get_or_default, MatchOption-at_none}
-use Rattle.gr_places.specs.declared.buffers.BufferLine.{BufferLine}
-use Rattle.gr_places.specs.SideLines.{buffer_line}
-use Rattle.gr_places.specs.Naming.{IsSaidIn}
-use Rattle.gr_places.proofs.NamingLemmas.{no_option, said_in_line}
+use Rattle.gr_model.proofs.Common.{sym, ◌∙◌}
+use Rattle.gr_places.proofs.NamingLemmas.{none_said, one_said}
 use Rattle.gr_places.proofs.naming.word_said.Goals as goal
 
-pub loop-line-preserved : goal.loop-line-preserved
-loop-line-preserved c =
-    let here = MatchOption-at_none _ _ (no_option _ (sym c.is_some.ensures ∙ c.if-is_some.false)) c.word_in-word.ensures in
-    below_more _ _ c.loop-line.invariant (λ d w s. here w (subst (λ (l : BufferLine). IsSaidIn (map buffer_line c.args.lines.now) (buffer_line l) c.args.text.now w) (get_or_default c.args.lines.now c.loop-line.line-index d _ (omega arith)) s))
+pub returns-in_err-line : goal.returns-in_err-line
+returns-in_err-line c = rw c.from_residual.ensures (none_said c.args.lines.now c.args.text.now (sym c.line_said.ensures ∙ c.in_err-line.was))
 
 pub returns : goal.returns
-returns c w s =
-    let f = said_in_line c.args.lines.now c.args.text.now w s in
-    let lt = f.2 in
-    c.loop-line.invariant f.1 (omega (arith, lt)) f.0 w f.3
+returns c = one_said c.args.lines.now c.args.text.now c.in_ok-line.line (sym c.line_said.ensures ∙ c.in_ok-line.was) c.word_in.result c.word_in.ensures
