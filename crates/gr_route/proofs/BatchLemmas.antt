@@ -1,9 +1,8 @@
 -- Batches, and what is left of one.
-use Rattle.gr_model.proofs.Common.{◌≡◌, ◌≢◌, ℕ, List, [], ◌∷◌, ◌++◌, refl, sym, ap, ◌∙◌, append_assoc, append-nil, length-append, arith, nat_tests, take-append_seam}
+use Rattle.gr_model.proofs.Common.{◌≡◌, ◌≢◌, ℕ, List, [], ◌∷◌, ◌++◌, refl, sym, ap, ◌∙◌, append_assoc, append-nil, length-append, map, arith, nat_tests, take-append_seam}
 use Rattle.gr_model.specs.declared.event.Event.{Event}
 use Rattle.gr_model.specs.Prelude.{events_of}
 use Rattle.gr_route.specs.Batches.{all_of, front, sent_by}
-use Rattle.gr_route.specs.IntakeRule.{events_in}
 
 module _ {T : Type 0} where
   pub all_of_push : (bs : List (List T)) (b : List T) → all_of (bs ++ b ∷ []) ≡ all_of bs ++ b
@@ -18,7 +17,7 @@ module _ {T : Type 0} where
 
 -- ---- events of a group
 
-pub events_of_sent : (g : ℕ) (es : List Event) → events_in (sent_by g es) ≡ es
+pub events_of_sent : (g : ℕ) (es : List Event) → map (λ s. s.event) (sent_by g es) ≡ es
 events_of_sent g [] = refl
 events_of_sent g (e ∷ es) = ap (λ l. e ∷ l) (events_of_sent g es)
 

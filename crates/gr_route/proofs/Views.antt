@@ -2,9 +2,7 @@
 use Rattle.gr_model.proofs.Common.{arith, ◌≡◌, ◌≢◌, ℕ, zero, suc, false, true, true≢false, List, [], ◌∷◌, ◌++◌, length, set, sym, refl, subst}
 use mathlib.Core.Option.{some, some-injective, some-ne-none}
 use lib.ListN.{get_elem?}
-use Rattle.crossbeam_queue.specs.Fifo.{Learns}
 use Rattle.crossbeam_queue.proofs.Lists.{at_set}
-use Rattle.gr_route.specs.Rooms.{AgreesWith}
 
 module _ {V : Type 0} where
   abbrev pub Each : (ℕ → V → Type 0) → List V → Type 0
@@ -35,10 +33,6 @@ set_there (x ∷ xs) (suc pass) v w at = set_there xs pass v w at
 
 pub there_before : {V : Type 0} (views : List V) (pass other : ℕ) (v w : V) → other ≢ pass → get_elem? (set views pass v) other ≡ some w → get_elem? views other ≡ some w
 there_before views pass other v w apart at = grind (arith, at_set views pass other v w at)
-
--- a seat learns that what the queue holds agrees with what the seat knows
-pub agrees : {T V : Type 0} (holds : List T → List V → Type 0) (pass : ℕ) (v : V) → Learns holds pass v (AgreesWith holds v)
-agrees holds pass v items views h at = (views, pass, at, h)
 
 pub none_holds : {A : Type 0} → false ≡ true → A
 none_holds e = absurd (true≢false (sym e))

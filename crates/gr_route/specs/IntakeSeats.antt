@@ -1,19 +1,18 @@
 -- What contracts see of an intake queue's seats.
 -- Source: docs/QUEUES.md, "The intake queue".
-use Rattle.std.specs.Prelude.{◌≡◌, ◌<◌, ◌≢◌, ℕ, List, [], ◌++◌, length, slice_index, IsFalse}
-use Rattle.std.specs.List.{All}
+use Rattle.std.specs.Prelude.{◌<◌, ◌≢◌, ℕ, List, ◌++◌, length, slice_index, IsFalse}
 use Rattle.atomic_table.specs.Seated.{TableId}
-use Rattle.crossbeam_queue.specs.Passes.{Pass, view}
+use Rattle.crossbeam_queue.specs.Passes.{view}
 use Rattle.gr_model.specs.declared.event.Event.{Event}
 use Rattle.gr_model.specs.declared.event.Sent.{Sent}
-use Rattle.gr_model.specs.declared.limits.TheConstants.{MOST_GROUPS, MOST_RECORDS}
+use Rattle.gr_model.specs.declared.limits.TheConstants.{MOST_RECORDS}
 use Rattle.gr_model.specs.Prelude.{IsEventOk, IsPrefix, events_of, is_complete}
-use Rattle.gr_route.specs.declared.intake_rule.IntakeView.{IntakeView}
-use Rattle.gr_route.specs.declared.intake_rule.Joined.{Joined}
+use Rattle.gr_route.specs.declared.rule.Joined.{Joined}
 use Rattle.gr_route.specs.Batches.{front}
-use Rattle.gr_route.specs.Prefixes.{EndsWith, StartsWith}
+use Rattle.gr_route.specs.Prefixes.{EndsWith}
 use Rattle.gr_route.specs.Rooms.{AgreesWith}
-use Rattle.gr_route.specs.IntakeRule.{SeatsAgree, seat_of, taker_of}
+use Rattle.gr_route.specs.IntakeRule.{SeatsAgree}
+use Rattle.gr_route.specs.Rule as rule
 
 -- the seat's queue, its group, the group's number of items, and the events that it pushed
 pub record Seat : Type 0 where
@@ -27,23 +26,23 @@ pub record Taker : Type 0 where
   pub queue : TableId
   pub popped : List Sent
   pub sizes : List ℕ
-  pub joined : List Joined
+  pub joined : List (Joined Event)
+
+-- what is seen of the taker's pass, if these groups have had a seat, and this is left of the batch that was popped last
+abbrev pub taker_seen : rule.PassOf Sent Event → List ℕ → List Sent → Taker
+taker_seen pass sizes rest = record { queue = pass.table_id; popped = front (view pass).popped rest; sizes = sizes; joined = (view pass).joined }
 
 -- what was popped of a group
 abbrev pub popped_of : Taker → ℕ → List Event
 popped_of t g = events_of g t.popped
 
--- a seat that was joined back had the items that its group has; what it pushed is the prefix of a stream, and begins with what was popped of the group
-pub record IsDelivered (t : Taker) (j : Joined) : Type 0 where
-  pub items : j.items ≡ slice_index t.sizes j.group
-  pub stream : IsPrefix j.items j.pushed
-  pub prefix : StartsWith j.pushed (popped_of t j.group)
+-- a seat that was joined back had the items that its group has, at least one; what it pushed is the prefix of a stream, and begins with what was popped of the group
+abbrev pub IsDelivered : Taker → Joined Event → Type 0
+IsDelivered t = rule.IsDelivered events_of IsPrefix t.popped t.sizes
 
 -- what was popped of a group is the prefix of a stream, and nothing was popped of a group that has had no seat
-pub record IsDelivery (t : Taker) : Type 0 where
-  pub streams : (g : ℕ) → IsPrefix (slice_index t.sizes g) (popped_of t g)
-  pub unseated : (g : ℕ) → slice_index t.sizes g ≡ 0 → popped_of t g ≡ []
-  pub joined : All (IsDelivered t) t.joined
+abbrev pub IsDelivery : Taker → Type 0
+IsDelivery t = rule.IsDelivery events_of IsPrefix t.popped t.sizes t.joined
 
 -- the next event to be popped is of a group that has had a seat, and may follow what was popped of the group
 pub record IsNextPopped (t : Taker) (s : Sent) : Type 0 where
@@ -56,10 +55,10 @@ pub record IsNextPopped (t : Taker) (s : Sent) : Type 0 where
 
 -- what the queue holds agrees with what a seat that pushes knows, and with what the seat that pops knows
 abbrev pub AgreesWithSeat : Seat → List Sent → Type 0
-AgreesWithSeat s = AgreesWith SeatsAgree (seat_of s.group s.items s.pushed)
+AgreesWithSeat s = AgreesWith SeatsAgree (rule.seat_of s.group s.items s.pushed)
 
 abbrev pub AgreesWithTaker : Taker → List Sent → Type 0
-AgreesWithTaker t = AgreesWith SeatsAgree (taker_of t.popped t.sizes t.joined)
+AgreesWithTaker t = AgreesWith SeatsAgree (rule.taker_of t.popped t.sizes t.joined)
 
 -- the queue holds the last events of what the seat pushed, and of each group the last events of the prefix of a stream
 pub record IsBehindSeat (s : Seat) (items : List Sent) : Type 0 where
@@ -67,25 +66,8 @@ pub record IsBehindSeat (s : Seat) (items : List Sent) : Type 0 where
   pub streams : (g : ℕ) → (size : ℕ) × (sent : List Event) × IsPrefix size sent × EndsWith sent (events_of g items)
 
 -- what was popped, followed by what the queue holds, is the prefix of a stream for each group; it is nothing for a group that has had no seat, and all that was pushed for one whose seat was joined back
-pub record IsBeforeTaker (t : Taker) (items : List Sent) : Type 0 where
-  pub streams : (g : ℕ) → IsPrefix (slice_index t.sizes g) (events_of g (t.popped ++ items))
-  pub unseated : (g : ℕ) → slice_index t.sizes g ≡ 0 → events_of g (t.popped ++ items) ≡ []
-  pub joined : All (λ j. (j.pushed ≡ events_of j.group (t.popped ++ items)) × (j.items ≡ slice_index t.sizes j.group)) t.joined
-
--- ---- what the seats keep: every place of the queue that was taken was given back, and the pass knows what the fields say
-
-pub record IsSeatPass (pass : Pass (List Sent) IntakeView) (group items : ℕ) : Type 0 where
-  pub idle : pass.me.1 ≡ []
-  pub known : view pass ≡ seat_of group items (view pass).pushed
-  pub some : 0 < items
-
--- the same, and this is left of the batch that was popped last
-pub record IsTakerPass (pass : Pass (List Sent) IntakeView) (sizes : List ℕ) (rest : List Sent) : Type 0 where
-  pub idle : pass.me.1 ≡ []
-  pub known : view pass ≡ taker_of (view pass).popped sizes (view pass).joined
-  pub places : length sizes ≡ MOST_GROUPS
-  pub left : (view pass).popped ≡ front (view pass).popped rest ++ rest
-  pub agrees : (items : List Sent) × AgreesWith SeatsAgree (view pass) items
+abbrev pub IsBeforeTaker : Taker → List Sent → Type 0
+IsBeforeTaker t items = rule.IsWhole events_of IsPrefix (t.popped ++ items) t.sizes t.joined
 
 -- ---- laws
 

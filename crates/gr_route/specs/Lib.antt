@@ -3,5 +3,6 @@ pub mod Prefixes
 pub mod IntakeRule
 pub mod IntakeSeats
 pub mod Rooms
+pub mod Rule
 pub mod WorkRule
 pub mod WorkSeats

@@ -2,13 +2,14 @@
 -- Source: docs/QUEUES.md, "The work queue".
 use Rattle.std.specs.Prelude.{◌≡◌, Bool, false, List, [], ◌++◌, Option, IfSome}
 use Rattle.atomic_table.specs.Seated.{TableId}
-use Rattle.crossbeam_queue.specs.Passes.{Pass, view}
+use Rattle.crossbeam_queue.specs.Passes.{view}
+use Rattle.gr_route.specs.declared.rule.Joined.{Joined}
 use Rattle.gr_route.specs.declared.work.Work.{Work}
-use Rattle.gr_route.specs.declared.work_rule.WorkView.{WorkView}
 use Rattle.gr_route.specs.Batches.{front}
 use Rattle.gr_route.specs.Prefixes.{EndsWith, StartsWith}
 use Rattle.gr_route.specs.Rooms.{AgreesWith}
-use Rattle.gr_route.specs.WorkRule.{SeatsAgree, StopsLast, giver_of, worker_of}
+use Rattle.gr_route.specs.Rule.{PassOf, seat_of, taker_of}
+use Rattle.gr_route.specs.WorkRule.{SeatsAgree, StopsLast, given_of, sizes_of}
 
 -- the seat's queue, and what it pushed
 pub record Giver (A : Type 0) : Type 0 where
@@ -23,6 +24,10 @@ pub record Worker (A : Type 0) : Type 0 where
   pub given : Option (List (Work A))
 
 module _ {A : Type 0} where
+  -- what is seen of the worker's pass, if the giver's seat was split off or not, and this is left of the batch that was popped last
+  abbrev pub worker_seen : PassOf (Work A) (Work A) → Bool → List (Work A) → Worker A
+  worker_seen pass split rest = record { queue = pass.table_id; popped = front (view pass).popped rest; split = split; given = given_of (view pass).joined }
+
   -- in what was popped `Stop` comes last if at all; nothing was popped if there was no giver; if the giver's seat was joined back, what it pushed begins with what was popped
   pub record IsDelivery (w : Worker A) : Type 0 where
     pub stops : StopsLast w.popped
@@ -33,29 +38,16 @@ module _ {A : Type 0} where
 
   -- what the queue holds agrees with what the giver's seat knows, and with what the worker's seat knows
   abbrev pub AgreesWithGiver : Giver A → List (Work A) → Type 0
-  AgreesWithGiver g = AgreesWith SeatsAgree (giver_of g.pushed)
+  AgreesWithGiver g = AgreesWith SeatsAgree (seat_of 0 1 g.pushed)
 
   abbrev pub AgreesWithWorker : Worker A → List (Work A) → Type 0
-  AgreesWithWorker w = AgreesWith SeatsAgree (worker_of w.popped w.split w.given)
+  AgreesWithWorker w items = (joined : List (Joined (Work A))) × (given_of joined ≡ w.given) × AgreesWith SeatsAgree (taker_of w.popped (sizes_of w.split) joined) items
 
   -- in what was popped, followed by what the queue holds, `Stop` comes last if at all; it is nothing if there was no giver, and all that the giver pushed if its seat was joined back
   pub record IsBeforeWorker (w : Worker A) (items : List (Work A)) : Type 0 where
     pub stops : StopsLast (w.popped ++ items)
     pub unsplit : w.split ≡ false → w.popped ++ items ≡ []
     pub given : IfSome w.given (λ all. all ≡ w.popped ++ items)
-
-  -- ---- what the seats keep: every place of the queue that was taken was given back, and the pass knows what the fields say
-
-  pub record IsGiverPass (pass : Pass (List (Work A)) (WorkView A)) : Type 0 where
-    pub idle : pass.me.1 ≡ []
-    pub known : view pass ≡ giver_of (view pass).pushed
-
-  -- the same, and this is left of the batch that was popped last
-  pub record IsWorkerPass (pass : Pass (List (Work A)) (WorkView A)) (split : Bool) (rest : List (Work A)) : Type 0 where
-    pub idle : pass.me.1 ≡ []
-    pub known : view pass ≡ worker_of (view pass).popped split (view pass).given
-    pub left : (view pass).popped ≡ front (view pass).popped rest ++ rest
-    pub agrees : (items : List (Work A)) × AgreesWith SeatsAgree (view pass) items
 
 -- ---- laws
 

@@ -1,7 +1,6 @@
 //! Events of one work-group that go through an intake queue in one step.
 
-ghost use Rattle.std.specs.Prelude.{◌≡◌, ◌∷◌, ℕ, List};
-ghost use Rattle.gr_model.specs.declared.event.Sent.{Sent};
+ghost use Rattle.std.specs.Prelude.{◌≡◌};
 ghost use Rattle.gr_route.specs.Batches.{sent_by};
 
 use crate::batch::Batch;
@@ -39,12 +38,5 @@ impl<A: Allocator> GroupBatch<A> {
         ensures { self ≡ sent_by result.0 result.1 }
     {
         (self.group, self.events)
-    }
-
-    /// The first event. The others are dropped.
-    pub(crate) fn into_first(self) -> Event
-        ensures { (group : ℕ) × (others : List Sent) × (self ≡ record { group = group; event = result } ∷ others) }
-    {
-        self.events.into_first()
     }
 }

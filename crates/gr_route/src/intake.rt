@@ -11,16 +11,15 @@ ghost use Rattle.crossbeam_queue.specs.Fifo.{Forks, Held};
 ghost use Rattle.crossbeam_queue.specs.Passes.{view as known, IsSamePass, IsPassOf};
 ghost use Rattle.gr_model.specs.Prelude.{IsEventOk, IsPrefix, is_complete};
 ghost use Rattle.gr_route.specs.Batches.{all_of};
-ghost use Rattle.gr_route.specs.IntakeRule.{BatchesAgree, after_split, events_in, no_sizes, seat_of};
+ghost use Rattle.gr_route.specs.IntakeRule.{SeatsAgree, no_sizes};
 ghost use Rattle.gr_route.specs.IntakeSeats.{AgreesWithSeat, AgreesWithTaker, IsDelivered, IsDelivery, IsNextPopped, popped_of};
+ghost use Rattle.gr_route.specs.Rule.{BatchesAgree, after_split, seat_of};
 
 use crate::batch::{Batch, Rest};
 use crate::group_batch::GroupBatch;
-use crate::intake_rule::{
-    IntakeRule, IntakeView, JoinStep, NamesGroup, PopStep, PushStep, SplitStep,
-};
 use crate::leads::Leads;
 use crate::room::Full;
+use crate::rule::{IntakeRule, IntakeView, JoinStep, NamesGroup, PopStep, PushStep, SplitStep};
 use crate::spares::Spares;
 use crossbeam_queue::{Pass, RuledArrayQueue};
 use gr_model::event::{Event, Sent};
@@ -59,7 +58,8 @@ pub struct IntakeSeat<A: Allocator = Global> {
 
 impl<A: Allocator> Model for IntakeSeat<A> {
     ghost use Rattle.crossbeam_queue.specs.Passes.{view as known};
-    ghost use Rattle.gr_route.specs.IntakeSeats.{IsSeatPass, Seat};
+    ghost use Rattle.gr_route.specs.IntakeSeats.{Seat};
+    ghost use Rattle.gr_route.specs.Rule.{IsSeatPass};
 
     ghost Value = { Seat };
 
@@ -99,15 +99,18 @@ pub struct TakerSeat<A: Allocator = Global> {
 }
 
 impl<A: Allocator> Model for TakerSeat<A> {
-    ghost use Rattle.crossbeam_queue.specs.Passes.{view as known};
-    ghost use Rattle.gr_route.specs.Batches.{front, sent_by};
-    ghost use Rattle.gr_route.specs.IntakeSeats.{IsTakerPass, Taker};
+    ghost use Rattle.std.specs.Prelude.{◌≡◌, length};
+    ghost use Rattle.gr_model.specs.declared.limits.TheConstants.{MOST_GROUPS};
+    ghost use Rattle.gr_model.specs.Prelude.{IsPrefix, events_of};
+    ghost use Rattle.gr_route.specs.Batches.{sent_by};
+    ghost use Rattle.gr_route.specs.IntakeSeats.{Taker, taker_seen};
+    ghost use Rattle.gr_route.specs.Rule.{IsTakerPass};
 
     ghost Value = { Taker };
 
-    ghost view = { λ s. record { queue = s.pass.table_id; popped = front (known s.pass).popped (sent_by s.group s.rest); sizes = s.sizes.items; joined = (known s.pass).joined } };
+    ghost view = { λ s. taker_seen s.pass s.sizes.items (sent_by s.group s.rest) };
 
-    ghost invariant = { λ s. IsTakerPass s.pass s.sizes.items (sent_by s.group s.rest) };
+    ghost invariant = { λ s. IsTakerPass events_of IsPrefix s.pass s.sizes.items (sent_by s.group s.rest) × (length s.sizes.items ≡ MOST_GROUPS) };
 }
 
 /// So many zeros.
@@ -136,7 +139,7 @@ fn seat_for<G: NamesGroup, A: Allocator>(
 ) -> Pass<GroupBatch<A>, IntakeView>
     requires named { (G.group ≡ group) × (G.items ≡ items) }
     requires queue { IsPassOf queue.now pass.old }
-    requires rule { Forks BatchesAgree pass.old.id (known pass.old) (after_split group items (known pass.old)) (seat_of group items []) }
+    requires rule { Forks (BatchesAgree SeatsAgree) pass.old.id (known pass.old) (after_split group items (known pass.old)) (seat_of group items []) }
     ensures queue { IsSamePass pass.old pass.new × IsPassOf queue.now result }
     ensures taker { known pass.new ≡ after_split group items (known pass.old) }
     ensures seat { known result ≡ seat_of group items [] }
@@ -206,7 +209,7 @@ impl<A: Allocator> Intake<A> {
         }
         taker.sizes[usize::from(group)] = items;
         let pass = seat_for::<Brand, A>(&self.queue, &mut taker.pass, group, items);
-        self.queue.learn_as::<PopStep>(&mut taker.pass);
+        self.queue.learn_as::<PopStep<IntakeRule>>(&mut taker.pass);
         Some(IntakeSeat { pass, group, items })
     }
 
@@ -233,10 +236,13 @@ impl<A: Allocator> Intake<A> {
         ensures full { IfErr result (λ _. Held self.now.places (λ batches. AgreesWithSeat seat.old (all_of batches))) }
     {
         let batch = GroupBatch::new(seat.group, Batch::one(event));
-        match self.queue.push_as::<PushStep, R>(rt, &mut seat.pass, batch) {
-            Ok(()) => Ok(()),
-            Err(back) => Err(Full(back.into_first())),
+        if let Err(back) = self
+            .queue
+            .push_as::<PushStep<IntakeRule>, R>(rt, &mut seat.pass, batch)
+        {
+            return Err(Full(back.into_events().1.into_first()));
         }
+        Ok(())
     }
 
     /// Pushes events of the seat's work-group in one step.
@@ -244,7 +250,7 @@ impl<A: Allocator> Intake<A> {
     ///
     /// # Errors
     /// `Full` with the events, only if the queue was full at some moment of the call. The seat is then unchanged.
-    #[tactic(auto, using(crate::proofs::BatchLemmas::events_of_sent))]
+    #[tactic(auto, using(crate::proofs::BatchLemmas::sent_here))]
     pub fn push_all<R: Wait>(
         &self,
         rt: &R,
@@ -260,7 +266,10 @@ impl<A: Allocator> Intake<A> {
         ensures full { IfErr result (λ _. Held self.now.places (λ batches. AgreesWithSeat seat.old (all_of batches))) }
     {
         let batch = GroupBatch::new(seat.group, events);
-        if let Err(back) = self.queue.push_as::<PushStep, R>(rt, &mut seat.pass, batch) {
+        if let Err(back) = self
+            .queue
+            .push_as::<PushStep<IntakeRule>, R>(rt, &mut seat.pass, batch)
+        {
             return Err(Full(back.into_events().1));
         }
         Ok(())
@@ -286,7 +295,9 @@ impl<A: Allocator> Intake<A> {
                 event,
             });
         }
-        let batch = self.queue.pop_as::<PopStep, R>(rt, &mut taker.pass)?;
+        let batch = self
+            .queue
+            .pop_as::<PopStep<IntakeRule>, R>(rt, &mut taker.pass)?;
         let (group, events) = batch.into_events();
         taker.group = group;
         Some(Sent {
@@ -311,7 +322,9 @@ impl<A: Allocator> Intake<A> {
         if let Some(event) = taker.rest.next() {
             return Some(GroupBatch::new(taker.group, Batch::one(event)));
         }
-        let batch = self.queue.pop_as::<PopStep, R>(rt, &mut taker.pass)?;
+        let batch = self
+            .queue
+            .pop_as::<PopStep<IntakeRule>, R>(rt, &mut taker.pass)?;
         Some(batch)
     }
 
@@ -329,6 +342,6 @@ impl<A: Allocator> Intake<A> {
         ensures delivery { IsDelivery taker.new }
     {
         self.queue.absorb::<JoinStep>(&mut taker.pass, seat.pass);
-        self.queue.learn_as::<PopStep>(&mut taker.pass);
+        self.queue.learn_as::<PopStep<IntakeRule>>(&mut taker.pass);
     }
 }

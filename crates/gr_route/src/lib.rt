@@ -6,10 +6,9 @@
 pub mod batch;
 pub mod group_batch;
 pub mod intake;
-pub mod intake_rule;
 pub mod laws;
 pub mod leads;
 pub mod room;
+pub mod rule;
 pub mod spares;
 pub mod work;
-pub mod work_rule;

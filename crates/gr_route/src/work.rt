@@ -14,8 +14,8 @@ ghost use Rattle.gr_route.specs.WorkSeats.{AgreesWithGiver, AgreesWithWorker, Is
 
 use crate::batch::{Batch, Rest};
 use crate::room::Full;
+use crate::rule::{JoinStep, PopStep, PushStep, SplitStep, WorkRule, WorkView};
 use crate::spares::Spares;
-use crate::work_rule::{JoinStep, PopStep, PushStep, SplitStep, WorkRule, WorkView};
 use crossbeam_queue::{Pass, RuledArrayQueue};
 use gr_clocks::access::Access;
 use gr_model::limits::MOST_PLACES;
@@ -59,13 +59,14 @@ pub struct GiverSeat<A: Allocator = Global> {
 
 impl<A: Allocator> Model for GiverSeat<A> {
     ghost use Rattle.crossbeam_queue.specs.Passes.{view as known};
-    ghost use Rattle.gr_route.specs.WorkSeats.{Giver, IsGiverPass};
+    ghost use Rattle.gr_route.specs.Rule.{IsSeatPass};
+    ghost use Rattle.gr_route.specs.WorkSeats.{Giver};
 
     ghost Value = { Giver A };
 
     ghost view = { λ s. record { queue = s.pass.table_id; pushed = (known s.pass).pushed } };
 
-    ghost invariant = { λ s. IsGiverPass s.pass };
+    ghost invariant = { λ s. IsSeatPass s.pass 0 1 };
 }
 
 /// The seat that pops. Contracts see its queue, what it popped, whether the giver's seat was split off, and, if that was
@@ -79,15 +80,15 @@ pub struct WorkerSeat<A: Allocator = Global> {
 }
 
 impl<A: Allocator> Model for WorkerSeat<A> {
-    ghost use Rattle.crossbeam_queue.specs.Passes.{view as known};
-    ghost use Rattle.gr_route.specs.Batches.{front};
-    ghost use Rattle.gr_route.specs.WorkSeats.{IsWorkerPass, Worker};
+    ghost use Rattle.gr_route.specs.Rule.{IsTakerPass};
+    ghost use Rattle.gr_route.specs.WorkRule.{StopsLast, sizes_of, work_of};
+    ghost use Rattle.gr_route.specs.WorkSeats.{Worker, worker_seen};
 
     ghost Value = { Worker A };
 
-    ghost view = { λ s. record { queue = s.pass.table_id; popped = front (known s.pass).popped s.rest; split = s.split; given = (known s.pass).given } };
+    ghost view = { λ s. worker_seen s.pass s.split s.rest };
 
-    ghost invariant = { λ s. IsWorkerPass s.pass s.split s.rest };
+    ghost invariant = { λ s. IsTakerPass work_of (λ _. StopsLast) s.pass (sizes_of s.split) s.rest };
 }
 
 impl<A: Allocator + Copy> WorkQueue<A> {
@@ -130,8 +131,8 @@ impl<A: Allocator> WorkQueue<A> {
             return None;
         }
         worker.split = true;
-        let pass = self.queue.another::<SplitStep>(&mut worker.pass);
-        self.queue.learn_as::<PopStep>(&mut worker.pass);
+        let pass = self.queue.another::<SplitStep<WorkRule>>(&mut worker.pass);
+        self.queue.learn_as::<PopStep<WorkRule>>(&mut worker.pass);
         Some(GiverSeat { pass })
     }
 
@@ -181,12 +182,13 @@ impl<A: Allocator> WorkQueue<A> {
         ensures full { IfErr result (λ _. Held self.now.places (λ batches. AgreesWithGiver giver.old (all_of batches))) }
     {
         self.queue
-            .push_as::<PushStep, R>(rt, &mut giver.pass, batch)
+            .push_as::<PushStep<WorkRule>, R>(rt, &mut giver.pass, batch)
             .map_err(|back| Full(back))
     }
 
     /// Pops the first work that was not popped yet. Gives `None` only if the queue was empty at some moment of the call.
     /// Requires: the seat is of this queue.
+    #[tactic(auto, using(crate::proofs::WorkSteps::kept))]
     pub fn pop<R: Wait>(&self, rt: &R, worker: &mut WorkerSeat<A>) -> Option<Work<A>>
         requires { worker.old.queue ≡ self.now.queue }
 
@@ -201,13 +203,16 @@ impl<A: Allocator> WorkQueue<A> {
         if let Some(work) = worker.rest.next() {
             return Some(work);
         }
-        let batch = self.queue.pop_as::<PopStep, R>(rt, &mut worker.pass)?;
+        let batch = self
+            .queue
+            .pop_as::<PopStep<WorkRule>, R>(rt, &mut worker.pass)?;
         Some(batch.open(&mut worker.rest))
     }
 
     /// Pops a batch of work, or one piece of work if `pop` has left some of the last batch. Gives `None` only if the queue was
     /// empty at some moment of the call.
     /// Requires: the seat is of this queue.
+    #[tactic(auto, using(crate::proofs::WorkSteps::kept))]
     pub fn pop_all<R: Wait>(&self, rt: &R, worker: &mut WorkerSeat<A>) -> Option<Batch<Work<A>, A>>
         requires { worker.old.queue ≡ self.now.queue }
 
@@ -221,13 +226,16 @@ impl<A: Allocator> WorkQueue<A> {
         if let Some(work) = worker.rest.next() {
             return Some(Batch::one(work));
         }
-        let batch = self.queue.pop_as::<PopStep, R>(rt, &mut worker.pass)?;
+        let batch = self
+            .queue
+            .pop_as::<PopStep<WorkRule>, R>(rt, &mut worker.pass)?;
         Some(batch)
     }
 
     /// Takes the giver's seat back, and with it the list of what that pushed. What was popped is a prefix of this list,
     /// and all of it if `Stop` was popped.
     /// Requires: both seats are of this queue.
+    #[tactic(auto, using(crate::proofs::WorkSteps::given_joined))]
     pub fn join_back(&self, worker: &mut WorkerSeat<A>, giver: GiverSeat<A>)
         requires worker { worker.old.queue ≡ self.now.queue }
         requires giver { giver.queue ≡ self.now.queue }
@@ -239,6 +247,6 @@ impl<A: Allocator> WorkQueue<A> {
         ensures delivery { IsDelivery worker.new }
     {
         self.queue.absorb::<JoinStep>(&mut worker.pass, giver.pass);
-        self.queue.learn_as::<PopStep>(&mut worker.pass);
+        self.queue.learn_as::<PopStep<WorkRule>>(&mut worker.pass);
     }
 }
