@@ -11,36 +11,38 @@ use Rattle.gr_model.specs.declared.event.Word.{Word}
 use Rattle.gr_model.specs.declared.event.Word.TheVariants.{Global as GlobalWord, Local as LocalWord}
 use Rattle.gr_model.specs.declared.report.AcquireCause.TheVariants.{Absent, OtherWord, Behind}
 use Rattle.gr_model.specs.declared.report.DivergenceCause.TheVariants.{Missing}
-use Rattle.gr_model.specs.Prelude.{inclusive, IsConvergent, IsDivergent, Together, arrivals, HappensBefore, BasePair, IsInclusive, sequenced, synchronized, behind_barrier, by_pair, through, HasDivergenceCause, Mark, Matches, HasAcquireCause, HasName, IsAbsent, IsOfItsWord, IsCut, Streams, Stage, IsGrounded, IsPrevious, Waits, for_previous, for_release}
-use Rattle.gr_model.proofs.Descent.{stage_descends}
+use Rattle.gr_model.specs.Prelude.{inclusive, IsConvergent, IsDivergent, Together, arrivals, HappensBefore, BasePair, IsInclusive, sequenced, synchronized, behind_barrier, by_pair, through, HasDivergenceCause, Mark, Matches, HasAcquireCause, HasName, IsAbsent, IsOfItsWord, IsCut, Streams, Stage, IsGrounded, Waits, for_release}
+use Rattle.gr_model.proofs.Descent.{below_before, stage_descends}
 use Rattle.gr_model_tests.specs.Examples.{access, acquire, acquire_of, the_end, release, event, half_there, handed_by_two, handed_over, names_itself, crossed, scopes_differ, two_releases, mixed, waiting, met, the_mark}
 
 -- a write, the release after it, an acquire that names that, and a read
-handed : (s : Streams) (group other k : ℕ) → BasePair s Global (event group 0 0) (event group 0 1) → Matches s (event other 0 0) (event group 0 1)
-    → IsInclusive s Global (event group 0 1) (event other 0 0) → BasePair s Global (event other 0 0) (event other 0 k) → HappensBefore s Global (event group 0 0) (event other 0 k)
-handed s group other k before match inclusive after = through (through (by_pair before) (synchronized match inclusive)) after
+handed : (s : Streams) (group other k : ℕ) → BasePair s Global (event group 0 0) (event group 0 1) → BasePair s Global (event group 0 1) (event other 0 0)
+    → BasePair s Global (event other 0 0) (event other 0 k) → HappensBefore s Global (event group 0 0) (event other 0 k)
+handed s group other k before handing after = through (through (by_pair before) handing) after
 
 pub write_before_read : HappensBefore handed_over Global (event 0 0 0) (event 1 0 1)
 write_before_read =
     handed handed_over 0 1 1 (sequenced refl (lit< tt) (_, refl))
-    (record { name = release 0 0 0; by = record { named = (0, lit< tt, refl); item = refl; place = refl; word = refl } })
-    (record { first = _; second = _; at_first = refl; at_second = refl; word = _; has_word = refl; memory = refl; scopes = refl }) (sequenced refl (lit< tt) (_, refl))
+    (synchronized (record { name = release 0 0 0; by = record { named = (0, lit< tt, refl); item = refl; place = refl; word = refl } })
+    (record { first = _; second = _; at_first = refl; at_second = refl; word = _; has_word = refl; memory = refl; scopes = refl })) (sequenced refl (lit< tt) (_, refl))
 
 pub second_is_cut : IsCut handed_over 1
 second_is_cut = (lit< tt, 2, the_end true, refl, refl)
 
 -- ---- circles
 
--- an event is not reached where each stage that has it has a lower one that has it
-no_lower : (s : Streams) (e : EventId) → ((n : ℕ) → Stage s n e → (q : ℕ) × (q < n) × Stage s q e) → (bound n : ℕ) → n < bound → Stage s n e → ⊥
-no_lower s e down zero n lt h = omega arith
-no_lower s e down (suc bound) n lt h = let low = down n h in no_lower s e down bound low.0 (omega (arith, low.1)) low.2
+-- what happens before itself is not reached, since each stage that has it has a lower one that has it
+held : (s : Streams) (e : EventId) → HappensBefore s Global e e → (bound n : ℕ) → n < bound → Stage s n e → ⊥
+held s e round zero n lt h = omega arith
+held s e round (suc bound) n lt h = let low = below_before s (Stage s) (stage_descends s) Global e e round n h in held s e round bound low.0 (omega (arith, low.1)) low.2
 
-itself_match : Matches names_itself (event 0 0 0) (event 0 0 0)
-itself_match = record { name = release 0 0 0; by = record { named = (0, lit< tt, refl); item = refl; place = refl; word = refl } }
+itself_pair : BasePair names_itself Global (event 0 0 0) (event 0 0 0)
+itself_pair =
+    synchronized (record { name = release 0 0 0; by = record { named = (0, lit< tt, refl); item = refl; place = refl; word = refl } })
+    (record { first = _; second = _; at_first = refl; at_second = refl; word = _; has_word = refl; memory = refl; scopes = refl })
 
 pub itself_is_held : ¬ IsGrounded names_itself (event 0 0 0)
-itself_is_held h = no_lower names_itself (event 0 0 0) (λ n k. stage_descends names_itself n (event 0 0 0) (event 0 0 0) k (for_release itself_match)) (suc h.0) h.0 (omega arith) h.1
+itself_is_held h = held names_itself (event 0 0 0) (by_pair itself_pair) (suc h.0) h.0 (omega arith) h.1
 
 only_name : (m n : Name) → Contains (m ∷ []) n → m ≡ n
 only_name m n (zero, within, is) = is
@@ -49,33 +51,26 @@ only_name m n (suc k, within, is) = absurd (omega (arith, within))
 pub itself_is_behind : HasAcquireCause names_itself (event 0 0 0) Behind
 itself_is_behind n named = subst (λ m. IsOfItsWord names_itself (event 0 0 0) m) (only_name (release 0 0 0) n named) (0, refl, refl)
 
-crossed_match : Matches crossed (event 0 0 0) (event 1 0 1)
-crossed_match = record { name = release 1 0 0; by = record { named = (0, lit< tt, refl); item = refl; place = refl; word = refl } }
+crossed_pair : BasePair crossed Global (event 1 0 1) (event 0 0 0)
+crossed_pair =
+    synchronized (record { name = release 1 0 0; by = record { named = (0, lit< tt, refl); item = refl; place = refl; word = refl } })
+    (record { first = _; second = _; at_first = refl; at_second = refl; word = _; has_word = refl; memory = refl; scopes = refl })
 
-crossed_back : Matches crossed (event 1 0 0) (event 0 0 1)
-crossed_back = record { name = release 0 0 0; by = record { named = (0, lit< tt, refl); item = refl; place = refl; word = refl } }
+crossed_back : BasePair crossed Global (event 0 0 1) (event 1 0 0)
+crossed_back =
+    synchronized (record { name = release 0 0 0; by = record { named = (0, lit< tt, refl); item = refl; place = refl; word = refl } })
+    (record { first = _; second = _; at_first = refl; at_second = refl; word = _; has_word = refl; memory = refl; scopes = refl })
 
--- from an acquire to the release that it names, and on to the event before that
-half_round : (e d c : EventId) → Matches crossed e d → IsPrevious c d → (n : ℕ) → Stage crossed n e → (q : ℕ) × (q < n) × Stage crossed q c
-half_round e d c match previous n h =
-    let a = stage_descends crossed n e d h (for_release match) in
-    let b = stage_descends crossed a.0 d c a.2 (for_previous previous) in
-    (b.0, omega (arith, a.1, b.1), b.2)
-
-all_round : (e d c f g : EventId) → Matches crossed e d → IsPrevious c d → Matches crossed c f → IsPrevious e f → (n : ℕ) → Stage crossed n e → (q : ℕ) × (q < n) × Stage crossed q e
-all_round e d c f g there previous back last n h =
-    let a = half_round e d c there previous n h in
-    let b = half_round c f e back last a.0 a.2 in
-    (b.0, omega (arith, a.1, b.1), b.2)
-
-previous : (group : ℕ) → IsPrevious (event group 0 0) (event group 0 1)
-previous group = record { item = refl; next = refl }
+-- an acquire, the release behind it, and so on in the other item
+round : (group other : ℕ) → BasePair crossed Global (event group 0 0) (event group 0 1) → BasePair crossed Global (event group 0 1) (event other 0 0)
+    → BasePair crossed Global (event other 0 0) (event other 0 1) → BasePair crossed Global (event other 0 1) (event group 0 0) → ¬ IsGrounded crossed (event group 0 0)
+round group other a b c d h = held crossed (event group 0 0) (through (through (through (by_pair a) b) c) d) (suc h.0) h.0 (omega arith) h.1
 
 pub first_is_held : ¬ IsGrounded crossed (event 0 0 0)
-first_is_held h = no_lower crossed (event 0 0 0) (all_round (event 0 0 0) (event 1 0 1) (event 1 0 0) (event 0 0 1) (event 0 0 0) crossed_match (previous 1) crossed_back (previous 0)) (suc h.0) h.0 (omega arith) h.1
+first_is_held = round 0 1 (sequenced refl (lit< tt) (_, refl)) crossed_back (sequenced refl (lit< tt) (_, refl)) crossed_pair
 
 pub second_is_held : ¬ IsGrounded crossed (event 1 0 0)
-second_is_held h = no_lower crossed (event 1 0 0) (all_round (event 1 0 0) (event 0 0 1) (event 0 0 0) (event 1 0 1) (event 1 0 0) crossed_back (previous 0) crossed_match (previous 1)) (suc h.0) h.0 (omega arith) h.1
+second_is_held = round 1 0 (sequenced refl (lit< tt) (_, refl)) crossed_pair (sequenced refl (lit< tt) (_, refl)) crossed_back
 
 pub ruleset circles = (itself_is_held, itself_is_behind, first_is_held, second_is_held)
 
@@ -121,14 +116,14 @@ of_another_word = (other_words, (release 0 0 1, (0, lit< tt, refl), (1, refl, λ
 pub first_before_read : HappensBefore handed_by_two Global (event 0 0 0) (event 2 0 1)
 first_before_read =
     handed handed_by_two 0 2 1 (sequenced refl (lit< tt) (_, refl))
-    (record { name = release 0 0 0; by = record { named = (0, lit< tt, refl); item = refl; place = refl; word = refl } })
-    (record { first = _; second = _; at_first = refl; at_second = refl; word = _; has_word = refl; memory = refl; scopes = refl }) (sequenced refl (lit< tt) (_, refl))
+    (synchronized (record { name = release 0 0 0; by = record { named = (0, lit< tt, refl); item = refl; place = refl; word = refl } })
+    (record { first = _; second = _; at_first = refl; at_second = refl; word = _; has_word = refl; memory = refl; scopes = refl })) (sequenced refl (lit< tt) (_, refl))
 
 pub second_before_read : HappensBefore handed_by_two Global (event 1 0 0) (event 2 0 2)
 second_before_read =
     handed handed_by_two 1 2 2 (sequenced refl (lit< tt) (_, refl))
-    (record { name = release 1 0 0; by = record { named = (1, lit< tt, refl); item = refl; place = refl; word = refl } })
-    (record { first = _; second = _; at_first = refl; at_second = refl; word = _; has_word = refl; memory = refl; scopes = refl }) (sequenced refl (lit< tt) (_, refl))
+    (synchronized (record { name = release 1 0 0; by = record { named = (1, lit< tt, refl); item = refl; place = refl; word = refl } })
+    (record { first = _; second = _; at_first = refl; at_second = refl; word = _; has_word = refl; memory = refl; scopes = refl })) (sequenced refl (lit< tt) (_, refl))
 
 pub one_is_absent : HasAcquireCause half_there (event 1 0 0) Absent
 one_is_absent = (release 0 0 2, (1, lit< tt, refl), refl)

@@ -1,23 +1,15 @@
 //! A worked row of barrier instances. A call to which a growth was refused leaves what is known as it was, and then gives the row's answer.
 
-ghost use Rattle.std.specs.Prelude.{◌≡◌, ◌<◌, ◌≤◌, ◌+◌, ◌∷◌, [], length, IfOk, OnErr};
+ghost use Rattle.std.specs.Prelude.{◌≡◌, ◌<◌, ◌≤◌, ◌+◌, ◌∷◌, [], length, OnErr};
 ghost use Rattle.gr_model.specs.declared.event.ItemId.{ItemId};
 ghost use Rattle.gr_barriers.specs.Arrived.{sizes_of, marks_of};
 
-use crate::launch::{item, shape_of};
+use crate::launch::{item, new_instances};
 use gr_barriers::instances::{BarrierError, Instances, State};
 use gr_barriers::{Divergence, DivergenceCause};
 use gr_model::memory::Memory;
 use refusing::growths::refuse_each;
 use std::alloc::Allocator;
-
-/// The instances of two items.
-fn new_instances<A: Allocator + Copy>(alloc: A) -> Result<Instances<A>, Memory>
-    ensures sizes { IfOk result (λ v. sizes_of v ≡ 2 ∷ []) }
-    ensures none { IfOk result (λ v. (i : ItemId) → length (marks_of v i) ≤ 0) }
-{
-    Instances::new(alloc, &shape_of(alloc, &[2])?)
-}
 
 /// The states of the first three instances.
 fn states<A: Allocator>(instances: &Instances<A>) -> [Option<State>; 3] {

@@ -1,23 +1,11 @@
 //! Facts of barrier instances.
 
-ghost use Rattle.std.specs.Prelude.{◌≡◌, ◌∷◌, [], IfOk, map};
-ghost use Rattle.gr_barriers.specs.Arrived.{fresh_group};
-
-use crate::launch::shape_of;
-use gr_barriers::instances::{BarrierError, Instances, State};
+use crate::launch::new_instances;
+use gr_barriers::instances::{BarrierError, State};
 use gr_model::event::ItemId;
-use gr_model::memory::Memory;
-use std::alloc::Allocator;
 
 /// The first item of the group.
 const FIRST: ItemId = ItemId { group: 0, item: 0 };
-
-/// The barriers of a group of two items. None has come to one yet.
-fn new_instances<A: Allocator + Copy>(alloc: A) -> Result<Instances<A>, Memory>
-    ensures { IfOk result (λ v. v ≡ map fresh_group (2 ∷ [])) }
-{
-    Instances::new(alloc, &shape_of(alloc, &[2])?)
-}
 
 /// No barrier comes after the end of its group.
 #[test]

@@ -3,6 +3,7 @@
 ghost use Rattle.std.specs.Prelude.{◌≡◌, ◌∷◌, [], false, length, map};
 ghost use Rattle.gr_model.specs.Prelude.{end_of};
 
+use crate::launch::access;
 use gr_model::config::worker_of;
 use gr_model::event::{Event, ItemId, Kind, Name, Order, Scope, Space, Word, event_ok, word_of};
 use gr_model::memory::Memory;
@@ -19,12 +20,10 @@ fn event_ok_of_a_relaxed_load_with_a_name() {
         release: 0,
     };
     if let Some(names) = Names::new(&[name]) {
+        let kind = Kind::Load(Scope::Device, Order::Relaxed);
         let load = Event {
-            item: 0,
-            kind: Kind::Load(Scope::Device, Order::Relaxed),
-            space: Space::Global,
-            word: 4,
             names,
+            ..access(kind, Space::Global)
         };
         prove!(!event_ok(&load, 1));
     }
@@ -62,13 +61,7 @@ fn traces_of_an_end_before_another(rt: HostRuntime) -> Result<(), Memory> {
 /// Local words of two groups are two.
 #[test]
 fn word_of_two_groups() {
-    let read = Event {
-        item: 0,
-        kind: Kind::Read,
-        space: Space::Local,
-        word: 4,
-        names: Names::none(),
-    };
+    let read = access(Kind::Read, Space::Local);
     prove!(word_of(1, &read) != word_of(2, &read));
 }
 

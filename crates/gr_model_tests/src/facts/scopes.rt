@@ -1,24 +1,9 @@
 //! Facts of scopes, classes and conflicts.
 
-ghost use Rattle.std.specs.Prelude.{◌≡◌, []};
-
+use crate::launch::access;
 use gr_model::access::{conflicts, inclusive, pairs_with};
 use gr_model::class::{Class, class_of, exempt};
-use gr_model::event::{Event, Kind, Order, Scope, Space};
-use gr_model::names::Names;
-
-/// An atomic access to word 4 of a memory.
-fn atomic(kind: Kind, space: Space) -> Event
-    ensures { result ≡ record { item = 0; kind = kind; space = space; word = 4; names = [] } }
-{
-    Event {
-        item: 0,
-        kind,
-        space,
-        word: 4,
-        names: Names::none(),
-    }
-}
+use gr_model::event::{Kind, Order, Scope, Space};
 
 /// A load is of its scope though its order is relaxed.
 #[test]
@@ -49,15 +34,15 @@ fn inclusive_of_group_and_device() {
 /// Words of local memory of two groups are two.
 #[test]
 fn pairs_with_of_two_words() {
-    let release = atomic(Kind::Store(Scope::Device, Order::Release), Space::Local);
-    let acquire = atomic(Kind::Load(Scope::Device, Order::Acquire), Space::Local);
+    let release = access(Kind::Store(Scope::Device, Order::Release), Space::Local);
+    let acquire = access(Kind::Load(Scope::Device, Order::Acquire), Space::Local);
     prove!(!pairs_with(&release, 0, &acquire, 1));
 }
 
 /// A release of work-group scope and an acquire of device scope do not pair, though they are of one group.
 #[test]
 fn pairs_with_of_two_scopes() {
-    let release = atomic(Kind::Store(Scope::Group, Order::Release), Space::Global);
-    let acquire = atomic(Kind::Load(Scope::Device, Order::Acquire), Space::Global);
+    let release = access(Kind::Store(Scope::Group, Order::Release), Space::Global);
+    let acquire = access(Kind::Load(Scope::Device, Order::Acquire), Space::Global);
     prove!(!pairs_with(&release, 0, &acquire, 0));
 }
