@@ -4,8 +4,9 @@
 use crate::calls::{is_lawful, shape_of};
 use crate::rows::{BARRIER, GLOBAL, event_of};
 use gr_model::event::ItemId;
+use gr_model::memory::Memory;
 use gr_order::schedule::Schedule;
-use refusing::Refusing;
+use refusing::growths::{Growths, refuse_each};
 use std::alloc::{Allocator, Global};
 
 /// Takes the barriers of two items, with these sites.
@@ -55,24 +56,20 @@ fn go_anew<A: Allocator + Copy>(alloc: A, is_parted: bool, times: u32) -> Option
     go(&mut order, is_parted, times)
 }
 
-/// Whether they do so with at most this many growths.
-fn goes_within(alloc: Global, growths: u64, is_parted: bool, times: u32) -> bool {
-    let memory = Refusing::new(alloc, growths);
-    go_anew(&memory, is_parted, times).is_some() && !memory.refused()
-}
-
-/// Whether the fewest growths that suffice for a few meetings also suffice for a thousand.
-fn takes_no_more(alloc: Global, is_parted: bool) -> bool {
-    for growths in 0..64 {
-        if goes_within(alloc, growths, is_parted, 9) {
-            return goes_within(alloc, growths, is_parted, 1_000);
-        }
-    }
-    false
+/// How many growths that takes, each of which can be refused.
+fn growths(alloc: Global, is_parted: bool, times: u32) -> Result<Growths, u64> {
+    refuse_each(
+        alloc,
+        1,
+        |heap| go_anew(heap, is_parted, times).map(|()| true).ok_or(Memory),
+    )
 }
 
 #[test]
 fn forgotten_instances_take_no_memory(rt: HostRuntime) {
-    assert!(rt; takes_no_more(rt.alloc(), false));
-    assert!(rt; takes_no_more(rt.alloc(), true));
+    for is_parted in [false, true] {
+        let few = growths(rt.alloc(), is_parted, 9);
+        assert!(rt; few.is_ok(), "{few:?}");
+        assert_eq!(rt; growths(rt.alloc(), is_parted, 1_000), few);
+    }
 }

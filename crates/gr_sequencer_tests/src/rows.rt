@@ -87,144 +87,132 @@ pub(crate) const END: Kind = Kind::End { cut: false };
 
 const CUT: Kind = Kind::End { cut: true };
 
-const MISSING_ITEM: Row = (
-    "an item never comes to the second barrier",
-    &[3],
-    &[
-        (0, 0, BARRIER, GLOBAL, 1, &[]),
-        (0, 1, BARRIER, GLOBAL, 1, &[]),
-        (0, 2, BARRIER, GLOBAL, 1, &[]),
-        (0, 0, WRITE, GLOBAL, 16, &[]),
-        (0, 0, BARRIER, GLOBAL, 2, &[]),
-        (0, 1, BARRIER, GLOBAL, 2, &[]),
-        (0, 1, READ, GLOBAL, 16, &[]),
-        (0, 0, END, GLOBAL, 0, &[]),
-    ],
-    Told {
-        races: (Some(Word::Global(16)), None),
-        divergences: (Some((0, 1, DivergenceCause::Missing)), None),
-        items: 3,
-        records: 8,
-        ..NOTHING
-    },
-);
-
-const TWO_SITES: Row = (
-    "two sites",
-    &[2],
-    &[
-        (0, 0, BARRIER, GLOBAL, 1, &[]),
-        (0, 1, BARRIER, GLOBAL, 2, &[]),
-        (0, 0, END, GLOBAL, 0, &[]),
-    ],
-    Told {
-        divergences: (Some((0, 0, DivergenceCause::Site)), None),
-        items: 2,
-        records: 3,
-        ..NOTHING
-    },
-);
-
-const NO_SUCH_RELEASE: Row = (
-    "a release that is not there, and a cut stream",
-    &[1, 3],
-    &[
-        (0, 0, CUT, GLOBAL, 0, &[]),
-        (1, 0, ACQUIRE, GLOBAL, 20, &[(0, 0, 0)]),
-        (1, 0, WRITE, GLOBAL, 16, &[]),
-        (1, 1, WRITE, GLOBAL, 24, &[]),
-        (1, 2, READ, GLOBAL, 24, &[]),
-        (1, 1, READ, GLOBAL, 16, &[]),
-        (1, 0, END, GLOBAL, 0, &[]),
-    ],
-    Told {
-        races: (Some(Word::Global(24)), None),
-        unmatched: (Some((1, 0, 0, AcquireCause::Absent)), None),
-        cut: (Some(0), None),
-        held: 2,
-        groups: 2,
-        items: 4,
-        records: 7,
-        ..NOTHING
-    },
-);
-
-const CROSSED_NAMES: Row = (
-    "two acquires that wait for one another",
-    &[1, 1],
-    &[
-        (1, 0, ACQUIRE, GLOBAL, 24, &[(0, 0, 0)]),
-        (0, 0, ACQUIRE, GLOBAL, 20, &[(1, 0, 0)]),
-        (1, 0, RELEASE, GLOBAL, 20, &[]),
-        (0, 0, RELEASE, GLOBAL, 24, &[]),
-        (1, 0, END, GLOBAL, 0, &[]),
-        (0, 0, END, GLOBAL, 0, &[]),
-    ],
-    Told {
-        unmatched: (
-            Some((0, 0, 0, AcquireCause::Behind)),
-            Some((1, 0, 0, AcquireCause::Behind)),
-        ),
-        held: 4,
-        groups: 2,
-        items: 2,
-        records: 6,
-        ..NOTHING
-    },
-);
-
-const TWO_HANDS: Row = (
-    "a release to two items, and one of them to the first",
-    &[3],
-    &[
-        (0, 0, WRITE, LOCAL, 16, &[]),
-        (0, 0, RELEASE, LOCAL, 20, &[]),
-        (0, 1, ACQUIRE, LOCAL, 20, &[(0, 0, 0)]),
-        (0, 1, READ, LOCAL, 16, &[]),
-        (0, 2, ACQUIRE, LOCAL, 20, &[(0, 0, 0)]),
-        (0, 2, READ, LOCAL, 16, &[]),
-        (0, 2, RELEASE, LOCAL, 24, &[]),
-        (0, 0, ACQUIRE, LOCAL, 24, &[(0, 2, 0)]),
-        (0, 0, WRITE, LOCAL, 16, &[]),
-        (0, 0, END, GLOBAL, 0, &[]),
-    ],
-    Told {
-        races: (Some(Word::Local(0, 16)), None),
-        items: 3,
-        records: 10,
-        ..NOTHING
-    },
-);
-
-const TWO_NAMES: Row = (
-    "an acquire of two releases in another group, which comes before both",
-    &[2, 1],
-    &[
-        (1, 0, ACQUIRE, GLOBAL, 20, &[(0, 0, 0), (0, 1, 0)]),
-        (0, 0, WRITE, GLOBAL, 16, &[]),
-        (1, 0, READ, GLOBAL, 16, &[]),
-        (0, 0, RELEASE, GLOBAL, 20, &[]),
-        (1, 0, READ, GLOBAL, 24, &[]),
-        (0, 1, WRITE, GLOBAL, 24, &[]),
-        (1, 0, END, GLOBAL, 0, &[]),
-        (0, 1, RELEASE, GLOBAL, 20, &[]),
-        (0, 0, END, GLOBAL, 0, &[]),
-    ],
-    Told {
-        groups: 2,
-        items: 3,
-        records: 9,
-        ..NOTHING
-    },
-);
-
 /// All rows. They meet each growth: of barriers that meet and that diverge, of releases to one and to several, of names, of what
 /// waits, and of each list of a summary.
 pub(crate) static ROWS: [Row; 6] = [
-    MISSING_ITEM,
-    TWO_SITES,
-    NO_SUCH_RELEASE,
-    CROSSED_NAMES,
-    TWO_HANDS,
-    TWO_NAMES,
+    (
+        "an item never comes to the second barrier",
+        &[3],
+        &[
+            (0, 0, BARRIER, GLOBAL, 1, &[]),
+            (0, 1, BARRIER, GLOBAL, 1, &[]),
+            (0, 2, BARRIER, GLOBAL, 1, &[]),
+            (0, 0, WRITE, GLOBAL, 16, &[]),
+            (0, 0, BARRIER, GLOBAL, 2, &[]),
+            (0, 1, BARRIER, GLOBAL, 2, &[]),
+            (0, 1, READ, GLOBAL, 16, &[]),
+            (0, 0, END, GLOBAL, 0, &[]),
+        ],
+        Told {
+            races: (Some(Word::Global(16)), None),
+            divergences: (Some((0, 1, DivergenceCause::Missing)), None),
+            items: 3,
+            records: 8,
+            ..NOTHING
+        },
+    ),
+    (
+        "two sites",
+        &[2],
+        &[
+            (0, 0, BARRIER, GLOBAL, 1, &[]),
+            (0, 1, BARRIER, GLOBAL, 2, &[]),
+            (0, 0, END, GLOBAL, 0, &[]),
+        ],
+        Told {
+            divergences: (Some((0, 0, DivergenceCause::Site)), None),
+            items: 2,
+            records: 3,
+            ..NOTHING
+        },
+    ),
+    (
+        "a release that is not there, and a cut stream",
+        &[1, 3],
+        &[
+            (0, 0, CUT, GLOBAL, 0, &[]),
+            (1, 0, ACQUIRE, GLOBAL, 20, &[(0, 0, 0)]),
+            (1, 0, WRITE, GLOBAL, 16, &[]),
+            (1, 1, WRITE, GLOBAL, 24, &[]),
+            (1, 2, READ, GLOBAL, 24, &[]),
+            (1, 1, READ, GLOBAL, 16, &[]),
+            (1, 0, END, GLOBAL, 0, &[]),
+        ],
+        Told {
+            races: (Some(Word::Global(24)), None),
+            unmatched: (Some((1, 0, 0, AcquireCause::Absent)), None),
+            cut: (Some(0), None),
+            held: 2,
+            groups: 2,
+            items: 4,
+            records: 7,
+            ..NOTHING
+        },
+    ),
+    (
+        "two acquires that wait for one another",
+        &[1, 1],
+        &[
+            (1, 0, ACQUIRE, GLOBAL, 24, &[(0, 0, 0)]),
+            (0, 0, ACQUIRE, GLOBAL, 20, &[(1, 0, 0)]),
+            (1, 0, RELEASE, GLOBAL, 20, &[]),
+            (0, 0, RELEASE, GLOBAL, 24, &[]),
+            (1, 0, END, GLOBAL, 0, &[]),
+            (0, 0, END, GLOBAL, 0, &[]),
+        ],
+        Told {
+            unmatched: (
+                Some((0, 0, 0, AcquireCause::Behind)),
+                Some((1, 0, 0, AcquireCause::Behind)),
+            ),
+            held: 4,
+            groups: 2,
+            items: 2,
+            records: 6,
+            ..NOTHING
+        },
+    ),
+    (
+        "a release to two items, and one of them to the first",
+        &[3],
+        &[
+            (0, 0, WRITE, LOCAL, 16, &[]),
+            (0, 0, RELEASE, LOCAL, 20, &[]),
+            (0, 1, ACQUIRE, LOCAL, 20, &[(0, 0, 0)]),
+            (0, 1, READ, LOCAL, 16, &[]),
+            (0, 2, ACQUIRE, LOCAL, 20, &[(0, 0, 0)]),
+            (0, 2, READ, LOCAL, 16, &[]),
+            (0, 2, RELEASE, LOCAL, 24, &[]),
+            (0, 0, ACQUIRE, LOCAL, 24, &[(0, 2, 0)]),
+            (0, 0, WRITE, LOCAL, 16, &[]),
+            (0, 0, END, GLOBAL, 0, &[]),
+        ],
+        Told {
+            races: (Some(Word::Local(0, 16)), None),
+            items: 3,
+            records: 10,
+            ..NOTHING
+        },
+    ),
+    (
+        "an acquire of two releases in another group, which comes before both",
+        &[2, 1],
+        &[
+            (1, 0, ACQUIRE, GLOBAL, 20, &[(0, 0, 0), (0, 1, 0)]),
+            (0, 0, WRITE, GLOBAL, 16, &[]),
+            (1, 0, READ, GLOBAL, 16, &[]),
+            (0, 0, RELEASE, GLOBAL, 20, &[]),
+            (1, 0, READ, GLOBAL, 24, &[]),
+            (0, 1, WRITE, GLOBAL, 24, &[]),
+            (1, 0, END, GLOBAL, 0, &[]),
+            (0, 1, RELEASE, GLOBAL, 20, &[]),
+            (0, 0, END, GLOBAL, 0, &[]),
+        ],
+        Told {
+            groups: 2,
+            items: 3,
+            records: 9,
+            ..NOTHING
+        },
+    ),
 ];

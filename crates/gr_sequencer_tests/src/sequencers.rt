@@ -8,7 +8,6 @@ use crate::trials::{Trial, holds_always};
 use gr_model::event::ItemId;
 use gr_sequencer::sequencer::Sequencer;
 use std::alloc::Allocator;
-use std::test::Fail;
 
 /// How the steps are made.
 #[derive(Clone, Copy, Debug, PartialEq, Eq)]

@@ -52,11 +52,13 @@ fn unmatched_once<A: Allocator + Copy>(
 
 /// The summary of a sequencer, without races, each list tried twice; `None` before its end.
 pub(crate) fn told<A: Allocator + Copy>(sequencer: &Sequencer<A>) -> Option<Told> {
-    let unmatched = twice(|| unmatched_once(sequencer))?;
+    let unmatched = two_unmatched(&twice(|| unmatched_once(sequencer))?);
+    let divergences = two_divergent(&twice(|| sequencer.divergences())?);
+    let cut = two(&twice(|| sequencer.cut())?);
     Some(Told {
-        divergences: two_divergent(&twice(|| sequencer.divergences())?),
-        unmatched: two_unmatched(&unmatched),
-        cut: two(&twice(|| sequencer.cut())?),
+        divergences,
+        unmatched,
+        cut,
         held: sequencer.held(),
         groups: sequencer.shape().groups(),
         items: sequencer.shape().total(),

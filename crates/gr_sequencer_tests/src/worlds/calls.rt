@@ -6,6 +6,7 @@ use gr_model::config::Config;
 use gr_model::memory::Memory;
 use gr_world::step::{Step, StepError};
 use gr_world::world::World;
+use refusing::growths::tried;
 use std::alloc::Allocator;
 
 /// The numbers of workers, of intake queues, and of places in each queue.
@@ -36,11 +37,12 @@ pub(crate) fn step<A: Allocator + Copy>(
     world: &mut World<A>,
     step: Step,
 ) -> Option<Result<(), StepError>> {
-    let before = world.at_rest();
-    let tried = &step;
-    let mut answer = world.step(*tried);
-    if answer == Err(StepError::Memory) && world.at_rest() == before {
-        answer = world.step(*tried);
-    }
-    (answer != Err(StepError::Memory)).then_some(answer)
+    tried(
+        world,
+        |world| world.at_rest(),
+        |world| match world.step(step) {
+            Err(StepError::Memory) => Err(Memory),
+            answer => Ok(answer),
+        },
+    )
 }

@@ -10,7 +10,6 @@ use gr_world::step::{Step, StepError};
 use gr_world::world::World;
 use std::alloc::Global;
 use std::collections::VecDeque;
-use std::test::Fail;
 
 /// How many workers and queues there are, and how many places a queue has.
 const ALL_NUMBERS: [Numbers; 8] = [
@@ -82,16 +81,19 @@ fn try_works(world: &mut World, workers: u16) -> Option<()> {
     Some(())
 }
 
-/// Follows the schedule of a row to its end: three sends are tried, then each step of the sequencer, and every third time each of
-/// the workers.
-fn follow(alloc: Global, world: &mut World, row: &Row, way: Way, numbers: Numbers) -> Option<()> {
+/// Follows a schedule to its end: three sends are tried, then each step of the sequencer, and every third time each of the workers.
+fn follow(
+    world: &mut World,
+    sends: &mut VecDeque<Step>,
+    sizes: &[u16],
+    numbers: Numbers,
+) -> Option<()> {
     let (workers, queues, _) = numbers;
-    let mut sends = sends_of(alloc, row, way).ok()?;
     for turn in 0..100_u32 {
-        send(world, &mut sends)?;
-        send(world, &mut sends)?;
-        send(world, &mut sends)?;
-        try_groups(world, row.1)?;
+        send(world, sends)?;
+        send(world, sends)?;
+        send(world, sends)?;
+        try_groups(world, sizes)?;
         let _passed = is_made(world, Step::Pass)?;
         try_takes(world, queues)?;
         if turn % 3 == 2 {
@@ -103,8 +105,9 @@ fn follow(alloc: Global, world: &mut World, row: &Row, way: Way, numbers: Number
 
 /// What a new world reports behind the schedule of a row; `None` if it doesn't come to its end.
 fn told_of(alloc: Global, row: &Row, way: Way, numbers: Numbers) -> Option<Told> {
+    let mut sends = sends_of(alloc, row, way).ok()?;
     let mut world = new(alloc, row.1, numbers)?;
-    follow(alloc, &mut world, row, way, numbers).and(reported(&world))
+    follow(&mut world, &mut sends, row.1, numbers).and(reported(&world))
 }
 
 #[test]

@@ -39,239 +39,231 @@ const SECOND: ItemId = ItemId { group: 0, item: 1 };
 /// Item 0 of group 1.
 const OTHER: ItemId = ItemId { group: 1, item: 0 };
 
-/// One place in each queue: a write and a read of two groups.
-const ONE_PLACE: Script = Script {
-    name: "a race through queues with one place",
-    sizes: &[1, 1],
-    numbers: (1, 1, 1),
-    lines: &[
-        (Tried::Send((0, 0, WRITE, GLOBAL, 16, &[])), OK),
-        (Tried::Send((1, 0, READ, GLOBAL, 16, &[])), FULL),
-        (Tried::Take(0), OK),
-        (Tried::Send((1, 0, READ, GLOBAL, 16, &[])), OK),
-        (Tried::Handle(FIRST), OK),
-        (Tried::Take(0), OK),
-        (Tried::Handle(OTHER), BUSY),
-        (Tried::Pass, OK),
-        (Tried::Handle(OTHER), OK),
-        (Tried::Pass, FULL),
-        (Tried::WorkTake(0), OK),
-        (Tried::Pass, OK),
-        (Tried::WorkTake(0), OK),
-        (Tried::Close(0, false), OK),
-        (Tried::Close(0, false), NOT_OPEN),
-        (Tried::Take(0), OK),
-        (Tried::Close(1, false), OK),
-        (Tried::Take(0), OK),
-    ],
-    told: Some(Told {
-        races: (Some(Word::Global(16)), None),
-        groups: 2,
-        items: 2,
-        records: 4,
-        ..NOTHING
-    }),
-};
-
-const NEW_WORLD: Script = Script {
-    name: "a new world",
-    sizes: &[1, 1],
-    numbers: (1, 1, 1),
-    lines: &[
-        (Tried::Take(0), EMPTY),
-        (Tried::Take(1), BAD),
-        (Tried::WorkTake(1), BAD),
-        (Tried::Pass, EMPTY),
-        (Tried::Handle(FIRST), NOT_READY),
-        (Tried::Meet(0), NOT_READY),
-        (Tried::Send((0, 0, END, GLOBAL, 0, &[])), BAD),
-    ],
-    told: None,
-};
-
-/// Groups and items that are not there, and records that a group must not have, come before all other causes.
-const BAD_STEPS: Script = Script {
-    name: "bad steps, before and behind each other cause",
-    sizes: &[1, 1],
-    numbers: (1, 1, 1),
-    lines: &[
-        (Tried::Send((2, 0, WRITE, GLOBAL, 16, &[])), BAD),
-        (Tried::Close(2, false), BAD),
-        (Tried::Handle(ItemId { group: 2, item: 0 }), BAD),
-        (Tried::Handle(SECOND), BAD),
-        (Tried::Meet(2), BAD),
-        (Tried::WorkTake(0), EMPTY),
-        (Tried::Send((0, 1, READ, GLOBAL, 16, &[])), BAD),
-        (Tried::Send((0, 0, RELEASING_LOAD, GLOBAL, 16, &[])), BAD),
-        (
-            Tried::Send((0, 0, RELAXED_LOAD, GLOBAL, 20, &[(0, 0, 0)])),
-            BAD,
-        ),
-        (Tried::Send((0, 0, WRITE, GLOBAL, 16, &[])), OK),
-        (Tried::Send((2, 0, WRITE, GLOBAL, 16, &[])), BAD),
-        (Tried::Send((0, 1, READ, GLOBAL, 16, &[])), BAD),
-        (Tried::Send((1, 0, END, GLOBAL, 0, &[])), BAD),
-        (Tried::Send((1, 0, READ, GLOBAL, 16, &[])), FULL),
-        (Tried::Close(1, false), FULL),
-        (Tried::Close(0, false), FULL),
-        (Tried::Take(0), OK),
-        (Tried::Close(0, false), OK),
-        (Tried::Send((0, 0, END, GLOBAL, 0, &[])), BAD),
-        (Tried::Send((0, 1, READ, GLOBAL, 16, &[])), BAD),
-        (Tried::Send((0, 0, READ, GLOBAL, 16, &[])), NOT_OPEN),
-        (Tried::Close(0, true), NOT_OPEN),
-        (Tried::Send((1, 0, READ, GLOBAL, 16, &[])), FULL),
-        (Tried::Take(0), OK),
-        (Tried::Take(0), EMPTY),
-        (Tried::Handle(FIRST), OK),
-        (Tried::Handle(SECOND), BAD),
-        (Tried::Handle(FIRST), BUSY),
-        (Tried::Handle(OTHER), BUSY),
-        (Tried::Meet(0), NOT_READY),
-        (Tried::Pass, OK),
-        (Tried::Pass, EMPTY),
-        (Tried::Handle(FIRST), NOT_READY),
-        (Tried::Handle(OTHER), NOT_READY),
-        (Tried::Close(1, true), OK),
-        (Tried::Take(0), OK),
-        (Tried::Handle(OTHER), NOT_READY),
-        (Tried::WorkTake(0), OK),
-    ],
-    told: Some(Told {
-        cut: (Some(1), None),
-        groups: 2,
-        items: 2,
-        records: 3,
-        ..NOTHING
-    }),
-};
-
-/// A convergent instance, which may meet while an access is on its way, and a divergent one, which has no accesses.
-const BARRIERS: Script = Script {
-    name: "an instance that meets and one that does not",
-    sizes: &[2],
-    numbers: (1, 1, 2),
-    lines: &[
-        (Tried::Send((0, 0, WRITE, GLOBAL, 16, &[])), OK),
-        (Tried::Send((0, 0, BARRIER, GLOBAL, 1, &[])), OK),
-        (Tried::Send((0, 1, BARRIER, GLOBAL, 1, &[])), FULL),
-        (Tried::Take(0), OK),
-        (Tried::Take(0), OK),
-        (Tried::Meet(0), NOT_READY),
-        (Tried::Send((0, 1, BARRIER, GLOBAL, 1, &[])), OK),
-        (Tried::Take(0), OK),
-        (Tried::Meet(0), NOT_READY),
-        (Tried::Handle(SECOND), NOT_READY),
-        (Tried::Handle(FIRST), OK),
-        (Tried::Handle(FIRST), BUSY),
-        (Tried::Meet(0), OK),
-        (Tried::Meet(0), NOT_READY),
-        (Tried::Send((0, 1, READ, GLOBAL, 16, &[])), OK),
-        (Tried::Take(0), OK),
-        (Tried::Handle(SECOND), BUSY),
-        (Tried::Pass, OK),
-        (Tried::Handle(SECOND), OK),
-        (Tried::Pass, OK),
-        (Tried::WorkTake(0), OK),
-        (Tried::WorkTake(0), OK),
-        (Tried::WorkTake(0), EMPTY),
-        (Tried::Send((0, 0, BARRIER, GLOBAL, 2, &[])), OK),
-        (Tried::Take(0), OK),
-        (Tried::Handle(FIRST), NOT_READY),
-        (Tried::Send((0, 1, BARRIER, GLOBAL, 3, &[])), OK),
-        (Tried::Take(0), OK),
-        (Tried::Meet(0), NOT_READY),
-        (Tried::Handle(FIRST), OK),
-        (Tried::Pass, EMPTY),
-        (Tried::Handle(SECOND), OK),
-        (Tried::Close(0, false), OK),
-        (Tried::Take(0), OK),
-    ],
-    told: Some(Told {
-        divergences: (Some((0, 1, DivergenceCause::Site)), None),
-        items: 2,
-        records: 7,
-        ..NOTHING
-    }),
-};
-
-/// Group 1 sends into queue 1. Of three workers, global word 16 goes to worker 1, local word 4 of group 1 to worker 2.
-const TWO_QUEUES: Script = Script {
-    name: "two queues and three workers",
-    sizes: &[1, 1],
-    numbers: (3, 2, 1),
-    lines: &[
-        (Tried::Send((1, 0, WRITE, LOCAL, 4, &[])), OK),
-        (Tried::Take(0), EMPTY),
-        (Tried::Send((0, 0, WRITE, GLOBAL, 16, &[])), OK),
-        (Tried::Take(0), OK),
-        (Tried::Take(1), OK),
-        (Tried::Take(1), EMPTY),
-        (Tried::Take(2), BAD),
-        (Tried::Handle(OTHER), OK),
-        (Tried::Pass, OK),
-        (Tried::Handle(FIRST), OK),
-        (Tried::Pass, OK),
-        (Tried::WorkTake(0), EMPTY),
-        (Tried::WorkTake(1), OK),
-        (Tried::WorkTake(1), EMPTY),
-        (Tried::WorkTake(2), OK),
-        (Tried::WorkTake(3), BAD),
-        (Tried::Close(0, true), OK),
-        (Tried::Close(1, false), OK),
-        (Tried::Take(1), OK),
-        (Tried::Take(0), OK),
-    ],
-    told: Some(Told {
-        cut: (Some(0), None),
-        groups: 2,
-        items: 2,
-        records: 4,
-        ..NOTHING
-    }),
-};
-
-/// A world is not at rest before each event is handled, and each access is passed on and received.
-const LEFT_OVER: Script = Script {
-    name: "an event that is left over up to the last step",
-    sizes: &[1],
-    numbers: (1, 1, 2),
-    lines: &[
-        (Tried::Send((0, 0, WRITE, GLOBAL, 16, &[])), OK),
-        (Tried::Close(0, false), OK),
-        (Tried::Take(0), OK),
-        (Tried::Take(0), OK),
-        (Tried::Handle(FIRST), OK),
-        (Tried::Pass, OK),
-        (Tried::WorkTake(0), OK),
-    ],
-    told: Some(Told {
-        records: 2,
-        ..NOTHING
-    }),
-};
-
-/// A world is not at rest before each stream has its end, and each end is taken.
-const ENDS: Script = Script {
-    name: "an end that is left over up to the last step",
-    sizes: &[1, 1],
-    numbers: (1, 1, 2),
-    lines: &[
-        (Tried::Close(1, false), OK),
-        (Tried::Take(0), OK),
-        (Tried::Close(0, false), OK),
-        (Tried::Take(0), OK),
-    ],
-    told: Some(Told {
-        groups: 2,
-        items: 2,
-        records: 2,
-        ..NOTHING
-    }),
-};
-
 static SCRIPTS: [Script; 7] = [
-    ONE_PLACE, NEW_WORLD, BAD_STEPS, BARRIERS, TWO_QUEUES, LEFT_OVER, ENDS,
+    // One place in each queue: a write and a read of two groups.
+    Script {
+        name: "a race through queues with one place",
+        sizes: &[1, 1],
+        numbers: (1, 1, 1),
+        lines: &[
+            (Tried::Send((0, 0, WRITE, GLOBAL, 16, &[])), OK),
+            (Tried::Send((1, 0, READ, GLOBAL, 16, &[])), FULL),
+            (Tried::Take(0), OK),
+            (Tried::Send((1, 0, READ, GLOBAL, 16, &[])), OK),
+            (Tried::Handle(FIRST), OK),
+            (Tried::Take(0), OK),
+            (Tried::Handle(OTHER), BUSY),
+            (Tried::Pass, OK),
+            (Tried::Handle(OTHER), OK),
+            (Tried::Pass, FULL),
+            (Tried::WorkTake(0), OK),
+            (Tried::Pass, OK),
+            (Tried::WorkTake(0), OK),
+            (Tried::Close(0, false), OK),
+            (Tried::Close(0, false), NOT_OPEN),
+            (Tried::Take(0), OK),
+            (Tried::Close(1, false), OK),
+            (Tried::Take(0), OK),
+        ],
+        told: Some(Told {
+            races: (Some(Word::Global(16)), None),
+            groups: 2,
+            items: 2,
+            records: 4,
+            ..NOTHING
+        }),
+    },
+    Script {
+        name: "a new world",
+        sizes: &[1, 1],
+        numbers: (1, 1, 1),
+        lines: &[
+            (Tried::Take(0), EMPTY),
+            (Tried::Take(1), BAD),
+            (Tried::WorkTake(1), BAD),
+            (Tried::Pass, EMPTY),
+            (Tried::Handle(FIRST), NOT_READY),
+            (Tried::Meet(0), NOT_READY),
+            (Tried::Send((0, 0, END, GLOBAL, 0, &[])), BAD),
+        ],
+        told: None,
+    },
+    // Groups and items that are not there, and records that a group must not have, come before all other causes.
+    Script {
+        name: "bad steps, before and behind each other cause",
+        sizes: &[1, 1],
+        numbers: (1, 1, 1),
+        lines: &[
+            (Tried::Send((2, 0, WRITE, GLOBAL, 16, &[])), BAD),
+            (Tried::Close(2, false), BAD),
+            (Tried::Handle(ItemId { group: 2, item: 0 }), BAD),
+            (Tried::Handle(SECOND), BAD),
+            (Tried::Meet(2), BAD),
+            (Tried::WorkTake(0), EMPTY),
+            (Tried::Send((0, 1, READ, GLOBAL, 16, &[])), BAD),
+            (Tried::Send((0, 0, RELEASING_LOAD, GLOBAL, 16, &[])), BAD),
+            (
+                Tried::Send((0, 0, RELAXED_LOAD, GLOBAL, 20, &[(0, 0, 0)])),
+                BAD,
+            ),
+            (Tried::Send((0, 0, WRITE, GLOBAL, 16, &[])), OK),
+            (Tried::Send((2, 0, WRITE, GLOBAL, 16, &[])), BAD),
+            (Tried::Send((0, 1, READ, GLOBAL, 16, &[])), BAD),
+            (Tried::Send((1, 0, END, GLOBAL, 0, &[])), BAD),
+            (Tried::Send((1, 0, READ, GLOBAL, 16, &[])), FULL),
+            (Tried::Close(1, false), FULL),
+            (Tried::Close(0, false), FULL),
+            (Tried::Take(0), OK),
+            (Tried::Close(0, false), OK),
+            (Tried::Send((0, 0, END, GLOBAL, 0, &[])), BAD),
+            (Tried::Send((0, 1, READ, GLOBAL, 16, &[])), BAD),
+            (Tried::Send((0, 0, READ, GLOBAL, 16, &[])), NOT_OPEN),
+            (Tried::Close(0, true), NOT_OPEN),
+            (Tried::Send((1, 0, READ, GLOBAL, 16, &[])), FULL),
+            (Tried::Take(0), OK),
+            (Tried::Take(0), EMPTY),
+            (Tried::Handle(FIRST), OK),
+            (Tried::Handle(SECOND), BAD),
+            (Tried::Handle(FIRST), BUSY),
+            (Tried::Handle(OTHER), BUSY),
+            (Tried::Meet(0), NOT_READY),
+            (Tried::Pass, OK),
+            (Tried::Pass, EMPTY),
+            (Tried::Handle(FIRST), NOT_READY),
+            (Tried::Handle(OTHER), NOT_READY),
+            (Tried::Close(1, true), OK),
+            (Tried::Take(0), OK),
+            (Tried::Handle(OTHER), NOT_READY),
+            (Tried::WorkTake(0), OK),
+        ],
+        told: Some(Told {
+            cut: (Some(1), None),
+            groups: 2,
+            items: 2,
+            records: 3,
+            ..NOTHING
+        }),
+    },
+    // A convergent instance, which may meet while an access is on its way, and a divergent one, which has no accesses.
+    Script {
+        name: "an instance that meets and one that does not",
+        sizes: &[2],
+        numbers: (1, 1, 2),
+        lines: &[
+            (Tried::Send((0, 0, WRITE, GLOBAL, 16, &[])), OK),
+            (Tried::Send((0, 0, BARRIER, GLOBAL, 1, &[])), OK),
+            (Tried::Send((0, 1, BARRIER, GLOBAL, 1, &[])), FULL),
+            (Tried::Take(0), OK),
+            (Tried::Take(0), OK),
+            (Tried::Meet(0), NOT_READY),
+            (Tried::Send((0, 1, BARRIER, GLOBAL, 1, &[])), OK),
+            (Tried::Take(0), OK),
+            (Tried::Meet(0), NOT_READY),
+            (Tried::Handle(SECOND), NOT_READY),
+            (Tried::Handle(FIRST), OK),
+            (Tried::Handle(FIRST), BUSY),
+            (Tried::Meet(0), OK),
+            (Tried::Meet(0), NOT_READY),
+            (Tried::Send((0, 1, READ, GLOBAL, 16, &[])), OK),
+            (Tried::Take(0), OK),
+            (Tried::Handle(SECOND), BUSY),
+            (Tried::Pass, OK),
+            (Tried::Handle(SECOND), OK),
+            (Tried::Pass, OK),
+            (Tried::WorkTake(0), OK),
+            (Tried::WorkTake(0), OK),
+            (Tried::WorkTake(0), EMPTY),
+            (Tried::Send((0, 0, BARRIER, GLOBAL, 2, &[])), OK),
+            (Tried::Take(0), OK),
+            (Tried::Handle(FIRST), NOT_READY),
+            (Tried::Send((0, 1, BARRIER, GLOBAL, 3, &[])), OK),
+            (Tried::Take(0), OK),
+            (Tried::Meet(0), NOT_READY),
+            (Tried::Handle(FIRST), OK),
+            (Tried::Pass, EMPTY),
+            (Tried::Handle(SECOND), OK),
+            (Tried::Close(0, false), OK),
+            (Tried::Take(0), OK),
+        ],
+        told: Some(Told {
+            divergences: (Some((0, 1, DivergenceCause::Site)), None),
+            items: 2,
+            records: 7,
+            ..NOTHING
+        }),
+    },
+    // Group 1 sends into queue 1. Of three workers, global word 16 goes to worker 1, local word 4 of group 1 to worker 2.
+    Script {
+        name: "two queues and three workers",
+        sizes: &[1, 1],
+        numbers: (3, 2, 1),
+        lines: &[
+            (Tried::Send((1, 0, WRITE, LOCAL, 4, &[])), OK),
+            (Tried::Take(0), EMPTY),
+            (Tried::Send((0, 0, WRITE, GLOBAL, 16, &[])), OK),
+            (Tried::Take(0), OK),
+            (Tried::Take(1), OK),
+            (Tried::Take(1), EMPTY),
+            (Tried::Take(2), BAD),
+            (Tried::Handle(OTHER), OK),
+            (Tried::Pass, OK),
+            (Tried::Handle(FIRST), OK),
+            (Tried::Pass, OK),
+            (Tried::WorkTake(0), EMPTY),
+            (Tried::WorkTake(1), OK),
+            (Tried::WorkTake(1), EMPTY),
+            (Tried::WorkTake(2), OK),
+            (Tried::WorkTake(3), BAD),
+            (Tried::Close(0, true), OK),
+            (Tried::Close(1, false), OK),
+            (Tried::Take(1), OK),
+            (Tried::Take(0), OK),
+        ],
+        told: Some(Told {
+            cut: (Some(0), None),
+            groups: 2,
+            items: 2,
+            records: 4,
+            ..NOTHING
+        }),
+    },
+    // A world is not at rest before each event is handled, and each access is passed on and received.
+    Script {
+        name: "an event that is left over up to the last step",
+        sizes: &[1],
+        numbers: (1, 1, 2),
+        lines: &[
+            (Tried::Send((0, 0, WRITE, GLOBAL, 16, &[])), OK),
+            (Tried::Close(0, false), OK),
+            (Tried::Take(0), OK),
+            (Tried::Take(0), OK),
+            (Tried::Handle(FIRST), OK),
+            (Tried::Pass, OK),
+            (Tried::WorkTake(0), OK),
+        ],
+        told: Some(Told {
+            records: 2,
+            ..NOTHING
+        }),
+    },
+    // A world is not at rest before each stream has its end, and each end is taken.
+    Script {
+        name: "an end that is left over up to the last step",
+        sizes: &[1, 1],
+        numbers: (1, 1, 2),
+        lines: &[
+            (Tried::Close(1, false), OK),
+            (Tried::Take(0), OK),
+            (Tried::Close(0, false), OK),
+            (Tried::Take(0), OK),
+        ],
+        told: Some(Told {
+            groups: 2,
+            items: 2,
+            records: 2,
+            ..NOTHING
+        }),
+    },
 ];
 
 /// How many steps of a script `run` refuses, and what is reported at the end; `None` if out of memory.
@@ -282,18 +274,15 @@ fn ran(alloc: Global, script: &Script) -> Option<(usize, Option<Told>)> {
 }
 
 #[test]
-fn each_step_is_answered_and_run_counts_the_refused(rt: HostRuntime) {
-    for script in &SCRIPTS {
-        let refused = script.lines.iter().filter(|line| line.1.is_err()).count();
-        let (went, ran) = (went(rt.alloc(), script), ran(rt.alloc(), script));
-        assert_eq!(rt; went, Some((None, script.told)), "{}", script.name);
-        assert_eq!(rt; ran, Some((refused, script.told)), "{}", script.name);
-    }
-}
-
-#[test]
 fn each_step_is_answered_whatever_growth_is_refused(rt: HostRuntime) {
     for script in &SCRIPTS {
+        let refused = script.lines.iter().filter(|line| line.1.is_err()).count();
+        assert_eq!(rt;
+            ran(rt.alloc(), script),
+            Some((refused, script.told)),
+            "{}",
+            script.name
+        );
         let told = Some((None, script.told));
         let growths = refuse_each(rt.alloc(), 5, |heap| Ok(went(heap, script) == told));
         assert!(rt; growths.is_ok(), "{}", script.name);

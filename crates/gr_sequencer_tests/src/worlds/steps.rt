@@ -5,7 +5,6 @@ use gr_model::event::Kind;
 use gr_world::step::Step;
 use std::alloc::{AllocError, Global};
 use std::collections::VecDeque;
-use std::ops::Range;
 
 /// In which order the groups send.
 #[derive(Clone, Copy, Debug, PartialEq, Eq)]
@@ -27,28 +26,16 @@ fn send_of(record: &Record) -> Step {
     }
 }
 
-/// Adds the steps that send the records of these groups, in their order.
-fn add_sends(
-    steps: &mut VecDeque<Step>,
-    records: &[Record],
-    groups: Range<u16>,
-) -> Result<(), AllocError> {
-    for record in records {
-        if groups.contains(&record.0) {
-            steps.push_back(send_of(record))?;
-        }
-    }
-    Ok(())
-}
-
 /// The steps that send a row's records.
 pub(crate) fn sends_of(alloc: Global, row: &Row, way: Way) -> Result<VecDeque<Step>, AllocError> {
+    let rounds = match way {
+        Way::AsListed => [0..MOST_GROUPS, 0..0],
+        Way::GreatestFirst => [1..MOST_GROUPS, 0..1],
+    };
     let mut steps = VecDeque::new(alloc);
-    match way {
-        Way::AsListed => add_sends(&mut steps, row.2, 0..MOST_GROUPS)?,
-        Way::GreatestFirst => {
-            add_sends(&mut steps, row.2, 1..MOST_GROUPS)?;
-            add_sends(&mut steps, row.2, 0..1)?;
+    for groups in &rounds {
+        for record in row.2.iter().filter(|record| groups.contains(&record.0)) {
+            steps.push_back(send_of(record))?;
         }
     }
     Ok(steps)
