@@ -8,7 +8,7 @@ use gr_record::fault::Fault;
 use gr_replay::read_each;
 use refusing::failing::FailingReader;
 use refusing::growths::refuse_each;
-use std::alloc::{AllocError, Allocator, Global};
+use std::alloc::Allocator;
 use std::test::Fail;
 
 #[test]
@@ -16,26 +16,6 @@ fn no_reader_is_no_launch(rt: HostRuntime) {
     let readers: Vec<&[u8]> = Vec::new(rt.alloc());
     let answer = read_each(rt.alloc(), readers);
     assert!(rt; answer.err() == Some(Fault::Shape(ShapeError::NoGroups)));
-}
-
-/// A barrier and an acquire that names a release, a stream each.
-const BARRIER: &str = "group 0 items 1 launch 7\n0 bar 1 gl\nend\n";
-
-const ACQUIRE: &str = "group 1 items 1 launch 7\n0 ld g 20 dev acq < 0 0 0\nend cut\n";
-
-/// The bytes of each stream.
-fn inputs_of(alloc: Global, texts: &[&str]) -> Result<Vec<Vec<u8>>, Fail> {
-    let inputs = texts.iter().map(|text| packed(alloc, text));
-    inputs.try_collect::<Vec<Vec<u8>>>(alloc)
-}
-
-/// A reader of each input.
-fn readers_of<'a, A: Allocator>(
-    alloc: A,
-    inputs: &'a [Vec<u8>],
-) -> Result<Vec<&'a [u8], A>, AllocError> {
-    let readers = inputs.iter().map(|input| input.as_slice());
-    readers.collect::<Vec<&'a [u8], A>>(alloc)
 }
 
 /// A record of no kind, and an end: neither begins with a magic.
@@ -67,8 +47,8 @@ fn a_reader_that_fails_comes_before_a_fault(rt: HostRuntime) -> Result<(), Fail>
 }
 
 /// Whether the launch has two groups and all their records, or memory ran out.
-fn is_read<A: Allocator + Copy>(alloc: A, inputs: &[Vec<u8>]) -> Result<bool, Memory> {
-    let readers = readers_of(alloc, inputs)?;
+fn is_read<A: Allocator + Copy>(alloc: A, inputs: &[Vec<u8>; 2]) -> Result<bool, Memory> {
+    let readers = vec![in alloc; inputs[0].as_slice(), inputs[1].as_slice()]?;
     match read_each(alloc, readers) {
         Ok(traces) => Ok(
             traces.shape().groups() == 2 && traces.list(0).len() == 2 && traces.list(1).len() == 2,
@@ -78,10 +58,18 @@ fn is_read<A: Allocator + Copy>(alloc: A, inputs: &[Vec<u8>]) -> Result<bool, Me
     }
 }
 
+/// A barrier, and an acquire that names a release.
 #[test]
 fn each_refused_growth_of_reading_is_want_of_memory(rt: HostRuntime) -> Result<(), Fail> {
-    let inputs = inputs_of(rt.alloc(), &[ACQUIRE, BARRIER])?;
-    let growths = refuse_each(rt.alloc(), 5, |heap| is_read(heap, &inputs));
+    let alloc = rt.alloc();
+    let inputs = [
+        packed(
+            alloc,
+            "group 1 items 1 launch 7\n0 ld g 20 dev acq < 0 0 0\nend cut\n",
+        )?,
+        packed(alloc, "group 0 items 1 launch 7\n0 bar 1 gl\nend\n")?,
+    ];
+    let growths = refuse_each(alloc, 5, |heap| is_read(heap, &inputs));
     assert!(rt; growths.is_ok(), "{growths:?}");
     Ok(())
 }

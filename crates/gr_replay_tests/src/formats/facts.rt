@@ -1,7 +1,6 @@
 //! What the contracts alone give for some values. For each value some wrong body would return something else.
 
 ghost use Rattle.std.specs.Prelude.{Some, ◌∷◌, []};
-ghost use Rattle.gr_model.specs.Prelude.{IsEventOk};
 
 use gr_model::event::{Event, ItemId, Kind, Name, Order, Scope, Space, Word};
 use gr_model::names::Names;

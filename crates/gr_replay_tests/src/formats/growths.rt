@@ -73,20 +73,6 @@ fn line_of<A: Allocator>(alloc: A, event: &Event) -> Result<String<A>, Memory> {
     line_text(alloc, &Line::Event(*event))
 }
 
-#[test]
-fn each_refused_growth_of_a_line_is_out_of_memory(rt: HostRuntime) -> Result<(), Fail> {
-    for &line in &RECORDS {
-        let event = event_of(line).ok_or("no event")?;
-        let growths = refuse_each(
-            rt.alloc(),
-            1,
-            |heap| Ok(line_of(heap, &event)?.as_str() == line),
-        );
-        assert!(rt; growths.is_ok(), "{line}: {growths:?}");
-    }
-    Ok(())
-}
-
 /// The bytes of an event; none where it has no record.
 fn bytes_of(event: &Event) -> Option<[u8; 20]> {
     if !event_ok(event, MOST_ITEMS_OF_A_GROUP) || event.names.as_slice().len() > 1 {
@@ -122,13 +108,19 @@ fn is_read<A: Allocator>(alloc: A, event: &Event, bytes: &[u8; 20]) -> bool {
     }
 }
 
+/// The line of a record is made, or memory ran out, and a decoder goes on once there is memory.
 #[test]
-fn a_decoder_goes_on_once_there_is_memory(rt: HostRuntime) -> Result<(), Fail> {
+fn each_refused_growth_of_a_record_is_out_of_memory(rt: HostRuntime) -> Result<(), Fail> {
+    let alloc = rt.alloc();
     for &line in &RECORDS {
         let event = event_of(line).ok_or("no event")?;
         let bytes = bytes_of(&event).ok_or("no bytes")?;
-        let growths = refuse_each(rt.alloc(), 1, |heap| Ok(is_read(heap, &event, &bytes)));
-        assert!(rt; growths.is_ok(), "{line}: {growths:?}");
+        let lines = refuse_each(alloc, 1, |heap| Ok(line_of(heap, &event)?.as_str() == line));
+        let decoders = refuse_each(alloc, 1, |heap| Ok(is_read(heap, &event, &bytes)));
+        assert!(rt;
+            lines.is_ok() && decoders.is_ok(),
+            "{line}: {lines:?}, {decoders:?}"
+        );
     }
     Ok(())
 }

@@ -44,31 +44,14 @@ pub(crate) struct Case {
     pub(crate) output: Vec<u8>,
 }
 
-/// A text of streams, and the same in version 2.
-type Text = (&'static str, &'static str);
-
 /// A race, and texts with each kind of record.
-pub(crate) static TEXTS: [Text; 4] = [
-    (
-        "group 0 items 2 launch 7\n0 w g 16\n1 r g 16\nend\n",
-        "group 0 items 2 launch 7 v2\n0 w g 16\n1 r g 16\nend\n",
-    ),
-    (
-        "group 0 items 1 launch 7\n0 w g 16\n0 st g 20 dev rel\nend\n\
-         group 1 items 1 launch 7\n0 ld g 20 dev acq < 0 0 0\n0 r g 16\nend\n",
-        "group 0 items 1 launch 7 v2\n0 w g 16\n0 st g 20 dev rel\nend\n\
-         group 1 items 1 launch 7 v2\n0 ld g 20 dev acq < 0 0 0\n0 r g 16\nend\n",
-    ),
-    (
-        "group 0 items 256 launch 7\n0 w g 16\n1 r g 16\n3 st g 16 dev rel\n4 ld g 16 dev acq < 0 3 0\n\
-         255 rmw l 4294967295 grp both < 63 255 16777215\n0 bar 7 gl\nend cut\n",
-        "group 0 items 256 launch 7 v2\n0 w g 16\n1 r g 16\n3 st g 16 dev rel\n4 ld g 16 dev acq < 0 3 0\n\
-         255 rmw l 4294967295 grp both < 63 255 16777215\n0 bar 7 gl\nend cut\n",
-    ),
-    (
-        "group 0 items 3 launch 7 v2\n2 ld g 20 dev acq < 0 0 0 < 0 1 0\nend\n",
-        "group 0 items 3 launch 7 v2\n2 ld g 20 dev acq < 0 0 0 < 0 1 0\nend\n",
-    ),
+pub(crate) static TEXTS: [&str; 4] = [
+    "group 0 items 2 launch 7\n0 w g 16\n1 r g 16\nend\n",
+    "group 0 items 1 launch 7\n0 w g 16\n0 st g 20 dev rel\nend\n\
+     group 1 items 1 launch 7\n0 ld g 20 dev acq < 0 0 0\n0 r g 16\nend\n",
+    "group 0 items 256 launch 7\n0 w g 16\n1 r g 16\n3 st g 16 dev rel\n4 ld g 16 dev acq < 0 3 0\n\
+     255 rmw l 4294967295 grp both < 63 255 16777215\n0 bar 7 gl\nend cut\n",
+    "group 0 items 3 launch 7 v2\n2 ld g 20 dev acq < 0 0 0 < 0 1 0\nend\n",
 ];
 
 /// Work that goes well.
@@ -111,10 +94,11 @@ fn add_replays(alloc: Global, cases: &mut Vec<Case>, launches: &[Launch]) -> Res
 }
 
 /// Each work on each of these texts, and one that ends with a fault. Of launches the replay.
-pub(crate) fn cases(alloc: Global, texts: &[Text], launches: &[Launch]) -> Result<Vec<Case>, Fail> {
+pub(crate) fn cases(alloc: Global, texts: &[&str], launches: &[Launch]) -> Result<Vec<Case>, Fail> {
     let mut cases = vec![in alloc; broken(alloc)?]?;
-    for &(text, long) in texts {
-        let (bytes, long) = (packed(alloc, text)?, packed(alloc, long)?);
+    for &text in texts {
+        let bytes = packed(alloc, text)?;
+        let long = packed(alloc, &text.replace(alloc, "launch 7\n", "launch 7 v2\n")?)?;
         let text = text.as_bytes();
         cases.push(done(alloc, Work::Pack, text, &bytes)?)?;
         cases.push(done(alloc, Work::Dump, &bytes, text)?)?;
