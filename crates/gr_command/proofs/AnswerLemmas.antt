@@ -51,11 +51,6 @@ pub both : {R F : Type 0} (P Q : R → Type 0) (outcome : Result R F) → IfOk o
 both P Q (Ok r) p q = (p, q)
 both P Q (Err f) p q = tt
 
--- something is done, without a result
-pub done_of : {F : Type 0} (P : Type 0) (outcome : Result (Unit {0}) F) → OnOk outcome P → IfOk outcome (λ _. P)
-done_of P (Ok r) p = p
-done_of P (Err f) p = tt
-
 -- the outcome of a partial dump
 module _ (input old new old_errors new_errors : Option (List ℕ)) (status : ℕ) where
   pub partial_of : (outcome : Result (Unit {0}) Fault)

@@ -45,9 +45,7 @@ pub fn write_check<T: Read + Drop, O: Fn(&str) -> io::Result<T>, W: Write>(
     ensures prefix { IfErr result (λ f. f ≡ faults.Write → ChecksPrefixOfFiles T.remaining (FnReturnsAt O.Fn opener) (W.contents writer.old) (W.contents writer.new) (map (λ s. s.now) arguments.now.files.items)) }
 {
     let checked = check_files(alloc, arguments.files.as_slice(), opener)?;
-    let Ok(text) = text_of(alloc, &checked, arguments.json) else {
-        return Err(Fault::Memory);
-    };
+    let text = text_of(alloc, &checked, arguments.json)?;
     match write_text(writer, &text) {
         Ok(()) => Ok(checked.is_accepted()),
         Err(_) => Err(Fault::Write),

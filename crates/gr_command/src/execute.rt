@@ -8,7 +8,7 @@ ghost use Rattle.gr_report.specs.FaultText.{fault_line};
 ghost use Rattle.gr_report.specs.Putting.{AppendsPrefix};
 ghost use Rattle.gr_report.specs.Whole.{whole_of};
 ghost use Rattle.gr_places.specs.FaultText.{sides_fault_line};
-ghost use Rattle.gr_arguments.specs.Asked.{Asked, AsksTo, asked_of, inquiry_of};
+ghost use Rattle.gr_arguments.specs.Asked.{Asked, AsksTo, inquiry_of};
 ghost use Rattle.gr_arguments.specs.Commands.{AreHelp, AreWrong, IsHelp, IsWrongUsage, faults};
 ghost use Rattle.gr_command.specs.Answers.{IsAnswerOf, IsAnswerTo, IsAnswered, IsDone, IsFaultTold, in_form};
 ghost use Rattle.gr_command.specs.Statuses.{check_status, fault_status, race_status, sides_fault_status, IsReportStatus};
@@ -156,35 +156,8 @@ fn conclude_telling<E: Write>(outcome: Result<bool, SidesFault>, errors: &mut E)
     }
 }
 
-/// Writes the answer to a question about a launch whose streams are in files, and gives the exit status.
+/// Writes the answer to a question about a launch whose streams are in files, as text or as JSON, and gives the exit status.
 fn tell<Q, T, O, W, E>(
-    alloc: Global,
-    question: &Q,
-    arguments: &Arguments<'_>,
-    opener: O,
-    writer: &mut W,
-    errors: &mut E,
-) -> u8
-where
-    Q: Question<Global>,
-    T: Read + Drop,
-    O: Fn(&str) -> io::Result<T>,
-    W: Write,
-    E: Write,
-    requires { O.IsAlwaysCallable opener }
-    ensures { IsAnswered T.remaining (FnReturnsAt O.Fn opener) (W.contents writer.old) (W.contents writer.new) (E.contents errors.old) (E.contents errors.new) result (inquiry_of arguments.now) (Q.is_text question.now) (Q.is_found question.now) }
-{
-    let sides = SideNames {
-        places: arguments.places,
-        buffers: arguments.buffers,
-    };
-    let files = arguments.files.as_slice();
-    let outcome = tell_files(alloc, question, &sides, files, opener, writer);
-    conclude_telling(outcome, errors)
-}
-
-/// Writes the answer to a question as text or as JSON, and gives the exit status.
-fn tell_in<Q, T, O, W, E>(
     alloc: Global,
     question: Q,
     arguments: &Arguments<'_>,
@@ -201,10 +174,17 @@ where
     requires { O.IsAlwaysCallable opener }
     ensures { IsAnswered T.remaining (FnReturnsAt O.Fn opener) (W.contents writer.old) (W.contents writer.new) (E.contents errors.old) (E.contents errors.new) result (inquiry_of arguments.now) (in_form arguments.now.json (Q.is_json question) (Q.is_text question)) (Q.is_found question) }
 {
+    let sides = SideNames {
+        places: arguments.places,
+        buffers: arguments.buffers,
+    };
+    let files = arguments.files.as_slice();
     if arguments.json {
-        tell(alloc, &InJson(question), arguments, opener, writer, errors)
+        let outcome = tell_files(alloc, &InJson(question), &sides, files, opener, writer);
+        conclude_telling(outcome, errors)
     } else {
-        tell(alloc, &question, arguments, opener, writer, errors)
+        let outcome = tell_files(alloc, &question, &sides, files, opener, writer);
+        conclude_telling(outcome, errors)
     }
 }
 
@@ -242,17 +222,17 @@ where
     match arguments.query {
         Query::Explain { long, word } => {
             if long {
-                tell_in(alloc, LongRace(word), arguments, opener, writer, errors)
+                tell(alloc, LongRace(word), arguments, opener, writer, errors)
             } else {
-                tell_in(alloc, LeastRace(word), arguments, opener, writer, errors)
+                tell(alloc, LeastRace(word), arguments, opener, writer, errors)
             }
         }
         Query::Races { most, causes } => {
             let question = Races { most, causes };
-            tell_in(alloc, question, arguments, opener, writer, errors)
+            tell(alloc, question, arguments, opener, writer, errors)
         }
         Query::History { word } => {
-            tell_in(alloc, WordHistory(word), arguments, opener, writer, errors)
+            tell(alloc, WordHistory(word), arguments, opener, writer, errors)
         }
         Query::Run { config } => {
             let outcome = run_files(rt, alloc, config, arguments, opener, writer);
@@ -260,7 +240,7 @@ where
         }
         Query::Check => conclude_check(write_check(alloc, arguments, opener, writer), errors),
         Query::WhyHeld { event } => {
-            tell_in(alloc, HeldEvent(event), arguments, opener, writer, errors)
+            tell(alloc, HeldEvent(event), arguments, opener, writer, errors)
         }
     }
 }
@@ -289,34 +269,6 @@ fn refuse<E: Write>(why: Misuse, errors: &mut E) -> u8
     USAGE
 }
 
-/// Does what is requested, and gives the exit status.
-fn answer<H, R, T, O, W, E>(
-    rt: H,
-    alloc: Global,
-    request: Request<'_>,
-    reader: &mut R,
-    opener: O,
-    writer: &mut W,
-    errors: &mut E,
-) -> u8
-where
-    H: Threads + Wait + Clock + Copy + Send + 'static,
-    R: Read,
-    T: Read + Send + Drop + 'static,
-    O: Fn(&str) -> io::Result<T>,
-    W: Write,
-    E: Write,
-    requires { O.IsAlwaysCallable opener }
-    ensures known { result ≤ FAILED }
-    ensures does { IsDone T.remaining (FnReturnsAt O.Fn opener) (R.remaining reader.old) (W.contents writer.old) (W.contents writer.new) (E.contents errors.old) (E.contents errors.new) result (asked_of request.entry) }
-{
-    match request {
-        Request::Perform(task) => perform(alloc, task, reader, writer, errors),
-        Request::Ask(arguments) => ask(rt, alloc, &arguments, opener, writer, errors),
-        Request::Refuse(why) => refuse(why, errors),
-    }
-}
-
 /// Does what the words ask for, and gives the exit status. The words are those after the program's name. If they name files, `opener`
 /// opens them; no other request opens a file. Only a run in threads uses `rt`.
 pub fn execute<H, S, R, T, O, W, E>(
@@ -343,7 +295,9 @@ where
     ensures help { AreHelp (faults (map S.text words.now)) → (result ≡ NOTHING) ⊎ (result ≡ NO_MEMORY_OR_THREAD) ⊎ (result ≡ FAILED) }
 {
     match request_of(alloc, words) {
-        Ok(request) => answer(rt, alloc, request, reader, opener, writer, errors),
+        Ok(Request::Perform(task)) => perform(alloc, task, reader, writer, errors),
+        Ok(Request::Ask(arguments)) => ask(rt, alloc, &arguments, opener, writer, errors),
+        Ok(Request::Refuse(why)) => refuse(why, errors),
         Err(error) => write_usage(&error, writer, errors),
     }
 }

@@ -34,13 +34,8 @@ fn write_json<W: Write>(alloc: Global, report: &Report, writer: &mut W) -> Resul
     ensures untouched { IfErr result (λ f. f ≢ faults.Write → Keeps (W.contents writer.old) (W.contents writer.new)) }
     ensures prefix { IfErr result (λ f. f ≡ faults.Write → WritesReportPrefix true (whole_of report.now) (W.contents writer.old) (W.contents writer.new)) }
 {
-    let Ok(text) = report_json(alloc, report) else {
-        return Err(Fault::Memory);
-    };
-    match write_text(writer, &text) {
-        Ok(()) => Ok(()),
-        Err(_) => Err(Fault::Write),
-    }
+    let text = report_json(alloc, report)?;
+    write_text(writer, &text)
 }
 
 /// Reads streams to their end, and writes the JSON of the report on them and nothing else.

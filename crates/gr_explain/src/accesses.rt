@@ -26,9 +26,6 @@ type Events<A> = IndexSet<EventId, BuildHasherDefault<FoldHasher>, A>;
 pub(crate) type Accesses<A> = IndexMap<EventId, Access<A>, BuildHasherDefault<FoldHasher>, A>;
 
 /// Adds both events of a pair.
-///
-/// # Errors
-/// `Memory`: out of memory.
 fn add_pair<A: Allocator>(events: &mut Events<A>, race: &Race) -> Result<(), Memory>
     ensures added { OnOk result (AreWanted events.new.keys race.now) }
     ensures others { OnOk result ((r : AnyRace) → AreWanted events.old.keys r → AreWanted events.new.keys r) }
@@ -39,9 +36,6 @@ fn add_pair<A: Allocator>(events: &mut Events<A>, race: &Race) -> Result<(), Mem
 }
 
 /// The events of pairs.
-///
-/// # Errors
-/// `Memory`: out of memory.
 fn events_of<A: Allocator + Copy>(alloc: A, races: &[Race]) -> Result<Events<A>, Memory>
     ensures { IfOk result (λ events. All (AreWanted events.keys) races.now) }
 {
@@ -78,9 +72,6 @@ impl<A: Allocator + Copy> Keeper<A> for WantedKeeper<'_, A> {
 }
 
 /// The accesses of those events of these pairs that are grounded, in a launch whose records are read so.
-///
-/// # Errors
-/// `Memory`: out of memory.
 pub(crate) fn accesses_of_pairs<A: Allocator + Copy, R: Reading>(
     alloc: A,
     traces: &Traces<A>,

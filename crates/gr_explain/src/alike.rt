@@ -117,9 +117,6 @@ impl<A: Allocator> Alike<A> {
 
     /// Adds an access, which has this tag.
     /// Requires: it belongs here (`has`).
-    ///
-    /// # Errors
-    /// `Memory`: out of memory.
     pub(crate) fn add(&mut self, access: &Access<A>, tag: u128) -> Result<(), Memory>
         requires tag { self.old.tag ≡ tag }
         requires class { self.old.class ≡ access.now.class }

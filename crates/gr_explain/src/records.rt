@@ -29,9 +29,6 @@ impl<A: Allocator> Model for Index<A> {
 
 impl<A: Allocator> Index<A> {
     /// Adds the record at a place of the list.
-    ///
-    /// # Errors
-    /// `Memory`: out of memory.
     fn add(&mut self, place: usize, event: &Event) -> Result<(), Memory>
         requires there { event.now.item < length self.old }
         requires few { place < MOST_RECORDS }
@@ -57,9 +54,6 @@ impl<A: Allocator> Index<A> {
 
 impl<A: Allocator + Copy> Index<A> {
     /// No records of so many items.
-    ///
-    /// # Errors
-    /// `Memory`: out of memory.
     fn new(alloc: A, items: u16) -> Result<Index<A>, Memory>
         ensures { IfOk result (λ index. IsIndexOf items [] index) }
     {
@@ -71,9 +65,6 @@ impl<A: Allocator + Copy> Index<A> {
     }
 
     /// The records of a list of a group of so many items.
-    ///
-    /// # Errors
-    /// `Memory`: out of memory.
     fn of(alloc: A, items: u16, list: &[Event]) -> Result<Index<A>, Memory>
         requires { IsAccepted items list.now }
         ensures { IfOk result (λ index. IsIndexOf items list.now index) }

@@ -24,9 +24,6 @@ pub(crate) struct Search<A: Allocator = Global> {
 }
 
 /// Adds an access to those of its class.
-///
-/// # Errors
-/// `Memory`: out of memory.
 fn put<A: Allocator + Copy>(classes: &mut Vec<Seen<A>, A>, access: &Access<A>) -> Result<(), Memory>
     ensures { OnOk result (IsSeenMore classes.old.items (event_of (clocked access.now)) access.now.class classes.new.items) }
 {
@@ -68,9 +65,6 @@ impl<A: Allocator + Copy> Search<A> {
     }
 
     /// Adds an access, if it is to the word. It comes after all others.
-    ///
-    /// # Errors
-    /// `Memory`: out of memory.
     pub(crate) fn add(&mut self, word: Word, access: &Access<A>) -> Result<(), Memory>
         ensures { OnOk result (IsAdded word (clocked access.now) self.old self.new) }
     {

@@ -93,9 +93,6 @@ impl<A: Allocator + Copy> Seen<A> {
 
     /// Adds an access.
     /// Requires: it is of the class (`has`).
-    ///
-    /// # Errors
-    /// `Memory`: out of memory.
     pub(crate) fn add(&mut self, access: &Access<A>) -> Result<(), Memory>
         requires { access.now.class ≡ self.old.class }
         ensures class { OnOk result (self.new.class ≡ access.now.class) }

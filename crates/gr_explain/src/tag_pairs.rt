@@ -89,9 +89,6 @@ fn prefer<A: Allocator>(race: &mut TaggedRace, alike: &Alike<A>, access: &Access
 
 /// Adds the race of a later access, which has this tag, with one of the accesses `alike`, if it clashes with one of them and there is no
 /// race of the two tags yet. If there is one of one group, prefers one of two groups.
-///
-/// # Errors
-/// `Memory`: out of memory.
 fn find_among<A: Allocator>(
     found: &mut Vec<TaggedRace, A>,
     alike: &Alike<A>,
@@ -113,9 +110,6 @@ fn find_among<A: Allocator>(
 
 /// Adds the races of a later access, which has this tag, with the earlier ones, if there is no race of the two tags yet, or none of two
 /// groups.
-///
-/// # Errors
-/// `Memory`: out of memory.
 fn find_races<A: Allocator>(
     found: &mut Vec<TaggedRace, A>,
     lists: &[Alike<A>],
@@ -131,9 +125,6 @@ fn find_races<A: Allocator>(
 }
 
 /// Adds an access with this tag to the list to which it belongs, or to a new one.
-///
-/// # Errors
-/// `Memory`: out of memory.
 #[tactic(auto, using(crate::proofs::TagPairLemmas::keeps_set, crate::proofs::TagPairLemmas::keeps_push))]
 fn keep<A: Allocator + Copy>(
     lists: &mut Vec<Alike<A>, A>,
@@ -165,9 +156,6 @@ impl<A: Allocator + Copy> TagPairs<A> {
     }
 
     /// Adds an access to the word, which has this tag and comes after all others.
-    ///
-    /// # Errors
-    /// `Memory`: out of memory.
     pub(crate) fn add(&mut self, access: &Access<A>, tag: u128) -> Result<(), Memory>
         ensures { OnOk result (IsTagAdded (clocked access.now) tag self.old self.new) }
     {

@@ -28,9 +28,6 @@ use std::hash::{BuildHasherDefault, FoldHasher};
 pub(crate) type WordPairs<A> = IndexMap<Word, TagPairs<A>, BuildHasherDefault<FoldHasher>, A>;
 
 /// No accesses to these words.
-///
-/// # Errors
-/// `Memory`: out of memory.
 pub(crate) fn pairs_of_words<A: Allocator + Copy>(
     alloc: A,
     words: &[Word],
@@ -45,9 +42,6 @@ pub(crate) fn pairs_of_words<A: Allocator + Copy>(
 }
 
 /// Adds an access, if it is to one of the words.
-///
-/// # Errors
-/// `Memory`: out of memory.
 pub(crate) fn add_access<A: Allocator + Copy, T: Tags>(
     pairs: &mut WordPairs<A>,
     tags: &T,
@@ -84,9 +78,6 @@ impl<A: Allocator + Copy, T: Tags> Keeper<A> for WordsKeeper<'_, T> {
 }
 
 /// Adds the races that were found of a word.
-///
-/// # Errors
-/// `Memory`: out of memory.
 fn list_word<A: Allocator>(
     races: &mut Vec<Race, A>,
     pairs: &WordPairs<A>,
@@ -104,9 +95,6 @@ fn list_word<A: Allocator>(
 }
 
 /// The races that were found of these words, in their order.
-///
-/// # Errors
-/// `Memory`: out of memory.
 pub(crate) fn list_words<A: Allocator + Copy>(
     alloc: A,
     pairs: &WordPairs<A>,

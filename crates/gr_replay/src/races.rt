@@ -24,9 +24,6 @@ fn race_of(clash: &Clash) -> Race
 }
 
 /// The races of the words that are hit in the accesses that shadows were given.
-///
-/// # Errors
-/// `Memory`: out of memory.
 pub(crate) fn races_of<A: Allocator + Copy>(
     alloc: A,
     shadows: &LaunchShadows<A>,

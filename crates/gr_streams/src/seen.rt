@@ -74,9 +74,6 @@ impl<A: Allocator> Seen<A> {
 
     /// These headers, and one more.
     /// Requires: it is of the same launch, and of a group that none of them has.
-    ///
-    /// # Errors
-    /// `Memory` if an allocation is refused.
     pub(crate) fn with_header(self, header: Header) -> Result<Seen<A>, Memory>
         requires header { IsHeader header }
         requires group { All (λ s. s.group ≢ header.group) self }

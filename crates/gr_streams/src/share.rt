@@ -88,9 +88,6 @@ impl<T: Read + Drop, A: Allocator> Share<T, A> {
 }
 
 /// Adds the share of these streams.
-///
-/// # Errors
-/// `Memory` if an allocation is refused.
 fn add<T: Drop, A: Allocator + Copy>(
     alloc: A,
     shares: &mut Vec<Share<T, A>, A>,
@@ -109,9 +106,6 @@ fn add<T: Drop, A: Allocator + Copy>(
 }
 
 /// The shares of a launch's streams. In a small launch each stream has its own, since it may wait for the producer of another.
-///
-/// # Errors
-/// `Memory` if an allocation is refused.
 pub(crate) fn shares_of<T: Drop, A: Allocator + Copy>(
     alloc: A,
     sources: Vec<Source<T>, A>,

@@ -6,16 +6,16 @@ use Rattle.gr_command.proofs.AnswerLemmas.{both, outcome_of}
 use Rattle.gr_command.proofs.execute.ask.Goals as goal
 
 pub returns-then-long : goal.returns-then-long
-returns-then-long g c = rw (c.in-Explain.is, c.if-long.true) c.tell_in.ensures
+returns-then-long g c = rw (c.in-Explain.is, c.if-long.true) c.tell.ensures
 
 pub returns-else-long : goal.returns-else-long
-returns-else-long g c = rw (c.in-Explain.is, c.if-long.false) c.tell_in-else-long.ensures
+returns-else-long g c = rw (c.in-Explain.is, c.if-long.false) c.tell-else-long.ensures
 
 pub returns-in-Races : goal.returns-in-Races
-returns-in-Races g c = rw c.in-Races.is c.tell_in-in-Races.ensures
+returns-in-Races g c = rw c.in-Races.is c.tell-in-Races.ensures
 
 pub returns-in-History : goal.returns-in-History
-returns-in-History g c = rw c.in-History.is c.tell_in-in-History.ensures
+returns-in-History g c = rw c.in-History.is c.tell-in-History.ensures
 
 pub returns-in-Run : goal.returns-in-Run
 returns-in-Run g c =
@@ -32,4 +32,4 @@ returns-in-Check g c =
     c.conclude_check.ensures.accepted c.conclude_check.ensures.silent c.conclude_check.ensures.fault c.conclude_check.ensures.told)
 
 pub returns-in-WhyHeld : goal.returns-in-WhyHeld
-returns-in-WhyHeld g c = rw c.in-WhyHeld.is c.tell_in-in-WhyHeld.ensures
+returns-in-WhyHeld g c = rw c.in-WhyHeld.is c.tell-in-WhyHeld.ensures

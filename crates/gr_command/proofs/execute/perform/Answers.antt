@@ -4,7 +4,7 @@ use Rattle.gr_report.specs.FaultText.{fault_line}
 use Rattle.gr_report.specs.ReportText.{report_text}
 use Rattle.gr_report.specs.Whole.{whole_of}
 use Rattle.gr_command.specs.Statuses.{fault_status}
-use Rattle.gr_command.proofs.AnswerLemmas.{both, done_of, of_input, outcome_of, partial_of}
+use Rattle.gr_command.proofs.AnswerLemmas.{both, of_input, outcome_of, partial_of}
 use Rattle.gr_command.proofs.execute.perform.Goals as goal
 
 pub returns-in-Replay-false : goal.returns-in-Replay-false
@@ -26,15 +26,15 @@ pub returns-in-Pack : goal.returns-in-Pack
 returns-in-Pack g c =
     rw c.in-Pack.is
     (outcome_of fault_line fault_status Write _ _ _ _ _ _ _ _ _ (λ done. done) c.pack.result
-    (done_of _ c.pack.result c.pack.ensures.whole) c.pack.ensures.fault c.pack.ensures.untouched c.pack.ensures.prefix
-    (done_of _ c.pack.result c.conclude_rewriting.ensures.done) c.conclude_rewriting.ensures.silent c.conclude_rewriting.ensures.fault c.conclude_rewriting.ensures.told)
+    c.pack.ensures.whole c.pack.ensures.fault c.pack.ensures.untouched c.pack.ensures.prefix
+    c.conclude_rewriting.ensures.done c.conclude_rewriting.ensures.silent c.conclude_rewriting.ensures.fault c.conclude_rewriting.ensures.told)
 
 pub returns-in-Dump-false : goal.returns-in-Dump-false
 returns-in-Dump-false g c =
     rw (c.in-Dump-false.is, c.in-Dump-false.partial-test)
     (outcome_of fault_line fault_status Write _ _ _ _ _ _ _ _ _ (λ done. done) c.dump.result
-    (done_of _ c.dump.result c.dump.ensures.whole) c.dump.ensures.fault c.dump.ensures.untouched c.dump.ensures.prefix
-    (done_of _ c.dump.result c.conclude_rewriting-in-Dump-false.ensures.done) c.conclude_rewriting-in-Dump-false.ensures.silent c.conclude_rewriting-in-Dump-false.ensures.fault c.conclude_rewriting-in-Dump-false.ensures.told)
+    c.dump.ensures.whole c.dump.ensures.fault c.dump.ensures.untouched c.dump.ensures.prefix
+    c.conclude_rewriting-in-Dump-false.ensures.done c.conclude_rewriting-in-Dump-false.ensures.silent c.conclude_rewriting-in-Dump-false.ensures.fault c.conclude_rewriting-in-Dump-false.ensures.told)
 
 pub returns-in-Dump-true : goal.returns-in-Dump-true
 returns-in-Dump-true g c =
@@ -47,5 +47,5 @@ pub returns-in-Upgrade : goal.returns-in-Upgrade
 returns-in-Upgrade g c =
     rw c.in-Upgrade.is
     (outcome_of fault_line fault_status Write _ _ _ _ _ _ _ _ _ (λ done. done) c.upgrade.result
-    (done_of _ c.upgrade.result c.upgrade.ensures.whole) c.upgrade.ensures.fault c.upgrade.ensures.untouched c.upgrade.ensures.prefix
-    (done_of _ c.upgrade.result c.conclude_rewriting-in-Upgrade.ensures.done) c.conclude_rewriting-in-Upgrade.ensures.silent c.conclude_rewriting-in-Upgrade.ensures.fault c.conclude_rewriting-in-Upgrade.ensures.told)
+    c.upgrade.ensures.whole c.upgrade.ensures.fault c.upgrade.ensures.untouched c.upgrade.ensures.prefix
+    c.conclude_rewriting-in-Upgrade.ensures.done c.conclude_rewriting-in-Upgrade.ensures.silent c.conclude_rewriting-in-Upgrade.ensures.fault c.conclude_rewriting-in-Upgrade.ensures.told)

@@ -5,4 +5,4 @@ use Rattle.gr_show.proofs.files.tell_files.Goals as goal
 pub returns-clause-fault : goal.returns-clause-fault
 returns-clause-fault g c =
     let told = c.in_ok-told.ensures.told in
-    inr (inr (record { sides = told.sides; files = told.files; opened = told.opened; said = told.said; say = told.say; fault = writing_fault _ }))
+    inr (inr (record { sides = told.sides; files = told.files; opened = told.opened; said = told.said; say = told.say; shown = writing_fault _ }))
