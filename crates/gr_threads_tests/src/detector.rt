@@ -1,8 +1,7 @@
 //! Runs in threads, from their start to their reports, and what a watch sees of them.
 
-mod counts;
+pub(crate) mod counts;
 pub(crate) mod gates;
-mod notes;
 mod ones;
 mod runs;
 mod senders;

@@ -26,30 +26,6 @@ fn wait(counter: &AtomicU64, least: u64, missed: &AtomicU64) {
     }
 }
 
-/// Counts races, and the waits for one that failed.
-#[derive(Default, Drop)]
-pub struct Races {
-    pub seen: AtomicU64,
-    pub missed: AtomicU64,
-}
-
-impl Races {
-    /// Waits until a race is seen.
-    pub fn wait(&self) {
-        wait(&self.seen, 1, &self.missed);
-    }
-}
-
-impl Watch for Races {
-    fn at_take(&self, _group: u16) {}
-
-    fn at_access(&self, _worker: u16) {}
-
-    fn at_race(&self, _worker: u16, _word: &Word) {
-        self.seen.fetch_add(1, Ordering::SeqCst);
-    }
-}
-
 /// Holds worker 0 at its accesses until worker 1 comes to one.
 #[derive(Default, Drop)]
 pub struct Apart {

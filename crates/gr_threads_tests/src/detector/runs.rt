@@ -101,37 +101,8 @@ pub fn add<A: Allocator>(
     receipts.push(receipt).map_err(|_| Ended::Wrongly)
 }
 
-/// The report of a run with these receipts.
-fn finish<R: Threads, A: Allocator + Copy>(
-    rt: &R,
-    running: Running<A>,
-    receipts: Vec<Receipt<A>, A>,
-) -> Result<Report<A>, Ended>
-    requires { AreReceiptsOf running receipts.items }
-{
-    match running.finish(rt, receipts) {
-        Ok(report) => Ok(report),
-        Err(FinishError::Memory) => Err(Ended::Memory),
-        Err(FinishError::Receipts(_, _)) => Err(Ended::Wrongly),
-    }
-}
-
-/// The report of a run with these receipts and a last one, which is there unless its sender was refused.
-pub fn finish_with<R: Threads, A: Allocator + Copy>(
-    rt: &R,
-    running: Running<A>,
-    mut receipts: Vec<Receipt<A>, A>,
-    last: Option<Receipt<A>>,
-) -> Result<Report<A>, Ended>
-    requires all { AreReceiptsOf running receipts.items }
-    requires one { IfSome last (IsReceipt running) }
-{
-    add(&running, &mut receipts, last)?;
-    finish(rt, running, receipts)
-}
-
 /// Hands in some of the receipts, which come back with the run.
-pub fn hand_in<R: Threads, A: Allocator + Copy>(
+fn hand_in<R: Threads, A: Allocator + Copy>(
     rt: &R,
     running: Running<A>,
     receipts: Vec<Receipt<A>, A>,
@@ -142,5 +113,24 @@ pub fn hand_in<R: Threads, A: Allocator + Copy>(
     match running.finish(rt, receipts) {
         Err(FinishError::Receipts(running, receipts)) => Ok((running, receipts)),
         _ => Err(Ended::Wrongly),
+    }
+}
+
+/// The report of a run with these receipts and a last one, which is there unless its sender was refused. Without it the others come back.
+pub fn finish_with<R: Threads, A: Allocator + Copy>(
+    rt: &R,
+    running: Running<A>,
+    receipts: Vec<Receipt<A>, A>,
+    last: Option<Receipt<A>>,
+) -> Result<Report<A>, Ended>
+    requires all { AreReceiptsOf running receipts.items }
+    requires one { IfSome last (IsReceipt running) }
+{
+    let (running, mut receipts) = hand_in(rt, running, receipts)?;
+    add(&running, &mut receipts, last)?;
+    match running.finish(rt, receipts) {
+        Ok(report) => Ok(report),
+        Err(FinishError::Memory) => Err(Ended::Memory),
+        Err(FinishError::Receipts(_, _)) => Err(Ended::Wrongly),
     }
 }

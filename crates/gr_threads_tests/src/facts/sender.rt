@@ -1,7 +1,5 @@
 //! Senders.
 
-ghost use Rattle.std.specs.Prelude.{◌≡◌, [], IfOk};
-
 use crate::route::tests::senders::lone_sender;
 use crate::route::three_senders::write;
 use gr_model::event::Event;

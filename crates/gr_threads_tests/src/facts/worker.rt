@@ -3,19 +3,14 @@
 ghost use Rattle.std.specs.Prelude.{◌≡◌, [], ◌∷◌, IfOk, IfSome};
 ghost use Rattle.std.specs.Arc.{arc_value};
 ghost use Rattle.gr_clocks.specs.ClockedAccess.{clocked};
-ghost use Rattle.gr_clocks.specs.Counts.{count_of};
-ghost use Rattle.gr_model.specs.declared.event.ItemId.{ItemId as AnyItem};
 ghost use Rattle.gr_model.specs.declared.event.Word.TheVariants as words;
 ghost use Rattle.gr_model.specs.Prelude.{ClashesAt};
 ghost use Rattle.gr_route.specs.declared.work.Work.TheVariants as works;
-ghost use Rattle.gr_model.specs.declared.class.Class.TheVariants as classes;
 ghost use Rattle.gr_shadow.specs.Clashes.{ClockedAccess, clashes};
 
+use crate::route::tests::queues::write_by;
 use gr_clocks::access::Access;
-use gr_clocks::clock::Clock as VectorClock;
-use gr_model::class::Class;
-use gr_model::event::{ItemId, Word};
-use gr_model::shape::Shape;
+use gr_model::memory::Memory;
 use gr_route::work::{GiverSeat, Work, WorkQueue, WorkerSeat};
 use gr_threads::watch::NoWatch;
 use gr_threads::worker::{Worker, work};
@@ -24,25 +19,11 @@ use std::sync::{Arc, Wait};
 use std::test::*;
 use std::time::Clock;
 
-/// The first record of an item, a write of global word 7, with a clock that counts nothing.
-fn write_by(alloc: Global, shape: &Shape, item: u16) -> Result<Access, Fail>
-    ensures { IfOk result (λ access. (access.word ≡ words.Global 7) × (access.item ≡ record { group = 0; item = item }) × (access.index ≡ 0) × (access.class ≡ classes.PlainWrite) × ((i : AnyItem) → count_of access.clock.counts i ≡ 0)) }
-{
-    Ok(Access {
-        word: Word::Global(7),
-        item: ItemId { group: 0, item },
-        index: 0,
-        class: Class::PlainWrite,
-        clock: VectorClock::new(alloc, shape)?,
-    })
-}
-
-/// Two such writes by two items.
-fn two_writes(alloc: Global) -> Result<(Access, Access), Fail>
+/// Two writes of global word 7 by two items, neither of which counts the other.
+fn two_writes(alloc: Global) -> Result<(Access, Access), Memory>
     ensures { IfOk result (λ two. ClashesAt (λ (x : ClockedAccess). x.word) clashes (words.Global 7) (clocked two.0) (clocked two.1)) }
 {
-    let shape = Shape::new(vec![in alloc; 2_u16]?).map_err(|_| "no shape")?;
-    Ok((write_by(alloc, &shape, 0)?, write_by(alloc, &shape, 1)?))
+    Ok((write_by(alloc, 0)?, write_by(alloc, 1)?))
 }
 
 /// Pushes two accesses and `Stop`.

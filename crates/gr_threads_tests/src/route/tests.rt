@@ -1,4 +1,4 @@
 //! Tests of the calls of queues and senders.
 
-mod queues;
+pub(crate) mod queues;
 pub(crate) mod senders;

@@ -1,9 +1,8 @@
 //! Three senders and a taker, each on a thread of its own, over one queue. Of each work-group, what was popped is what was sent.
 
-ghost use Rattle.std.specs.Prelude.{◌≡◌, ◌<◌, ◌≤◌, ◌==◌, ℕ, false, [], slice_index, slice_index_or, slice_set, if◌then◌else◌, IfOk, IfSome, OnOk};
+ghost use Rattle.std.specs.Prelude.{◌≡◌, ◌<◌, ◌≤◌, ◌==◌, ℕ, false, [], slice_index_or, if◌then◌else◌, IfOk, IfSome, OnOk};
 ghost use Rattle.std.specs.Arc.{arc_value};
 ghost use Rattle.gr_model.specs.Prelude.{is_end, events_of};
-ghost use Rattle.gr_route.specs.IntakeRule.{no_sizes};
 ghost use Rattle.gr_route.specs.IntakeSeats.{popped_of};
 ghost use Rattle.gr_threads_tests.specs.Sent.{AreFreshSenders, HasAll, HasEnds, IsFreshSender, IsSeatOf, stream_of, write_of};
 
@@ -106,34 +105,28 @@ fn join_all(queue: &Intake, taker: &mut TakerSeat, a: IntakeSeat, b: IntakeSeat,
     queue.join_back(taker, c);
 }
 
-/// An open sender of a group of one item.
-/// Requires: the group has had no seat.
-fn sender_of(
+/// An open sender of a group of one item. `Memory` also if the group has had a seat.
+pub(crate) fn sender_of(
     queue: &Arc<Intake, Global>,
     taker: &mut TakerSeat,
     group: u16,
 ) -> Result<Sender, Memory>
     requires queue { taker.old.queue ≡ (arc_value queue.now).queue }
     requires group { group < MOST_GROUPS }
-    requires free { slice_index taker.old.sizes group ≡ 0 }
     ensures sender { IfOk result (IsFreshSender (arc_value queue.now) group) }
-    ensures taker { taker.new ≡ record taker.old { sizes = slice_set taker.old.sizes group 1 } }
+    ensures taker { OnOk result ((taker.new.queue ≡ taker.old.queue) × (taker.new.popped ≡ taker.old.popped)) }
 {
-    let Some(seat) = queue.split(taker, group, 1) else {
-        unreachable!();
-    };
+    let seat = queue.split(taker, group, 1).ok_or(Memory)?;
     let queue = Arc::try_clone(queue)?;
     Ok(Sender::new(group, 1, MOST_RECORDS as u32, queue, seat))
 }
 
 /// An open sender of each of the groups 0 to 2, each of one item.
-/// Requires: no group has had a seat.
 fn senders_of(
     queue: &Arc<Intake, Global>,
     taker: &mut TakerSeat,
 ) -> Result<(Sender, Sender, Sender), Memory>
     requires queue { taker.old.queue ≡ (arc_value queue.now).queue }
-    requires fresh { taker.old.sizes ≡ no_sizes }
     ensures senders { IfOk result (AreFreshSenders (arc_value queue.now)) }
     ensures taker { OnOk result ((taker.new.queue ≡ taker.old.queue) × (taker.new.popped ≡ taker.old.popped)) }
 {
@@ -216,7 +209,7 @@ pub(crate) fn shared_queue(
 ) -> Result<(Arc<Intake, Global>, TakerSeat), Memory>
     requires { (0 < capacity) × (capacity ≤ MOST_PLACES) }
     ensures queue { IfOk result (λ made. made.1.queue ≡ (arc_value made.0).queue) }
-    ensures fresh { IfOk result (λ made. (made.1.popped ≡ []) × (made.1.sizes ≡ no_sizes)) }
+    ensures fresh { IfOk result (λ made. made.1.popped ≡ []) }
 {
     let (queue, taker) = Intake::new(alloc, capacity)?;
     Ok((Arc::new(alloc, queue)?, taker))

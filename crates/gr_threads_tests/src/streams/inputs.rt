@@ -1,18 +1,19 @@
 //! Readers of bytes.
 
-use crate::detector::gates::Races;
+use crate::detector::counts::Counts;
+use crate::detector::gates::came;
 use std::io::{self, ErrorKind, Read};
 use std::sync::Arc;
 
 /// A reader that gives its bytes, at most so many at a call, and fails after its last call. It gives the byte at the gate only
-/// after a race was seen.
+/// after a race was seen, and fails if none is.
 #[derive(Drop)]
 pub(crate) struct Input {
     pub(crate) bytes: Vec<u8>,
     pub(crate) place: usize,
     pub(crate) most: usize,
     pub(crate) calls: usize,
-    pub(crate) gate: Option<(usize, Arc<Races>)>,
+    pub(crate) gate: Option<(usize, Arc<Counts>)>,
 }
 
 impl Input {
@@ -34,10 +35,11 @@ impl Read for Input {
             return Err(io::Error::from(ErrorKind::BrokenPipe));
         }
         self.calls -= 1;
-        if let Some((place, races)) = &self.gate
+        if let Some((place, counts)) = &self.gate
             && *place == self.place
+            && !came(&counts.races, 1)
         {
-            races.wait();
+            return Err(io::Error::from(ErrorKind::TimedOut));
         }
         let left = self.bytes.get(self.place..).unwrap_or(&[]);
         let count = left.len().min(buf.len()).min(self.most);

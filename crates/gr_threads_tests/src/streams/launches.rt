@@ -49,11 +49,8 @@ pub(crate) fn packed(alloc: Global, text: &str) -> Result<Vec<u8>, Fail> {
 
 /// The bytes of the streams with these texts.
 pub(crate) fn packed_all(alloc: Global, texts: &[&str]) -> Result<Vec<Vec<u8>>, Fail> {
-    let mut streams = Vec::new(alloc);
-    for text in texts {
-        streams.push(packed(alloc, text)?)?;
-    }
-    Ok(streams)
+    let streams = texts.iter().map(|text| packed(alloc, text));
+    streams.try_collect::<Vec<Vec<u8>>>(alloc)
 }
 
 /// The text of a report: its first line, and then these.

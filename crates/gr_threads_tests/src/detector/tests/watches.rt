@@ -1,10 +1,12 @@
-//! What each thread does while streams are still open.
+//! What each thread does while streams are still open, and a cut stream.
 
 ghost use Rattle.gr_threads_tests.specs.Senders.{IsSameSender};
 
-use crate::detector::gates::{Apart, Races, Turns, came};
+use crate::detector::counts::Counts;
+use crate::detector::gates::{Apart, Turns, came};
 use crate::detector::ones::{Sends, run_one};
 use crate::detector::senders::{plain, sends};
+use gr_detector::NoWatch;
 use gr_model::event::Kind;
 use gr_threads::sender::Sender;
 use std::sync::atomic::Ordering;
@@ -12,18 +14,18 @@ use std::sync::{Arc, Wait};
 use std::test::*;
 use std::time::Clock;
 
-impl Sends for Races {
+impl Sends for Counts {
     /// Sends a write and a read of a word by two items. Gives whether both were sent, and their race was seen.
     fn send_under<R: Wait + Clock>(&self, rt: &R, sender: &mut Sender) -> bool {
         sends(rt, sender, plain(0, Kind::Write, 16))
             && sends(rt, sender, plain(1, Kind::Read, 16))
-            && came(&self.seen, 1)
+            && came(&self.races, 1)
     }
 }
 
 #[test]
 fn a_race_is_seen_before_any_stream_ends(rt: HostRuntime) -> Result<(), Fail> {
-    let watch = Arc::new(rt.alloc(), Races::default())?;
+    let watch = Arc::new(rt.alloc(), Counts::default())?;
     let went = run_one(rt, rt.alloc(), (&[2], 1, 1, 4), &watch, false);
     assert_eq!(rt; went, Ok((true, 3, 1, false)));
     Ok(())
@@ -64,5 +66,20 @@ fn the_sequencer_and_a_worker_wait_for_what_comes_later(rt: HostRuntime) -> Resu
     let went = run_one(rt, rt.alloc(), (&[1], 1, 1, 4), &watch, false);
     let missed = watch.missed.load(Ordering::SeqCst);
     assert_eq!(rt; (went, missed), (Ok((true, 3, 0, false)), 0));
+    Ok(())
+}
+
+impl Sends for NoWatch {
+    /// Sends a write.
+    fn send_under<R: Wait + Clock>(&self, rt: &R, sender: &mut Sender) -> bool {
+        sends(rt, sender, plain(0, Kind::Write, 16))
+    }
+}
+
+#[test]
+fn a_cut_stream_is_reported(rt: HostRuntime) -> Result<(), Fail> {
+    let watch = Arc::new(rt.alloc(), NoWatch)?;
+    let went = run_one(rt, rt.alloc(), (&[2], 8, 4, 1024), &watch, true);
+    assert_eq!(rt; went, Ok((true, 2, 0, true)));
     Ok(())
 }

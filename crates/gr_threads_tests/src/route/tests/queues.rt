@@ -1,6 +1,10 @@
 //! Queues of one place, and a seat for each work-group.
 
-ghost use Rattle.std.specs.Prelude.{◌≡◌, ◌∷◌, ◌++◌, [], OnOk, IfOk, IfSome, IfNone, IsFalse};
+ghost use Rattle.std.specs.Prelude.{◌≡◌, ◌∷◌, ◌++◌, [], IfOk, IfSome, IfNone, IsFalse};
+ghost use Rattle.gr_clocks.specs.Counts.{count_of};
+ghost use Rattle.gr_model.specs.declared.class.Class.TheVariants as classes;
+ghost use Rattle.gr_model.specs.declared.event.ItemId.{ItemId as AnyItem};
+ghost use Rattle.gr_model.specs.declared.event.Word.TheVariants as words;
 ghost use Rattle.gr_route.specs.WorkRule.{is_stop, is_stopped};
 
 use crate::route::three_senders::write;
@@ -79,18 +83,18 @@ fn an_intake_queue_of_one_place(rt: HostRuntime) {
     assert!(rt; growths.is_ok(), "the queue grows: {growths:?}");
 }
 
-/// A plain write of a global word by the only work-item of a launch.
-fn write_by_one<A: Allocator + Copy>(alloc: A, word: u32) -> Result<Work<A>, Memory>
-    ensures { IfOk result (λ work. IsFalse (is_stop work)) }
+/// The first record of an item, a write of global word 7, with a clock that counts nothing.
+pub(crate) fn write_by<A: Allocator + Copy>(alloc: A, item: u16) -> Result<Access<A>, Memory>
+    ensures { IfOk result (λ access. (access.word ≡ words.Global 7) × (access.item ≡ record { group = 0; item = item }) × (access.index ≡ 0) × (access.class ≡ classes.PlainWrite) × ((i : AnyItem) → count_of access.clock.counts i ≡ 0)) }
 {
-    let shape = Shape::new(vec![in alloc; 1]?).map_err(|_| Memory)?;
-    Ok(Work::Access(Access {
-        word: Word::Global(word),
-        item: ItemId { group: 0, item: 0 },
+    let shape = Shape::new(vec![in alloc; 2]?).map_err(|_| Memory)?;
+    Ok(Access {
+        word: Word::Global(7),
+        item: ItemId { group: 0, item },
         index: 0,
         class: Class::PlainWrite,
         clock: Clock::new(alloc, &shape).map_err(|_| Memory)?,
-    }))
+    })
 }
 
 /// The word of an access.
@@ -183,7 +187,7 @@ fn split_give_and_join<R: Wait, A: Allocator + Copy>(
 /// Whether a work queue of one place gives what it should.
 fn is_work_right<R: Wait, A: Allocator + Copy>(rt: &R, alloc: A) -> Result<bool, Memory> {
     let popped = Some([Some(Some(Word::Global(7))), None, Some(None)]);
-    let access = write_by_one(alloc, 7)?;
+    let access = Work::Access(write_by(alloc, 0)?);
     let (queue, mut worker) = WorkQueue::new(alloc, 1)?;
     Ok(split_give_and_join(rt, &queue, &mut worker, access) == Some((popped, [true, true])))
 }

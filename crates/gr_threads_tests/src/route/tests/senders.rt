@@ -1,32 +1,19 @@
 //! What a sender answers when its queue is full, and a run of three senders.
 
 ghost use Rattle.std.specs.Prelude.{◌≡◌, [], IfOk};
-ghost use Rattle.std.specs.Arc.{arc_value};
 
-use crate::route::three_senders::{shared_queue, three_senders, write};
+use crate::route::three_senders::{sender_of, shared_queue, three_senders, write};
 use gr_model::event::Event;
-use gr_route::intake::{Intake, TakerSeat};
 use gr_threads::sender::{SendError, Sender};
 use std::alloc::Global;
-use std::sync::Arc;
 use std::test::*;
-
-/// A sender of group 0, of one item, over a queue. Group 0 has had no seat of it.
-fn sender_over(queue: &Arc<Intake, Global>, taker: &mut TakerSeat) -> Result<Sender, Fail>
-    requires { taker.old.queue ≡ (arc_value queue.now).queue }
-    ensures { IfOk result (λ sender. (sender.sent ≡ []) × (taker.new.queue ≡ (arc_value queue.now).queue)) }
-{
-    let seat = queue.split(taker, 0, 1).ok_or("the first split")?;
-    let queue = Arc::try_clone(queue)?;
-    Ok(Sender::new(0, 1, 1000, queue, seat))
-}
 
 /// A sender of group 0, of one item, over a queue of its own, which has one place.
 pub(crate) fn lone_sender(alloc: Global) -> Result<Sender, Fail>
     ensures { IfOk result (λ sender. sender.sent ≡ []) }
 {
     let (queue, mut taker) = shared_queue(alloc, 1)?;
-    sender_over(&queue, &mut taker)
+    Ok(sender_of(&queue, &mut taker, 0)?)
 }
 
 /// A sender's group, how many records it has sent, and whether it has sent the end.
@@ -37,7 +24,7 @@ fn state_of(sender: &Sender) -> (u16, u32, bool) {
 #[test]
 fn a_full_queue_takes_no_end(rt: HostRuntime) -> Result<(), Fail> {
     let (queue, mut taker) = shared_queue(rt.alloc(), 1)?;
-    let mut sender = sender_over(&queue, &mut taker)?;
+    let mut sender = sender_of(&queue, &mut taker, 0)?;
     assert_eq!(rt; sender.send(&rt, write(16)), Ok(()));
     assert_eq!(rt;
         sender.send(&rt, write(17)),

@@ -2,10 +2,10 @@
 
 use crate::streams::inputs::Input;
 use crate::streams::launches::{RACE, packed, report_with};
-use crate::streams::runs::{Outcome, config_of, run_inputs};
+use crate::streams::runs::fault_of;
 use gr_model::shape::ShapeError;
 use gr_record::fault::Fault;
-use gr_streams::{NoWatch, run_streams};
+use gr_streams::NoWatch;
 use refusing::failing::FailingWriter;
 use std::alloc::Global;
 use std::sync::{Arc, Wait};
@@ -13,57 +13,54 @@ use std::test::*;
 use std::thread::Threads;
 use std::time::Clock;
 
-/// Runs over the race, with a reader that fails after so many calls.
-fn run_calls<R: Threads + Wait + Clock + Copy + Send + 'static>(
-    rt: R,
-    alloc: Global,
-    calls: usize,
-) -> Result<Outcome, Fail> {
+/// The race, from a reader that gives a byte at each call and fails after so many.
+fn race_of(alloc: Global, calls: usize) -> Result<Vec<Input>, Fail> {
     let (_, texts, _) = RACE;
     let input = Input {
         most: 1,
         calls,
         ..Input::whole(packed(alloc, texts[0])?)
     };
-    run_inputs(rt, alloc, vec![in alloc; input]?, (1, 1, 1))
+    Ok(vec![in alloc; input]?)
+}
+
+/// The fault of a run over inputs, if there is one, and what it writes.
+fn run_inputs<R: Threads + Wait + Clock + Copy + Send + 'static>(
+    rt: R,
+    alloc: Global,
+    inputs: Vec<Input>,
+) -> Result<(Option<Fault>, Vec<u8>), Fail> {
+    let mut text = Vec::new(alloc);
+    let fault = fault_of(rt, alloc, inputs, Arc::new(alloc, NoWatch)?, &mut text)?;
+    Ok((fault, text))
 }
 
 #[test]
 fn a_reader_that_fails_is_a_read_fault(rt: HostRuntime) -> Result<(), Fail> {
+    let alloc = rt.alloc();
     let (_, _, lines) = RACE;
-    let report = report_with(rt.alloc(), lines)?;
-    let refused = (Some(Fault::Read), Vec::new(rt.alloc()));
+    let report = report_with(alloc, lines)?;
+    let refused = (Some(Fault::Read), Vec::new(alloc));
     for calls in 0..73 {
-        let outcome = run_calls(rt, rt.alloc(), calls)?;
+        let outcome = run_inputs(rt, alloc, race_of(alloc, calls)?)?;
         assert!(rt; outcome == refused, "after {calls} calls");
     }
-    let outcome = run_calls(rt, rt.alloc(), 73)?;
+    let outcome = run_inputs(rt, alloc, race_of(alloc, 73)?)?;
     assert!(rt; outcome == (None, report), "all is read");
     Ok(())
-}
-
-/// Runs over the race, and gives the fault, if there is one.
-fn fault_of<R: Threads + Wait + Clock + Copy + Send + 'static>(
-    rt: R,
-    alloc: Global,
-    output: &mut FailingWriter,
-) -> Result<Option<Fault>, Fail> {
-    let (_, texts, _) = RACE;
-    let inputs = vec![in alloc; Input::whole(packed(alloc, texts[0])?)]?;
-    let watch = Arc::new(alloc, NoWatch)?;
-    let config = config_of((1, 1, 1))?;
-    Ok(run_streams(rt, alloc, inputs, config, watch, output).err())
 }
 
 /// A writer that fails takes no flush, and has as much of the report as there was room for.
 #[test]
 fn a_writer_that_fails_is_a_write_fault(rt: HostRuntime) -> Result<(), Fail> {
+    let alloc = rt.alloc();
     let (_, _, lines) = RACE;
-    let report = report_with(rt.alloc(), lines)?;
+    let report = report_with(alloc, lines)?;
     assert_eq!(rt; report.len(), 93);
     for room in 0..94 {
-        let mut output = FailingWriter::within(rt.alloc(), &report, room);
-        let fault = fault_of(rt, rt.alloc(), &mut output)?;
+        let mut output = FailingWriter::within(alloc, &report, room);
+        let watch = Arc::new(alloc, NoWatch)?;
+        let fault = fault_of(rt, alloc, race_of(alloc, 73)?, watch, &mut output)?;
         assert!(rt;
             fault == Some(Fault::Write) && output.has_front(&report, room),
             "after {room} bytes"
@@ -74,7 +71,7 @@ fn a_writer_that_fails_is_a_write_fault(rt: HostRuntime) -> Result<(), Fail> {
 
 #[test]
 fn no_stream_is_no_launch(rt: HostRuntime) -> Result<(), Fail> {
-    let outcome = run_inputs(rt, rt.alloc(), Vec::new(rt.alloc()), (2, 1, 1))?;
+    let outcome = run_inputs(rt, rt.alloc(), Vec::new(rt.alloc()))?;
     let fault = Fault::Shape(ShapeError::NoGroups);
     assert_eq!(rt; outcome, (Some(fault), Vec::new(rt.alloc())));
     Ok(())

@@ -1,6 +1,6 @@
 //! Each growth is refused in turn. The answer is then `Memory`, or the right one.
 
-use crate::detector::gates::Races;
+use crate::detector::counts::Counts;
 use crate::streams::inputs::Input;
 use crate::streams::launches::{LAUNCHES, packed_all, report_with};
 use gr_model::config::Config;
@@ -29,7 +29,7 @@ fn is_reported<
     A: Allocator + Copy + Send + Sync + Drop + 'static,
 >(rt: R, alloc: Global, heap: A, streams: &[Vec<u8>], due: &[u8]) -> Result<bool, Memory> {
     let readers = readers_of(heap, streams)?;
-    let watch = Arc::new(heap, Races::default())?;
+    let watch = Arc::new(heap, Counts::default())?;
     let theirs = Arc::try_clone(&watch)?;
     let Ok(config) = Config::new(2, 2, 1) else {
         return Ok(false);

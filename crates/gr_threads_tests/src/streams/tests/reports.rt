@@ -1,10 +1,9 @@
 //! What is seen while a stream is still being read.
 
-use crate::detector::gates::Races;
+use crate::detector::counts::Counts;
 use crate::streams::inputs::Input;
 use crate::streams::launches::{RACE, packed, report_with};
-use crate::streams::runs::config_of;
-use gr_streams::run_streams;
+use crate::streams::runs::fault_of;
 use std::alloc::Global;
 use std::sync::atomic::Ordering;
 use std::sync::{Arc, Wait};
@@ -16,27 +15,27 @@ use std::time::Clock;
 fn is_gated_race_reported<R: Threads + Wait + Clock + Copy + Send + 'static>(
     rt: R,
     alloc: Global,
-    races: &Arc<Races>,
+    counts: &Arc<Counts>,
 ) -> Result<bool, Fail> {
     let (_, texts, lines) = RACE;
     let input = Input {
         most: 1,
-        gate: Some((52, Arc::try_clone(races)?)),
+        gate: Some((52, Arc::try_clone(counts)?)),
         ..Input::whole(packed(alloc, texts[0])?)
     };
     let inputs = vec![in alloc; input]?;
-    let theirs = Arc::try_clone(races)?;
-    let config = config_of((1, 1, 4))?;
     let mut text = Vec::new(alloc);
-    let answer = run_streams(rt, alloc, inputs, config, theirs, &mut text);
-    Ok(answer.is_ok() && text == report_with(alloc, lines)?)
+    let fault = fault_of(rt, alloc, inputs, Arc::try_clone(counts)?, &mut text)?;
+    Ok(fault.is_none() && text == report_with(alloc, lines)?)
 }
 
 #[test]
 fn a_race_is_seen_before_its_stream_is_read_to_the_end(rt: HostRuntime) -> Result<(), Fail> {
-    let races = Arc::new(rt.alloc(), Races::default())?;
-    assert!(rt; is_gated_race_reported(rt, rt.alloc(), &races)?, "the race");
-    assert_eq!(rt; races.seen.load(Ordering::SeqCst), 1);
-    assert_eq!(rt; races.missed.load(Ordering::SeqCst), 0);
+    let counts = Arc::new(rt.alloc(), Counts::default())?;
+    assert!(rt;
+        is_gated_race_reported(rt, rt.alloc(), &counts)?,
+        "the race"
+    );
+    assert_eq!(rt; counts.races.load(Ordering::SeqCst), 1);
     Ok(())
 }
