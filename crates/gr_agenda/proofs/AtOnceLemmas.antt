@@ -1,9 +1,6 @@
 -- Where an event is handled as soon as its record is taken, no step becomes ready: the record is taken, its event is handled, and its item has no other.
 use Rattle.gr_model.proofs.Common.{◌≡◌, ◌<◌, ℕ, List, [], ◌∷◌, Option, Some, Vec, refl, sym, ap, subst, inr, arith}
-use Rattle.gr_model.specs.declared.event.Event.{Event}
-use Rattle.gr_model.specs.declared.event.EventId.{EventId}
-use Rattle.gr_model.specs.declared.event.ItemId.{ItemId}
-use Rattle.gr_model.specs.declared.event.Name.{Name}
+use Rattle.gr_agenda.specs.Types.{Event, EventId, ItemId, Name}
 use Rattle.gr_model.specs.Prelude.{is_release, IsIn, release_place, IsEvent, Streams, size_of}
 use Rattle.gr_model.proofs.Places.{slice_get-append}
 use Rattle.gr_steps.specs.Steps.{CanMeet}

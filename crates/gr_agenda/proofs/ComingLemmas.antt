@@ -1,8 +1,6 @@
 -- What is so of the list of steps and of those that wait where a group comes: no step may be made that could not be.
 use Rattle.gr_model.proofs.Common.{◌≡◌, ℕ, List, [], arith, Vec, filter_map, slice_get, None, Option, ap, inr, ⊎_elim, cases_eq}
-use Rattle.gr_model.specs.declared.event.Event.{Event}
-use Rattle.gr_model.specs.declared.event.ItemId.{ItemId}
-use Rattle.gr_model.specs.declared.event.Name.{Name}
+use Rattle.gr_agenda.specs.Types.{Event, ItemId, Name}
 use Rattle.gr_model.specs.Prelude.{IsDivergent, arrivals, mark_of, CanAdd, IsLawful, ArePrefixes, Streams, list_of, trace_of}
 use Rattle.gr_model.specs.Groups as model
 use Rattle.gr_model.proofs.GroupLaws.{group_grows, list_stays, nothing_came, size_stays}

@@ -1,8 +1,6 @@
 -- What a step changes: an item or a group that it does not touch can go on only as before, or by a release that it waited for.
 use Rattle.gr_model.proofs.Common.{◌≡◌, ◌⊎◌, ℕ, ◌<◌, List, [], ◌∷◌, ◌++◌, Some, append-nil, refl, sym, ap, ◌∙◌, subst, inl, inr, ⊎_elim, arith, slice_get_within}
-use Rattle.gr_model.specs.declared.event.EventId.{EventId}
-use Rattle.gr_model.specs.declared.event.ItemId.{ItemId}
-use Rattle.gr_model.specs.declared.event.Name.{Name}
+use Rattle.gr_agenda.specs.Types.{EventId, ItemId, Name}
 use Rattle.gr_model.specs.Prelude.{is_release, IsDivergent, StandsIn, arrivals, Mark, IsIn, IsLawful, HasName, MatchesBy, names_at, release_place, Grows, IsEvent, Streams, event_at, list_of, places_from, size_of, trace_of, Waits, for_arrival, for_meeting, for_previous, for_release}
 use Rattle.gr_model.proofs.Cuts.{same_event}
 use Rattle.gr_model.proofs.GrowthLaws.{convergent_grows, not_both, stands_grows, stands_shrinks, trace_grows, word_grows}

@@ -1,11 +1,7 @@
 -- The list of steps has all that is ready, after each step and each record.
 use Rattle.gr_model.proofs.Common.{◌≡◌, ◌⊎◌, ◌<◌, ℕ, List, [], Bool, true, Some, Option, Vec, refl, sym, ap, ◌∙◌, subst, inl, inr, ⊎_elim, arith, is_some, cases_eq}
 use Rattle.std.proofs.Math.ListN.{get_or-map}
-use Rattle.gr_model.specs.declared.event.Event.{Event}
-use Rattle.gr_model.specs.declared.event.EventId.{EventId}
-use Rattle.gr_model.specs.declared.event.ItemId.{ItemId}
-use Rattle.gr_model.specs.declared.event.Kind.{Kind}
-use Rattle.gr_model.specs.declared.event.Name.{Name}
+use Rattle.gr_agenda.specs.Types.{Event, EventId, ItemId, Kind, Name, Ready, Item, Group}
 use Rattle.gr_model.specs.Prelude.{is_release_kind, StandsIn, mark_of_kind, IsIn, HasName, release_place, ArePrefixes, IsEvent, Streams, event_at, place_of, size_of, trace_of}
 use Rattle.gr_lanes.specs.Takes.{nothing_taken}
 use Rattle.gr_model.proofs.Places.{places_from-there}
@@ -13,8 +9,6 @@ use Rattle.gr_steps.specs.Steps.{CanMeet, IsReady}
 use Rattle.gr_steps.proofs.BarrierPlaces.{barrier_of, barrier_there}
 use Rattle.gr_steps.proofs.EventRecords.{item_of_event}
 use Rattle.gr_order.proofs.StateLemmas.{item_cases}
-use Rattle.gr_order.specs.declared.steps.Ready.{Ready}
-use Rattle.gr_order.specs.declared.steps.Ready.TheVariants.{Item, Group}
 use Rattle.gr_order.specs.Answers.{CanMake}
 use Rattle.gr_order.specs.Sequences.{HandlesEvent, IsSequence, MeetsInstance, Sequence, nothing}
 use Rattle.gr_agenda.specs.Kept.{IsHeldUp, IsKept, IsNoted, IsPending}

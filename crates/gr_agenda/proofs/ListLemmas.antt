@@ -1,10 +1,8 @@
 -- Elements of lists that grow and shrink at their end, and the lists of those that wait.
 use Rattle.gr_model.proofs.Common.{◌≡◌, ◌⊎◌, ◌+◌, ◌<◌, ℕ, List, [], ◌∷◌, ◌++◌, Bool, true, Some, Vec, slice_get, length, refl, ap, ◌∙◌, inl, inr, ⊎_elim, arith, slice_index_or, slice_set, cases_eq, length_push, slice_get-get_or, gets, common_steps}
-use Rattle.gr_model.specs.declared.event.ItemId.{ItemId}
-use Rattle.gr_model.specs.declared.event.Name.{Name}
+use Rattle.gr_agenda.specs.Types.{ItemId, Name, Ready}
 use Rattle.gr_model.proofs.Places.{slice_get-append}
 use Rattle.gr_steps.proofs.Orders.{at_behind, split_last}
-use Rattle.gr_order.specs.declared.steps.Ready.{Ready}
 use Rattle.gr_agenda.specs.Lists.{AreMarked, Has, IsAmong, IsLast, IsPlace, IsWaiting, Steps, bucket_of}
 
 module _ {X : Type 0} (xs : List X) (x : X) where

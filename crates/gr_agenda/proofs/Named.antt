@@ -1,9 +1,6 @@
 -- An event that is held up is the next of its item.
 use Rattle.gr_model.proofs.Common.{Contains, true, ◌≡◌, ◌<◌, List, Some, None, ap, ◌∙◌, arith, All, IsSomeAnd, MatchOption, Option, All-contains}
-use Rattle.gr_model.specs.declared.event.Event.{Event}
-use Rattle.gr_model.specs.declared.event.EventId.{EventId}
-use Rattle.gr_model.specs.declared.event.ItemId.{ItemId}
-use Rattle.gr_model.specs.declared.event.Name.{Name}
+use Rattle.gr_agenda.specs.Types.{Event, EventId, ItemId, Name}
 use Rattle.gr_model.specs.Prelude.{is_barrier, names_at, names_of, Streams, event_at, size_of}
 use Rattle.gr_steps.specs.Steps.{CanMeet}
 use Rattle.gr_order.proofs.MeetLemmas.{meets_next}

@@ -1,7 +1,7 @@
 -- What a record that is taken changes: an item or a group that it does not touch can go on only as before.
 use Rattle.gr_model.proofs.Common.{is_some, length, ◌≡◌, ◌<◌, ℕ, List, [], ◌∷◌, ◌++◌, true, false, Some, Option, Vec, ◌⊎◌, ◌≤◌, refl, sym, ap, ◌∙◌, inl, inr, ⊎_elim, filter, filter_map, slice_get, arith, append-nil, true≢false, cases_eq, cases_lt, filter_map-append, slice_get_within, gets, common_steps}
 use Rattle.gr_model.proofs.Sending.{is_complete-push}
-use Rattle.gr_model.specs.declared.event.Kind.{Kind}
+use Rattle.gr_agenda.specs.Types.{Kind, Event, EventId, ItemId, Group, Item}
 use Rattle.gr_model.specs.Prelude.{HasArrived, Mark, IsDivergent, arrivals, is_barrier, mark_of, mark_of_kind, is_end, is_end_kind, IsIn, IsLawful, ArePrefixes, Streams, event_at, is_complete, is_of, list_of, place_of, size_of, trace_of}
 use Rattle.gr_lanes.specs.Takes.{CanTake, next_of, with_record}
 use Rattle.gr_lanes.proofs.Growth.{here, other, record_grows}
@@ -11,9 +11,6 @@ use Rattle.gr_steps.proofs.Orders.{at_behind, split_last}
 use Rattle.gr_order.proofs.StateLemmas.{item_cases}
 use Rattle.gr_order.proofs.WaitLemmas.{adds_here, adds_none, trace_grows}
 use Rattle.gr_model.proofs.Cuts.{same_event}
-use Rattle.gr_model.specs.declared.event.Event.{Event}
-use Rattle.gr_model.specs.declared.event.EventId.{EventId}
-use Rattle.gr_model.specs.declared.event.ItemId.{ItemId}
 use Rattle.gr_steps.specs.Steps.{CanMeet, IsReady}
 use Rattle.gr_agenda.proofs.Frames.{Frame, frame_taken, meets_was}
 use Rattle.gr_agenda.proofs.KeptLemmas.{Goes, items_of, kept_framed}
@@ -24,7 +21,6 @@ use Rattle.gr_order.proofs.ForgetLemmas.{unhandled_remembered}
 use Rattle.gr_order.specs.Forgetting.{ForgetsHandled}
 use Rattle.gr_lanes.specs.Remembered.{Remembered, forgotten_of}
 use Rattle.gr_order.specs.Sequences.{IsSequence, Sequence, taking}
-use Rattle.gr_order.specs.declared.steps.Ready.TheVariants.{Group, Item}
 use Rattle.gr_steps.proofs.EventRecords.{barriers_name_nothing}
 use Rattle.gr_agenda.specs.Reaches.{IsFollowing, next_instance}
 

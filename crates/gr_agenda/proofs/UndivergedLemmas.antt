@@ -1,8 +1,6 @@
 -- An item at a barrier can go on exactly where the barrier's instance is divergent; and which instances stay as they are.
 use Rattle.gr_model.proofs.Common.{◌≡◌, arith, ℕ, true, Some, refl, slice_index_or, Contains-get_or}
-use Rattle.gr_model.specs.declared.event.Event.{Event}
-use Rattle.gr_model.specs.declared.event.EventId.{EventId}
-use Rattle.gr_model.specs.declared.event.ItemId.{ItemId}
+use Rattle.gr_agenda.specs.Types.{Event, EventId, ItemId}
 use Rattle.gr_model.specs.Prelude.{IsDivergent, is_barrier, event_at}
 use Rattle.gr_clocks.specs.Counts.{count_of}
 use Rattle.gr_steps.specs.Steps.{CanHandle}

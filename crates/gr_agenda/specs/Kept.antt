@@ -1,13 +1,9 @@
 -- What holds of the list of steps and of the lists of items that wait: no ready step is missing.
 use Rattle.std.specs.Prelude.{◌≡◌, ◌≢◌, ◌⊎◌, ℕ, List, Option, Some, Vec, slice_get}
-use Rattle.gr_model.specs.declared.event.EventId.{EventId}
-use Rattle.gr_model.specs.declared.event.ItemId.{ItemId}
-use Rattle.gr_model.specs.declared.event.Name.{Name}
+use Rattle.gr_agenda.specs.Types.{EventId, ItemId, Name, Ready, Item}
 use Rattle.gr_model.specs.Prelude.{IsDivergent, is_barrier, IsIn, HasName, release_place, Streams, place_of, IsPrevious}
 use Rattle.gr_clocks.specs.Counts.{Counts, count_of}
 use Rattle.gr_steps.specs.Steps.{CanHandle}
-use Rattle.gr_order.specs.declared.steps.Ready.{Ready}
-use Rattle.gr_order.specs.declared.steps.Ready.TheVariants.{Item}
 use Rattle.gr_order.specs.Answers.{CanMake}
 use Rattle.gr_order.specs.Sequences.{Sequence}
 use Rattle.gr_order.specs.States.{AreBelowFrontier}

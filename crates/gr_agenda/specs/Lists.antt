@@ -1,9 +1,6 @@
 -- The list of the steps that may have become ready, and the lists of the items that wait.
 use Rattle.std.specs.Prelude.{◌≡◌, ◌⊎◌, ℕ, ◌+◌, ◌*◌, ◌%◌, ◌<◌, Bool, true, List, [], ◌∷◌, ◌++◌, Some, Vec, IsTrue, slice_get}
-use Rattle.gr_model.specs.declared.event.ItemId.{ItemId}
-use Rattle.gr_model.specs.declared.event.Name.{Name}
-use Rattle.gr_order.specs.declared.steps.Ready.{Ready}
-use Rattle.gr_order.specs.declared.steps.Ready.TheVariants.{Item, Group}
+use Rattle.gr_agenda.specs.Types.{ItemId, Name, Ready, Item, Group}
 
 -- an element of a list
 abbrev pub IsAmong : {X : Type 0} → List X → X → Type 0

@@ -1,8 +1,7 @@
 -- The accesses along an order that has become longer.
 use Rattle.gr_model.proofs.Common.{◌≡◌, ℕ, suc, List, [], ◌∷◌, ◌++◌, Some, None, slice_get, refl, append-nil, arith}
-use Rattle.gr_model.specs.declared.event.EventId.{EventId}
+use Rattle.gr_closure.specs.Types.{EventId, Access}
 use Rattle.gr_model.specs.Prelude.{Streams, word_at}
-use Rattle.gr_clocks.specs.declared.access.Access.{Access}
 use Rattle.gr_steps.specs.Steps.{Handles, Meets}
 use Rattle.gr_steps.proofs.BarrierPlaces.{barrier_there}
 use Rattle.gr_clocks.specs.ClockedAccess.{ClockedAccess, clocked, bare}

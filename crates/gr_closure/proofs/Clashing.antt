@@ -1,7 +1,6 @@
 -- A word is hit in the accesses along an order exactly where two events of the order clash on it.
 use Rattle.gr_model.proofs.Common.{◌≢◌, ◌↔◌, List, None, arith}
-use Rattle.gr_model.specs.declared.event.EventId.{EventId}
-use Rattle.gr_model.specs.declared.event.Word.{Word}
+use Rattle.gr_closure.specs.Types.{EventId, Word}
 use Rattle.gr_model.specs.Prelude.{IsIn, IsLawful, IsWholeOrder, IsGrounded, ClashesAt, SomePair, RacesInOrder, IsRacy, Lists, Streams, word_at}
 use Rattle.gr_model.proofs.Descent.{lawful_is_grounded}
 use Rattle.gr_model.proofs.HitsAreRaces.{hit_is_race, race_is_hit}

@@ -1,8 +1,6 @@
 -- A clock that counts just what an event sees has of each item the number of its events that the event sees.
 use Rattle.gr_model.proofs.Common.{ℕ, ◌≤◌, List, length, arith, slice_get_within}
-use Rattle.gr_model.specs.declared.event.Space.{Space}
-use Rattle.gr_model.specs.declared.event.ItemId.{ItemId}
-use Rattle.gr_model.specs.declared.event.EventId.{EventId}
+use Rattle.gr_closure.specs.Types.{Space, ItemId, EventId}
 use Rattle.gr_model.specs.Prelude.{IsCount, Sees, IsIn, IsLawful, Streams, trace_of}
 use Rattle.gr_model.proofs.Numbers.{number_of_prefix}
 use Rattle.gr_clocks.specs.Counts.{Counts, count_of}

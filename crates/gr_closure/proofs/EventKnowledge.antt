@@ -1,8 +1,6 @@
 -- What an event that is handled sees; and what its item, and the others, know then.
 use Rattle.gr_model.proofs.Common.{inl, ◌≡◌, ◌≢◌, ◌⊎◌, ◌↔◌, List, [], ◌∷◌, refl, subst, inr, ⊎_elim, arith}
-use Rattle.gr_model.specs.declared.event.EventId.{EventId}
-use Rattle.gr_model.specs.declared.event.ItemId.{ItemId}
-use Rattle.gr_model.specs.declared.event.Space.{Space}
+use Rattle.gr_closure.specs.Types.{EventId, ItemId, Space}
 use Rattle.gr_model.specs.Prelude.{Sees, IsIn, IsLawful, Streams}
 use Rattle.gr_model.proofs.GrowthLaws.{not_both}
 use Rattle.gr_steps.specs.Steps.{Handles}

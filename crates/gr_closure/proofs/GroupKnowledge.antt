@@ -1,8 +1,6 @@
 -- What a barrier sees whose instance meets; and what its item, its group, and the others, know then.
 use Rattle.gr_model.proofs.Common.{◌≡◌, ◌≢◌, ◌⊎◌, ◌↔◌, ℕ, ◌<◌, List, IsTrue, IsFalse, refl, sym, subst, inl, inr, ⊎_elim, arith}
-use Rattle.gr_model.specs.declared.event.EventId.{EventId}
-use Rattle.gr_model.specs.declared.event.ItemId.{ItemId}
-use Rattle.gr_model.specs.declared.event.Space.{Space}
+use Rattle.gr_closure.specs.Types.{EventId, ItemId, Space}
 use Rattle.gr_model.specs.Prelude.{IsConvergent, StandsIn, Together, Sees, Mark, flags, IsIn, IsLawful, ArePrefixes, Streams, size_of}
 use Rattle.gr_steps.specs.Steps.{Meets}
 use Rattle.gr_steps.proofs.BarrierPlaces.{barrier_of, barrier_there, moved, same_instance, stands_same}

@@ -1,8 +1,6 @@
 -- What is seen by handled events, and known, was handled; and each item knows of its own handled events.
 use Rattle.gr_model.proofs.Common.{◌≡◌, List, refl, inl, inr}
-use Rattle.gr_model.specs.declared.event.EventId.{EventId}
-use Rattle.gr_model.specs.declared.event.ItemId.{ItemId}
-use Rattle.gr_model.specs.declared.event.Space.{Space}
+use Rattle.gr_closure.specs.Types.{EventId, ItemId, Space}
 use Rattle.gr_model.specs.Prelude.{Sees, IsAt, IsIn, IsLawful, Streams}
 use Rattle.gr_model.proofs.Descent.{below_before, lawful_descends, together-swap}
 use Rattle.gr_steps.proofs.Orders.{met_handled}

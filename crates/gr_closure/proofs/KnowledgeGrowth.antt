@@ -1,8 +1,6 @@
 -- What handled events see, and what is known along their order, stays where lists that are not complete grow.
 use Rattle.gr_model.proofs.Common.{◌↔◌, List, arith}
-use Rattle.gr_model.specs.declared.event.EventId.{EventId}
-use Rattle.gr_model.specs.declared.event.ItemId.{ItemId}
-use Rattle.gr_model.specs.declared.event.Space.{Space}
+use Rattle.gr_closure.specs.Types.{EventId, ItemId, Space}
 use Rattle.gr_model.specs.Prelude.{Together, Sees, IsIn, IsLawful, Grows, Streams}
 use Rattle.gr_model.proofs.Descent.{lawful_is_grounded, together-swap}
 use Rattle.gr_model.proofs.GrowthLaws.{before_grows, before_shrinks, together_shrinks, together_grows}

@@ -1,8 +1,6 @@
 -- Events of an order that grows at its end, and what is known along it.
 use Rattle.gr_model.proofs.Common.{◌≡◌, ◌⊎◌, ℕ, ◌+◌, List, ◌++◌, length, Some, slice_get, inl, inr, ⊎_elim}
-use Rattle.gr_model.specs.declared.event.EventId.{EventId}
-use Rattle.gr_model.specs.declared.event.ItemId.{ItemId}
-use Rattle.gr_model.specs.declared.event.Space.{Space}
+use Rattle.gr_closure.specs.Types.{EventId, ItemId, Space}
 use Rattle.gr_model.specs.Prelude.{IsIn, Streams}
 use Rattle.gr_model.proofs.Places.{slice_get-append}
 use Rattle.gr_steps.proofs.Orders.{at_behind, split_last}

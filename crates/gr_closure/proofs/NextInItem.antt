@@ -1,7 +1,6 @@
 -- An event that is next in its item: the handled events of the item are those before it. So is what is handled, and each barrier of an instance that meets. It sees itself, what its item knows, and what it learns.
 use Rattle.gr_model.proofs.Common.{◌∙◌, ◌≡◌, ◌⊎◌, ◌↔◌, ℕ, ◌<◌, List, sym, inl, inr, ⊎_elim, arith}
-use Rattle.gr_model.specs.declared.event.EventId.{EventId}
-use Rattle.gr_model.specs.declared.event.Space.{Space}
+use Rattle.gr_closure.specs.Types.{EventId, Space}
 use Rattle.gr_model.specs.Prelude.{StandsIn, Sees, Mark, BasePair, HappensBefore, behind_barrier, sequenced, synchronized, IsIn, IsLawful, IsEvent, Streams}
 use Rattle.gr_steps.specs.Steps.{IsMeeting, IsReady}
 use Rattle.gr_steps.proofs.NextEvents.{next_of_item}

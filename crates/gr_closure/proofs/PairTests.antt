@@ -1,7 +1,6 @@
 -- The race test of two accesses says whether their events clash.
 use Rattle.gr_model.proofs.Common.{◌↔◌, ◌≡◌, ◌<◌, ◌&&◌, ◌||◌, arith, not, and_parts, and_from, not-true, not_from_false, false_from_ne_true, ltb-true, lt-ltb, true≢false}
-use Rattle.gr_model.specs.declared.event.EventId.{EventId}
-use Rattle.gr_model.specs.declared.event.Word.{Word}
+use Rattle.gr_closure.specs.Types.{EventId, Word}
 use Rattle.gr_model.specs.Prelude.{modifies, inclusive, memory_of, Sees, ClashesAt, RacesInOrder, Streams, exempt}
 use Rattle.gr_clocks.specs.Counts.{count_of}
 use Rattle.gr_clocks.proofs.RowLemmas.{same_items, same_item_self}

@@ -1,7 +1,6 @@
 -- The events of two accesses along an order of which the later one clashes with the earlier one.
 use Rattle.gr_model.proofs.Common.{◌↔◌, arith, ◌≡◌, ◌≢◌, List}
-use Rattle.gr_model.specs.declared.event.EventId.{EventId}
-use Rattle.gr_model.specs.declared.event.Word.{Word}
+use Rattle.gr_closure.specs.Types.{EventId, Word}
 use Rattle.gr_model.specs.Prelude.{IsLawful, SomePair, IsRacePair, IsTurned, Pair, RacesInOrder, EventBelow, Streams}
 use Rattle.gr_model.proofs.Cuts.{same_event}
 use Rattle.gr_model.proofs.Descent.{lawful_is_grounded}

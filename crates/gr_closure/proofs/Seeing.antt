@@ -1,7 +1,6 @@
 -- What happens before an event is seen by an event that makes a base pair with it.
 use Rattle.gr_model.proofs.Common.{sym, subst, inl, inr, arith}
-use Rattle.gr_model.specs.declared.event.EventId.{EventId}
-use Rattle.gr_model.specs.declared.event.Space.{Space}
+use Rattle.gr_closure.specs.Types.{EventId, Space}
 use Rattle.gr_model.specs.Prelude.{Sees, BasePair, HappensBefore, by_pair, through, Streams}
 
 module _ (s : Streams) (m : Space) where

@@ -2,10 +2,9 @@
 -- Source: docs/MODEL.md, "Clocks" and "Classes of accesses".
 use Rattle.std.specs.Prelude.{◌≡◌, ◌↔◌, ◌<◌, Option, None, Some}
 use Rattle.gr_model.specs.declared.event.Event.{Event}
-use Rattle.gr_model.specs.declared.event.EventId.{EventId}
+use Rattle.gr_closure.specs.Types.{EventId, Access}
 use Rattle.gr_model.specs.Prelude.{memory_of, Sees, Streams, event_at, word_at, class_of}
 use Rattle.gr_clocks.specs.Counts.{Counts, count_of}
-use Rattle.gr_clocks.specs.declared.access.Access.{Access}
 
 -- a clock counts just the events of which P holds: of each item its first ones
 abbrev pub CountsJust : Counts → (EventId → Type 0) → Type 0

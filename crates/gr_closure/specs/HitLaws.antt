@@ -1,7 +1,6 @@
 -- What follows of the accesses along an order, each the contract of a function that does nothing.
 use Rattle.std.specs.Prelude.{◌≡◌, ◌≢◌, ◌↔◌, ℕ, List, [], ◌∷◌, ◌++◌, None}
-use Rattle.gr_model.specs.declared.event.EventId.{EventId}
-use Rattle.gr_model.specs.declared.event.Word.{Word}
+use Rattle.gr_closure.specs.Types.{EventId, Word}
 use Rattle.gr_model.specs.Prelude.{Streams, Grows, word_at, IsGrounded, IsLawful, IsWholeOrder, IsIn, RacesInOrder, IsRacy, IsRacePair, IsTurned, Pair, EventBelow, SomePair}
 use Rattle.gr_steps.specs.Steps.{Handles, Meets}
 use Rattle.gr_clocks.specs.ClockedAccess.{ClockedAccess, bare}

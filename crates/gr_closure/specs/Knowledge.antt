@@ -1,9 +1,7 @@
 -- What a work-item knows along an order: the events that happen before whatever it does next.
 -- Source: docs/MODEL.md, "Clocks". After OpenCL 2.0 specification, section 3.3 (memory model), "global-happens-before" and "local-happens-before".
 use Rattle.std.specs.Prelude.{◌≡◌, List, IsTrue}
-use Rattle.gr_model.specs.declared.event.Space.{Space}
-use Rattle.gr_model.specs.declared.event.ItemId.{ItemId}
-use Rattle.gr_model.specs.declared.event.EventId.{EventId}
+use Rattle.gr_closure.specs.Types.{Space, ItemId, EventId}
 use Rattle.gr_model.specs.Prelude.{Mark, flags, Streams, Matches, Together, IsIn, IsInclusive, Sees}
 
 -- in a memory, item i knows of d when the events of this order are handled

@@ -1,9 +1,7 @@
 -- What a step does to what the work-items know.
 -- Source: docs/MODEL.md, "Clocks".
 use Rattle.std.specs.Prelude.{◌≡◌, ◌≢◌, ◌⊎◌, ◌↔◌, ℕ, ◌<◌, List, IsTrue, IsFalse}
-use Rattle.gr_model.specs.declared.event.Space.{Space}
-use Rattle.gr_model.specs.declared.event.ItemId.{ItemId}
-use Rattle.gr_model.specs.declared.event.EventId.{EventId}
+use Rattle.gr_closure.specs.Types.{Space, ItemId, EventId}
 use Rattle.gr_model.specs.Prelude.{flags, Streams, ArePrefixes, Grows, size_of, StandsIn, IsLawful, IsIn, IsCount, Sees}
 use Rattle.gr_steps.specs.Steps.{Handles, Meets}
 use Rattle.gr_clocks.specs.Counts.{Counts, count_of}

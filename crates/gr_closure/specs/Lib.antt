@@ -3,3 +3,4 @@ pub mod KnowledgeLaws
 pub mod Accesses
 pub mod AccessesAlong
 pub mod HitLaws
+pub mod Types

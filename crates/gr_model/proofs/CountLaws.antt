@@ -1,8 +1,6 @@
 -- The counts of an event that is grounded stay where lists that are not complete grow.
 use Rattle.gr_model.proofs.Common.{◌≡◌, ◌↔◌, ℕ, zero, suc, ◌+◌, ◌<◌, ◌≤◌, length, arith, length-append, slice_get_within}
-use Rattle.gr_model.specs.declared.event.Space.{Space}
-use Rattle.gr_model.specs.declared.event.ItemId.{ItemId}
-use Rattle.gr_model.specs.declared.event.EventId.{EventId}
+use Rattle.gr_model.specs.Types.{Space, ItemId, EventId}
 use Rattle.gr_model.specs.Prelude.{Streams, Grows, trace_of, IsEvent, Stage, IsNumberOf, Sees, IsCount}
 use Rattle.gr_model.proofs.Descent.{below_before, stage_descends}
 use Rattle.gr_model.proofs.GrowthLaws.{stage_event, trace_grows, before_grows, before_shrinks}

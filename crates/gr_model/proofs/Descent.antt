@@ -1,7 +1,6 @@
 -- Where all that an event waits for is lower than the event, so is all that happens before it.
 use Rattle.gr_model.proofs.Common.{◌≡◌, ℕ, zero, suc, ◌+◌, ◌-◌, ◌<◌, List, refl, ⊎_elim, arith, eq-or-lt_of_le, lt_trans}
-use Rattle.gr_model.specs.declared.event.Space.{Space}
-use Rattle.gr_model.specs.declared.event.EventId.{EventId}
+use Rattle.gr_model.specs.Types.{Space, EventId}
 use Rattle.gr_model.specs.Prelude.{Together, BasePair, HappensBefore, behind_barrier, by_pair, sequenced, synchronized, through, Mark, IsAt, IsIn, IsLawful, Streams, IsGrounded, Stage, Waits, for_meeting, for_previous, for_release}
 
 -- the same instance, with the two barriers the other way round

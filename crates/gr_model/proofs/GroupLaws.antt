@@ -1,8 +1,6 @@
 -- What may have come stays so where a group gets its items, and its lists have grown.
 use Rattle.gr_model.proofs.Common.{◌≡◌, ℕ, ◌+◌, ◌<◌, ◌≤◌, List, [], ◌∷◌, length, slice_index, sum, refl, ⊎_elim, append-nil, arith, ◌≢◌, get_or_past}
-use Rattle.gr_model.specs.declared.event.Event.{Event}
-use Rattle.gr_model.specs.declared.event.ItemId.{ItemId}
-use Rattle.gr_model.specs.declared.limits.TheConstants.{MOST_GROUPS, MOST_ITEMS, MOST_ITEMS_OF_A_GROUP}
+use Rattle.gr_model.specs.Types.{Event, ItemId, MOST_GROUPS, MOST_ITEMS, MOST_ITEMS_OF_A_GROUP}
 use Rattle.gr_model.specs.Prelude.{CanAdd, put, with_group, HasItem, IsPartOfShape, IsShape, ArePrefixes, Grows, Streams, list_of, size_of}
 use Rattle.gr_model.proofs.PutLemmas.{all_put, length_put, put_other, put_same, sum_put}
 

@@ -1,11 +1,7 @@
 -- What holds of the events that are reached holds on where incomplete lists grow.
 use Rattle.gr_model.proofs.Common.{Contains, ◌≡◌, ◌⊎◌, ℕ, zero, suc, ◌<◌, Bool, List, ◌++◌, Some, filter, option_and_then, sym, ap, ◌∙◌, subst, inl, inr, ⊎_elim, arith, filter-append, filter_map-append, slice_get_within}
-use Rattle.gr_model.specs.declared.event.ItemId.{ItemId}
-use Rattle.gr_model.specs.declared.event.Name.{Name}
-use Rattle.gr_model.specs.declared.event.EventId.{EventId}
-use Rattle.gr_model.specs.declared.event.Event.{Event}
+use Rattle.gr_model.specs.Types.{ItemId, Name, EventId, Event, Space}
 use Rattle.gr_model.specs.Prelude.{event_word, is_release, IsConvergent, IsDivergent, StandsIn, Together, arrivals, is_barrier, mark_of, BasePair, HappensBefore, behind_barrier, by_pair, sequenced, synchronized, through, Mark, HasName, Matches, MatchesBy, names_of, Grows, IsEvent, Streams, event_at, is_of, list_of, place_of, size_of, trace_of, word_at, IsSettled, Stage, Waits, for_arrival, for_meeting, for_previous, for_release}
-use Rattle.gr_model.specs.declared.event.Space.{Space}
 use Rattle.gr_model.proofs.Descent.{together-swap, below_in_item, below_by_pair, stage_descends, stage_up}
 use Rattle.gr_model.proofs.Places.{slice_get-append, places_from-append, places_from-there, places_from-within, filter_map-place}
 use Rattle.gr_model.proofs.Cuts.{same_event}

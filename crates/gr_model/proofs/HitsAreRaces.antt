@@ -1,8 +1,7 @@
 -- Along a lawful order the words hit are the racy ones.
 use Rattle.gr_model.proofs.Common.{◌≡◌, ℕ, ◌<◌, List, ⊎_elim, arith, eqb, cases_lt, nat_tests}
 use Rattle.std.proofs.Math.Bool.{or_comm}
-use Rattle.gr_model.specs.declared.event.EventId.{EventId}
-use Rattle.gr_model.specs.declared.event.Word.{Word}
+use Rattle.gr_model.specs.Types.{EventId, Word}
 use Rattle.gr_model.specs.Prelude.{memory_of, SomePair, IsAt, IsLawful, RacesInOrder, MayRace, IsRace, IsRacy, Streams}
 use Rattle.gr_model.proofs.Descent.{below_before, lawful_descends}
 

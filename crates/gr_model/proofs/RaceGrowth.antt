@@ -1,7 +1,6 @@
 -- A race of events that are grounded stays one where lists that are not complete grow.
 use Rattle.gr_model.proofs.Common.{List, arith}
-use Rattle.gr_model.specs.declared.event.EventId.{EventId}
-use Rattle.gr_model.specs.declared.event.Word.{Word}
+use Rattle.gr_model.specs.Types.{EventId, Word}
 use Rattle.gr_model.specs.Prelude.{IsIn, IsLawful, IsRace, IsRacy, Grows, Streams, IsGrounded}
 use Rattle.gr_model.proofs.Descent.{lawful_is_grounded}
 use Rattle.gr_model.proofs.GrowthLaws.{before_shrinks, event_grows, stage_grows, word_grows}

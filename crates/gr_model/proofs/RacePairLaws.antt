@@ -1,7 +1,6 @@
 -- A race of two events is one of them in their order.
 use Rattle.gr_model.proofs.Common.{arith}
-use Rattle.gr_model.specs.declared.event.EventId.{EventId}
-use Rattle.gr_model.specs.declared.event.Word.{Word}
+use Rattle.gr_model.specs.Types.{EventId, Word}
 use Rattle.gr_model.specs.Prelude.{IsRacePair, IsTurned, Pair, IsRace, EventBelow, Streams, IsGrounded}
 use Rattle.gr_model.proofs.HitsAreRaces.{may_race_swaps}
 

@@ -1,7 +1,6 @@
 -- The events of one group among those that several sent, and where a list of records is complete.
 use Rattle.gr_model.proofs.Common.{◌≡◌, ◌≢◌, ℕ, cond, eq-eqb, ne_eqb, List, [], ◌∷◌, ◌++◌, refl, ap, arith}
-use Rattle.gr_model.specs.declared.event.Event.{Event}
-use Rattle.gr_model.specs.declared.event.Sent.{Sent}
+use Rattle.gr_model.specs.Types.{Event, Sent}
 use Rattle.gr_model.specs.Prelude.{is_end, events_of, is_complete}
 
 pub events_append : (g : ℕ) (xs ys : List Sent) → events_of g (xs ++ ys) ≡ events_of g xs ++ events_of g ys

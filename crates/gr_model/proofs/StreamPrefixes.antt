@@ -1,7 +1,6 @@
 -- Prefixes of a work-group's stream: they grow by records that may come next, and a complete one is the whole.
 use Rattle.gr_model.proofs.Common.{◌≡◌, ℕ, ◌-◌, ◌<◌, List, [], ◌∷◌, ◌++◌, length, arith, length-append, IsTrue, IsFalse, common_steps, gets, slice_get_within, slice_get-get_or}
-use Rattle.gr_model.specs.declared.event.Event.{Event}
-use Rattle.gr_model.specs.declared.limits.TheConstants.{MOST_RECORDS}
+use Rattle.gr_model.specs.Types.{Event, MOST_RECORDS}
 use Rattle.gr_model.specs.Prelude.{IsEventOk, IsPrefix, is_complete}
 use Rattle.gr_model.proofs.ListsOfRecords.{is_complete-last}
 use Rattle.gr_model.proofs.Places.{slice_get-append}

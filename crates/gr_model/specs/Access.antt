@@ -1,16 +1,9 @@
 -- What an access does: whether it modifies, its orders, its scope, and when two accesses have inclusive scope.
 -- Source: OpenCL 2.0 specification, section 3.3 (memory model): "memory order", "memory scope", "inclusive scope", "conflict".
 use Rattle.std.specs.Prelude.{ℕ, Bool, true, false, Option, Some, None, ◌==◌}
-use Rattle.gr_model.specs.declared.event.Space.{Space}
-use Rattle.gr_model.specs.declared.event.Space.TheVariants.{Global, Local}
-use Rattle.gr_model.specs.declared.event.Scope.{Scope}
-use Rattle.gr_model.specs.declared.event.Scope.TheVariants.{Group, Device}
+use Rattle.gr_model.specs.Types.{Space, Global, Local, Scope, Group, Device, Kind, Read, Write, Load, Store, Rmw, Barrier, End, Event, Word}
 use Rattle.gr_model.specs.declared.event.Order.{Order}
 use Rattle.gr_model.specs.declared.event.Order.TheVariants.{Relaxed, Acquire, Release, Both}
-use Rattle.gr_model.specs.declared.event.Kind.{Kind}
-use Rattle.gr_model.specs.declared.event.Kind.TheVariants.{Read, Write, Load, Store, Rmw, Barrier, End}
-use Rattle.gr_model.specs.declared.event.Event.{Event}
-use Rattle.gr_model.specs.declared.event.Word.{Word}
 use Rattle.gr_model.specs.declared.event.Word.TheVariants.{Global as GlobalWord, Local as LocalWord}
 
 -- whether an order has an acquire's half

@@ -1,10 +1,7 @@
 -- The barrier instances of streams: instance k of a group is the k-th barriers of its items, k from 0.
 -- Source: docs/MODEL.md, "Barriers".
 use Rattle.std.specs.Prelude.{◌≡◌, ℕ, ◌<◌, Bool, Option, Some, None, slice_get, filter_map, is_some}
-use Rattle.gr_model.specs.declared.event.EventId.{EventId}
-use Rattle.gr_model.specs.declared.event.Event.{Event}
-use Rattle.gr_model.specs.declared.event.Kind.{Kind}
-use Rattle.gr_model.specs.declared.event.Kind.TheVariants.{Read, Write, Load, Store, Rmw, Barrier, End}
+use Rattle.gr_model.specs.Types.{EventId, Event, Kind, Read, Write, Load, Store, Rmw, Barrier, End}
 use Rattle.gr_model.specs.Instances.{Mark, Arrivals, IsConvergentOf, IsDivergentOf}
 use Rattle.gr_model.specs.Streams.{Streams, list_of, size_of, trace_of, place_of, is_complete}
 

@@ -1,9 +1,7 @@
 -- What a class keeps of a kind.
 use Rattle.std.specs.Prelude.{◌≡◌, ℕ, Some, is_some, not, ◌&&◌, ◌||◌}
-use Rattle.gr_model.specs.declared.event.Kind.{Kind}
-use Rattle.gr_model.specs.declared.event.Event.{Event}
+use Rattle.gr_model.specs.Types.{Kind, Event, Class}
 use Rattle.gr_model.specs.Access.{modifies, scope_of, inclusive, event_word}
-use Rattle.gr_model.specs.declared.class.Class.{Class}
 use Rattle.gr_model.specs.Conflicts.{is_access}
 use Rattle.gr_model.specs.Classes.{class_of, class_modifies, class_scope, exempt}
 

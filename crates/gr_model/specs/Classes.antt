@@ -1,12 +1,8 @@
 -- The class of an access: what a race test has to know of its kind.
 -- Source: docs/MODEL.md, "Classes of accesses".
 use Rattle.std.specs.Prelude.{ℕ, Bool, true, false, Option, Some, None, ◌||◌, not}
-use Rattle.gr_model.specs.declared.event.Scope.{Scope}
-use Rattle.gr_model.specs.declared.event.Scope.TheVariants.{Group, Device}
-use Rattle.gr_model.specs.declared.event.Kind.{Kind}
-use Rattle.gr_model.specs.declared.event.Kind.TheVariants.{Read, Write, Load, Store, Rmw, Barrier, End}
+use Rattle.gr_model.specs.Types.{Scope, Group, Device, Kind, Read, Write, Load, Store, Rmw, Barrier, End, Class}
 use Rattle.gr_model.specs.Access.{same_scope}
-use Rattle.gr_model.specs.declared.class.Class.{Class}
 use Rattle.gr_model.specs.declared.class.Class.TheVariants.{PlainRead, PlainWrite, GroupRead, GroupModify, DeviceRead, DeviceModify}
 
 -- the classes of atomic accesses of a scope

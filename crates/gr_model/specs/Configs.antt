@@ -1,9 +1,8 @@
 -- How a run may be set up, and which worker a word goes to.
 -- Source: docs/QUEUES.md, "Workers and queues".
 use Rattle.std.specs.Prelude.{ℕ, ◌+◌, ◌%◌, ◌≤◌}
-use Rattle.gr_model.specs.declared.event.Word.{Word}
+use Rattle.gr_model.specs.Types.{Word, MOST_WORKERS, MOST_QUEUES, MOST_PLACES}
 use Rattle.gr_model.specs.declared.event.Word.TheVariants.{Global, Local}
-use Rattle.gr_model.specs.declared.limits.TheConstants.{MOST_WORKERS, MOST_QUEUES, MOST_PLACES}
 use Rattle.gr_model.specs.declared.config.ConfigError.{ConfigError}
 use Rattle.gr_model.specs.declared.config.ConfigError.TheVariants.{BadWorkers, BadQueues, BadCapacity}
 

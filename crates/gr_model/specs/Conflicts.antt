@@ -1,10 +1,7 @@
 -- What two accesses have to do with each other, by their kinds and words.
 -- Source: OpenCL 2.0 specification, section 3.3 (memory model), "conflict" and "synchronizes-with".
 use Rattle.std.specs.Prelude.{◌≡◌, ℕ, Bool, true, false, ◌&&◌, ◌||◌, IsTrue, Option, None, if◌then◌else◌}
-use Rattle.gr_model.specs.declared.event.Event.{Event}
-use Rattle.gr_model.specs.declared.event.Scope.{Scope}
-use Rattle.gr_model.specs.declared.event.Kind.{Kind}
-use Rattle.gr_model.specs.declared.event.Kind.TheVariants.{Read, Write, Load, Store, Rmw, Barrier, End}
+use Rattle.gr_model.specs.Types.{Event, Scope, Kind, Read, Write, Load, Store, Rmw, Barrier, End}
 use Rattle.gr_model.specs.Access.{modifies, inclusive, is_acquire_kind, is_release_kind, scope_of, event_word}
 
 -- whether an event of this kind accesses memory

@@ -1,9 +1,7 @@
 -- What a vector clock counts.
 -- Source: docs/MODEL.md, "Clocks". After Mattern, Virtual Time and Global States of Distributed Systems, 1988, with one clock for each memory.
 use Rattle.std.specs.Prelude.{◌≡◌, ◌⊎◌, ℕ, zero, suc, length}
-use Rattle.gr_model.specs.declared.event.Space.{Space}
-use Rattle.gr_model.specs.declared.event.ItemId.{ItemId}
-use Rattle.gr_model.specs.declared.event.EventId.{EventId}
+use Rattle.gr_model.specs.Types.{Space, ItemId, EventId}
 use Rattle.gr_model.specs.Streams.{Streams, trace_of}
 use Rattle.gr_model.specs.HappensBefore.{HappensBefore}
 

@@ -1,12 +1,7 @@
 -- Which records a work-group may have.
 -- Source: docs/MODEL.md, "Records". Which orders an atomic operation may have: OpenCL 2.0 specification, section 3.3 (memory model), "memory order".
 use Rattle.std.specs.Prelude.{◌≡◌, ℕ, ◌<◌, Bool, true, false, List, [], ◌∷◌, ⊤, IsTrue, IsFalse}
-use Rattle.gr_model.specs.declared.event.Space.{Space}
-use Rattle.gr_model.specs.declared.event.Space.TheVariants.{Global}
-use Rattle.gr_model.specs.declared.event.Kind.{Kind}
-use Rattle.gr_model.specs.declared.event.Kind.TheVariants.{Read, Write, Load, Store, Rmw, Barrier, End}
-use Rattle.gr_model.specs.declared.event.Name.{Name}
-use Rattle.gr_model.specs.declared.event.Event.{Event}
+use Rattle.gr_model.specs.Types.{Space, Global, Kind, Read, Write, Load, Store, Rmw, Barrier, End, Name, Event}
 use Rattle.gr_model.specs.NameLists.{AreNames}
 use Rattle.gr_model.specs.Access.{acquires, releases, is_acquire_kind}
 

@@ -1,10 +1,7 @@
 -- What happens before what: one relation for each memory, the closure of its base pairs.
 -- Source: OpenCL 2.0 specification, section 3.3 (memory model): "sequenced-before", "synchronizes-with", "global-happens-before" and "local-happens-before", "inclusive scope"; `work_group_barrier` for barriers.
 use Rattle.std.specs.Prelude.{◌≡◌, ◌<◌, Some, IsTrue}
-use Rattle.gr_model.specs.declared.event.Space.{Space}
-use Rattle.gr_model.specs.declared.event.EventId.{EventId}
-use Rattle.gr_model.specs.declared.event.Word.{Word}
-use Rattle.gr_model.specs.declared.event.Event.{Event}
+use Rattle.gr_model.specs.Types.{Space, EventId, Word, Event}
 use Rattle.gr_model.specs.Access.{memory_of, inclusive}
 use Rattle.gr_model.specs.Instances.{Mark, flags}
 use Rattle.gr_model.specs.Streams.{Streams, event_at, IsEvent, word_at}

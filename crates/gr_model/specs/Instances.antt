@@ -1,9 +1,7 @@
 -- One instance of a work-group barrier, by what each item of the group brings to it. Nothing here knows of events.
 -- Source: OpenCL 2.0 specification, section 3.3 (memory model), and OpenCL C 2.0 specification, `work_group_barrier`: all work-items of the group execute the barrier before any goes on. Instances and their causes are this project's own (docs/MODEL.md, "Barriers").
 use Rattle.std.specs.Prelude.{◌≡◌, ◌≢◌, ◌⊎◌, ℕ, ◌<◌, Bool, Option, Some, None, IsTrue}
-use Rattle.gr_model.specs.declared.event.Space.{Space}
-use Rattle.gr_model.specs.declared.event.Space.TheVariants.{Global, Local}
-use Rattle.gr_model.specs.declared.report.DivergenceCause.{DivergenceCause}
+use Rattle.gr_model.specs.Types.{Space, Global, Local, DivergenceCause}
 use Rattle.gr_model.specs.declared.report.DivergenceCause.TheVariants.{Missing, Site, Flags}
 
 -- what a barrier gives: its site, and the memories that it flags

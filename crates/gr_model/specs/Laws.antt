@@ -1,9 +1,6 @@
 -- What follows from the definitions, each the contract of a function that does nothing.
 use Rattle.std.specs.Prelude.{◌≡◌, ◌↔◌, ℕ, ◌<◌, List}
-use Rattle.gr_model.specs.declared.event.Space.{Space}
-use Rattle.gr_model.specs.declared.event.ItemId.{ItemId}
-use Rattle.gr_model.specs.declared.event.EventId.{EventId}
-use Rattle.gr_model.specs.declared.event.Word.{Word}
+use Rattle.gr_model.specs.Types.{Space, ItemId, EventId, Word}
 use Rattle.gr_model.specs.Shapes.{IsShape}
 use Rattle.gr_model.specs.Streams.{Streams, AreAccepted, ArePrefixes, AreComplete, Grows}
 use Rattle.gr_model.specs.HappensBefore.{BasePair, HappensBefore}

@@ -23,3 +23,4 @@ pub mod Conflicts
 pub mod Classes
 pub mod ClassLaws
 pub mod Prelude
+pub mod Types

@@ -2,8 +2,7 @@
 -- Source: docs/MODEL.md, "Names of releases".
 use Rattle.std.specs.Prelude.{◌≡◌, ℕ, ◌⊎◌, ◌<◌, ◌≤◌, List, length, All}
 use Rattle.std.specs.List.{AllAdjacentBelow}
-use Rattle.gr_model.specs.declared.event.Name.{Name}
-use Rattle.gr_model.specs.declared.limits.TheConstants.{FEW_GROUPS, FEW_ITEMS_OF_A_GROUP, MOST_GROUPS, MOST_ITEMS_OF_A_GROUP, MOST_NAMES, MOST_RECORDS}
+use Rattle.gr_model.specs.Types.{Name, FEW_GROUPS, FEW_ITEMS_OF_A_GROUP, MOST_GROUPS, MOST_ITEMS_OF_A_GROUP, MOST_NAMES, MOST_RECORDS}
 
 -- a name of a release that some launch of at most so many groups, each of at most so many items, could have
 abbrev pub IsNameWithin : ℕ → ℕ → Name → Type 0

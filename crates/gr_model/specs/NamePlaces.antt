@@ -1,7 +1,6 @@
 -- How names are kept: the names first, and then places that are not used.
 use Rattle.std.specs.Prelude.{◌≡◌, ℕ, ◌-◌, ◌++◌, List, length, take, replicate}
-use Rattle.gr_model.specs.declared.event.Name.{Name}
-use Rattle.gr_model.specs.declared.limits.TheConstants.{MOST_NAMES}
+use Rattle.gr_model.specs.Types.{Name, MOST_NAMES}
 use Rattle.gr_model.specs.NameLists.{AreNames}
 
 -- what a place that is not used holds

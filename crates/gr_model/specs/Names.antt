@@ -1,9 +1,7 @@
 -- Which releases an acquire names, and which releases it matches.
 -- Source: OpenCL 2.0 specification, section 3.3 (memory model), "synchronizes-with". That the producer writes the names is this project's own rule (docs/MODEL.md, "Names of releases").
 use Rattle.std.specs.Prelude.{◌≡◌, ◌≢◌, ℕ, List, [], Option, Some, None, Contains}
-use Rattle.gr_model.specs.declared.event.EventId.{EventId}
-use Rattle.gr_model.specs.declared.event.Event.{Event}
-use Rattle.gr_model.specs.declared.event.Name.{Name}
+use Rattle.gr_model.specs.Types.{EventId, Event, Name}
 use Rattle.gr_model.specs.declared.report.AcquireCause.{AcquireCause}
 use Rattle.gr_model.specs.declared.report.AcquireCause.TheVariants.{Absent, OtherWord, Behind}
 use Rattle.gr_model.specs.Access.{is_release}

@@ -1,8 +1,7 @@
 -- Racing pairs of a word.
 -- Source: docs/MODEL.md, "Races" and "The report". That the smaller event comes first is this project's own.
 use Rattle.std.specs.Prelude.{◌≡◌, ◌⊎◌, ℕ, List, All, map}
-use Rattle.gr_model.specs.declared.event.EventId.{EventId}
-use Rattle.gr_model.specs.declared.event.Word.{Word}
+use Rattle.gr_model.specs.Types.{EventId, Word}
 use Rattle.gr_model.specs.declared.race.Race.{Race}
 use Rattle.gr_model.specs.Races.{IsRace}
 use Rattle.gr_model.specs.Reports.{AreRaces, EventBelow}

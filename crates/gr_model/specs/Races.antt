@@ -1,9 +1,7 @@
 -- Data races.
 -- Source: OpenCL 2.0 specification, section 3.3 (memory model), "conflict", "inclusive scope" and "data race".
 use Rattle.std.specs.Prelude.{◌≡◌, ◌≢◌, ◌||◌, Some, IsTrue, IsFalse}
-use Rattle.gr_model.specs.declared.event.EventId.{EventId}
-use Rattle.gr_model.specs.declared.event.Event.{Event}
-use Rattle.gr_model.specs.declared.event.Word.{Word}
+use Rattle.gr_model.specs.Types.{EventId, Event, Word}
 use Rattle.gr_model.specs.Access.{modifies, inclusive, memory_of}
 use Rattle.gr_model.specs.Streams.{Streams, event_at, word_at}
 use Rattle.gr_model.specs.HappensBefore.{HappensBefore}

@@ -2,12 +2,7 @@
 -- Source: docs/MODEL.md, "The report".
 use Rattle.std.specs.Prelude.{◌≡◌, ◌⊎◌, ◌↔◌, ℕ, ◌<◌, true, Some, List, length, Contains, AllPairs, sum, slice_get}
 use Rattle.std.specs.List.{sum_by}
-use Rattle.gr_model.specs.declared.event.ItemId.{ItemId}
-use Rattle.gr_model.specs.declared.event.EventId.{EventId}
-use Rattle.gr_model.specs.declared.event.Event.{Event}
-use Rattle.gr_model.specs.declared.event.Name.{Name}
-use Rattle.gr_model.specs.declared.event.Kind.TheVariants.{End}
-use Rattle.gr_model.specs.declared.event.Word.{Word}
+use Rattle.gr_model.specs.Types.{ItemId, EventId, Event, Name, End, Word}
 use Rattle.gr_model.specs.declared.event.Word.TheVariants.{Global as GlobalWord, Local as LocalWord}
 use Rattle.gr_model.specs.declared.report.Divergence.{Divergence}
 use Rattle.gr_model.specs.declared.report.Unmatched.{Unmatched}

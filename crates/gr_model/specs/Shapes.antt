@@ -3,8 +3,7 @@
 use Rattle.std.specs.Prelude.{◌≡◌, ℕ, ◌<◌, ◌≤◌, List, length, slice_index, sum, All}
 use Rattle.std.specs.List.{flat_map, range_with_len}
 use Rattle.std.specs.Prelude.{map}
-use Rattle.gr_model.specs.declared.event.ItemId.{ItemId}
-use Rattle.gr_model.specs.declared.limits.TheConstants.{FEW_GROUPS, FEW_ITEMS_OF_A_GROUP, MOST_GROUPS, MOST_ITEMS_OF_A_GROUP, MOST_ITEMS}
+use Rattle.gr_model.specs.Types.{ItemId, FEW_GROUPS, FEW_ITEMS_OF_A_GROUP, MOST_GROUPS, MOST_ITEMS_OF_A_GROUP, MOST_ITEMS}
 use Rattle.gr_model.specs.declared.shape.ShapeError.{ShapeError}
 use Rattle.gr_model.specs.declared.shape.ShapeError.TheVariants.{NoGroups, TooManyGroups, BadItems, TooManyItems}
 

@@ -1,12 +1,7 @@
 -- The lists of a launch: of each work-group its number of items, and its records in the order of its stream; the trace of each item.
 -- Source: docs/MODEL.md, "Streams and traces". An item's trace is its part of "sequenced-before" (OpenCL 2.0 specification, section 3.3, memory model).
 use Rattle.std.specs.Prelude.{◌≡◌, ◌≢◌, ◌⊎◌, ℕ, ◌+◌, ◌<◌, ◌≤◌, Bool, false, List, [], ◌∷◌, length, slice_index, slice_index_or, slice_get, IsTrue, Some, Option, Vec, map, filter, ◌==◌, ◌&&◌, not, ◌++◌, suc, option_and_then, if◌then◌else◌}
-use Rattle.gr_model.specs.declared.event.Event.{Event}
-use Rattle.gr_model.specs.declared.event.Sent.{Sent}
-use Rattle.gr_model.specs.declared.event.ItemId.{ItemId}
-use Rattle.gr_model.specs.declared.event.EventId.{EventId}
-use Rattle.gr_model.specs.declared.event.Word.{Word}
-use Rattle.gr_model.specs.declared.limits.TheConstants.{MOST_RECORDS}
+use Rattle.gr_model.specs.Types.{Event, Sent, ItemId, EventId, Word, MOST_RECORDS}
 use Rattle.gr_model.specs.declared.traces.TracesError.{TracesError}
 use Rattle.gr_model.specs.declared.traces.TracesError.TheVariants.{WrongCount, TooManyRecords, BadEvent, NoEnd}
 use Rattle.gr_model.specs.Access.{event_word}

@@ -1,13 +1,8 @@
 -- The unmatched acquires, found one after the other.
 use Rattle.gr_model.proofs.Common.{◌≡◌, ◌≢◌, ◌⊎◌, ℕ, ◌+◌, ◌<◌, ◌≤◌, List, [], ◌∷◌, ◌++◌, length, Some, None, refl, sym, ap, ◌∙◌, subst, inl, arith, Any, Contains, Option, get_or, common_steps, Contains-get_or}
-use Rattle.gr_model.specs.declared.event.Event.{Event}
-use Rattle.gr_model.specs.declared.event.EventId.{EventId}
-use Rattle.gr_model.specs.declared.event.ItemId.{ItemId}
-use Rattle.gr_model.specs.declared.event.Name.{Name}
-use Rattle.gr_model.specs.declared.event.Word.{Word}
+use Rattle.gr_order.specs.Types.{Event, EventId, ItemId, Name, Word, Unmatched}
 use Rattle.gr_model.specs.declared.report.AcquireCause.{AcquireCause}
 use Rattle.gr_model.specs.declared.report.AcquireCause.TheVariants.{Absent, Behind, OtherWord}
-use Rattle.gr_model.specs.declared.report.Unmatched.{Unmatched}
 use Rattle.gr_model.specs.Prelude.{HasAcquireCause, HasName, IsAbsent, IsOfItsWord, names_at, names_of, release_place, IsUnmatchedAcquire, IsUnmatchedEntry, Lists, UnmatchedBelow, ArePrefixes, Streams, event_at, size_of, word_at}
 use Rattle.gr_model.proofs.Cuts.{same_event}
 use Rattle.gr_clocks.specs.Counts.{Counts, count_of}

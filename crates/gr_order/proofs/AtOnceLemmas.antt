@@ -1,15 +1,12 @@
 -- A record that is taken and whose event is handled at once: the two steps, one after the other.
 use Rattle.gr_model.proofs.Common.{◌≡◌, ◌≢◌, ◌⊎◌, ℕ, ◌+◌, ◌<◌, false, List, [], ◌∷◌, ◌++◌, length, get_or, Some, None, drop, slice_get, not, refl, sym, ap, ◌∙◌, subst, arith, append-nil, common_steps, drop_of_length-le, length_push, slice_get-get_or, slice_get_within}
 use Rattle.std.specs.Int.{from_bool}
-use Rattle.gr_model.specs.declared.event.Event.{Event}
-use Rattle.gr_model.specs.declared.event.EventId.{EventId}
-use Rattle.gr_model.specs.declared.event.ItemId.{ItemId}
+use Rattle.gr_order.specs.Types.{Event, EventId, ItemId, LARGEST_COUNT}
 use Rattle.gr_model.specs.Prelude.{is_end, ArePrefixes, IsEvent, Streams, event_at, list_of, trace_of}
 use Rattle.gr_model.proofs.Cuts.{same_event}
 use Rattle.gr_steps.specs.Steps.{IsReady}
 use Rattle.gr_steps.proofs.Orders.{at_behind, split_last}
 use Rattle.gr_steps.proofs.StepGrowth.{lawful_grows}
-use Rattle.gr_clocks.specs.declared.clock.TheConstants.{LARGEST_COUNT}
 use Rattle.gr_clocks.specs.Counts.{Counts, IsTick, count_of}
 use Rattle.gr_lanes.specs.Takes.{CanTake, IsMereAccess, next_of, with_record}
 use Rattle.gr_lanes.proofs.Growth.{record_grows}

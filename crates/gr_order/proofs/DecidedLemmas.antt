@@ -1,7 +1,6 @@
 -- An instance to which all items came stays as it is: whether it is divergent, and why.
 use Rattle.gr_model.proofs.Common.{◌≡◌, ℕ, ◌<◌, Bool, List, Some, slice_get, filter_map, length, ap, ◌∙◌, arith, common_steps, get_or_past, filter_map-append}
-use Rattle.gr_model.specs.declared.event.Event.{Event}
-use Rattle.gr_model.specs.declared.report.DivergenceCause.{DivergenceCause}
+use Rattle.gr_order.specs.Types.{Event, DivergenceCause}
 use Rattle.gr_model.specs.declared.report.DivergenceCause.TheVariants.{Flags, Missing, Site}
 use Rattle.gr_model.specs.Prelude.{arrivals, mark_of, AreMixed, Arrivals, HasArrived, HasDivergenceCause, IsMissing, Mark, SitesDiffer, IsDivergence, Grows, Streams, is_complete, list_of, size_of, trace_of}
 use Rattle.gr_model.proofs.Causes.{cause_diverges}

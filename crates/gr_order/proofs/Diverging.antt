@@ -1,8 +1,6 @@
 -- The divergent instances, found one after the other.
 use Rattle.gr_model.proofs.Common.{ℕ, ◌+◌, ◌<◌, ◌≤◌, List, [], ◌∷◌, ◌++◌, length, filter, filter_map, arith, gets, slice_get_past}
-use Rattle.gr_model.specs.declared.event.Event.{Event}
-use Rattle.gr_model.specs.declared.report.Divergence.{Divergence}
-use Rattle.gr_model.specs.declared.report.DivergenceCause.{DivergenceCause}
+use Rattle.gr_order.specs.Types.{Event, Divergence, DivergenceCause}
 use Rattle.gr_model.specs.Prelude.{IsDivergent, arrivals, mark_of, HasDivergenceCause, DivergenceBelow, IsDivergence, Streams, is_complete, is_of, list_of, size_of}
 use Rattle.gr_model.proofs.Causes.{cause_diverges}
 use Rattle.gr_model.proofs.ListsOfRecords.{length-filter_le}

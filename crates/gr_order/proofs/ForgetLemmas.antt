@@ -1,10 +1,6 @@
 -- What is forgotten, where records are taken, events handled, and groups come.
 use Rattle.gr_model.proofs.Common.{Result, Ok, Err, ◌≡◌, ◌≢◌, ◌⊎◌, ℕ, ◌+◌, ◌<◌, ◌≤◌, List, [], ◌∷◌, ◌++◌, length, Some, get_or, set, refl, sym, ap, ◌∙◌, subst, inl, inr, ⊎_elim, arith, common_steps, cases_eq, get_or-set_other, get_or-set_same, length-set, OnErr, OnOk}
-use Rattle.gr_model.specs.declared.event.Event.{Event}
-use Rattle.gr_model.specs.declared.event.EventId.{EventId}
-use Rattle.gr_model.specs.declared.event.ItemId.{ItemId}
-use Rattle.gr_model.specs.declared.report.Divergence.{Divergence}
-use Rattle.gr_model.specs.declared.report.DivergenceCause.{DivergenceCause}
+use Rattle.gr_order.specs.Types.{Event, EventId, ItemId, Divergence, DivergenceCause}
 use Rattle.gr_model.specs.Prelude.{HasDivergenceCause, IsDivergent, arrivals, is_barrier, mark_of, CanAdd, put, IsIn, DivergenceBelow, IsDivergence, Lists, ArePrefixes, Grows, Streams, is_complete, list_of, place_of, size_of, trace_of}
 use Rattle.gr_model.specs.Groups as model
 use Rattle.gr_model.proofs.Causes.{cause_diverges, one_cause}

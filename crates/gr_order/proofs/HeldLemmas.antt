@@ -1,9 +1,7 @@
 -- What was taken is handled or held, and what is ready is held.
 use Rattle.gr_model.proofs.Common.{◌≡◌, ◌≢◌, ℕ, ◌+◌, ◌-◌, ◌<◌, ◌≤◌, cond, length, refl, subst, arith, common_steps, sum_by, ◌==◌, nat_tests, slice_get_within}
-use Rattle.gr_model.specs.declared.event.EventId.{EventId}
-use Rattle.gr_model.specs.declared.event.ItemId.{ItemId}
+use Rattle.gr_order.specs.Types.{EventId, ItemId, LARGEST_COUNT}
 use Rattle.gr_model.specs.Prelude.{IsHeld, HasItem, items_of, size_of, trace_of}
-use Rattle.gr_clocks.specs.declared.clock.TheConstants.{LARGEST_COUNT}
 use Rattle.gr_clocks.specs.Counts.{Counts, count_of, tick_at}
 use Rattle.gr_clocks.specs.Tables.{item_of}
 use Rattle.gr_steps.specs.Steps.{IsAtRest, IsReady}

@@ -1,8 +1,7 @@
 -- The next instance of a group, by the next events of its items.
 use Rattle.gr_model.proofs.Common.{Bool, IsTrue, ◌↔◌, ◌≢◌, false, sym, true, true≢false, ◌≡◌, ℕ, ◌<◌, ◌≤◌, List, Some, None, Option, length, refl, ap, ◌∙◌, subst, arith, common_steps, IsSome, MatchOption, get_or_past}
 use Rattle.std.specs.Bool.{then_some}
-use Rattle.gr_model.specs.declared.event.Event.{Event}
-use Rattle.gr_model.specs.declared.event.EventId.{EventId}
+use Rattle.gr_order.specs.Types.{Event, EventId}
 use Rattle.gr_model.specs.Prelude.{IsConvergent, StandsIn, is_barrier, mark_of, Mark, ArePrefixes, Streams, event_at, place_of, size_of, trace_of}
 use Rattle.gr_clocks.specs.Counts.{Counts, count_of}
 use Rattle.gr_clocks.specs.Tables.{item_of}

@@ -1,11 +1,9 @@
 -- An order stays one where the next events of a group's items are handled, as an instance meets.
 use Rattle.gr_model.proofs.Common.{◌≡◌, ℕ, ◌+◌, ◌<◌, ◌≤◌, List, ◌++◌, ◌∷◌, [], append_assoc, length, Some, slice_get, refl, sym, ap, ◌∙◌, subst, inl, inr, arith, common_steps, cases_eq, length-append, get_or-map-range_with_len, length-map-range_with_len, map-range_with_len_more, gets, get_or_from_slice_get, slice_get_within}
-use Rattle.gr_model.specs.declared.event.EventId.{EventId}
-use Rattle.gr_model.specs.declared.event.ItemId.{ItemId}
+use Rattle.gr_order.specs.Types.{EventId, ItemId, LARGEST_COUNT}
 use Rattle.gr_model.specs.Prelude.{StandsIn, IsIn, IsLawful, size_of, trace_of}
 use Rattle.gr_model.proofs.Places.{slice_get-append}
 use Rattle.gr_model.proofs.Cuts.{same_event}
-use Rattle.gr_clocks.specs.declared.clock.TheConstants.{LARGEST_COUNT}
 use Rattle.gr_clocks.specs.Counts.{Counts, IsTick, count_of}
 use Rattle.gr_clocks.specs.Tables.{item_of}
 use Rattle.gr_steps.specs.Steps.{AreBarriers, CanMeet}

@@ -1,11 +1,8 @@
 -- Instances and releases, by what is looked at.
 use Rattle.gr_model.proofs.Common.{Bool, Contains, IsTrue, ◌↔◌, true, true≢false, ◌≡◌, ℕ, ◌<◌, false, List, [], Some, None, refl, sym, ap, ◌∙◌, subst, arith, option_and_then, common_steps, All, MatchOption, All-contains, All-contains_itself, All-weaker}
 use Rattle.std.specs.Bool.{then_some}
-use Rattle.gr_model.specs.declared.event.Event.{Event}
+use Rattle.gr_order.specs.Types.{Event, ItemId, Name, EventId}
 use Rattle.gr_model.specs.Prelude.{IsDivergent, StandsIn, is_barrier, event_word, IsLawful, HasName, names_of, release_place, ArePrefixes, Streams, event_at, place_of, trace_of, word_at}
-use Rattle.gr_model.specs.declared.event.ItemId.{ItemId}
-use Rattle.gr_model.specs.declared.event.Name.{Name}
-use Rattle.gr_model.specs.declared.event.EventId.{EventId}
 use Rattle.gr_model.proofs.Cuts.{same_event}
 use Rattle.gr_steps.proofs.BarrierPlaces.{barrier_there, same_instance}
 use Rattle.gr_steps.specs.Steps.{CanHandle, IsReady}

@@ -3,8 +3,7 @@ use Rattle.gr_model.proofs.Common.{ℕ, ◌<◌, ◌≤◌, length, sym, subst, 
 use Rattle.gr_steps.specs.Steps.{CanHandle, IsAtRest}
 use Rattle.gr_steps.proofs.Resting.{rest_grounded}
 use Rattle.gr_steps.proofs.EventRecords.{group_of_event, item_of_event}
-use Rattle.gr_order.specs.declared.steps.Ready.{Ready}
-use Rattle.gr_order.specs.declared.steps.Ready.TheVariants.{Item, Group}
+use Rattle.gr_order.specs.Types.{Ready, Item, Group}
 use Rattle.gr_order.specs.Answers.{CanMake}
 use Rattle.gr_order.specs.Sequences.{IsDone, IsGroupAtRest, IsSequence, Sequence}
 use Rattle.gr_order.proofs.MeetLemmas.{no_group_meets}

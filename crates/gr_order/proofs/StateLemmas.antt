@@ -2,9 +2,7 @@
 use Rattle.gr_model.proofs.Common.{◌≡◌, ◌⊎◌, ℕ, ◌+◌, ◌<◌, List, [], ◌∷◌, ◌++◌, length, get_or, Some, refl, sym, ap, ◌∙◌, subst, inl, inr, arith, common_steps, not, length_push, sum_by-le}
 use Rattle.std.specs.Int.{from_bool}
 use Rattle.gr_model.specs.Prelude.{is_end, ArePrefixes, Streams, IsIn, IsLawful, HasItem, items_of}
-use Rattle.gr_model.specs.declared.event.Event.{Event}
-use Rattle.gr_model.specs.declared.event.EventId.{EventId}
-use Rattle.gr_model.specs.declared.event.ItemId.{ItemId}
+use Rattle.gr_order.specs.Types.{Event, EventId, ItemId}
 use Rattle.gr_steps.proofs.StepGrowth.{lawful_grows}
 use Rattle.gr_steps.proofs.Handling.{lawful_handle}
 use Rattle.gr_steps.proofs.NextEvents.{ready_is_next}

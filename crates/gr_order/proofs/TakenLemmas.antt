@@ -1,9 +1,7 @@
 -- How many events were taken: of each item, of each group, and in all.
 use Rattle.gr_model.proofs.Common.{◌≡◌, ℕ, zero, suc, ◌+◌, ◌*◌, ◌<◌, ◌≤◌, Bool, not, List, [], ◌∷◌, length, filter, map, Some, slice_get, refl, ap, ◌∙◌, arith, common_steps, sum_by, eq-eqb, ne_eqb, length-append, filter-append, sum_by-cons, sum_by-set}
 use Rattle.std.specs.Int.{from_bool}
-use Rattle.gr_model.specs.declared.event.Event.{Event}
-use Rattle.gr_model.specs.declared.event.ItemId.{ItemId}
-use Rattle.gr_model.specs.declared.limits.TheConstants.{MOST_GROUPS, MOST_RECORDS}
+use Rattle.gr_order.specs.Types.{Event, ItemId, MOST_GROUPS, MOST_RECORDS}
 use Rattle.gr_model.specs.Prelude.{is_end, items_of, ArePrefixes, Streams, is_of, list_of, size_of, trace_of}
 use Rattle.gr_model.proofs.ListsOfRecords.{length-filter_le}
 use Rattle.gr_lanes.specs.Takes.{CanTake, nothing_taken, with_record}

@@ -1,9 +1,7 @@
 -- The events that wait, where a record is taken, and where events are handled.
 use Rattle.gr_model.proofs.Common.{◌≡◌, ℕ, ◌+◌, ◌-◌, false, List, [], ◌∷◌, ◌++◌, length, slice_get, Option, drop, take, filter, sym, ap, ◌∙◌, subst, arith, append-nil, common_steps, nat_tests, drop-append-le}
 use Rattle.std.proofs.Math.ListN.{get_or-map}
-use Rattle.gr_model.specs.declared.event.Event.{Event}
-use Rattle.gr_model.specs.declared.event.EventId.{EventId}
-use Rattle.gr_model.specs.declared.event.ItemId.{ItemId}
+use Rattle.gr_order.specs.Types.{Event, EventId, ItemId}
 use Rattle.gr_model.specs.Prelude.{is_end, ArePrefixes, Streams, event_at, is_of, trace_of}
 use Rattle.gr_clocks.specs.Counts.{Counts, IsTick, count_of}
 use Rattle.gr_clocks.specs.Tables.{item_of}

@@ -1,10 +1,6 @@
 -- Which acquires are found unmatched, where the grounded events of each item are known by their number.
 use Rattle.std.specs.Prelude.{◌≡◌, ◌≢◌, ◌⊎◌, ◌↔◌, ℕ, ◌<◌, List, Option, Some}
-use Rattle.gr_model.specs.declared.event.EventId.{EventId}
-use Rattle.gr_model.specs.declared.event.ItemId.{ItemId}
-use Rattle.gr_model.specs.declared.event.Name.{Name}
-use Rattle.gr_model.specs.declared.event.Word.{Word}
-use Rattle.gr_model.specs.declared.report.Unmatched.{Unmatched}
+use Rattle.gr_order.specs.Types.{EventId, ItemId, Name, Word, Unmatched}
 use Rattle.gr_model.specs.Prelude.{release_place, IsUnmatchedEntry, Lists, UnmatchedBelow, Streams, word_at, IsGrounded}
 use Rattle.gr_clocks.specs.Counts.{Counts, count_of}
 

@@ -1,11 +1,8 @@
 -- Which step can be made, and why none was.
 use Rattle.std.specs.Prelude.{ℕ}
-use Rattle.gr_model.specs.declared.event.ItemId.{ItemId}
+use Rattle.gr_order.specs.Types.{ItemId, NotReady, Memory, Ready, Item, Group}
 use Rattle.gr_steps.specs.Steps.{CanHandle, CanMeet}
 use Rattle.gr_order.specs.declared.go_error.GoError.{GoError}
-use Rattle.gr_order.specs.declared.go_error.GoError.TheVariants.{NotReady, Memory}
-use Rattle.gr_order.specs.declared.steps.Ready.{Ready}
-use Rattle.gr_order.specs.declared.steps.Ready.TheVariants.{Item, Group}
 use Rattle.gr_order.specs.Sequences.{Sequence}
 
 -- a step can be made

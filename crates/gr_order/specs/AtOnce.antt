@@ -1,8 +1,7 @@
 -- Which records' events can be handled as soon as they are taken.
 -- Source: docs/MODEL.md, "Steps".
 use Rattle.std.specs.Prelude.{◌≡◌, ◌≢◌, ℕ, []}
-use Rattle.gr_model.specs.declared.event.Event.{Event}
-use Rattle.gr_model.specs.declared.event.EventId.{EventId}
+use Rattle.gr_order.specs.Types.{Event, EventId}
 use Rattle.gr_model.specs.Prelude.{IsIn, IsEvent, list_of}
 use Rattle.gr_lanes.specs.Takes.{CanTake, IsMereAccess, next_of}
 use Rattle.gr_order.specs.Sequences.{Sequence}

@@ -1,8 +1,7 @@
 -- Which instances of barriers are forgotten.
 -- Source: docs/MODEL.md, "Barriers".
 use Rattle.std.specs.Prelude.{◌≡◌, ◌⊎◌, ℕ, ◌<◌, List, Some}
-use Rattle.gr_model.specs.declared.event.EventId.{EventId}
-use Rattle.gr_model.specs.declared.report.Divergence.{Divergence}
+use Rattle.gr_order.specs.Types.{EventId, Divergence}
 use Rattle.gr_model.specs.Prelude.{IsDivergent, is_barrier, IsIn, IsDivergence, Streams, place_of, size_of}
 use Rattle.gr_clocks.specs.Counts.{Counts, count_of}
 use Rattle.gr_lanes.specs.Remembered.{AreDecided, Remembered, deciding, forgetting, forgotten_of}

@@ -6,3 +6,4 @@ pub mod Waiting
 pub mod AtOnce
 pub mod Forgetting
 pub mod Acquires
+pub mod Types

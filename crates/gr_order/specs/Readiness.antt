@@ -1,8 +1,6 @@
 -- What decides whether an item's next event may be handled.
 use Rattle.std.specs.Prelude.{◌≡◌, ℕ, ◌<◌, ◌⊎◌, All, Option, None, Some}
-use Rattle.gr_model.specs.declared.event.Event.{Event}
-use Rattle.gr_model.specs.declared.event.EventId.{EventId}
-use Rattle.gr_model.specs.declared.event.Name.{Name}
+use Rattle.gr_order.specs.Types.{Event, EventId, Name}
 use Rattle.gr_model.specs.Prelude.{event_word, IsDivergent, StandsIn, arrivals, is_barrier, Mark, release_place, Streams, place_of, size_of, word_at}
 use Rattle.gr_clocks.specs.Counts.{Counts, count_of}
 

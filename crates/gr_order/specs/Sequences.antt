@@ -2,9 +2,7 @@
 -- Source: docs/MODEL.md, "Steps".
 use Rattle.std.specs.Prelude.{◌≡◌, ℕ, ◌<◌, ◌⊎◌, List, [], length, filter, not}
 use Rattle.std.specs.List.{sum_by}
-use Rattle.gr_model.specs.declared.event.Event.{Event}
-use Rattle.gr_model.specs.declared.event.EventId.{EventId}
-use Rattle.gr_model.specs.declared.event.ItemId.{ItemId}
+use Rattle.gr_order.specs.Types.{Event, EventId, ItemId}
 use Rattle.gr_model.specs.Prelude.{is_end, Mark, Streams, ArePrefixes, size_of, IsLawful}
 use Rattle.gr_model.specs.Groups as model
 use Rattle.gr_lanes.specs.Takes.{nothing_taken, with_record}

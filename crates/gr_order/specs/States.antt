@@ -1,8 +1,7 @@
 -- How an order knows which events were handled: it counts those of each item.
 use Rattle.std.specs.Prelude.{◌≡◌, ◌↔◌, ℕ, ◌+◌, ◌<◌, List, length, map}
 use Rattle.std.specs.List.{range_with_len, sum_by}
-use Rattle.gr_model.specs.declared.event.EventId.{EventId}
-use Rattle.gr_model.specs.declared.event.ItemId.{ItemId}
+use Rattle.gr_order.specs.Types.{EventId, ItemId}
 use Rattle.gr_model.specs.Prelude.{IsIn, items_of}
 use Rattle.gr_clocks.specs.Counts.{Counts, count_of, sizes_of}
 use Rattle.gr_clocks.specs.Tables.{IsBeyond, item_of}

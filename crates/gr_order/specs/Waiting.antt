@@ -1,8 +1,6 @@
 -- What is kept of a record that is taken.
 use Rattle.std.specs.Prelude.{◌≡◌, ℕ, Bool, List, [], ◌∷◌, ◌++◌, length, map, if◌then◌else◌, ◌==◌, ◌&&◌}
-use Rattle.gr_model.specs.declared.event.Event.{Event}
-use Rattle.gr_model.specs.declared.event.ItemId.{ItemId}
-use Rattle.gr_model.specs.declared.event.EventId.{EventId}
+use Rattle.gr_order.specs.Types.{Event, ItemId, EventId}
 use Rattle.gr_model.specs.Prelude.{is_of}
 use Rattle.gr_lanes.specs.Remembered.{Remembered}
 use Rattle.gr_clocks.specs.Counts.{Counts}

@@ -5,9 +5,8 @@
 //! ones among these instances are kept. The order itself exists only in proofs: no memory holds it, and no step needs any.
 
 ghost use Rattle.std.specs.Prelude.{[], ◌≡◌, ◌+◌, ◌<◌, IsOkUnless, IfOk, IfErr, IfSome, OnOk, MatchOption, OnErr, length, IsTrue, ◌↔◌};
-ghost use Rattle.gr_model.specs.declared.limits.TheConstants.{MOST_RECORDS};
+ghost use Rattle.gr_order.specs.Types.{MOST_RECORDS, NotReady};
 ghost use Rattle.gr_model.specs.Prelude.{IsHeld, AreComplete, event_at, list_of, Mark, CanAdd};
-ghost use Rattle.gr_order.specs.declared.go_error.GoError.TheVariants.{NotReady};
 ghost use Rattle.gr_lanes.specs.Takes.{CanTake, IsEventButItem, IsTakeFault, next_of, nothing_taken, with_record};
 ghost use Rattle.gr_steps.specs.Steps.{CanHandle, CanMeet, IsAtRest, IsMeeting, IsReady};
 ghost use Rattle.gr_order.specs.Answers.{CanMake, IsHandleFault, IsMeetFault};

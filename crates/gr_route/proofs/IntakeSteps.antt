@@ -1,13 +1,10 @@
 -- The steps of an intake queue, and what its seats tell.
 use Rattle.gr_model.proofs.Common.{◌≡◌, ℕ, ◌<◌, List, [], ◌∷◌, ◌++◌, length, sym, refl, ◌∙◌, subst, arith, slice_index, All, All-contains, Contains-push}
 use Rattle.crossbeam_queue.specs.Fifo as queue
-use Rattle.gr_model.specs.declared.event.Event.{Event}
-use Rattle.gr_model.specs.declared.event.Sent.{Sent}
+use Rattle.gr_route.specs.Types.{Event, Sent, Joined, SeatView}
 use Rattle.gr_model.specs.Prelude.{IsPrefix, events_of}
 use Rattle.gr_model.proofs.Sending.{events_append, events_here}
 use Rattle.gr_model.proofs.StreamPrefixes.{prefix_prefix, prefix_nil, next_ok, next_unended, next_room}
-use Rattle.gr_route.specs.declared.rule.Joined.{Joined}
-use Rattle.gr_route.specs.declared.rule.SeatView.{SeatView}
 use Rattle.gr_route.specs.IntakeRule.{SeatsAgree}
 use Rattle.gr_route.specs.IntakeSeats.{IsDelivery as IsTakerDelivery, IsNextPopped, Taker, taker_seen}
 use Rattle.gr_route.specs.Rule.{BatchesAgree, IsDelivered, IsDelivery, PassOf, after_split, seat_of, taker_of}

@@ -5,8 +5,7 @@ use mathlib.Core.Option as seat
 use native.Mathlib.Decide.{ℕ_discrete}
 use Rattle.crossbeam_queue.specs.Fifo as queue
 use Rattle.crossbeam_queue.specs.Passes.{IsSamePass, view}
-use Rattle.gr_route.specs.declared.rule.Joined.{Joined}
-use Rattle.gr_route.specs.declared.rule.SeatView.{SeatView}
+use Rattle.gr_route.specs.Types.{Joined, SeatView}
 use Rattle.gr_route.specs.Batches.{all_of, front}
 use Rattle.gr_route.specs.Prefixes.{EndsWith}
 use Rattle.gr_route.specs.Rooms.{AgreesWith}

@@ -2,10 +2,7 @@
 use Rattle.gr_model.proofs.Common.{arith, nat_tests, ◌≡◌, ◌<◌, ℕ, zero, suc, Bool, true, false, List, [], ◌∷◌, ◌++◌, Some, sym, refl, ap, ◌∙◌, subst, append-nil, slice_index, length, set, All, All-head, All-tail, All-weaker, IsTrue, IsFalse, IfSome, ◌≢◌}
 use Rattle.crossbeam_queue.specs.Fifo as queue
 use Rattle.crossbeam_queue.specs.Passes.{IsSamePass, view}
-use Rattle.gr_route.specs.declared.rule.Joined.{Joined}
-use Rattle.gr_route.specs.declared.rule.SeatView.{SeatView}
-use Rattle.gr_route.specs.declared.work.Work.{Work}
-use Rattle.gr_route.specs.declared.work.Work.TheVariants.{Access, Stop}
+use Rattle.gr_route.specs.Types.{Joined, SeatView, Work, Access, Stop}
 use Rattle.gr_route.specs.Batches.{all_of, front}
 use Rattle.gr_route.specs.Prefixes.{StartsWith}
 use Rattle.gr_route.specs.Rooms.{AgreesWith}

@@ -1,8 +1,7 @@
 -- What goes through a queue in one step, and what waits before the queue or is left after it.
 -- Source: docs/QUEUES.md, "Batches".
 use Rattle.std.specs.Prelude.{◌-◌, ℕ, List, [], ◌∷◌, ◌++◌, length, map, take, Option, None, Some, Vec}
-use Rattle.gr_model.specs.declared.event.Event.{Event}
-use Rattle.gr_model.specs.declared.event.Sent.{Sent}
+use Rattle.gr_route.specs.Types.{Event, Sent}
 use Rattle.gr_route.specs.declared.batch.Content.{Content}
 use Rattle.gr_route.specs.declared.batch.Content.TheVariants.{One, Several}
 

@@ -1,11 +1,8 @@
 -- The rule of an intake queue: what is sent of a work-group is the prefix of a stream.
 -- Source: docs/QUEUES.md, "The intake queue".
 use Rattle.std.specs.Prelude.{ℕ, List, replicate}
-use Rattle.gr_model.specs.declared.event.Event.{Event}
-use Rattle.gr_model.specs.declared.event.Sent.{Sent}
-use Rattle.gr_model.specs.declared.limits.TheConstants.{MOST_GROUPS}
+use Rattle.gr_route.specs.Types.{Event, Sent, MOST_GROUPS, SeatView}
 use Rattle.gr_model.specs.Prelude.{IsPrefix, events_of}
-use Rattle.gr_route.specs.declared.rule.SeatView.{SeatView}
 use Rattle.gr_route.specs.Rule as rule
 
 -- no group has had a seat

@@ -3,11 +3,8 @@
 use Rattle.std.specs.Prelude.{◌<◌, ◌≢◌, ℕ, List, ◌++◌, length, slice_index, IsFalse}
 use Rattle.atomic_table.specs.Seated.{TableId}
 use Rattle.crossbeam_queue.specs.Passes.{view}
-use Rattle.gr_model.specs.declared.event.Event.{Event}
-use Rattle.gr_model.specs.declared.event.Sent.{Sent}
-use Rattle.gr_model.specs.declared.limits.TheConstants.{MOST_RECORDS}
+use Rattle.gr_route.specs.Types.{Event, Sent, MOST_RECORDS, Joined}
 use Rattle.gr_model.specs.Prelude.{IsEventOk, IsPrefix, events_of, is_complete}
-use Rattle.gr_route.specs.declared.rule.Joined.{Joined}
 use Rattle.gr_route.specs.Batches.{front}
 use Rattle.gr_route.specs.Prefixes.{EndsWith}
 use Rattle.gr_route.specs.Rooms.{AgreesWith}

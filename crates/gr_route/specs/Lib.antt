@@ -6,3 +6,4 @@ pub mod Rooms
 pub mod Rule
 pub mod WorkRule
 pub mod WorkSeats
+pub mod Types

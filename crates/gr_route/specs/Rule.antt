@@ -6,8 +6,7 @@ use Rattle.std.specs.List.{All}
 use mathlib.Core.Option as seat
 use lib.ListN.{get_elem?}
 use Rattle.crossbeam_queue.specs.Passes.{Pass, view}
-use Rattle.gr_route.specs.declared.rule.Joined.{Joined}
-use Rattle.gr_route.specs.declared.rule.SeatView.{SeatView}
+use Rattle.gr_route.specs.Types.{Joined, SeatView}
 use Rattle.gr_route.specs.Batches.{all_of, front}
 use Rattle.gr_route.specs.Prefixes.{StartsWith}
 use Rattle.gr_route.specs.Rooms.{AgreesWith}

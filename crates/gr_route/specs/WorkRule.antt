@@ -1,10 +1,7 @@
 -- The rule of a work queue: all work is of group 0, and `Stop` comes last in what is sent if at all.
 -- Source: docs/QUEUES.md, "The work queue".
 use Rattle.std.specs.Prelude.{◌≡◌, ℕ, ◌==◌, Bool, true, false, List, [], ◌∷◌, ◌||◌, Option, Some, None, IsTrue, if◌then◌else◌, ⊤}
-use Rattle.gr_route.specs.declared.work.Work.{Work}
-use Rattle.gr_route.specs.declared.work.Work.TheVariants.{Access, Stop}
-use Rattle.gr_route.specs.declared.rule.Joined.{Joined}
-use Rattle.gr_route.specs.declared.rule.SeatView.{SeatView}
+use Rattle.gr_route.specs.Types.{Work, Access, Stop, Joined, SeatView}
 use Rattle.gr_route.specs.Prefixes.{StartsWith}
 use Rattle.gr_route.specs.Rule as rule
 

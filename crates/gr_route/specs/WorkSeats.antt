@@ -3,8 +3,7 @@
 use Rattle.std.specs.Prelude.{◌≡◌, Bool, false, List, [], ◌++◌, Option, IfSome}
 use Rattle.atomic_table.specs.Seated.{TableId}
 use Rattle.crossbeam_queue.specs.Passes.{view}
-use Rattle.gr_route.specs.declared.rule.Joined.{Joined}
-use Rattle.gr_route.specs.declared.work.Work.{Work}
+use Rattle.gr_route.specs.Types.{Joined, Work}
 use Rattle.gr_route.specs.Batches.{front}
 use Rattle.gr_route.specs.Prefixes.{EndsWith, StartsWith}
 use Rattle.gr_route.specs.Rooms.{AgreesWith}

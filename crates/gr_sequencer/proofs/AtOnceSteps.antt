@@ -1,9 +1,6 @@
 -- What is known where an event that names nothing is handled as soon as its record is taken.
 use Rattle.gr_model.proofs.Common.{arith, ◌≡◌, ℕ, ◌<◌, length, [], ◌∷◌, ◌++◌, false, refl, ap, ◌∙◌}
-use Rattle.gr_model.specs.declared.event.Event.{Event}
-use Rattle.gr_model.specs.declared.event.EventId.{EventId}
-use Rattle.gr_model.specs.declared.event.Space.{Space}
-use Rattle.gr_model.specs.declared.limits.TheConstants.{MOST_RECORDS}
+use Rattle.gr_sequencer.specs.Types.{Event, EventId, Space, MOST_RECORDS}
 use Rattle.gr_model.specs.Prelude.{is_release, Sees, Streams, event_at, list_of}
 use Rattle.gr_steps.specs.Steps.{IsReady}
 use Rattle.gr_steps.proofs.StepGrowth.{lawful_grows}

@@ -1,15 +1,10 @@
 -- What is known where an event is handled.
 use Rattle.gr_order.proofs.StateLemmas.{item_cases}
 use Rattle.gr_model.proofs.Common.{◌≡◌, ◌≢◌, ◌↔◌, ℕ, ◌+◌, ◌<◌, max, All, List, [], ◌∷◌, ◌++◌, Some, IsTrue, map, refl, ◌∙◌, inl, ⊎_elim, arith, map-id}
-use Rattle.gr_model.specs.declared.event.Event.{Event}
-use Rattle.gr_model.specs.declared.event.EventId.{EventId}
-use Rattle.gr_model.specs.declared.event.ItemId.{ItemId}
-use Rattle.gr_model.specs.declared.event.Space.{Space}
-use Rattle.gr_model.specs.declared.event.Space.TheVariants.{Global}
+use Rattle.gr_sequencer.specs.Types.{Event, EventId, ItemId, Space, Global, LARGEST_COUNT}
 use Rattle.gr_model.specs.Prelude.{is_release, memory_of, Sees, IsIn, HasItem, Streams, event_at, for_release}
 use Rattle.gr_steps.specs.Steps.{Handles}
 use Rattle.gr_steps.proofs.EventRecords.{group_of_event, item_of_event}
-use Rattle.gr_clocks.specs.declared.clock.TheConstants.{LARGEST_COUNT}
 use Rattle.gr_clocks.specs.Counts.{Counts, IsJoinOfAll, count_of, greatest_count, tick_at}
 use Rattle.gr_clocks.specs.ItemClocks.{Acquires, AreSpent, IsSpent, ItemClocks, ReleaseClock, Ticks, clock_in, clocks_left}
 use Rattle.gr_clocks.proofs.JoinLemmas.{joined_none}

@@ -1,14 +1,10 @@
 -- What is known where an instance meets.
 use Rattle.gr_model.proofs.Common.{◌≡◌, ◌≢◌, ◌↔◌, ℕ, zero, suc, ◌+◌, ◌<◌, Bool, true, false, List, ◌++◌, map, length, refl, ◌∙◌, ⊎_elim, arith, cases_eq, slice_index}
-use Rattle.gr_model.specs.declared.event.EventId.{EventId}
-use Rattle.gr_model.specs.declared.event.ItemId.{ItemId}
-use Rattle.gr_model.specs.declared.event.Space.{Space}
-use Rattle.gr_model.specs.declared.event.Space.TheVariants.{Global}
+use Rattle.gr_sequencer.specs.Types.{EventId, ItemId, Space, Global, LARGEST_COUNT}
 use Rattle.gr_model.specs.Prelude.{StandsIn, Sees, Mark, flags, IsLawful, HasItem, ArePrefixes, Streams, size_of}
 use Rattle.gr_steps.specs.Steps.{AreBarriers, IsMeeting, Meets}
 use Rattle.gr_steps.proofs.BarrierPlaces.{barrier_of, barrier_there}
 use Rattle.gr_steps.proofs.EventRecords.{group_of_event, item_of_event}
-use Rattle.gr_clocks.specs.declared.clock.TheConstants.{LARGEST_COUNT}
 use Rattle.gr_clocks.specs.Counts.{count_of, tick_at}
 use Rattle.gr_clocks.specs.ItemClocks.{IsGroupSpent, ItemClocks, MeetsClocks, clock_in, clocks_in, orders}
 use Rattle.gr_clocks.specs.Tables.{JoinsGroup, MeetsGroup, clock_at, greatest, item_of}

@@ -1,9 +1,6 @@
 -- What is known where a record is taken, and where a group comes.
 use Rattle.gr_model.proofs.Common.{◌≡◌, ◌≢◌, ◌⊎◌, inl, inr, ◌↔◌, ℕ, ◌<◌, List, refl, ap, ◌∙◌, arith, cases_eq}
-use Rattle.gr_model.specs.declared.event.Event.{Event}
-use Rattle.gr_model.specs.declared.event.EventId.{EventId}
-use Rattle.gr_model.specs.declared.event.ItemId.{ItemId}
-use Rattle.gr_model.specs.declared.event.Space.{Space}
+use Rattle.gr_sequencer.specs.Types.{Event, EventId, ItemId, Space}
 use Rattle.gr_model.specs.Prelude.{IsIn, IsLawful, HasItem, CanAdd, put, with_group, ArePrefixes, Grows, Streams}
 use Rattle.gr_model.proofs.GroupLaws.{group_grows, item_was, nothing_came, size_now}
 use Rattle.gr_model.proofs.GrowthLaws.{event_grows, word_grows}

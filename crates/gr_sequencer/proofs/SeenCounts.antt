@@ -1,11 +1,8 @@
 -- What an event that is next in its item sees, as a count: what its item knows or it learns, and one more of its item.
 use Rattle.gr_model.proofs.Common.{◌≡◌, ◌⊎◌, ◌↔◌, ℕ, ◌+◌, ◌<◌, max, List, refl, arith, count_by-le-length, length-filter, slice_get_within}
-use Rattle.gr_model.specs.declared.event.EventId.{EventId}
-use Rattle.gr_model.specs.declared.event.ItemId.{ItemId}
-use Rattle.gr_model.specs.declared.event.Space.{Space}
+use Rattle.gr_sequencer.specs.Types.{EventId, ItemId, Space, LARGEST_COUNT}
 use Rattle.gr_model.specs.Prelude.{Sees, IsIn, ArePrefixes, IsEvent, Streams, is_of, list_of, trace_of}
 use Rattle.gr_steps.proofs.EventRecords.{group_of_event}
-use Rattle.gr_clocks.specs.declared.clock.TheConstants.{LARGEST_COUNT}
 use Rattle.gr_model.proofs.Cuts.{same_event}
 use Rattle.gr_clocks.specs.Counts.{tick_at}
 use Rattle.gr_clocks.proofs.RowLemmas.{same_items, same_item_self}

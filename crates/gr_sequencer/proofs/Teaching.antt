@@ -1,10 +1,7 @@
 -- What an event learns from the releases that it names.
 use mathlib.Core.List.{map-map}
 use Rattle.gr_model.proofs.Common.{◌≡◌, ◌≢◌, ◌⊎◌, ◌↔◌, ℕ, ◌+◌, ◌<◌, ◌≤◌, All, Contains, List, [], ◌∷◌, ◌++◌, length, get_or, map, take, Some, IsTrue, refl, ◌∙◌, ⊎_elim, suc, arith, All-push, Contains-append_left, Contains-push, Contains-push_cases, length-append, take-suc}
-use Rattle.gr_model.specs.declared.event.Event.{Event}
-use Rattle.gr_model.specs.declared.event.EventId.{EventId}
-use Rattle.gr_model.specs.declared.event.Name.{Name}
-use Rattle.gr_model.specs.declared.event.Space.{Space}
+use Rattle.gr_sequencer.specs.Types.{Event, EventId, Name, Space}
 use Rattle.gr_model.specs.Prelude.{inclusive, is_release, memory_of, IsInclusive, IsIn, MatchesBy, release_place, Streams, event_at, word_at, for_release}
 use Rattle.gr_model.proofs.Places.{places_from-there}
 use Rattle.gr_model.proofs.Cuts.{same_event}

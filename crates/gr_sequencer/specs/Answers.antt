@@ -1,11 +1,9 @@
 -- What a sequencer gives for a step.
 -- Source: docs/MODEL.md, "Steps".
 use Rattle.std.specs.Prelude.{◌≡◌, ℕ}
-use Rattle.gr_model.specs.declared.event.ItemId.{ItemId}
+use Rattle.gr_sequencer.specs.Types.{ItemId, Handled, One, Meet}
 use Rattle.gr_order.specs.Sequences.{Sequence, HandlesEvent, MeetsInstance}
 use Rattle.gr_closure.specs.Accesses.{IsAccessOf}
-use Rattle.gr_sequencer.specs.declared.handled.Handled.{Handled}
-use Rattle.gr_sequencer.specs.declared.handled.Handled.TheVariants.{One, Meet}
 
 -- the step leads from old to new: an event was handled and its access is given, or an instance has met
 abbrev pub IsStep : {Z : Type 0} → Sequence → Sequence → Handled Z → Type 0

@@ -2,10 +2,7 @@
 -- Source: docs/MODEL.md, "Clocks".
 use Rattle.std.specs.Prelude.{◌≡◌, ◌⊎◌, ℕ, Bool, List, [], Option, Some, None, IsTrue, map, length}
 use Rattle.std.specs.Map.{lookup}
-use Rattle.gr_model.specs.declared.event.Space.{Space}
-use Rattle.gr_model.specs.declared.event.ItemId.{ItemId}
-use Rattle.gr_model.specs.declared.event.EventId.{EventId}
-use Rattle.gr_model.specs.declared.event.Event.{Event}
+use Rattle.gr_sequencer.specs.Types.{Space, ItemId, EventId, Event}
 use Rattle.gr_model.specs.contracts.event.EventIdPartialEq.TheImpl as equality
 use Rattle.gr_model.specs.Prelude.{is_release, memory_of, Sees, IsIn, IsLawful, HasItem, Streams, ArePrefixes, event_at, word_at}
 use Rattle.gr_lanes.specs.Takes.{with_record}

@@ -1,3 +1,4 @@
 pub mod Answers
 pub mod Known
 pub mod Sources
+pub mod Types

@@ -1,9 +1,7 @@
 -- What an event learns from the releases that it names.
 -- Source: docs/MODEL.md, "Clocks".
 use Rattle.std.specs.Prelude.{◌≡◌, ◌≢◌, ◌↔◌, ◌<◌, All, List, [], Option, None, Some}
-use Rattle.gr_model.specs.declared.event.EventId.{EventId}
-use Rattle.gr_model.specs.declared.event.Name.{Name}
-use Rattle.gr_model.specs.declared.event.Space.{Space}
+use Rattle.gr_sequencer.specs.Types.{EventId, Name, Space}
 use Rattle.gr_model.specs.Prelude.{memory_of, Sees, IsInclusive, MatchesBy, Streams, word_at}
 use Rattle.gr_clocks.specs.Counts.{greatest_count}
 use Rattle.gr_clocks.specs.ItemClocks.{ReleaseClock, clocks_left}

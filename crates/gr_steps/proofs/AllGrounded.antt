@@ -1,9 +1,7 @@
 -- Where no acquire is unmatched in complete lists, every event is grounded.
 -- Of each item the first event that is not would be a barrier of a convergent instance. One with the least number would have met: each other item of its group is at a barrier of the same instance, or has passed what is before it.
 use Rattle.gr_model.proofs.Common.{◌≡◌, ℕ, zero, suc, ◌<◌, List, refl, sym, subst, ⊎_elim, arith, slice_get_within}
-use Rattle.gr_model.specs.declared.event.EventId.{EventId}
-use Rattle.gr_model.specs.declared.event.ItemId.{ItemId}
-use Rattle.gr_model.specs.declared.event.Name.{Name}
+use Rattle.gr_steps.specs.Types.{EventId, ItemId, Name}
 use Rattle.gr_model.specs.Prelude.{StandsIn, Together, Mark, IsIn, HasName, IsUnmatchedAcquire, AreComplete, IsEvent, Streams, trace_of, IsGrounded, IsPrevious, Stage, Waits, for_arrival, for_meeting, for_previous, for_release}
 use Rattle.gr_model.proofs.Descent.{below_in_item, stage_descends}
 use Rattle.gr_steps.proofs.BarrierPlaces.{barrier_there, moved, standing, stands_before, stands_same, meets_in, meets_none}

@@ -1,7 +1,6 @@
 -- The places of the elements that pass a test, and so the barriers of an item: each has one number, and a later one a greater.
 use Rattle.gr_model.proofs.Common.{◌≡◌, ℕ, suc, ◌+◌, ◌<◌, Bool, true, false, cond, List, [], ◌∷◌, Some, None, slice_get, refl, sym, ◌∙◌, arith}
-use Rattle.gr_model.specs.declared.event.Event.{Event}
-use Rattle.gr_model.specs.declared.event.EventId.{EventId}
+use Rattle.gr_steps.specs.Types.{Event, EventId}
 use Rattle.gr_model.specs.Prelude.{IsConvergent, IsDivergent, StandsIn, Together, is_barrier, mark_of, Mark, Streams, event_at, places_from, size_of, trace_of}
 use Rattle.gr_model.proofs.GrowthLaws.{not_both}
 use Rattle.gr_model.proofs.Places.{filter_map-place, places_from-there}

@@ -1,7 +1,6 @@
 -- In complete lists every instance is settled, and it can be decided whether an event has its releases and whether all that it waits for is of a set.
 use Rattle.gr_model.proofs.Common.{◌≡◌, ◌⊎◌, ℕ, ◌<◌, ◌≤◌, Some, None, refl, sym, inl, inr, ⊎_elim, arith, cases_lt, get_or_past}
-use Rattle.gr_model.specs.declared.event.EventId.{EventId}
-use Rattle.gr_model.specs.declared.event.Name.{Name}
+use Rattle.gr_steps.specs.Types.{EventId, Name}
 use Rattle.gr_model.specs.Prelude.{IsConvergent, IsDivergent, StandsIn, Together, arrivals, mark_of, Mark, HasItsReleases, HasName, MatchesBy, names_at, release_place, AreComplete, Streams, size_of, trace_of, word_at, IsPrevious, Waits, for_arrival, for_meeting, for_previous, for_release}
 use Rattle.gr_model.proofs.Places.{place-filter_map}
 use Rattle.gr_model.proofs.Cuts.{same_event}

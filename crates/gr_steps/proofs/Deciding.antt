@@ -1,7 +1,6 @@
 -- What can be decided of numbers, words, marks and events, of all numbers below a bound, and of all elements of a list.
 use Rattle.gr_model.proofs.Common.{◌≡◌, ◌⊎◌, ℕ, zero, suc, ◌<◌, List, [], ◌∷◌, Contains, Option, Some, refl, inl, inr, ⊎_elim, arith}
-use Rattle.gr_model.specs.declared.event.EventId.{EventId}
-use Rattle.gr_model.specs.declared.event.Word.{Word}
+use Rattle.gr_steps.specs.Types.{EventId, Word}
 use Rattle.gr_model.specs.Prelude.{IsIn}
 use Rattle.gr_steps.proofs.Orders.{in_cases, in_either}
 

@@ -1,8 +1,6 @@
 -- The record of an event is in its group's list; a name is that of one release, and a barrier has none.
 use Rattle.gr_model.proofs.Common.{◌≡◌, ℕ, suc, ◌<◌, Bool, true, List, [], ◌∷◌, length, Contains, Some, slice_get, filter, arith, and_parts, nat_tests, slice_get_past, get_or_past}
-use Rattle.gr_model.specs.declared.event.Event.{Event}
-use Rattle.gr_model.specs.declared.event.EventId.{EventId}
-use Rattle.gr_model.specs.declared.event.Name.{Name}
+use Rattle.gr_steps.specs.Types.{Event, EventId, Name}
 use Rattle.gr_model.specs.Prelude.{is_barrier, MatchesBy, ArePrefixes, IsEvent, Streams, event_at, is_of, list_of, size_of}
 use Rattle.gr_model.proofs.Cuts.{same_event}
 

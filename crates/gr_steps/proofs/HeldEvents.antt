@@ -1,7 +1,6 @@
 -- How many events are held where no step is left.
 use Rattle.gr_model.proofs.Common.{ℕ, zero, suc, ◌-◌, ◌<◌, ◌≤◌, List, length, arith, refl, sum_by, slice_get_within}
-use Rattle.gr_model.specs.declared.event.EventId.{EventId}
-use Rattle.gr_model.specs.declared.event.ItemId.{ItemId}
+use Rattle.gr_steps.specs.Types.{EventId, ItemId}
 use Rattle.gr_model.specs.Prelude.{IsNumberOf, IsLawful, IsHeld, items_of, Streams, trace_of, IsGrounded}
 use Rattle.gr_steps.specs.Steps.{AreFirst, AreGrounded}
 

@@ -1,7 +1,6 @@
 -- A lawful order stays lawful where the barriers of an instance that can meet come after it; and when an instance can meet.
 use Rattle.gr_model.proofs.Common.{◌≡◌, ℕ, ◌<◌, List, ◌++◌, Some, slice_get, refl, sym, inl, arith}
-use Rattle.gr_model.specs.declared.event.EventId.{EventId}
-use Rattle.gr_model.specs.declared.event.Name.{Name}
+use Rattle.gr_steps.specs.Types.{EventId, Name}
 use Rattle.gr_model.specs.Prelude.{IsConvergent, StandsIn, Mark, IsIn, IsLawful, HasName, ArePrefixes, IsEvent, Streams, IsSettled, IsPrevious, Waits, for_arrival, for_meeting, for_previous, for_release}
 use Rattle.gr_steps.specs.Steps.{AreBarriers, HasMet, IsMeeting}
 use Rattle.gr_steps.proofs.BarrierPlaces.{barrier_of, barrier_there, same_instance, stands_before, stands_same, meets_in}

@@ -1,8 +1,6 @@
 -- What is ready is its item's next event; and when the next events are ready or can meet, by how many events of each item were handled.
 use Rattle.gr_model.proofs.Common.{◌≡◌, ◌↔◌, ℕ, ◌<◌, List, sym, ap, arith, ◌∙◌}
-use Rattle.gr_model.specs.declared.event.EventId.{EventId}
-use Rattle.gr_model.specs.declared.event.ItemId.{ItemId}
-use Rattle.gr_model.specs.declared.event.Name.{Name}
+use Rattle.gr_steps.specs.Types.{EventId, ItemId, Name}
 use Rattle.gr_model.specs.Prelude.{IsDivergent, StandsIn, IsIn, IsLawful, HasItsReleases, HasName, MatchesBy, IsEvent, Streams, IsPrevious, Waits, for_arrival, for_meeting, for_previous, for_release}
 use Rattle.gr_model.proofs.GrowthLaws.{not_both}
 use Rattle.gr_steps.specs.Steps.{AreFirst, IsReady}

@@ -1,8 +1,7 @@
 -- In complete lists the grounded events are those of a list that can be found, so each event is grounded or is not.
 use Rattle.gr_model.proofs.Common.{Option, ◌≡◌, ◌⊎◌, ℕ, zero, suc, ◌+◌, ◌<◌, ◌≤◌, List, [], ◌∷◌, length, Some, None, slice_get, map, refl, sym, ap, subst, inl, inr, ⊎_elim, arith, range_with_len, get_or-range_with_len, length-range_with_len, and_parts, nat_tests, slice_get-map, slice_get-get_or, slice_get_within, gets, common_steps}
 use Rattle.std.specs.List.{flat_map}
-use Rattle.gr_model.specs.declared.event.Event.{Event}
-use Rattle.gr_model.specs.declared.event.EventId.{EventId}
+use Rattle.gr_steps.specs.Types.{Event, EventId}
 use Rattle.gr_model.specs.Prelude.{IsIn, HasItsReleases, AreComplete, IsEvent, Streams, event_at, is_of, list_of, trace_of, IsSettled, IsGrounded, Stage, Waits}
 use Rattle.gr_model.proofs.Descent.{stage_up}
 use Rattle.gr_model.proofs.Places.{slice_get-append}

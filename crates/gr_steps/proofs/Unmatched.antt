@@ -1,7 +1,6 @@
 -- An unmatched acquire has a cause, so a report names each.
 use Rattle.gr_model.proofs.Common.{◌≡◌, ◌⊎◌, Some, None, [], inl, inr, ⊎_elim, arith, refl}
-use Rattle.gr_model.specs.declared.event.EventId.{EventId}
-use Rattle.gr_model.specs.declared.event.Name.{Name}
+use Rattle.gr_steps.specs.Types.{EventId, Name}
 use Rattle.gr_model.specs.declared.report.AcquireCause.{AcquireCause}
 use Rattle.gr_model.specs.declared.report.AcquireCause.TheVariants.{Absent, Behind, OtherWord}
 use Rattle.gr_model.specs.Prelude.{HasAcquireCause, HasName, IsAbsent, IsOfItsWord, IsOfOtherWord, names_at, release_place, IsReportButRaces, IsUnmatchedAcquire, WholeReport, Streams, word_at}

@@ -1,9 +1,7 @@
 -- What follows from the definitions of the steps, each the contract of a function that does nothing.
 use Rattle.std.specs.Prelude.{◌≡◌, ◌⊎◌, ◌↔◌, ℕ, ◌-◌, ◌<◌, List, [], length}
 use Rattle.std.specs.List.{sum_by}
-use Rattle.gr_model.specs.declared.event.EventId.{EventId}
-use Rattle.gr_model.specs.declared.event.ItemId.{ItemId}
-use Rattle.gr_model.specs.declared.event.Word.{Word}
+use Rattle.gr_steps.specs.Types.{EventId, ItemId, Word}
 use Rattle.gr_model.specs.Prelude.{items_of, Streams, ArePrefixes, AreComplete, Grows, IsEvent, trace_of, IsGrounded, IsLawful, IsIn, IsRacy, IsHeld, IsUnmatchedAcquire, WholeReport, IsReportButRaces}
 use Rattle.gr_steps.specs.Steps.{IsReady, Handles, Meets, IsAtRest, AreGrounded, AreFirst}
 

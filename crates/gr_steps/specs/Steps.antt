@@ -1,8 +1,7 @@
 -- Which events may be handled after those that were, which barriers may meet, and what the order of the handled events is then.
 -- Source: docs/MODEL.md, "Steps". That the barriers of an instance are passed together is OpenCL's (OpenCL C 2.0 specification, `work_group_barrier`).
 use Rattle.std.specs.Prelude.{◌≡◌, ◌↔◌, ℕ, ◌<◌, List, [], ◌∷◌, ◌++◌, length, Some, slice_get}
-use Rattle.gr_model.specs.declared.event.EventId.{EventId}
-use Rattle.gr_model.specs.declared.event.ItemId.{ItemId}
+use Rattle.gr_steps.specs.Types.{EventId, ItemId}
 use Rattle.gr_model.specs.Prelude.{Mark, Streams, IsEvent, size_of, HasItsReleases, StandsIn, IsConvergent, IsDivergent, Waits, IsPrevious, IsGrounded, IsIn}
 
 -- ---- what may be done

@@ -1,22 +1,17 @@
 -- A world in which an event was handled, an instance met, or an access went on, is a world.
 use Rattle.gr_model.proofs.Common.{◌≡◌, ◌≢◌, ℕ, ◌<◌, ◌≤◌, true≢false, IsFalse, IsTrue, Bool, true, false, List, [], ◌∷◌, ◌++◌, length, get_or, set, Option, Some, None, refl, sym, ap, ◌∙◌, subst, arith, append_assoc, append-nil, eq-eqb, ne_eqb, mod-lt, option_map, is_some, get_or_default, length-set, set-get_or, filter-append}
-use Rattle.gr_model.specs.declared.event.EventId.{EventId}
-use Rattle.gr_model.specs.declared.event.Word.{Word}
+use Rattle.gr_world.specs.Types.{EventId, Word, Access, GoError, Handle, Meet, Pass, WorkTake, StepError}
 use Rattle.gr_model.specs.declared.event.Word.TheVariants.{Global, Local}
 use Rattle.gr_model.specs.Prelude.{worker_number, Streams, HasItem}
 use Rattle.gr_model.specs.declared.event.ItemId.{ItemId}
-use Rattle.gr_clocks.specs.declared.access.Access.{Access}
 use Rattle.gr_closure.specs.Accesses.{IsAccessOf}
 use Rattle.gr_closure.specs.AccessesAlong.{AreAccesses, in_flight_list}
 use Rattle.gr_closure.proofs.Adding.{bare_access, handled_adds, met_add_none, others_add_none}
 use Rattle.gr_order.specs.Sequences.{HandlesEvent, IsSequence, MeetsInstance, Sequence}
 use Rattle.gr_order.specs.Answers.{IsHandleFault, IsMeetFault}
-use Rattle.gr_order.specs.declared.go_error.GoError.{GoError}
 use Rattle.gr_order.specs.declared.go_error.GoError.TheVariants.{NotReady as OrderNotReady, Memory as OrderMemory}
 use Rattle.gr_shadow.specs.Clashes.{ClockedAccess, clocked}
-use Rattle.gr_world.specs.declared.step.Step.TheVariants.{Handle, Meet, Pass, WorkTake}
 use Rattle.gr_steps.specs.Steps.{CanHandle, CanMeet}
-use Rattle.gr_world.specs.declared.step.StepError.{StepError}
 use Rattle.gr_world.specs.Steps.{Becomes, IsAllowed, IsInFlightFull, IsInFlightOf, IsStepRefusal, IsWorldStep}
 use Rattle.gr_world.specs.Queues.{HasRoom, Receives, Work, no_work, queueing, receiving}
 use Rattle.gr_world.specs.Worlds.{AreDelivered, ArePassedOn, IsPassedOn, IsWorld, World, accesses_for, going_on, passing, work_at, worker_of, working}

@@ -1,7 +1,6 @@
 -- A world in which nothing was sent is a world.
 use Rattle.gr_model.proofs.Common.{◌≡◌, ℕ, zero, suc, ◌%◌, ◌<◌, ◌≤◌, List, [], ◌∷◌, ◌++◌, length, refl, sym, ap, ◌∙◌, subst, ⊎_elim, arith, Contains, get_or-eq_default, cases_lt, get_or-replicate, length-replicate}
-use Rattle.gr_model.specs.declared.event.Event.{Event}
-use Rattle.gr_model.specs.declared.event.Sent.{Sent}
+use Rattle.gr_world.specs.Types.{Event, Sent}
 use Rattle.gr_model.specs.Prelude.{IsConfig, Settings, IsShape, ArePrefixes, events_of, list_of}
 use Rattle.gr_steps.proofs.Orders.{lawful_empty}
 use Rattle.gr_closure.specs.AccessesAlong.{of_none}

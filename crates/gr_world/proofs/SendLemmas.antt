@@ -1,13 +1,10 @@
 -- A world in which a record was sent is a world.
 use Rattle.gr_model.proofs.Common.{◌≡◌, ℕ, zero, suc, ◌+◌, ◌<◌, [], ◌∷◌, ◌++◌, length, get_or, set, refl, sym, ap, ◌∙◌, subst, ⊎_elim, arith, append_assoc, append-nil, IsTrue, IsFalse, mod-lt, Contains, get_or_default, length-append, length-set, Contains-append_cases}
 use native.Mathlib.Omega.{arith as numbers}
-use Rattle.gr_model.specs.declared.event.Event.{Event}
-use Rattle.gr_model.specs.declared.event.Sent.{Sent}
-use Rattle.gr_model.specs.declared.limits.TheConstants.{MOST_RECORDS}
+use Rattle.gr_world.specs.Types.{Event, Sent, MOST_RECORDS, Full}
 use Rattle.gr_model.specs.Prelude.{is_end, ArePrefixes, Streams, events_of, is_complete, list_of}
 use Rattle.gr_model.proofs.Sending.{events_append, events_else, events_here, is_complete-push}
 use Rattle.gr_lanes.specs.Takes.{with_record}
-use Rattle.gr_world.specs.declared.step.StepError.TheVariants.{Full}
 use Rattle.gr_world.specs.Putting.{IsPutFault, MayPut, Queues}
 use Rattle.gr_world.specs.Queues.{Bounded, HasRoom, pushed}
 use Rattle.gr_world.specs.Worlds.{AreDelivered, ArePassedOn, IsWorld, World, intake_at, no_queue, queue_of, sending}

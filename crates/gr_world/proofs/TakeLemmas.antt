@@ -1,8 +1,6 @@
 -- The record at the front of a queue may be taken, and the result is a world.
 use Rattle.gr_model.proofs.Common.{◌≡◌, ◌≢◌, ℕ, ◌<◌, ◌≤◌, List, [], ◌∷◌, ◌++◌, length, get_or, set, Option, Some, None, refl, sym, ap, ◌∙◌, subst, ⊎_elim, arith, append_assoc, true≢false, Contains, MatchOption, get_or-eq_default, cases_lt, get_or_default, length-append, length-set, Contains-append_right}
-use Rattle.gr_model.specs.declared.event.Event.{Event}
-use Rattle.gr_model.specs.declared.event.Sent.{Sent}
-use Rattle.gr_model.specs.declared.limits.TheConstants.{MOST_RECORDS}
+use Rattle.gr_world.specs.Types.{Event, Sent, MOST_RECORDS, Take}
 use Rattle.gr_model.specs.Prelude.{IsEventOk, IsPrefix, events_of, list_of, size_of}
 use Rattle.gr_model.proofs.Sending.{events_append, events_else, events_here}
 use Rattle.gr_model.proofs.StreamPrefixes.{next_ok, next_room, next_unended}
@@ -10,7 +8,6 @@ use Rattle.gr_closure.proofs.Growing.{accesses_stay}
 use Rattle.gr_lanes.specs.Takes.{CanTake}
 use Rattle.gr_lanes.proofs.Growth.{record_grows}
 use Rattle.gr_order.specs.Sequences.{IsSequence, Sequence, taking}
-use Rattle.gr_world.specs.declared.step.Step.TheVariants.{Take}
 use Rattle.gr_world.specs.Queues.{Bounded, leaving}
 use Rattle.gr_world.specs.Steps.{IsAllowed, IsWorldStep}
 use Rattle.gr_world.specs.Worlds.{AreDelivered, ArePassedOn, IsWorld, World, intake_at, no_queue, queue_of, taking_front}

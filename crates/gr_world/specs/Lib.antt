@@ -3,3 +3,4 @@ pub mod Worlds
 pub mod Steps
 pub mod Putting
 pub mod Laws
+pub mod Types

@@ -1,9 +1,7 @@
 -- The sending of a record.
 use Rattle.std.specs.Prelude.{◌≡◌, ℕ, IsTrue}
-use Rattle.gr_model.specs.declared.event.Event.{Event}
+use Rattle.gr_world.specs.Types.{Event, StepError, NotOpen, Full, Memory}
 use Rattle.gr_model.specs.Prelude.{is_complete, list_of}
-use Rattle.gr_world.specs.declared.step.StepError.{StepError}
-use Rattle.gr_world.specs.declared.step.StepError.TheVariants.{NotOpen, Full, Memory}
 use Rattle.gr_world.specs.Queues.{HasRoom}
 use Rattle.gr_world.specs.Worlds.{World, intake_at, queue_of, sending}
 

@@ -1,22 +1,14 @@
 -- The steps of a world: what each does if it is allowed, and why it is refused if it is not.
 -- Source: docs/MODEL.md, "The world".
 use Rattle.std.specs.Prelude.{◌≡◌, ◌⊎◌, ℕ, suc, ◌+◌, ◌≤◌, List, [], ◌∷◌, ◌++◌, length, Option, None, Some, IsTrue, is_some}
-use Rattle.gr_model.specs.declared.event.Event.{Event}
-use Rattle.gr_model.specs.declared.event.EventId.{EventId}
-use Rattle.gr_model.specs.declared.event.Sent.{Sent}
-use Rattle.gr_model.specs.declared.limits.TheConstants.{MOST_RECORDS}
+use Rattle.gr_world.specs.Types.{Event, EventId, Sent, MOST_RECORDS, GoError, Step, Send, Close, Take, Handle, Meet, Pass, WorkTake, StepError, BadStep, NotOpen, Full, Empty, Busy, NotReady, Memory}
 use Rattle.gr_model.specs.Prelude.{IsEventOk, end_of, is_end, HasItem, Streams, is_complete, list_of, size_of, word_at}
 use Rattle.gr_steps.specs.Steps.{CanHandle, CanMeet}
 use Rattle.gr_closure.specs.Accesses.{IsAccess}
 use Rattle.gr_clocks.specs.ClockedAccess.{bare}
-use Rattle.gr_order.specs.declared.go_error.GoError.{GoError}
 use Rattle.gr_order.specs.declared.go_error.GoError.TheVariants.{NotReady as OrderNotReady, Memory as OrderMemory}
 use Rattle.gr_order.specs.Sequences.{HandlesEvent, MeetsInstance, Sequence}
 use Rattle.gr_shadow.specs.Clashes.{ClockedAccess}
-use Rattle.gr_world.specs.declared.step.Step.{Step}
-use Rattle.gr_world.specs.declared.step.Step.TheVariants.{Send, Close, Take, Handle, Meet, Pass, WorkTake}
-use Rattle.gr_world.specs.declared.step.StepError.{StepError}
-use Rattle.gr_world.specs.declared.step.StepError.TheVariants.{BadStep, NotOpen, Full, Empty, Busy, NotReady, Memory}
 use Rattle.gr_world.specs.Queues.{HasRoom}
 use Rattle.gr_world.specs.Worlds.{World, going_on, intake_at, passing, queue_of, sending, taking_front, work_at, worker_of, working}
 

@@ -2,15 +2,11 @@
 -- Source: docs/MODEL.md, "The world".
 use Rattle.std.specs.Prelude.{◌≡◌, ◌==◌, ℕ, ◌<◌, ◌%◌, List, [], ◌++◌, length, filter, replicate, slice_index_or, slice_set, Option, None, All, Contains, IsTrue}
 use Rattle.std.specs.Option.{option_map}
-use Rattle.gr_model.specs.declared.event.Event.{Event}
-use Rattle.gr_model.specs.declared.event.Sent.{Sent}
-use Rattle.gr_model.specs.declared.event.Word.{Word}
+use Rattle.gr_world.specs.Types.{Event, Sent, Word, MOST_RECORDS, Access}
 use Rattle.gr_model.specs.Prelude.{IsConfig, Settings, worker_number, IsShape, AreComplete, ArePrefixes, Streams, events_of, is_complete, list_of}
-use Rattle.gr_model.specs.declared.limits.TheConstants.{MOST_RECORDS}
 use Rattle.gr_steps.specs.Steps.{IsAtRest}
 use Rattle.gr_lanes.specs.Takes.{nothing_taken, with_record}
 use Rattle.gr_order.specs.Sequences.{IsSequence, Sequence, nothing, taking}
-use Rattle.gr_clocks.specs.declared.access.Access.{Access}
 use Rattle.gr_shadow.specs.Clashes.{ClockedAccess, IsHitIn, clocked}
 use Rattle.gr_closure.specs.AccessesAlong.{AreAccesses, in_flight_list}
 use Rattle.gr_world.specs.Queues.{Bounded, Work, empty_queue, leaving, no_work, pushed, queueing, receiving}

@@ -1,7 +1,5 @@
 use Rattle.gr_model.proofs.Common.{◌≡◌, ap, refl, ⊎_elim}
-use Rattle.gr_model.specs.declared.event.EventId.{EventId}
-use Rattle.gr_model.specs.declared.event.Name.{Name}
-use Rattle.gr_order.specs.declared.steps.Ready.TheVariants.{Item}
+use Rattle.gr_agenda.specs.Types.{EventId, Name, Item}
 use Rattle.gr_agenda.specs.Kept.{IsHeldUp}
 use Rattle.gr_agenda.proofs.agenda.put_if_pending.Goals as goal
 

@@ -1,6 +1,5 @@
 use Rattle.gr_model.proofs.Common.{◌≡◌, ◌<◌, ℕ, Some, slice_get}
-use Rattle.gr_model.specs.declared.event.ItemId.{ItemId}
-use Rattle.gr_order.specs.declared.steps.Ready.TheVariants.{Item}
+use Rattle.gr_agenda.specs.Types.{ItemId, Item}
 use Rattle.gr_agenda.specs.Lists.{Has, KeepsSteps}
 use Rattle.gr_agenda.proofs.waiting.put_all.Given as goal
 

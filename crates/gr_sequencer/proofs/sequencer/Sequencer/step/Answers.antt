@@ -1,8 +1,7 @@
 use Rattle.gr_model.proofs.Common.{inl, inr, refl}
 use Rattle.gr_order.specs.Sequences.{CanStep, Sequence}
 use Rattle.gr_sequencer.specs.Answers.{IsStep}
-use Rattle.gr_sequencer.specs.declared.handled.Handled.{Handled}
-use Rattle.gr_sequencer.specs.declared.handled.Handled.TheVariants.{Meet, One}
+use Rattle.gr_sequencer.specs.Types.{Handled, Meet, One}
 use Rattle.gr_sequencer.proofs.sequencer.Sequencer.step.Goals as goal
 use Rattle.gr_sequencer.proofs.sequencer.Sequencer.step.Goals.{in-Some-Group+in_ok-handled-in-Some-Group, in-Some-Item+in_ok-handled-in-Some-Item}
 

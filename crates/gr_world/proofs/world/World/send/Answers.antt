@@ -1,8 +1,5 @@
 use Rattle.gr_model.proofs.Common.{◌<◌, ◌≤◌, ℕ, rules, ◌⊎◌, inl, inr, ap, arith, length, subst, sym, true≢false, ⊎_elim, IfErr-weaker, on_ok_weaker}
-use Rattle.gr_model.specs.declared.event.Event.{Event}
-use Rattle.gr_world.specs.declared.step.Step.TheVariants.{Send}
-use Rattle.gr_world.specs.declared.step.StepError.{StepError}
-use Rattle.gr_world.specs.declared.step.StepError.TheVariants.{BadStep, NotOpen, Full, Empty, Busy, NotReady, Memory}
+use Rattle.gr_world.specs.Types.{Event, Send, StepError, BadStep, NotOpen, Full, Empty, Busy, NotReady, Memory}
 use Rattle.gr_world.specs.Putting.{IsPutFault, MayPut, Queues}
 use Rattle.gr_world.specs.Steps.{IsAllowed, IsBad, IsBadEvent, IsStepRefusal}
 use Rattle.gr_world.specs.Worlds.{World}
