@@ -10,8 +10,8 @@ use gr_show::question::Question;
 use gr_show::questions::{HeldEvent, LeastRace, LongRace, Races, WordHistory};
 use gr_show::tell_files;
 use gr_show::writing::write_text;
-use refusing::failing::FailingWriter;
 use std::alloc::Allocator;
+use std::io::Write;
 
 /// What is asked of a launch.
 #[derive(Clone, Copy, Debug)]
@@ -42,21 +42,21 @@ pub(crate) static ALL: [Asked; 9] = [
 ];
 
 /// Answers a question as the program does.
-fn shown<A: Allocator + Copy, Q: Question<A>>(
+fn shown<A: Allocator + Copy, Q: Question<A>, W: Write>(
     alloc: A,
     files: Files<'_>,
     question: &Q,
-    writer: &mut FailingWriter,
+    writer: &mut W,
 ) -> Result<bool, SidesFault> {
     let opener = |name: &str| files.open(name);
     tell_files(alloc, question, &files.sides, files.names(), opener, writer)
 }
 
 /// Checks, and answers as text.
-fn checked<A: Allocator + Copy>(
+fn checked<A: Allocator + Copy, W: Write>(
     alloc: A,
     files: Files<'_>,
-    writer: &mut FailingWriter,
+    writer: &mut W,
 ) -> Result<bool, Fault> {
     let checked = check_files(alloc, files.names(), |name: &str| files.open(name))?;
     write_text(writer, &check_text(alloc, &checked)?)?;
@@ -64,11 +64,11 @@ fn checked<A: Allocator + Copy>(
 }
 
 /// Answers as text.
-pub(crate) fn answered<A: Allocator + Copy>(
+pub(crate) fn answered<A: Allocator + Copy, W: Write>(
     alloc: A,
     files: Files<'_>,
     asked: Asked,
-    writer: &mut FailingWriter,
+    writer: &mut W,
 ) -> Result<bool, SidesFault> {
     match asked {
         Asked::Pair(word) => shown(alloc, files, &LeastRace(word), writer),

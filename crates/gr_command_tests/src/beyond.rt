@@ -9,7 +9,7 @@ use gr_places::sides_fault::{SidesFault, write_sides_fault};
 use gr_plain::check::check_text;
 use gr_record::error::RecordError;
 use gr_record::fault::Fault;
-use refusing::failing::FailingWriter;
+use refusing::failing::fail_each;
 use std::alloc::Global;
 use std::io::{self, ErrorKind};
 use std::sync::Wait;
@@ -79,19 +79,15 @@ static LINES: [(SidesFault, &str); 3] = [
     (SidesFault::Run(Fault::Read), "gpurace: read fault\n"),
 ];
 
-/// Whether a line that is written whole and can't be flushed counts as not written.
-fn fails_unflushed(alloc: Global, fault: &SidesFault, line: &[u8]) -> bool {
-    let mut writer = FailingWriter::with_room(alloc, line.len());
-    write_sides_fault(fault, &mut writer).is_err() && writer.has_front(line, line.len())
-}
-
 #[test]
-fn lines_of_faults_are_flushed(rt: HostRuntime) {
+fn lines_of_faults_are_written_or_a_prefix(rt: HostRuntime) {
     for (fault, line) in &LINES {
-        assert!(rt;
-            fails_unflushed(rt.alloc(), fault, line.as_bytes()),
-            "{line}"
+        let failed = fail_each(
+            rt.alloc(),
+            line.as_bytes(),
+            |writer| write_sides_fault(fault, writer).is_err(),
         );
+        assert!(rt; failed.is_ok(), "{line}: {failed:?}");
     }
 }
 

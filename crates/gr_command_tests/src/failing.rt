@@ -4,15 +4,15 @@ use crate::answers::{Asked, answered};
 use crate::launches::{Files, NOTED, bytes_of, streams_of};
 use gr_places::sides_fault::SidesFault;
 use gr_record::fault::Fault;
-use refusing::failing::FailingWriter;
+use refusing::failing::fail_each;
 use std::alloc::Global;
 use std::test::Fail;
 
 /// Whether a file that fails is reported, and nothing is written.
 fn fails_to_read(alloc: Global, files: Files<'_>, question: Asked) -> bool {
-    let mut writer = FailingWriter::with_room(alloc, usize::MAX);
-    let answered = answered(alloc, files, question, &mut writer);
-    answered == Err(SidesFault::Run(Fault::Read)) && writer.taken.is_empty()
+    let mut written = Vec::new(alloc);
+    let answered = answered(alloc, files, question, &mut written);
+    answered == Err(SidesFault::Run(Fault::Read)) && written.is_empty()
 }
 
 /// Whether a file that fails is reported, after any number of calls.
@@ -34,26 +34,17 @@ fn fails_in_each_file(alloc: Global, streams: &[Vec<u8>], question: Asked) -> bo
     names.all(|name| fails_at_each_read(alloc, streams, name, question))
 }
 
-/// Whether a writer that fails after `room` bytes, or at its flush after all, is reported and has `room` bytes of the text.
-fn fails_to_write(
-    alloc: Global,
-    streams: &[Vec<u8>],
-    question: Asked,
-    text: &[u8],
-    room: usize,
-) -> bool {
-    let mut writer = FailingWriter::within(alloc, text, room);
-    let answered = answered(alloc, Files::with_sides(streams), question, &mut writer);
-    answered == Err(SidesFault::Run(Fault::Write)) && writer.has_front(text, room)
-}
-
-/// Whether a writer that fails is reported, after any number of bytes.
-fn fails_at_each_write(alloc: Global, streams: &[Vec<u8>], question: Asked) -> bool {
-    let mut writer = FailingWriter::with_room(alloc, usize::MAX);
-    let answered = answered(alloc, Files::with_sides(streams), question, &mut writer);
-    let text = writer.taken;
-    let fails = |room| fails_to_write(alloc, streams, question, &text, room);
-    answered.is_ok() && !text.is_empty() && (0..text.len() + 1).all(fails)
+/// Whether a writer that fails is reported, and has a prefix of the text.
+fn fails_at_each_write(alloc: Global, files: Files<'_>, question: Asked) -> bool {
+    let mut text = Vec::new(alloc);
+    let whole = answered(alloc, files, question, &mut text);
+    let fault = Err(SidesFault::Run(Fault::Write));
+    let failed = fail_each(
+        alloc,
+        &text,
+        |writer| answered(alloc, files, question, writer) == fault,
+    );
+    whole.is_ok() && !text.is_empty() && failed.is_ok()
 }
 
 /// For a question, for all that one frame answers, and a check. A writer that fails has a prefix.
@@ -62,7 +53,7 @@ fn readers_and_writers_that_fail_are_reported(rt: HostRuntime) -> Result<(), Fai
     let streams = streams_of(rt.alloc(), &NOTED)?;
     for question in [Asked::Races(true), Asked::Check] {
         let reads = fails_in_each_file(rt.alloc(), &streams, question);
-        let writes = fails_at_each_write(rt.alloc(), &streams, question);
+        let writes = fails_at_each_write(rt.alloc(), Files::with_sides(&streams), question);
         assert_eq!(rt; (reads, writes), (true, true), "{question:?}");
     }
     Ok(())

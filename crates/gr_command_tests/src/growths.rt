@@ -5,7 +5,6 @@ use crate::launches::{Files, LAUNCHES, Launch, NOTED, streams_of};
 use gr_model::memory::Memory;
 use gr_places::sides_fault::SidesFault;
 use gr_record::fault::Fault;
-use refusing::failing::FailingWriter;
 use refusing::growths::refuse_each;
 use std::alloc::{Allocator, Global};
 use std::test::Fail;
@@ -19,9 +18,9 @@ fn answer_of<A: Allocator + Copy>(
     files: Files<'_>,
     asked: Asked,
 ) -> Answer {
-    let mut writer = FailingWriter::with_room(ample, usize::MAX);
-    let answer = answered(alloc, files, asked, &mut writer);
-    (answer, writer.taken)
+    let mut written = Vec::new(ample);
+    let answer = answered(alloc, files, asked, &mut written);
+    (answer, written)
 }
 
 /// Whether the answer is right, or memory runs out and nothing is written.

@@ -1,30 +1,87 @@
 //! A check of files as JSON.
 
-use crate::values::{Object, Text, line_of, or_null, text_value};
+use crate::values::{Text, line_of};
 use gr_places::checking::Checked;
 use gr_places::counts::Counts;
 use gr_places::fault_places::FaultPlace;
 use gr_places::sentences::{right, wrong};
 use gr_places::spot::Spot;
+use serde::Serialize;
 use std::alloc::Global;
 
-/// How large a launch is, and how many records of each kind it has.
-fn counts_object(alloc: Global, counts: &Counts) -> Object {
-    let kinds = Object::new(alloc)
-        .plain("barriers", counts.barriers)
-        .plain("ends", counts.ends)
-        .plain("loads", counts.loads)
-        .plain("reads", counts.reads)
-        .plain("rmws", counts.rmws)
-        .plain("stores", counts.stores)
-        .plain("writes", counts.writes);
-    Object::new(alloc)
-        .plain("accepted", true)
-        .plain("groups", counts.groups)
-        .plain("items", counts.items)
-        .object("kinds", kinds)
-        .plain("records", counts.records)
-        .text("type", "check")
+/// How many records of each kind a launch has.
+#[derive(Drop, Serialize)]
+struct KindsObject {
+    barriers: u64,
+    ends: u64,
+    loads: u64,
+    reads: u64,
+    rmws: u64,
+    stores: u64,
+    writes: u64,
+}
+
+/// How large an accepted launch is.
+#[derive(Drop, Serialize)]
+struct AcceptedLine {
+    accepted: bool,
+    groups: u16,
+    items: u32,
+    kinds: KindsObject,
+    records: u64,
+    #[serde(rename = "type")]
+    line: &'static str,
+}
+
+/// What a fault is about: a place in a stream, a stream beside a file, or a group that is missing.
+#[derive(Drop, Serialize)]
+#[serde(untagged)]
+enum PlaceObject<'a> {
+    Stream {
+        byte: Option<u64>,
+        file: Option<&'a str>,
+        record: Option<u64>,
+        stream: u64,
+    },
+    Beside {
+        beside: Option<&'a str>,
+        file: Option<&'a str>,
+        stream: u64,
+    },
+    Missing {
+        beside: Option<&'a str>,
+        group: u16,
+    },
+}
+
+/// Where the fault of files is, if it is in a stream or a group, what would be right and what is wrong.
+#[derive(Drop, Serialize)]
+struct RefusedLine<'a> {
+    accepted: bool,
+    place: Option<PlaceObject<'a>>,
+    right: &'static str,
+    #[serde(rename = "type")]
+    line: &'static str,
+    wrong: &'static str,
+}
+
+fn accepted_line(counts: &Counts) -> AcceptedLine {
+    AcceptedLine {
+        accepted: true,
+        groups: counts.groups,
+        items: counts.items,
+        kinds: KindsObject {
+            barriers: counts.barriers,
+            ends: counts.ends,
+            loads: counts.loads,
+            reads: counts.reads,
+            rmws: counts.rmws,
+            stores: counts.stores,
+            writes: counts.writes,
+        },
+        records: counts.records,
+        line: "check",
+    }
 }
 
 /// The byte and the record of a place in a stream, each if there is one.
@@ -37,31 +94,29 @@ fn byte_and_record(spot: Option<Spot>) -> (Option<u64>, Option<u64>) {
     }
 }
 
-/// What a fault is about, if that is a stream or a group.
-fn place_object(alloc: Global, place: FaultPlace<'_>) -> Option<Object> {
-    let object = Object::new(alloc);
-    Some(match place {
+fn place_object(place: FaultPlace<'_>) -> Option<PlaceObject<'_>> {
+    match place {
         FaultPlace::Stream { stream, file, spot } => {
             let (byte, record) = byte_and_record(spot);
-            object
-                .plain("byte", byte)
-                .value("file", text_value(alloc, file))
-                .plain("record", record)
-                .plain("stream", stream)
+            Some(PlaceObject::Stream {
+                byte,
+                file,
+                record,
+                stream,
+            })
         }
         FaultPlace::Beside {
             stream,
             file,
             beside,
-        } => object
-            .value("beside", text_value(alloc, beside))
-            .value("file", text_value(alloc, file))
-            .plain("stream", stream),
-        FaultPlace::Missing { group, beside } => object
-            .value("beside", text_value(alloc, beside))
-            .plain("group", group),
-        FaultPlace::Nothing => return None,
-    })
+        } => Some(PlaceObject::Beside {
+            beside,
+            file,
+            stream,
+        }),
+        FaultPlace::Missing { group, beside } => Some(PlaceObject::Missing { beside, group }),
+        FaultPlace::Nothing => None,
+    }
 }
 
 /// The line of a check: how large the launch is, or where its fault is, what is wrong and what would be right.
@@ -69,17 +124,17 @@ fn place_object(alloc: Global, place: FaultPlace<'_>) -> Option<Object> {
 /// # Errors
 /// `Memory`: out of memory.
 pub fn check_json(alloc: Global, checked: &Checked<'_>) -> Text {
-    let object = match *checked {
-        Checked::Accepted(counts) => counts_object(alloc, &counts),
+    match *checked {
+        Checked::Accepted(counts) => line_of(alloc, &accepted_line(&counts)),
         Checked::Refused { fault, place } => {
-            let place = or_null(place_object(alloc, place), |object| object);
-            Object::new(alloc)
-                .plain("accepted", false)
-                .value("place", place)
-                .text("right", right(fault))
-                .text("type", "check")
-                .text("wrong", wrong(fault))
+            let line = RefusedLine {
+                accepted: false,
+                place: place_object(place),
+                right: right(fault),
+                line: "check",
+                wrong: wrong(fault),
+            };
+            line_of(alloc, &line)
         }
-    };
-    line_of(alloc, object)
+    }
 }

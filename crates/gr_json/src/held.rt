@@ -1,49 +1,84 @@
 //! Why an event is held as JSON.
 
-use crate::values::{Object, Text, event_object, line_of, push_objects};
+use crate::values::{EventObject, Text, push_line, push_lines};
 use gr_model::event::{EventId, Name};
 use gr_timeline::reason::{Link, Reason};
 use gr_timeline::why::WhyHeld;
+use serde::Serialize;
 use std::alloc::{Allocator, Global};
 
-/// A reason about an event.
-fn about_event(alloc: Global, name: &str, event: EventId) -> Object {
-    Object::new(alloc)
-        .object("event", event_object(alloc, event))
-        .text("name", name)
+/// A release that an acquire names.
+#[derive(Drop, Serialize)]
+struct ReleaseObject {
+    group: u16,
+    item: u16,
+    number: u32,
 }
 
-/// A reason about a release that an acquire names.
-fn about_release(alloc: Global, name: &str, named: Name) -> Object {
-    let release = Object::new(alloc)
-        .plain("group", named.at.group)
-        .plain("item", named.at.item)
-        .plain("number", named.release);
-    Object::new(alloc)
-        .text("name", name)
-        .object("release", release)
+/// Why an event is held: by an event, by a release that is named, or by the event in a line above.
+#[derive(Drop, Serialize)]
+#[serde(untagged)]
+enum ReasonObject {
+    Event {
+        event: EventObject,
+        name: &'static str,
+    },
+    Release {
+        name: &'static str,
+        release: ReleaseObject,
+    },
+    Circle {
+        line: usize,
+        name: &'static str,
+    },
 }
 
-/// Why an event is held.
-fn reason_object(alloc: Global, reason: Reason) -> Object {
-    match reason {
-        Reason::Behind(event) => about_event(alloc, "behind", event),
-        Reason::Release(event) => about_event(alloc, "release", event),
-        Reason::Barrier(event) => about_event(alloc, "barrier", event),
-        Reason::Absent(named) => about_release(alloc, "absent", named),
-        Reason::OtherWord(named) => about_release(alloc, "other-word", named),
-        Reason::Circle(line) => Object::new(alloc)
-            .plain("line", line)
-            .text("name", "circle"),
+/// An event, and why it is held, if it is.
+#[derive(Drop, Serialize)]
+struct EventLine {
+    event: EventObject,
+    #[serde(skip_serializing_if = "Option::is_none")]
+    reason: Option<ReasonObject>,
+    #[serde(rename = "type")]
+    line: &'static str,
+}
+
+fn by_event(name: &'static str, event: EventId) -> ReasonObject {
+    ReasonObject::Event {
+        event: event.into(),
+        name,
     }
 }
 
-/// An event that is held, and why.
-fn link_object(alloc: Global, link: &Link) -> Object {
-    Object::new(alloc)
-        .object("event", event_object(alloc, link.event))
-        .object("reason", reason_object(alloc, link.reason))
-        .text("type", "held")
+fn by_release(name: &'static str, named: Name) -> ReasonObject {
+    let release = ReleaseObject {
+        group: named.at.group,
+        item: named.at.item,
+        number: named.release,
+    };
+    ReasonObject::Release { name, release }
+}
+
+fn reason_object(reason: Reason) -> ReasonObject {
+    match reason {
+        Reason::Behind(event) => by_event("behind", event),
+        Reason::Release(event) => by_event("release", event),
+        Reason::Barrier(event) => by_event("barrier", event),
+        Reason::Absent(named) => by_release("absent", named),
+        Reason::OtherWord(named) => by_release("other-word", named),
+        Reason::Circle(line) => ReasonObject::Circle {
+            line,
+            name: "circle",
+        },
+    }
+}
+
+fn event_line(event: EventId, reason: Option<Reason>, line: &'static str) -> EventLine {
+    EventLine {
+        event: event.into(),
+        reason: reason.map(reason_object),
+        line,
+    }
 }
 
 /// Why an event is held, or that it is not, as lines of JSON.
@@ -51,15 +86,13 @@ fn link_object(alloc: Global, link: &Link) -> Object {
 /// # Errors
 /// `Memory`: out of memory.
 pub fn why_json<A: Allocator>(alloc: Global, event: EventId, why: &WhyHeld<A>) -> Text {
-    let line = match why {
-        WhyHeld::NoRecord => "no record",
-        WhyHeld::Judged => "judged",
-        WhyHeld::Held(links) => {
-            let mut text = Vec::new(alloc);
-            push_objects(&mut text, links, |link| link_object(alloc, link))?;
-            return Ok(text);
-        }
-    };
-    let object = Object::new(alloc).object("event", event_object(alloc, event));
-    line_of(alloc, object.text("type", line))
+    let mut text = Vec::new(alloc);
+    match why {
+        WhyHeld::NoRecord => push_line(&mut text, &event_line(event, None, "no record"))?,
+        WhyHeld::Judged => push_line(&mut text, &event_line(event, None, "judged"))?,
+        WhyHeld::Held(links) => push_lines(&mut text, links, |link| {
+            event_line(link.event, Some(link.reason), "held")
+        })?,
+    }
+    Ok(text)
 }

@@ -1,60 +1,88 @@
 //! The history of a word as JSON.
 
 use crate::values::{
-    Object, Text, array_of, buffer_value, details_object, event_object, push_object, word_object,
+    ElementObject, EventObject, KindObject, Text, WordObject, buffer_object, objects_of, place_of,
+    push_line,
 };
 use gr_model::class::class_of;
 use gr_model::event::Word;
 use gr_model::memory::Memory;
 use gr_places::index::PlaceIndex;
 use gr_places::sides::Sides;
-use gr_timeline::accesses::Accesses;
+use gr_timeline::details::Details;
 use gr_timeline::entry::Entry;
 use gr_timeline::standing::{Above, Named};
 use gr_timeline::word_history::HistoryAnswer;
+use serde::Serialize;
 use std::alloc::Global;
 
 /// Some events: the first few, and how many others there are.
-fn named_object(alloc: Global, named: &Named) -> Object {
-    let events = array_of(alloc, &named.events, |event| event_object(alloc, *event));
-    Object::new(alloc)
-        .value("events", events)
-        .plain("others", named.others)
+#[derive(Drop, Serialize)]
+struct NamedObject {
+    events: Vec<EventObject>,
+    others: usize,
 }
 
-/// An access, its details, and how it is ordered with respect to those above it. Then counts it among them.
-fn entry_object(
-    alloc: Global,
-    places: &PlaceIndex<'_>,
-    above: &mut Above,
-    known: &Accesses<Global>,
-    entry: &Entry,
-) -> Result<Object, Memory> {
-    let Some(details) = known.get(&entry.event) else {
-        return Ok(Object::new(alloc));
-    };
-    let access = details_object(alloc, places, entry.event, details);
-    let Some(class) = class_of(&details.kind) else {
-        return Ok(access);
-    };
-    let standing = above.add(alloc, entry, class)?;
-    Ok(
-        access
-            .plain("behind", standing.behind)
-            .object("races_with", named_object(alloc, &standing.races))
-            .object("unordered_with", named_object(alloc, &standing.unordered)),
-    )
+/// An access, its details, and how it is ordered with respect to those above it.
+#[derive(Drop, Serialize)]
+struct AccessLine<'a> {
+    access: KindObject,
+    behind: usize,
+    #[serde(flatten)]
+    event: EventObject,
+    phase: usize,
+    place: Option<&'a str>,
+    races_with: NamedObject,
+    record: usize,
+    #[serde(rename = "type")]
+    line: &'static str,
+    unordered_with: NamedObject,
 }
 
 /// The word, its buffer, how many accesses there are, how many others are held, and whether some of them race.
-fn end_object(alloc: Global, sides: &Sides<'_>, word: Word, history: &HistoryAnswer) -> Object {
-    Object::new(alloc)
-        .plain("accesses", history.entries.len())
-        .value("buffer", buffer_value(alloc, sides, word))
-        .plain("held", history.held)
-        .plain("races", history.racy)
-        .text("type", "end")
-        .object("word", word_object(alloc, word))
+#[derive(Drop, Serialize)]
+struct EndLine<'a> {
+    accesses: usize,
+    buffer: Option<ElementObject<'a>>,
+    held: usize,
+    races: bool,
+    #[serde(rename = "type")]
+    line: &'static str,
+    word: WordObject,
+}
+
+fn named_object(alloc: Global, named: &Named) -> Result<NamedObject, Memory> {
+    Ok(NamedObject {
+        events: objects_of(alloc, &named.events, |event| (*event).into())?,
+        others: named.others,
+    })
+}
+
+/// Adds the line of an access, and counts it among those above the next.
+fn push_access(
+    text: &mut Vec<u8>,
+    places: &PlaceIndex<'_>,
+    above: &mut Above,
+    entry: &Entry,
+    details: &Details,
+) -> Result<(), Memory> {
+    let alloc = *text.allocator();
+    let Some(class) = class_of(&details.kind) else {
+        return Ok(());
+    };
+    let standing = above.add(alloc, entry, class)?;
+    let line = AccessLine {
+        access: details.kind.into(),
+        behind: standing.behind,
+        event: entry.event.into(),
+        phase: details.phase,
+        place: place_of(places, entry.event),
+        races_with: named_object(alloc, &standing.races)?,
+        record: details.number,
+        line: "access",
+        unordered_with: named_object(alloc, &standing.unordered)?,
+    };
+    push_line(text, &line)
 }
 
 /// The history of a word, with what side files say about it and its accesses, as lines of JSON.
@@ -66,9 +94,18 @@ pub fn history_json(alloc: Global, sides: &Sides<'_>, word: Word, history: &Hist
     let mut above = Above::new(alloc);
     let mut text = Vec::new(alloc);
     for entry in &history.entries {
-        let access = entry_object(alloc, &places, &mut above, &history.known, entry)?;
-        push_object(&mut text, access.text("type", "access"))?;
+        if let Some(details) = history.known.get(&entry.event) {
+            push_access(&mut text, &places, &mut above, entry, details)?;
+        }
     }
-    push_object(&mut text, end_object(alloc, sides, word, history))?;
+    let end = EndLine {
+        accesses: history.entries.len(),
+        buffer: buffer_object(sides, word),
+        held: history.held,
+        races: history.racy,
+        line: "end",
+        word: word.into(),
+    };
+    push_line(&mut text, &end)?;
     Ok(text)
 }

@@ -2,10 +2,11 @@
 //! what side files say.
 
 use crate::values::{
-    Object, Text, array_of, buffer_value, details_object, event_object, line_of, or_null,
-    place_value, text_value, word_object,
+    DetailsObject, ElementObject, EventObject, Text, WordObject, buffer_object, details_object,
+    line_of, objects_of, place_of,
 };
 use gr_model::event::{EventId, Word};
+use gr_model::memory::Memory;
 use gr_places::index::PlaceIndex;
 use gr_places::places::Placed;
 use gr_places::sides::Sides;
@@ -13,13 +14,67 @@ use gr_races::account::Account;
 use gr_races::between::{Between, Crossing, DetailedEvent};
 use gr_races::kinds::{KindedRace, Operation};
 use gr_races::names::{cause_name, operation_name};
+use serde::Serialize;
 use std::alloc::Global;
 
-/// A word that has no race.
-fn no_race_object(alloc: Global, word: Word) -> Object {
-    Object::new(alloc)
-        .text("type", "no race")
-        .object("word", word_object(alloc, word))
+/// A word and its racing pair, if it has one.
+#[derive(Drop, Serialize)]
+struct RaceLine {
+    #[serde(skip_serializing_if = "Option::is_none")]
+    first: Option<EventObject>,
+    #[serde(skip_serializing_if = "Option::is_none")]
+    second: Option<EventObject>,
+    #[serde(rename = "type")]
+    line: &'static str,
+    word: WordObject,
+}
+
+/// A barrier instance: its number, its site and its flags, and where the site is in the source.
+#[derive(Drop, Serialize)]
+struct CrossingObject<'a> {
+    global: bool,
+    instance: usize,
+    local: bool,
+    place: Option<&'a str>,
+    site: u32,
+}
+
+/// What is between two accesses: the halves of a hand-over, each if there is one, and barriers.
+#[derive(Drop, Serialize)]
+struct BetweenObject<'a> {
+    acquire: Option<DetailsObject<'a>>,
+    barriers: Vec<CrossingObject<'a>>,
+    release: Option<DetailsObject<'a>>,
+}
+
+/// What an access does, its event, and where it is in the source.
+#[derive(Drop, Serialize)]
+struct OperationObject<'a> {
+    #[serde(flatten)]
+    event: EventObject,
+    operation: &'static str,
+    place: Option<&'a str>,
+}
+
+/// A race of two accesses.
+#[derive(Drop, Serialize)]
+struct OtherObject<'a> {
+    first: OperationObject<'a>,
+    second: OperationObject<'a>,
+}
+
+/// A word's racing pair, what its accesses are, what is between them, the cause of their race and the word's other races.
+#[derive(Drop, Serialize)]
+struct AccountLine<'a> {
+    between: BetweenObject<'a>,
+    buffer: Option<ElementObject<'a>>,
+    cause: &'static str,
+    first: DetailsObject<'a>,
+    others: Vec<OtherObject<'a>>,
+    second: DetailsObject<'a>,
+    #[serde(rename = "type")]
+    line: &'static str,
+    word: WordObject,
 }
 
 /// The line of a word and its racing pair, or that it has none.
@@ -27,86 +82,83 @@ fn no_race_object(alloc: Global, word: Word) -> Object {
 /// # Errors
 /// `Memory`: out of memory.
 pub fn race_json(alloc: Global, word: Word, pair: Option<(EventId, EventId)>) -> Text {
-    let Some((first, second)) = pair else {
-        return line_of(alloc, no_race_object(alloc, word));
+    let race = RaceLine {
+        first: pair.map(|(first, _)| first.into()),
+        second: pair.map(|(_, second)| second.into()),
+        line: if pair.is_some() { "race" } else { "no race" },
+        word: word.into(),
     };
-    let race = Object::new(alloc)
-        .object("first", event_object(alloc, first))
-        .object("second", event_object(alloc, second))
-        .text("type", "race")
-        .object("word", word_object(alloc, word));
-    line_of(alloc, race)
+    line_of(alloc, &race)
 }
 
-/// A barrier instance: its number, its site and its flags, and where the site is in the source.
-fn crossing_object(alloc: Global, places: &PlaceIndex<'_>, crossing: &Crossing) -> Object {
-    let place = places.place_of(Placed::Site(crossing.site));
-    Object::new(alloc)
-        .plain("global", crossing.global)
-        .plain("instance", crossing.instance)
-        .plain("local", crossing.local)
-        .value("place", text_value(alloc, place))
-        .plain("site", crossing.site)
+fn crossing_object<'a>(places: &PlaceIndex<'a>, crossing: &Crossing) -> CrossingObject<'a> {
+    CrossingObject {
+        global: crossing.global,
+        instance: crossing.instance,
+        local: crossing.local,
+        place: places.place_of(Placed::Site(crossing.site)),
+        site: crossing.site,
+    }
 }
 
-/// What is between two accesses: the halves of a hand-over, each if there is one, and barriers.
-fn between_object(alloc: Global, places: &PlaceIndex<'_>, between: &Between) -> Object {
-    let half = |half: Option<DetailedEvent>| {
-        or_null(
-            half,
-            |it| details_object(alloc, places, it.event, &it.details),
-        )
-    };
-    let crossings = &between.crossings;
-    let barriers = array_of(alloc, crossings, |it| crossing_object(alloc, places, it));
-    Object::new(alloc)
-        .value("acquire", half(between.acquire))
-        .value("barriers", barriers)
-        .value("release", half(between.release))
+fn half_object<'a>(
+    places: &PlaceIndex<'a>,
+    half: Option<DetailedEvent>,
+) -> Option<DetailsObject<'a>> {
+    let DetailedEvent { event, details } = half?;
+    Some(details_object(places, event, &details))
 }
 
-/// What an access does, its event, and where it is in the source.
-fn operation_object(
+fn between_object<'a>(
     alloc: Global,
-    places: &PlaceIndex<'_>,
+    places: &PlaceIndex<'a>,
+    between: &Between,
+) -> Result<BetweenObject<'a>, Memory> {
+    let crossings = &between.crossings;
+    Ok(BetweenObject {
+        acquire: half_object(places, between.acquire),
+        barriers: objects_of(alloc, crossings, |it| crossing_object(places, it))?,
+        release: half_object(places, between.release),
+    })
+}
+
+fn operation_object<'a>(
+    places: &PlaceIndex<'a>,
     operation: Operation,
     event: EventId,
-) -> Object {
-    event_object(alloc, event)
-        .text("operation", operation_name(operation))
-        .value("place", place_value(alloc, places, event))
+) -> OperationObject<'a> {
+    OperationObject {
+        event: event.into(),
+        operation: operation_name(operation),
+        place: place_of(places, event),
+    }
 }
 
-/// A race of two accesses.
-fn other_object(alloc: Global, places: &PlaceIndex<'_>, other: &KindedRace) -> Object {
+fn other_object<'a>(places: &PlaceIndex<'a>, other: &KindedRace) -> OtherObject<'a> {
     let (kind, race) = (other.kind, other.race);
-    let first = operation_object(alloc, places, kind.first.operation, race.first);
-    let second = operation_object(alloc, places, kind.second.operation, race.second);
-    Object::new(alloc)
-        .object("first", first)
-        .object("second", second)
+    OtherObject {
+        first: operation_object(places, kind.first.operation, race.first),
+        second: operation_object(places, kind.second.operation, race.second),
+    }
 }
 
-/// A word's racing pair, what its accesses are, what is between them, the cause of their race and the word's other races.
-fn account_object(
+fn account_line<'a>(
     alloc: Global,
-    sides: &Sides<'_>,
-    places: &PlaceIndex<'_>,
+    sides: &Sides<'a>,
+    places: &PlaceIndex<'a>,
     word: Word,
     account: &Account,
-) -> Object {
-    let first = details_object(alloc, places, account.first, &account.first_details);
-    let second = details_object(alloc, places, account.second, &account.second_details);
-    let others = array_of(alloc, &account.others, |it| other_object(alloc, places, it));
-    Object::new(alloc)
-        .object("between", between_object(alloc, places, &account.between))
-        .value("buffer", buffer_value(alloc, sides, word))
-        .text("cause", cause_name(account.cause))
-        .object("first", first)
-        .value("others", others)
-        .object("second", second)
-        .text("type", "race")
-        .object("word", word_object(alloc, word))
+) -> Result<AccountLine<'a>, Memory> {
+    Ok(AccountLine {
+        between: between_object(alloc, places, &account.between)?,
+        buffer: buffer_object(sides, word),
+        cause: cause_name(account.cause),
+        first: details_object(places, account.first, &account.first_details),
+        others: objects_of(alloc, &account.others, |it| other_object(places, it))?,
+        second: details_object(places, account.second, &account.second_details),
+        line: "race",
+        word: word.into(),
+    })
 }
 
 /// The line of a word's racing pair with all that, or that it has none.
@@ -120,8 +172,8 @@ pub fn account_json(
     account: Option<&Account>,
 ) -> Text {
     let Some(account) = account else {
-        return line_of(alloc, no_race_object(alloc, word));
+        return race_json(alloc, word, None);
     };
     let places = PlaceIndex::of(alloc, sides.places)?;
-    line_of(alloc, account_object(alloc, sides, &places, word, account))
+    line_of(alloc, &account_line(alloc, sides, &places, word, account)?)
 }

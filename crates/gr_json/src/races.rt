@@ -1,9 +1,9 @@
 //! The races of a launch kind by kind as JSON.
 
-use crate::report::{divergence_object, end_object};
+use crate::report::{diverge_line, end_line};
 use crate::values::{
-    Object, Text, array_of, buffer_value, event_object, or_null, place_value, push_object,
-    push_objects, word_object,
+    ElementObject, EventObject, Text, WordObject, buffer_object, objects_of, place_of, push_line,
+    push_lines,
 };
 use gr_model::event::{EventId, Word};
 use gr_model::memory::Memory;
@@ -15,99 +15,128 @@ use gr_races::cause::Cause;
 use gr_races::kinds::RaceKind;
 use gr_races::listing::KindEntry;
 use gr_races::names::{cause_name, cause_sentence, operation_name, space_name};
-use gr_races::runs::Run;
+use serde::Serialize;
 use std::alloc::Global;
 
 /// An event, and where it is in the source.
-fn access_object(alloc: Global, places: &PlaceIndex<'_>, event: EventId) -> Object {
-    event_object(alloc, event).value("place", place_value(alloc, places, event))
+#[derive(Drop, Serialize)]
+struct AccessObject<'a> {
+    #[serde(flatten)]
+    event: EventObject,
+    place: Option<&'a str>,
 }
 
 /// A cause, and the sentence about it.
-fn cause_object(alloc: Global, word: Word, cause: Cause) -> Object {
-    Object::new(alloc)
-        .text("name", cause_name(cause))
-        .text("sentence", cause_sentence(word, cause))
+#[derive(Drop, Serialize)]
+struct CauseObject {
+    name: &'static str,
+    sentence: &'static str,
 }
 
 /// A race, its word and its buffer, and its cause if it is known.
-fn race_object(
-    alloc: Global,
-    sides: &Sides<'_>,
-    places: &PlaceIndex<'_>,
-    race: &Race,
-    cause: Option<Cause>,
-) -> Object {
-    let word = race.word;
-    Object::new(alloc)
-        .value("buffer", buffer_value(alloc, sides, word))
-        .value("cause", or_null(cause, |it| cause_object(alloc, word, it)))
-        .object("first", access_object(alloc, places, race.first))
-        .object("second", access_object(alloc, places, race.second))
-        .object("word", word_object(alloc, word))
+#[derive(Drop, Serialize)]
+struct RaceObject<'a> {
+    buffer: Option<ElementObject<'a>>,
+    cause: Option<CauseObject>,
+    first: AccessObject<'a>,
+    second: AccessObject<'a>,
+    word: WordObject,
 }
 
 /// What the two accesses of a kind are.
-fn kind_object(alloc: Global, kind: &RaceKind) -> Object {
-    Object::new(alloc)
-        .plain("all_write_here", kind.all_write_here())
-        .text("first", operation_name(kind.first.operation))
-        .plain("one_group", kind.one_group)
-        .text("second", operation_name(kind.second.operation))
-        .text("space", space_name(kind.space))
+#[derive(Drop, Serialize)]
+struct KindObject {
+    all_write_here: bool,
+    first: &'static str,
+    one_group: bool,
+    second: &'static str,
+    space: &'static str,
 }
 
 /// Words one after another.
-fn run_object(alloc: Global, run: &Run) -> Object {
-    Object::new(alloc)
-        .object("first", word_object(alloc, run.first))
-        .plain("last", run.last)
+#[derive(Drop, Serialize)]
+struct RunObject {
+    first: WordObject,
+    last: u32,
 }
 
 /// A kind, the first of its races, and its words.
-fn entry_object(
-    alloc: Global,
-    sides: &Sides<'_>,
-    places: &PlaceIndex<'_>,
+#[derive(Drop, Serialize)]
+struct KindLine<'a> {
+    kind: KindObject,
+    race: Option<RaceObject<'a>>,
+    runs: Vec<RunObject>,
+    #[serde(rename = "type")]
+    line: &'static str,
+    words: usize,
+}
+
+fn access_object<'a>(places: &PlaceIndex<'a>, event: EventId) -> AccessObject<'a> {
+    AccessObject {
+        event: event.into(),
+        place: place_of(places, event),
+    }
+}
+
+fn cause_object(word: Word, cause: Cause) -> CauseObject {
+    CauseObject {
+        name: cause_name(cause),
+        sentence: cause_sentence(word, cause),
+    }
+}
+
+/// The first race of a kind.
+fn first_race<'a>(
+    sides: &Sides<'a>,
+    places: &PlaceIndex<'a>,
     entry: &KindEntry,
-) -> Object {
-    let first = entry.races.first();
-    let race = or_null(
+) -> Option<RaceObject<'a>> {
+    let Race {
+        word,
         first,
-        |it| race_object(alloc, sides, places, it, entry.kind.cause),
-    );
-    Object::new(alloc)
-        .object("kind", kind_object(alloc, &entry.kind))
-        .value("race", race)
-        .value(
-            "runs",
-            array_of(alloc, &entry.runs, |run| run_object(alloc, run)),
-        )
-        .text("type", "kind")
-        .plain("words", entry.races.len())
+        second,
+    } = *entry.races.first()?;
+    Some(RaceObject {
+        buffer: buffer_object(sides, word),
+        cause: entry.kind.cause.map(|cause| cause_object(word, cause)),
+        first: access_object(places, first),
+        second: access_object(places, second),
+        word: word.into(),
+    })
 }
 
-/// How many of each finding there are, and how many kinds of races.
-fn end_of_kinds(alloc: Global, found: &RacesByKind) -> Object {
-    end_object(alloc, &found.report, found.races).plain("kinds", found.kinds.len())
+fn kind_object(kind: &RaceKind) -> KindObject {
+    KindObject {
+        all_write_here: kind.all_write_here(),
+        first: operation_name(kind.first.operation),
+        one_group: kind.one_group,
+        second: operation_name(kind.second.operation),
+        space: space_name(kind.space),
+    }
 }
 
-fn push_races(
+/// Adds the line of a kind.
+fn push_kind(
     text: &mut Vec<u8>,
     sides: &Sides<'_>,
     places: &PlaceIndex<'_>,
-    found: &RacesByKind,
-    most: Option<u32>,
+    entry: &KindEntry,
 ) -> Result<(), Memory> {
-    let alloc = *text.allocator();
-    let divergences = found.report.divergences.as_slice();
-    push_objects(text, divergences, |it| divergence_object(alloc, it))?;
-    push_objects(
-        text,
-        found.at_most(most),
-        |entry| entry_object(alloc, sides, places, entry),
-    )?;
-    push_object(text, end_of_kinds(alloc, found))
+    let line = KindLine {
+        kind: kind_object(&entry.kind),
+        race: first_race(sides, places, entry),
+        runs: objects_of(
+            *text.allocator(),
+            &entry.runs,
+            |run| RunObject {
+                first: run.first.into(),
+                last: run.last,
+            },
+        )?,
+        line: "kind",
+        words: entry.races.len(),
+    };
+    push_line(text, &line)
 }
 
 /// The divergent barriers of a launch, its races kind by kind, at most `most` kinds, with what side files say about them, and an end
@@ -123,6 +152,11 @@ pub fn races_json(
 ) -> Text {
     let places = PlaceIndex::of(alloc, sides.places)?;
     let mut text = Vec::new(alloc);
-    push_races(&mut text, sides, &places, found, most)?;
+    push_lines(&mut text, found.report.divergences.as_slice(), diverge_line)?;
+    for entry in found.at_most(most) {
+        push_kind(&mut text, sides, &places, entry)?;
+    }
+    let end = end_line(&found.report, found.races, Some(found.kinds.len()));
+    push_line(&mut text, &end)?;
     Ok(text)
 }

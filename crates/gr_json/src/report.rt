@@ -1,72 +1,133 @@
 //! The report of a launch as JSON: a line for how large the launch is, a line for each finding, and the end.
 
-use crate::values::{Object, Text, event_object, push_object, push_objects, word_object};
+use crate::values::{EventObject, Text, WordObject, push_line, push_lines};
 use gr_model::memory::Memory;
-use gr_model::report::{Divergence, Unmatched};
+use gr_model::report::Divergence;
 use gr_races::names::{acquire_name, divergence_name};
 use gr_report::report::Report;
+use serde::Serialize;
 use std::alloc::{Allocator, Global};
 
+/// How large a launch is.
+#[derive(Drop, Serialize)]
+struct LaunchLine {
+    groups: u16,
+    items: u32,
+    records: u64,
+    #[serde(rename = "type")]
+    line: &'static str,
+}
+
+/// A group that is cut.
+#[derive(Drop, Serialize)]
+struct CutLine {
+    group: u16,
+    #[serde(rename = "type")]
+    line: &'static str,
+}
+
+/// A racy word.
+#[derive(Drop, Serialize)]
+struct RaceLine {
+    #[serde(rename = "type")]
+    line: &'static str,
+    word: WordObject,
+}
+
 /// A divergent instance of a group's barriers.
-pub(crate) fn divergence_object(alloc: Global, divergence: &Divergence) -> Object {
-    Object::new(alloc)
-        .text("cause", divergence_name(divergence.cause))
-        .plain("group", divergence.group)
-        .plain("instance", divergence.instance)
-        .text("type", "diverge")
+#[derive(Drop, Serialize)]
+pub(crate) struct DivergeLine {
+    cause: &'static str,
+    group: u16,
+    instance: u32,
+    #[serde(rename = "type")]
+    line: &'static str,
 }
 
 /// An unmatched acquire.
-fn unmatched_object(alloc: Global, acquire: &Unmatched) -> Object {
-    Object::new(alloc)
-        .text("cause", acquire_name(acquire.cause))
-        .object("event", event_object(alloc, acquire.event))
-        .text("type", "unmatched")
+#[derive(Drop, Serialize)]
+struct UnmatchedLine {
+    cause: &'static str,
+    event: EventObject,
+    #[serde(rename = "type")]
+    line: &'static str,
 }
 
-/// How large a launch is.
-fn launch_object<A: Allocator>(alloc: Global, report: &Report<A>) -> Object {
-    Object::new(alloc)
-        .plain("groups", report.groups)
-        .plain("items", report.items)
-        .plain("records", report.records)
-        .text("type", "launch")
+/// How many of each finding there are, how many kinds of races if they are listed by kinds, and how many races.
+#[derive(Drop, Serialize)]
+pub(crate) struct EndLine {
+    diverge: usize,
+    held: u64,
+    #[serde(skip_serializing_if = "Option::is_none")]
+    kinds: Option<usize>,
+    races: usize,
+    #[serde(rename = "type")]
+    line: &'static str,
+    unmatched: usize,
 }
 
-/// How many of each finding there are, and how many races.
-pub(crate) fn end_object<A: Allocator>(alloc: Global, report: &Report<A>, races: usize) -> Object {
-    Object::new(alloc)
-        .plain("diverge", report.divergences.as_slice().len())
-        .plain("held", report.held)
-        .plain("races", races)
-        .text("type", "end")
-        .plain("unmatched", report.unmatched.as_slice().len())
+/// The line of a divergent instance.
+pub(crate) fn diverge_line(divergence: &Divergence) -> DivergeLine {
+    DivergeLine {
+        cause: divergence_name(divergence.cause),
+        group: divergence.group,
+        instance: divergence.instance,
+        line: "diverge",
+    }
+}
+
+/// The end of a report with so many races, of so many kinds if they are listed by kinds.
+pub(crate) fn end_line<A: Allocator>(
+    report: &Report<A>,
+    races: usize,
+    kinds: Option<usize>,
+) -> EndLine {
+    EndLine {
+        diverge: report.divergences.as_slice().len(),
+        held: report.held,
+        kinds,
+        races,
+        line: "end",
+        unmatched: report.unmatched.as_slice().len(),
+    }
 }
 
 fn push_report<A: Allocator>(text: &mut Vec<u8>, report: &Report<A>) -> Result<(), Memory> {
-    let alloc = *text.allocator();
     let races = report.races.as_slice();
-    push_object(text, launch_object(alloc, report))?;
-    push_objects(text, report.cut.as_slice(), |group| {
-        Object::new(alloc)
-            .plain("group", *group)
-            .text("type", "cut")
-    })?;
-    push_objects(text, races, |word| {
-        let word = word_object(alloc, *word);
-        Object::new(alloc).text("type", "race").object("word", word)
-    })?;
-    push_objects(
+    let launch = LaunchLine {
+        groups: report.groups,
+        items: report.items,
+        records: report.records,
+        line: "launch",
+    };
+    push_line(text, &launch)?;
+    push_lines(
         text,
-        report.divergences.as_slice(),
-        |it| divergence_object(alloc, it),
+        report.cut.as_slice(),
+        |group| CutLine {
+            group: *group,
+            line: "cut",
+        },
     )?;
-    push_objects(
+    push_lines(
+        text,
+        races,
+        |word| RaceLine {
+            line: "race",
+            word: (*word).into(),
+        },
+    )?;
+    push_lines(text, report.divergences.as_slice(), diverge_line)?;
+    push_lines(
         text,
         report.unmatched.as_slice(),
-        |it| unmatched_object(alloc, it),
+        |acquire| UnmatchedLine {
+            cause: acquire_name(acquire.cause),
+            event: acquire.event.into(),
+            line: "unmatched",
+        },
     )?;
-    push_object(text, end_object(alloc, report, races.len()))
+    push_line(text, &end_line(report, races.len(), None))
 }
 
 /// The report as lines of JSON, in the order of its text.

@@ -1,6 +1,5 @@
 //! The text of a report with the greatest numbers, and of faults that no file has.
 
-use crate::formats::failing::fail_each;
 use gr_model::event::{EventId, ItemId, Word};
 use gr_model::report::{AcquireCause, Divergence, DivergenceCause, Unmatched};
 use gr_model::shape::ShapeError;
@@ -9,6 +8,7 @@ use gr_record::fault::Fault;
 use gr_report::report::Report;
 use gr_report::rows::Rows;
 use gr_report::{found, write, write_fault};
+use refusing::failing::fail_each;
 use std::alloc::{AllocError, Global};
 use std::test::Fail;
 
