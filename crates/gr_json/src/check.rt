@@ -65,25 +65,6 @@ struct RefusedLine<'a> {
     wrong: &'static str,
 }
 
-fn accepted_line(counts: &Counts) -> AcceptedLine {
-    AcceptedLine {
-        accepted: true,
-        groups: counts.groups,
-        items: counts.items,
-        kinds: KindsObject {
-            barriers: counts.barriers,
-            ends: counts.ends,
-            loads: counts.loads,
-            reads: counts.reads,
-            rmws: counts.rmws,
-            stores: counts.stores,
-            writes: counts.writes,
-        },
-        records: counts.records,
-        line: "check",
-    }
-}
-
 /// The byte and the record of a place in a stream, each if there is one.
 fn byte_and_record(spot: Option<Spot>) -> (Option<u64>, Option<u64>) {
     match spot {
@@ -125,7 +106,25 @@ fn place_object(place: FaultPlace<'_>) -> Option<PlaceObject<'_>> {
 /// `Memory`: out of memory.
 pub fn check_json(alloc: Global, checked: &Checked<'_>) -> Text {
     match *checked {
-        Checked::Accepted(counts) => line_of(alloc, &accepted_line(&counts)),
+        Checked::Accepted(counts) => {
+            let line = AcceptedLine {
+                accepted: true,
+                groups: counts.groups,
+                items: counts.items,
+                kinds: KindsObject {
+                    barriers: counts.barriers,
+                    ends: counts.ends,
+                    loads: counts.loads,
+                    reads: counts.reads,
+                    rmws: counts.rmws,
+                    stores: counts.stores,
+                    writes: counts.writes,
+                },
+                records: counts.records,
+                line: "check",
+            };
+            line_of(alloc, &line)
+        }
         Checked::Refused { fault, place } => {
             let line = RefusedLine {
                 accepted: false,

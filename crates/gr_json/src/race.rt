@@ -101,24 +101,17 @@ fn crossing_object<'a>(places: &PlaceIndex<'a>, crossing: &Crossing) -> Crossing
     }
 }
 
-fn half_object<'a>(
-    places: &PlaceIndex<'a>,
-    half: Option<DetailedEvent>,
-) -> Option<DetailsObject<'a>> {
-    let DetailedEvent { event, details } = half?;
-    Some(details_object(places, event, &details))
-}
-
 fn between_object<'a>(
     alloc: Global,
     places: &PlaceIndex<'a>,
     between: &Between,
 ) -> Result<BetweenObject<'a>, Memory> {
+    let half = |half: DetailedEvent| details_object(places, half.event, &half.details);
     let crossings = &between.crossings;
     Ok(BetweenObject {
-        acquire: half_object(places, between.acquire),
+        acquire: between.acquire.map(half),
         barriers: objects_of(alloc, crossings, |it| crossing_object(places, it))?,
-        release: half_object(places, between.release),
+        release: between.release.map(half),
     })
 }
 

@@ -5,14 +5,12 @@ use crate::values::{
     ElementObject, EventObject, Text, WordObject, buffer_object, objects_of, place_of, push_line,
     push_lines,
 };
-use gr_model::event::{EventId, Word};
+use gr_model::event::EventId;
 use gr_model::memory::Memory;
 use gr_model::race::Race;
 use gr_places::index::PlaceIndex;
 use gr_places::sides::Sides;
 use gr_races::by_kind::RacesByKind;
-use gr_races::cause::Cause;
-use gr_races::kinds::RaceKind;
 use gr_races::listing::KindEntry;
 use gr_races::names::{cause_name, cause_sentence, operation_name, space_name};
 use serde::Serialize;
@@ -78,13 +76,6 @@ fn access_object<'a>(places: &PlaceIndex<'a>, event: EventId) -> AccessObject<'a
     }
 }
 
-fn cause_object(word: Word, cause: Cause) -> CauseObject {
-    CauseObject {
-        name: cause_name(cause),
-        sentence: cause_sentence(word, cause),
-    }
-}
-
 /// The first race of a kind.
 fn first_race<'a>(
     sides: &Sides<'a>,
@@ -98,21 +89,14 @@ fn first_race<'a>(
     } = *entry.races.first()?;
     Some(RaceObject {
         buffer: buffer_object(sides, word),
-        cause: entry.kind.cause.map(|cause| cause_object(word, cause)),
+        cause: entry.kind.cause.map(|cause| CauseObject {
+            name: cause_name(cause),
+            sentence: cause_sentence(word, cause),
+        }),
         first: access_object(places, first),
         second: access_object(places, second),
         word: word.into(),
     })
-}
-
-fn kind_object(kind: &RaceKind) -> KindObject {
-    KindObject {
-        all_write_here: kind.all_write_here(),
-        first: operation_name(kind.first.operation),
-        one_group: kind.one_group,
-        second: operation_name(kind.second.operation),
-        space: space_name(kind.space),
-    }
 }
 
 /// Adds the line of a kind.
@@ -122,8 +106,15 @@ fn push_kind(
     places: &PlaceIndex<'_>,
     entry: &KindEntry,
 ) -> Result<(), Memory> {
+    let kind = &entry.kind;
     let line = KindLine {
-        kind: kind_object(&entry.kind),
+        kind: KindObject {
+            all_write_here: kind.all_write_here(),
+            first: operation_name(kind.first.operation),
+            one_group: kind.one_group,
+            second: operation_name(kind.second.operation),
+            space: space_name(kind.space),
+        },
         race: first_race(sides, places, entry),
         runs: objects_of(
             *text.allocator(),

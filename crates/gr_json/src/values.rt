@@ -63,17 +63,14 @@ pub(crate) struct DetailsObject<'a> {
 
 impl From<Word> for WordObject {
     fn from(word: Word) -> WordObject {
-        match word {
-            Word::Global(number) => WordObject {
-                group: None,
-                number,
-                space: "global",
-            },
-            Word::Local(group, number) => WordObject {
-                group: Some(group),
-                number,
-                space: "local",
-            },
+        let (group, number, space) = match word {
+            Word::Global(number) => (None, number, "global"),
+            Word::Local(group, number) => (Some(group), number, "local"),
+        };
+        WordObject {
+            group,
+            number,
+            space,
         }
     }
 }

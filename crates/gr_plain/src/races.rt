@@ -85,18 +85,6 @@ fn put_divergences<A: Allocator>(text: &mut String<A>, divergences: &[Divergence
     Ok(())
 }
 
-fn put_entries<A: Allocator>(
-    text: &mut String<A>,
-    sides: &Sides<'_>,
-    places: &PlaceIndex<'_, A>,
-    entries: &[KindEntry<A>],
-) -> Added {
-    for entry in entries {
-        put_entry(text, sides, places, entry)?;
-    }
-    Ok(())
-}
-
 fn put_end<A: Allocator>(text: &mut String<A>, found: &RacesByKind<A>) -> Added {
     let (kinds, races, held) = (found.kinds.len(), found.races, found.report.held);
     let diverge = found.report.divergences.as_slice().len();
@@ -119,7 +107,9 @@ pub fn races_text<A: Allocator + Copy>(
     let places = PlaceIndex::of(alloc, sides.places)?;
     let mut text = String::new(alloc);
     put_divergences(&mut text, found.report.divergences.as_slice())?;
-    put_entries(&mut text, sides, &places, found.at_most(most))?;
+    for entry in found.at_most(most) {
+        put_entry(&mut text, sides, &places, entry)?;
+    }
     put_end(&mut text, found)?;
     Ok(text.into_bytes())
 }
