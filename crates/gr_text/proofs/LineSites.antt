@@ -1,5 +1,5 @@
 -- A line has no line feed, and no `@` but that of its site; with its site it is read from its text, and what is read has that text.
-use Rattle.gr_model.proofs.Common.{◌≡◌, ℕ, suc, ◌^◌, ◌<◌, Bool, true, false, List, [], ◌∷◌, ◌++◌, All, refl, ap, arith, inl, inr, ◌+◌, ◌-◌, length, take, Some, None, append_assoc, append-nil, length-append, take_at, get_or-append-add, IfSome, nat_lt, not, ◌==◌, ◌&&◌, decimal, ⊤, slice_index, and_parts, cases_Bool, eqb-true, eqb-false, nat_tests}
+use Rattle.gr_model.proofs.Common.{◌≡◌, ℕ, suc, ◌^◌, ◌<◌, Bool, true, false, List, [], ◌∷◌, ◌++◌, All, refl, ap, arith, inl, inr, ◌+◌, ◌-◌, length, take, Some, None, append_assoc, append-nil, length-append, take_at, drop_at, take-append-drop, IfSome, nat_lt, not, ◌==◌, ◌&&◌, decimal, ⊤, slice_index, and_parts, cases_Bool, eqb-true, eqb-false, nat_tests}
 use Rattle.gr_model.specs.declared.event.Kind.{Kind}
 use Rattle.gr_model.specs.declared.event.Name.{Name}
 use Rattle.gr_model.specs.declared.event.Event.{Event}
@@ -15,7 +15,7 @@ use Rattle.gr_text.specs.LineText.{line_text, sited_text, site_text, name_words,
 use Rattle.gr_text.proofs.LineWords.{are, are-append, are_weaker, are_without, is_digit, decimal_digits, first_back, cut_told, short_again}
 use Rattle.gr_record.specs.Prelude.{has_sites}
 use Rattle.gr_text.proofs.LinesFound.{short_told, read_is_text}
-use Rattle.gr_text.proofs.LineNumbers.{each_some}
+use Rattle.gr_text.proofs.LineNumbers.{each_some, same_self, same_told}
 use Rattle.gr_text.proofs.LinesAgain.{text_is_read}
 
 -- each byte is above that of a line feed, and none is `@`
@@ -74,24 +74,16 @@ sited_above v l said lt = are-append (nat_lt 10) (line_text l.line) (site_text l
 
 -- ---- a space at the end
 
-last_space : (bytes : List ℕ) → slice_index bytes (length bytes - 1) ≡ 32 → bytes ≡ take (length bytes - 1) bytes ++ 32 ∷ []
-last_space [] h = absurd cc
-last_space (b ∷ []) h = ap (λ (x : ℕ). x ∷ []) h
-last_space (b ∷ c ∷ bytes) h =
-    let k : suc (suc (length bytes)) - 1 ≡ suc (suc (length bytes) - 1) = omega arith in
-    let ih = last_space (c ∷ bytes) (rw k at h) in
-    rw k (ap (λ (x : List ℕ). b ∷ x) ih)
-
 unspaced_told : (bytes : List ℕ) → (unspaced bytes ≡ unspaced bytes) × IfSome (unspaced bytes) (λ front. bytes ≡ front ++ 32 ∷ [])
 unfolding unspaced
-unspaced_told bytes = let last = last_space bytes in grind (arith, nat_tests, last)
+unspaced_told bytes = (refl, grind (arith, same_told, take-append-drop))
 
 unspaced_back : (front : List ℕ) → unspaced (front ++ 32 ∷ []) ≡ Some front
 unfolding unspaced
 unspaced_back front =
     let k : length (front ++ 32 ∷ []) - 1 ≡ length front + 0 = omega (arith, length-append front (32 ∷ [])) in
     let z : length front + 0 ≡ length front = omega arith in
-    rw (k, get_or-append-add front (32 ∷ []) 0 0, z, take_at front (32 ∷ []) (length front) refl) refl
+    rw (k, z, drop_at front (32 ∷ []) (length front) refl, take_at front (32 ∷ []) (length front) refl, same_self (32 ∷ [])) refl
 
 -- ---- whole lines
 

@@ -1,6 +1,6 @@
 -- What a line says, word by word.
 -- Source: docs/FORMATS.md, "Text form".
-use Rattle.std.specs.Prelude.{◌≡◌, ◌≢◌, ℕ, zero, suc, ◌-◌, ◌^◌, ◌<◌, Bool, true, false, ◌&&◌, List, [], ◌∷◌, Option, Some, None, nat_eq, nat_lt, nat_le, ◌==◌, codes, decimal, All, length, take, slice_index, if◌then◌else◌}
+use Rattle.std.specs.Prelude.{◌≡◌, ◌≢◌, ℕ, zero, suc, ◌-◌, ◌^◌, ◌<◌, Bool, true, false, ◌&&◌, List, [], ◌∷◌, Option, Some, None, nat_eq, nat_lt, nat_le, ◌==◌, codes, decimal, All, length, take, drop, slice_index, if◌then◌else◌}
 use Rattle.std.specs.Cmp.Lexicographic.{pointwise}
 use Rattle.std.specs.Str.Parse.{digits_value}
 use Rattle.gr_model.specs.declared.limits.TheConstants.{MOST_NAMES}
@@ -197,7 +197,7 @@ line_said v bytes =
 
 -- the bytes before a space that ends them, if one does
 unfoldable pub unspaced : List ℕ → Option (List ℕ)
-unspaced bytes = if slice_index bytes (length bytes - 1) == 32 then Some (take (length bytes - 1) bytes) else None
+unspaced bytes = if same (drop (length bytes - 1) bytes) (codes " ") then Some (take (length bytes - 1) bytes) else None
 
 -- the number of a site is not 0
 unfoldable pub site_said : List ℕ → Option ℕ

@@ -2,7 +2,7 @@
 
 ghost use Rattle.std.specs.Prelude.{◌≡◌, ◌≢◌, ◌^◌, ◌<◌, ◌++◌, ℕ, List, Some, None, IfSome, MatchOption, All, decimal, ◌≤◌, take, []};
 ghost use Rattle.std.specs.Option.{option_map};
-ghost use Rattle.gr_text.specs.LineReading.{at_end, space_said, scope_said, order_said, flags_said, header_made, header_said, version_said, name_said, names_said, kind_said, atomic_said, barrier_said, event_said, checked, line_said, unspaced, site_said, sited_said};
+ghost use Rattle.gr_text.specs.LineReading.{at_end, space_said, scope_said, order_said, flags_said, header_made, header_said, version_said, name_said, names_said, kind_said, atomic_said, barrier_said, event_said, checked, line_said, site_said, sited_said};
 ghost use Rattle.gr_text.specs.declared.line.Line.{Line};
 ghost use Rattle.gr_text.specs.declared.line.SitedLine.{SitedLine};
 ghost use Rattle.gr_text.specs.LineText.{line_text, sited_text};
@@ -23,64 +23,52 @@ const UNUSED: Name = Name {
     release: 0,
 };
 
-#[tactic(auto, unfolding(crate::specs::LineReading::space_said))]
+#[tactic(auto, unfolding(crate::specs::LineReading::space_said, crate::specs::LineReading::same))]
 fn parse_space(word: &[u8]) -> Option<Space>
     ensures { result ≡ space_said word.now }
 {
-    if is_word(word, "g") {
-        Some(Space::Global)
-    } else if is_word(word, "l") {
-        Some(Space::Local)
-    } else {
-        None
+    match word {
+        b"g" => Some(Space::Global),
+        b"l" => Some(Space::Local),
+        _ => None,
     }
 }
 
-#[tactic(auto, unfolding(crate::specs::LineReading::scope_said))]
+#[tactic(auto, unfolding(crate::specs::LineReading::scope_said, crate::specs::LineReading::same))]
 fn parse_scope(word: &[u8]) -> Option<Scope>
     ensures { result ≡ scope_said word.now }
 {
-    if is_word(word, "grp") {
-        Some(Scope::Group)
-    } else if is_word(word, "dev") {
-        Some(Scope::Device)
-    } else {
-        None
+    match word {
+        b"grp" => Some(Scope::Group),
+        b"dev" => Some(Scope::Device),
+        _ => None,
     }
 }
 
-#[tactic(auto, unfolding(crate::specs::LineReading::order_said))]
+#[tactic(auto, unfolding(crate::specs::LineReading::order_said, crate::specs::LineReading::same))]
 fn parse_order(word: &[u8]) -> Option<Order>
     ensures { result ≡ order_said word.now }
 {
-    if is_word(word, "rlx") {
-        Some(Order::Relaxed)
-    } else if is_word(word, "acq") {
-        Some(Order::Acquire)
-    } else if is_word(word, "rel") {
-        Some(Order::Release)
-    } else if is_word(word, "both") {
-        Some(Order::Both)
-    } else {
-        None
+    match word {
+        b"rlx" => Some(Order::Relaxed),
+        b"acq" => Some(Order::Acquire),
+        b"rel" => Some(Order::Release),
+        b"both" => Some(Order::Both),
+        _ => None,
     }
 }
 
 /// The memories that a barrier's flags name, the global one first.
-#[tactic(auto, unfolding(crate::specs::LineReading::flags_said))]
+#[tactic(auto, unfolding(crate::specs::LineReading::flags_said, crate::specs::LineReading::same))]
 fn parse_flags(word: &[u8]) -> Option<(bool, bool)>
     ensures { result ≡ flags_said word.now }
 {
-    if is_word(word, "-") {
-        Some((false, false))
-    } else if is_word(word, "g") {
-        Some((true, false))
-    } else if is_word(word, "l") {
-        Some((false, true))
-    } else if is_word(word, "gl") {
-        Some((true, true))
-    } else {
-        None
+    match word {
+        b"-" => Some((false, false)),
+        b"g" => Some((true, false)),
+        b"l" => Some((false, true)),
+        b"gl" => Some((true, true)),
+        _ => None,
     }
 }
 
@@ -100,14 +88,15 @@ fn make_header(version: Version, group: u16, items: u16, launch: u32) -> Option<
 }
 
 /// The version that the words after the launch of a header's line give.
+#[tactic(auto, unfolding(crate::specs::LineReading::same))]
 fn parse_version(bytes: Option<&[u8]>) -> Option<Version>
     ensures { result ≡ version_said (option_map (λ rest. rest.now) bytes.entry) }
 {
     match bytes {
         None => Some(Version::One),
-        Some(word) if is_word(word, "v2") => Some(Version::Two),
-        Some(word) if is_word(word, "v3") => Some(Version::Three),
-        Some(word) if is_word(word, "v4") => Some(Version::Four),
+        Some(b"v2") => Some(Version::Two),
+        Some(b"v3") => Some(Version::Three),
+        Some(b"v4") => Some(Version::Four),
         Some(_) => None,
     }
 }
@@ -173,18 +162,15 @@ fn parse_names(bytes: Option<&[u8]>) -> Option<([Name; MOST_NAMES], usize)>
     rest.is_none().then_some((names, MOST_NAMES))
 }
 
-#[tactic(auto, unfolding(crate::specs::LineReading::kind_said))]
+#[tactic(auto, unfolding(crate::specs::LineReading::kind_said, crate::specs::LineReading::same))]
 fn parse_kind(word: &[u8], scope: Scope, order: Order) -> Option<Kind>
     ensures { result ≡ kind_said word.now scope order }
 {
-    if is_word(word, "ld") {
-        Some(Kind::Load(scope, order))
-    } else if is_word(word, "st") {
-        Some(Kind::Store(scope, order))
-    } else if is_word(word, "rmw") {
-        Some(Kind::Rmw(scope, order))
-    } else {
-        None
+    match word {
+        b"ld" => Some(Kind::Load(scope, order)),
+        b"st" => Some(Kind::Store(scope, order)),
+        b"rmw" => Some(Kind::Rmw(scope, order)),
+        _ => None,
     }
 }
 
@@ -240,7 +226,7 @@ fn at_end(rest: Option<&[u8]>, event: Option<Event>) -> Option<Event>
 }
 
 /// The record of a line, from the words after the item.
-#[tactic(auto, unfolding(crate::specs::LineReading::event_said))]
+#[tactic(auto, unfolding(crate::specs::LineReading::event_said, crate::specs::LineReading::same))]
 fn parse_event(item: u16, bytes: &[u8]) -> Option<Event>
     ensures { result ≡ event_said item bytes.now }
 {
@@ -252,13 +238,11 @@ fn parse_event(item: u16, bytes: &[u8]) -> Option<Event>
     }
     let space = parse_space(second)?;
     let word = parse_number(third)?;
-    if is_word(kind, "r") {
-        return at_end(rest, Some(plain(item, Kind::Read, space, word)));
+    match kind {
+        b"r" => at_end(rest, Some(plain(item, Kind::Read, space, word))),
+        b"w" => at_end(rest, Some(plain(item, Kind::Write, space, word))),
+        _ => parse_atomic(kind, item, space, word, rest?),
     }
-    if is_word(kind, "w") {
-        return at_end(rest, Some(plain(item, Kind::Write, space, word)));
-    }
-    parse_atomic(kind, item, space, word, rest?)
 }
 
 /// The event, if some stream of this version may have it.
@@ -292,28 +276,16 @@ fn read_line(version: Version, line: &[u8]) -> Option<Line>
     Some(Line::Event(check(version, event)?))
 }
 
-/// The bytes before a space that ends them, if one does.
-#[tactic(auto, unfolding(crate::specs::LineReading::unspaced))]
-fn before_space(bytes: &[u8]) -> Option<&[u8]>
-    ensures { option_map (λ front. front.now) result ≡ unspaced bytes.now }
-{
-    match bytes.split_last() {
-        Some((b' ', front)) => Some(front),
-        _ => None,
-    }
-}
-
 /// The number of a site, which is not 0.
 #[tactic(auto, unfolding(crate::specs::LineReading::site_said))]
 fn parse_site(word: &[u8]) -> Option<u16>
     ensures { result ≡ site_said word.now }
 {
-    let site = parse_short(word)?;
-    if site == 0 { None } else { Some(site) }
+    parse_short(word).filter(|site| *site != 0)
 }
 
 /// What a line of a stream of this version says, with the site at its end.
-#[tactic(auto, unfolding(crate::specs::LineReading::sited_said))]
+#[tactic(auto, unfolding(crate::specs::LineReading::sited_said, crate::specs::LineReading::unspaced, crate::specs::LineReading::same))]
 pub(crate) fn read_sited_line(version: Version, line: &[u8]) -> Option<SitedLine>
     ensures { result ≡ sited_said version line.now }
 {
@@ -326,7 +298,7 @@ pub(crate) fn read_sited_line(version: Version, line: &[u8]) -> Option<SitedLine
         return None;
     }
     let site = parse_site(behind)?;
-    match read_line(version, before_space(before)?)? {
+    match read_line(version, before.strip_suffix(b" ")?)? {
         Line::Header(_) => None,
         Line::Event(event) => Some(SitedLine {
             line: Line::Event(event),
