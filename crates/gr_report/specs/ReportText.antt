@@ -36,7 +36,7 @@ divergence_end Site = codes " site\n"
 divergence_end Flags = codes " flags\n"
 
 abbrev pub divergence_line : Divergence → List ℕ
-divergence_line d = field (codes "diverge ") (decimal d.group) ++ field (codes " ") (decimal d.instance) ++ divergence_end d.cause
+divergence_line d = field (codes "diverge ") (decimal d.group) ++ (field (codes " ") (decimal d.instance) ++ divergence_end d.cause)
 
 -- an unmatched acquire, by its group, item and index, and its cause
 abbrev pub unmatched_end : AcquireCause → List ℕ
@@ -47,9 +47,7 @@ unmatched_end Behind = codes " behind\n"
 abbrev pub unmatched_line : Unmatched → List ℕ
 unmatched_line u =
     field (codes "unmatched ") (decimal u.event.at.group)
-    ++ field (codes " ") (decimal u.event.at.item)
-    ++ field (codes " ") (decimal u.event.index)
-    ++ unmatched_end u.cause
+    ++ (field (codes " ") (decimal u.event.at.item) ++ (field (codes " ") (decimal u.event.index) ++ unmatched_end u.cause))
 
 -- how many lines of each kind there are, and how many events are held
 abbrev pub end_line : WholeReport → List ℕ

@@ -1,5 +1,0 @@
-use Rattle.gr_model.proofs.Common.{append_assoc}
-use Rattle.gr_report.proofs.report_text.UnmatchedRow.put.Goals as goal
-
-pub returns : goal.returns
-returns g c = simp append_assoc (rw (c.from.ensures, c.from-2.ensures, c.from-3.ensures, c.end_of_unmatched.ensures) at c.put_line.ensures)
