@@ -1,8 +1,7 @@
 -- The fields of a record, place by place.
 use Rattle.gr_model.proofs.Common.{◌≡◌, ℕ, zero, suc, ◌+◌, ◌<◌, ◌≤◌, Bool, true, false, List, None, arith, slice_index, not, ◌==◌, ◌||◌, get_or-drop, nat_tests, range_with_len}
 use Rattle.std.specs.List.{find}
-use Rattle.gr_record.specs.declared.header.Version.{Version}
-use Rattle.gr_record.specs.Prelude.{has_sites, field, is_field_ok, bad_field, bad_field_from}
+use Rattle.gr_record.specs.Prelude.{Version, has_sites, field, is_field_ok, bad_field, bad_field_from}
 
 -- both bytes of a number that is 0
 site_zero : (bytes : List ℕ) → field 6 2 bytes ≡ 0 → (slice_index bytes 6 ≡ 0) × (slice_index bytes 7 ≡ 0)

@@ -1,11 +1,8 @@
 -- What is read is in range, and is spelled so.
 use Rattle.gr_model.proofs.Common.{◌≡◌, ℕ, zero, suc, ◌+◌, ◌*◌, ◌/◌, ◌%◌, ◌<◌, ◌≤◌, true, false, cond, List, [], ◌∷◌, length, take, drop, ◌++◌, sym, Option, Some, None, Ok, Err, refl, subst, ◌∙◌, arith, nat_lt, nat_le, ◌==◌, ◌||◌, not, slice_index, leb-false, not-false, nat_tests, take-append-drop, take-take, drop-take, length-drop}
-use Rattle.gr_model.specs.declared.event.Event.{Event}
+use Rattle.gr_record.specs.Prelude.{Event, Header, Version, places, has_sites, record_length, most_groups, most_items, kind_bytes, names_bytes, version_byte, header_spelling, IsHeader, IsSite, field, site_at, is_field_ok, kind_of, space_at, names_at, bad_field_from, is_order_ok, is_naming_ok, event_at, version_of, header_behind, header_at, AreBytes, ReadIsSpelled, ReadHeaderIsSpelled}
 use Rattle.gr_model.specs.Prelude.{IsKindOk, IsEventOk}
 use Rattle.gr_record.specs.declared.error.RecordError.TheVariants as errors
-use Rattle.gr_record.specs.declared.header.Header.{Header}
-use Rattle.gr_record.specs.declared.header.Version.{Version}
-use Rattle.gr_record.specs.Prelude.{places, has_sites, record_length, most_groups, most_items, kind_bytes, names_bytes, version_byte, header_spelling, IsHeader, IsSite, field, site_at, is_field_ok, kind_of, space_at, names_at, bad_field_from, is_order_ok, is_naming_ok, event_at, version_of, header_behind, header_at, AreBytes, ReadIsSpelled, ReadHeaderIsSpelled}
 use Rattle.gr_record.proofs.Fields.{all_pass}
 use Rattle.gr_record.proofs.Judging.{passed}
 use Rattle.gr_record.proofs.Places.{bytes_drop, fields_and_names, names_prefix, names_few, naming_found}

@@ -1,14 +1,7 @@
 -- What is read of bytes is a prefix, and is spelled so.
 use Rattle.gr_model.proofs.Common.{◌≡◌, ℕ, zero, suc, ◌<◌, ◌≤◌, Bool, true, false, List, [], ◌∷◌, ◌++◌, length, take, drop, Result, Ok, Err, refl, sym, ap, ◌∙◌, append_assoc, arith, inl, inr, lt-ltb, le-ltb, cases_lt, cases_Bool, both_ways, take-append-drop, append-nil, length-take, get_or-take, get_or_past, take-take}
-use Rattle.gr_model.specs.declared.event.Event.{Event}
+use Rattle.gr_record.specs.Prelude.{Event, RecordError, Header, Stop, Inside, AtEnd, AtFault, HEADER_LENGTH, record_length, events_of, sited, all_sited, event_spelling, events_spelling, header_spelling, header_at, event_at, Records, step, records_of, AreBytes, close, under, read_from, Runs, IsReadingOf, ReadPrefixIsSpelled, Version}
 use Rattle.gr_model.specs.Prelude.{is_end, is_complete}
-use Rattle.gr_record.specs.declared.error.RecordError.{RecordError}
-use Rattle.gr_record.specs.declared.header.Header.{Header}
-use Rattle.gr_record.specs.declared.stop.Stop.{Stop}
-use Rattle.gr_record.specs.declared.stop.Stop.TheVariants.{Inside, AtEnd, AtFault}
-use Rattle.gr_record.specs.declared.layout.TheConstants.{HEADER_LENGTH}
-use Rattle.gr_record.specs.Prelude.{record_length, events_of, sited, all_sited, event_spelling, events_spelling, header_spelling, header_at, event_at, Records, step, records_of, AreBytes, close, under, read_from, Runs, IsReadingOf, ReadPrefixIsSpelled}
-use Rattle.gr_record.specs.declared.header.Version.{Version}
 use Rattle.gr_record.proofs.Loop.{short, too_many, next}
 use Rattle.gr_record.proofs.Places.{bytes_drop}
 use Rattle.gr_record.proofs.Found.{read_is_spelled, read_header_is_spelled}

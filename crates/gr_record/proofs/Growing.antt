@@ -1,11 +1,7 @@
 -- What is read of more bytes, from what was read of fewer.
 use Rattle.gr_model.proofs.Common.{◌≡◌, ℕ, zero, suc, ◌-◌, ◌<◌, ◌≤◌, List, ◌++◌, length, take, drop, Result, refl, arith, inl, inr, cases_lt, take-append-le, drop-append-le, length-append}
 use Rattle.std.proofs.Math.Nat.{suc-sub-suc, sub-zero}
-use Rattle.gr_model.specs.declared.event.Event.{Event}
-use Rattle.gr_record.specs.declared.error.RecordError.{RecordError}
-use Rattle.gr_record.specs.declared.stop.Stop.{Stop}
-use Rattle.gr_record.specs.declared.stop.Stop.TheVariants.{Inside, AtEnd, AtFault}
-use Rattle.gr_record.specs.Prelude.{Records, step, records_at}
+use Rattle.gr_record.specs.Prelude.{Event, RecordError, Stop, Inside, AtEnd, AtFault, Records, step, records_at}
 use Rattle.gr_record.proofs.Loop.{with_prefix, short, too_many, next}
 
 -- the records of bytes that others follow, where next is what is read of those that were left and the others

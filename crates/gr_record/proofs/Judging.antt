@@ -1,11 +1,7 @@
 -- The tests of a record, in their order.
 use Rattle.gr_model.proofs.Common.{◌≡◌, ℕ, Bool, true, false, cond, List, Option, Some, None, Result, Ok, Err, arith, ◌≢◌}
-use Rattle.gr_model.specs.declared.event.Event.{Event}
-use Rattle.gr_model.specs.declared.event.Name.{Name}
-use Rattle.gr_record.specs.declared.error.RecordError.{RecordError}
+use Rattle.gr_record.specs.Prelude.{Event, Name, RecordError, unless_bad, unless_bad_names, event_at, header_at, Header}
 use Rattle.gr_record.specs.declared.error.RecordError.TheVariants as errors
-use Rattle.gr_record.specs.Prelude.{unless_bad, unless_bad_names, event_at, header_at}
-use Rattle.gr_record.specs.declared.header.Header.{Header}
 
 -- what a record says whose kind, field, order, names and item are judged so
 abbrev pub judged_by : Bool → Option ℕ → Bool → Option (List Name) → Bool → (List Name → Event) → Result Event RecordError

@@ -1,11 +1,8 @@
 -- Reading records one after the other, as a loop does.
 use Rattle.gr_model.proofs.Common.{◌≡◌, ℕ, zero, suc, ◌+◌, ◌-◌, ◌<◌, ◌≤◌, true, false, List, [], ◌∷◌, ◌++◌, length, take, drop, Result, Ok, Err, refl, sym, ap, ◌∙◌, append_assoc, arith, lt-ltb, le-ltb}
-use Rattle.gr_model.specs.declared.event.Event.{Event}
+use Rattle.gr_record.specs.Prelude.{Event, RecordError, Records, behind, step, records_at, whole, Inside, AtFault}
 use Rattle.gr_model.specs.Prelude.{is_end}
-use Rattle.gr_record.specs.declared.error.RecordError.{RecordError}
 use Rattle.gr_record.specs.declared.error.RecordError.TheVariants as errors
-use Rattle.gr_record.specs.Prelude.{Records, behind, step, records_at, whole}
-use Rattle.gr_record.specs.declared.stop.Stop.TheVariants.{Inside, AtFault}
 use Rattle.gr_record.specs.WholeStreams.{Fails}
 use Rattle.gr_record.proofs.Judging.{event_apart}
 use Rattle.gr_record.proofs.Numbers.{one_left}

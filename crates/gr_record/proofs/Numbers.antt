@@ -1,9 +1,6 @@
 -- Numbers of two, four and eight bytes, and the numbers of spaces, scopes, orders and flags.
 use Rattle.gr_model.proofs.Common.{◌≡◌, ℕ, suc, ◌+◌, ◌-◌, ◌*◌, ◌/◌, ◌%◌, ◌<◌, true, arith, nat_lt, nat_le, ◌==◌, ◌||◌, ◌&&◌}
-use Rattle.gr_model.specs.declared.event.Space.{Space}
-use Rattle.gr_model.specs.declared.event.Scope.{Scope}
-use Rattle.gr_model.specs.declared.event.Order.{Order}
-use Rattle.gr_record.specs.Prelude.{space_byte, scope_byte, order_byte, space_of, scope_of, order_of}
+use Rattle.gr_record.specs.Prelude.{Space, Scope, Order, space_byte, scope_byte, order_byte, space_of, scope_of, order_of}
 
 -- a loop that counts from i to n has one step to go, and those after it
 pub one_left : (n i : ℕ) → i < n → n - i ≡ suc (n - (i + 1))

@@ -1,7 +1,6 @@
 -- What is known of bytes that were read, from what was known of the reader.
 use Rattle.gr_model.proofs.Common.{arith, ◌≡◌, ℕ, List, Option, None, Some, Result, Err, subst, IfSome}
-use Rattle.gr_record.specs.declared.fault.Fault.{Fault}
-use Rattle.gr_record.specs.Prelude.{Fails}
+use Rattle.gr_record.specs.Prelude.{Fault, Fails}
 
 pub at_known : (known : Option (List ℕ)) (bytes : List ℕ) (P : List ℕ → Type 0) → IfSome known (λ xs. bytes ≡ xs) → P bytes → IfSome known P
 at_known None bytes P e p = tt

@@ -1,13 +1,8 @@
 -- Names in their places: what is read from the bytes of names, and what the bytes of names that were read are.
 use Rattle.gr_model.proofs.Common.{◌≡◌, ℕ, zero, suc, ◌+◌, ◌*◌, ◌<◌, ◌≤◌, true, false, List, [], ◌∷◌, ◌++◌, length, take, drop, refl, arith, inl, inr, All, ◌==◌, ◌↔◌, suc-add, get_or-drop, eqb-true, leb-true, le-leb, and_parts, and_from, cases_Bool, nat_tests, All-cons, All-nil, All-tail}
-use Rattle.gr_model.specs.declared.event.Name.{Name}
-use Rattle.gr_model.specs.declared.event.Kind.{Kind}
+use Rattle.gr_record.specs.Prelude.{Name, Kind, MOST_GROUPS, MOST_ITEMS_OF_A_GROUP, Version, places, record_length, most_groups, most_items, IsHeader, names_bytes, AreBytes, are_unused, name_in, names_in, field, is_in_range, is_below, are_in_order, is_naming_ok, Header}
 use Rattle.gr_model.specs.Prelude.{IsNamingOk, IsNameInRange, IsNameWithin, AreAscending, AreNamesWithin, is_acquire_kind}
-use Rattle.gr_model.specs.declared.limits.TheConstants.{MOST_GROUPS, MOST_ITEMS_OF_A_GROUP}
 use Rattle.gr_model.proofs.Bounds.{names_within}
-use Rattle.gr_record.specs.declared.header.Version.{Version}
-use Rattle.gr_record.specs.Prelude.{places, record_length, most_groups, most_items, IsHeader, names_bytes, AreBytes, are_unused, name_in, names_in, field, is_in_range, is_below, are_in_order, is_naming_ok}
-use Rattle.gr_record.specs.declared.header.Header.{Header}
 use Rattle.gr_record.proofs.Numbers.{two, two_again, four, four_again}
 
 pub bytes_drop : (n : ℕ) (bytes : List ℕ) → AreBytes bytes → AreBytes (drop n bytes)

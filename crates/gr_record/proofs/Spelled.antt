@@ -1,14 +1,7 @@
 -- What is spelled is read again, whatever follows it.
 use Rattle.gr_model.proofs.Common.{◌≡◌, ℕ, ◌+◌, ◌*◌, ◌/◌, ◌%◌, ◌<◌, ◌≤◌, true, List, [], ◌∷◌, ◌++◌, length, drop, Some, Ok, refl, ap, ap₂, arith, All, ◌==◌, ◌||◌, drop_at, length-append, lt-leb, nat_tests}
-use Rattle.gr_model.specs.declared.event.Event.{Event}
-use Rattle.gr_model.specs.declared.event.Kind.{Kind}
-use Rattle.gr_model.specs.declared.event.Kind.TheVariants.{End}
-use Rattle.gr_model.specs.declared.event.Name.{Name}
-use Rattle.gr_model.specs.declared.event.Space.{Space}
+use Rattle.gr_record.specs.Prelude.{Event, Kind, End, Name, Space, Header, Version, places, has_sites, record_length, Sited, IsSite, kind_bytes, names_bytes, version_byte, event_spelling, bad_field_from, kind_of, space_at, names_in, naming, version_of, event_at, site_at, header_at, SpelledIsRead, SpelledHeaderIsRead, NoSpellingBeginsAnother}
 use Rattle.gr_model.specs.Prelude.{IsNamingOk, IsKindOk}
-use Rattle.gr_record.specs.declared.header.Header.{Header}
-use Rattle.gr_record.specs.declared.header.Version.{Version}
-use Rattle.gr_record.specs.Prelude.{places, has_sites, record_length, Sited, IsSite, kind_bytes, names_bytes, version_byte, event_spelling, bad_field_from, kind_of, space_at, names_in, naming, version_of, event_at, site_at, header_at, SpelledIsRead, SpelledHeaderIsRead, NoSpellingBeginsAnother}
 use Rattle.gr_record.proofs.Places.{fields_and_names, groups_within, items_within, names_length, names_again, naming_back, each_in_range, IsNameOf}
 use Rattle.gr_record.proofs.Numbers.{two_again, four_again, space_back, scope_back, order_back}
 

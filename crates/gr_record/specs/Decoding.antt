@@ -1,16 +1,9 @@
 -- What is read of one stream however far its bytes have come, and what a decoder keeps of the bytes fed to it.
 -- Source: docs/FORMATS.md, "Stream" and "Faults of a whole record".
 use Rattle.std.specs.Prelude.{◌≡◌, ◌≢◌, ℕ, Bool, true, false, ◌+◌, ◌-◌, ◌/◌, ◌<◌, ◌≤◌, List, [], ◌∷◌, ◌++◌, length, take, drop, map, Option, Some, None, Result, Ok, Err, nat_lt, if◌then◌else◌}
-use Rattle.gr_model.specs.declared.event.Event.{Event}
-use Rattle.gr_model.specs.declared.limits.TheConstants.{MOST_RECORDS}
-use Rattle.gr_record.specs.declared.error.RecordError.{RecordError}
+use Rattle.gr_record.specs.Types.{Event, MOST_RECORDS, RecordError, Header, Part, Stop, Inside, AtEnd, AtFault, HEADER_LENGTH, RECORD_LENGTH}
 use Rattle.gr_record.specs.declared.error.RecordError.TheVariants as errors
-use Rattle.gr_record.specs.declared.header.Header.{Header}
-use Rattle.gr_record.specs.declared.part.Part.{Part}
 use Rattle.gr_record.specs.declared.part.Part.TheVariants as parts
-use Rattle.gr_record.specs.declared.stop.Stop.{Stop}
-use Rattle.gr_record.specs.declared.stop.Stop.TheVariants.{Inside, AtEnd, AtFault}
-use Rattle.gr_record.specs.declared.layout.TheConstants.{HEADER_LENGTH, RECORD_LENGTH}
 use Rattle.gr_record.specs.Versions.{record_length}
 use Rattle.gr_record.specs.Reading.{header_at}
 use Rattle.gr_record.specs.Fronts.{Records, records_of}

@@ -1,9 +1,8 @@
 -- The fault of a stream in an input of several, and which faults a call can have.
 -- Source: docs/FORMATS.md, "Faults".
 use Rattle.std.specs.Prelude.{◌≢◌, ℕ}
-use Rattle.gr_record.specs.declared.error.RecordError.{RecordError}
+use Rattle.gr_record.specs.Types.{RecordError, Fault}
 use Rattle.gr_record.specs.declared.error.RecordError.TheVariants as errors
-use Rattle.gr_record.specs.declared.fault.Fault.{Fault}
 use Rattle.gr_record.specs.declared.fault.Fault.TheVariants.{Stream, Read, Write, Memory, Threads}
 
 -- the fault of the stream at a place; out of memory is no stream's fault

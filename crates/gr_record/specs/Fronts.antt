@@ -1,13 +1,9 @@
 -- What is read of the prefix of a list of bytes: records up to an end, up to bytes that are no whole record, or up to a fault.
 -- Source: docs/FORMATS.md, "Stream" and "Faults of a whole record".
 use Rattle.std.specs.Prelude.{ℕ, zero, suc, List, [], ◌∷◌, length, take, drop, nat_lt, Result, Ok, Err, if◌then◌else◌}
-use Rattle.gr_model.specs.declared.event.Event.{Event}
+use Rattle.gr_record.specs.Types.{Event, Header, RecordError, Stop, Inside, AtEnd, AtFault}
 use Rattle.gr_model.specs.Prelude.{is_end}
-use Rattle.gr_record.specs.declared.header.Header.{Header}
-use Rattle.gr_record.specs.declared.error.RecordError.{RecordError}
 use Rattle.gr_record.specs.declared.error.RecordError.TheVariants as errors
-use Rattle.gr_record.specs.declared.stop.Stop.{Stop}
-use Rattle.gr_record.specs.declared.stop.Stop.TheVariants.{Inside, AtEnd, AtFault}
 use Rattle.gr_record.specs.Versions.{record_length}
 use Rattle.gr_record.specs.Reading.{event_at}
 

@@ -1,7 +1,7 @@
 -- What a call returns besides what its input means.
 -- Source: docs/FORMATS.md, "Faults".
 use Rattle.std.specs.Prelude.{◌≡◌, Result, Ok, Err}
-use Rattle.gr_record.specs.declared.fault.Fault.{Fault}
+use Rattle.gr_record.specs.Types.{Fault}
 use Rattle.gr_record.specs.declared.fault.Fault.TheVariants as faults
 
 -- a fault of reading that no input determines: of memory or the reader

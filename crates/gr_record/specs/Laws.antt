@@ -1,10 +1,7 @@
 -- The laws between spelling and reading.
 -- Source: docs/FORMATS.md, "Stream".
 use Rattle.std.specs.Prelude.{◌≡◌, ℕ, ◌<◌, ◌≤◌, List, ◌++◌, length, take, slice_index, Ok}
-use Rattle.gr_model.specs.declared.event.Event.{Event}
-use Rattle.gr_model.specs.declared.limits.TheConstants.{MOST_ITEMS_OF_A_GROUP}
-use Rattle.gr_record.specs.declared.header.Header.{Header}
-use Rattle.gr_record.specs.declared.layout.TheConstants.{HEADER_LENGTH}
+use Rattle.gr_record.specs.Types.{Event, MOST_ITEMS_OF_A_GROUP, Header, HEADER_LENGTH}
 use Rattle.gr_record.specs.Versions.{record_length}
 use Rattle.gr_record.specs.Spelling.{header_spelling, event_spelling, IsHeader, IsRecord}
 use Rattle.gr_record.specs.Reading.{header_at, event_at, site_at}

@@ -6,6 +6,7 @@ pub mod Laws
 pub mod Reading
 pub mod Sites
 pub mod Spelling
+pub mod Types
 pub mod Versions
 pub mod WholeStreams
 pub mod InputFaults

@@ -1,13 +1,8 @@
 -- The laws between spelling and reading of whole prefixes: a header and records.
 -- Source: docs/FORMATS.md, "Stream".
 use Rattle.std.specs.Prelude.{◌≡◌, ℕ, ◌<◌, ◌≤◌, List, [], ◌∷◌, ◌++◌, length, drop, Option, Some, None, IsTrue, ⊤, if◌then◌else◌}
-use Rattle.gr_model.specs.declared.event.Event.{Event}
+use Rattle.gr_record.specs.Types.{Event, RecordError, Header, Stop, Inside, AtEnd, AtFault, HEADER_LENGTH}
 use Rattle.gr_model.specs.Prelude.{is_end, is_complete}
-use Rattle.gr_record.specs.declared.error.RecordError.{RecordError}
-use Rattle.gr_record.specs.declared.header.Header.{Header}
-use Rattle.gr_record.specs.declared.stop.Stop.{Stop}
-use Rattle.gr_record.specs.declared.stop.Stop.TheVariants.{Inside, AtEnd, AtFault}
-use Rattle.gr_record.specs.declared.layout.TheConstants.{HEADER_LENGTH}
 use Rattle.gr_record.specs.Spelling.{header_spelling, events_spelling, IsHeader, IsRecord}
 use Rattle.gr_record.specs.Laws.{AreBytes}
 use Rattle.gr_record.specs.Sites.{Sited, events_of, all_sited}

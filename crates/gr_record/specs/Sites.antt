@@ -1,8 +1,7 @@
 -- Records with their sites in the source.
 -- Source: docs/FORMATS.md, "Stream".
 use Rattle.std.specs.Prelude.{◌≡◌, ℕ, ◌<◌, ◌^◌, List, [], ◌∷◌, map, take, drop, IsFalse}
-use Rattle.gr_model.specs.declared.event.Event.{Event}
-use Rattle.gr_record.specs.declared.header.Version.{Version}
+use Rattle.gr_record.specs.Types.{Event, Version}
 use Rattle.gr_record.specs.Versions.{has_sites, record_length}
 use Rattle.gr_record.specs.Reading.{site_at}
 

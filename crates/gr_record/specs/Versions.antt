@@ -1,10 +1,7 @@
 -- What the version of a stream says: how many names a record has room for, how many bytes it has, whether it says its site, and how many groups and items its launch may have.
 -- Source: docs/FORMATS.md, "Stream".
 use Rattle.std.specs.Prelude.{ℕ, Bool, true, false}
-use Rattle.gr_model.specs.declared.limits.TheConstants.{FEW_GROUPS, FEW_ITEMS_OF_A_GROUP, MOST_GROUPS, MOST_ITEMS_OF_A_GROUP, MOST_NAMES}
-use Rattle.gr_record.specs.declared.header.Version.{Version}
-use Rattle.gr_record.specs.declared.header.Version.TheVariants.{One, Two, Three, Four}
-use Rattle.gr_record.specs.declared.layout.TheConstants.{RECORD_LENGTH, LONG_RECORD_LENGTH}
+use Rattle.gr_record.specs.Types.{FEW_GROUPS, FEW_ITEMS_OF_A_GROUP, MOST_GROUPS, MOST_ITEMS_OF_A_GROUP, MOST_NAMES, Version, One, Two, Three, Four, RECORD_LENGTH, LONG_RECORD_LENGTH}
 
 abbrev pub places : Version → ℕ
 places One = 1

@@ -1,18 +1,12 @@
 -- What is at the front of a list of bytes: a header, or the records of a stream up to its end; and the bytes after it.
 -- Source: docs/FORMATS.md, "Stream".
 use Rattle.std.specs.Prelude.{◌≡◌, ℕ, List, ◌++◌, length, drop, nat_lt, Result, Ok, Err, if◌then◌else◌}
-use Rattle.gr_model.specs.declared.event.Event.{Event}
-use Rattle.gr_model.specs.declared.limits.TheConstants.{MOST_RECORDS}
-use Rattle.gr_record.specs.declared.error.RecordError.{RecordError}
+use Rattle.gr_record.specs.Types.{Event, MOST_RECORDS, RecordError, Header, HEADER_LENGTH, Stop, Inside, AtEnd, AtFault}
 use Rattle.gr_record.specs.declared.error.RecordError.TheVariants as errors
-use Rattle.gr_record.specs.declared.header.Header.{Header}
-use Rattle.gr_record.specs.declared.layout.TheConstants.{HEADER_LENGTH}
 use Rattle.gr_record.specs.Sites.{Sited}
 use Rattle.gr_record.specs.Spelling.{header_spelling, events_spelling}
 use Rattle.gr_record.specs.Reading.{header_at}
 use Rattle.gr_record.specs.Fronts.{Records, records_of}
-use Rattle.gr_record.specs.declared.stop.Stop.{Stop}
-use Rattle.gr_record.specs.declared.stop.Stop.TheVariants.{Inside, AtEnd, AtFault}
 
 infixl 10 ◌>>=◌
 abbrev pub ◌>>=◌ : {X Y : Type 0} → Result X RecordError → (X → Result Y RecordError) → Result Y RecordError

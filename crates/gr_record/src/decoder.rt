@@ -7,11 +7,7 @@ ghost use Rattle.std.specs.Prelude.{◌≡◌, ◌≢◌, ◌+◌, ◌<◌, ◌�
 ghost use Rattle.std.specs.Vec.{vec_len, vec_capacity};
 ghost use Rattle.gr_model.specs.Prelude.{is_end};
 ghost use Rattle.gr_record.specs.declared.error.RecordError.TheVariants.{Memory as OutOfMemory};
-ghost use Rattle.gr_record.specs.declared.header.Header.{Header};
-ghost use Rattle.gr_record.specs.declared.part.Part.{Part};
-ghost use Rattle.gr_record.specs.declared.stop.Stop.TheVariants.{Inside, AtEnd, AtFault};
-ghost use Rattle.gr_record.specs.Versions.{record_length};
-ghost use Rattle.gr_record.specs.Decoding.{Standing, StandsFor, fresh, unit_length, missing, units_in, stop_behind, Continues, answer, last_answer, GrowsAs, HasMemory, reading, parts_of};
+ghost use Rattle.gr_record.specs.Prelude.{Header, Part, Inside, AtEnd, AtFault, record_length, Standing, StandsFor, fresh, unit_length, missing, units_in, stop_behind, Continues, answer, last_answer, GrowsAs, HasMemory, reading, parts_of};
 
 use crate::error::RecordError;
 use crate::header::Header;

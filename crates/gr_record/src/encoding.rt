@@ -3,9 +3,7 @@
 ghost use Rattle.std.specs.Prelude.{◌≡◌, ◌≤◌, length};
 ghost use Rattle.std.specs.List.{slice_get};
 ghost use Rattle.gr_model.specs.Prelude.{IsEventOk};
-ghost use Rattle.gr_record.specs.declared.header.Version.TheVariants.{One, Two, Three, Four};
-ghost use Rattle.gr_record.specs.Sites.{unsited};
-ghost use Rattle.gr_record.specs.Spelling.{IsHeader, header_spelling, event_spelling, kind_bytes, fields_bytes, place_bytes, space_byte, scope_byte, order_byte, bit, version_byte};
+ghost use Rattle.gr_record.specs.Prelude.{One, Two, Three, Four, unsited, IsHeader, header_spelling, event_spelling, kind_bytes, fields_bytes, place_bytes, space_byte, scope_byte, order_byte, bit, version_byte};
 
 use crate::header::{Header, Version};
 use crate::layout::{FIELDS_LENGTH, HEADER_LENGTH, LONG_RECORD_LENGTH, NAME_LENGTH, RECORD_LENGTH};

@@ -2,7 +2,7 @@
 
 ghost use Rattle.std.specs.Prelude.{◌≡◌};
 ghost use Rattle.gr_record.specs.declared.fault.Fault.TheVariants.{Memory as OutOfMemory};
-ghost use Rattle.gr_record.specs.Faults.{IsOfValues, stream_fault};
+ghost use Rattle.gr_record.specs.Prelude.{IsOfValues, stream_fault};
 
 use crate::error::RecordError;
 use gr_model::memory::Memory;

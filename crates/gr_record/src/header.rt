@@ -1,7 +1,7 @@
 //! What comes before the records of a stream (docs/FORMATS.md, "Stream").
 
 ghost use Rattle.std.specs.Prelude.{◌≡◌, ◌<◌, ◌≤◌};
-ghost use Rattle.gr_record.specs.Versions.{places, has_sites, record_length, most_groups, most_items};
+ghost use Rattle.gr_record.specs.Prelude.{places, has_sites, record_length, most_groups, most_items};
 
 use crate::layout::{LONG_RECORD_LENGTH, RECORD_LENGTH};
 use gr_model::limits::{

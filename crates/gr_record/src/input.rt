@@ -2,7 +2,7 @@
 
 ghost use Rattle.std.specs.Prelude.{◌≡◌, ◌++◌, IfOk, IfErr, IfSome, OnOk};
 ghost use Rattle.std.specs.Io.KnownBytes.{IsAtEnd};
-ghost use Rattle.gr_record.specs.InputFaults.{IsOutside};
+ghost use Rattle.gr_record.specs.Prelude.{IsOutside};
 
 use crate::fault::Fault;
 use gr_model::memory::Memory;

@@ -1,8 +1,7 @@
 //! Laws between the bytes of a stream and what they say. Each is the contract of a function that does nothing;
 //! docs/FORMATS.md, "Stream", has them in words.
 
-ghost use Rattle.gr_record.specs.Laws.{SpelledIsRead, SpelledHeaderIsRead, ReadIsSpelled, ReadHeaderIsSpelled, NoSpellingBeginsAnother};
-ghost use Rattle.gr_record.specs.PrefixLaws.{SpelledPrefixIsRead, ReadPrefixIsSpelled, FaultStays};
+ghost use Rattle.gr_record.specs.Prelude.{SpelledIsRead, SpelledHeaderIsRead, ReadIsSpelled, ReadHeaderIsSpelled, NoSpellingBeginsAnother, SpelledPrefixIsRead, ReadPrefixIsSpelled, FaultStays};
 
 /// A record or header in range is read from the bytes that spell it, whatever follows those, and so is the record's site.
 /// A header and the records after it are read from the bytes that spell them.

@@ -4,9 +4,7 @@
 //! record").
 
 ghost use Rattle.std.specs.Prelude.{◌≡◌, ◌≤◌, ◌*◌, ◌||◌, ◌==◌, IsTrue, None, Some, IfOk, if◌then◌else◌, [], length, take};
-ghost use Rattle.gr_record.specs.Spelling.{IsHeader};
-ghost use Rattle.gr_record.specs.Versions.{has_sites, record_length};
-ghost use Rattle.gr_record.specs.Reading.{field, version_of, header_at, header_behind, is_field_ok, bad_field, site_at, space_of, scope_of, order_of, kind_of, space_at, are_unused, name_in, names_in, names_at, is_order_ok, naming, event_at};
+ghost use Rattle.gr_record.specs.Prelude.{IsHeader, has_sites, record_length, field, version_of, header_at, header_behind, is_field_ok, bad_field, site_at, space_of, scope_of, order_of, kind_of, space_at, are_unused, name_in, names_in, names_at, is_order_ok, naming, event_at};
 
 use crate::error::RecordError;
 use crate::header::{Header, Version};

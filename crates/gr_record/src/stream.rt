@@ -1,10 +1,9 @@
 //! Reading a prefix of a list of bytes: a header, or the records of a stream up to its end.
 
 ghost use Rattle.std.specs.Prelude.{◌≡◌, ◌≢◌, ◌≤◌, length, Ok, IfErr, IfOk};
-ghost use Rattle.gr_record.specs.Spelling.{IsHeader};
+ghost use Rattle.gr_record.specs.Prelude.{IsHeader, records_at, behind_records_at, front_header_at, front_records_at};
 ghost use Rattle.gr_record.specs.declared.error.RecordError.TheVariants as errors;
-ghost use Rattle.gr_record.specs.Fronts.{records_at};
-ghost use Rattle.gr_record.specs.WholeStreams.{Gives, behind_records_at, front_header_at, front_records_at};
+ghost use Rattle.gr_record.specs.WholeStreams.{Gives};
 
 use crate::error::RecordError;
 use crate::header::Header;

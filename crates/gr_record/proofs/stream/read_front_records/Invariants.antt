@@ -1,6 +1,5 @@
 use Rattle.gr_model.proofs.Common.{◌≡◌, ◌-◌}
-use Rattle.gr_model.specs.declared.limits.TheConstants.{MOST_RECORDS}
-use Rattle.gr_record.specs.Prelude.{records_of, whole, front_records_at}
+use Rattle.gr_record.specs.Prelude.{MOST_RECORDS, records_of, whole, front_records_at}
 use Rattle.gr_record.proofs.Loop.{with_prefix}
 use Rattle.gr_record.proofs.stream.read_front_records.Given as goal
 

@@ -1,6 +1,5 @@
 use Rattle.gr_model.proofs.Common.{◌≡◌, ◌+◌, ◌≤◌, [], length, vec_len, vec_capacity}
-use Rattle.gr_record.specs.declared.stop.Stop.TheVariants.{Inside}
-use Rattle.gr_record.specs.Prelude.{units_in, Continues}
+use Rattle.gr_record.specs.Prelude.{Inside, units_in, Continues}
 use Rattle.gr_record.proofs.decoder.Decoder.take_whole.Given as goal
 
 abbrev pub invariant-loop-self : goal.invariant-loop-self

@@ -1,0 +1,21 @@
+-- The types, variants and constants of events, headers and faults that definitions and proofs cite most, passed on from one place. Declares nothing.
+pub use Rattle.gr_model.specs.declared.event.Event.{Event}
+pub use Rattle.gr_model.specs.declared.event.Kind.{Kind}
+pub use Rattle.gr_model.specs.declared.event.Kind.TheVariants.{Barrier, End, Load, Read, Rmw, Store, Write}
+pub use Rattle.gr_model.specs.declared.event.Name.{Name}
+pub use Rattle.gr_model.specs.declared.event.Order.{Order}
+pub use Rattle.gr_model.specs.declared.event.Order.TheVariants.{Acquire, Both, Relaxed, Release}
+pub use Rattle.gr_model.specs.declared.event.Scope.{Scope}
+pub use Rattle.gr_model.specs.declared.event.Scope.TheVariants.{Device, Group}
+pub use Rattle.gr_model.specs.declared.event.Space.{Space}
+pub use Rattle.gr_model.specs.declared.event.Space.TheVariants.{Global, Local}
+pub use Rattle.gr_model.specs.declared.limits.TheConstants.{FEW_GROUPS, FEW_ITEMS_OF_A_GROUP, MOST_GROUPS, MOST_ITEMS_OF_A_GROUP, MOST_NAMES, MOST_RECORDS}
+pub use Rattle.gr_record.specs.declared.error.RecordError.{RecordError}
+pub use Rattle.gr_record.specs.declared.fault.Fault.{Fault}
+pub use Rattle.gr_record.specs.declared.header.Header.{Header}
+pub use Rattle.gr_record.specs.declared.header.Version.{Version}
+pub use Rattle.gr_record.specs.declared.header.Version.TheVariants.{Four, One, Three, Two}
+pub use Rattle.gr_record.specs.declared.layout.TheConstants.{HEADER_LENGTH, LONG_RECORD_LENGTH, RECORD_LENGTH}
+pub use Rattle.gr_record.specs.declared.part.Part.{Part}
+pub use Rattle.gr_record.specs.declared.stop.Stop.{Stop}
+pub use Rattle.gr_record.specs.declared.stop.Stop.TheVariants.{AtEnd, AtFault, Inside}
