@@ -3,7 +3,7 @@ use Rattle.gr_model.proofs.Common.{◌≡◌, ℕ, ◌^◌, ◌<◌, true, List,
 use Rattle.std.specs.Cmp.Lexicographic.{same_text}
 use Rattle.std.proofs.lemmas.Cmp.{nat_list_eq_equiv}
 use Rattle.std.proofs.lemmas.Fmt.{decimal_is_IsNumeral}
-use Rattle.gr_text.specs.LineReading.{same, number_of}
+use Rattle.gr_text.specs.Prelude.{same, number_of}
 
 pub same_is : (a b : List ℕ) → same a b ≡ true → a ≡ b
 unfolding same

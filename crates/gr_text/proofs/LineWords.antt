@@ -1,11 +1,7 @@
 -- Words of a line: what comes before the first byte of a kind, and numbers and keywords.
 use Rattle.gr_model.proofs.Common.{◌≡◌, ℕ, zero, suc, ◌+◌, List, [], ◌∷◌, ◌++◌, take, drop, Option, Some, None, refl, ap, arith, ◌%◌, ◌^◌, ◌<◌, Bool, true, false, ◌∙◌, ◌==◌, nat_lt, nat_le, ◌&&◌, not, decimal, append-nil, list_all, eq-eqb, ne_eqb, lt-ltb, le-leb, and_from, both_ways, nat_tests, list_all-append, AllPass-from_list_all, list_all-from_AllPass}
-use Rattle.gr_text.specs.LineReading.{IsWithout, IsFirst, behind_mark, cut_at, same, short_of, IsWord, first_of, space_said, scope_said, order_said, flags_said}
+use Rattle.gr_text.specs.Prelude.{IsWithout, IsFirst, behind_mark, cut_at, same, short_of, IsWord, first_of, space_said, scope_said, order_said, flags_said, Space, Scope, Order, space_word, scope_word, order_word, flags_word}
 use Rattle.std.proofs.lemmas.Fmt.{decimal_by_steps}
-use Rattle.gr_model.specs.declared.event.Space.{Space}
-use Rattle.gr_model.specs.declared.event.Scope.{Scope}
-use Rattle.gr_model.specs.declared.event.Order.{Order}
-use Rattle.gr_text.specs.LineText.{space_word, scope_word, order_word, flags_word}
 use Rattle.gr_text.proofs.LineNumbers.{same_told, number_back}
 
 module _ (mark : ℕ) where

@@ -1,20 +1,9 @@
 -- What has a line is read from it.
 use Rattle.gr_model.proofs.Common.{◌≡◌, ℕ, ◌^◌, ◌<◌, ◌≤◌, true, false, List, [], ◌∷◌, ◌++◌, length, zero, suc, All, Option, Some, None, refl, ap, arith, not, decimal, codes, lt-ltb, le-leb}
-use Rattle.gr_model.specs.declared.event.Space.{Space}
-use Rattle.gr_model.specs.declared.event.Scope.{Scope}
-use Rattle.gr_model.specs.declared.event.Order.{Order}
-use Rattle.gr_model.specs.declared.event.Kind.{Kind}
-use Rattle.gr_model.specs.declared.event.Kind.TheVariants.{Read, Write, Load, Store, Rmw, Barrier, End}
-use Rattle.gr_model.specs.declared.event.Name.{Name}
-use Rattle.gr_model.specs.declared.event.Event.{Event}
+use Rattle.gr_text.specs.Prelude.{Space, Scope, Order, Kind, Read, Write, Load, Store, Rmw, Barrier, End, Name, Event, Version, One, Four, space_word, scope_word, order_word, flags_word, version_words, names_words, later_text, line_text, same, IsWord, first_of, header_said, version_said, name_said, names_said, kind_said, atomic_said, barrier_said, event_said, line_said, TextIsRead}
 use Rattle.gr_model.specs.Prelude.{IsNamingOk, IsKindOk, IsNameInRange}
-use Rattle.gr_record.specs.declared.header.Version.{Version}
-use Rattle.gr_record.specs.declared.header.Version.TheVariants.{One, Four}
 use Rattle.gr_text.specs.declared.line.Line.TheVariants as lines
 use Rattle.gr_record.specs.Prelude.{most_groups, most_items, is_order_ok, is_naming_ok}
-use Rattle.gr_text.specs.LineText.{space_word, scope_word, order_word, flags_word, version_words, names_words, later_text, line_text}
-use Rattle.gr_text.specs.LineReading.{same, IsWord, first_of, header_said, version_said, name_said, names_said, kind_said, atomic_said, barrier_said, event_said, line_said}
-use Rattle.gr_text.specs.LineLaws.{TextIsRead}
 use Rattle.gr_text.proofs.LineNumbers.{same_self, number_back}
 use Rattle.gr_text.proofs.LineWords.{decimal_word, no_key, key_word, space_again, scope_again, order_again, flags_again, short_again, first_of_space, first_of_last}
 use Rattle.gr_record.proofs.Places.{header_group, header_items, items_within, naming_back, few_names, each_in_range}

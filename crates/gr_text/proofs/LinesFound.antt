@@ -1,22 +1,11 @@
 -- What is read from a line has that line.
-use Rattle.gr_model.proofs.Common.{◌≡◌, ℕ, ◌^◌, ◌<◌, Bool, true, false, cond, List, [], ◌∷◌, ◌++◌, zero, suc, Option, Some, None, refl, ap, subst, ◌∙◌, arith, decimal, codes, IfSome, ltb-true, and_parts, nat_tests}
-use Rattle.gr_model.specs.declared.event.Space.{Space}
-use Rattle.gr_model.specs.declared.event.Scope.{Scope}
-use Rattle.gr_model.specs.declared.event.Order.{Order}
-use Rattle.gr_model.specs.declared.event.Kind.{Kind}
-use Rattle.gr_model.specs.declared.event.Kind.TheVariants.{Read, Write, Load, Store, Rmw}
-use Rattle.gr_model.specs.declared.event.Name.{Name}
-use Rattle.gr_model.specs.declared.event.Event.{Event}
-use Rattle.gr_model.specs.declared.limits.TheConstants.{MOST_NAMES}
+use Rattle.gr_model.proofs.Common.{◌≡◌, ℕ, ◌^◌, ◌<◌, Bool, true, false, cond, List, [], ◌∷◌, ◌++◌, zero, suc, Option, Some, None, refl, ap, subst, ◌∙◌, arith, decimal, codes, IfSome, ltb-true, and_parts, nat_tests, same_Some}
+use Rattle.gr_text.specs.Prelude.{Space, Scope, Order, Kind, Read, Write, Load, Store, Rmw, Name, Event, MOST_NAMES, Version, Line, space_word, scope_word, order_word, version_words, names_words, first_word, later_words, later_text, line_text, same, number_of, short_of, behind_space, first_of, at_end, space_said, scope_said, order_said, flags_said, header_said, name_said, names_said, kind_said, atomic_said, barrier_said, event_said, checked, end_said, line_said, IsSaid, ReadIsText}
 use Rattle.gr_model.specs.Prelude.{IsKindOk, IsNamingOk}
 use Rattle.gr_record.proofs.Places.{naming_found}
-use Rattle.gr_record.specs.declared.header.Version.{Version}
-use Rattle.gr_text.specs.declared.line.Line.{Line}
 use Rattle.gr_text.specs.declared.line.Line.TheVariants as lines
 use Rattle.gr_record.specs.Prelude.{is_naming_ok, is_order_ok, IsHeader, AreNamesOf}
-use Rattle.gr_text.specs.LineText.{space_word, scope_word, order_word, version_words, names_words, first_word, later_words, later_text, line_text}
-use Rattle.gr_text.specs.LineReading.{same, number_of, short_of, behind_space, first_of, ◌>>=◌, at_end, space_said, scope_said, order_said, flags_said, header_said, name_said, names_said, kind_said, atomic_said, barrier_said, event_said, checked, end_said, line_said}
-use Rattle.gr_text.specs.LineLaws.{IsSaid, ReadIsText}
+use Rattle.gr_text.specs.LineReading.{◌>>=◌}
 use Rattle.gr_text.proofs.LineNumbers.{each_some, number_told, same_told}
 use Rattle.gr_text.proofs.LineWords.{cut_told, first_found}
 
@@ -32,9 +21,6 @@ guard_some b o y e = grind arith
 choose : {X : Type 0} (b : Bool) (o p : Option X) (y : X) → cond b o p ≡ Some y → (G : Type 0) → (b ≡ true → o ≡ Some y → G) → (p ≡ Some y → G) → G
 choose true o p y e G this that = this refl e
 choose false o p y e G this that = that e
-
-pub some_is : {X : Type 0} (x y : X) → Some x ≡ Some y → x ≡ y
-some_is x y e = cc
 
 -- ---- words
 
@@ -69,13 +55,13 @@ name_found bytes x words e behind = grind (arith, cut_told, short_told, number_t
 
 names_found : (rest : Option (List ℕ)) (most : ℕ) (names : List Name) → names_said rest most ≡ Some names → behind_space rest ≡ later_text (names_words names)
 unfolding names_said
-names_found None most names e = ap (λ (x : List Name). later_text (names_words x)) (some_is [] names e)
+names_found None most names e = ap (λ (x : List Name). later_text (names_words x)) (same_Some [] names e)
 names_found (Some rest) zero names e = absurd cc
 names_found (Some rest) (suc most) names e =
     let b = bind_some _ _ _ e in
     let c = bind_some _ _ _ b.2 in
     let ih = names_found b.0.1 most c.0 c.1 in
-    ap (λ (x : List ℕ). 32 ∷ x) (name_found rest b.0 (names_words c.0) b.1 ih) ∙ ap (λ (x : List Name). later_text (names_words x)) (some_is (b.0.0 ∷ c.0) names c.2)
+    ap (λ (x : List ℕ). 32 ∷ x) (name_found rest b.0 (names_words c.0) b.1 ih) ∙ ap (λ (x : List Name). later_text (names_words x)) (same_Some (b.0.0 ∷ c.0) names c.2)
 
 names_told : (rest : Option (List ℕ)) → (names_said rest MOST_NAMES ≡ names_said rest MOST_NAMES) × IfSome (names_said rest MOST_NAMES) (λ names. behind_space rest ≡ later_text (names_words names))
 names_told rest = (refl, each_some (names_said rest MOST_NAMES) _ (names_found rest MOST_NAMES))
@@ -136,7 +122,7 @@ line_of_event v item bytes x e said check =
     let g = guard_some _ _ _ check in
     let q = and_parts _ _ g.0 in
     let p = and_parts _ _ q.0 in
-    subst (λ (y : Event). IsSaid v (lines.Event y) × (decimal item ++ 32 ∷ bytes ≡ line_text (lines.Event y))) (some_is x e g.1)
+    subst (λ (y : Event). IsSaid v (lines.Event y) × (decimal item ++ 32 ∷ bytes ≡ line_text (lines.Event y))) (same_Some x e g.1)
     ((record { ok = (ltb-true _ _ p.0, said.2, said.3 p.1); word = said.1 }, (naming_found v x.kind x.names q.1).1), said.0)
 
 module _ (v : Version) (bytes : List ℕ) (l : Line) where
@@ -153,7 +139,7 @@ module _ (v : Version) (bytes : List ℕ) (l : Line) where
       let x = bind_some _ _ l b.2 in
       let c = bind_some _ _ l x.2 in
       let f = line_of_event v i.0 b.0 x.0 c.0 (event_found i.0 b.0 x.0 x.1) c.1 in
-      subst (λ (y : Line). IsSaid v y × (bytes ≡ line_text y)) (some_is _ l c.2) (f.0, b.1 ∙ ap (λ (w : List ℕ). w ++ 32 ∷ b.0) (short_found _ i.0 i.1).0 ∙ f.1)
+      subst (λ (y : Line). IsSaid v y × (bytes ≡ line_text y)) (same_Some _ l c.2) (f.0, b.1 ∙ ap (λ (w : List ℕ). w ++ 32 ∷ b.0) (short_found _ i.0 i.1).0 ∙ f.1)
 
 pub read_is_text : ReadIsText
 unfolding line_said

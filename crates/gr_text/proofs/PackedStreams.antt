@@ -1,25 +1,13 @@
 -- A text that is packed is one of whole streams.
 use Rattle.gr_model.proofs.Common.{◌≡◌, ◌⊎◌, ℕ, ◌+◌, ◌-◌, ◌<◌, ◌≤◌, Bool, true, false, cond, List, [], ◌∷◌, ◌++◌, length, map, All, Option, Some, None, Ok, refl, sym, ap, ap₂, subst, ◌∙◌, arith, inl, inr, IsTrue, true≢false, append_assoc, append-nil, onto_first, both_ways, All-cons, All-head, All-tail, flat_map-map, nat_tests}
 use Rattle.std.specs.List.{flat_map}
-use Rattle.gr_model.specs.declared.limits.TheConstants.{MOST_RECORDS}
+use Rattle.gr_text.specs.Prelude.{MOST_RECORDS, Header, Line, One, SitedLine, IsSitedSaid, sited_said, sited_text, Place, Outside, Inside, lines_of, record_line, version_at, lines_bytes, whole_line, said_at, line_at, said_from, said_in, WholeStream, parts_in, IsWhole, bytes_of, text_of, PackedAreStreams}
 use Rattle.gr_model.specs.Prelude.{is_end, is_complete}
-use Rattle.gr_record.specs.declared.header.Header.{Header}
-use Rattle.gr_text.specs.declared.line.Line.{Line}
 use Rattle.gr_text.specs.declared.line.Line.TheVariants as lines
-use Rattle.gr_record.specs.declared.header.Version.TheVariants.{One}
 use Rattle.gr_record.specs.Prelude.{places, Runs, Sited, events_of, IsRecord, header_spelling, events_spelling}
-use Rattle.gr_text.specs.declared.line.SitedLine.{SitedLine}
-use Rattle.gr_text.specs.LineLaws.{IsSitedSaid}
-use Rattle.gr_text.specs.LineReading.{sited_said}
-use Rattle.gr_text.specs.LineText.{sited_text}
 use Rattle.gr_record.proofs.FoundPrefixes.{complete_behind}
 use Rattle.gr_text.proofs.LineSites.{sited_read_is_text}
-use Rattle.gr_text.specs.declared.place.Place.{Place}
-use Rattle.gr_text.specs.declared.place.Place.TheVariants.{Outside, Inside}
-use Rattle.gr_text.specs.Lines.{lines_of}
-use Rattle.gr_text.specs.Texts.{◌>>=◌, record_line, version_at, lines_bytes, whole_line, said_at, line_at, said_from, said_in}
-use Rattle.gr_text.specs.Dumps.{WholeStream, parts_in}
-use Rattle.gr_text.specs.Wholes.{IsWhole, bytes_of, text_of, PackedAreStreams}
+use Rattle.gr_text.specs.Texts.{◌>>=◌}
 use Rattle.gr_text.proofs.Steps.{bind_ok, map_ok, line_at_ok, record_at_ok}
 
 -- ---- a text from its lines

@@ -1,23 +1,14 @@
 -- What bytes have before their first fault, as loops find it, and that their text is the text of that.
 use Rattle.gr_model.proofs.Common.{◌≡◌, ℕ, suc, ◌+◌, List, [], ◌++◌, length, map, Ok, Err, refl, sym, ap, ◌∙◌, append_assoc, arith, inl, inr, ◌⊎◌, zero, ◌∷◌, subst, flat_map, ◌==◌, cases_Bool, append-nil, nil_from_length, All-cons, All-nil}
 use Rattle.std.proofs.lemmas.List.Concat.{flat_map-append}
-use Rattle.gr_model.specs.declared.event.Event.{Event}
-use Rattle.gr_model.specs.declared.limits.TheConstants.{MOST_RECORDS}
-use Rattle.gr_record.specs.declared.error.RecordError.{RecordError}
-use Rattle.gr_record.specs.declared.header.Header.{Header}
+use Rattle.gr_text.specs.Prelude.{Event, MOST_RECORDS, RecordError, Header, WholeStream, parts_in, stream_at, streams_at, streams_in, header_line, record_line, whole_line, front_at, lines_before, text_before_fault, WholeStreamsStandWhole, IsRefusedAtHeader, IsRefusedBehind, StandsBefore, RefusedIsToldUpToItsFault, IsWhole, bytes_of}
 use Rattle.gr_record.specs.Prelude.{Records, records_of, AreBytes, events_spelling, header_spelling, all_sited, Sited, front_header_at, front_records_at, stream_spelling}
-use Rattle.gr_text.specs.Dumps.{WholeStream, parts_in, stream_at, streams_at, streams_in}
-use Rattle.gr_text.specs.Texts.{header_line, record_line, whole_line, ◌>>=◌}
-use Rattle.gr_text.specs.Partial.{front_at, lines_before, text_before_fault, WholeStreamsStandWhole, IsRefusedAtHeader, IsRefusedBehind, StandsBefore, RefusedIsToldUpToItsFault}
+use Rattle.gr_text.specs.Texts.{◌>>=◌}
 use Rattle.gr_record.specs.declared.fault.Fault.TheVariants as faults
 use Rattle.gr_record.proofs.FoundPrefixes.{events_sited, records_found}
 use Rattle.gr_model.specs.Prelude.{is_complete}
-use Rattle.gr_text.specs.Wholes.{IsWhole, bytes_of}
-use Rattle.gr_text.proofs.Streaming.{stream_found, streams_text, header_found}
+use Rattle.gr_text.proofs.Streaming.{Found, stream_found, streams_text, header_found}
 use Rattle.gr_text.proofs.Steps.{at_place_err, at_place_ok, bind_err, map_err, map_ok, up_to_err}
-
-abbrev Found : Type 0
-Found = WholeStream × List ℕ
 
 -- ---- what comes before the fault of one stream
 

@@ -1,28 +1,16 @@
 -- The bytes of whole streams are dumped and their text is packed; and what is packed is dumped again, what is dumped packed again.
 use Rattle.gr_model.proofs.Common.{◌≡◌, ℕ, zero, suc, ◌+◌, ◌≤◌, false, List, [], ◌∷◌, ◌++◌, length, All, Ok, refl, sym, ap, ◌∙◌, append_assoc, arith, IsTrue, true≢false, ◌-◌, ◌^◌, ◌<◌, map, length-append, flat_map, ◌==◌, le-ltb, ne_eqb, and_parts, ltb-true, lt-leb, All-append, All-cons, All-head, All-nil, All-tail}
-use Rattle.gr_model.specs.declared.event.Event.{Event}
-use Rattle.gr_model.specs.declared.limits.TheConstants.{MOST_ITEMS_OF_A_GROUP, MOST_RECORDS}
+use Rattle.gr_text.specs.Prelude.{Event, MOST_ITEMS_OF_A_GROUP, MOST_RECORDS, Header, HEADER_LENGTH, WholeStream, stream_at, streams_at, dumped, parts_in, IsWhole, bytes_of, text_of, WholeStreamsAreDumped, PackedIsDumpedAgain, WholeStreamsArePacked, DumpedIsPackedAgain, One, Four, SitedLine, IsSaid, sited_text, Outside, Inside, lines_of, header_line, record_line, whole_line, packed, said_from}
 use Rattle.gr_model.specs.Prelude.{is_complete}
-use Rattle.gr_record.specs.declared.header.Header.{Header}
-use Rattle.gr_record.specs.declared.layout.TheConstants.{HEADER_LENGTH}
 use Rattle.gr_record.specs.Prelude.{record_length, most_items, places, Runs, event_at, IsHeader, events_spelling, header_spelling, IsEvent, front_header_at, front_records_at, stream_spelling, Sited, events_of}
 use Rattle.gr_record.proofs.FoundPrefixes.{complete_behind}
 use Rattle.gr_record.proofs.Growing.{records_grow}
 use Rattle.gr_record.proofs.Places.{header_items, each_in_range}
 use Rattle.gr_record.proofs.SpelledPrefixes.{records_spelled, sites_spelled}
 use Rattle.gr_record.proofs.Spelled.{spelled_header_is_read}
-use Rattle.gr_text.specs.Dumps.{WholeStream, stream_at, streams_at, dumped, parts_in}
-use Rattle.gr_text.specs.Wholes.{IsWhole, bytes_of, text_of, WholeStreamsAreDumped, PackedIsDumpedAgain, WholeStreamsArePacked, DumpedIsPackedAgain}
 use Rattle.gr_text.proofs.PackedStreams.{packed_are_streams, streams_bytes}
 use Rattle.gr_text.proofs.Streaming.{streams_text, nothing_left, dumped_are_streams}
-use Rattle.gr_record.specs.declared.header.Version.TheVariants.{One, Four}
-use Rattle.gr_text.specs.declared.line.SitedLine.{SitedLine}
-use Rattle.gr_text.specs.LineLaws.{IsSaid}
-use Rattle.gr_text.specs.LineText.{sited_text}
 use Rattle.gr_text.proofs.LineSites.{AreAbove, sited_above, sited_text_is_read}
-use Rattle.gr_text.specs.declared.place.Place.TheVariants.{Outside, Inside}
-use Rattle.gr_text.specs.Lines.{lines_of}
-use Rattle.gr_text.specs.Texts.{header_line, record_line, whole_line, packed, said_from}
 
 pub events_before : (h : Header) → h.items ≤ MOST_ITEMS_OF_A_GROUP → (rs : List Sited) (rest : List ℕ) → Runs h rs → IsTrue (is_complete (events_of rs)) → length rs ≤ MOST_RECORDS
     → front_records_at h (events_spelling h.version rs ++ rest) ≡ Ok (events_of rs, rest)

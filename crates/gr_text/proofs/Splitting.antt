@@ -1,7 +1,6 @@
 -- The first line of a text.
 use Rattle.gr_model.proofs.Common.{◌≡◌, ℕ, ◌<◌, List, [], ◌∷◌, length, Option, Some, None, refl, arith, nat_tests}
-use Rattle.gr_text.specs.Lines.{lines_of}
-use Rattle.gr_text.specs.LineReading.{cut_at}
+use Rattle.gr_text.specs.Prelude.{lines_of, cut_at}
 
 -- a text that is over has no line
 pub no_line : (text : List ℕ) → length text ≡ 0 → lines_of text ≡ []

@@ -1,27 +1,15 @@
 -- Rows of steps, each of which may fail, and what is known where the row came to its end.
 use Rattle.gr_model.proofs.Common.{◌≡◌, ◌⊎◌, ℕ, ◌-◌, ◌<◌, ◌≤◌, false, cond, List, [], ◌++◌, append-nil, append_assoc, drop, length, Option, Some, None, Result, Ok, Err, refl, arith, IfOk, nat_tests, length-set, take_more_set}
-use Rattle.gr_model.specs.declared.event.Event.{Event}
-use Rattle.gr_record.specs.declared.error.RecordError.{RecordError}
-use Rattle.gr_record.specs.declared.fault.Fault.{Fault}
+use Rattle.gr_text.specs.Prelude.{Event, RecordError, Fault, Stop, AtEnd, MOST_ITEMS_OF_A_GROUP, Header, Version, SitedLine, Place, Outside, Inside, HasRoom, record_line, lines_bytes, version_at, version_behind, record_at, line_at, at_place, behind_end}
 use Rattle.gr_record.specs.declared.fault.Fault.TheVariants as faults
-use Rattle.gr_record.specs.declared.stop.Stop.{Stop}
-use Rattle.gr_record.specs.declared.stop.Stop.TheVariants.{AtEnd}
 use Rattle.gr_record.specs.Prelude.{records_at, event_at, IsHeader, up_to, Sited, places, record_length}
 use Rattle.gr_record.proofs.Found.{read_is_ok}
 use Rattle.gr_record.proofs.FoundPrefixes.{is_at_end}
 use Rattle.gr_record.proofs.Judging.{passed}
 use Rattle.gr_record.proofs.Numbers.{one_left}
 use Rattle.gr_record.proofs.Places.{header_items, names_few}
-use Rattle.gr_model.specs.declared.limits.TheConstants.{MOST_ITEMS_OF_A_GROUP}
 use Rattle.gr_model.specs.Prelude.{IsEventOk, is_end}
-use Rattle.gr_record.specs.declared.header.Header.{Header}
-use Rattle.gr_record.specs.declared.header.Version.{Version}
-use Rattle.gr_text.specs.declared.line.SitedLine.{SitedLine}
-use Rattle.gr_text.specs.declared.place.Place.{Place}
-use Rattle.gr_text.specs.declared.place.Place.TheVariants.{Outside, Inside}
-use Rattle.gr_text.specs.Texts.{◌>>=◌, HasRoom, record_line, lines_bytes, version_at, version_behind, record_at, line_at}
-use Rattle.gr_text.specs.Dumps.{at_place}
-use Rattle.gr_text.specs.Partial.{behind_end}
+use Rattle.gr_text.specs.Texts.{◌>>=◌}
 use Rattle.gr_text.proofs.Splitting.{no_line}
 
 -- the steps of a row that gave a value, and of one that failed

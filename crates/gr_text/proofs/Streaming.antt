@@ -1,21 +1,14 @@
 -- The streams in a list of bytes, one after another, as a loop reads them.
 use Rattle.gr_model.proofs.Common.{◌≡◌, ℕ, zero, suc, ◌+◌, ◌<◌, ◌≤◌, true, false, List, [], ◌∷◌, ◌++◌, length, drop, Ok, refl, sym, ap, ap₂, subst, ◌∙◌, append_assoc, arith, inl, inr, IsTrue, All, nat_lt, ◌==◌, flat_map, ltb-false, cases_Bool, eqb-true, append-nil, get_or-append-add, take-append-drop, length-append, nil_from_length, All-cons, All-nil, flat_map-map}
-use Rattle.gr_model.specs.declared.event.Event.{Event}
-use Rattle.gr_model.specs.declared.limits.TheConstants.{MOST_RECORDS}
+use Rattle.gr_text.specs.Prelude.{Event, MOST_RECORDS, Header, HEADER_LENGTH, header_line, record_line, whole_line, WholeStream, stream_at, streams_at, formed, parts_in, Text, IsWhole, bytes_of, text_of, DumpedAreStreams}
 use Rattle.gr_model.specs.Prelude.{is_complete}
-use Rattle.gr_record.specs.declared.header.Header.{Header}
-use Rattle.gr_record.specs.declared.layout.TheConstants.{HEADER_LENGTH}
 use Rattle.gr_record.specs.Prelude.{records_of, Runs, AreBytes, header_at, all_sited, IsHeader, header_spelling, events_spelling, front_header_at, front_records_at, stream_spelling}
 use Rattle.gr_record.proofs.Found.{read_header_is_spelled}
 use Rattle.gr_record.proofs.FoundPrefixes.{is_at_end, records_found, events_sited}
 use Rattle.gr_record.proofs.Numbers.{one_left}
 use Rattle.gr_record.proofs.Places.{bytes_drop}
-use Rattle.gr_text.specs.Texts.{header_line, record_line, whole_line}
 use Rattle.gr_text.proofs.Steps.{bind_ok, map_ok, up_to_ok, at_place_ok, no_more}
-use Rattle.gr_text.specs.Dumps.{WholeStream, stream_at, streams_at, formed, parts_in}
 use Rattle.std.proofs.lemmas.List.Concat.{flat_map-append}
-use Rattle.gr_text.specs.declared.forming.Form.TheVariants.{Text}
-use Rattle.gr_text.specs.Wholes.{IsWhole, bytes_of, text_of, DumpedAreStreams}
 
 -- ---- what is read is spelled so
 
@@ -57,7 +50,7 @@ nothing_left (suc most) place bytes e = rw e refl
 -- what a loop over streams needs of each
 pub ruleset stream_steps = (one_left, no_more, nothing_left, append-nil, append_assoc, flat_map-append, flat_map-map)
 
-abbrev Found : Type 0
+abbrev pub Found : Type 0
 Found = WholeStream × List ℕ
 
 -- ---- one whole stream

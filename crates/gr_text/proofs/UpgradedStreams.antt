@@ -1,11 +1,7 @@
 -- Streams that are upgraded are whole streams, of the same groups, items, launches and records.
 use Rattle.gr_model.proofs.Common.{◌≡◌, ◌≤◌, ℕ, List, [], ◌∷◌, length, map, Ok, refl, sym, ap, ap₂, ◌∙◌, arith, flat_map, All-map, flat_map-map}
-use Rattle.gr_record.specs.declared.header.Header.{Header}
-use Rattle.gr_record.specs.declared.header.Version.{Version}
+use Rattle.gr_text.specs.Prelude.{Header, Version, Long, WholeStream, formed, raised, upgraded, upgraded_header, IsWhole, bytes_of, upgraded_stream, UpgradedAreStreams, WholeStreamsAreUpgraded, UpgradedStays}
 use Rattle.gr_record.specs.Prelude.{has_sites, most_groups, most_items, places, Sited, stream_spelling, Runs}
-use Rattle.gr_text.specs.declared.forming.Form.TheVariants.{Long}
-use Rattle.gr_text.specs.Dumps.{WholeStream, formed, raised, upgraded, upgraded_header}
-use Rattle.gr_text.specs.Wholes.{IsWhole, bytes_of, upgraded_stream, UpgradedAreStreams, WholeStreamsAreUpgraded, UpgradedStays}
 use Rattle.gr_text.proofs.Streaming.{streams_found}
 use Rattle.gr_text.proofs.Steps.{map_ok}
 use Rattle.gr_text.proofs.SpelledStreams.{streams_before}

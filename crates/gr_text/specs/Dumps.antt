@@ -2,16 +2,9 @@
 -- Source: docs/FORMATS.md, "Stream" and "Faults".
 use Rattle.std.specs.Prelude.{ℕ, zero, suc, ◌+◌, ◌==◌, if◌then◌else◌, List, [], ◌∷◌, ◌++◌, length, map, Result, Ok, Err}
 use Rattle.std.specs.List.{flat_map}
-use Rattle.gr_record.specs.declared.error.RecordError.{RecordError}
-use Rattle.gr_record.specs.declared.fault.Fault.{Fault}
+use Rattle.gr_text.specs.Types.{RecordError, Fault, SitedLine, Header, Version, One, Two, Form, Text, Long}
 use Rattle.gr_record.specs.declared.fault.Fault.TheVariants as faults
-use Rattle.gr_text.specs.declared.line.SitedLine.{SitedLine}
 use Rattle.gr_record.specs.Prelude.{Sited, all_sited, header_spelling, event_spelling, front_header_at, front_records_at}
-use Rattle.gr_record.specs.declared.header.Header.{Header}
-use Rattle.gr_record.specs.declared.header.Version.{Version}
-use Rattle.gr_record.specs.declared.header.Version.TheVariants.{One, Two}
-use Rattle.gr_text.specs.declared.forming.Form.{Form}
-use Rattle.gr_text.specs.declared.forming.Form.TheVariants.{Text, Long}
 use Rattle.gr_text.specs.Texts.{◌>>=◌, header_line, record_line, whole_line}
 
 -- an error of the stream at this place

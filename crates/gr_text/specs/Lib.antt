@@ -7,3 +7,5 @@ pub mod Partial
 pub mod LineLaws
 pub mod LineReading
 pub mod LineText
+pub mod Types
+pub mod Prelude

@@ -1,10 +1,8 @@
 -- The laws between lines and what they say.
 -- Source: docs/FORMATS.md, "Text form".
 use Rattle.std.specs.Prelude.{◌≡◌, ℕ, List, Some}
-use Rattle.gr_text.specs.declared.line.Line.{Line}
+use Rattle.gr_text.specs.Types.{Line, SitedLine, Version}
 use Rattle.gr_text.specs.declared.line.Line.TheVariants as lines
-use Rattle.gr_text.specs.declared.line.SitedLine.{SitedLine}
-use Rattle.gr_record.specs.declared.header.Version.{Version}
 use Rattle.gr_record.specs.Prelude.{IsHeader, IsEvent, AreNamesOf, most_items, IsSite}
 use Rattle.gr_text.specs.LineText.{line_text, sited_text}
 use Rattle.gr_text.specs.LineReading.{line_said, sited_said}

@@ -3,25 +3,10 @@
 use Rattle.std.specs.Prelude.{◌≡◌, ◌≢◌, ℕ, zero, suc, ◌-◌, ◌^◌, ◌<◌, Bool, true, false, ◌&&◌, List, [], ◌∷◌, Option, Some, None, nat_eq, nat_lt, nat_le, ◌==◌, codes, decimal, All, length, take, drop, slice_index, if◌then◌else◌}
 use Rattle.std.specs.Cmp.Lexicographic.{pointwise}
 use Rattle.std.specs.Str.Parse.{digits_value}
-use Rattle.gr_model.specs.declared.limits.TheConstants.{MOST_NAMES}
-use Rattle.gr_model.specs.declared.event.Kind.{Kind}
-use Rattle.gr_model.specs.declared.event.Kind.TheVariants.{Read, Write, Load, Store, Rmw, Barrier}
-use Rattle.gr_model.specs.declared.event.Name.{Name}
-use Rattle.gr_model.specs.declared.event.Event.{Event}
+use Rattle.gr_text.specs.Types.{MOST_NAMES, Kind, Read, Write, Load, Store, Rmw, Barrier, Name, Event, Header, Line, SitedLine, Version, One, Two, Three, Four, Space, Global, Local, Scope, Group, Device, Order, Relaxed, Acquire, Release, Both}
 use Rattle.gr_model.specs.Prelude.{end_of}
-use Rattle.gr_record.specs.declared.header.Header.{Header}
-use Rattle.gr_text.specs.declared.line.Line.{Line}
 use Rattle.gr_text.specs.declared.line.Line.TheVariants as lines
-use Rattle.gr_text.specs.declared.line.SitedLine.{SitedLine}
-use Rattle.gr_record.specs.declared.header.Version.{Version}
-use Rattle.gr_record.specs.declared.header.Version.TheVariants.{One, Two, Three, Four}
 use Rattle.gr_record.specs.Prelude.{has_sites, most_groups, most_items, is_order_ok, is_naming_ok, naming}
-use Rattle.gr_model.specs.declared.event.Space.{Space}
-use Rattle.gr_model.specs.declared.event.Space.TheVariants.{Global, Local}
-use Rattle.gr_model.specs.declared.event.Scope.{Scope}
-use Rattle.gr_model.specs.declared.event.Scope.TheVariants.{Group, Device}
-use Rattle.gr_model.specs.declared.event.Order.{Order}
-use Rattle.gr_model.specs.declared.event.Order.TheVariants.{Relaxed, Acquire, Release, Both}
 
 -- whether two lists of bytes are the same
 unfoldable pub same : List ℕ → List ℕ → Bool

@@ -3,14 +3,9 @@
 use Rattle.std.specs.Prelude.{◌≡◌, ◌⊎◌, ℕ, zero, suc, List, [], ◌∷◌, ◌++◌, length, map, All, Option, None, Some, Result, Ok, Err, IsFalse}
 use Rattle.std.specs.Option.{option_map_or}
 use Rattle.std.specs.List.{flat_map}
-use Rattle.gr_model.specs.declared.limits.TheConstants.{MOST_RECORDS}
+use Rattle.gr_text.specs.Types.{MOST_RECORDS, SitedLine, RecordError, Header, Stop, AtEnd}
 use Rattle.gr_model.specs.Prelude.{is_complete}
-use Rattle.gr_text.specs.declared.line.SitedLine.{SitedLine}
-use Rattle.gr_record.specs.declared.error.RecordError.{RecordError}
 use Rattle.gr_record.specs.declared.fault.Fault.TheVariants as faults
-use Rattle.gr_record.specs.declared.header.Header.{Header}
-use Rattle.gr_record.specs.declared.stop.Stop.{Stop}
-use Rattle.gr_record.specs.declared.stop.Stop.TheVariants.{AtEnd}
 use Rattle.gr_record.specs.Prelude.{records_of, AreBytes, IsPrefix, all_sited, events_of, events_spelling, front_header_at, front_records_at, stream_spelling}
 use Rattle.gr_text.specs.Texts.{header_line, record_line, whole_line}
 use Rattle.gr_text.specs.Dumps.{WholeStream, parts_in, dumped}

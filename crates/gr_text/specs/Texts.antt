@@ -1,21 +1,13 @@
 -- What the lines of a text say: streams one after another, or the first line at fault.
 -- Source: docs/FORMATS.md, "Text form" and "Faults".
 use Rattle.std.specs.Prelude.{ℕ, ⊤, ◌≤◌, ◌+◌, ◌-◌, ◌==◌, nat_le, nat_lt, ◌||◌, length, if◌then◌else◌, List, [], ◌∷◌, ◌++◌, Option, Some, None, Result, Ok, Err}
-use Rattle.gr_model.specs.declared.limits.TheConstants.{MOST_RECORDS}
+use Rattle.gr_text.specs.Types.{MOST_RECORDS, Fault, Line, SitedLine, Header, Version, One, Place, Outside, Inside}
 use Rattle.gr_model.specs.Prelude.{is_end}
-use Rattle.gr_record.specs.declared.fault.Fault.{Fault}
 use Rattle.gr_record.specs.declared.fault.Fault.TheVariants as faults
-use Rattle.gr_text.specs.declared.line.Line.{Line}
 use Rattle.gr_text.specs.declared.line.Line.TheVariants as lines
-use Rattle.gr_text.specs.declared.line.SitedLine.{SitedLine}
 use Rattle.gr_text.specs.LineReading.{sited_said}
 use Rattle.gr_text.specs.LineText.{sited_text}
 use Rattle.gr_record.specs.Prelude.{Sited, header_spelling, event_spelling, places}
-use Rattle.gr_record.specs.declared.header.Header.{Header}
-use Rattle.gr_record.specs.declared.header.Version.{Version}
-use Rattle.gr_record.specs.declared.header.Version.TheVariants.{One}
-use Rattle.gr_text.specs.declared.place.Place.{Place}
-use Rattle.gr_text.specs.declared.place.Place.TheVariants.{Outside, Inside}
 use Rattle.gr_text.specs.Lines.{lines_of}
 
 infixl 10 ◌>>=◌

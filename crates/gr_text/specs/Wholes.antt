@@ -2,7 +2,7 @@
 -- Source: docs/FORMATS.md, "Stream" and "Text form".
 use Rattle.std.specs.Prelude.{◌≡◌, ◌⊎◌, ℕ, List, [], ◌∷◌, ◌++◌, map, All, Ok, IsTrue}
 use Rattle.std.specs.List.{flat_map}
-use Rattle.gr_model.specs.declared.limits.TheConstants.{MOST_RECORDS}
+use Rattle.gr_text.specs.Types.{MOST_RECORDS}
 use Rattle.gr_model.specs.Prelude.{is_complete}
 use Rattle.gr_record.specs.Prelude.{IsPrefix, AreBytes, events_of, stream_spelling}
 use Rattle.gr_text.specs.Texts.{packed, whole_line}

@@ -1,7 +1,7 @@
 -- What a writer has of what an input means.
 use Rattle.std.specs.Prelude.{◌≡◌, ℕ, List, Option, Result, Ok}
 use Rattle.std.specs.Io.KnownBytes.{Appends}
-use Rattle.gr_record.specs.declared.fault.Fault.{Fault}
+use Rattle.gr_text.specs.Types.{Fault}
 use Rattle.gr_report.specs.Putting.{AppendsPrefix}
 
 -- all of it was written

@@ -3,12 +3,8 @@
 ghost use Rattle.std.specs.Prelude.{◌≡◌, ◌≤◌, ◌++◌, IfErr, IfOk, OnOk, length, option_map};
 ghost use Rattle.std.specs.List.{flat_map};
 ghost use Rattle.gr_record.specs.Prelude.{Gives, IsOfValues, records_of, all_sited, IsHeader, places};
-ghost use Rattle.gr_text.specs.LineText.{IsLine};
+ghost use Rattle.gr_text.specs.Prelude.{IsLine, MOST_ITEMS_OF_A_GROUP, MOST_RECORDS, behind_end, whole_line, raised, upgraded_header, formed_header, formed_event, formed_of, stream_at, with_stream};
 ghost use Rattle.gr_model.specs.Prelude.{IsEventOk};
-ghost use Rattle.gr_model.specs.declared.limits.TheConstants.{MOST_ITEMS_OF_A_GROUP, MOST_RECORDS};
-ghost use Rattle.gr_text.specs.Partial.{behind_end};
-ghost use Rattle.gr_text.specs.Texts.{whole_line};
-ghost use Rattle.gr_text.specs.Dumps.{raised, upgraded_header, formed_header, formed_event, formed_of, stream_at, with_stream};
 
 use crate::line::{Line, SitedLine};
 use crate::line_text::sited_line_text;

@@ -1,8 +1,7 @@
 //! Which texts and bytes are accepted. Each law is the contract of a function that does nothing; docs/FORMATS.md,
 //! "Stream" and "Text form", has them in words.
 
-ghost use Rattle.gr_text.specs.Partial.{RefusedIsToldUpToItsFault, WholeStreamsStandWhole};
-ghost use Rattle.gr_text.specs.Wholes.{DumpedAreStreams, DumpedIsPackedAgain, PackedAreStreams, PackedIsDumpedAgain, UpgradedAreStreams, UpgradedStays, WholeStreamsAreDumped, WholeStreamsArePacked, WholeStreamsAreUpgraded};
+ghost use Rattle.gr_text.specs.Prelude.{RefusedIsToldUpToItsFault, WholeStreamsStandWhole, DumpedAreStreams, DumpedIsPackedAgain, PackedAreStreams, PackedIsDumpedAgain, UpgradedAreStreams, UpgradedStays, WholeStreamsAreDumped, WholeStreamsArePacked, WholeStreamsAreUpgraded};
 
 /// Bytes that are dumped are those of whole streams, one after another, and what is written is the text of these
 /// streams.

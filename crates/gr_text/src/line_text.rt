@@ -2,8 +2,7 @@
 
 ghost use Rattle.std.specs.Prelude.{◌≡◌, ◌++◌, List, ℕ, OnOk, IfOk, decimal, [], ◌∷◌};
 ghost use Rattle.std.specs.String.{string_bytes};
-ghost use Rattle.gr_text.specs.LineText.{spaced, later_text, space_word, scope_word, order_word, flags_word, name_words, names_words, atomic_words, first_word, later_words, header_words, site_text, sited_text, IsLine};
-ghost use Rattle.gr_text.specs.LineText.{line_text as text_of};
+ghost use Rattle.gr_text.specs.Prelude.{spaced, later_text, space_word, scope_word, order_word, flags_word, name_words, names_words, atomic_words, first_word, later_words, header_words, site_text, sited_text, IsLine, line_text as text_of};
 
 use crate::line::{Line, SitedLine};
 use gr_model::event::{Event, Kind, Name, Order, Scope, Space};

@@ -1,7 +1,7 @@
 //! A text as its lines.
 
 ghost use Rattle.std.specs.Prelude.{◌≡◌, ◌<◌, ◌∷◌, length};
-ghost use Rattle.gr_text.specs.Lines.{lines_of};
+ghost use Rattle.gr_text.specs.Prelude.{lines_of};
 
 use crate::words::split_at_mark;
 

@@ -2,10 +2,8 @@
 
 ghost use Rattle.std.specs.Prelude.{◌≡◌, ◌≤◌, ◌++◌, length, IfErr, OnOk};
 ghost use Rattle.gr_record.specs.Prelude.{Gives, IsOfValues, IsHeader, header_spelling, event_spelling, places};
-ghost use Rattle.gr_text.specs.LineLaws.{IsSaid};
+ghost use Rattle.gr_text.specs.Prelude.{IsSaid, MOST_ITEMS_OF_A_GROUP, line_bytes, packed, HasRoom};
 ghost use Rattle.gr_model.specs.Prelude.{IsEventOk};
-ghost use Rattle.gr_model.specs.declared.limits.TheConstants.{MOST_ITEMS_OF_A_GROUP};
-ghost use Rattle.gr_text.specs.Texts.{line_bytes, packed, HasRoom};
 
 use crate::line::{Line, SitedLine};
 use crate::lines::split_line;

@@ -2,12 +2,7 @@
 
 ghost use Rattle.std.specs.Prelude.{◌≡◌, ◌≢◌, ◌^◌, ◌<◌, ◌++◌, ℕ, List, Some, None, IfSome, MatchOption, All, decimal, ◌≤◌, take, []};
 ghost use Rattle.std.specs.Option.{option_map};
-ghost use Rattle.gr_text.specs.LineReading.{at_end, space_said, scope_said, order_said, flags_said, header_made, header_said, version_said, name_said, names_said, kind_said, atomic_said, barrier_said, event_said, checked, line_said, site_said, sited_said};
-ghost use Rattle.gr_text.specs.declared.line.Line.{Line};
-ghost use Rattle.gr_text.specs.declared.line.SitedLine.{SitedLine};
-ghost use Rattle.gr_text.specs.LineText.{line_text, sited_text};
-ghost use Rattle.gr_text.specs.LineLaws.{IsSaid, IsSitedSaid};
-ghost use Rattle.gr_record.specs.declared.header.Version.TheVariants.{Two};
+ghost use Rattle.gr_text.specs.Prelude.{at_end, space_said, scope_said, order_said, flags_said, header_made, header_said, version_said, name_said, names_said, kind_said, atomic_said, barrier_said, event_said, checked, line_said, site_said, sited_said, Line, SitedLine, line_text, sited_text, IsSaid, IsSitedSaid, Two};
 
 use crate::line::{Line, SitedLine};
 use crate::words::{is_word, parse_number, parse_short, split_at_mark, split_word};

@@ -4,9 +4,7 @@ ghost use Rattle.std.specs.Prelude.{◌≡◌, ◌≢◌, ◌++◌, IfOk, IfSome
 ghost use Rattle.std.specs.List.{flat_map};
 ghost use Rattle.gr_record.specs.Prelude.{IsOutside};
 ghost use Rattle.gr_record.specs.declared.fault.Fault.TheVariants as faults;
-ghost use Rattle.gr_text.specs.Texts.{whole_line};
-ghost use Rattle.gr_text.specs.Dumps.{dumped};
-ghost use Rattle.gr_text.specs.Partial.{front_at, text_before_fault as text_before};
+ghost use Rattle.gr_text.specs.Prelude.{whole_line, dumped, front_at, text_before_fault as text_before};
 
 use crate::forming::{Form, formed_bytes, push_first, push_records};
 use gr_model::memory::Memory;

@@ -1,9 +1,7 @@
 //! Which line a text may have at a place.
 
 ghost use Rattle.std.specs.Prelude.{◌≡◌, ◌≢◌, IfOk, IfErr};
-ghost use Rattle.gr_text.specs.LineLaws.{IsSitedSaid};
-ghost use Rattle.gr_text.specs.LineReading.{sited_said};
-ghost use Rattle.gr_text.specs.Texts.{HasRoom, version_at, record_at, record_line, line_at};
+ghost use Rattle.gr_text.specs.Prelude.{IsSitedSaid, sited_said, HasRoom, version_at, record_at, record_line, line_at};
 
 use crate::line::{Line, SitedLine};
 use crate::parsing::read_sited_line;

@@ -5,9 +5,7 @@ ghost use Rattle.std.specs.Io.KnownBytes.{Appends, Keeps};
 ghost use Rattle.gr_record.specs.Prelude.{Fails, IsOutside};
 ghost use Rattle.gr_record.specs.declared.fault.Fault.TheVariants as faults;
 ghost use Rattle.gr_report.specs.Putting.{AppendsPrefix};
-ghost use Rattle.gr_text.specs.Texts.{packed};
-ghost use Rattle.gr_text.specs.Dumps.{dumped, upgraded};
-ghost use Rattle.gr_text.specs.Partial.{text_before_fault};
+ghost use Rattle.gr_text.specs.Prelude.{packed, dumped, upgraded, text_before_fault};
 ghost use Rattle.gr_text.specs.Writes.{Writes, WritesPrefix};
 
 use crate::forming::{Form, formed_bytes};

@@ -2,7 +2,7 @@
 
 ghost use Rattle.std.specs.Prelude.{◌≡◌, MatchOption};
 ghost use Rattle.std.specs.Option.{option_map};
-ghost use Rattle.gr_text.specs.LineReading.{IsFirst, IsWithout, cut_at, first_of, number_of, same, short_of};
+ghost use Rattle.gr_text.specs.Prelude.{IsFirst, IsWithout, cut_at, first_of, number_of, same, short_of};
 
 use itoa::Buffer;
 

@@ -1,5 +1,5 @@
 use Rattle.gr_model.proofs.Common.{◌≡◌, ◌-◌, ◌++◌, length, Ok, flat_map}
-use Rattle.gr_text.specs.Dumps.{formed, streams_at, formed_of}
+use Rattle.gr_text.specs.Prelude.{formed, streams_at, formed_of}
 use Rattle.gr_text.specs.Texts.{◌>>=◌}
 use Rattle.gr_text.proofs.forming.formed_bytes.Given as goal
 

@@ -1,8 +1,6 @@
 use Rattle.gr_model.proofs.Common.{◌≡◌, ◌-◌, ◌++◌, flat_map}
-use Rattle.gr_model.specs.declared.limits.TheConstants.{MOST_RECORDS}
+use Rattle.gr_text.specs.Prelude.{MOST_RECORDS, formed_event, behind_end}
 use Rattle.gr_record.specs.Prelude.{records_of, all_sited}
-use Rattle.gr_text.specs.Dumps.{formed_event}
-use Rattle.gr_text.specs.Partial.{behind_end}
 use Rattle.gr_text.proofs.forming.push_records.Given as goal
 
 -- what is read of the bytes left completes what is read of all

@@ -1,6 +1,5 @@
 use Rattle.gr_model.proofs.Common.{◌+◌, append_assoc, arith, sym}
-use Rattle.gr_text.specs.LineReading.{sited_said}
-use Rattle.gr_text.specs.Texts.{said_from, version_at}
+use Rattle.gr_text.specs.Prelude.{sited_said, said_from, version_at}
 use Rattle.gr_text.proofs.Steps.{line_at_ok}
 use Rattle.gr_text.proofs.packing.pack_text.Goals as goal
 

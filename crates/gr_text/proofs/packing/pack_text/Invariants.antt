@@ -1,6 +1,5 @@
 use Rattle.gr_model.proofs.Common.{◌≡◌, ◌+◌, ◌≤◌, length}
-use Rattle.gr_text.specs.Lines.{lines_of}
-use Rattle.gr_text.specs.Texts.{version_at, said_from, packed}
+use Rattle.gr_text.specs.Prelude.{lines_of, version_at, said_from, packed}
 use Rattle.gr_text.proofs.Steps.{bytes_behind}
 use Rattle.gr_text.proofs.packing.pack_text.Given as goal
 

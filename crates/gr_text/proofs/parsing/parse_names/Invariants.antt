@@ -1,5 +1,6 @@
 use Rattle.gr_model.proofs.Common.{◌≡◌, ◌-◌, ◌++◌, length, take, Some, option_map}
-use Rattle.gr_text.specs.LineReading.{◌>>=◌, names_said}
+use Rattle.gr_text.specs.Prelude.{names_said}
+use Rattle.gr_text.specs.LineReading.{◌>>=◌}
 use Rattle.gr_text.proofs.parsing.parse_names.Given as goal
 
 abbrev pub invariant-loop-place : goal.invariant-loop-place

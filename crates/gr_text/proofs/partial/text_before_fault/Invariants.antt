@@ -1,6 +1,5 @@
 use Rattle.gr_model.proofs.Common.{◌≡◌, ◌-◌, ◌++◌, length, flat_map}
-use Rattle.gr_text.specs.Partial.{lines_before, text_before_fault}
-use Rattle.gr_text.specs.Texts.{whole_line}
+use Rattle.gr_text.specs.Prelude.{lines_before, text_before_fault, whole_line}
 use Rattle.gr_text.proofs.partial.text_before_fault.Given as goal
 
 abbrev pub invariant-loop : goal.invariant-loop

@@ -1,7 +1,7 @@
 use Rattle.gr_model.proofs.Common.{◌≡◌, ◌^◌, ◌<◌, ℕ, List, Some, None, cond, sym, ap, ◌∙◌, arith, inl, inr, decimal, cases_Bool}
 use Rattle.std.proofs.lemmas.Fmt.{IsAscii-decimal, parse-decimal}
 use Rattle.std.proofs.lemmas.Str.{IsUtf8-from_ascii}
-use Rattle.gr_text.specs.LineReading.{same, number_of}
+use Rattle.gr_text.specs.Prelude.{same, number_of}
 use Rattle.gr_text.proofs.LineNumbers.{number_back, number_none, same_is, same_self}
 use Rattle.gr_text.proofs.words.parse_number.Goals as goal
 
