@@ -1,10 +1,10 @@
 -- What is read from a line has that line.
-use Rattle.gr_model.proofs.Common.{◌≡◌, ℕ, ◌^◌, ◌<◌, Bool, true, false, cond, List, [], ◌∷◌, ◌++◌, zero, suc, Option, Some, None, refl, ap, subst, ◌∙◌, arith, decimal, codes, IfSome, ltb-true, and_parts, nat_tests, same_Some}
+use Rattle.gr_model.proofs.Common.{◌≡◌, ℕ, ◌^◌, ◌<◌, Bool, true, false, cond, List, [], ◌∷◌, ◌++◌, zero, suc, Option, Some, None, refl, ap, subst, ◌∙◌, arith, decimal, codes, IfSome, nat_lt, ltb-true, nat_tests, same_Some}
 use Rattle.gr_text.specs.Prelude.{Space, Scope, Order, Kind, Read, Write, Load, Store, Rmw, Name, Event, MOST_NAMES, Version, Line, space_word, scope_word, order_word, version_words, names_words, first_word, later_words, later_text, line_text, same, number_of, short_of, behind_space, first_of, at_end, space_said, scope_said, order_said, flags_said, header_said, name_said, names_said, kind_said, atomic_said, barrier_said, event_said, checked, end_said, line_said, IsSaid, ReadIsText}
 use Rattle.gr_model.specs.Prelude.{IsKindOk, IsNamingOk}
 use Rattle.gr_record.proofs.Places.{naming_found}
 use Rattle.gr_text.specs.declared.line.Line.TheVariants as lines
-use Rattle.gr_record.specs.Prelude.{is_naming_ok, is_order_ok, IsHeader, AreNamesOf}
+use Rattle.gr_record.specs.Prelude.{most_items, is_naming_ok, is_order_ok, IsHeader, AreNamesOf}
 use Rattle.gr_text.specs.LineReading.{◌>>=◌}
 use Rattle.gr_text.proofs.LineNumbers.{each_some, number_told, same_told}
 use Rattle.gr_text.proofs.LineWords.{cut_told, first_found}
@@ -14,9 +14,6 @@ use Rattle.gr_text.proofs.LineWords.{cut_told, first_found}
 pub bind_some : {X Y : Type 0} (o : Option X) (f : X → Option Y) (y : Y) → (o >>= f) ≡ Some y → (x : X) × (o ≡ Some x) × (f x ≡ Some y)
 bind_some None f y e = absurd cc
 bind_some (Some x) f y e = (x, refl, e)
-
-pub guard_some : {X : Type 0} (b : Bool) (o : Option X) (y : X) → cond b o None ≡ Some y → (b ≡ true) × (o ≡ Some y)
-guard_some b o y e = grind arith
 
 choose : {X : Type 0} (b : Bool) (o p : Option X) (y : X) → cond b o p ≡ Some y → (G : Type 0) → (b ≡ true → o ≡ Some y → G) → (p ≡ Some y → G) → G
 choose true o p y e G this that = this refl e
@@ -119,11 +116,8 @@ event_found item bytes e h =
 line_of_event : (v : Version) (item : ℕ) (bytes : List ℕ) (x e : Event) → Said item bytes x → checked v x ≡ Some e → IsSaid v (lines.Event e) × (decimal item ++ 32 ∷ bytes ≡ line_text (lines.Event e))
 unfolding Said
 line_of_event v item bytes x e said check =
-    let g = guard_some _ _ _ check in
-    let q = and_parts _ _ g.0 in
-    let p = and_parts _ _ q.0 in
-    subst (λ (y : Event). IsSaid v (lines.Event y) × (decimal item ++ 32 ∷ bytes ≡ line_text (lines.Event y))) (same_Some x e g.1)
-    ((record { ok = (ltb-true _ _ p.0, said.2, said.3 p.1); word = said.1 }, (naming_found v x.kind x.names q.1).1), said.0)
+    let p : (nat_lt x.item (most_items v) ≡ true) × (is_order_ok x.kind ≡ true) × (is_naming_ok v x.kind x.names ≡ true) × (x ≡ e) = grind arith in
+    rw (← p.3) ((record { ok = (ltb-true _ _ p.0, said.2, said.3 p.1); word = said.1 }, (naming_found v x.kind x.names p.2).1), said.0)
 
 module _ (v : Version) (bytes : List ℕ) (l : Line) where
   group_found : same (first_of bytes).0 (codes "group") ≡ true → ((first_of bytes).1 >>= λ b. header_said b >>= λ h. Some (lines.Header h)) ≡ Some l → IsSaid v l × (bytes ≡ line_text l)
