@@ -1,6 +1,6 @@
 -- A line has no line feed, and no `@` but that of its site; with its site it is read from its text, and what is read has that text.
 use Rattle.gr_model.proofs.Common.{◌≡◌, ℕ, suc, ◌^◌, ◌<◌, Bool, true, false, List, [], ◌∷◌, ◌++◌, All, refl, ap, arith, inl, inr, ◌+◌, ◌-◌, length, take, Some, None, append_assoc, append-nil, length-append, take_at, drop_at, take-append-drop, IfSome, nat_lt, not, ◌==◌, ◌&&◌, decimal, ⊤, slice_index, and_parts, cases_Bool, eqb-true, eqb-false, nat_tests}
-use Rattle.gr_text.specs.Prelude.{Kind, Name, Event, Version, Line, SitedLine, IsSaid, IsSiteOf, IsSitedSaid, SitedTextIsRead, SitedReadIsText, line_said, IsWithout, cut_at, unspaced, site_said, sited_said, line_text, sited_text, site_text, name_words, names_words, first_word, later_words, later_text, header_words}
+use Rattle.gr_text.specs.Prelude.{Kind, Name, Event, Version, Line, SitedLine, IsSaid, IsSiteOf, IsSitedSaid, SitedTextIsRead, SitedReadIsText, line_said, IsWithout, cut_at, unspaced, sited_said, line_text, sited_text, site_text, name_words, names_words, first_word, later_words, later_text, header_words}
 use Rattle.gr_model.specs.Prelude.{IsNamingOk, IsNameInRange}
 use Rattle.gr_record.proofs.Places.{each_in_range, header_group, header_items, items_within}
 use Rattle.gr_text.specs.declared.line.Line.TheVariants as lines
@@ -89,7 +89,7 @@ plain_end v l said =
     rw (cut, text_is_read v l said) refl
 
 sited_end : (v : Version) (e : Event) (site : ℕ) → IsSaid v (lines.Event e) → site < 2 ^ 16 → (site == 0) ≡ false → has_sites v ≡ true → sited_said v (line_text (lines.Event e) ++ 32 ∷ 64 ∷ decimal site) ≡ Some (record { line = lines.Event e; site = site })
-unfolding sited_said site_said
+unfolding sited_said
 sited_end v e site said lt some has =
     let text = line_text (lines.Event e) in
     let before = text ++ 32 ∷ [] in
@@ -113,7 +113,7 @@ pub line_told : (v : Version) (bytes : List ℕ) → (line_said v bytes ≡ line
 line_told v bytes = (refl, each_some (line_said v bytes) _ (read_is_text v bytes))
 
 pub sited_read_is_text : SitedReadIsText
-unfolding sited_said site_said
+unfolding sited_said
 sited_read_is_text v bytes l h = grind (arith, cut_told, short_told, line_told, unspaced_told, no_site, append_assoc)
 
 pub sited_told : (v : Version) (bytes : List ℕ) → (sited_said v bytes ≡ sited_said v bytes) × IfSome (sited_said v bytes) (λ l. IsSitedSaid v l × (bytes ≡ sited_text l))

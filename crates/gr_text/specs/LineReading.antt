@@ -184,19 +184,15 @@ line_said v bytes =
 unfoldable pub unspaced : List ℕ → Option (List ℕ)
 unspaced bytes = if same (drop (length bytes - 1) bytes) (codes " ") then Some (take (length bytes - 1) bytes) else None
 
--- the number of a site is not 0
-unfoldable pub site_said : List ℕ → Option ℕ
-site_said word = short_of word >>= λ n. if n == 0 then None else Some n
-
 abbrev pub event_in : Line → Option Event
 event_in (lines.Header h) = None
 event_in (lines.Event e) = Some e
 
--- what comes before and after the first `@`
+-- what comes before and after the first `@`: the number of a site is not 0
 abbrev pub sited_by : Version → List ℕ → Option (List ℕ) → Option SitedLine
 sited_by v before None = line_said v before >>= λ l. Some (record { line = l; site = 0 })
 sited_by v before (Some behind) =
-    if has_sites v then (site_said behind >>= λ s. unspaced before >>= λ front. line_said v front >>= λ l. event_in l >>= λ e. Some (record { line = lines.Event e; site = s }))
+    if has_sites v then (short_of behind >>= λ s. if s == 0 then None else unspaced before >>= λ front. line_said v front >>= λ l. event_in l >>= λ e. Some (record { line = lines.Event e; site = s }))
     else None
 
 -- a line with the site at its end, after ` @`

@@ -2,7 +2,7 @@
 unfoldable pub use Rattle.gr_text.specs.Dumps.{stream_at, streams_at}
 pub use Rattle.gr_text.specs.Dumps.{WholeStream, at_place, dumped, formed, formed_event, formed_header, formed_of, parts_in, raised, streams_in, upgraded, upgraded_header, with_stream}
 pub use Rattle.gr_text.specs.LineLaws.{IsSaid, IsSiteOf, IsSitedSaid, ReadIsText, SitedReadIsText, SitedTextIsRead, TextIsRead}
-unfoldable pub use Rattle.gr_text.specs.LineReading.{atomic_said, barrier_said, cut_at, event_said, flags_said, header_said, kind_said, line_said, name_said, names_said, number_of, order_said, same, scope_said, short_of, site_said, sited_said, space_said, unspaced}
+unfoldable pub use Rattle.gr_text.specs.LineReading.{atomic_said, barrier_said, cut_at, event_said, flags_said, header_said, kind_said, line_said, name_said, names_said, number_of, order_said, same, scope_said, short_of, sited_said, space_said, unspaced}
 pub use Rattle.gr_text.specs.LineReading.{IsFirst, IsWithout, IsWord, at_end, behind_mark, behind_space, checked, end_said, first_of, header_made, version_said}
 pub use Rattle.gr_text.specs.LineText.{IsLine, atomic_words, first_word, flags_word, header_words, later_text, later_words, line_text, name_words, names_words, order_word, scope_word, site_text, sited_text, space_word, spaced, version_words}
 unfoldable pub use Rattle.gr_text.specs.Lines.{lines_of}

@@ -2,7 +2,7 @@
 
 ghost use Rattle.std.specs.Prelude.{◌≡◌, ◌≢◌, ◌^◌, ◌<◌, ◌++◌, ℕ, List, Some, None, IfSome, MatchOption, All, decimal, ◌≤◌, take, []};
 ghost use Rattle.std.specs.Option.{option_map};
-ghost use Rattle.gr_text.specs.Prelude.{at_end, space_said, scope_said, order_said, flags_said, header_made, header_said, version_said, name_said, names_said, kind_said, atomic_said, barrier_said, event_said, checked, line_said, site_said, sited_said, Line, SitedLine, line_text, sited_text, IsSaid, IsSitedSaid, Two};
+ghost use Rattle.gr_text.specs.Prelude.{at_end, space_said, scope_said, order_said, flags_said, header_made, header_said, version_said, name_said, names_said, kind_said, atomic_said, barrier_said, event_said, checked, line_said, sited_said, Line, SitedLine, line_text, sited_text, IsSaid, IsSitedSaid, Two};
 
 use crate::line::{Line, SitedLine};
 use crate::words::{is_word, parse_number, parse_short, split_at_mark, split_word};
@@ -271,14 +271,6 @@ fn read_line(version: Version, line: &[u8]) -> Option<Line>
     Some(Line::Event(check(version, event)?))
 }
 
-/// The number of a site, which is not 0.
-#[tactic(auto, unfolding(crate::specs::LineReading::site_said))]
-fn parse_site(word: &[u8]) -> Option<u16>
-    ensures { result ≡ site_said word.now }
-{
-    parse_short(word).filter(|site| *site != 0)
-}
-
 /// What a line of a stream of this version says, with the site at its end.
 #[tactic(auto, unfolding(crate::specs::LineReading::sited_said, crate::specs::LineReading::unspaced, crate::specs::LineReading::same))]
 pub(crate) fn read_sited_line(version: Version, line: &[u8]) -> Option<SitedLine>
@@ -292,7 +284,7 @@ pub(crate) fn read_sited_line(version: Version, line: &[u8]) -> Option<SitedLine
     if !version.has_sites() {
         return None;
     }
-    let site = parse_site(behind)?;
+    let site = parse_short(behind).filter(|site| *site != 0)?;
     match read_line(version, before.strip_suffix(b" ")?)? {
         Line::Header(_) => None,
         Line::Event(event) => Some(SitedLine {
