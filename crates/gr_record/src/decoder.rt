@@ -44,7 +44,6 @@ impl Model for Decoder {
 }
 
 /// Adds a part.
-/// Requires: there is room for it.
 fn push<A: Allocator>(parts: &mut Vec<Part, A>, part: Part)
     requires { vec_len parts.old < vec_capacity parts.old }
     ensures parts { parts.new.items ≡ parts.old.items ++ part ∷ [] }
@@ -124,7 +123,6 @@ impl Decoder {
     }
 
     /// How many headers and records `bytes` more bytes may complete.
-    /// Requires: `bytes` is below 2^63.
     fn units_in(&self, bytes: usize) -> usize
         requires { bytes < 2 ^ 63 }
         ensures { result ≡ units_in self.now.header (length self.now.held + bytes) }

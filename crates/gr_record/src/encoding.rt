@@ -100,7 +100,6 @@ fn name_at(names: &[Name], place: usize) -> Option<Name>
 }
 
 /// Writes a name, or that there is none, into a place for one.
-/// Requires: there are `NAME_LENGTH` bytes.
 fn encode_name(name: Option<Name>, bytes: &mut [u8])
     requires { length bytes.old ≡ NAME_LENGTH }
     ensures { bytes.new ≡ place_bytes name }

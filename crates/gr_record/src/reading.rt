@@ -48,7 +48,6 @@ fn read_version(magic: u32) -> Option<Version>
 }
 
 /// The header in these bytes, or its first fault.
-/// Requires: there are at least `HEADER_LENGTH` bytes.
 #[tactic(auto, unfolding(crate::specs::Reading::header_at))]
 pub(crate) fn read_header(bytes: &[u8]) -> Result<Header, RecordError>
     requires { HEADER_LENGTH ≤ length bytes.now }
@@ -62,7 +61,6 @@ pub(crate) fn read_header(bytes: &[u8]) -> Result<Header, RecordError>
 }
 
 /// The header of this version in these bytes, or its fault.
-/// Requires: there are at least `HEADER_LENGTH` bytes.
 fn read_launch(version: Version, bytes: &[u8]) -> Result<Header, RecordError>
     requires { HEADER_LENGTH ≤ length bytes.now }
     ensures exact { result ≡ header_behind (Some version) bytes.now }
@@ -98,7 +96,6 @@ fn may_stand(version: Version, kind: u8, place: usize, byte: u8) -> bool
 }
 
 /// Whether a record of this version may have its bytes 6 and 7. Nearly all records have no site, so this is tested first.
-/// Requires: there are at least `RECORD_LENGTH` bytes.
 #[inline(always)]
 fn has_good_site(version: Version, bytes: &[u8]) -> bool
     requires { RECORD_LENGTH ≤ length bytes.now }
@@ -108,7 +105,6 @@ fn has_good_site(version: Version, bytes: &[u8]) -> bool
 }
 
 /// Whether this is no end and each byte from 1 to 11 is good, as in nearly all records.
-/// Requires: there are at least `RECORD_LENGTH` bytes.
 #[tactic(auto, using(crate::proofs::Fields::no_bad_field, std::proofs::lemmas::Bool::Decides::nat_tests))]
 fn has_good_fields(version: Version, bytes: &[u8]) -> bool
     requires { RECORD_LENGTH ≤ length bytes.now }
@@ -123,7 +119,6 @@ fn has_good_fields(version: Version, bytes: &[u8]) -> bool
 }
 
 /// The place of the first bad byte, found place by place.
-/// Requires: there are at least `RECORD_LENGTH` bytes.
 #[cold]
 #[tactic(auto, using(crate::proofs::Numbers::one_left), unfolding(crate::specs::Reading::bad_field_from))]
 fn find_bad_field(version: Version, bytes: &[u8]) -> Option<u8>
@@ -140,7 +135,6 @@ fn find_bad_field(version: Version, bytes: &[u8]) -> Option<u8>
 }
 
 /// The place of the first bad byte.
-/// Requires: there are at least `RECORD_LENGTH` bytes.
 #[inline(always)]
 fn first_bad_field(version: Version, bytes: &[u8]) -> Option<u8>
     requires { RECORD_LENGTH ≤ length bytes.now }
@@ -183,7 +177,6 @@ fn read_order(byte: u8) -> Order
 }
 
 /// The kind that the first four bytes say.
-/// Requires: there are at least `RECORD_LENGTH` bytes.
 #[tactic(auto, unfolding(crate::specs::Reading::kind_of))]
 fn read_kind(bytes: &[u8]) -> Kind
     requires { RECORD_LENGTH ≤ length bytes.now }
@@ -205,7 +198,6 @@ fn read_kind(bytes: &[u8]) -> Kind
 }
 
 /// The memory of an access; `Global` for a barrier and an end.
-/// Requires: there are at least `RECORD_LENGTH` bytes.
 #[tactic(auto, unfolding(crate::specs::Reading::space_at))]
 fn space_in(bytes: &[u8]) -> Space
     requires { RECORD_LENGTH ≤ length bytes.now }
@@ -219,7 +211,6 @@ fn space_in(bytes: &[u8]) -> Space
 }
 
 /// Whether the first `count` places for names are unused.
-/// Requires: there are that many places.
 #[tactic(auto, unfolding(crate::specs::Reading::are_unused))]
 fn are_unused(bytes: &[u8], count: usize) -> bool
     requires { NAME_LENGTH * count ≤ length bytes.now }
@@ -236,7 +227,6 @@ fn are_unused(bytes: &[u8], count: usize) -> bool
 }
 
 /// The name in the first place.
-/// Requires: there is a place.
 #[tactic(auto, unfolding(crate::specs::Reading::name_in))]
 fn read_name(bytes: &[u8]) -> Name
     requires { NAME_LENGTH ≤ length bytes.now }
@@ -252,7 +242,6 @@ fn read_name(bytes: &[u8]) -> Name
 }
 
 /// What the first `count` places have, up to those that are unused, and how many places those before them are.
-/// Requires: there are that many places, at most `MOST_NAMES`.
 #[tactic(auto, using(crate::proofs::Places::names_none), unfolding(crate::specs::Reading::names_in))]
 fn read_names(bytes: &[u8], count: usize) -> ([Name; MOST_NAMES], usize)
     requires places { NAME_LENGTH * count ≤ length bytes.now }
@@ -299,7 +288,6 @@ pub fn naming(version: Version, kind: Kind, names: &[Name]) -> Option<Names>
 }
 
 /// The names of a whole record, read place by place, or `None` if its kind may not have them.
-/// Requires: there are the bytes of a record.
 #[inline(never)]
 fn read_used(version: Version, bytes: &[u8]) -> Option<Names>
     requires { length bytes.now ≡ record_length version }
@@ -311,7 +299,6 @@ fn read_used(version: Version, bytes: &[u8]) -> Option<Names>
 
 /// Whether a whole record may have its names, which are then in `names`. It is apart from `put_names`, which would else
 /// clear room for the result of `read_used` at every record.
-/// Requires: there are the bytes of a record.
 #[inline(always)]
 fn put_used(version: Version, bytes: &[u8], names: &mut Names) -> bool
     requires { length bytes.now ≡ record_length version }
@@ -325,7 +312,6 @@ fn put_used(version: Version, bytes: &[u8], names: &mut Names) -> bool
 }
 
 /// Whether a whole record may have its names, which are then in `names`. Nearly all records have none, and nothing is moved.
-/// Requires: there are the bytes of a record, and `names` has none.
 #[inline(always)]
 fn put_names(version: Version, bytes: &[u8], names: &mut Names) -> bool
     requires length { length bytes.now ≡ record_length version }

@@ -1,5 +1,5 @@
 -- A line has no line feed, and no `@` but that of its site; with its site it is read from its text, and what is read has that text.
-use Rattle.gr_model.proofs.Common.{◌≡◌, ℕ, suc, ◌^◌, ◌<◌, Bool, true, false, List, [], ◌∷◌, ◌++◌, All, refl, ap, arith, inl, inr, ◌+◌, ◌-◌, length, take, Some, None, append_assoc, append-nil, length-append, take_at, drop_at, take-append-drop, IfSome, nat_lt, not, ◌==◌, ◌&&◌, decimal, ⊤, slice_index, and_parts, cases_Bool, eqb-true, eqb-false, nat_tests}
+use Rattle.gr_model.proofs.Common.{◌≡◌, ℕ, suc, ◌^◌, ◌<◌, Bool, true, false, List, [], ◌∷◌, ◌++◌, All, refl, ap, arith, inl, inr, ◌+◌, ◌-◌, length, take, Some, None, append_assoc, append-nil, length-append, take_at, drop_at, take-append-drop, IfSome, nat_lt, not, ◌==◌, ◌&&◌, decimal, ⊤, and_parts, cases_Bool, eqb-true, eqb-false, nat_tests}
 use Rattle.gr_text.specs.Prelude.{Kind, Name, Event, Version, Line, SitedLine, IsSaid, IsSiteOf, IsSitedSaid, SitedTextIsRead, SitedReadIsText, line_said, IsWithout, cut_at, unspaced, sited_said, line_text, sited_text, site_text, name_words, names_words, first_word, later_words, later_text, header_words}
 use Rattle.gr_model.specs.Prelude.{IsNamingOk, IsNameInRange}
 use Rattle.gr_record.proofs.Places.{each_in_range, header_group, header_items, items_within}

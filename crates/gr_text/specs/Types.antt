@@ -1,15 +1,5 @@
 -- The types, variants and constants that definitions and proofs of texts cite, passed on from one place. Declares nothing.
-pub use Rattle.gr_model.specs.declared.event.Event.{Event}
-pub use Rattle.gr_model.specs.declared.event.Kind.{Kind}
-pub use Rattle.gr_model.specs.declared.event.Kind.TheVariants.{Barrier, End, Load, Read, Rmw, Store, Write}
-pub use Rattle.gr_model.specs.declared.event.Name.{Name}
-pub use Rattle.gr_model.specs.declared.event.Order.{Order}
-pub use Rattle.gr_model.specs.declared.event.Order.TheVariants.{Acquire, Both, Relaxed, Release}
-pub use Rattle.gr_model.specs.declared.event.Scope.{Scope}
-pub use Rattle.gr_model.specs.declared.event.Scope.TheVariants.{Device, Group}
-pub use Rattle.gr_model.specs.declared.event.Space.{Space}
-pub use Rattle.gr_model.specs.declared.event.Space.TheVariants.{Global, Local}
-pub use Rattle.gr_model.specs.declared.limits.TheConstants.{MOST_ITEMS_OF_A_GROUP, MOST_NAMES, MOST_RECORDS}
+pub use Rattle.gr_record.specs.Types.{Acquire, Barrier, Both, Device, End, Event, Global, Group, Kind, Load, Local, MOST_ITEMS_OF_A_GROUP, MOST_NAMES, MOST_RECORDS, Name, Order, Read, Relaxed, Release, Rmw, Scope, Space, Store, Write}
 pub use Rattle.gr_record.specs.declared.error.RecordError.{RecordError}
 pub use Rattle.gr_record.specs.declared.fault.Fault.{Fault}
 pub use Rattle.gr_record.specs.declared.header.Header.{Header}

@@ -28,7 +28,6 @@ pub enum Form {
 }
 
 /// Adds a line and its line feed.
-/// Requires: the header or record is in range.
 fn push_line<A: Allocator + Copy>(
     alloc: A,
     text: &mut Vec<u8, A>,
@@ -65,7 +64,6 @@ fn upgrade_header(header: Header) -> Header
 }
 
 /// Adds a header in a form.
-/// Requires: the header is in range.
 pub(crate) fn push_first<A: Allocator + Copy>(
     alloc: A,
     form: Form,
@@ -85,7 +83,6 @@ pub(crate) fn push_first<A: Allocator + Copy>(
 }
 
 /// Adds a record of this site, of a stream of this version, in a form.
-/// Requires: the record is in range, and the stream has room for its names.
 fn push_event<A: Allocator + Copy>(
     alloc: A,
     form: Form,
@@ -108,7 +105,6 @@ fn push_event<A: Allocator + Copy>(
 
 /// Adds in a form the records at the start of the bytes, in the stream of this header, up to its end or to the first that is
 /// refused. Returns the bytes after the end, if there is one.
-/// Requires: the header is in range.
 #[tactic(auto, using(gr_record::proofs::Loop::loop_steps, crate::proofs::Steps::record_steps))]
 pub(crate) fn push_records<'a, A: Allocator + Copy>(
     alloc: A,

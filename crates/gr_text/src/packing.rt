@@ -17,7 +17,6 @@ use gr_record::layout::{HEADER_LENGTH, LONG_RECORD_LENGTH, RECORD_LENGTH};
 use std::alloc::Allocator;
 
 /// Adds the bytes of a record of this site, in a stream of this version.
-/// Requires: the record is in range, and the stream has room for its names.
 pub(crate) fn push_record<A: Allocator>(
     bytes: &mut Vec<u8, A>,
     version: Version,
@@ -44,7 +43,6 @@ pub(crate) fn push_record<A: Allocator>(
 }
 
 /// Adds the bytes of a header.
-/// Requires: the header is in range.
 pub(crate) fn push_header<A: Allocator>(
     bytes: &mut Vec<u8, A>,
     header: &Header,
@@ -59,7 +57,6 @@ pub(crate) fn push_header<A: Allocator>(
 }
 
 /// Adds the bytes of a header, or of a record in a stream of this version.
-/// Requires: the header or record is in range, and the stream has room for the record's names.
 fn push_bytes<A: Allocator>(
     bytes: &mut Vec<u8, A>,
     version: Version,
