@@ -1,7 +1,7 @@
 -- A line has no line feed, and no `@` but that of its site; with its site it is read from its text, and what is read has that text.
-use Rattle.gr_model.proofs.Common.{◌≡◌, ℕ, suc, ◌^◌, ◌<◌, Bool, true, false, List, [], ◌∷◌, ◌++◌, All, refl, ap, arith, inl, inr, ◌+◌, ◌-◌, length, take, Some, None, append_assoc, append-nil, length-append, take_at, drop_at, take-append-drop, IfSome, nat_lt, not, ◌==◌, ◌&&◌, decimal, ⊤, and_parts, cases_Bool, eqb-true, eqb-false, nat_tests}
-use Rattle.gr_text.specs.Prelude.{Kind, Name, Event, Version, Line, SitedLine, IsSaid, IsSiteOf, IsSitedSaid, SitedTextIsRead, SitedReadIsText, line_said, IsWithout, cut_at, unspaced, sited_said, line_text, sited_text, site_text, name_words, names_words, first_word, later_words, later_text, header_words}
-use Rattle.gr_model.specs.Prelude.{IsNamingOk, IsNameInRange}
+use Rattle.gr_model.proofs.Common.{◌≡◌, ℕ, suc, ◌^◌, ◌<◌, Bool, true, false, List, [], ◌∷◌, ◌++◌, All, refl, ap, arith, inl, inr, ◌+◌, ◌-◌, length, take, Some, None, append_assoc, append-nil, length-append, take_at, drop_at, take-append-drop, IfSome, nat_lt, not, ◌==◌, ◌&&◌, decimal, list_all-append, and_parts, cases_Bool, eqb-true, eqb-false, nat_tests}
+use Rattle.gr_text.specs.Prelude.{Name, Event, Version, Line, SitedLine, IsSaid, IsSiteOf, IsSitedSaid, SitedTextIsRead, SitedReadIsText, line_said, IsWithout, cut_at, unspaced, sited_said, line_text, sited_text, site_text, names_words, later_text}
+use Rattle.gr_model.specs.Prelude.{IsNameInRange}
 use Rattle.gr_record.proofs.Places.{each_in_range, header_group, header_items, items_within}
 use Rattle.gr_text.specs.declared.line.Line.TheVariants as lines
 use Rattle.gr_text.proofs.LineWords.{are, are-append, are_weaker, are_without, is_digit, decimal_digits, first_back, cut_told, short_again}
@@ -20,31 +20,19 @@ ArePlain bytes = are is_plain bytes ≡ true
 number_plain : (n : ℕ) → n < 2 ^ 32 → ArePlain (decimal n)
 number_plain n lt = are_weaker is_digit is_plain (λ b h. grind (arith, nat_tests)) (decimal n) (decimal_digits n lt)
 
-abbrev AreAllPlain : List (List ℕ) → Type 0
-AreAllPlain [] = ⊤
-AreAllPlain (w ∷ ws) = ArePlain w × AreAllPlain ws
-
-later_plain : (ws : List (List ℕ)) → AreAllPlain ws → ArePlain (later_text ws)
-later_plain [] h = refl
-later_plain (w ∷ ws) h = are-append is_plain w (later_text ws) h.0 (later_plain ws h.1)
-
-name_plain : (n : Name) (ws : List (List ℕ)) → IsNameInRange n → AreAllPlain ws → AreAllPlain (name_words n ++ ws)
-name_plain n ws ok h = (refl, (number_plain n.at.group (omega (arith, ok.0)), (number_plain n.at.item (omega (arith, ok.1)), (number_plain n.release (omega (arith, ok.2)), h))))
-
-each_plain : (names : List Name) → All IsNameInRange names → AreAllPlain (names_words names)
-each_plain [] each = tt
-each_plain (n ∷ names) each = name_plain n (names_words names) (each 0 n (omega arith)) (each_plain names (λ k d lt. each (suc k) d (omega arith)))
-
-first_plain : (kind : Kind) (item : ℕ) → item < 1024 → ArePlain (first_word kind item)
-first_plain kind item lt = grind (arith, number_plain item (omega arith))
-
-words_plain : (kind : Kind) (e : Event) → e.word < 2 ^ 32 → IsNamingOk kind e.names → AreAllPlain (later_words kind e)
-words_plain kind e word naming = let names = each_plain e.names (each_in_range kind e.names naming) in grind (arith, number_plain e.word word)
+names_plain : (names : List Name) → All IsNameInRange names → ArePlain (later_text (names_words names))
+names_plain [] each = refl
+names_plain (n ∷ names) each =
+    let here = each 0 n (omega arith) in
+    let ih = names_plain names (λ k d lt. each (suc k) d (omega arith)) in
+    grind (arith, list_all-append, number_plain, here, ih)
 
 pub line_plain : (v : Version) (x : Line) → IsSaid v x → ArePlain (line_text x)
-line_plain v (lines.Header h) ok =
-    later_plain (header_words h) (number_plain h.group (omega (arith, header_group h ok)), (refl, (number_plain h.items (omega (arith, header_items h ok)), (refl, (number_plain h.launch ok.launch, grind arith)))))
-line_plain v (lines.Event e) (ok, range) = let few = items_within v in are-append is_plain (first_word e.kind e.item) _ (first_plain e.kind e.item (omega (arith, ok.ok.0))) (later_plain _ (words_plain e.kind e ok.word ok.ok.1))
+line_plain v (lines.Header h) ok = grind (arith, list_all-append, number_plain, header_group h ok, header_items h ok)
+line_plain v (lines.Event e) (ok, range) =
+    let few = items_within v in
+    let names = names_plain e.names (each_in_range e.kind e.names ok.ok.1) in
+    grind (arith, list_all-append, number_plain, names, few)
 
 -- ---- with its site
 
