@@ -1,6 +1,6 @@
 -- Words of a line: what comes before the first byte of a kind, and numbers and keywords.
 use Rattle.gr_model.proofs.Common.{◌≡◌, ℕ, zero, suc, ◌+◌, List, [], ◌∷◌, ◌++◌, take, drop, Option, Some, None, refl, ap, arith, ◌%◌, ◌^◌, ◌<◌, Bool, true, false, ◌∙◌, ◌==◌, nat_lt, nat_le, ◌&&◌, not, decimal, append-nil, list_all, eq-eqb, ne_eqb, lt-ltb, le-leb, and_from, both_ways, nat_tests, list_all-append, AllPass-from_list_all, list_all-from_AllPass}
-use Rattle.gr_text.specs.Prelude.{IsWithout, IsFirst, behind_mark, cut_at, same, short_of, IsWord, first_of, space_said, scope_said, order_said, flags_said, Space, Scope, Order, space_word, scope_word, order_word, flags_word}
+use Rattle.gr_text.specs.Prelude.{IsWithout, IsFirst, behind_mark, cut_at, same, short_of, IsWord, first_of, order_said, Order, order_word}
 use Rattle.std.proofs.lemmas.Fmt.{decimal_by_steps}
 use Rattle.gr_text.proofs.LineNumbers.{same_told, number_back}
 
@@ -73,21 +73,9 @@ decimal_word n lt = are_without is_digit 32 refl (decimal n) (decimal_digits n l
 
 -- ---- words that are read again
 
-pub space_again : (s : Space) → IsWord (space_word s) × (space_said (space_word s) ≡ Some s)
-unfolding space_said same
-space_again s = (key_word (space_word s) (grind arith), grind arith)
-
-pub scope_again : (s : Scope) → IsWord (scope_word s) × (scope_said (scope_word s) ≡ Some s)
-unfolding scope_said same
-scope_again s = (key_word (scope_word s) (grind arith), grind arith)
-
 pub order_again : (o : Order) → IsWord (order_word o) × (order_said (order_word o) ≡ Some o)
 unfolding order_said same
 order_again o = (key_word (order_word o) (grind arith), grind arith)
-
-pub flags_again : (global local : Bool) → IsWord (flags_word global local) × (flags_said (flags_word global local) ≡ Some (global, local))
-unfolding flags_said same
-flags_again global local = (key_word (flags_word global local) (grind arith), grind arith)
 
 pub short_again : (n : ℕ) → n < 65536 → short_of (decimal n) ≡ Some n
 unfolding short_of

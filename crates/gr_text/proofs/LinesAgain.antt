@@ -1,11 +1,11 @@
 -- What has a line is read from it.
 use Rattle.gr_model.proofs.Common.{◌≡◌, ℕ, ◌^◌, ◌<◌, ◌≤◌, nat_tests, true, false, List, [], ◌∷◌, ◌++◌, length, zero, suc, All, Option, Some, None, refl, ap, arith, not, decimal, codes, lt-ltb}
-use Rattle.gr_text.specs.Prelude.{Space, Scope, Order, Kind, Read, Write, Load, Store, Rmw, Barrier, End, Name, Event, Version, Four, space_said, flags_said, space_word, scope_word, order_word, flags_word, version_words, names_words, later_text, line_text, cut_at, same, IsWord, first_of, header_said, name_said, names_said, kind_said, atomic_said, barrier_said, event_said, line_said, TextIsRead}
+use Rattle.gr_text.specs.Prelude.{Space, Scope, Order, Kind, Read, Write, Load, Store, Rmw, Barrier, End, Name, Event, Version, Four, space_said, scope_said, flags_said, space_word, scope_word, order_word, flags_word, version_words, names_words, later_text, line_text, cut_at, same, IsWord, first_of, header_said, name_said, names_said, kind_said, atomic_said, barrier_said, event_said, line_said, TextIsRead}
 use Rattle.gr_model.specs.Prelude.{IsNamingOk, IsKindOk, IsNameInRange}
 use Rattle.gr_text.specs.declared.line.Line.TheVariants as lines
 use Rattle.gr_record.specs.Prelude.{most_items, is_order_ok, is_naming_ok}
 use Rattle.gr_text.proofs.LineNumbers.{number_back}
-use Rattle.gr_text.proofs.LineWords.{decimal_word, no_key, key_word, space_again, scope_again, order_again, short_again, first_of_space, first_of_last}
+use Rattle.gr_text.proofs.LineWords.{decimal_word, no_key, key_word, order_again, short_again, first_of_space, first_of_last}
 use Rattle.gr_record.proofs.Places.{header_group, header_items, items_within, naming_back, few_names, each_in_range}
 
 -- what comes after a word, where other words follow
@@ -49,13 +49,12 @@ module _ (v : Version) where
   access_again : (item word : ℕ) (space : Space) (scope : Scope) (order : Order) (names : List Name) (key : List ℕ) (kind : Kind) → item < most_items v → word < 2 ^ 32 → is_order_ok kind ≡ true → is_naming_ok v kind names ≡ true → IsNamingOk kind names
       → IsWord key → same key (codes "bar") ≡ false → same key (codes "r") ≡ false → same key (codes "w") ≡ false → kind_said key scope order ≡ Some kind
       → line_said v (decimal item ++ later_text (key ∷ space_word space ∷ decimal word ∷ scope_word scope ∷ order_word order ∷ names_words names)) ≡ Some (lines.Event (record { item = item; kind = kind; space = space; word = word; names = names }))
-  unfolding event_said atomic_said
+  unfolding cut_at same space_said scope_said event_said atomic_said
   access_again item word space scope order names key kind lt fits ordered named naming is no_barrier no_read no_write said =
       let each = each_in_range kind names naming in
       let found = names_again names 4 (few_names kind names naming) each in
       event_line _ key (space_word space ∷ decimal word ∷ scope_word scope ∷ order_word order ∷ names_words names) lt ordered named
-      (rw (first_of_space key _ is, no_barrier, no_read, no_write, first_of_space (space_word space) _ (space_again space).0, first_of_space (decimal word) _ (decimal_word word fits), (space_again space).1, number_back word fits)
-      (rw (first_of_space (scope_word scope) _ (scope_again scope).0, word_before (order_word order) (names_words names) (order_again order).0, (scope_again scope).1, (order_again order).1, said, found, naming_back Four kind names naming each) refl))
+      (grind (arith, first_of_space key, is, first_number, number_back, word_before (order_word order) (names_words names) (order_again order).0, order_again, found, naming_back Four kind names naming each))
 
   event_again : (item word : ℕ) (kind : Kind) (space : Space) (names : List Name) → item < most_items v → word < 2 ^ 32 → IsNamingOk kind names → is_naming_ok v kind names ≡ true → IsKindOk kind item space word
       → line_said v (line_text (lines.Event (record { item = item; kind = kind; space = space; word = word; names = names }))) ≡ Some (lines.Event (record { item = item; kind = kind; space = space; word = word; names = names }))
