@@ -1,7 +1,7 @@
 -- Accesses of one tag and class, of each item the one with the greatest index.
 use Rattle.gr_model.proofs.Common.{◌≡◌, ◌==◌, eqb, if◌then◌else◌, ◌⊎◌, ℕ, ◌≤◌, Bool, true, false, cond, Contains, List, [], ◌∷◌, ◌++◌, Option, None, Some, arith, map, refl, sym, ◌∙◌, inl, inr, ⊎_elim, find, nat_tests, Contains-append_left, Contains-push, Contains-push_cases, list_any_at}
 use Rattle.std.specs.Map.{lookup}
-use Rattle.std.specs.Option.{option_eq, unwrap_or}
+use Rattle.std.specs.Option.{option_eq}
 use Rattle.indexmap.specs.IndexMap.{insert_entry}
 use Rattle.gr_model.specs.declared.event.EventId.{EventId}
 use Rattle.gr_model.specs.declared.event.ItemId.{ItemId}
@@ -10,9 +10,9 @@ use Rattle.gr_model.specs.declared.class.Class.{Class}
 use Rattle.gr_model.specs.Prelude.{exempt}
 use Rattle.gr_clocks.proofs.RowLemmas.{same_items}
 use Rattle.gr_shadow.specs.Clashes.{ClockedAccess, event_of}
-use Rattle.gr_shadow.proofs.KeepsLemmas.{Contains-first, Contains-rest, find_is, find_told}
+use Rattle.gr_shadow.proofs.KeepsLemmas.{Contains-first, Contains-rest, find_told}
 use Rattle.gr_explain.proofs.Lists.{first_or_rest}
-use Rattle.gr_explain.specs.Alike.{AlikeEvents, AreOfOnly, IsChosen, IsInPlaceOf, KeepsEvents, are_of_groups, entry_event, event_clashes, greatest, is_sought, only_with}
+use Rattle.gr_explain.specs.Alike.{AlikeEvents, AreOfOnly, IsInPlaceOf, KeepsEvents, entry_event, event_clashes, greatest, is_sought, only_with}
 
 -- ---- exempt in any groups
 
@@ -39,32 +39,13 @@ only_kept (Some g) old new e of each =
       | false ↦ λ _. tt
     ] refl
 
--- ---- which event is chosen
+-- ---- which event is found
 
 pub found_none : {X : Type 0} (f : X → Bool) (xs : List X) (x : X) → find f xs ≡ None → Contains xs x → f x ≡ true → ⊥
 found_none f xs x none (k, lt, is) holds = grind (arith, list_any_at f xs k x lt, find_told f xs)
 
-module _ (l : AlikeEvents) (y : ClockedAccess) where
-  abbrev pub sought : Bool → Option EventId
-  sought two = find (is_sought two l.class y) l.events
-
-  pub none_chosen : sought false ≡ None → IsChosen l y None
-  none_chosen none = record { one = tt; whole = λ two e there is. found_none (is_sought false l.class y) l.events e none there (grind (arith, is)) }
-
-  module _ (e : EventId) where
-    chosen : Contains l.events e → event_clashes l.class y e ≡ true → ((f : EventId) → Contains l.events f → is_sought true l.class y f ≡ true → are_of_groups true e (event_of y) ≡ true) → IsChosen l y (Some e)
-    chosen there clash best = record { one = (there, clash); whole = λ two f in_events is. grind (arith, best f in_events) }
-
-    -- one of another group
-    pub other_chosen : (two : Bool) → sought two ≡ Some e → are_of_groups true e (event_of y) ≡ true → IsChosen l y (Some e)
-    other_chosen two found other = let is = find_is (is_sought two l.class y) l.events e found in chosen is.0 (let so = is.1 in grind (arith, so)) (λ f there so. other)
-
-  -- one of another group, or else that
-  pub picked : (e f : EventId) (o : Option EventId) → sought false ≡ Some e → sought true ≡ o → f ≡ unwrap_or o e → IsChosen l y (Some f)
-  picked e f None found none is =
-      let at = find_is (is_sought false l.class y) l.events e found in
-      rw is (chosen e at.0 (let so = at.1 in grind (arith, so)) (λ f there so. absurd (found_none (is_sought true l.class y) l.events f none there so)))
-  picked e f (Some g) found other is = rw is (other_chosen g true other (let so = (find_is (is_sought true l.class y) l.events g other).1 in grind (arith, so)))
+abbrev pub sought : AlikeEvents → ClockedAccess → Bool → Option EventId
+sought l y two = find (is_sought two l.class y) l.events
 
 -- ---- the greatest index of each item
 

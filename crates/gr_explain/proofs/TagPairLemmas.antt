@@ -8,7 +8,7 @@ use Rattle.gr_model.specs.declared.class.Class.{Class}
 use Rattle.gr_clocks.proofs.RowLemmas.{same_item_self}
 use Rattle.gr_shadow.specs.Clashes.{ClockedAccess, event_of}
 use Rattle.gr_shadow.proofs.KeepsLemmas.{find_is, finds as contains_any}
-use Rattle.gr_explain.specs.Alike.{AlikeEvents, IsChosen, IsInPlaceOf, KeepsEvents, are_of_groups, is_sought}
+use Rattle.gr_explain.specs.Alike.{AlikeEvents, IsInPlaceOf, KeepsEvents, are_of_groups, is_sought}
 use Rattle.gr_explain.specs.TagPairs.{Finds, IsFound, IsFoundAmong, IsKeptIn, IsOfTag, IsTaggedClash, IsPreferred, IsThat, KeepsMore, StandsForTags, has_tags, is_of_tags, is_so}
 use Rattle.gr_explain.specs.declared.tag_pairs.TaggedRace.{TaggedRace}
 use Rattle.gr_explain.specs.declared.tag_pairs.TagPairs.{TagPairs}
@@ -31,24 +31,36 @@ module _ (y : ClockedAccess) (tag : ℕ) where
   of_one l m (zero, lt, is) P holds = subst P is holds
   of_one l m (suc k, lt, is) P holds = absurd (omega (arith, lt))
 
-  -- where it clashes with one, and there is no race of the two tags
-  module _ (l : AlikeEvents) (e : EventId) (t : TaggedRace) (old : List TaggedRace) (had : list_any (is_of_tags l.tag tag) old ≡ false) (is : IsChosen l y (Some e)) (found : IsFound e l.tag y tag t) where
-    now : (two : Bool) → are_of_groups two e (event_of y) ≡ true → has_tags two (old ++ t ∷ []) l.tag tag ≡ true
-    now two so = contains_any (is_so two l.tag tag) (old ++ t ∷ []) t (Contains-push old t) (grind (arith, nat_tests, found.first_tag, found.second_tag, found.turned, so))
+  -- where there is no race of the two tags, and it clashes with none
+  pub finds_none : (l : AlikeEvents) (old : List TaggedRace) → sought l y false ≡ None → Finds y tag (l ∷ []) old old
+  finds_none l old none = record {
+    kept = λ two a b h. h;
+    each = λ u there. inl there;
+    whole = λ two m f there. of_one l m there (λ (k : AlikeEvents). Contains k.events f → is_sought two k.class y f ≡ true → has_tags two old k.tag tag ≡ true) (λ event so. absurd (found_none (is_sought false l.class y) l.events f none event (grind (arith, so))));
+    others = λ h. h;
+  }
+
+  -- or it clashes with one, and their race stays or gives way
+  module _ (l : AlikeEvents) (e : EventId) (first t : TaggedRace) (old : List TaggedRace) (had : list_any (is_of_tags l.tag tag) old ≡ false) (clash : sought l y false ≡ Some e) (found : IsFound e l.tag y tag first) (is : IsPreferred l y tag first t) where
+    first_among : IsFoundAmong (l ∷ []) y tag first
+    first_among =
+        let there = find_is (is_sought false l.class y) l.events e clash in
+        record { list = l; there = Contains-push [] l; earlier = e; event = there.0; clash = (let so = there.1 in grind (arith, so)); found = found }
 
     apart : (k : ℕ) (d : TaggedRace) → k < length old → is_of_tags (get_or old k d).tag (get_or old k d).other t ≡ false
     apart k d lt =
         let none : is_of_tags l.tag tag (get_or old k d) ≡ false = grind (arith, common_steps, had) in
-        grind (arith, nat_tests, none, found.first_tag, found.second_tag)
+        grind (arith, nat_tests, none, is.tags)
 
     pub finds_one : Finds y tag (l ∷ []) old (old ++ t ∷ [])
     finds_one = record {
       kept = λ two a b h. grind (arith, list_any-append);
       each = λ u within_new. ⊎_elim
           (λ (was : Contains old u). inl was)
-          (λ (last : t ≡ u). inr (subst (IsFoundAmong (l ∷ []) y tag) last (record { list = l; there = Contains-push [] l; earlier = e; event = is.one.0; clash = is.one.1; found = found })))
+          (λ (last : t ≡ u). inr (subst (IsFoundAmong (l ∷ []) y tag) last (⊎_elim (λ (same : first ≡ t). subst (IsFoundAmong (l ∷ []) y tag) same first_among) (λ among. among) is.one)))
           (Contains-push_cases old t u within_new);
-      whole = λ two m f there. of_one l m there (λ (k : AlikeEvents). Contains k.events f → is_sought two k.class y f ≡ true → has_tags two (old ++ t ∷ []) k.tag tag ≡ true) (λ event so. now two (is.whole two f event so));
+      whole = λ two m f there. of_one l m there (λ (k : AlikeEvents). Contains k.events f → is_sought two k.class y f ≡ true → has_tags two (old ++ t ∷ []) k.tag tag ≡ true)
+          (λ event so. contains_any (is_so two l.tag tag) (old ++ t ∷ []) t (Contains-push old t) (grind (arith, is.tags, is.whole two f event so)));
       others = λ h. all_pairs_push (λ (t u : TaggedRace). is_of_tags t.tag t.other u ≡ false) old t h apart;
     }
 

@@ -1,6 +1,6 @@
 -- The accesses to a word that have one tag and one class.
 -- Source: docs/MODEL.md, "Hits". Tags are this project's own.
-use Rattle.std.specs.Prelude.{◌≡◌, ◌≤◌, ◌==◌, ◌&&◌, ◌||◌, ℕ, Bool, Contains, IfSome, IsTrue, MatchOption, if◌then◌else◌, List, [], Option, None, Some, nat_lt, not}
+use Rattle.std.specs.Prelude.{◌≡◌, ◌≤◌, ◌==◌, ◌&&◌, ◌||◌, ℕ, Bool, Contains, IfSome, if◌then◌else◌, List, [], Option, None, Some, nat_lt, not}
 use Rattle.gr_model.specs.declared.event.EventId.{EventId}
 use Rattle.gr_model.specs.declared.event.ItemId.{ItemId}
 use Rattle.gr_model.specs.declared.class.Class.{Class}
@@ -37,11 +37,6 @@ are_of_groups two e f = not two || not (e.at.group == f.at.group)
 -- a later access clashes with the access of an event, which is of the class, and is of another group where that is asked for
 abbrev pub is_sought : Bool → Class → ClockedAccess → EventId → Bool
 is_sought two class y e = are_of_groups two e (event_of y) && event_clashes class y e
-
--- an event of these with which a later access clashes, if there is one: one of another group, if there is such a one
-pub record IsChosen (l : AlikeEvents) (y : ClockedAccess) (chosen : Option EventId) : Type 0 where
-  pub one : IfSome chosen (λ e. Contains l.events e × IsTrue (event_clashes l.class y e))
-  pub whole : (two : Bool) (e : EventId) → Contains l.events e → IsTrue (is_sought two l.class y e) → MatchOption chosen ⊥ (λ d. IsTrue (are_of_groups two d (event_of y)))
 
 abbrev pub greatest : Option ℕ → ℕ → ℕ
 greatest None index = index

@@ -5,7 +5,7 @@ ghost use Rattle.std.specs.List.{find};
 ghost use Rattle.gr_clocks.specs.ClockedAccess.{clocked};
 ghost use Rattle.gr_shadow.specs.Clashes.{event_of};
 ghost use Rattle.gr_explain.specs.Alike as spec;
-ghost use Rattle.gr_explain.specs.Alike.{IsChosen, KeepsEvents, event_clashes, is_sought, no_events};
+ghost use Rattle.gr_explain.specs.Alike.{KeepsEvents, event_clashes, is_sought, no_events};
 
 use gr_clocks::access::Access;
 use gr_model::class::{Class, exempt};
@@ -102,17 +102,6 @@ impl<A: Allocator> Alike<A> {
             .find(|event| {
                 (!two || event.at.group != access.item.group) && clashes(self.class, *event, access)
             })
-    }
-
-    /// An event of these with which a later access to the word clashes: one of another group, if there is such a one.
-    pub(crate) fn chosen(&self, access: &Access<A>) -> Option<EventId>
-        ensures { IsChosen self.now (clocked access.now) result }
-    {
-        let event = self.clashing(access, false)?;
-        if event.at.group != access.item.group {
-            return Some(event);
-        }
-        Some(self.clashing(access, true).unwrap_or(event))
     }
 
     /// Adds an access, which has this tag.

@@ -100,8 +100,10 @@ fn find_among<A: Allocator>(
     match place_of_tags(found, alike.tag(), tag) {
         Some(place) => prefer(&mut found[place], alike, access, tag),
         None => {
-            if let Some(earlier) = alike.chosen(access) {
-                found.push(race_with(earlier, alike.tag(), access, tag))?;
+            if let Some(earlier) = alike.clashing(access, false) {
+                let mut race = race_with(earlier, alike.tag(), access, tag);
+                prefer(&mut race, alike, access, tag);
+                found.push(race)?;
             }
         }
     }
