@@ -1,9 +1,9 @@
 -- What is known of the events of a group, with one record more, and of those of all groups below a bound.
-use Rattle.gr_model.proofs.Common.{◌≡◌, ℕ, suc, ◌+◌, ◌<◌, Bool, true, false, cond, List, [], ◌∷◌, ◌++◌, length, filter, slice_get, refl, ap, ◌∙◌, arith, append-nil, if◌then◌else◌, Some, option_map, sym, ◌≢◌, ◌≤◌, ◌==◌, not, length-append, Option, None, take, subst, inl, inr, ⊎_elim, eqb-true, true≢false, get_or, filter-append, common_steps, gets, is_some, slice_get-get_or, slice_get_past, slice_get_read, slice_get_within, length_push, take-append-le, length-take-le, take_more, take-append_seam, and_parts, cases_order, eq-eqb, false_from_ne_true}
+use Rattle.gr_model.proofs.Common.{◌≡◌, ℕ, ◌+◌, ◌<◌, Bool, true, false, List, [], ◌∷◌, ◌++◌, length, filter, slice_get, refl, ap, ◌∙◌, arith, if◌then◌else◌, Some, option_map, sym, ◌≢◌, ◌≤◌, ◌==◌, not, Option, None, take, subst, inl, inr, ⊎_elim, eqb-true, true≢false, get_or, filter-append, common_steps, gets, is_some, slice_get-get_or, slice_get_past, slice_get_read, slice_get_within, length_push, take-append-le, length-take-le, take_more, take-append_seam, and_parts, cases_Bool, cases_eq, cases_lt, eq-eqb, false_from_ne_true}
 use Rattle.gr_model.specs.declared.event.Event.{Event}
 use Rattle.gr_model.specs.Prelude.{is_of, list_of, places_from, trace_of, IsAccepted, IsEvent, Streams, is_barrier, event_word, word_if_access, is_end, is_end_kind}
-use Rattle.gr_model.proofs.Places.{places_from-append}
 use Rattle.gr_model.proofs.ListsOfRecords.{length-filter_le}
+use Rattle.gr_lanes.proofs.IndexLemmas.{filter_more, length-places, places_more}
 use Rattle.gr_model.specs.declared.limits.TheConstants.{MOST_RECORDS}
 use Rattle.gr_timeline.specs.declared.counting.Count.{Count}
 use Rattle.gr_timeline.specs.Counting.{AreCounts, IsSmall, after_record, counted}
@@ -12,33 +12,22 @@ use Rattle.gr_model.specs.declared.event.Kind.{Kind}
 use Rattle.gr_model.specs.declared.event.Word.{Word}
 use Rattle.gr_timeline.specs.declared.details.Details.{Details}
 use Rattle.gr_timeline.specs.Accesses.{details_at, IsKnown}
-use Rattle.gr_timeline.specs.Details.{details_of}
+use Rattle.gr_timeline.specs.Details.{details_of, event_in, number_in, phase_in, told_from, told_in}
 use Rattle.gr_explain.specs.Events.{same_event}
 use Rattle.gr_explain.proofs.Lists.{at_last}
 use Rattle.gr_explain.proofs.Sets.{event_from_equal, event_itself}
-use Rattle.gr_timeline.specs.Gathering.{AreKnownIn, IsKnownIn, KeepsRecord, event_in, event_of, number_in, phase_in, told_from, told_in, details_by, word_in, AreOthersKept}
+use Rattle.gr_timeline.specs.Gathering.{AreKnownIn, IsKnownIn, KeepsRecord, event_of, details_by, word_in, AreOthersKept}
 
--- an element of the first of two lists
-pub slice_front : {X : Type 0} (xs ys : List X) (k : ℕ) → k < length xs → slice_get (xs ++ ys) k ≡ slice_get xs k
-slice_front xs ys k lt = grind (arith, common_steps, gets)
+-- where one element more is not the one of a number that passes a test, that one and its place stay, and so do those before it
+module _ {X : Type 0} (test : X → Bool) (xs : List X) (x : X) (k : ℕ) where
+  element_stays : (test x ≡ true → k ≢ length (filter test xs)) → slice_get (filter test (xs ++ x ∷ [])) k ≡ slice_get (filter test xs) k
+  element_stays other = grind (arith, common_steps, gets, filter_more test xs x)
 
-module _ (list : List Event) (x : Event) (i : ℕ) where
-  pub trace_here : is_of i x ≡ true → filter (is_of i) (list ++ x ∷ []) ≡ filter (is_of i) list ++ x ∷ []
-  trace_here mine = filter-append (is_of i) list (x ∷ []) ∙ ap (λ b. filter (is_of i) list ++ cond b (x ∷ []) []) mine
+  place_stays : (test x ≡ true → k ≢ length (filter test xs)) → slice_get (places_from test 0 (xs ++ x ∷ [])) k ≡ slice_get (places_from test 0 xs) k
+  place_stays other = grind (arith, common_steps, gets, places_more test xs x, length-places test 0 xs)
 
-  pub trace_other : is_of i x ≡ false → filter (is_of i) (list ++ x ∷ []) ≡ filter (is_of i) list
-  trace_other other = filter-append (is_of i) list (x ∷ []) ∙ (ap (λ b. filter (is_of i) list ++ cond b (x ∷ []) []) other ∙ append-nil (filter (is_of i) list))
-
-  pub places_here : is_of i x ≡ true → places_from (is_of i) 0 (list ++ x ∷ []) ≡ places_from (is_of i) 0 list ++ length list ∷ []
-  places_here mine = rw (places_from-append, mine) (ap (λ n. places_from (is_of i) 0 list ++ n ∷ []) (omega arith))
-
-  pub places_other : is_of i x ≡ false → places_from (is_of i) 0 (list ++ x ∷ []) ≡ places_from (is_of i) 0 list
-  places_other other = rw (places_from-append, other, append-nil)
-
--- as many places as elements
-pub length-places : {X : Type 0} (test : X → Bool) (n : ℕ) (xs : List X) → length (places_from test n xs) ≡ length (filter test xs)
-length-places test n [] = refl
-length-places test n (x ∷ xs) = grind (arith, length-places test (suc n) xs)
+  first_stay : k < length (filter test xs) → take k (filter test (xs ++ x ∷ [])) ≡ take k (filter test xs)
+  first_stay lt = grind (arith, common_steps, filter_more test xs x, take-append-le k (filter test xs) (x ∷ []))
 
 -- each event has details
 pub event_is_told : (s : Streams) (e : EventId) → IsEvent s e → is_some (details_of s e) ≡ true
@@ -51,8 +40,8 @@ barriers_pushed : (trace : List Event) (x : Event) → length (filter is_barrier
 barriers_pushed trace x = grind (arith, common_steps, filter-append)
 
 counted_more : (list : List Event) (x : Event) (i : ℕ) (b : Bool) → is_of i x ≡ b → after_record i x (counted list i) ≡ counted (list ++ x ∷ []) i
-counted_more list x i true t = rw (t, trace_here list x i t, length_push, barriers_pushed)
-counted_more list x i false f = rw (f, trace_other list x i f)
+counted_more list x i true t = rw (t, filter_more (is_of i) list x, t, length_push, barriers_pushed)
+counted_more list x i false f = rw (f, filter_more (is_of i) list x, f)
 
 pub counts_more : (items : ℕ) (list : List Event) (x : Event) (old new : List Count) → length new ≡ length old → ((i : ℕ) → slice_get new i ≡ option_map (after_record i x) (slice_get old i)) → AreCounts items list old → AreCounts items (list ++ x ∷ []) new
 counts_more items list x old new same each counts = record {
@@ -100,48 +89,29 @@ module _ (list : List Event) (x : Event) (w : Word) (g : ℕ) (old new : List (E
     abbrev trace : List Event
     trace = filter (is_of e.at.item) list
 
-    abbrev places : List ℕ
-    places = places_from (is_of e.at.item) 0 list
-
-    -- the record is none of the item's
-    known_other : is_of e.at.item x ≡ false → IsKnownIn longer w e (details_at new e)
-    known_other other =
-        let kept = kept_other e (λ on same. true≢false (sym (grind (arith, eq-eqb x.item e.at.item (ap (λ (d : EventId). d.at.item) same), access_is_of x.kind _ w on)) ∙ other)) keeps in
-        rw kept (still_known list longer w e (details_at old e) (rw (trace_other list x e.at.item other)) (rw (trace_other list x e.at.item other, places_other list x e.at.item other)) known)
+    -- it is not that of the record
+    known_away : (is_of e.at.item x ≡ true → e.index ≢ length trace) → IsKnownIn longer w e (details_at new e)
+    known_away other =
+        let event = element_stays (is_of e.at.item) list x e.index other in
+        let number = place_stays (is_of e.at.item) list x e.index other in
+        let kept = kept_other e (λ on same. let item = ap (λ (d : EventId). d.at.item) same in
+            other (grind (arith, eq-eqb x.item e.at.item item, access_is_of x.kind _ w on)) (sym (ap (λ (d : EventId). d.index) same) ∙ ap (λ i. length (filter (is_of i) list)) item)) keeps in
+        rw kept (still_known list longer w e (details_at old e) event (⊎_elim
+            (λ lt. rw (event, number, first_stay (is_of e.at.item) list x e.index lt) refl)
+            (λ past. rw (event, slice_get_past trace e.index past) refl)
+            (cases_lt e.index (length trace))) known)
 
     module _ (mine : is_of e.at.item x ≡ true) where
       item : x.item ≡ e.at.item
       item = eqb-true x.item e.at.item (and_parts (x.item == e.at.item) (not (is_end x)) mine).0
 
-      kept_apart : e.index ≢ length trace → details_at new e ≡ details_at old e
-      kept_apart apart = kept_other e (λ on same. apart (sym (ap (λ (d : EventId). d.index) same) ∙ ap (λ i. length (filter (is_of i) list)) item)) keeps
-
-      -- it is before the record
-      known_before : e.index < length trace → IsKnownIn longer w e (details_at new e)
-      known_before lt =
-          let numbered : e.index < length places = omega (arith, lt, length-places (is_of e.at.item) 0 list) in
-          let within : e.index ≤ length trace = omega (arith, lt) in
-          rw (kept_apart (omega (arith, lt)))
-          (still_known list longer w e (details_at old e)
-          (rw (trace_here list x e.at.item mine, slice_front trace (x ∷ []) e.index lt))
-          (rw (trace_here list x e.at.item mine, places_here list x e.at.item mine, slice_front trace (x ∷ []) e.index lt, slice_front places (length list ∷ []) e.index numbered, take-append-le e.index trace (x ∷ []) within))
-          known)
-
-      -- it would be after the record
-      known_behind : length trace < e.index → IsKnownIn longer w e (details_at new e)
-      known_behind gt =
-          let past : length trace ≤ e.index = omega (arith, gt) in
-          let past_more : length (trace ++ x ∷ []) ≤ e.index = omega (arith, gt, length-append trace (x ∷ [])) in
-          let none : event_in longer e ≡ event_in list e = rw (trace_here list x e.at.item mine, slice_get_past (trace ++ x ∷ []) e.index past_more, slice_get_past trace e.index past) in
-          rw (kept_apart (omega (arith, gt))) (still_known list longer w e (details_at old e) none (rw (none, slice_get_past trace e.index past)) known)
-
       -- it is that of the record
       known_here : e.index ≡ length trace → KeepsRecord w g (length list) x (counted list x.item) old new → IsKnownIn longer w e (details_at new e)
       known_here here keep =
           let same : next ≡ e = λ k. record { at = record { group = sym group k; item = item k }; index = (ap (λ i. length (filter (is_of i) list)) item ∙ sym here) k } in
-          let event : event_in longer e ≡ Some x = rw (trace_here list x e.at.item mine, here) (at_last trace x) in
-          let number : number_in longer e ≡ Some (length list) = rw (places_here list x e.at.item mine, here ∙ sym (length-places (is_of e.at.item) 0 list)) (at_last places (length list)) in
-          let phase : phase_in longer e ≡ length (filter is_barrier (filter (is_of x.item) list)) = rw (trace_here list x e.at.item mine, here, take-append_seam trace (x ∷ []), item) in
+          let event : event_in longer e ≡ Some x = rw (filter_more, mine, here) (at_last trace x) in
+          let number : number_in longer e ≡ Some (length list) = rw (places_more, mine, here ∙ sym (length-places (is_of e.at.item) 0 list)) (at_last (places_from (is_of e.at.item) 0 list) (length list)) in
+          let phase : phase_in longer e ≡ length (filter is_barrier (filter (is_of x.item) list)) = rw (filter_more, mine, here, take-append_seam trace (x ∷ []), item) in
           let word : word_in longer e ≡ event_word g x = rw (event, group) in
           by_cases same (λ k. told_from (event k) (number k) (phase k)) word keep
         where
@@ -151,14 +121,13 @@ module _ (list : List Event) (x : Event) (w : Word) (g : ℕ) (old new : List (E
 
   -- what is known of the events of the group, with one record more
   pub record_known : AreKnownIn list w g old → AreKnownIn longer w g new
-  record_known known e group = by_test (is_of e.at.item x) refl
-    where
-      by_test : (b : Bool) → is_of e.at.item x ≡ b → IsKnownIn longer w e (details_at new e)
-      by_test true mine = ⊎_elim
-          (λ (here : e.index ≡ length (filter (is_of e.at.item) list)). known_here e group (known e group) mine here keeps)
-          (⊎_elim (known_before e group (known e group) mine) (known_behind e group (known e group) mine))
-          (cases_order e.index (length (filter (is_of e.at.item) list)))
-      by_test false other = known_other e group (known e group) other
+  record_known known e group = ⊎_elim
+      (λ (mine : is_of e.at.item x ≡ true). ⊎_elim
+      (λ here. known_here e group (known e group) mine here keeps)
+      (λ apart. known_away e group (known e group) (λ _. apart))
+      (cases_eq e.index (length (filter (is_of e.at.item) list))))
+      (λ other. known_away e group (known e group) (λ mine. absurd (true≢false (sym mine ∙ other))))
+      (cases_Bool (is_of e.at.item x))
 
 -- ---- the next record of a list
 

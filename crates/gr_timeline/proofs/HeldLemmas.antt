@@ -1,5 +1,5 @@
 -- The accesses to a word that are held are those that are left of all if the grounded ones are taken away.
-use Rattle.gr_model.proofs.Common.{◌≡◌, ◌≢◌, ◌↔◌, ℕ, ◌+◌, ◌&&◌, not, Bool, true, false, List, filter, get_or, length, Option, Some, None, is_some, refl, sym, ap, ◌∙◌, subst, arith, true≢false, [], Decides, IsDistinct, and_parts, and_right, not-true, length-map, AllPairs-from_IsDistinct, IsDistinct-from_AllPairs, is_member-filter, is_some-lookup, length-intersection_difference, get_or_from_slice_get, slice_get-get_or, slice_get_within}
+use Rattle.gr_model.proofs.Common.{◌≡◌, ◌≢◌, ◌↔◌, ◌+◌, not, Bool, true, List, filter, length, Option, Some, None, is_some, refl, sym, ap, ◌∙◌, subst, arith, true≢false, [], Decides, IsDistinct, and_parts, not-true, length-map, AllPairs-from_IsDistinct, IsDistinct-from_AllPairs, is_member-filter, is_some-lookup, length-intersection_difference, get_or_from_slice_get, slice_get_within}
 use Rattle.std.specs.List.{AllPairs}
 use Rattle.std.specs.Map.{keys_of}
 use Rattle.std.specs.Set.{IsDifference, IsIntersection, is_member}
@@ -7,7 +7,7 @@ use Rattle.std.proofs.lemmas.List.Kept.{AllPairs-filter}
 use Rattle.std.proofs.lemmas.Map.Views.{Contains-from_any, list_any-from_Contains}
 use Rattle.gr_model.specs.declared.event.EventId.{EventId}
 use Rattle.gr_model.specs.declared.event.Word.{Word}
-use Rattle.gr_model.specs.Prelude.{IsAt, IsIn, Streams, IsGrounded}
+use Rattle.gr_model.specs.Prelude.{IsIn, Streams, IsGrounded}
 use Rattle.gr_model.proofs.Places.{Contains-at}
 use Rattle.gr_timeline.specs.declared.details.Details.{Details}
 use Rattle.gr_explain.specs.Events.{same_event}
@@ -23,12 +23,7 @@ use Rattle.gr_model.specs.contracts.event.EventIdEq.TheImpl.Laws as equal
 decides : (d e : EventId) → Decides (same_event d e) (d ≡ e)
 decides d e = (event_from_equal d e, λ same. subst (λ (x : EventId). same_event d x ≡ true) same (equal.laws-law.refl d))
 
--- ---- lists of events, each once
-
-apart : (events : List EventId) → ((p q : ℕ) (e : EventId) → IsAt events p e → IsAt events q e → p ≡ q) → AllPairs (λ x y. x ≢ y) events
-apart events once i j d before there same =
-    let first = slice_get-get_or events i d (omega (arith, before, there)) in
-    absurd (omega (arith, before, once i j (get_or events i d) first (slice_get-get_or events j d there ∙ ap Some (sym same))))
+-- ---- lists of events
 
 member_in : (events : List EventId) (e : EventId) → is_member same_event events e ≡ true → IsIn events e
 member_in events e is = let there = Contains-from_any event_from_equal e events is in (there.0, Contains-at events e there)
@@ -46,7 +41,7 @@ module _ (s : Streams) (w : Word) (known : List (EventId × Details)) (distinct 
   on_key : (e : EventId) → (is_member same_event (keys_of known) e ≡ true) ↔ IsOn s w e
   on_key e = key_is_on e (details_at known e) refl (are e)
 
-  module _ (those : List EventId) (once : (p q : ℕ) (e : EventId) → IsAt those p e → IsAt those q e → p ≡ q) (grounded : (e : EventId) → IsIn those e ↔ (IsOn s w e × IsGrounded s e)) where
+  module _ (those : List EventId) (once : AllPairs (λ x y. x ≢ y) those) (grounded : (e : EventId) → IsIn those e ↔ (IsOn s w e × IsGrounded s e)) where
     abbrev keys : List EventId
     keys = keys_of known
 
@@ -56,12 +51,11 @@ module _ (s : Streams) (w : Word) (known : List (EventId × Details)) (distinct 
     abbrev left : List EventId
     left = filter is_left keys
 
+    in_keys : (e : EventId) → is_member same_event those e ≡ true → is_member same_event keys e ≡ true
+    in_keys e is = (on_key e).1 ((grounded e).0 (member_in those e is)).0
+
     shared : IsIntersection same_event keys those those
-    shared q = by_test (is_member same_event those q) refl
-      where
-        by_test : (b : Bool) → is_member same_event those q ≡ b → is_member same_event those q ≡ (is_member same_event keys q && is_member same_event those q)
-        by_test true is = sym (ap (λ a. a && is_member same_event those q) ((on_key q).1 ((grounded q).0 (member_in those q is)).0))
-        by_test false not_there = not_there ∙ sym (ap (λ m. is_member same_event keys q && m) not_there ∙ and_right (is_member same_event keys q) false refl)
+    shared q = grind (arith, in_keys q)
 
     rest : IsDifference same_event keys those left
     rest q = is_member-filter equal.laws-law is_left q (λ x same. ap is_left (event_from_equal q x same)) keys
@@ -76,18 +70,16 @@ module _ (s : Streams) (w : Word) (known : List (EventId × Details)) (distinct 
         (on, λ stands. true≢false (sym (in_member those e ((grounded e).1 (on, stands))) ∙ not-true (is_member same_event those e) parts.1))
 
     held_left : (e : EventId) → IsOn s w e × ¬ IsGrounded s e → IsIn left e
-    held_left e held = by_test (is_member same_event those e) refl
-      where
-        by_test : (b : Bool) → is_member same_event those e ≡ b → IsIn left e
-        by_test true is = absurd (held.1 ((grounded e).0 (member_in those e is)).1)
-        by_test false is_not = member_in left e (rest e ∙ (ap (λ a. a && is_left e) ((on_key e).1 held.0) ∙ ap not is_not))
+    held_left e held =
+        let away : is_member same_event those e ≡ true → ⊥ = λ is. held.1 ((grounded e).0 (member_in those e is)).1 in
+        member_in left e (grind (arith, rest e, (on_key e).1 held.0, away))
 
     -- those that are left are held, and they and the grounded ones are all
     pub held_are_left : (held : List EventId) × AreHeld s w held × (length those + length held ≡ length known)
     held_are_left = (
       left,
       record { each = λ e. (left_held e, held_left e); once = left_pairs },
-      length-intersection_difference equal.laws-law keys those those left distinct (IsDistinct-from_AllPairs decides those (apart those once)) (IsDistinct-from_AllPairs decides left left_pairs) shared rest ∙ length-map known (λ x. x.0),
+      length-intersection_difference equal.laws-law keys those those left distinct (IsDistinct-from_AllPairs decides those once) (IsDistinct-from_AllPairs decides left left_pairs) shared rest ∙ length-map known (λ x. x.0),
     )
 
 -- ---- the accesses that are held
@@ -99,9 +91,9 @@ module _ {Z : Type 0} (s : Streams) (w : Word) (entries : List (Entry Z)) (histo
   grounded_there : (e : EventId) → IsIn (events_of lines) e ↔ (IsOn s w e × IsGrounded s e)
   grounded_there e = (
     λ there.
-        let ordered = those_within (IsOn s w) history.order (events_of lines) there.0 e history.along.events there.1 in
+        let ordered = those_within (IsOn s w) history.order (events_of lines) history.along.events there.0 e there.1 in
         (ordered.2, lawful_is_grounded s history.order e history.whole.lawful (ordered.0, ordered.1)),
-    λ is. let ordered = history.whole.whole e is.1 in those_have (IsOn s w) history.order (events_of lines) ordered.0 e history.along.events ordered.1 is.0,
+    λ is. let ordered = history.whole.whole e is.1 in those_have (IsOn s w) history.order (events_of lines) history.along.events ordered.0 e ordered.1 is.0,
   )
 
   -- those that have no line are held

@@ -1,12 +1,15 @@
 -- The history of a word, of the accesses along a lawful order of all grounded events.
-use Rattle.gr_model.proofs.Common.{◌≡◌, ◌≢◌, ◌↔◌, ◌<◌, ℕ, zero, suc, Bool, true, false, cond, Contains, List, [], ◌∷◌, ◌++◌, Some, None, append-nil, append_assoc, filter, length, map, slice_get, take, refl, sym, ap, ◌∙◌, subst, inr, ⊎_elim, arith, true≢false, length-map, length-take-le, map-append, common_steps, get_or_from_slice_get, gets, slice_get_within, All-contains, All-contains_itself, All-filter, filter-append, filter_passes}
+use Rattle.gr_model.proofs.Common.{◌≡◌, ◌≢◌, ◌↔◌, ◌<◌, ℕ, zero, suc, Bool, true, false, List, [], ◌∷◌, ◌++◌, Option, Some, None, append-nil, append_assoc, filter, length, map, option_map, slice_get, take, refl, sym, ap, ◌∙◌, subst, inr, ⊎_elim, arith, true≢false, length-map, length-take-le, map-append, common_steps, get_or_from_slice_get, gets, slice_get_within, filter-append, lt-ltb, ltb-true}
 use Rattle.gr_model.specs.declared.event.EventId.{EventId}
 use Rattle.gr_model.specs.declared.event.Word.{Word}
+use Rattle.std.proofs.lemmas.Option.{slice_get-map}
 use Rattle.std.proofs.lemmas.Simd.{map-map}
+use Rattle.std.specs.Option.{option_map_or}
 use Rattle.gr_model.specs.contracts.event.WordEq.TheImpl.Laws as equal
-use Rattle.gr_model.specs.Prelude.{memory_of, HappensBefore, IsWholeOrder, Streams}
+use Rattle.gr_model.specs.Prelude.{memory_of, HappensBefore, IsWholeOrder, Streams, word_at}
 use Rattle.gr_model.proofs.Cuts.{same_event}
 use Rattle.gr_model.proofs.WordLemmas.{same_from_equal}
+use Rattle.gr_steps.proofs.EventRecords.{filter-there}
 use Rattle.gr_clocks.specs.ClockedAccess.{ClockedAccess, bare}
 use Rattle.gr_clocks.specs.Counts.{Counts}
 use Rattle.gr_closure.specs.Accesses.{IsAccess}
@@ -21,9 +24,8 @@ use Rattle.gr_timeline.specs.Accesses.{IsOn}
 use Rattle.gr_timeline.specs.declared.entry.Entry.{Entry}
 use Rattle.gr_timeline.specs.Racy.{IsRacyIn}
 use Rattle.gr_timeline.specs.Histories.{AreEntriesOf, IsCounted, IsHistory, IsKeptOf, Line, access_pair, entry_pair, events_of, is_counted, line_below, lines_below, lines_of}
-use Rattle.gr_timeline.specs.Selections as those
 use Rattle.gr_timeline.specs.Selections.{AreThose}
-use Rattle.gr_timeline.proofs.SelectionLemmas.{events_below, those_counted, those_once, those_where}
+use Rattle.gr_timeline.proofs.SelectionLemmas.{events_below, those_once}
 
 abbrev is_on : Word → ClockedAccess → Bool
 is_on w x = same_word x.word w
@@ -35,21 +37,12 @@ entry_added w accesses y old new x shadows shadowed pushed same on stands (are, 
     let more : filter (is_on w) (accesses ++ y ∷ []) ≡ filter (is_on w) accesses ++ y ∷ [] = rw (filter-append, on) in
     (rw (pushed, more, map-append, map-append, are, same), rw more stands)
 
--- ---- lists of pairs
+-- ---- the lines
 
--- what a mapped list has at a place is that of the element there
-mapped_at : {X Y : Type 0} (f : X → Y) (xs : List X) (p : ℕ) (y : Y) → slice_get (map f xs) p ≡ Some y → (x : X) × (slice_get xs p ≡ Some x) × (f x ≡ y)
-mapped_at f [] p y at = let no : None ≡ Some y = at in cc
-mapped_at f (x ∷ xs) zero y at = let h : Some (f x) ≡ Some y = at in let same : f x ≡ y = cc in (x, refl, same)
-mapped_at f (x ∷ xs) (suc p) y at = mapped_at f xs p y at
-
--- what passes a test is in the list
-passed_at : {X : Type 0} (test : X → Bool) (xs : List X) (p : ℕ) (x : X) → slice_get (filter test xs) p ≡ Some x → Contains xs x × (test x ≡ true)
-passed_at test xs p x at =
-    let there : Contains (filter test xs) x = (p, slice_get_within (filter test xs) p x at, get_or_from_slice_get (filter test xs) p x x at) in (
-      All-contains (Contains xs) (filter test xs) x (All-filter test (Contains xs) xs (All-contains_itself xs)) there,
-      All-contains (λ y. test y ≡ true) (filter test xs) x (filter_passes test xs) there,
-    )
+-- what is mapped to a value is there
+mapped : {X Y : Type 0} (f : X → Y) (o : Option X) (y : Y) → option_map f o ≡ Some y → (x : X) × (o ≡ Some x) × (f x ≡ y)
+mapped f None y at = cc
+mapped f (Some x) y at = (x, refl, cc)
 
 -- a line is that of the entry there, below those before it
 line_at : {Z : Type 0} (above : List EventId) (entries : List (Entry Z)) (p : ℕ) (l : Line) → slice_get (lines_below above entries) p ≡ Some l → (x : Entry Z) × (slice_get entries p ≡ Some x) × (l ≡ line_below (above ++ take p (map (λ y. y.event) entries)) x)
@@ -66,18 +59,19 @@ module _ (s : Streams) (w : Word) where
   abbrev on : List ClockedAccess → List EventId
   on accesses = map (λ x. (access_pair x).0) (filter (is_on w) accesses)
 
-  event_first : (e : EventId) (x : ClockedAccess) (order : List EventId) (accesses : List ClockedAccess) → IsAccess s e (bare x) → AreThose (IsOn s w) order (on accesses) → (b : Bool) → is_on w x ≡ b → AreThose (IsOn s w) (e ∷ order) (map (λ y. (access_pair y).0) (cond b (x ∷ filter (is_on w) accesses) (filter (is_on w) accesses)))
-  event_first e x order accesses of_e later true t =
-      subst (λ (d : EventId). AreThose (IsOn s w) (e ∷ order) (d ∷ on accesses)) (sym (same_event (event_of x) e of_e.item of_e.index))
-      (those.of_one (of_e.word ∙ ap Some (same_from_equal x.word w t)) later)
-  event_first e x order accesses of_e later false f =
-      those.of_other (λ is. let h : Some x.word ≡ Some w = sym of_e.word ∙ is in let v : x.word ≡ w = cc in true≢false (sym (subst (λ (u : Word). same_word x.word u ≡ true) v (equal.laws-law.refl x.word)) ∙ f)) later
+  -- an event accesses it
+  abbrev is_on_it : EventId → Bool
+  is_on_it e = option_map_or (λ v. same_word v w) (word_at s e) false
+
+  on_it : (o : Option Word) → option_map_or (λ v. same_word v w) o false ≡ true ↔ (o ≡ Some w)
+  on_it None = (λ no. absurd (true≢false (sym no)), λ is. cc)
+  on_it (Some v) = (λ t. ap Some (same_from_equal v w t), λ is. let same : v ≡ w = cc in rw same (equal.laws-law.refl w))
 
   -- they are those of the events of the order that access it
-  events_on : (order : List EventId) (accesses : List ClockedAccess) → AreAccesses s order accesses → AreThose (IsOn s w) order (on accesses)
-  events_on _ _ of_none = those.of_none
-  events_on _ _ (of_access {e = e} {x = x} {order = order} {accesses = accesses} of_e rest) = event_first e x order accesses of_e (events_on order accesses rest) (is_on w x) refl
-  events_on _ _ (of_other {e = e} {order = order} {accesses = accesses} none rest) = those.of_other (λ is. let no : None ≡ Some w = sym none ∙ is in cc) (events_on order accesses rest)
+  events_on : (order : List EventId) (accesses : List ClockedAccess) → AreAccesses s order accesses → on accesses ≡ filter is_on_it order
+  events_on _ _ of_none = refl
+  events_on _ _ (of_access {e = e} {x = x} {order = order} {accesses = accesses} of_e rest) = grind (arith, of_e.word, same_event (event_of x) e of_e.item of_e.index, events_on order accesses rest)
+  events_on _ _ (of_other {e = e} {order = order} {accesses = accesses} none rest) = grind (arith, none, events_on order accesses rest)
 
 -- a clock of an access counts of other events those that happen before it
 counted_is_before : (s : Streams) (w : Word) (e : EventId) (x : ClockedAccess) → IsAccess s e (bare x) → x.word ≡ w → (d : EventId) → d ≢ e → IsCounted x.clock d ↔ HappensBefore s (memory_of w) d e
@@ -93,7 +87,11 @@ module _ {Z : Type 0} (s : Streams) (w : Word) (entries : List (Entry Z)) (order
   events_are : AreThose (IsOn s w) order events
   events_are =
       let event : EventId × Counts → EventId = λ p. p.0 in
-      subst (AreThose (IsOn s w) order) (rw (← map-map event access_pair (filter (is_on w) accesses), ← stands) (map-map event entry_pair entries)) (events_on s w order accesses are)
+      record {
+        test = is_on_it s w;
+        exact = λ i e at. on_it s w (word_at s e);
+        are = sym (rw (← map-map event access_pair (filter (is_on w) accesses), ← stands) (map-map event entry_pair entries)) ∙ events_on s w order accesses are;
+      }
 
   -- the access of an entry
   record IsOfEntry (x : Entry Z) : Type 0 where
@@ -104,12 +102,12 @@ module _ {Z : Type 0} (s : Streams) (w : Word) (entries : List (Entry Z)) (order
 
   entry_access : (p : ℕ) (x : Entry Z) → slice_get entries p ≡ Some x → IsOfEntry x
   entry_access p x at =
-      let paired = mapped_at access_pair (filter (is_on w) accesses) p (entry_pair x) (rw (← stands) (grind (arith, common_steps, gets, at))) in
-      let passed = passed_at (is_on w) accesses p paired.0 paired.1 in
-      let there = event_there s order accesses paired.0 are passed.0 in
+      let paired = mapped access_pair (slice_get (filter (is_on w) accesses) p) (entry_pair x) (sym (slice_get-map access_pair (filter (is_on w) accesses) p) ∙ rw (← stands) (grind (arith, common_steps, gets, at))) in
+      let passed = filter-there (is_on w) accesses p paired.0 paired.1 in
+      let there = event_there s order accesses paired.0 are (passed.0, slice_get_within accesses passed.0 paired.0 passed.1, get_or_from_slice_get accesses passed.0 paired.0 paired.0 passed.1) in
       record {
         access = paired.0;
-        word = same_from_equal paired.0.word w passed.1;
+        word = same_from_equal paired.0.word w passed.2;
         clock = ap (λ q. q.1) paired.2;
         is = subst (λ (d : EventId). IsAccess s d (bare paired.0)) (ap (λ q. q.0) paired.2) there.1;
       }
@@ -120,7 +118,7 @@ module _ {Z : Type 0} (s : Streams) (w : Word) (entries : List (Entry Z)) (order
       let x = h.0 in
       let lt : p < length events = omega (arith, slice_get_within entries p x h.1, length-map entries (λ y. y.event)) in
       let counts = above_counted x (entry_access p x h.1) (grind (arith, common_steps, gets, h.1)) in
-      let before = those_where (IsCounted x.clock.counts) (λ d. HappensBefore s (memory_of w) d x.event) (take p events) (filter (is_counted x.clock.counts) (take p events)) counts (those_counted x.clock.counts (take p events)) in
+      let before : AreThose (λ d. HappensBefore s (memory_of w) d x.event) (take p events) (filter (is_counted x.clock.counts) (take p events)) = record { test = is_counted x.clock.counts; exact = λ i d there. (λ t. (counts i d there).0 (ltb-true _ _ t), λ is. lt-ltb _ _ ((counts i d there).1 is)); are = refl } in
       subst (λ (m : Line). (m.above ≡ p) × AreThose (λ d. HappensBefore s (memory_of w) d m.event) (take p (events_of (lines_of entries))) m.behind) (sym h.2) (
         length-take-le p events (omega (arith, lt)),
         rw (events_below [] entries) before,
@@ -129,7 +127,8 @@ module _ {Z : Type 0} (s : Streams) (w : Word) (entries : List (Entry Z)) (order
       above_counted : (x : Entry Z) → IsOfEntry x → slice_get events p ≡ Some x.event → (i : ℕ) (d : EventId) → slice_get (take p events) i ≡ Some d → IsCounted x.clock.counts d ↔ HappensBefore s (memory_of w) d x.event
       above_counted x of_x here i d there =
           let earlier : (i < p) × (slice_get events i ≡ Some d) = grind (arith, common_steps, gets, there) in
-          let other : d ≢ x.event = λ same. omega (arith, earlier.0, those_once (IsOn s w) order events events_are whole.lawful.once i p d earlier.1 (here ∙ ap Some (sym same))) in
+          let apart = those_once (IsOn s w) order events events_are whole.lawful.once i p d earlier.0 (slice_get_within events p x.event here) in
+          let other : d ≢ x.event = λ same. apart (get_or_from_slice_get events i d d earlier.1 ∙ (same ∙ sym (get_or_from_slice_get events p x.event d here))) in
           rw (← of_x.clock) (counted_is_before s w x.event of_x.access of_x.is of_x.word d other)
 
   pub history_of_whole : IsHistory s w (lines_of entries)

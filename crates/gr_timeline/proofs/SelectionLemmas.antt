@@ -1,51 +1,34 @@
 -- The elements of a list for which something holds, and the lines of entries, as the list grows.
-use Rattle.gr_model.proofs.Common.{◌≡◌, ◌↔◌, ℕ, zero, suc, List, Some, None, ap, arith, refl, slice_get, subst, sym, Bool, true, false, cond, [], ◌∷◌, ◌++◌, filter, length, map, true≢false, ◌∙◌, lt-ltb, ltb-true}
-use Rattle.gr_timeline.specs.Selections.{AreThose, of_none, of_one, of_other}
+use Rattle.gr_model.proofs.Common.{◌≡◌, ◌≢◌, ◌∙◌, ℕ, zero, suc, Bool, true, false, cond, List, [], ◌∷◌, ◌++◌, Some, ap, arith, filter, get_or, length, map, refl, slice_get, slice_get-get_or, sym}
+use Rattle.std.specs.List.{AllPairs}
+use Rattle.std.proofs.lemmas.List.Kept.{AllPairs-filter}
+use Rattle.gr_steps.proofs.EventRecords.{filter-there}
 use Rattle.gr_model.specs.declared.event.EventId.{EventId}
-use Rattle.gr_clocks.specs.Counts.{Counts, count_of}
 use Rattle.gr_timeline.specs.declared.entry.Entry.{Entry}
-use Rattle.gr_timeline.specs.Histories.{IsCounted, events_of, is_counted, lines_below}
+use Rattle.gr_timeline.specs.Histories.{events_of, lines_below}
+use Rattle.gr_timeline.specs.Selections.{AreThose}
 
-module _ {X : Type 0} (P : X → Type 0) where
-  -- each of those is an element of the list, and it is so of it
-  pub those_within : (xs those : List X) (i : ℕ) (x : X) → AreThose P xs those → slice_get those i ≡ Some x → (p : ℕ) × (slice_get xs p ≡ Some x) × P x
-  those_within _ _ i x of_none at = let no : None ≡ Some x = at in cc
-  those_within _ _ zero x (of_one {x = y} is rest) at = let h : Some y ≡ Some x = at in let same : y ≡ x = cc in (0, at, subst P same is)
-  those_within _ _ (suc i) x (of_one {xs = xs} {those = those} is rest) at = let deeper = those_within xs those i x rest at in (suc deeper.0, deeper.1, deeper.2)
-  those_within _ _ i x (of_other {xs = xs} {those = those} is_not rest) at = let deeper = those_within xs those i x rest at in (suc deeper.0, deeper.1, deeper.2)
+-- what passes a test is among those that do
+filter_has : {X : Type 0} (test : X → Bool) (xs : List X) (i : ℕ) (x : X) → slice_get xs i ≡ Some x → test x ≡ true → (p : ℕ) × (slice_get (filter test xs) p ≡ Some x)
+filter_has test [] i x at passes = cc
+filter_has test (y ∷ xs) zero x at passes = let same : y ≡ x = cc in (0, rw (same, passes) refl)
+filter_has {X} test (y ∷ xs) (suc i) x at passes =
+    let p = filter_has test xs i x at passes in
+    elim (test y) as (λ b. (q : ℕ) × (slice_get (cond b (y ∷ filter test xs) (filter test xs)) q ≡ Some x)) [ | true ↦ (suc p.0, p.1) | false ↦ p ]
 
-  -- they are the same if the same is so of the list's elements
-  pub those_where : (Q : X → Type 0) (xs those : List X) → ((i : ℕ) (x : X) → slice_get xs i ≡ Some x → P x ↔ Q x) → AreThose P xs those → AreThose Q xs those
-  those_where Q _ _ same of_none = of_none
-  those_where Q _ _ same (of_one {x = x} {xs = xs} {those = those} is rest) = of_one ((same 0 x refl).0 is) (those_where Q xs those (λ i y at. same (suc i) y at) rest)
-  those_where Q _ _ same (of_other {x = x} {xs = xs} {those = those} is_not rest) = of_other (λ is. is_not ((same 0 x refl).1 is)) (those_where Q xs those (λ i y at. same (suc i) y at) rest)
+module _ {X : Type 0} (P : X → Type 0) (xs those : List X) (are : AreThose P xs those) where
+  -- just the elements of the list for which it holds are among those
+  pub those_within : (i : ℕ) (x : X) → slice_get those i ≡ Some x → (p : ℕ) × (slice_get xs p ≡ Some x) × P x
+  those_within i x at = let h = filter-there are.test xs i x (rw are.are at at) in (h.0, h.1, (are.exact h.0 x h.1).0 h.2)
 
-  -- each element for which it holds is one of those
-  pub those_have : (xs those : List X) (i : ℕ) (x : X) → AreThose P xs those → slice_get xs i ≡ Some x → P x → (p : ℕ) × (slice_get those p ≡ Some x)
-  those_have _ _ i x of_none at holds = let no : None ≡ Some x = at in cc
-  those_have _ _ zero x (of_one is rest) at holds = (0, at)
-  those_have _ _ (suc i) x (of_one {xs = xs} {those = those} is rest) at holds = let deeper = those_have xs those i x rest at holds in (suc deeper.0, deeper.1)
-  those_have _ _ zero x (of_other {x = y} is_not rest) at holds = let h : Some x ≡ Some y = sym at in let same : x ≡ y = cc in absurd (is_not (subst P same holds))
-  those_have _ _ (suc i) x (of_other {xs = xs} {those = those} is_not rest) at holds = those_have xs those i x rest at holds
+  pub those_have : (i : ℕ) (x : X) → slice_get xs i ≡ Some x → P x → (p : ℕ) × (slice_get those p ≡ Some x)
+  those_have i x at holds = rw are.are (filter_has are.test xs i x at ((are.exact i x at).1 holds))
 
   -- if each element is there once, so is each of those
-  pub those_once : (xs those : List X) → AreThose P xs those → ((p q : ℕ) (x : X) → slice_get xs p ≡ Some x → slice_get xs q ≡ Some x → p ≡ q) → (p q : ℕ) (x : X) → slice_get those p ≡ Some x → slice_get those q ≡ Some x → p ≡ q
-  those_once _ _ of_none once p q x first second = let no : None ≡ Some x = first in cc
-  those_once _ _ (of_one is rest) once zero zero x first second = refl
-  those_once _ _ (of_one {xs = xs} {those = those} is rest) once zero (suc q) x first second = let deeper = those_within xs those q x rest second in absurd (omega (arith, once 0 (suc deeper.0) x first deeper.1))
-  those_once _ _ (of_one {xs = xs} {those = those} is rest) once (suc p) zero x first second = let deeper = those_within xs those p x rest first in absurd (omega (arith, once 0 (suc deeper.0) x second deeper.1))
-  those_once _ _ (of_one {xs = xs} {those = those} is rest) once (suc p) (suc q) x first second =
-      ap suc (those_once xs those rest (λ i j y a b. omega (arith, once (suc i) (suc j) y a b)) p q x first second)
-  those_once _ _ (of_other {xs = xs} {those = those} is_not rest) once p q x first second = those_once xs those rest (λ i j y a b. omega (arith, once (suc i) (suc j) y a b)) p q x first second
-
--- what a clock counts of a list
-pub those_counted : (c : Counts) (events : List EventId) → AreThose (IsCounted c) events (filter (is_counted c) events)
-those_counted c [] = of_none
-those_counted c (e ∷ events) = by_test (is_counted c e) refl (those_counted c events)
-  where
-    by_test : (b : Bool) → is_counted c e ≡ b → AreThose (IsCounted c) events (filter (is_counted c) events) → AreThose (IsCounted c) (e ∷ events) (cond b (e ∷ filter (is_counted c) events) (filter (is_counted c) events))
-    by_test true t rest = of_one (ltb-true e.index (count_of c e.at) t) rest
-    by_test false f rest = of_other (λ is. true≢false (sym (lt-ltb e.index (count_of c e.at) is) ∙ f)) rest
+  pub those_once : ((p q : ℕ) (x : X) → slice_get xs p ≡ Some x → slice_get xs q ≡ Some x → p ≡ q) → AllPairs (λ x y. x ≢ y) those
+  those_once once = rw are.are (AllPairs-filter (λ x y. x ≢ y) are.test xs (λ i j d before there same.
+      let first = slice_get-get_or xs i d (omega (arith, before, there)) in
+      absurd (omega (arith, before, once i j (get_or xs i d) first (slice_get-get_or xs j d there ∙ ap Some (sym same))))))
 
 module _ {Z : Type 0} where
   -- the events of the lines are those of the entries

@@ -1,11 +1,8 @@
 -- The elements of a list for which something holds.
-use Rattle.std.specs.Prelude.{List, [], ◌∷◌}
+use Rattle.std.specs.Prelude.{◌≡◌, ◌↔◌, ℕ, Bool, IsTrue, List, Some, filter, slice_get}
 
--- the second list has those elements of the first for which P holds, in their order
-pub data AreThose {X : Type 0} (P : X → Type 0) : List X → List X → Type 0 where
-  -- of no elements there are none
-  of_none : AreThose P [] []
-  -- an element for which P holds is the first of both
-  of_one : {x : X} {xs those : List X} → P x → AreThose P xs those → AreThose P (x ∷ xs) (x ∷ those)
-  -- any other is left out
-  of_other : {x : X} {xs those : List X} → ¬ P x → AreThose P xs those → AreThose P (x ∷ xs) those
+-- the second list has those elements of the first for which P holds, in their order: those that pass a test which says just that
+pub record AreThose {X : Type 0} (P : X → Type 0) (xs those : List X) : Type 0 where
+  pub test : X → Bool
+  pub exact : (i : ℕ) (x : X) → slice_get xs i ≡ Some x → IsTrue (test x) ↔ P x
+  pub are : those ≡ filter test xs
