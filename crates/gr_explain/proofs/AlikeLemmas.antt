@@ -9,7 +9,7 @@ use Rattle.gr_model.specs.contracts.event.ItemIdPartialEq.TheImpl as equality
 use Rattle.gr_model.specs.declared.class.Class.{Class}
 use Rattle.gr_model.specs.Prelude.{exempt}
 use Rattle.gr_clocks.proofs.RowLemmas.{same_items}
-use Rattle.gr_shadow.specs.Clashes.{ClockedAccess, event_of}
+use Rattle.gr_shadow.specs.Clashes.{ClockedAccess}
 use Rattle.gr_shadow.proofs.KeepsLemmas.{Contains-first, Contains-rest, find_told}
 use Rattle.gr_explain.proofs.Lists.{first_or_rest}
 use Rattle.gr_explain.specs.Alike.{AlikeEvents, AreOfOnly, IsInPlaceOf, KeepsEvents, entry_event, event_clashes, greatest, is_sought, only_with}

@@ -1,5 +1,5 @@
 -- Lists with one more at their end or at their front, or with one changed, and mapped lists.
-use Rattle.gr_model.proofs.Common.{◌≡◌, ◌⊎◌, ◌∙◌, AllPairs, ap, subst, Contains, ℕ, zero, suc, ◌<◌, List, [], ◌∷◌, ◌++◌, length, get_or, map, slice_set, Some, slice_get, Bool, true, inl, inr, ⊎_elim, arith, list_any, cases_eq, common_steps, get_or-map, get_or-set_other, get_or_default, Any-from_list_any, gets}
+use Rattle.gr_model.proofs.Common.{◌≡◌, ◌⊎◌, Contains, ℕ, zero, suc, ◌<◌, List, [], ◌∷◌, ◌++◌, length, get_or, map, slice_set, Some, slice_get, Bool, true, inl, inr, ⊎_elim, arith, list_any, cases_eq, common_steps, get_or-map, get_or-set_other, Any-from_list_any, gets}
 
 pub last_cases : {X : Type 0} (xs : List X) (x : X) (p : ℕ) (y : X) → slice_get (xs ++ x ∷ []) p ≡ Some y → ((p < length xs) × (slice_get xs p ≡ Some y)) ⊎ ((p ≡ length xs) × (y ≡ x))
 last_cases xs x p y at = grind (arith, common_steps, gets)
@@ -29,25 +29,3 @@ mapped_there f xs x (k, lt, is) = (k, grind (arith, common_steps), grind (arith,
 
 pub any_there : {X : Type 0} (f : X → Bool) (xs : List X) → list_any f xs ≡ true → (x : X) × Contains xs x × (f x ≡ true)
 any_there f xs h = let found = Any-from_list_any f xs h in (found.1, (found.0, found.2, found.3), found.4)
-
--- what holds of each two holds after one is replaced by one for which it holds, too
-module _ {X : Type 0} (R : X → X → Type 0) (xs : List X) (p : ℕ) (x d : X) (lt : p < length xs) (first : (z : X) → R (get_or xs p d) z → R x z) (second : (z : X) → R z (get_or xs p d) → R z x) where
-  pub pairs_set : AllPairs R xs → AllPairs R (slice_set xs p x)
-  pairs_set pairs i j e below within =
-      let was = pairs i j e below (grind (arith, common_steps, within)) in
-      ⊎_elim
-      (λ (here : i ≡ p). rw (changed i here, other j (λ there. absurd (omega (arith, below, here, there)))) (first (get_or xs j e) (subst (λ y. R y (get_or xs j e)) (it i here) was)))
-      (λ apart. ⊎_elim
-      (λ (there : j ≡ p). rw (other i apart, changed j there) (second (get_or xs i e) (subst (λ y. R (get_or xs i e) y) (it j there) was)))
-      (λ far. rw (other i apart, other j far) was)
-      (cases_eq j p))
-      (cases_eq i p)
-    where
-      changed : (k : ℕ) → k ≡ p → get_or (slice_set xs p x) k e ≡ x
-      changed k same = grind (arith, common_steps)
-
-      other : (k : ℕ) → ¬ (k ≡ p) → get_or (slice_set xs p x) k e ≡ get_or xs k e
-      other k apart = grind (arith, common_steps, get_or-set_other)
-
-      it : (k : ℕ) → k ≡ p → get_or xs k e ≡ get_or xs p d
-      it k same = ap (λ n. get_or xs n e) same ∙ get_or_default xs p e d lt

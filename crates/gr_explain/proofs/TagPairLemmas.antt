@@ -1,20 +1,21 @@
 -- The pairs of tags that race on a word, where one more access comes.
-use Rattle.gr_model.proofs.Common.{◌≡◌, ◌≢◌, ◌⊎◌, ℕ, zero, suc, ◌<◌, Bool, true, false, Contains, List, [], ◌∷◌, ◌++◌, length, get_or, slice_set, Some, None, arith, refl, sym, ap, ◌∙◌, subst, inl, inr, ⊎_elim, list_any, nat_tests, common_steps, Contains-append_cases, Contains-append_left, Contains-append_right, Contains-get_or, Contains-push, Contains-push_cases, list_any-append}
+use Rattle.gr_model.proofs.Common.{◌≡◌, ◌≢◌, ◌⊎◌, ℕ, zero, suc, ◌<◌, Bool, true, false, Contains, List, [], ◌∷◌, ◌++◌, length, get_or, slice_set, Some, None, arith, refl, sym, ap, ◌∙◌, subst, inl, inr, ⊎_elim, list_any, nat_tests, cases_eq, common_steps, get_or-set_other, get_or-set_same, get_or_default, length-set, Contains-append_cases, Contains-append_left, Contains-append_right, Contains-get_or, Contains-push, Contains-push_cases, list_any-append}
 use Rattle.std.specs.List.{position}
 use Rattle.std.proofs.lemmas.List.Quantifiers.{all_pairs_push}
 use Rattle.gr_model.specs.declared.event.EventId.{EventId}
 use Rattle.gr_model.specs.declared.event.Word.{Word}
 use Rattle.gr_model.specs.declared.class.Class.{Class}
+use Rattle.gr_model.specs.declared.race.Race.{Race}
 use Rattle.gr_clocks.proofs.RowLemmas.{same_item_self}
 use Rattle.gr_shadow.specs.Clashes.{ClockedAccess, event_of}
 use Rattle.gr_shadow.proofs.KeepsLemmas.{find_is, finds as contains_any}
 use Rattle.gr_explain.specs.Alike.{AlikeEvents, IsInPlaceOf, KeepsEvents, are_of_groups, is_sought}
-use Rattle.gr_explain.specs.TagPairs.{Finds, IsFound, IsFoundAmong, IsKeptIn, IsOfTag, IsTaggedClash, IsPreferred, IsThat, KeepsMore, StandsForTags, has_tags, is_of_tags, is_so}
+use Rattle.gr_explain.specs.TagPairs.{Finds, IsFound, IsFoundAmong, IsFoundIn, IsKeptIn, IsOfTag, IsTaggedClash, IsPreferred, IsThat, KeepsMore, StandsForTags, has_tags, is_of_tags, is_so}
 use Rattle.gr_explain.specs.declared.tag_pairs.TaggedRace.{TaggedRace}
 use Rattle.gr_explain.specs.declared.tag_pairs.TagPairs.{TagPairs}
 use Rattle.gr_explain.proofs.AlikeLemmas.{found_none, in_place_of_both, in_place_of_itself, later_clashes, sought}
 use Rattle.gr_explain.proofs.ClashLemmas.{IsNewClash, clash_added, clash_was, new_is_of, of_cases, still_of, still_pair}
-use Rattle.gr_explain.proofs.Lists.{any_there, pairs_set, set_has, set_still, set_was}
+use Rattle.gr_explain.proofs.Lists.{any_there, set_has, set_still, set_was}
 
 -- ---- tags
 
@@ -24,6 +25,20 @@ none_at f [] none = refl
 none_at f (x ∷ xs) none = grind (arith, none_at f xs)
 
 -- ---- the races of a later access
+
+-- a race stays where the access clashes with none of another group, and else gives way
+module _ (y : ClockedAccess) (l : AlikeEvents) (old : Race) where
+  pub stays : sought l y true ≡ None → IsPreferred l y old old
+  stays none = record { one = inl refl; kept = λ two h. h; whole = λ two e there is. grind (arith, found_none (is_sought true l.class y) l.events e none there) }
+
+  pub gives_way : (e : EventId) (r : Race) → sought l y true ≡ Some e → IsFound e y r → IsPreferred l y old r
+  gives_way e r is found = record { one = inr (record { earlier = e; event = there.0; clash = (let so = there.1 in grind (arith, so)); found = found }); kept = λ two h. groups two; whole = λ two f in_events so. groups two }
+    where
+      there : Contains l.events e × (is_sought true l.class y e ≡ true)
+      there = find_is (is_sought true l.class y) l.events e is
+
+      groups : (two : Bool) → are_of_groups two r.first r.second ≡ true
+      groups two = let so = there.1 in grind (arith, nat_tests, found.turned, so)
 
 module _ (y : ClockedAccess) (tag : ℕ) where
   -- what holds of one list holds of each list in the list of it alone
@@ -41,74 +56,69 @@ module _ (y : ClockedAccess) (tag : ℕ) where
   }
 
   -- or it clashes with one, and their race stays or gives way
-  module _ (l : AlikeEvents) (e : EventId) (first t : TaggedRace) (old : List TaggedRace) (had : list_any (is_of_tags l.tag tag) old ≡ false) (clash : sought l y false ≡ Some e) (found : IsFound e l.tag y tag first) (is : IsPreferred l y tag first t) where
-    first_among : IsFoundAmong (l ∷ []) y tag first
-    first_among =
+  module _ (l : AlikeEvents) (e : EventId) (first r : Race) (old : List TaggedRace) (had : list_any (is_of_tags l.tag tag) old ≡ false) (clash : sought l y false ≡ Some e) (found : IsFound e y first) (is : IsPreferred l y first r) where
+    abbrev t : TaggedRace
+    t = record { race = r; tag = l.tag; other = tag }
+
+    among : IsFoundAmong (l ∷ []) y tag t
+    among =
         let there = find_is (is_sought false l.class y) l.events e clash in
-        record { list = l; there = Contains-push [] l; earlier = e; event = there.0; clash = (let so = there.1 in grind (arith, so)); found = found }
+        let it : IsFoundIn l y first = record { earlier = e; event = there.0; clash = (let so = there.1 in grind (arith, so)); found = found } in
+        record { list = l; there = Contains-push [] l; found = ⊎_elim (λ (same : first ≡ r). subst (IsFoundIn l y) same it) (λ new. new) is.one; tags = grind (arith, nat_tests) }
 
     apart : (k : ℕ) (d : TaggedRace) → k < length old → is_of_tags (get_or old k d).tag (get_or old k d).other t ≡ false
     apart k d lt =
         let none : is_of_tags l.tag tag (get_or old k d) ≡ false = grind (arith, common_steps, had) in
-        grind (arith, nat_tests, none, is.tags)
+        grind (arith, nat_tests, none)
 
     pub finds_one : Finds y tag (l ∷ []) old (old ++ t ∷ [])
     finds_one = record {
       kept = λ two a b h. grind (arith, list_any-append);
       each = λ u within_new. ⊎_elim
           (λ (was : Contains old u). inl was)
-          (λ (last : t ≡ u). inr (subst (IsFoundAmong (l ∷ []) y tag) last (⊎_elim (λ (same : first ≡ t). subst (IsFoundAmong (l ∷ []) y tag) same first_among) (λ among. among) is.one)))
+          (λ (last : t ≡ u). inr (subst (IsFoundAmong (l ∷ []) y tag) last among))
           (Contains-push_cases old t u within_new);
       whole = λ two m f there. of_one l m there (λ (k : AlikeEvents). Contains k.events f → is_sought two k.class y f ≡ true → has_tags two (old ++ t ∷ []) k.tag tag ≡ true)
-          (λ event so. contains_any (is_so two l.tag tag) (old ++ t ∷ []) t (Contains-push old t) (grind (arith, is.tags, is.whole two f event so)));
+          (λ event so. contains_any (is_so two l.tag tag) (old ++ t ∷ []) t (Contains-push old t) (grind (arith, nat_tests, is.whole two f event so)));
       others = λ h. all_pairs_push (λ (t u : TaggedRace). is_of_tags t.tag t.other u ≡ false) old t h apart;
     }
 
-  -- where there is a race of the two tags, which stays or gives way
-  module _ (l : AlikeEvents) (old : List TaggedRace) (place : ℕ) (t d : TaggedRace) (lt : place < length old) (tags : is_of_tags l.tag tag (get_or old place d) ≡ true) (is : IsPreferred l y tag (get_or old place d) t) where
-    pub finds_set : Finds y tag (l ∷ []) old (slice_set old place t)
+  -- or there is one, which stays or gives way
+  module _ (l : AlikeEvents) (old : List TaggedRace) (place : ℕ) (d : TaggedRace) (r : Race) (lt : place < length old) (tags : is_of_tags l.tag tag (get_or old place d) ≡ true) (is : IsPreferred l y (get_or old place d).race r) where
+    abbrev had : TaggedRace
+    had = get_or old place d
+
+    abbrev now : TaggedRace
+    now = record { race = r; tag = had.tag; other = had.other }
+
+    same_tags : (k : ℕ) (e : TaggedRace) → ((get_or (slice_set old place now) k e).tag ≡ (get_or old k e).tag) × ((get_or (slice_set old place now) k e).other ≡ (get_or old k e).other)
+    same_tags k e = ⊎_elim
+        (λ (here : k ≡ place). rw (here, get_or-set_same old place now e lt, get_or_default old place e d lt) (refl, refl))
+        (λ other. rw (get_or-set_other old place k now e other) (refl, refl))
+        (cases_eq k place)
+
+    pub finds_set : Finds y tag (l ∷ []) old (slice_set old place now)
     finds_set = record {
       kept = λ two a b h.
           let x = any_there (is_so two a b) old h in
           ⊎_elim
-          (λ here. contains_any (is_so two a b) (slice_set old place t) t (set_has old place t lt) (let so = x.2 in grind (arith, nat_tests, tags, is.tags, is.kept two, so, here)))
-          (λ still. contains_any (is_so two a b) (slice_set old place t) x.0 still x.2)
-          (set_still old place t d x.0 x.1);
+          (λ (here : had ≡ x.0). contains_any (is_so two a b) (slice_set old place now) now (set_has old place now lt) (let so = x.2 in grind (arith, nat_tests, is.kept two, so, here)))
+          (λ still. contains_any (is_so two a b) (slice_set old place now) x.0 still x.2)
+          (set_still old place now d x.0 x.1);
       each = λ u there. ⊎_elim
-          (λ (here : t ≡ u). ⊎_elim
-          (λ same. inl (subst (Contains old) (same ∙ here) (Contains-get_or old place d lt)))
-          (λ among. inr (subst (IsFoundAmong (l ∷ []) y tag) here among))
+          (λ (here : now ≡ u). ⊎_elim
+          (λ (same : had.race ≡ r). inl (subst (Contains old) (ap (λ q. record { race = q; tag = had.tag; other = had.other }) same ∙ here) (Contains-get_or old place d lt)))
+          (λ found. inr (subst (IsFoundAmong (l ∷ []) y tag) here (record { list = l; there = Contains-push [] l; found = found; tags = tags })))
           is.one)
           (λ was. inl was)
-          (set_was old place t u there);
-      whole = λ two m f there. of_one l m there (λ (k : AlikeEvents). Contains k.events f → is_sought two k.class y f ≡ true → has_tags two (slice_set old place t) k.tag tag ≡ true)
-          (λ event so. contains_any (is_so two l.tag tag) (slice_set old place t) t (set_has old place t lt) (grind (arith, is.tags, is.whole two f event so)));
-      others = pairs_set (λ (u v : TaggedRace). is_of_tags u.tag u.other v ≡ false) old place t d lt
-          (λ z apart. grind (arith, nat_tests, tags, is.tags, apart))
-          (λ z apart. grind (arith, nat_tests, tags, is.tags, apart));
+          (set_was old place now u there);
+      whole = λ two m f there. of_one l m there (λ (k : AlikeEvents). Contains k.events f → is_sought two k.class y f ≡ true → has_tags two (slice_set old place now) k.tag tag ≡ true)
+          (λ event so. contains_any (is_so two l.tag tag) (slice_set old place now) now (set_has old place now lt) (grind (arith, tags, is.whole two f event so)));
+      others = λ h i j e before within. rw ((same_tags i e).0, (same_tags i e).1, (same_tags j e).0, (same_tags j e).1) (h i j e before (omega (arith, within, length-set old place now)));
     }
-
-  -- a race of the two tags, where one of these of another group clashes, or none does
-  module _ (l : AlikeEvents) (old : TaggedRace) (tags : is_of_tags l.tag tag old ≡ true) where
-    pub stays : sought l y true ≡ None → IsPreferred l y tag old old
-    stays none = record { one = inl refl; tags = tags; kept = λ two h. h; whole = λ two e there is. grind (arith, found_none (is_sought true l.class y) l.events e none there) }
-
-    pub gives_way : (e : EventId) (t : TaggedRace) → sought l y true ≡ Some e → IsFound e l.tag y tag t → IsPreferred l y tag old t
-    gives_way e t is found = record {
-      one = inr (record { list = l; there = Contains-push [] l; earlier = e; event = there.0; clash = (let so = there.1 in grind (arith, so)); found = found });
-      tags = grind (arith, nat_tests, found.first_tag, found.second_tag);
-      kept = λ two h. groups two;
-      whole = λ two f in_events so. groups two;
-    }
-      where
-        there : Contains l.events e × (is_sought true l.class y e ≡ true)
-        there = find_is (is_sought true l.class y) l.events e is
-
-        groups : (two : Bool) → are_of_groups two t.race.first t.race.second ≡ true
-        groups two = let so = there.1 in grind (arith, nat_tests, found.turned, so)
 
   among_more : (xs zs : List AlikeEvents) (t : TaggedRace) → ((l : AlikeEvents) → Contains xs l → Contains zs l) → IsFoundAmong xs y tag t → IsFoundAmong zs y tag t
-  among_more xs zs t more among = record { list = among.list; there = more among.list among.there; earlier = among.earlier; event = among.event; clash = among.clash; found = among.found }
+  among_more xs zs t more among = record { list = among.list; there = more among.list among.there; found = among.found; tags = among.tags }
 
   -- one list after others
   pub finds_more : (xs : List AlikeEvents) (z : AlikeEvents) (a b c : List TaggedRace) → Finds y tag xs a b → Finds y tag (z ∷ []) b c → Finds y tag (xs ++ z ∷ []) a c
@@ -190,14 +200,15 @@ module _ {Z : Type 0} (tag_of : EventId → ℕ) (accesses : List ClockedAccess)
   added_race : (t : TaggedRace) → IsFoundAmong old.lists.items y tag t → IsTaggedClash tag_of y.word (accesses ++ y ∷ []) t
   added_race t among =
       let l = among.list in
-      let e = among.earlier in
-      let of = stands.each l.tag l.class e (record { list = l; there = among.there; tag_is = refl; class_is = refl; event = among.event }) in
-      let turned = among.found.turned in
-      let clashes = among.clash in
+      let is = among.found in
+      let e = is.earlier in
+      let of = stands.each l.tag l.class e (record { list = l; there = among.there; tag_is = refl; class_is = refl; event = is.event }) in
+      let turned = is.found.turned in
+      let clashes = is.clash in
       record {
-        word = among.found.word;
-        clash = record { earlier = e; later = event_of y; clash = clash_added accesses y e l.class of.access among.clash; turned = turned; below = among.found.below (λ same. grind (arith, clashes, same, same_item_self)) };
-        tags = grind (arith, of.tag_is, among.found.first_tag, among.found.second_tag, tag_is, turned);
+        word = is.found.word;
+        clash = record { earlier = e; later = event_of y; clash = clash_added accesses y e l.class of.access is.clash; turned = turned; below = is.found.below (λ same. grind (arith, clashes, same, same_item_self)) };
+        tags = grind (arith, nat_tests, of.tag_is, among.tags, tag_is, turned);
       }
 
   -- where the access clashes with an earlier one, their two tags have a race now

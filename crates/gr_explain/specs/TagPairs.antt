@@ -6,6 +6,7 @@ use Rattle.gr_model.specs.declared.event.EventId.{EventId}
 use Rattle.gr_model.specs.declared.event.Word.{Word}
 use Rattle.gr_model.specs.Prelude.{HasTags, IsTurned, EventBelow}
 use Rattle.gr_model.specs.declared.class.Class.{Class}
+use Rattle.gr_model.specs.declared.race.Race.{Race}
 use Rattle.gr_shadow.specs.Clashes.{ClockedAccess, IsClashIn, event_of}
 use Rattle.gr_explain.specs.Alike.{AlikeEvents, IsInPlaceOf, are_of_groups, event_clashes, is_sought}
 use Rattle.gr_explain.specs.ClashPairs.{IsClashPair, IsOfList}
@@ -31,29 +32,31 @@ abbrev pub HaveOtherTags : List TaggedRace → Type 0
 HaveOtherTags found = AllPairs (λ t u. is_of_tags t.tag t.other u ≡ false) found
 
 -- the race of a later access with that of an earlier event, where the two differ
-pub record IsFound (earlier : EventId) (earlier_tag : ℕ) (y : ClockedAccess) (tag : ℕ) (t : TaggedRace) : Type 0 where
-  pub word : t.race.word ≡ y.word
-  pub turned : IsTurned earlier (event_of y) (t.race.first, t.race.second)
-  pub below : ¬ (earlier ≡ event_of y) → EventBelow t.race.first t.race.second
-  pub first_tag : t.tag ≡ earlier_tag
-  pub second_tag : t.other ≡ tag
+pub record IsFound (earlier : EventId) (y : ClockedAccess) (r : Race) : Type 0 where
+  pub word : r.word ≡ y.word
+  pub turned : IsTurned earlier (event_of y) (r.first, r.second)
+  pub below : ¬ (earlier ≡ event_of y) → EventBelow r.first r.second
 
 -- the race of a later access with one of these with which it clashes
+pub record IsFoundIn (l : AlikeEvents) (y : ClockedAccess) (r : Race) : Type 0 where
+  pub earlier : EventId
+  pub event : Contains l.events earlier
+  pub clash : IsTrue (event_clashes l.class y earlier)
+  pub found : IsFound earlier y r
+
+-- the race of a later access with one of some lists, with its tags
 pub record IsFoundAmong (lists : List AlikeEvents) (y : ClockedAccess) (tag : ℕ) (t : TaggedRace) : Type 0 where
   pub list : AlikeEvents
   pub there : Contains lists list
-  pub earlier : EventId
-  pub event : Contains list.events earlier
-  pub clash : IsTrue (event_clashes list.class y earlier)
-  pub found : IsFound earlier list.tag y tag t
+  pub found : IsFoundIn list y t.race
+  pub tags : IsTrue (is_of_tags list.tag tag t)
 
--- a race stays, or a race of a later access with one of these, of the same two tags, takes its place; there is one of two groups then, if
--- there was or if the later access clashes with one of another group
-pub record IsPreferred (l : AlikeEvents) (y : ClockedAccess) (tag : ℕ) (old new : TaggedRace) : Type 0 where
-  pub one : (old ≡ new) ⊎ IsFoundAmong (l ∷ []) y tag new
-  pub tags : IsTrue (is_of_tags l.tag tag new)
-  pub kept : (two : Bool) → IsTrue (are_of_groups two old.race.first old.race.second) → IsTrue (are_of_groups two new.race.first new.race.second)
-  pub whole : (two : Bool) (e : EventId) → Contains l.events e → IsTrue (is_sought two l.class y e) → IsTrue (are_of_groups two new.race.first new.race.second)
+-- a race stays, or a race of a later access with one of these takes its place; there is one of two groups then, if there was or if the later
+-- access clashes with one of another group
+pub record IsPreferred (l : AlikeEvents) (y : ClockedAccess) (old new : Race) : Type 0 where
+  pub one : (old ≡ new) ⊎ IsFoundIn l y new
+  pub kept : (two : Bool) → IsTrue (are_of_groups two old.first old.second) → IsTrue (are_of_groups two new.first new.second)
+  pub whole : (two : Bool) (e : EventId) → Contains l.events e → IsTrue (is_sought two l.class y e) → IsTrue (are_of_groups two new.first new.second)
 
 -- the races of a later access with these were added: one for each two tags that had none, or none of two groups
 pub record Finds (y : ClockedAccess) (tag : ℕ) (lists : List AlikeEvents) (old new : List TaggedRace) : Type 0 where

@@ -52,38 +52,28 @@ fn place_of_tags(found: &[TaggedRace], tag: u128, other: u128) -> Option<usize>
     found.iter().position(|race| race.is_of(tag, other))
 }
 
-/// The race of a later access, which has this tag, with an earlier one.
-fn race_with<A: Allocator>(
-    earlier: EventId,
-    earlier_tag: u128,
-    access: &Access<A>,
-    tag: u128,
-) -> TaggedRace
-    ensures { IsFound earlier earlier_tag (clocked access.now) tag result }
+/// The race of a later access with an earlier one.
+fn race_with<A: Allocator>(earlier: EventId, access: &Access<A>) -> Race
+    ensures { IsFound earlier (clocked access.now) result }
 {
     let (first, second) = turned(earlier, event_of(access));
-    TaggedRace {
-        race: Race {
-            word: access.word,
-            first,
-            second,
-        },
-        tag: earlier_tag,
-        other: tag,
+    Race {
+        word: access.word,
+        first,
+        second,
     }
 }
 
-/// Puts another race of the same two tags in the place of a race of one group, if there is one of two groups: that of a later access, which
-/// has this tag, with one of the accesses `alike`.
-fn prefer<A: Allocator>(race: &mut TaggedRace, alike: &Alike<A>, access: &Access<A>, tag: u128)
-    requires { IsTrue (is_of_tags alike.now.tag tag race.old) }
-    ensures { IsPreferred alike.now (clocked access.now) tag race.old race.new }
+/// Puts another race of the same two tags in the place of a race of one group, if there is one of two groups: that of a later access with
+/// one of the accesses `alike`.
+fn prefer<A: Allocator>(race: &mut Race, alike: &Alike<A>, access: &Access<A>)
+    ensures { IsPreferred alike.now (clocked access.now) race.old race.new }
 {
-    if race.race.first.at.group != race.race.second.at.group {
+    if race.first.at.group != race.second.at.group {
         return;
     }
     if let Some(earlier) = alike.clashing(access, true) {
-        *race = race_with(earlier, alike.tag(), access, tag);
+        *race = race_with(earlier, access);
     }
 }
 
@@ -98,12 +88,13 @@ fn find_among<A: Allocator>(
     ensures { OnOk result (Finds (clocked access.now) tag (alike.now ∷ []) found.old.items found.new.items) }
 {
     match place_of_tags(found, alike.tag(), tag) {
-        Some(place) => prefer(&mut found[place], alike, access, tag),
+        Some(place) => prefer(&mut found[place].race, alike, access),
         None => {
             if let Some(earlier) = alike.clashing(access, false) {
-                let mut race = race_with(earlier, alike.tag(), access, tag);
-                prefer(&mut race, alike, access, tag);
-                found.push(race)?;
+                let mut race = race_with(earlier, access);
+                prefer(&mut race, alike, access);
+                let (tag, other) = (alike.tag(), tag);
+                found.push(TaggedRace { race, tag, other })?;
             }
         }
     }

@@ -12,8 +12,5 @@ returns-in_ok-push-in-None g c =
 pub returns-in_default : goal.returns-in_default
 returns-in_default g c = finds_none (clocked c.args.access.now) c.args.tag c.args.alike.now c.args.found.now.items (sym c.clashing.ensures ∙ c.in_default.is)
 
-pub prefer-requires : goal.prefer-requires
-prefer-requires g c = grind (arith, position-Some (is_of_tags c.args.alike.now.tag c.args.tag) c.args.found.now.items c.in-Some.place c.index_mut.result.now)
-
 pub returns-in-Some : goal.returns-in-Some
-returns-in-Some g c = grind (arith, position-Some (is_of_tags c.args.alike.now.tag c.args.tag) c.args.found.now.items c.in-Some.place c.index_mut.result.now, finds_set (clocked c.args.access.now) c.args.tag c.args.alike.now c.args.found.now.items c.in-Some.place c.prefer.new.race c.index_mut.result.now)
+returns-in-Some g c = grind (arith, position-Some (is_of_tags c.args.alike.now.tag c.args.tag) c.args.found.now.items c.in-Some.place c.index_mut.result.now, finds_set (clocked c.args.access.now) c.args.tag c.args.alike.now c.args.found.now.items c.in-Some.place c.index_mut.result.now c.prefer.new.race)

@@ -4,7 +4,7 @@ use Rattle.gr_explain.proofs.TagPairLemmas.{gives_way, stays}
 use Rattle.gr_explain.proofs.tag_pairs.prefer.Goals as goal
 
 pub returns-in-Some : goal.returns-in-Some
-returns-in-Some g c = grind (arith, gives_way (clocked c.args.access.now) c.args.tag c.args.alike.now c.args.race.now c.requires c.in-Some.earlier c.race_with.result)
+returns-in-Some g c = grind (arith, gives_way (clocked c.args.access.now) c.args.alike.now c.args.race.now c.in-Some.earlier c.race_with.result)
 
 pub returns-in_default : goal.returns-in_default
-returns-in_default g c = stays (clocked c.args.access.now) c.args.tag c.args.alike.now c.args.race.now c.requires (sym c.clashing.ensures ∙ c.in_default.is)
+returns-in_default g c = stays (clocked c.args.access.now) c.args.alike.now c.args.race.now (sym c.clashing.ensures ∙ c.in_default.is)
