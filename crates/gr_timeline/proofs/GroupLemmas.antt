@@ -131,40 +131,40 @@ module _ (list : List Event) (x : Event) (w : Word) (g : ℕ) (old new : List (E
 
 -- ---- the next record of a list
 
-module _ (items number : ℕ) (list : List Event) (x : Event) (accepted : IsAccepted items list) (lt : number < length list) (is : x ≡ get_or list number x) where
+-- what is counted and known of the first records of the list of a group
+pub record AreGathered (items : ℕ) (w : Word) (g : ℕ) (before : List (EventId × Details)) (list : List Event) (counts : List Count) (known : List (EventId × Details)) : Type 0 where
+  pub counted : AreCounts items list counts
+  pub here : AreKnownIn list w g known
+  pub others : AreOthersKept g before known
+
+module _ (items number : ℕ) (list : List Event) (x : Event) (accepted : IsAccepted items list) (lt : number < length list) (is : x ≡ get_or list number x) (w : Word) (g : ℕ) (before : List (EventId × Details)) (counts : List Count) (known : List (EventId × Details)) (so_far : AreGathered items w g before (take number list) counts known) where
+  abbrev first : List Event
+  first = take number list
+
+  first_length : length first ≡ number
+  first_length = length-take-le number list (omega (arith, lt))
+
   item_there : x.item < items
   item_there = (accepted.good number x (slice_get_read list (length list) number x refl lt is)).0.0
 
-  first_length : length (take number list) ≡ number
-  first_length = length-take-le number list (omega (arith, lt))
+  pub item_within : x.item < length counts
+  item_within = omega (arith, item_there, so_far.counted.length_is)
 
-  with_next : take (number + 1) list ≡ take number list ++ x ∷ []
-  with_next = take_more list number x lt ∙ ap (λ (y : Event). take number list ++ y ∷ []) (sym is)
+  count_is : (c : Count) → slice_get counts x.item ≡ Some c → c ≡ counted first x.item
+  count_is c at = let both : Some c ≡ Some (counted first x.item) = sym at ∙ so_far.counted.each x.item item_there in cc
 
-  module _ (counts : List Count) (counted_first : AreCounts items (take number list) counts) where
-    pub item_within : x.item < length counts
-    item_within = omega (arith, item_there, counted_first.length_is)
+  pub count_small : (c : Count) → slice_get counts x.item ≡ Some c → IsSmall c
+  count_small c at = subst IsSmall (sym (count_is c at)) (counted_small first x.item (omega (arith, lt, first_length, accepted.few)))
 
-    pub count_small : (c : Count) → slice_get counts x.item ≡ Some c → IsSmall c
-    count_small c at =
-        let same : counted (take number list) x.item ≡ c = let both : Some (counted (take number list) x.item) ≡ Some c = sym (counted_first.each x.item item_there) ∙ at in cc in
-        subst IsSmall same (counted_small (take number list) x.item (omega (arith, lt, first_length, accepted.few)))
-
-    pub counts_next : (new : List Count) → length new ≡ length counts → ((i : ℕ) → slice_get new i ≡ option_map (after_record i x) (slice_get counts i)) → AreCounts items (take (number + 1) list) new
-    counts_next new same each = subst (λ (l : List Event). AreCounts items l new) (sym with_next) (counts_more items (take number list) x counts new same each counted_first)
-
-    module _ (w : Word) (g : ℕ) (c : Count) (at : slice_get counts x.item ≡ Some c) (old new : List (EventId × Details)) (keeps : KeepsRecord w g number x c old new) where
-      keeps_first : KeepsRecord w g (length (take number list)) x (counted (take number list) x.item) old new
-      keeps_first =
-          let same : c ≡ counted (take number list) x.item = let both : Some c ≡ Some (counted (take number list) x.item) = sym at ∙ counted_first.each x.item item_there in cc in
-          subst (λ (n : ℕ). KeepsRecord w g n x (counted (take number list) x.item) old new) (sym first_length)
-          (subst (λ (d : Count). KeepsRecord w g number x d old new) same keeps)
-
-      pub known_next : AreKnownIn (take number list) w g old → AreKnownIn (take (number + 1) list) w g new
-      known_next known = subst (λ (l : List Event). AreKnownIn l w g new) (sym with_next) (record_known (take number list) x w g old new keeps_first known)
-
-      pub others_next : (first : List (EventId × Details)) → AreOthersKept g first old → AreOthersKept g first new
-      others_next first others e other = others_kept (take number list) x w g old new keeps_first e other ∙ others e other
+  pub gathered_next : (c : Count) (new_counts : List Count) (new : List (EventId × Details)) → c ≡ get_or counts x.item c → length new_counts ≡ length counts → ((i : ℕ) → slice_get new_counts i ≡ option_map (after_record i x) (slice_get counts i)) → KeepsRecord w g number x c known new → AreGathered items w g before (take (number + 1) list) new_counts new
+  gathered_next c new_counts new read same each keep =
+      let count = count_is c (slice_get_read counts (length counts) x.item c refl item_within read) in
+      let keeps = subst (λ (n : ℕ). KeepsRecord w g n x (counted first x.item) known new) (sym first_length) (subst (λ (d : Count). KeepsRecord w g number x d known new) count keep) in
+      rw (take_more list number x lt, ← is) (record {
+        counted = counts_more items first x counts new_counts same each so_far.counted;
+        here = record_known first x w g known new keeps so_far.here;
+        others = λ e other. others_kept first x w g known new keeps e other ∙ so_far.others e other;
+      })
 
 -- ---- all groups
 
