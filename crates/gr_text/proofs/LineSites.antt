@@ -70,32 +70,18 @@ unspaced_back front =
 no_site : (v : Version) (l : Line) → IsSiteOf v l 0
 no_site v l = grind arith
 
-plain_end : (v : Version) (l : Line) → IsSaid v l → sited_said v (line_text l) ≡ Some (record { line = l; site = 0 })
+-- the same of the parts of a line
+sited_again : (v : Version) (line : Line) (site : ℕ) → IsSaid v line → IsSiteOf v line site → sited_said v (line_text line ++ site_text site) ≡ Some (record { line = line; site = site })
 unfolding sited_said
-plain_end v l said =
-    let cut : cut_at 64 (line_text l) ≡ (line_text l, None) = rw (append-nil (line_text l)) at (first_back 64 (line_text l) None (plain_without (line_text l) (line_plain v l said))) in
-    rw (cut, text_is_read v l said) refl
-
-sited_end : (v : Version) (e : Event) (site : ℕ) → IsSaid v (lines.Event e) → site < 2 ^ 16 → (site == 0) ≡ false → has_sites v ≡ true → sited_said v (line_text (lines.Event e) ++ 32 ∷ 64 ∷ decimal site) ≡ Some (record { line = lines.Event e; site = site })
-unfolding sited_said
-sited_end v e site said lt some has =
-    let text = line_text (lines.Event e) in
-    let before = text ++ 32 ∷ [] in
-    let plain : ArePlain before = are-append is_plain text (32 ∷ []) (line_plain v (lines.Event e) said) refl in
-    let cut = first_back 64 before (Some (decimal site)) (plain_without before plain) in
-    rw (← append_assoc text (32 ∷ []) (64 ∷ decimal site), cut, has, short_again site lt, some, unspaced_back text, text_is_read v (lines.Event e) said) refl
+sited_again v line site said ok =
+    let plain = line_plain v line said in
+    let spaced : ArePlain (line_text line ++ 32 ∷ []) = are-append is_plain (line_text line) (32 ∷ []) plain refl in
+    let alone : cut_at 64 (line_text line) ≡ (line_text line, None) = rw (append-nil (line_text line)) at (first_back 64 (line_text line) None (plain_without (line_text line) plain)) in
+    let cut = first_back 64 (line_text line ++ 32 ∷ []) (Some (decimal site)) (plain_without (line_text line ++ 32 ∷ []) spaced) in
+    grind (arith, nat_tests, append_assoc, append-nil, alone, cut, short_again site, unspaced_back (line_text line), text_is_read v line said)
 
 pub sited_text_is_read : SitedTextIsRead
-sited_text_is_read v l (said, ok) = by_site l.line l.site (l.site == 0) refl said ok
-  where
-    by_site : (line : Line) (site : ℕ) (b : Bool) → (site == 0) ≡ b → IsSaid v line → IsSiteOf v line site → sited_said v (line_text line ++ site_text site) ≡ Some (record { line = line; site = site })
-    by_site line site true is said ok = rw (eqb-true site 0 is, append-nil (line_text line)) (plain_end v line said)
-    by_site (lines.Header h) site false is said ok = absurd (eqb-false site 0 is ok)
-    by_site (lines.Event e) site false is said ok =
-        elim (cases_Bool (has_sites v)) [
-          | inl has ↦ rw is (sited_end v e site said ok.0 is has)
-          | inr none_has ↦ absurd (eqb-false site 0 is (ok.1 none_has))
-        ]
+sited_text_is_read v l (said, ok) = sited_again v l.line l.site said ok
 
 pub line_told : (v : Version) (bytes : List ℕ) → (line_said v bytes ≡ line_said v bytes) × IfSome (line_said v bytes) (λ l. IsSaid v l × (bytes ≡ line_text l))
 line_told v bytes = (refl, each_some (line_said v bytes) _ (read_is_text v bytes))

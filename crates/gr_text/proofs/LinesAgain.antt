@@ -33,10 +33,8 @@ names_again [] most few each = refl
 names_again (n ∷ names) zero few each = absurd (omega arith)
 names_again (n ∷ names) (suc most) few each =
     let here = each 0 n (omega arith) in
-    let release : n.release < 16777216 = here.2 in
-    let one = name_again n (names_words names) here.0 here.1 (omega arith) in
     let ih = names_again names most (omega arith) (λ k d lt. each (suc k) d (omega arith)) in
-    rw (one, ih) refl
+    grind (arith, name_again n (names_words names), here, ih)
 
 -- ---- the whole line
 

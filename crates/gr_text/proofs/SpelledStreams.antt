@@ -39,11 +39,10 @@ unfolding streams_at
 streams_before [] most place whole le = nothing_left most place [] refl
 streams_before (s ∷ ss) zero place whole le = absurd (omega arith)
 streams_before (s ∷ ss) (suc most) place whole le =
-    let some : (length (bytes_of (s ∷ ss)) == 0) ≡ false = ne_eqb (length (bytes_of (s ∷ ss))) 0 (λ none. absurd (omega arith)) in
     let one = stream_before place s (bytes_of ss) (All-head IsWhole s ss whole) in
     let shorter : length (bytes_of ss) ≤ most = omega (arith, length-append (stream_spelling s.header s.records) (bytes_of ss)) in
     let ih = streams_before ss most (place + 1) (All-tail IsWhole s ss whole) shorter in
-    rw (some, one, ih) refl
+    grind (arith, one, ih)
 
 pub whole_streams_are_dumped : WholeStreamsAreDumped
 whole_streams_are_dumped ss whole = let all = streams_before ss (length (bytes_of ss)) 0 whole (omega arith) in rw all (ap (λ (v : List ℕ). Ok v) (streams_text ss))

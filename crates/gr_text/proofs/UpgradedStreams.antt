@@ -20,17 +20,7 @@ runs_upgraded h (r ∷ rs) (is, last, runs) =
     (record { event = is.event; names = omega (arith, is.names, same.3); range = rw (same.0, same.1) is.range; site = rw same.2 is.site }, last, runs_upgraded h rs runs)
 
 whole_upgraded : (s : WholeStream) → IsWhole s → IsWhole (upgraded_stream s)
-whole_upgraded s w =
-    let same = raised_is s.header.version in
-    let is = w.prefix.header in
-    record {
-      prefix = record {
-        header = record { group = rw same.0 is.group; some = is.some; items = rw same.1 is.items; launch = is.launch };
-        runs = runs_upgraded s.header s.records w.prefix.runs;
-        few = w.prefix.few;
-      };
-      ended = w.ended;
-    }
+whole_upgraded s w = grind (arith, raised_is s.header.version, runs_upgraded s.header s.records w.prefix.runs)
 
 -- ---- their bytes
 
