@@ -1,5 +1,5 @@
 -- A decoder that goes on from what it kept reads what one reads that begins anew.
-use Rattle.gr_model.proofs.Common.{◌∙◌, ap, ◌≡◌, ℕ, ◌-◌, ◌≤◌, List, [], ◌∷◌, ◌++◌, map, length, take, drop, Some, None, Result, Ok, Err, refl, arith, inl, inr, lt-ltb, le-ltb, cases_lt, take-append-le, drop-append-le, length-append, map-append, append-nil}
+use Rattle.gr_model.proofs.Common.{◌∙◌, ap, ◌≡◌, ℕ, ◌-◌, ◌≤◌, List, [], ◌∷◌, ◌++◌, map, length, take, drop, Some, None, Result, Ok, Err, refl, arith, inl, inr, lt-ltb, le-ltb, cases_lt, take-append-le, drop-append-le, length-append, map-append, append-nil, nat_tests}
 use Rattle.std.proofs.Math.Nat.{sub-zero, zero-add}
 use Rattle.gr_record.specs.Prelude.{Event, RecordError, Header, Stop, Inside, HEADER_LENGTH, record_length, header_at, event_at, records_of, Reading, Standing, closed, under, read_from, reading, parts_of, standing, still, still_at, standing_after, FaultStays}
 use Rattle.gr_record.specs.declared.part.Part.TheVariants as parts
@@ -29,13 +29,8 @@ module _ (limit : ℕ) (piece : List ℕ) where
   pub reading_goes_on : (fed : List ℕ) → GoesOn limit piece (reading limit fed) (reading limit (fed ++ piece))
   unfolding read_from
   reading_goes_on fed =
-      elim (cases_lt (length fed) HEADER_LENGTH) [
-        | inl lt ↦
-            rw (lt-ltb (length fed) HEADER_LENGTH lt) (first_bytes fed)
-        | inr long ↦
-            let longer : HEADER_LENGTH ≤ length (fed ++ piece) = simp length-append (omega arith) in
-            rw (le-ltb (length fed) HEADER_LENGTH long, le-ltb (length (fed ++ piece)) HEADER_LENGTH longer, take-append-le HEADER_LENGTH fed piece long) (under_goes_on fed long (header_at (take HEADER_LENGTH fed)))
-      ]
+      let long = λ (long : HEADER_LENGTH ≤ length fed). under_goes_on fed long (header_at (take HEADER_LENGTH fed)) in
+      grind (arith, nat_tests, length-append fed piece, take-append-le HEADER_LENGTH fed piece, long, first_bytes fed)
 
 -- after a fault nothing is read
 pub fault_stays : FaultStays

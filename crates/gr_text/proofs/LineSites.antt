@@ -1,11 +1,10 @@
 -- A line has no line feed, and no `@` but that of its site; with its site it is read from its text, and what is read has that text.
-use Rattle.gr_model.proofs.Common.{◌≡◌, ℕ, suc, ◌^◌, ◌<◌, Bool, true, false, List, [], ◌∷◌, ◌++◌, All, refl, ap, arith, inl, inr, ◌+◌, ◌-◌, length, take, Some, None, append_assoc, append-nil, length-append, take_at, drop_at, take-append-drop, IfSome, nat_lt, not, ◌==◌, ◌&&◌, decimal, list_all-append, and_parts, cases_Bool, eqb-true, eqb-false, nat_tests}
+use Rattle.gr_model.proofs.Common.{◌≡◌, ℕ, suc, ◌^◌, ◌<◌, Bool, true, List, [], ◌∷◌, ◌++◌, All, refl, ap, arith, ◌+◌, ◌-◌, length, take, Some, None, append_assoc, append-nil, length-append, take_at, drop_at, take-append-drop, IfSome, nat_lt, not, ◌==◌, ◌&&◌, decimal, list_all-append, and_parts, nat_tests}
 use Rattle.gr_text.specs.Prelude.{Name, Event, Version, Line, SitedLine, IsSaid, IsSiteOf, IsSitedSaid, SitedTextIsRead, SitedReadIsText, line_said, IsWithout, cut_at, unspaced, sited_said, line_text, sited_text, site_text, names_words, later_text}
 use Rattle.gr_model.specs.Prelude.{IsNameInRange}
 use Rattle.gr_record.proofs.Places.{each_in_range, header_group, header_items, items_within}
 use Rattle.gr_text.specs.declared.line.Line.TheVariants as lines
 use Rattle.gr_text.proofs.LineWords.{are, are-append, are_weaker, are_without, is_digit, decimal_digits, first_back, cut_told, short_again}
-use Rattle.gr_record.specs.Prelude.{has_sites}
 use Rattle.gr_text.proofs.LinesFound.{short_told, read_is_text}
 use Rattle.gr_text.proofs.LineNumbers.{each_some, same_self, same_told}
 use Rattle.gr_text.proofs.LinesAgain.{text_is_read}

@@ -4,7 +4,7 @@ use Rattle.std.specs.List.{flat_map}
 use Rattle.gr_text.specs.Prelude.{MOST_RECORDS, Header, Line, One, SitedLine, IsSitedSaid, sited_said, sited_text, Place, Outside, Inside, lines_of, record_line, version_at, lines_bytes, whole_line, said_at, line_at, said_from, said_in, WholeStream, parts_in, IsWhole, bytes_of, text_of, PackedAreStreams}
 use Rattle.gr_model.specs.Prelude.{is_end, is_complete}
 use Rattle.gr_text.specs.declared.line.Line.TheVariants as lines
-use Rattle.gr_record.specs.Prelude.{places, Runs, Sited, events_of, IsRecord, header_spelling, events_spelling}
+use Rattle.gr_record.specs.Prelude.{places, Runs, Sited, events_of, IsRecord, events_spelling}
 use Rattle.gr_record.proofs.FoundPrefixes.{complete_behind}
 use Rattle.gr_text.proofs.LineSites.{sited_read_is_text}
 use Rattle.gr_text.specs.Texts.{◌>>=◌}
@@ -125,9 +125,7 @@ streams_bytes [] whole = refl
 streams_bytes (s ∷ ss) whole =
     let w = All-head IsWhole s ss whole in
     let rest = streams_bytes ss (All-tail IsWhole s ss whole) in
-    let one = records_bytes s.header s.records (flat_map parts_in ss) w.prefix.runs w.ended in
-    ap (λ (v : List ℕ). header_spelling s.header ++ v) (one ∙ ap (λ (v : List ℕ). events_spelling s.header.version s.records ++ v) rest)
-    ∙ sym (append_assoc (header_spelling s.header) (events_spelling s.header.version s.records) (bytes_of ss))
+    grind (arith, append_assoc, records_bytes s.header s.records (flat_map parts_in ss) w.prefix.runs w.ended, rest)
 
 pub packed_are_streams : PackedAreStreams
 packed_are_streams text bytes e =

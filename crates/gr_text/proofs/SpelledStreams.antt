@@ -1,6 +1,6 @@
 -- The bytes of whole streams are dumped and their text is packed; and what is packed is dumped again, what is dumped packed again.
-use Rattle.gr_model.proofs.Common.{◌≡◌, ℕ, zero, suc, ◌+◌, ◌≤◌, false, List, [], ◌∷◌, ◌++◌, length, All, Ok, refl, sym, ap, ◌∙◌, append_assoc, arith, IsTrue, true≢false, ◌-◌, ◌^◌, ◌<◌, map, length-append, flat_map, ◌==◌, le-ltb, ne_eqb, and_parts, ltb-true, lt-leb, All-append, All-cons, All-head, All-nil, All-tail}
-use Rattle.gr_text.specs.Prelude.{Event, MOST_ITEMS_OF_A_GROUP, MOST_RECORDS, Header, HEADER_LENGTH, WholeStream, stream_at, streams_at, dumped, parts_in, IsWhole, bytes_of, text_of, WholeStreamsAreDumped, PackedIsDumpedAgain, WholeStreamsArePacked, DumpedIsPackedAgain, One, Four, SitedLine, IsSaid, sited_text, Outside, Inside, lines_of, header_line, record_line, whole_line, packed, said_from}
+use Rattle.gr_model.proofs.Common.{◌≡◌, ℕ, zero, suc, ◌+◌, ◌≤◌, false, List, [], ◌∷◌, ◌++◌, length, All, Ok, refl, sym, ap, ◌∙◌, append_assoc, arith, IsTrue, true≢false, ◌-◌, ◌^◌, ◌<◌, map, length-append, flat_map, le-ltb, ne_eqb, nat_tests, and_parts, ltb-true, lt-leb, All-append, All-cons, All-head, All-nil, All-tail}
+use Rattle.gr_text.specs.Prelude.{Event, MOST_ITEMS_OF_A_GROUP, MOST_RECORDS, Header, WholeStream, stream_at, streams_at, dumped, parts_in, IsWhole, bytes_of, text_of, WholeStreamsAreDumped, PackedIsDumpedAgain, WholeStreamsArePacked, DumpedIsPackedAgain, One, Four, SitedLine, IsSaid, sited_text, Outside, Inside, lines_of, header_line, record_line, whole_line, packed, said_from}
 use Rattle.gr_model.specs.Prelude.{is_complete}
 use Rattle.gr_record.specs.Prelude.{record_length, most_items, places, Runs, event_at, IsHeader, events_spelling, header_spelling, IsEvent, front_header_at, front_records_at, stream_spelling, Sited, events_of}
 use Rattle.gr_record.proofs.FoundPrefixes.{complete_behind}
@@ -21,9 +21,7 @@ events_before h few rs rest runs complete le =
 
 pub header_before : (h : Header) (rest : List ℕ) → IsHeader h → front_header_at (header_spelling h ++ rest) ≡ Ok (h, rest)
 unfolding front_header_at
-header_before h rest ok =
-    let long : HEADER_LENGTH ≤ length (header_spelling h ++ rest) = omega arith in
-    rw (le-ltb (length (header_spelling h ++ rest)) HEADER_LENGTH long, spelled_header_is_read h rest ok) refl
+header_before h rest ok = grind (arith, nat_tests, spelled_header_is_read h rest ok)
 
 stream_before : (place : ℕ) (s : WholeStream) (rest : List ℕ) → IsWhole s → stream_at place (stream_spelling s.header s.records ++ rest) ≡ Ok (s, rest)
 unfolding stream_at

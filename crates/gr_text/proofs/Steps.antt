@@ -34,10 +34,7 @@ at_place_ok place r x e = grind arith
 pub at_place_err : {X : Type 0} (place : ℕ) (r : Result X RecordError) (p : ℕ) (d : RecordError) → at_place place r ≡ Err (faults.Stream p d) → (place ≡ p) × (r ≡ Err d)
 at_place_err place r p d e = grind arith
 
--- records up to an end are whole, and others are refused
-pub up_to_ok : (stop : Stop) (events : List Event) (rest : List ℕ) (x : List Event × List ℕ) → up_to stop events rest ≡ Ok x → (stop ≡ AtEnd) × (events ≡ x.0) × (rest ≡ x.1)
-up_to_ok stop events rest x e = grind arith
-
+-- records that no end follows are refused
 pub up_to_err : (stop : Stop) (events : List Event) (rest : List ℕ) (d : RecordError) → up_to stop events rest ≡ Err d → (is_at_end stop ≡ false) × (behind_end stop rest ≡ None)
 up_to_err stop events rest d e = grind arith
 

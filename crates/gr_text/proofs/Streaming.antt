@@ -4,10 +4,10 @@ use Rattle.gr_text.specs.Prelude.{Event, MOST_RECORDS, Header, HEADER_LENGTH, he
 use Rattle.gr_model.specs.Prelude.{is_complete}
 use Rattle.gr_record.specs.Prelude.{records_of, Runs, AreBytes, header_at, all_sited, IsHeader, header_spelling, events_spelling, front_header_at, front_records_at, stream_spelling}
 use Rattle.gr_record.proofs.Found.{read_header_is_spelled}
-use Rattle.gr_record.proofs.FoundPrefixes.{is_at_end, records_found, events_sited}
+use Rattle.gr_record.proofs.FoundPrefixes.{records_found, events_sited}
 use Rattle.gr_record.proofs.Numbers.{one_left}
 use Rattle.gr_record.proofs.Places.{bytes_drop}
-use Rattle.gr_text.proofs.Steps.{bind_ok, map_ok, up_to_ok, at_place_ok, no_more}
+use Rattle.gr_text.proofs.Steps.{bind_ok, map_ok, at_place_ok, no_more}
 use Rattle.std.proofs.lemmas.List.Concat.{flat_map-append}
 
 -- ---- what is read is spelled so
@@ -37,10 +37,9 @@ pub record RecordsFound (h : Header) (bytes : List ℕ) (events : List Event) (r
 pub events_found : (h : Header) (bytes : List ℕ) → AreBytes bytes → (events : List Event) (rest : List ℕ) → front_records_at h bytes ≡ Ok (events, rest) → RecordsFound h bytes events rest
 unfolding front_records_at
 events_found h bytes fits events rest e =
-    let r = records_of h MOST_RECORDS bytes in
-    let w = up_to_ok r.stop r.events r.rest (events, rest) e in
     let f = records_found h MOST_RECORDS bytes fits in
-    rw (← w.1, ← w.2) (record { parts = f.parts; runs = f.runs; few = f.few; ended = f.complete ∙ ap is_at_end w.0; fits = bytes_behind (events_spelling h.version (all_sited h.version r.events bytes)) r.rest (subst AreBytes f.parts fits) })
+    let behind : AreBytes (records_of h MOST_RECORDS bytes).rest = bytes_behind _ _ (subst AreBytes f.parts fits) in
+    grind (arith, f.parts, f.runs, f.few, f.complete, behind)
 
 pub nothing_left : (most place : ℕ) (bytes : List ℕ) → (length bytes == 0) ≡ true → streams_at most place bytes ≡ Ok []
 unfolding streams_at
