@@ -1,6 +1,6 @@
 -- What is read of bytes is a prefix, and is spelled so.
-use Rattle.gr_model.proofs.Common.{◌≡◌, ℕ, zero, suc, ◌<◌, ◌≤◌, Bool, true, false, List, [], ◌∷◌, ◌++◌, length, take, drop, Result, Ok, Err, refl, sym, ap, ◌∙◌, append_assoc, arith, inl, inr, lt-ltb, le-ltb, cases_lt, cases_Bool, both_ways, take-append-drop, append-nil, length-take, get_or-take, get_or_past, take-take}
-use Rattle.gr_record.specs.Prelude.{Event, RecordError, Header, Stop, Inside, AtEnd, AtFault, HEADER_LENGTH, record_length, events_of, sited, all_sited, event_spelling, events_spelling, header_spelling, header_at, event_at, Records, step, records_of, AreBytes, close, under, read_from, Runs, IsReadingOf, ReadPrefixIsSpelled, Version}
+use Rattle.gr_model.proofs.Common.{◌≡◌, ℕ, zero, suc, ◌<◌, ◌≤◌, Bool, true, false, List, [], ◌∷◌, ◌++◌, length, take, drop, Result, Ok, Err, refl, sym, ap, ◌∙◌, append_assoc, arith, inl, inr, lt-ltb, le-ltb, cases_lt, cases_Bool, both_ways, take-append-drop, append-nil, length-take, get_or-take, get_or_past, take-take, nat_tests}
+use Rattle.gr_record.specs.Prelude.{Event, RecordError, Header, Stop, Inside, AtEnd, AtFault, HEADER_LENGTH, record_length, events_of, sited, all_sited, event_spelling, events_spelling, header_spelling, header_at, event_at, Records, records_at, step, records_of, AreBytes, close, under, read_from, Runs, IsReadingOf, ReadPrefixIsSpelled, Version}
 use Rattle.gr_model.specs.Prelude.{is_end, is_complete}
 use Rattle.gr_record.proofs.Loop.{short, too_many, next}
 use Rattle.gr_record.proofs.Places.{bytes_drop}
@@ -56,20 +56,19 @@ module _ (h : Header) where
         })
       ]
 
-  short_found : (most : ℕ) (bytes : List ℕ) → length bytes < size → Found h most bytes (records_of h most bytes)
-  short_found most bytes lt = rw (short size (event_at h) most bytes lt) (record { parts = refl; runs = tt; few = omega arith; complete = refl; short = λ _. lt })
+  none_found : (bytes : List ℕ) → Found h 0 bytes (records_of h 0 bytes)
+  unfolding records_at
+  none_found bytes = grind (arith, nat_tests)
+
+  more_found : (most : ℕ) (bytes : List ℕ) → AreBytes bytes → Found h most (drop size bytes) (records_of h most (drop size bytes)) → Found h (suc most) bytes (records_of h (suc most) bytes)
+  unfolding records_at
+  more_found most bytes fits found =
+      let step = λ (long : size ≤ length bytes). step_found most bytes fits long (records_of h most (drop size bytes)) found (event_at h (take size bytes)) refl in
+      grind (arith, nat_tests, step)
 
   pub records_found : (most : ℕ) (bytes : List ℕ) → AreBytes bytes → Found h most bytes (records_of h most bytes)
-  records_found zero bytes fits =
-      elim (cases_lt (length bytes) size) [
-        | inl lt ↦ short_found zero bytes lt
-        | inr long ↦ rw (too_many size (event_at h) bytes long) (record { parts = refl; runs = tt; few = omega arith; complete = refl; short = λ is_inside. absurd cc })
-      ]
-  records_found (suc most) bytes fits =
-      elim (cases_lt (length bytes) size) [
-        | inl lt ↦ short_found (suc most) bytes lt
-        | inr long ↦ rw (next size (event_at h) most bytes long) (step_found most bytes fits long (records_of h most (drop size bytes)) (records_found most (drop size bytes) (bytes_drop size bytes fits)) (event_at h (take size bytes)) refl)
-      ]
+  records_found zero bytes fits = none_found bytes
+  records_found (suc most) bytes fits = more_found most bytes fits (records_found most (drop size bytes) (bytes_drop size bytes fits))
 
 -- ---- a header and its records
 

@@ -1,5 +1,5 @@
 -- What is spelled is read: a header and the records of its stream.
-use Rattle.gr_model.proofs.Common.{◌≡◌, ℕ, zero, suc, ◌≤◌, Bool, cond, List, [], ◌∷◌, ◌++◌, length, Ok, refl, sym, ap, ◌∙◌, append_assoc, arith, le-ltb, take_at, drop_at, length-append, append-nil}
+use Rattle.gr_model.proofs.Common.{nat_tests, ◌≡◌, ℕ, zero, suc, ◌≤◌, Bool, cond, List, [], ◌∷◌, ◌++◌, length, Ok, refl, sym, ap, ◌∙◌, append_assoc, arith, le-ltb, take_at, drop_at, length-append, append-nil}
 use Rattle.gr_record.specs.Prelude.{MOST_ITEMS_OF_A_GROUP, Header, Inside, AtEnd, HEADER_LENGTH, record_length, event_spelling, events_spelling, header_spelling, Sited, events_of, all_sited, event_at, site_at, Records, records_of, close, read_from, Runs, stop_after, SpelledPrefixIsRead}
 use Rattle.gr_model.specs.Prelude.{is_complete}
 use Rattle.gr_record.proofs.Places.{fields_and_names, header_items}
@@ -38,15 +38,11 @@ module _ (h : Header) (few : h.items ≤ MOST_ITEMS_OF_A_GROUP) where
       let ih = sites_spelled rs rest runs.2 in
       rw (append_assoc prefix (events_spelling h.version rs) rest, take_at prefix more size len, drop_at prefix more size len, site, ih) refl
 
-closed_after : (b : Bool) → close (cond b AtEnd Inside) [] ≡ cond b AtEnd Inside
-closed_after b = grind arith
-
 pub spelled_prefix_is_read : SpelledPrefixIsRead
 unfolding read_from
 spelled_prefix_is_read limit h rs prefix =
-    let long : HEADER_LENGTH ≤ length (header_spelling h ++ events_spelling h.version rs) = omega arith in
     let items = header_items h prefix.header in
     let records = records_spelled h items rs limit prefix.runs prefix.few in (
-      rw (le-ltb (length (header_spelling h ++ events_spelling h.version rs)) HEADER_LENGTH long, spelled_header_is_read h [] prefix.header, records, closed_after (is_complete (events_of rs))) refl,
+      grind (arith, nat_tests, spelled_header_is_read h [] prefix.header, records),
       ap (all_sited h.version (events_of rs)) (sym (append-nil (events_spelling h.version rs))) ∙ sites_spelled h items rs [] prefix.runs,
     )

@@ -10,9 +10,7 @@ use Rattle.gr_record.proofs.Resuming.{reading_goes_on}
 -- what is read where a whole header comes first
 from_header : (most : ℕ) (unit rest : List ℕ) → length unit ≡ HEADER_LENGTH → read_from None most (unit ++ rest) ≡ under (header_at unit) most (unit ++ rest)
 unfolding read_from
-from_header most unit rest len =
-    let long : HEADER_LENGTH ≤ length (unit ++ rest) = simp length-append (omega arith) in
-    rw (le-ltb (length (unit ++ rest)) HEADER_LENGTH long, take_at unit rest HEADER_LENGTH len) refl
+from_header most unit rest len = grind (arith, nat_tests, length-append unit rest, take_at unit rest HEADER_LENGTH len)
 
 -- a decoder that keeps no bytes may fail
 pub fails_standing : {limit count : ℕ} {header : Option Header} {held : List ℕ} {stop : Stop} {e : RecordError} → IsStanding (record { limit = limit; header = header; count = count; held = held; stop = stop }) → held ≡ [] → e ≢ errors.Memory
