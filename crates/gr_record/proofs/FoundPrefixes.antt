@@ -37,25 +37,6 @@ module _ (h : Header) where
   abbrev size : ℕ
   size = record_length h.version
 
-  -- a whole record, and what follows it
-  step_found : (most : ℕ) (bytes : List ℕ) → AreBytes bytes → size ≤ length bytes → (further : Records) → Found h most (drop size bytes) further
-      → (x : Result Event RecordError) → event_at h (take size bytes) ≡ x → Found h (suc most) bytes (step size x bytes further)
-  step_found most bytes fits long further found (Err e) is = record { parts = refl; runs = tt; few = omega arith; complete = refl; short = λ is_inside. absurd cc }
-  step_found most bytes fits long further found (Ok e) is =
-      let s = rw (take-take size size bytes (omega arith)) at (read_is_spelled h e (take size bytes) (bytes_take size bytes fits) (omega (arith, length-take size bytes)) is) in
-      let one : List ℕ = event_spelling h.version (sited h.version e (take size bytes)) in
-      let split : bytes ≡ one ++ drop size bytes = sym (take-append-drop size bytes) ∙ ap (λ (x : List ℕ). x ++ drop size bytes) s.0 in
-      elim (cases_Bool (is_end e)) [
-        | inl end ↦ rw end (record { parts = rw (append-nil one) split; runs = (s.1, λ _. refl, tt); few = omega arith; complete = end; short = λ is_inside. absurd cc })
-        | inr on ↦ rw on (record {
-          parts = split ∙ ap (λ (x : List ℕ). one ++ x) found.parts ∙ sym (append_assoc one (events_spelling h.version (all_sited h.version further.events (drop size bytes))) further.rest);
-          runs = (s.1, λ is_inside. absurd (both_ways (is_end e) on is_inside), found.runs);
-          few = omega (arith, found.few);
-          complete = complete_behind e further.events on ∙ found.complete;
-          short = found.short;
-        })
-      ]
-
   none_found : (bytes : List ℕ) → Found h 0 bytes (records_of h 0 bytes)
   unfolding records_at
   none_found bytes = grind (arith, nat_tests)
@@ -63,8 +44,8 @@ module _ (h : Header) where
   more_found : (most : ℕ) (bytes : List ℕ) → AreBytes bytes → Found h most (drop size bytes) (records_of h most (drop size bytes)) → Found h (suc most) bytes (records_of h (suc most) bytes)
   unfolding records_at
   more_found most bytes fits found =
-      let step = λ (long : size ≤ length bytes). step_found most bytes fits long (records_of h most (drop size bytes)) found (event_at h (take size bytes)) refl in
-      grind (arith, nat_tests, step)
+      let one = λ (e : Event) (long : size ≤ length bytes) (is : event_at h (take size bytes) ≡ Ok e). rw (take-take size size bytes (omega arith)) at (read_is_spelled h e (take size bytes) (bytes_take size bytes fits) (omega (arith, length-take size bytes)) is) in
+      grind (arith, nat_tests, one, take-append-drop size bytes, append_assoc, append-nil, complete_behind, found.parts, found.runs, found.few, found.complete, found.short)
 
   pub records_found : (most : ℕ) (bytes : List ℕ) → AreBytes bytes → Found h most bytes (records_of h most bytes)
   records_found zero bytes fits = none_found bytes
