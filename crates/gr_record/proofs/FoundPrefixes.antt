@@ -53,27 +53,9 @@ module _ (h : Header) where
 
 -- ---- a header and its records
 
-closed_stop : (stop : Stop) (rest : List ℕ) → (close stop rest ≡ AtEnd → (stop ≡ AtEnd) × (rest ≡ [])) × (close stop rest ≡ Inside → stop ≡ Inside)
-closed_stop stop rest = (λ e. grind arith, λ e. grind arith)
-
-under_found : (limit : ℕ) (bytes : List ℕ) → AreBytes bytes → HEADER_LENGTH ≤ length bytes → (x : Result Header RecordError) → header_at (take HEADER_LENGTH bytes) ≡ x → IsReadingOf limit bytes (under x limit bytes)
-under_found limit bytes fits long (Err e) is = record { events = refl; parts = refl; prefix = refl; ended = λ is_inside. absurd cc; short = λ is_inside. absurd cc }
-under_found limit bytes fits long (Ok h) is =
-    let s = rw (take-take HEADER_LENGTH HEADER_LENGTH bytes (omega arith)) at (read_header_is_spelled h (take HEADER_LENGTH bytes) (bytes_take HEADER_LENGTH bytes fits) (omega (arith, length-take HEADER_LENGTH bytes)) is) in
-    let r = records_of h limit (drop HEADER_LENGTH bytes) in
-    let f = records_found h limit (drop HEADER_LENGTH bytes) (bytes_drop HEADER_LENGTH bytes fits) in
-    record {
-      events = events_sited h.version r.events (drop HEADER_LENGTH bytes);
-      parts = sym (take-append-drop HEADER_LENGTH bytes) ∙ ap (λ (x : List ℕ). x ++ drop HEADER_LENGTH bytes) s.0 ∙ ap (λ (x : List ℕ). header_spelling h ++ x) f.parts ∙ sym (append_assoc (header_spelling h) (events_spelling h.version (all_sited h.version r.events (drop HEADER_LENGTH bytes))) r.rest);
-      prefix = record { header = s.1; runs = f.runs; few = f.few };
-      ended = λ e. let c = (closed_stop r.stop r.rest).0 e in (f.complete ∙ ap is_at_end c.0, c.1);
-      short = λ e. f.short ((closed_stop r.stop r.rest).1 e);
-    }
-
 pub read_prefix_is_spelled : ReadPrefixIsSpelled
 unfolding read_from
 read_prefix_is_spelled limit bytes fits =
-    elim (cases_lt (length bytes) HEADER_LENGTH) [
-      | inl lt ↦ rw (lt-ltb (length bytes) HEADER_LENGTH lt) (record { events = refl; parts = refl; prefix = refl; ended = λ is_inside. absurd cc; short = λ _. lt })
-      | inr long ↦ rw (le-ltb (length bytes) HEADER_LENGTH long) (under_found limit bytes fits long (header_at (take HEADER_LENGTH bytes)) refl)
-    ]
+    let head = λ (h : Header) (long : HEADER_LENGTH ≤ length bytes) (is : header_at (take HEADER_LENGTH bytes) ≡ Ok h). rw (take-take HEADER_LENGTH HEADER_LENGTH bytes (omega arith)) at (read_header_is_spelled h (take HEADER_LENGTH bytes) (bytes_take HEADER_LENGTH bytes fits) (omega (arith, length-take HEADER_LENGTH bytes)) is) in
+    let found = λ (h : Header). records_found h limit (drop HEADER_LENGTH bytes) (bytes_drop HEADER_LENGTH bytes fits) in
+    grind (arith, nat_tests, head, found, events_sited, take-append-drop HEADER_LENGTH bytes, append_assoc)
