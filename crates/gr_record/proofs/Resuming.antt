@@ -34,9 +34,4 @@ module _ (limit : ℕ) (piece : List ℕ) where
 
 -- after a fault nothing is read
 pub fault_stays : FaultStays
-fault_stays limit bytes more e is =
-    let g = reading_goes_on limit more bytes in
-    let s = standing limit (reading limit bytes) in (
-      ap (λ (d : Standing). d.stop) g.0 ∙ ap (λ (stop : Stop). (still_at stop s more).stop) is,
-      g.1 ∙ ap (λ (stop : Stop). parts_of (reading limit bytes) ++ parts_of (still_at stop s more)) is ∙ append-nil (parts_of (reading limit bytes)),
-    )
+fault_stays limit bytes more e is = grind (arith, append-nil (parts_of (reading limit bytes)), reading_goes_on limit more bytes)

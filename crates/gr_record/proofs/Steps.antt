@@ -64,13 +64,7 @@ module _ (limit count : ℕ) (unit rest : List ℕ) (listed : List Part) where
 
       -- a record
       pub record_taken : (e : Event) (end : Bool) → event_at h unit ≡ Ok e → is_end e ≡ end → Reads (Some h) (Some h) (count + 1) (stop_behind end) (listed ++ parts.Event e ∷ [])
-      record_taken e true is end =
-          let r = rw (is, end, drop_at unit rest (record_length h.version) len) at one_more in
-          record { stands = rw (r, add-zero (count + 1)) refl; parts = rw r (sym (append_assoc listed (parts.Event e ∷ []) _)) }
-      record_taken e false is on =
-          let r = rw (is, on) at one_more in
-          let q = from_records h (limit - (count + 1)) rest in
-          record { stands = rw (r, q, add_assoc count 1, one-add) refl; parts = rw (r, q) (sym (append_assoc listed (parts.Event e ∷ []) _)) }
+      record_taken e end is same = grind (arith, one_more, from_records, append_assoc, drop_at unit rest (record_length h.version) len)
 
 -- ---- the end of a piece
 
@@ -85,8 +79,4 @@ pub fed : (old new : Standing) (piece : List ℕ) (before after : List Part) →
     → StandsFor new (bytes ++ piece) × GrowsAs (parts_of (reading old.limit bytes)) (parts_of (reading old.limit (bytes ++ piece))) before after
 fed old new piece before after ok c bytes so =
     let s = settled new.limit new.count new.header new.held new.stop ok.held in
-    let stands : new ≡ standing_after old (still old piece) = sym s.0 ∙ sym c.stands in
-    let g = reading_goes_on old.limit piece bytes in (
-      stands ∙ ap (λ (d : Standing). standing_after d (still d piece)) so ∙ sym g.0 ∙ ap (λ (n : ℕ). standing n (reading n (bytes ++ piece))) (sym (ap (λ (d : Standing). d.limit) stands)),
-      (parts_of (still old piece), g.1 ∙ ap (λ (d : Standing). parts_of (reading old.limit bytes) ++ parts_of (still d piece)) (sym so), sym (rw (s.1, append-nil after) at c.parts)),
-    )
+    grind (arith, s, c.stands, c.parts, reading_goes_on old.limit piece bytes, append-nil after)
