@@ -1,8 +1,8 @@
 -- What is read of bytes is a prefix, and is spelled so.
-use Rattle.gr_model.proofs.Common.{◌≡◌, ℕ, zero, suc, ◌<◌, ◌≤◌, Bool, true, false, List, [], ◌∷◌, ◌++◌, length, take, drop, Result, Ok, Err, refl, sym, ap, ◌∙◌, append_assoc, arith, inl, inr, lt-ltb, le-ltb, cases_lt, cases_Bool, both_ways, take-append-drop, append-nil, length-take, get_or-take, get_or_past, take-take, nat_tests}
-use Rattle.gr_record.specs.Prelude.{Event, RecordError, Header, Stop, Inside, AtEnd, AtFault, HEADER_LENGTH, record_length, events_of, sited, all_sited, event_spelling, events_spelling, header_spelling, header_at, event_at, Records, records_at, step, records_of, AreBytes, close, under, read_from, Runs, IsReadingOf, ReadPrefixIsSpelled, Version}
+use Rattle.gr_model.proofs.Common.{◌≡◌, ℕ, zero, suc, ◌<◌, ◌≤◌, Bool, true, false, List, [], ◌∷◌, ◌++◌, length, take, drop, Ok, refl, ap, append_assoc, arith, take-append-drop, append-nil, length-take, get_or-take, get_or_past, take-take, nat_tests}
+use Rattle.gr_record.specs.Prelude.{Event, Header, Stop, Inside, AtEnd, AtFault, HEADER_LENGTH, record_length, events_of, sited, all_sited, events_spelling, header_at, event_at, Records, records_at, records_of, AreBytes, read_from, Runs, ReadPrefixIsSpelled, Version}
 use Rattle.gr_model.specs.Prelude.{is_end, is_complete}
-use Rattle.gr_record.proofs.Loop.{short, too_many, next}
+use Rattle.gr_record.proofs.Loop.{short}
 use Rattle.gr_record.proofs.Places.{bytes_drop}
 use Rattle.gr_record.proofs.Found.{read_is_spelled, read_header_is_spelled}
 

@@ -1,8 +1,8 @@
 -- What is read of more bytes, from what was read of fewer.
-use Rattle.gr_model.proofs.Common.{◌≡◌, ℕ, zero, suc, ◌-◌, ◌<◌, ◌≤◌, List, ◌++◌, length, take, drop, Result, refl, arith, inl, inr, cases_lt, take-append-le, drop-append-le, length-append, nat_tests}
+use Rattle.gr_model.proofs.Common.{◌≡◌, ℕ, zero, suc, ◌-◌, List, ◌++◌, length, take, drop, Result, arith, take-append-le, drop-append-le, length-append, nat_tests}
 use Rattle.std.proofs.Math.Nat.{suc-sub-suc, sub-zero}
-use Rattle.gr_record.specs.Prelude.{Event, RecordError, Stop, Inside, AtEnd, AtFault, Records, step, records_at}
-use Rattle.gr_record.proofs.Loop.{with_prefix, short, too_many, next}
+use Rattle.gr_record.specs.Prelude.{Event, RecordError, Stop, Inside, AtEnd, AtFault, Records, records_at}
+use Rattle.gr_record.proofs.Loop.{with_prefix, next}
 
 -- the records of bytes that others follow, where next is what is read of those that were left and the others
 abbrev pub grown : Stop → Records → (ℕ → Records) → List ℕ → Records

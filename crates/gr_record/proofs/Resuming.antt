@@ -1,7 +1,7 @@
 -- A decoder that goes on from what it kept reads what one reads that begins anew.
-use Rattle.gr_model.proofs.Common.{◌∙◌, ap, ◌≡◌, ℕ, ◌-◌, ◌≤◌, List, [], ◌∷◌, ◌++◌, map, length, take, drop, Some, None, Result, Ok, Err, refl, arith, inl, inr, lt-ltb, le-ltb, cases_lt, take-append-le, drop-append-le, length-append, map-append, append-nil, nat_tests}
+use Rattle.gr_model.proofs.Common.{ap, ◌≡◌, ℕ, ◌-◌, ◌≤◌, List, [], ◌∷◌, ◌++◌, map, length, take, drop, Some, None, Result, Ok, Err, refl, arith, take-append-le, drop-append-le, length-append, map-append, append-nil, nat_tests}
 use Rattle.std.proofs.Math.Nat.{sub-zero, zero-add}
-use Rattle.gr_record.specs.Prelude.{Event, RecordError, Header, Stop, Inside, HEADER_LENGTH, record_length, header_at, event_at, records_of, Reading, Standing, closed, under, read_from, reading, parts_of, standing, still, still_at, standing_after, FaultStays}
+use Rattle.gr_record.specs.Prelude.{Event, RecordError, Header, Stop, Inside, HEADER_LENGTH, record_length, header_at, event_at, records_of, Reading, closed, under, read_from, reading, parts_of, standing, still, standing_after, FaultStays}
 use Rattle.gr_record.specs.declared.part.Part.TheVariants as parts
 use Rattle.gr_record.proofs.Growing.{grown, records_grow}
 

@@ -1,7 +1,6 @@
 -- What is spelled is read: a header and the records of its stream.
-use Rattle.gr_model.proofs.Common.{nat_tests, ◌≡◌, ℕ, zero, suc, ◌≤◌, Bool, cond, List, [], ◌∷◌, ◌++◌, length, Ok, refl, sym, ap, ◌∙◌, append_assoc, arith, le-ltb, take_at, drop_at, length-append, append-nil}
-use Rattle.gr_record.specs.Prelude.{MOST_ITEMS_OF_A_GROUP, Header, Inside, AtEnd, HEADER_LENGTH, record_length, event_spelling, events_spelling, header_spelling, Sited, events_of, all_sited, event_at, site_at, Records, records_of, close, read_from, Runs, stop_after, SpelledPrefixIsRead}
-use Rattle.gr_model.specs.Prelude.{is_complete}
+use Rattle.gr_model.proofs.Common.{nat_tests, ◌≡◌, ℕ, zero, suc, ◌≤◌, List, [], ◌∷◌, ◌++◌, length, Ok, refl, sym, ap, ◌∙◌, append_assoc, arith, take_at, drop_at, length-append, append-nil}
+use Rattle.gr_record.specs.Prelude.{MOST_ITEMS_OF_A_GROUP, Header, record_length, event_spelling, events_spelling, Sited, events_of, all_sited, event_at, site_at, Records, records_of, read_from, Runs, stop_after, SpelledPrefixIsRead}
 use Rattle.gr_record.proofs.Places.{fields_and_names, header_items}
 use Rattle.gr_record.proofs.Loop.{short, next}
 use Rattle.gr_record.proofs.FoundPrefixes.{complete_behind}

@@ -1,5 +1,5 @@
 -- A decoder's steps: a whole header, a whole record, bytes that are kept, and the end of a piece.
-use Rattle.gr_model.proofs.Common.{◌≡◌, ◌≢◌, ℕ, ◌+◌, ◌-◌, ◌<◌, ◌≤◌, Bool, true, false, List, [], ◌∷◌, ◌++◌, length, Option, Some, None, Ok, Err, refl, sym, ap, ◌∙◌, append_assoc, arith, le-ltb, add-zero, add_assoc, one-add, take_at, drop_at, length-append, append-nil, nat_tests}
+use Rattle.gr_model.proofs.Common.{◌≡◌, ◌≢◌, ℕ, ◌+◌, ◌-◌, ◌<◌, ◌≤◌, Bool, List, [], ◌∷◌, ◌++◌, length, Option, Some, None, Ok, Err, refl, sym, ap, append_assoc, arith, take_at, drop_at, length-append, append-nil, nat_tests}
 use Rattle.gr_record.specs.Prelude.{Event, RecordError, Header, Part, Stop, Inside, AtFault, HEADER_LENGTH, record_length, header_at, event_at, step, records_of, closed, under, read_from, reading, parts_of, Standing, standing, StandsFor, still, standing_after, IsStanding, IsHeldOk, stop_behind, Continues, GrowsAs}
 use Rattle.gr_model.specs.Prelude.{is_end}
 use Rattle.gr_record.specs.declared.error.RecordError.TheVariants as errors

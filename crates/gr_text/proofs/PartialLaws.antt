@@ -1,14 +1,14 @@
 -- What bytes have before their first fault, as loops find it, and that their text is the text of that.
 use Rattle.gr_model.proofs.Common.{◌≡◌, ℕ, suc, ◌+◌, List, [], ◌++◌, length, map, Ok, Err, refl, sym, ap, ◌∙◌, append_assoc, arith, inl, inr, ◌⊎◌, zero, ◌∷◌, subst, flat_map, ◌==◌, cases_Bool, append-nil, nil_from_length, All-cons, All-nil}
 use Rattle.std.proofs.lemmas.List.Concat.{flat_map-append}
-use Rattle.gr_text.specs.Prelude.{Event, MOST_RECORDS, RecordError, Header, WholeStream, parts_in, stream_at, streams_at, streams_in, header_line, record_line, whole_line, front_at, lines_before, text_before_fault, WholeStreamsStandWhole, IsRefusedAtHeader, IsRefusedBehind, StandsBefore, RefusedIsToldUpToItsFault, IsWhole, bytes_of}
+use Rattle.gr_text.specs.Prelude.{MOST_RECORDS, RecordError, Header, WholeStream, parts_in, stream_at, streams_at, streams_in, header_line, record_line, whole_line, front_at, lines_before, text_before_fault, WholeStreamsStandWhole, IsRefusedAtHeader, IsRefusedBehind, StandsBefore, RefusedIsToldUpToItsFault, IsWhole, bytes_of}
 use Rattle.gr_record.specs.Prelude.{Records, records_of, AreBytes, events_spelling, header_spelling, all_sited, Sited, front_header_at, front_records_at, stream_spelling}
 use Rattle.gr_text.specs.Texts.{◌>>=◌}
 use Rattle.gr_record.specs.declared.fault.Fault.TheVariants as faults
 use Rattle.gr_record.proofs.FoundPrefixes.{events_sited, records_found}
 use Rattle.gr_model.specs.Prelude.{is_complete}
 use Rattle.gr_text.proofs.Streaming.{Found, stream_found, streams_text, header_found}
-use Rattle.gr_text.proofs.Steps.{at_place_err, at_place_ok, bind_err, map_err, map_ok, up_to_err}
+use Rattle.gr_text.proofs.Steps.{bind_err, map_err, map_ok, up_to_err}
 
 -- ---- what comes before the fault of one stream
 
@@ -47,14 +47,7 @@ module _ (place : ℕ) (bytes : List ℕ) (fits : AreBytes bytes) (p : ℕ) (e :
 
   stands_refused : stream_at place bytes ≡ Err (faults.Stream p e) → IsRefusedAtHeader e bytes (front_at bytes).lines ⊎ IsRefusedBehind e bytes (front_at bytes).lines
   unfolding stream_at
-  stands_refused k =
-      elim (bind_err {X = Header × List ℕ} _ _ (faults.Stream p e) k) [
-        | inl refused ↦ rw (at_place_err place (front_header_at bytes) p e refused).1 (inl (refl, refl))
-        | inr read ↦
-            let head = at_place_ok place (front_header_at bytes) read.0 read.1 in
-            let records = at_place_err place (front_records_at read.0.0 read.0.1) p e (map_err {X = List Event × List ℕ} _ _ (faults.Stream p e) read.2) in
-            rw head (inr (refused_behind read.0.0 read.0.1 head records.1))
-      ]
+  stands_refused k = grind (arith, refused_behind)
 
 -- ---- and of all streams
 

@@ -28,12 +28,6 @@ map_ok (Err d) f y e = absurd cc
 pub map_err : {X Y : Type 0} (r : Result X Fault) (f : X → Y) (d : Fault) → (r >>= λ x. Ok (f x)) ≡ Err d → r ≡ Err d
 map_err r f d e = grind arith
 
-pub at_place_ok : {X : Type 0} (place : ℕ) (r : Result X RecordError) (x : X) → at_place place r ≡ Ok x → r ≡ Ok x
-at_place_ok place r x e = grind arith
-
-pub at_place_err : {X : Type 0} (place : ℕ) (r : Result X RecordError) (p : ℕ) (d : RecordError) → at_place place r ≡ Err (faults.Stream p d) → (place ≡ p) × (r ≡ Err d)
-at_place_err place r p d e = grind arith
-
 -- records that no end follows are refused
 pub up_to_err : (stop : Stop) (events : List Event) (rest : List ℕ) (d : RecordError) → up_to stop events rest ≡ Err d → (is_at_end stop ≡ false) × (behind_end stop rest ≡ None)
 up_to_err stop events rest d e = grind arith

@@ -1,5 +1,5 @@
 -- The streams in a list of bytes, one after another, as a loop reads them.
-use Rattle.gr_model.proofs.Common.{◌≡◌, ℕ, zero, suc, ◌+◌, ◌<◌, ◌≤◌, true, false, List, [], ◌∷◌, ◌++◌, length, drop, Ok, refl, sym, ap, ap₂, subst, ◌∙◌, append_assoc, arith, inl, inr, IsTrue, All, nat_lt, ◌==◌, flat_map, ltb-false, cases_Bool, eqb-true, append-nil, get_or-append-add, take-append-drop, length-append, nil_from_length, All-cons, All-nil, flat_map-map}
+use Rattle.gr_model.proofs.Common.{◌≡◌, ℕ, zero, suc, ◌+◌, ◌<◌, ◌≤◌, true, false, List, [], ◌∷◌, ◌++◌, length, drop, Ok, refl, sym, ap, ap₂, subst, ◌∙◌, append_assoc, arith, inl, inr, IsTrue, IfOk, All, nat_lt, ◌==◌, flat_map, ltb-false, cases_Bool, eqb-true, append-nil, get_or-append-add, take-append-drop, length-append, nil_from_length, All-cons, All-nil, flat_map-map}
 use Rattle.gr_text.specs.Prelude.{Event, MOST_RECORDS, Header, HEADER_LENGTH, header_line, record_line, whole_line, WholeStream, stream_at, streams_at, formed, parts_in, Text, IsWhole, bytes_of, text_of, DumpedAreStreams}
 use Rattle.gr_model.specs.Prelude.{is_complete}
 use Rattle.gr_record.specs.Prelude.{records_of, Runs, AreBytes, header_at, all_sited, IsHeader, header_spelling, events_spelling, front_header_at, front_records_at, stream_spelling}
@@ -7,7 +7,7 @@ use Rattle.gr_record.proofs.Found.{read_header_is_spelled}
 use Rattle.gr_record.proofs.FoundPrefixes.{records_found, events_sited}
 use Rattle.gr_record.proofs.Numbers.{one_left}
 use Rattle.gr_record.proofs.Places.{bytes_drop}
-use Rattle.gr_text.proofs.Steps.{bind_ok, map_ok, at_place_ok, no_more}
+use Rattle.gr_text.proofs.Steps.{bind_ok, map_ok, each_ok, no_more}
 use Rattle.std.proofs.lemmas.List.Concat.{flat_map-append}
 
 -- ---- what is read is spelled so
@@ -63,21 +63,9 @@ pub record StreamFound (bytes : List ℕ) (x : Found) : Type 0 where
 pub stream_found : (place : ℕ) (bytes : List ℕ) → AreBytes bytes → (x : Found) → stream_at place bytes ≡ Ok x → StreamFound bytes x
 unfolding stream_at
 stream_found place bytes fits x e =
-    let head = bind_ok {X = Header × List ℕ} _ _ x e in
-    let h = head.0.0 in
-    let mid = head.0.1 in
-    let records = map_ok {X = List Event × List ℕ} _ _ x head.2 in
-    let es = records.0.0 in
-    let after = records.0.1 in
-    let rs = all_sited h.version es mid in
-    let hf = header_found bytes fits h mid (at_place_ok place (front_header_at bytes) head.0 head.1) in
-    let ef = events_found h mid hf.fits es after (at_place_ok place (front_records_at h mid) records.0 records.1) in
-    subst (StreamFound bytes) records.2 (record {
-      whole = record { prefix = record { header = hf.header; runs = ef.runs; few = ef.few }; ended = ap is_complete (events_sited h.version es mid) ∙ ef.ended };
-      spelled = hf.parts ∙ ap (λ (v : List ℕ). header_spelling h ++ v) ef.parts ∙ sym (append_assoc (header_spelling h) (events_spelling h.version rs) after);
-      fits = ef.fits;
-      shorter = omega (arith, ap length hf.parts, ap length ef.parts, length-append (header_spelling h) mid, length-append (events_spelling h.version rs) after);
-    })
+    let head : IfOk (front_header_at bytes) (λ y. HeaderFound bytes y.0 y.1) = each_ok _ _ (λ y is. header_found bytes fits y.0 y.1 is) in
+    let records = λ (h : Header) (mid : List ℕ) (found : HeaderFound bytes h mid). each_ok (front_records_at h mid) (λ y. RecordsFound h mid y.0 y.1) (λ y is. events_found h mid found.fits y.0 y.1 is) in
+    grind (arith, head, records, events_sited, append_assoc, length-append)
 
 -- ---- all whole streams
 
