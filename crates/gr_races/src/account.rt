@@ -8,7 +8,7 @@ ghost use Rattle.gr_places.specs.PlaceIndexes.{number_at};
 ghost use Rattle.gr_places.specs.SideLines.{place_number};
 ghost use Rattle.gr_places.specs.Sides.{sides_said};
 ghost use Rattle.gr_races.specs.Kinds.{tag_at};
-ghost use Rattle.gr_races.specs.Accounts.{AreOthers, IsAccount, IsAccountOf, account_said, others_of};
+ghost use Rattle.gr_races.specs.Accounts.{AreOthers, IsAccount, IsAccountOf, account_said};
 
 use crate::between::{Between, between_of};
 use crate::cause::{Cause, cause_of};
@@ -46,24 +46,6 @@ pub struct Account<A: Allocator = Global> {
     pub others: Vec<KindedRace, A>,
 }
 
-/// Those of these races that are not of two events' tags, or that are of two groups while the two events are of one.
-fn others_of<A: Allocator>(
-    alloc: A,
-    rows: &[KindedRace],
-    tag: u128,
-    other: u128,
-    one_group: bool,
-) -> Result<Vec<KindedRace, A>, Memory>
-    ensures { IfOk result (λ others. others.items ≡ others_of rows.now tag other one_group) }
-{
-    let others = rows
-        .iter()
-        .copied()
-        .filter(|row| { !row.kind.is_of(tag, other) || (one_group && !row.kind.one_group) })
-        .collect(alloc)?;
-    Ok(others)
-}
-
 /// Those races of a word, one for each two tags, that are not of two events' tags, or that are of two groups while the two events are of
 /// one, with their kinds.
 fn other_races<A: Allocator + Copy>(
@@ -77,7 +59,13 @@ fn other_races<A: Allocator + Copy>(
 {
     let rows = ordered_rows(alloc, tags.records, tags.index, races, &[])?;
     let one_group = first.at.group == second.at.group;
-    others_of(alloc, &rows, tags.tag(first), tags.tag(second), one_group)
+    let (tag, other) = (tags.tag(first), tags.tag(second));
+    let others = rows
+        .iter()
+        .copied()
+        .filter(|row| { !row.kind.is_of(tag, other) || (one_group && !row.kind.one_group) })
+        .collect(alloc)?;
+    Ok(others)
 }
 
 /// The account of the least racing pair of a word, which has these races, one for each two tags.

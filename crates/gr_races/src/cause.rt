@@ -71,6 +71,7 @@ fn is_mended(judgement: Judgement) -> bool
 }
 
 /// The cause of a race in a launch with these records, if it is known which relaxed rules make it no race.
+#[tactic(auto, using(gr_steps::proofs::EventRecords::group_of_event, gr_steps::proofs::EventRecords::item_of_event))]
 fn cause_from<A: Allocator>(lanes: &Lanes<A>, race: &Race, by_flags: bool, by_scope: bool) -> Cause
     requires pair { IsPairOf lanes.now.streams race.now }
     requires prefixes { ArePrefixes lanes.now.streams }

@@ -95,11 +95,11 @@ module _ (list : List Event) (x : Event) (w : Word) (g : ℕ) (old new : List (E
         let event = element_stays (is_of e.at.item) list x e.index other in
         let number = place_stays (is_of e.at.item) list x e.index other in
         let kept = kept_other e (λ on same. let item = ap (λ (d : EventId). d.at.item) same in
-            other (grind (arith, eq-eqb x.item e.at.item item, access_is_of x.kind _ w on)) (sym (ap (λ (d : EventId). d.index) same) ∙ ap (λ i. length (filter (is_of i) list)) item)) keeps in
+        other (grind (arith, eq-eqb x.item e.at.item item, access_is_of x.kind _ w on)) (sym (ap (λ (d : EventId). d.index) same) ∙ ap (λ i. length (filter (is_of i) list)) item)) keeps in
         rw kept (still_known list longer w e (details_at old e) event (⊎_elim
-            (λ lt. rw (event, number, first_stay (is_of e.at.item) list x e.index lt) refl)
-            (λ past. rw (event, slice_get_past trace e.index past) refl)
-            (cases_lt e.index (length trace))) known)
+        (λ lt. rw (event, number, first_stay (is_of e.at.item) list x e.index lt) refl)
+        (λ past. rw (event, slice_get_past trace e.index past) refl)
+        (cases_lt e.index (length trace))) known)
 
     module _ (mine : is_of e.at.item x ≡ true) where
       item : x.item ≡ e.at.item

@@ -14,7 +14,7 @@ filter_has test [] i x at passes = cc
 filter_has test (y ∷ xs) zero x at passes = let same : y ≡ x = cc in (0, rw (same, passes) refl)
 filter_has {X} test (y ∷ xs) (suc i) x at passes =
     let p = filter_has test xs i x at passes in
-    elim (test y) as (λ b. (q : ℕ) × (slice_get (cond b (y ∷ filter test xs) (filter test xs)) q ≡ Some x)) [ | true ↦ (suc p.0, p.1) | false ↦ p ]
+    elim (test y) as (λ b. (q : ℕ) × (slice_get (cond b (y ∷ filter test xs) (filter test xs)) q ≡ Some x)) [ true ↦ (suc p.0, p.1) | false ↦ p ]
 
 module _ {X : Type 0} (P : X → Type 0) (xs those : List X) (are : AreThose P xs those) where
   -- just the elements of the list for which it holds are among those

@@ -34,6 +34,7 @@ impl<A: Allocator> WhyHeld<A> {
 }
 
 /// Why an event of a launch is held, if it is, in a launch whose grounded events are known.
+#[tactic(auto, using(crate::proofs::WhyLemmas::grounded_there))]
 fn why_in<A: Allocator + Copy>(
     alloc: A,
     judged: &Judged<A>,
