@@ -3,10 +3,8 @@ use Rattle.gr_model.proofs.Common.{◌≡◌, ◌==◌, eqb, if◌then◌else◌
 use Rattle.std.specs.Map.{lookup}
 use Rattle.std.specs.Option.{option_eq}
 use Rattle.indexmap.specs.IndexMap.{insert_entry}
-use Rattle.gr_model.specs.declared.event.EventId.{EventId}
-use Rattle.gr_model.specs.declared.event.ItemId.{ItemId}
+use Rattle.gr_explain.specs.Types.{EventId, ItemId, Class}
 use Rattle.gr_model.specs.contracts.event.ItemIdPartialEq.TheImpl as equality
-use Rattle.gr_model.specs.declared.class.Class.{Class}
 use Rattle.gr_model.specs.Prelude.{exempt}
 use Rattle.gr_clocks.proofs.RowLemmas.{same_items}
 use Rattle.gr_shadow.specs.Clashes.{ClockedAccess}

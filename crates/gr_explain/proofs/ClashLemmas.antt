@@ -1,8 +1,6 @@
 -- The accesses to a word in a list and those of them that clash, where one more comes.
 use Rattle.gr_model.proofs.Common.{◌≡◌, ◌⊎◌, ◌<◌, true, List, [], ◌∷◌, ◌++◌, length, Some, slice_get, refl, sym, ap, ◌∙◌, inl, inr, ⊎_elim, arith, length-append, Contains-append_left, Contains-push, Contains-push_cases, get_or_from_slice_get, slice_get_within}
-use Rattle.gr_model.specs.declared.class.Class.{Class}
-use Rattle.gr_model.specs.declared.event.EventId.{EventId}
-use Rattle.gr_model.specs.declared.event.Word.{Word}
+use Rattle.gr_explain.specs.Types.{Class, EventId, Word}
 use Rattle.gr_model.specs.Prelude.{Pair}
 use Rattle.gr_model.proofs.Places.{Contains-at, slice_get-append}
 use Rattle.gr_shadow.specs.Clashes.{ClockedAccess, IsClashIn, clashes_with, event_of}

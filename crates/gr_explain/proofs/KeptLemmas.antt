@@ -1,11 +1,9 @@
 -- What is kept of the wanted events, where one more access comes, and along all grounded events.
 use Rattle.gr_model.proofs.Common.{◌≡◌, ◌≢◌, ◌⊎◌, true, false, cond, Contains, List, [], ◌∷◌, ◌++◌, Option, Some, None, slice_get, sym, ap, ◌∙◌, subst, arith, inl, inr, ⊎_elim, zero, suc, ℕ, cases_Bool, Contains-append_left, Contains-push, Contains-push_cases}
-use Rattle.gr_model.specs.declared.event.EventId.{EventId}
-use Rattle.gr_model.specs.declared.race.Race.{Race}
+use Rattle.gr_explain.specs.Types.{EventId, Race, Access}
 use Rattle.gr_model.specs.Prelude.{IsIn, IsWholeOrder, Streams, word_at}
 use Rattle.gr_model.proofs.Cuts.{same_event as from_parts}
 use Rattle.gr_model.proofs.Descent.{lawful_is_grounded}
-use Rattle.gr_clocks.specs.declared.access.Access.{Access}
 use Rattle.gr_clocks.specs.ClockedAccess.{ClockedAccess, bare, clocked}
 use Rattle.gr_closure.specs.Accesses.{IsAccess}
 use Rattle.gr_closure.specs.AccessesAlong.{AreAccesses, of_none, of_access, of_other}

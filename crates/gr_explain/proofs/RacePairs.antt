@@ -1,7 +1,6 @@
 -- The racing pairs of a word, and the clashes of the accesses along a lawful order of all grounded events.
 use Rattle.gr_model.proofs.Common.{arith, ◌≡◌, ◌<◌, Contains, List, Option, Some, None, MatchOption, sym, ap, ◌∙◌, inl, inr, refl, ⊎_elim, cases_order}
-use Rattle.gr_model.specs.declared.event.EventId.{EventId}
-use Rattle.gr_model.specs.declared.event.Word.{Word}
+use Rattle.gr_explain.specs.Types.{EventId, Word, Access}
 use Rattle.gr_model.specs.Prelude.{IsWholeOrder, IsRacePair, Pair, IsRace, IsRacy, RacesInOrder, Streams, word_at, IsGrounded}
 use Rattle.gr_model.proofs.HitsAreRaces.{may_race_swaps}
 use Rattle.gr_model.proofs.Places.{Contains-at}
@@ -9,7 +8,6 @@ use Rattle.gr_model.proofs.RacePairLaws.{race_swap}
 use Rattle.gr_clocks.specs.ClockedAccess.{ClockedAccess, bare, clocked}
 use Rattle.gr_closure.specs.Accesses.{IsAccess}
 use Rattle.gr_closure.proofs.Adding.{bare_access}
-use Rattle.gr_clocks.specs.declared.access.Access.{Access}
 use Rattle.gr_explain.specs.Judged.{ClashOn}
 use Rattle.gr_closure.specs.AccessesAlong.{AreAccesses}
 use Rattle.gr_closure.proofs.Pairing.{clashes_are_race_pairs}

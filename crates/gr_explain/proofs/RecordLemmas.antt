@@ -1,7 +1,6 @@
 -- Where the records of each item are, and the events that they are.
 use Rattle.gr_model.proofs.Common.{◌≡◌, ◌+◌, ◌<◌, ◌≤◌, ℕ, zero, suc, Bool, true, cond, List, [], ◌∷◌, ◌++◌, Option, Some, None, append-nil, arith, ap, filter, get_or, length, refl, slice_get, sym, take, ◌∙◌, ◌⊎◌, subst, inl, inr, ⊎_elim, ◌==◌, not, HoldsAt, MatchOption, Bor, option_copied, and_parts, cases_lt, eqb-true, slice_get-get_or, slice_get_past, get_or_past, length-take-le, take_more}
-use Rattle.gr_model.specs.declared.event.Event.{Event}
-use Rattle.gr_model.specs.declared.event.EventId.{EventId}
+use Rattle.gr_explain.specs.Types.{Event, EventId}
 use Rattle.gr_model.specs.Prelude.{is_end, AreGood, Streams, event_at, is_of, list_of, places_from, size_of}
 use Rattle.gr_model.proofs.Places.{places_from-append}
 use Rattle.gr_explain.specs.Records.{AreIndicesOf, IsIndexOf}

@@ -1,15 +1,12 @@
 -- What a search keeps of the accesses to a word, after one more.
 use Rattle.gr_model.proofs.Common.{arith, ◌≡◌, ◌≢◌, ◌⊎◌, ◌↔◌, true, false, Contains, ℕ, ◌<◌, List, [], ◌∷◌, ◌++◌, length, get_or, slice_set, Some, refl, sym, ap, ◌∙◌, inl, inr, ⊎_elim, Contains-append_left, Contains-push, Contains-push_cases}
-use Rattle.gr_model.specs.declared.event.EventId.{EventId}
-use Rattle.gr_model.specs.declared.event.Word.{Word}
+use Rattle.gr_explain.specs.Types.{EventId, Word, Class, Search}
 use Rattle.gr_model.specs.Prelude.{Pair}
-use Rattle.gr_model.specs.declared.class.Class.{Class}
 use Rattle.gr_shadow.specs.Clashes.{ClockedAccess, event_of}
 use Rattle.gr_explain.specs.ClashPairs.{IsClashPair}
 use Rattle.gr_explain.specs.LeastRaces.{IsLeastOf}
 use Rattle.gr_explain.specs.Search.{IsPairOf, IsSeen, IsSeenMore, StandsFor}
 use Rattle.gr_explain.specs.Seen.{IsAmong, IsPairWith, SeenList}
-use Rattle.gr_explain.specs.declared.search.Search.{Search}
 use Rattle.gr_explain.proofs.ClashLemmas.{clash_added, clash_was, new_is_of, of_cases, still_of, still_pair}
 use Rattle.gr_explain.proofs.Lists.{set_has, set_still, set_was}
 use Rattle.gr_explain.proofs.PairOrder.{least_same, least_then}

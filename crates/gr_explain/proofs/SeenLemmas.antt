@@ -4,8 +4,7 @@ use Rattle.gr_model.proofs.Common.{◌↔◌, ◌≡◌, ◌≢◌, ◌⊎◌, �
 use Rattle.std.specs.BTreeMap.{is_at}
 use Rattle.std.proofs.lemmas.Map.Keys.{sorted_head, sorted_tail}
 use Rattle.std.specs.List.Sorted.{IsStrictlySortedBy}
-use Rattle.gr_model.specs.declared.event.EventId.{EventId}
-use Rattle.gr_model.specs.declared.event.ItemId.{ItemId}
+use Rattle.gr_explain.specs.Types.{EventId, ItemId}
 use Rattle.gr_model.specs.contracts.event.ItemIdOrd.TheImpl as item_order
 use Rattle.gr_model.specs.Prelude.{IsTurned, Pair, EventBelow}
 use Rattle.gr_clocks.specs.Rows.{same_item}

@@ -2,17 +2,12 @@
 use Rattle.gr_model.proofs.Common.{◌≡◌, ◌≢◌, ◌⊎◌, ℕ, zero, suc, ◌<◌, Bool, true, false, Contains, List, [], ◌∷◌, ◌++◌, length, get_or, slice_set, Some, None, arith, refl, sym, ap, ◌∙◌, subst, inl, inr, ⊎_elim, list_any, nat_tests, cases_eq, common_steps, get_or-set_other, get_or-set_same, get_or_default, length-set, Contains-append_cases, Contains-append_left, Contains-append_right, Contains-get_or, Contains-push, Contains-push_cases, list_any-append}
 use Rattle.std.specs.List.{position}
 use Rattle.std.proofs.lemmas.List.Quantifiers.{all_pairs_push}
-use Rattle.gr_model.specs.declared.event.EventId.{EventId}
-use Rattle.gr_model.specs.declared.event.Word.{Word}
-use Rattle.gr_model.specs.declared.class.Class.{Class}
-use Rattle.gr_model.specs.declared.race.Race.{Race}
+use Rattle.gr_explain.specs.Types.{EventId, Word, Class, Race, TaggedRace, TagPairs}
 use Rattle.gr_clocks.proofs.RowLemmas.{same_item_self}
 use Rattle.gr_shadow.specs.Clashes.{ClockedAccess, event_of}
 use Rattle.gr_shadow.proofs.KeepsLemmas.{find_is, finds as contains_any}
 use Rattle.gr_explain.specs.Alike.{AlikeEvents, IsInPlaceOf, KeepsEvents, are_of_groups, is_sought}
 use Rattle.gr_explain.specs.TagPairs.{Finds, IsFound, IsFoundAmong, IsFoundIn, IsKeptIn, IsOfTag, IsTaggedClash, IsPreferred, IsThat, KeepsMore, StandsForTags, has_tags, is_of_tags, is_so}
-use Rattle.gr_explain.specs.declared.tag_pairs.TaggedRace.{TaggedRace}
-use Rattle.gr_explain.specs.declared.tag_pairs.TagPairs.{TagPairs}
 use Rattle.gr_explain.proofs.AlikeLemmas.{found_none, in_place_of_both, in_place_of_itself, later_clashes, sought}
 use Rattle.gr_explain.proofs.ClashLemmas.{IsNewClash, clash_added, clash_was, new_is_of, of_cases, still_of, still_pair}
 use Rattle.gr_explain.proofs.Lists.{any_there, set_has, set_still, set_was}

@@ -1,9 +1,7 @@
 -- The races of words, one for each two tags, from what is kept of the accesses along a lawful order of all grounded events.
 use Rattle.gr_model.proofs.Common.{◌<◌, length, ◌≡◌, ◌⊎◌, ℕ, suc, Bool, true, false, All, AllPairs, Contains, List, [], ◌∷◌, ◌++◌, arith, get_or, map, sym, ◌∙◌, subst, inl, inr, ⊎_elim, nat_tests, get_or-map, length-map, All-append, All-contains, All-map, All-weaker, Contains-append_left, Contains-append_right, Contains-get_or}
 use Rattle.std.proofs.lemmas.List.Kept.{AllPairs-cons}
-use Rattle.gr_model.specs.declared.event.EventId.{EventId}
-use Rattle.gr_model.specs.declared.event.Word.{Word}
-use Rattle.gr_model.specs.declared.race.Race.{Race}
+use Rattle.gr_explain.specs.Types.{EventId, Word, Race, TaggedRace, TagPairs}
 use Rattle.gr_model.specs.Prelude.{IsWholeOrder, IsRacePair, TagsRace, WordBelow, Streams}
 use Rattle.gr_closure.specs.AccessesAlong.{AreAccesses}
 use Rattle.gr_shadow.specs.Clashes.{ClockedAccess}
@@ -11,8 +9,6 @@ use Rattle.gr_shadow.proofs.KeepsLemmas.{Contains-first, Contains-rest}
 use Rattle.gr_explain.specs.TagPairs.{HaveOtherTags, IsTaggedClash, StandsForTags, is_of_tags, is_so}
 use Rattle.gr_explain.specs.TagRaces.{AreOfTwoGroups, AreTagRaces, HasRaceOfTags, IsApart}
 use Rattle.gr_explain.specs.WordPairs.{StandForWords, races_at}
-use Rattle.gr_explain.specs.declared.tag_pairs.TaggedRace.{TaggedRace}
-use Rattle.gr_explain.specs.declared.tag_pairs.TagPairs.{TagPairs}
 use Rattle.gr_explain.proofs.Lists.{any_there, first_or_rest, mapped_there}
 use Rattle.gr_explain.proofs.RacePairs.{clash_is_race, race_is_clash}
 

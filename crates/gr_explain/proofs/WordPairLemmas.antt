@@ -1,15 +1,13 @@
 -- The pairs of tags that race on each of some words, where one more access comes.
 use Rattle.gr_model.proofs.Common.{◌≡◌, ◌≢◌, ℕ, ◌+◌, ◌<◌, true, false, cond, Contains, List, [], ◌∷◌, ◌++◌, Some, None, get_or, length, take, refl, ⊎_elim, arith, cases_Bool, take_more, Contains-push_cases}
 use Rattle.std.specs.Map.{lookup}
-use Rattle.gr_model.specs.declared.event.EventId.{EventId}
-use Rattle.gr_model.specs.declared.event.Word.{Word}
+use Rattle.gr_explain.specs.Types.{EventId, Word, TagPairs}
 use Rattle.gr_model.specs.contracts.event.WordEq.TheImpl.Laws as equal
 use Rattle.gr_model.proofs.WordLemmas.{same_from_equal}
 use Rattle.gr_shadow.specs.Clashes.{ClockedAccess, event_of}
 use Rattle.gr_shadow.specs.Kept.{same_word}
 use Rattle.gr_explain.specs.TagPairs.{IsTagAdded, StandsForTags}
 use Rattle.gr_explain.specs.WordPairs.{HasPairs, StandForWords}
-use Rattle.gr_explain.specs.declared.tag_pairs.TagPairs.{TagPairs}
 use Rattle.gr_explain.proofs.TagPairLemmas.{other_stands_for_tags}
 
 apart : (v w : Word) → same_word v w ≡ false → v ≢ w

@@ -2,10 +2,8 @@
 -- Source: docs/MODEL.md, "Steps" and "Clocks".
 use Rattle.std.specs.Prelude.{◌≡◌, ◌≢◌, Contains, List, Option, None, Some}
 use Rattle.std.specs.Map.{lookup}
-use Rattle.gr_model.specs.declared.event.EventId.{EventId}
-use Rattle.gr_model.specs.declared.race.Race.{Race}
+use Rattle.gr_explain.specs.Types.{EventId, Race, Access}
 use Rattle.gr_model.specs.Prelude.{Streams, word_at, IsGrounded}
-use Rattle.gr_clocks.specs.declared.access.Access.{Access}
 use Rattle.gr_clocks.specs.ClockedAccess.{ClockedAccess, clocked}
 use Rattle.gr_closure.specs.Accesses.{IsAccess}
 use Rattle.gr_shadow.specs.Clashes.{event_of}

@@ -1,9 +1,7 @@
 -- The accesses to a word that have one tag and one class.
 -- Source: docs/MODEL.md, "Hits". Tags are this project's own.
 use Rattle.std.specs.Prelude.{◌≡◌, ◌≤◌, ◌==◌, ◌&&◌, ◌||◌, ℕ, Bool, Contains, IfSome, if◌then◌else◌, List, [], Option, None, Some, nat_lt, not}
-use Rattle.gr_model.specs.declared.event.EventId.{EventId}
-use Rattle.gr_model.specs.declared.event.ItemId.{ItemId}
-use Rattle.gr_model.specs.declared.class.Class.{Class}
+use Rattle.gr_explain.specs.Types.{EventId, ItemId, Class}
 use Rattle.gr_shadow.specs.Clashes.{ClockedAccess, clashes_with, event_of}
 
 -- a tag, a class, and events of accesses that have them

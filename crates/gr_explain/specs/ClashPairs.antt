@@ -1,10 +1,8 @@
 -- The accesses to a word in a list, and the pairs of them that clash.
 -- Source: docs/MODEL.md, "Hits".
 use Rattle.std.specs.Prelude.{◌≡◌, Contains, List}
-use Rattle.gr_model.specs.declared.event.EventId.{EventId}
-use Rattle.gr_model.specs.declared.event.Word.{Word}
+use Rattle.gr_explain.specs.Types.{EventId, Word, Class}
 use Rattle.gr_model.specs.Prelude.{IsTurned, Pair, EventBelow}
-use Rattle.gr_model.specs.declared.class.Class.{Class}
 use Rattle.gr_shadow.specs.Clashes.{ClockedAccess, IsClashIn, event_of}
 
 -- an event of a class is that of an access to the word

@@ -2,13 +2,10 @@
 -- Source: docs/MODEL.md, "Races", "Hits" and "What waits for what".
 use Rattle.std.specs.Prelude.{◌≡◌, List, Some}
 use Rattle.std.specs.List.{AllZip}
-use Rattle.gr_model.specs.declared.event.EventId.{EventId}
-use Rattle.gr_model.specs.declared.event.Word.{Word}
-use Rattle.gr_model.specs.declared.race.Race.{Race}
+use Rattle.gr_explain.specs.Types.{EventId, Word, Race, Judgement}
 use Rattle.gr_model.specs.Prelude.{ClashesAt, Streams, word_at}
 use Rattle.gr_shadow.specs.Clashes.{ClockedAccess, clashes}
 use Rattle.gr_explain.specs.Judgements.{IsJudgement}
-use Rattle.gr_explain.specs.declared.judging.Judgement.{Judgement}
 
 -- an event accesses some word
 abbrev pub IsAccessing : Streams → EventId → Type 0

@@ -1,9 +1,7 @@
 -- Whether two events race on a word, where both are judged.
 -- Source: docs/MODEL.md, "Races" and "What waits for what".
-use Rattle.gr_model.specs.declared.event.EventId.{EventId}
-use Rattle.gr_model.specs.declared.event.Word.{Word}
+use Rattle.gr_explain.specs.Types.{EventId, Word, Judgement}
 use Rattle.gr_model.specs.Prelude.{IsRace, Streams, IsGrounded}
-use Rattle.gr_explain.specs.declared.judging.Judgement.{Judgement}
 use Rattle.gr_explain.specs.declared.judging.Judgement.TheVariants.{Held, Race, NoRace}
 
 -- neither is held

@@ -11,3 +11,4 @@ pub mod Alike
 pub mod TagPairs
 pub mod TagRaces
 pub mod WordPairs
+pub mod Types

@@ -1,15 +1,12 @@
 -- What a search keeps of the accesses to a word: their events by classes, and the least pair of them that clashes.
 -- Source: docs/MODEL.md, "Hits".
 use Rattle.std.specs.Prelude.{◌≡◌, ◌⊎◌, ◌↔◌, Contains, List, [], ◌∷◌, ◌++◌}
-use Rattle.gr_model.specs.declared.event.EventId.{EventId}
-use Rattle.gr_model.specs.declared.event.Word.{Word}
+use Rattle.gr_explain.specs.Types.{EventId, Word, Class, Search}
 use Rattle.gr_model.specs.Prelude.{Pair}
-use Rattle.gr_model.specs.declared.class.Class.{Class}
 use Rattle.gr_shadow.specs.Clashes.{ClockedAccess}
 use Rattle.gr_explain.specs.ClashPairs.{IsClashPair, IsOfList}
 use Rattle.gr_explain.specs.LeastRaces.{IsLeastOf}
 use Rattle.gr_explain.specs.Seen.{IsAmong, IsPairWith, SeenList}
-use Rattle.gr_explain.specs.declared.search.Search.{Search}
 
 -- an event of a class is one of these
 pub record IsSeen (classes : List SeenList) (e : EventId) (c : Class) : Type 0 where

@@ -2,12 +2,10 @@
 use Rattle.std.specs.Prelude.{◌≡◌, ◌<◌, ◌≤◌, ◌⊎◌, IsTrue, List, [], MatchOption, Option, Some}
 use Rattle.std.specs.List.{list_any}
 use Rattle.std.specs.BTreeMap.{is_at}
-use Rattle.gr_model.specs.declared.event.EventId.{EventId}
-use Rattle.gr_model.specs.declared.event.ItemId.{ItemId}
+use Rattle.gr_explain.specs.Types.{EventId, ItemId, Class}
 use Rattle.gr_model.specs.contracts.event.EventIdOrd.TheImpl as event_order
 use Rattle.gr_model.specs.contracts.event.ItemIdOrd.TheImpl as item_order
 use Rattle.gr_model.specs.Prelude.{IsTurned, Pair, EventBelow}
-use Rattle.gr_model.specs.declared.class.Class.{Class}
 use Rattle.gr_shadow.specs.Clashes.{ClockedAccess, clashes_with, event_of}
 
 -- the events of accesses of one class

@@ -2,16 +2,11 @@
 -- Source: docs/MODEL.md, "Hits". Tags are this project's own.
 use Rattle.std.specs.Prelude.{◌≡◌, ◌⊎◌, ◌∷◌, ◌++◌, ◌==◌, ◌&&◌, ◌||◌, ℕ, Bool, false, AllPairs, Contains, IsTrue, List, []}
 use Rattle.std.specs.List.{list_any}
-use Rattle.gr_model.specs.declared.event.EventId.{EventId}
-use Rattle.gr_model.specs.declared.event.Word.{Word}
+use Rattle.gr_explain.specs.Types.{EventId, Word, Class, Race, TaggedRace, TagPairs}
 use Rattle.gr_model.specs.Prelude.{HasTags, IsTurned, EventBelow}
-use Rattle.gr_model.specs.declared.class.Class.{Class}
-use Rattle.gr_model.specs.declared.race.Race.{Race}
 use Rattle.gr_shadow.specs.Clashes.{ClockedAccess, IsClashIn, event_of}
 use Rattle.gr_explain.specs.Alike.{AlikeEvents, IsInPlaceOf, are_of_groups, event_clashes, is_sought}
 use Rattle.gr_explain.specs.ClashPairs.{IsClashPair, IsOfList}
-use Rattle.gr_explain.specs.declared.tag_pairs.TaggedRace.{TaggedRace}
-use Rattle.gr_explain.specs.declared.tag_pairs.TagPairs.{TagPairs}
 
 -- ---- races with their tags
 

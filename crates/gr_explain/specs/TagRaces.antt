@@ -1,9 +1,7 @@
 -- The races of some words, one for each two tags that race on a word.
 -- Source: docs/MODEL.md, "Races". Tags are this project's own.
 use Rattle.std.specs.Prelude.{◌≡◌, ◌≢◌, ◌⊎◌, ℕ, Bool, List, All, AllPairs, Contains, IsTrue}
-use Rattle.gr_model.specs.declared.event.EventId.{EventId}
-use Rattle.gr_model.specs.declared.event.Word.{Word}
-use Rattle.gr_model.specs.declared.race.Race.{Race}
+use Rattle.gr_explain.specs.Types.{EventId, Word, Race}
 use Rattle.gr_model.specs.Prelude.{HasTags, IsRacePair, Pair, TagsRace, WordBelow, Streams}
 
 -- the events of a pair are of two work-groups

@@ -1,13 +1,10 @@
 -- The pairs of tags that race on each of some words.
 use Rattle.std.specs.Prelude.{◌≡◌, ℕ, List, [], ◌∷◌, ◌++◌, Contains, Option, None, Some, map}
 use Rattle.std.specs.Map.{lookup}
-use Rattle.gr_model.specs.declared.event.EventId.{EventId}
-use Rattle.gr_model.specs.declared.event.Word.{Word}
-use Rattle.gr_model.specs.declared.race.Race.{Race}
+use Rattle.gr_explain.specs.Types.{EventId, Word, Race, TagPairs}
 use Rattle.gr_shadow.specs.Clashes.{ClockedAccess}
 use Rattle.gr_shadow.specs.Kept.{same_word}
 use Rattle.gr_explain.specs.TagPairs.{StandsForTags}
-use Rattle.gr_explain.specs.declared.tag_pairs.TagPairs.{TagPairs}
 
 -- the pairs of a word are kept, and they are those of the accesses to it
 pub record HasPairs {Z : Type 0} (tag_of : EventId → ℕ) (accesses : List ClockedAccess) (entries : List (Word × TagPairs Z)) (w : Word) : Type 0 where

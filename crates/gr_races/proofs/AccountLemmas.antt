@@ -1,9 +1,7 @@
 -- A word has an account exactly if it is racy.
 use Rattle.gr_model.proofs.Common.{◌↔◌, ℕ, IsTrue, Option, None, Some, is_some, refl, sym, true≢false, option_map}
-use Rattle.gr_model.specs.declared.event.Word.{Word}
+use Rattle.gr_races.specs.Types.{Word, Placed, Account}
 use Rattle.gr_model.specs.Prelude.{IsRacy, Streams, IsGrounded}
-use Rattle.gr_places.specs.declared.places.Placed.{Placed}
-use Rattle.gr_races.specs.declared.account.Account.{Account}
 use Rattle.gr_races.specs.Accounts.{IsAccountOf, account_said}
 
 pub account_racy : {Z : Type 0} (s : Streams) (numbers : Placed → Option ℕ) (w : Word) (account : Option (Account Z)) → IsAccountOf s numbers w (option_map account_said account) → IsTrue (is_some account) ↔ IsRacy s (IsGrounded s) w

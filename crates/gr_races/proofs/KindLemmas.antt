@@ -4,23 +4,13 @@ use Rattle.std.proofs.Math.Bool.{beq}
 use Rattle.std.proofs.lemmas.List.Quantifiers.{all_pairs_push}
 use Rattle.std.proofs.lemmas.List.Sorted.{IsPermutation-filter_both}
 use Rattle.std.specs.List.{enumerate_from}
-use Rattle.gr_races.specs.declared.cause.Cause.{Cause}
+use Rattle.gr_races.specs.Types.{Cause, Event, EventId, Kind, Word, Race, Placed, KindedRace, Operation, PlacedOperation, RaceKind}
 use Rattle.gr_model.specs.Prelude.{event_word, word_if_access, word_in, IsRacy, AreRaces, Streams, event_at, word_at, IsGrounded}
-use Rattle.gr_model.specs.declared.event.Event.{Event}
-use Rattle.gr_model.specs.declared.event.EventId.{EventId}
-use Rattle.gr_model.specs.declared.event.Kind.{Kind}
 use Rattle.gr_model.specs.declared.event.Kind.TheVariants as kinds
-use Rattle.gr_model.specs.declared.event.Word.{Word}
 use Rattle.gr_model.specs.contracts.event.SpacePartialEq.TheImpl as spaces
-use Rattle.gr_model.specs.declared.race.Race.{Race}
 use Rattle.gr_places.specs.PlaceIndexes.{Indexed, Indexes, number_at}
 use Rattle.gr_places.specs.SideLines.{PlaceSaid, place_number}
-use Rattle.gr_places.specs.declared.places.Placed.{Placed}
 use Rattle.gr_places.specs.declared.places.Placed.TheVariants as of_places
-use Rattle.gr_races.specs.declared.kinds.KindedRace.{KindedRace}
-use Rattle.gr_races.specs.declared.kinds.Operation.{Operation}
-use Rattle.gr_races.specs.declared.kinds.PlacedOperation.{PlacedOperation}
-use Rattle.gr_races.specs.declared.kinds.RaceKind.{RaceKind}
 use Rattle.gr_races.specs.contracts.kinds.PlacedOperationPartialEq.TheImpl as placed
 use Rattle.gr_races.specs.contracts.kinds.RaceKindEq.TheImpl.Laws as equal
 use Rattle.gr_races.specs.Causes.{IsPairOf}

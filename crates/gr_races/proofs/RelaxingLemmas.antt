@@ -1,16 +1,11 @@
 -- If a rule is relaxed, lists that are accepted still are.
 use Rattle.gr_model.proofs.Common.{◌≡◌, ℕ, ◌<◌, ◌≤◌, ◌==◌, ◌&&◌, Bool, true, List, [], ◌∷◌, All, filter, length, map, Option, Some, None, option_and_then, option_map, slice_get, suc, refl, sym, ap, ◌∙◌, subst, arith, not, list_all, nat_tests, and_parts, slice_get-map, ext_get_or, length-map}
 use Rattle.std.proofs.Math.ListN.{get_or-map}
-use Rattle.gr_model.specs.declared.event.Event.{Event}
-use Rattle.gr_model.specs.declared.event.EventId.{EventId}
-use Rattle.gr_model.specs.declared.event.Kind.{Kind}
+use Rattle.gr_races.specs.Types.{Event, EventId, Kind, Word, Race, Relaxation}
 use Rattle.gr_model.specs.declared.event.Name.{Name}
 use Rattle.gr_model.specs.declared.event.Space.{Space}
-use Rattle.gr_model.specs.declared.event.Word.{Word}
-use Rattle.gr_model.specs.declared.race.Race.{Race}
 use Rattle.gr_model.specs.declared.limits.TheConstants.{MOST_RECORDS}
 use Rattle.gr_model.specs.Prelude.{event_word, is_acquire_kind, word_if_access, word_in, IsKindOk, IsNamingOk, is_end_kind, AreAccepted, AreGood, IsAccepted, IsGoodAt, Streams, event_at, is_complete, is_of, list_of, size_of, word_at}
-use Rattle.gr_races.specs.declared.relaxing.Relaxation.{Relaxation}
 use Rattle.gr_explain.specs.declared.judging.Judgement.TheVariants.{Race as AsRace}
 use Rattle.gr_explain.specs.Judged.{AreAccesses, AreJudgements}
 use Rattle.gr_races.specs.Causes.{IsPairOf}

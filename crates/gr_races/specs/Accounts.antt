@@ -1,20 +1,13 @@
 -- The least racing pair of a word, what its accesses are, what lies between them, the cause of their race, and the word's other races.
 -- Source: docs/OUTPUT.md, "explain --long".
 use Rattle.std.specs.Prelude.{◌≡◌, ◌∷◌, ◌==◌, ◌&&◌, ◌||◌, [], ℕ, Bool, List, MatchOption, Option, Some, filter, not}
-use Rattle.gr_model.specs.declared.event.EventId.{EventId}
-use Rattle.gr_model.specs.declared.event.Word.{Word}
-use Rattle.gr_model.specs.declared.race.Race.{Race}
+use Rattle.gr_races.specs.Types.{EventId, Word, Race, Placed, KindedRace, Cause, Account, Details}
 use Rattle.gr_model.specs.Prelude.{IsRacy, Streams, IsGrounded}
 use Rattle.gr_explain.specs.LeastRaces.{IsLeastRace}
 use Rattle.gr_explain.specs.TagRaces.{AreTagRaces}
-use Rattle.gr_places.specs.declared.places.Placed.{Placed}
-use Rattle.gr_races.specs.declared.kinds.KindedRace.{KindedRace}
 use Rattle.gr_races.specs.Kinds.{all_kinded, is_of_tags, tag_at}
 use Rattle.gr_races.specs.Listing.{in_order}
-use Rattle.gr_races.specs.declared.cause.Cause.{Cause}
 use Rattle.gr_races.specs.Causes.{IsCause}
-use Rattle.gr_races.specs.declared.account.Account.{Account}
-use Rattle.gr_timeline.specs.declared.details.Details.{Details}
 use Rattle.gr_races.specs.Between.{BetweenSaid, between_of, between_said}
 use Rattle.gr_timeline.specs.Details.{details_of}
 

@@ -3,14 +3,12 @@
 use Rattle.std.specs.Prelude.{ℕ, Bool, false, List, [], Option, None, drop, filter, filter_map, find, if◌then◌else◌, nat_lt, option_and_then, option_map, take, ◌==◌}
 use Rattle.std.specs.List.{enumerate_from, last_or, range_with_len}
 use Rattle.std.specs.Option.{option_map_or}
-use Rattle.gr_model.specs.declared.event.Event.{Event}
-use Rattle.gr_model.specs.declared.event.EventId.{EventId}
+use Rattle.gr_races.specs.Types.{Event, EventId, Details}
 use Rattle.gr_model.specs.declared.event.ItemId.{ItemId}
 use Rattle.gr_model.specs.Prelude.{is_acquire_kind, is_release, is_barrier, mark_of, Mark, Streams, event_at, places_from, trace_of}
 use Rattle.gr_races.specs.declared.between.Between.{Between}
 use Rattle.gr_races.specs.declared.between.Crossing.{Crossing}
 use Rattle.gr_races.specs.declared.between.DetailedEvent.{DetailedEvent}
-use Rattle.gr_timeline.specs.declared.details.Details.{Details}
 use Rattle.gr_timeline.specs.Details.{details_of, phase_of}
 
 -- ---- barriers

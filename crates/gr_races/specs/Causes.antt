@@ -2,15 +2,10 @@
 -- Source: docs/OUTPUT.md, "explain --long". Causes are this project's own.
 use Rattle.std.specs.Prelude.{◌≡◌, ◌≢◌, Bool, true, false, List, []}
 use Rattle.std.specs.List.{AllZip}
-use Rattle.gr_model.specs.declared.event.EventId.{EventId}
-use Rattle.gr_model.specs.declared.event.Word.{Word}
-use Rattle.gr_model.specs.declared.race.Race.{Race}
+use Rattle.gr_races.specs.Types.{EventId, Word, Race, Cause, Relaxation, BothFlags, DeviceScope}
 use Rattle.gr_model.specs.Prelude.{IsRacePair, IsRace, Streams}
 use Rattle.gr_explain.specs.Judgements.{AreJudged}
-use Rattle.gr_races.specs.declared.cause.Cause.{Cause}
 use Rattle.gr_races.specs.declared.cause.Cause.TheVariants.{Flags, Scope, Divergence, NoBarrier, NoHandOver}
-use Rattle.gr_races.specs.declared.relaxing.Relaxation.{Relaxation}
-use Rattle.gr_races.specs.declared.relaxing.Relaxation.TheVariants.{BothFlags, DeviceScope}
 use Rattle.gr_races.specs.Parting.{AreParted}
 use Rattle.gr_races.specs.Relaxing.{relaxed}
 

@@ -3,19 +3,11 @@
 use Rattle.std.specs.Prelude.{ℕ, ◌+◌, ◌*◌, Bool, ◌==◌, ◌&&◌, ◌||◌, is_some, nat_lt, if◌then◌else◌, Option, None, Some, option_and_then, option_map, List, slice_get}
 use Rattle.std.specs.List.{enumerate_from, filter_map}
 use Rattle.std.specs.Option.{option_map_or}
-use Rattle.gr_races.specs.declared.cause.Cause.{Cause}
+use Rattle.gr_races.specs.Types.{Cause, EventId, Kind, Race, Placed, KindedRace, Operation, PlacedOperation, RaceKind}
 use Rattle.gr_model.specs.Prelude.{memory_of, Streams, event_at}
-use Rattle.gr_model.specs.declared.event.EventId.{EventId}
-use Rattle.gr_model.specs.declared.event.Kind.{Kind}
 use Rattle.gr_model.specs.declared.event.Kind.TheVariants as kinds
-use Rattle.gr_model.specs.declared.race.Race.{Race}
-use Rattle.gr_places.specs.declared.places.Placed.{Placed}
 use Rattle.gr_places.specs.declared.places.Placed.TheVariants.{Event}
-use Rattle.gr_races.specs.declared.kinds.KindedRace.{KindedRace}
-use Rattle.gr_races.specs.declared.kinds.Operation.{Operation}
 use Rattle.gr_races.specs.declared.kinds.Operation.TheVariants.{Read, Write, Load, Store, Rmw}
-use Rattle.gr_races.specs.declared.kinds.PlacedOperation.{PlacedOperation}
-use Rattle.gr_races.specs.declared.kinds.RaceKind.{RaceKind}
 use Rattle.gr_races.specs.contracts.kinds.RaceKindPartialEq.TheImpl as equality
 
 -- what an access does, without its scope and its order

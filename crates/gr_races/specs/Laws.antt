@@ -2,16 +2,8 @@
 -- Source: docs/OUTPUT.md, "races" and "explain --long".
 use Rattle.std.specs.Prelude.{◌≡◌, ◌↔◌, false, ℕ, List, Option, All, AllPairs, Contains, IsTrue, map}
 use Rattle.std.specs.List.{list_any}
-use Rattle.gr_races.specs.declared.cause.Cause.{Cause}
-use Rattle.gr_model.specs.declared.event.EventId.{EventId}
-use Rattle.gr_model.specs.declared.event.Word.{Word}
-use Rattle.gr_model.specs.declared.race.Race.{Race}
+use Rattle.gr_races.specs.Types.{Cause, EventId, Word, Race, Placed, KindedRace, PlacedOperation, RaceKind, Relaxation}
 use Rattle.gr_model.specs.Prelude.{AreAccepted, Streams}
-use Rattle.gr_places.specs.declared.places.Placed.{Placed}
-use Rattle.gr_races.specs.declared.kinds.KindedRace.{KindedRace}
-use Rattle.gr_races.specs.declared.kinds.PlacedOperation.{PlacedOperation}
-use Rattle.gr_races.specs.declared.kinds.RaceKind.{RaceKind}
-use Rattle.gr_races.specs.declared.relaxing.Relaxation.{Relaxation}
 use Rattle.gr_races.specs.Causes.{IsCause, IsPairOf}
 use Rattle.gr_races.specs.Kinds.{all_kinded, by_tags, same_kind, tag_at, tag_of}
 use Rattle.gr_races.specs.Listing.{in_order, kinds_of}

@@ -8,3 +8,4 @@ pub mod Listing
 pub mod Accounts
 pub mod Shown
 pub mod Laws
+pub mod Types

@@ -2,11 +2,8 @@
 -- Source: docs/OUTPUT.md, "races".
 use Rattle.std.specs.Prelude.{if◌then◌else◌, List, [], ◌∷◌, ◌++◌, filter, map, not}
 use Rattle.std.specs.List.{list_any}
-use Rattle.gr_model.specs.declared.race.Race.{Race}
-use Rattle.gr_races.specs.declared.kinds.KindedRace.{KindedRace}
-use Rattle.gr_races.specs.declared.kinds.RaceKind.{RaceKind}
+use Rattle.gr_races.specs.Types.{Race, KindedRace, RaceKind, Run}
 use Rattle.gr_races.specs.declared.listing.KindEntry.{KindEntry}
-use Rattle.gr_races.specs.declared.runs.Run.{Run}
 use Rattle.gr_races.specs.Kinds.{is_alike, same_kind}
 use Rattle.gr_races.specs.Runs.{runs_of}
 

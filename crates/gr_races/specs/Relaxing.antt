@@ -1,15 +1,12 @@
 -- A launch with one of its rules relaxed: the same records, but for the flags of its barriers or the scopes of its atomics.
 -- Source: docs/OUTPUT.md, "explain --long". What is relaxed is this project's own.
 use Rattle.std.specs.Prelude.{Bool, true}
-use Rattle.gr_model.specs.declared.event.Event.{Event}
-use Rattle.gr_model.specs.declared.event.Kind.{Kind}
+use Rattle.gr_races.specs.Types.{Event, Kind, Relaxation, BothFlags, DeviceScope}
 use Rattle.gr_model.specs.declared.event.Kind.TheVariants.{Load, Store, Rmw, Barrier}
 use Rattle.gr_model.specs.declared.event.Scope.TheVariants.{Device}
 use Rattle.gr_model.specs.Prelude.{Streams}
 use Rattle.gr_model.specs.contracts.event.KindPartialEq.TheImpl as equality
 use Rattle.gr_taking.specs.Taken.{read_by}
-use Rattle.gr_races.specs.declared.relaxing.Relaxation.{Relaxation}
-use Rattle.gr_races.specs.declared.relaxing.Relaxation.TheVariants.{BothFlags, DeviceScope}
 
 -- what a record says if a rule is relaxed: the flags of a barrier name both memories, or an atomic access has device scope
 abbrev pub relaxed_kind : Relaxation → Kind → Kind

@@ -1,9 +1,8 @@
 -- Runs of words with consecutive numbers.
 -- Source: docs/OUTPUT.md, "races".
 use Rattle.std.specs.Prelude.{ℕ, ◌+◌, Bool, false, ◌==◌, ◌&&◌, if◌then◌else◌, List, [], ◌∷◌}
-use Rattle.gr_model.specs.declared.event.Word.{Word}
+use Rattle.gr_races.specs.Types.{Word, Run}
 use Rattle.gr_model.specs.declared.event.Word.TheVariants.{Global, Local}
-use Rattle.gr_races.specs.declared.runs.Run.{Run}
 -- the number of a word in its memory
 pub use Rattle.gr_places.specs.Naming.{number_of}
 

@@ -1,13 +1,10 @@
 -- What is shown of the races of a launch.
 -- Source: docs/OUTPUT.md, "races".
 use Rattle.std.specs.Prelude.{◌≡◌, ℕ, Bool, List, Option, length}
-use Rattle.gr_model.specs.declared.event.Word.{Word}
-use Rattle.gr_model.specs.declared.race.Race.{Race}
+use Rattle.gr_races.specs.Types.{Word, Race, Cause, Placed}
 use Rattle.gr_model.specs.Prelude.{IsRacy, AreRaces, Streams, IsGrounded}
 use Rattle.gr_explain.specs.TagRaces.{AreTagRaces}
-use Rattle.gr_races.specs.declared.cause.Cause.{Cause}
 use Rattle.gr_races.specs.Causes.{AreTold}
-use Rattle.gr_places.specs.declared.places.Placed.{Placed}
 use Rattle.gr_races.specs.Kinds.{all_kinded, tag_at}
 use Rattle.gr_races.specs.Listing.{Entry, entries, in_order}
 

@@ -1,16 +1,11 @@
 -- What is known of the events of a group, with one record more, and of those of all groups below a bound.
 use Rattle.gr_model.proofs.Common.{◌≡◌, ℕ, ◌+◌, ◌<◌, Bool, true, false, List, [], ◌∷◌, ◌++◌, length, filter, slice_get, refl, ap, ◌∙◌, arith, if◌then◌else◌, Some, option_map, sym, ◌≢◌, ◌≤◌, ◌==◌, not, Option, None, take, subst, inl, inr, ⊎_elim, eqb-true, true≢false, get_or, filter-append, common_steps, gets, is_some, slice_get-get_or, slice_get_past, slice_get_read, slice_get_within, length_push, take-append-le, length-take-le, take_more, take-append_seam, and_parts, cases_Bool, cases_eq, cases_lt, eq-eqb, false_from_ne_true}
-use Rattle.gr_model.specs.declared.event.Event.{Event}
+use Rattle.gr_timeline.specs.Types.{Event, MOST_RECORDS, Count, EventId, Word, Details}
 use Rattle.gr_model.specs.Prelude.{is_of, list_of, places_from, trace_of, IsAccepted, IsEvent, Streams, is_barrier, event_word, word_if_access, is_end, is_end_kind}
 use Rattle.gr_model.proofs.ListsOfRecords.{length-filter_le}
 use Rattle.gr_lanes.proofs.IndexLemmas.{filter_more, length-places, places_more}
-use Rattle.gr_model.specs.declared.limits.TheConstants.{MOST_RECORDS}
-use Rattle.gr_timeline.specs.declared.counting.Count.{Count}
 use Rattle.gr_timeline.specs.Counting.{AreCounts, IsSmall, after_record, counted}
-use Rattle.gr_model.specs.declared.event.EventId.{EventId}
 use Rattle.gr_model.specs.declared.event.Kind.{Kind}
-use Rattle.gr_model.specs.declared.event.Word.{Word}
-use Rattle.gr_timeline.specs.declared.details.Details.{Details}
 use Rattle.gr_timeline.specs.Accesses.{details_at, IsKnown}
 use Rattle.gr_timeline.specs.Details.{details_of, event_in, number_in, phase_in, told_from, told_in}
 use Rattle.gr_explain.specs.Events.{same_event}

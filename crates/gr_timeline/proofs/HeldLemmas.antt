@@ -5,16 +5,13 @@ use Rattle.std.specs.Map.{keys_of}
 use Rattle.std.specs.Set.{IsDifference, IsIntersection, is_member}
 use Rattle.std.proofs.lemmas.List.Kept.{AllPairs-filter}
 use Rattle.std.proofs.lemmas.Map.Views.{Contains-from_any, list_any-from_Contains}
-use Rattle.gr_model.specs.declared.event.EventId.{EventId}
-use Rattle.gr_model.specs.declared.event.Word.{Word}
+use Rattle.gr_timeline.specs.Types.{EventId, Word, Details, Entry}
 use Rattle.gr_model.specs.Prelude.{IsIn, Streams, IsGrounded}
 use Rattle.gr_model.proofs.Places.{Contains-at}
-use Rattle.gr_timeline.specs.declared.details.Details.{Details}
 use Rattle.gr_explain.specs.Events.{same_event}
 use Rattle.gr_explain.proofs.Sets.{event_from_equal}
 use Rattle.gr_timeline.specs.Accesses.{AreAccesses, IsKnown, IsOn, details_at}
 use Rattle.gr_timeline.specs.Held.{AreHeld}
-use Rattle.gr_timeline.specs.declared.entry.Entry.{Entry}
 use Rattle.gr_model.proofs.Descent.{lawful_is_grounded}
 use Rattle.gr_timeline.specs.Histories.{IsHistory, Line, events_of, lines_of}
 use Rattle.gr_timeline.proofs.SelectionLemmas.{those_have, those_once, those_within, length_below}

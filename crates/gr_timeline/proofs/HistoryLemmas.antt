@@ -1,7 +1,6 @@
 -- The history of a word, of the accesses along a lawful order of all grounded events.
 use Rattle.gr_model.proofs.Common.{◌≡◌, ◌≢◌, ◌↔◌, ◌<◌, ℕ, zero, suc, Bool, true, false, List, [], ◌∷◌, ◌++◌, Option, Some, None, append-nil, append_assoc, filter, length, map, option_map, slice_get, take, refl, sym, ap, ◌∙◌, subst, inr, ⊎_elim, arith, true≢false, length-map, length-take-le, map-append, common_steps, get_or_from_slice_get, gets, slice_get_within, filter-append, lt-ltb, ltb-true}
-use Rattle.gr_model.specs.declared.event.EventId.{EventId}
-use Rattle.gr_model.specs.declared.event.Word.{Word}
+use Rattle.gr_timeline.specs.Types.{EventId, Word, Entry}
 use Rattle.std.proofs.lemmas.Option.{slice_get-map}
 use Rattle.std.proofs.lemmas.Simd.{map-map}
 use Rattle.std.specs.Option.{option_map_or}
@@ -21,7 +20,6 @@ use Rattle.gr_shadow.specs.Kept.{Kept, same_word}
 use Rattle.gr_shadow.specs.StandsFor.{StandsFor, accesses_to}
 use Rattle.gr_explain.proofs.KeptLemmas.{event_there}
 use Rattle.gr_timeline.specs.Accesses.{IsOn}
-use Rattle.gr_timeline.specs.declared.entry.Entry.{Entry}
 use Rattle.gr_timeline.specs.Racy.{IsRacyIn}
 use Rattle.gr_timeline.specs.Histories.{AreEntriesOf, IsCounted, IsHistory, IsKeptOf, Line, access_pair, entry_pair, events_of, is_counted, line_below, lines_below, lines_of}
 use Rattle.gr_timeline.specs.Selections.{AreThose}

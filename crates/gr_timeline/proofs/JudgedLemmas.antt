@@ -1,7 +1,6 @@
 -- If all that can be handled was handled, the events that are grounded are the first ones of their items.
 use Rattle.gr_model.proofs.Common.{◌≡◌, ◌↔◌, ℕ, ◌+◌, ◌-◌, ◌<◌, ◌≤◌, List, drop, slice_get, refl, sym, ap, ◌∙◌, ⊎_elim, arith, cases_lt, common_steps, gets}
-use Rattle.gr_model.specs.declared.event.EventId.{EventId}
-use Rattle.gr_model.specs.declared.event.ItemId.{ItemId}
+use Rattle.gr_timeline.specs.Types.{EventId, ItemId}
 use Rattle.gr_model.specs.Prelude.{IsIn, IsWholeOrder, Streams, event_at, IsGrounded}
 use Rattle.gr_clocks.specs.Counts.{Counts, count_of}
 use Rattle.gr_windows.specs.Windows.{AreWaiting, Table, window_of}

@@ -3,8 +3,7 @@ use Rattle.gr_model.proofs.Common.{◌≡◌, ◌≢◌, ◌∙◌, ℕ, zero, s
 use Rattle.std.specs.List.{AllPairs}
 use Rattle.std.proofs.lemmas.List.Kept.{AllPairs-filter}
 use Rattle.gr_steps.proofs.EventRecords.{filter-there}
-use Rattle.gr_model.specs.declared.event.EventId.{EventId}
-use Rattle.gr_timeline.specs.declared.entry.Entry.{Entry}
+use Rattle.gr_timeline.specs.Types.{EventId, Entry}
 use Rattle.gr_timeline.specs.Histories.{events_of, lines_below}
 use Rattle.gr_timeline.specs.Selections.{AreThose}
 

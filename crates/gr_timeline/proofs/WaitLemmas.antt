@@ -1,7 +1,6 @@
 -- Why the first held event of an item is held: one of its names, or an event before a barrier that it meets.
 use Rattle.gr_model.proofs.Common.{◌≡◌, ◌↔◌, ℕ, ◌+◌, ◌<◌, List, Option, None, Some, refl, ◌∙◌, ⊎_elim, arith, MatchOption, slice_get_within}
-use Rattle.gr_model.specs.declared.event.EventId.{EventId}
-use Rattle.gr_model.specs.declared.event.Name.{Name}
+use Rattle.gr_timeline.specs.Types.{EventId, Name}
 use Rattle.gr_model.specs.Prelude.{is_release, IsConvergent, IsDivergent, StandsIn, Mark, IsWholeOrder, HasName, IsOfItsWord, Matches, release_place, AreComplete, IsEvent, Streams, trace_of, IsGrounded, IsPrevious, Waits, for_arrival, for_meeting, for_previous, for_release}
 use Rattle.gr_model.proofs.Descent.{lawful_is_grounded}
 use Rattle.gr_model.proofs.GrowthLaws.{not_both}

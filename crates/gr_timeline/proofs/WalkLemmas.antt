@@ -1,15 +1,11 @@
 -- Chains that grow by a link, and the items that a walk has visited.
 use Rattle.gr_model.proofs.Common.{◌≡◌, ℕ, suc, ◌<◌, List, [], ◌∷◌, ◌++◌, length, Option, Some, slice_get, refl, inl, inr, ⊎_elim, arith, ◌↔◌, Bool, false, IsTrue, true≢false, ◌-◌, None, sym, ap, ◌∙◌, IfSome, gets, cases_eq, common_steps}
-use Rattle.gr_model.specs.declared.event.EventId.{EventId}
+use Rattle.gr_timeline.specs.Types.{EventId, Link, Reason, Circle, ItemId}
 use Rattle.gr_model.specs.Prelude.{Streams, ArePrefixes, HasItem}
 use Rattle.gr_model.proofs.Places.{slice_get-append}
 use Rattle.gr_explain.proofs.Lists.{last_cases}
-use Rattle.gr_timeline.specs.declared.reason.Link.{Link}
-use Rattle.gr_timeline.specs.declared.reason.Reason.{Reason}
-use Rattle.gr_timeline.specs.declared.reason.Reason.TheVariants.{Circle}
 use Rattle.gr_timeline.specs.Chains.{IsChainTo, IsReason, Lead, event_of, leads_to}
 use Rattle.gr_timeline.specs.Waiting.{IsHeldEvent, IsFirstHeld}
-use Rattle.gr_model.specs.declared.event.ItemId.{ItemId}
 use Rattle.gr_model.proofs.Cuts.{same_event}
 use Rattle.gr_clocks.specs.Counts.{Counts, IsTick, count_of}
 use Rattle.gr_order.proofs.StateLemmas.{item_cases, tick_here, tick_there}

@@ -1,10 +1,8 @@
 -- All accesses of a launch to one word, with the details of each.
 use Rattle.std.specs.Prelude.{◌≡◌, List, None, Option, Some}
 use Rattle.std.specs.Map.{lookup}
-use Rattle.gr_model.specs.declared.event.EventId.{EventId}
-use Rattle.gr_model.specs.declared.event.Word.{Word}
+use Rattle.gr_timeline.specs.Types.{EventId, Word, Details}
 use Rattle.gr_model.specs.Prelude.{Streams, word_at}
-use Rattle.gr_timeline.specs.declared.details.Details.{Details}
 use Rattle.gr_explain.specs.Events.{same_event}
 use Rattle.gr_timeline.specs.Details.{details_of}
 

@@ -1,11 +1,8 @@
 -- Why an event is held: a chain of held events, each with a reason that leads to the next one, down to a reason that leads no further.
 -- Source: docs/MODEL.md, "What waits for what".
 use Rattle.std.specs.Prelude.{◌≡◌, ℕ, ◌<◌, List, [], ◌∷◌, IfSome, Option, None, Some, option_map, slice_get}
-use Rattle.gr_model.specs.declared.event.EventId.{EventId}
+use Rattle.gr_timeline.specs.Types.{EventId, Link, Reason, Behind, Release, Barrier, Absent, OtherWord, Circle}
 use Rattle.gr_model.specs.Prelude.{HasName, IsAbsent, IsOfOtherWord, Matches, Streams}
-use Rattle.gr_timeline.specs.declared.reason.Link.{Link}
-use Rattle.gr_timeline.specs.declared.reason.Reason.{Reason}
-use Rattle.gr_timeline.specs.declared.reason.Reason.TheVariants.{Behind, Release, Barrier, Absent, OtherWord, Circle}
 use Rattle.gr_timeline.specs.Waiting.{IsArrival, IsFirstHeld, IsHeldEvent}
 
 -- the event for which one waits by a reason; by the last three it waits for none that is not in the chain

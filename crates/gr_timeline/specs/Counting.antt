@@ -1,9 +1,7 @@
 -- How many records of each item, and how many barriers among them, a part of a list has.
 use Rattle.std.specs.Prelude.{◌≡◌, ℕ, ◌+◌, ◌<◌, List, Some, filter, if◌then◌else◌, length, slice_get}
-use Rattle.gr_model.specs.declared.event.Event.{Event}
-use Rattle.gr_model.specs.declared.limits.TheConstants.{MOST_RECORDS}
+use Rattle.gr_timeline.specs.Types.{Event, MOST_RECORDS, Count}
 use Rattle.gr_model.specs.Prelude.{is_barrier, is_of}
-use Rattle.gr_timeline.specs.declared.counting.Count.{Count}
 
 -- those of an item in a list
 abbrev pub counted : List Event → ℕ → Count

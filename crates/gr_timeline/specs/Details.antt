@@ -1,10 +1,8 @@
 -- The details of an event: what a report says of an access.
 -- Source: docs/OUTPUT.md, "explain --long".
 use Rattle.std.specs.Prelude.{ℕ, List, Option, filter, length, option_and_then, option_map, slice_get, take}
-use Rattle.gr_model.specs.declared.event.Event.{Event}
-use Rattle.gr_model.specs.declared.event.EventId.{EventId}
+use Rattle.gr_timeline.specs.Types.{Event, EventId, Details}
 use Rattle.gr_model.specs.Prelude.{is_barrier, Streams, is_of, list_of, places_from}
-use Rattle.gr_timeline.specs.declared.details.Details.{Details}
 
 -- the record of an event in its group's list, the number of the record there, and how many barriers of its item come before it
 abbrev pub event_in : List Event → EventId → Option Event

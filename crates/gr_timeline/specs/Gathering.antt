@@ -1,11 +1,7 @@
 -- The details of a group's events, by the records of its list.
 use Rattle.std.specs.Prelude.{◌≡◌, ◌≢◌, ◌⊎◌, ℕ, List, None, Option, Some, if◌then◌else◌, option_and_then}
-use Rattle.gr_model.specs.declared.event.Event.{Event}
-use Rattle.gr_model.specs.declared.event.EventId.{EventId}
-use Rattle.gr_model.specs.declared.event.Word.{Word}
+use Rattle.gr_timeline.specs.Types.{Event, EventId, Word, Count, Details}
 use Rattle.gr_model.specs.Prelude.{event_word}
-use Rattle.gr_timeline.specs.declared.counting.Count.{Count}
-use Rattle.gr_timeline.specs.declared.details.Details.{Details}
 use Rattle.gr_timeline.specs.Accesses.{details_at}
 use Rattle.gr_timeline.specs.Details.{event_in, told_in}
 use Rattle.gr_explain.specs.Events.{same_event}

@@ -2,8 +2,7 @@
 -- Source: docs/MODEL.md, "What waits for what".
 use Rattle.std.specs.Prelude.{◌≡◌, ◌≢◌, ◌↔◌, ℕ, List, length}
 use Rattle.std.specs.List.{AllPairs}
-use Rattle.gr_model.specs.declared.event.EventId.{EventId}
-use Rattle.gr_model.specs.declared.event.Word.{Word}
+use Rattle.gr_timeline.specs.Types.{EventId, Word}
 use Rattle.gr_model.specs.Prelude.{IsIn, Streams, IsGrounded}
 use Rattle.gr_timeline.specs.Accesses.{IsOn}
 

@@ -1,8 +1,7 @@
 -- The accesses to one word of a launch, in an order in which they can be handled, each with those that happen before it.
 -- Source: docs/MODEL.md, "Lawful orders" and "Happens-before".
 use Rattle.std.specs.Prelude.{◌≡◌, ℕ, ◌<◌, Bool, List, [], ◌∷◌, ◌++◌, Some, filter, length, map, nat_lt, slice_get, take}
-use Rattle.gr_model.specs.declared.event.EventId.{EventId}
-use Rattle.gr_model.specs.declared.event.Word.{Word}
+use Rattle.gr_timeline.specs.Types.{EventId, Word, Entry}
 use Rattle.gr_model.specs.Prelude.{memory_of, HappensBefore, IsWholeOrder, Streams}
 use Rattle.gr_clocks.specs.ClockedAccess.{ClockedAccess}
 use Rattle.gr_clocks.specs.Counts.{Counts, count_of}
@@ -10,7 +9,6 @@ use Rattle.gr_timeline.specs.Accesses.{IsOn}
 use Rattle.gr_shadow.specs.Clashes.{event_of}
 use Rattle.gr_shadow.specs.Kept.{Kept, same_word}
 use Rattle.gr_shadow.specs.StandsFor.{StandsFor, accesses_to}
-use Rattle.gr_timeline.specs.declared.entry.Entry.{Entry}
 use Rattle.gr_timeline.specs.Selections.{AreThose}
 
 -- an access, how many are above it, and some of those, without the allocator

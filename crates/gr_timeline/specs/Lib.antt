@@ -10,3 +10,4 @@ pub mod Waiting
 pub mod Chains
 pub mod Walks
 pub mod Why
+pub mod Types

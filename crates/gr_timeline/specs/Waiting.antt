@@ -1,8 +1,7 @@
 -- Events that are held, and for which events they wait.
 -- Source: docs/MODEL.md, "What waits for what".
 use Rattle.std.specs.Prelude.{◌≡◌, ◌<◌, ℕ, Some}
-use Rattle.gr_model.specs.declared.event.EventId.{EventId}
-use Rattle.gr_model.specs.declared.event.Name.{Name}
+use Rattle.gr_timeline.specs.Types.{EventId, Name}
 use Rattle.gr_model.specs.Prelude.{StandsIn, Together, is_barrier, Mark, MatchesBy, IsEvent, Streams, place_of, IsGrounded, IsPrevious}
 use Rattle.gr_lanes.specs.Remembered.{Remembered, forgotten_of}
 

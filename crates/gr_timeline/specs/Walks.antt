@@ -1,11 +1,9 @@
 -- How far a walk along a chain has come: which items it has visited.
 use Rattle.std.specs.Prelude.{◌≡◌, ℕ, ◌-◌, ◌<◌, List, Some}
 use Rattle.std.specs.List.{sum_by}
-use Rattle.gr_model.specs.declared.event.EventId.{EventId}
-use Rattle.gr_model.specs.declared.event.ItemId.{ItemId}
+use Rattle.gr_timeline.specs.Types.{EventId, ItemId, Link}
 use Rattle.gr_model.specs.Prelude.{items_of, Streams}
 use Rattle.gr_clocks.specs.Counts.{Counts, count_of, sizes_of}
-use Rattle.gr_timeline.specs.declared.reason.Link.{Link}
 use Rattle.gr_timeline.specs.Chains.{event_of}
 use Rattle.gr_timeline.specs.Waiting.{IsFirstHeld}
 

@@ -1,9 +1,8 @@
 -- Why an event of a launch is held, if it is.
 -- Source: docs/MODEL.md, "What waits for what".
 use Rattle.std.specs.Prelude.{Bool, true, false, List}
-use Rattle.gr_model.specs.declared.event.EventId.{EventId}
+use Rattle.gr_timeline.specs.Types.{EventId, Link}
 use Rattle.gr_model.specs.Prelude.{IsEvent, Streams, IsGrounded}
-use Rattle.gr_timeline.specs.declared.reason.Link.{Link}
 use Rattle.gr_timeline.specs.declared.why.WhyHeld.{WhyHeld}
 use Rattle.gr_timeline.specs.declared.why.WhyHeld.TheVariants as answers
 use Rattle.gr_timeline.specs.Chains.{IsChain}
