@@ -1,5 +1,5 @@
 -- What is read of a stream is a list that its group may have.
-use Rattle.gr_model.proofs.Common.{◌≡◌, ℕ, zero, suc, ◌+◌, ◌<◌, ◌≤◌, Bool, true, false, cond, List, [], ◌∷◌, length, take, drop, Some, Result, Ok, Err, get_or, refl, sym, ap, ◌∙◌, subst, arith, IsTrue, ltb, true≢false, ◌≢◌, ◌++◌, eqb-true, ◌==◌, not, length-take, list_any, ltb-false, eqb-false, not-false, list_any_at, All-push}
+use Rattle.gr_model.proofs.Common.{◌≡◌, ◌≢◌, ◌⊎◌, ℕ, zero, suc, ◌+◌, ◌≤◌, Bool, true, false, cond, List, [], ◌∷◌, ◌++◌, length, take, drop, All, Some, Result, Ok, refl, sym, ap, ◌∙◌, subst, arith, inl, inr, IsTrue, ltb, true≢false, cases_Bool, eqb-true, ◌==◌, length-take, ltb-false, All-push}
 use Rattle.std.proofs.lemmas.List.Quantifiers.{all_pairs_push}
 use Rattle.gr_model.specs.declared.event.Event.{Event}
 use Rattle.gr_model.specs.declared.limits.TheConstants.{MOST_RECORDS}
@@ -10,17 +10,12 @@ use Rattle.gr_record.specs.Prelude.{record_length, Records, behind, step, record
 use Rattle.gr_record.specs.declared.stop.Stop.TheVariants.{AtEnd, AtFault, Inside}
 use Rattle.gr_record.specs.declared.header.Header.{Header}
 use Rattle.gr_record.specs.declared.fault.Fault.{Fault}
-use Rattle.gr_record.specs.declared.fault.Fault.TheVariants as faults
-use Rattle.gr_intake.specs.Joined as joined_spec
-use Rattle.gr_intake.specs.Joined.{Flat, at_place, stream_at, joined_at}
+use Rattle.gr_intake.specs.Joined.{Flat, ◌>>=◌, at_place, header_after, headers_in, stream_at, joined_at}
 use Rattle.gr_intake.specs.Laws.{AreStreams, JoinedAreStreams}
 use Rattle.gr_record.proofs.Found.{read_is_ok}
-
-abbrev pub ok : {X E : Type 0} → X → Result X E
-ok x = Ok x
-
-pub same_ok : {X E : Type 0} (x y : X) → ok {E = E} x ≡ ok y → x ≡ y
-same_ok x y e = cc
+use Rattle.gr_intake.proofs.Faults.{at_place_ok, same_ok, then_ok}
+use Rattle.gr_intake.proofs.Mapped.{all_from_map}
+use Rattle.gr_intake.proofs.Seen.{IsAfter, is_after}
 
 -- what a list is whose records were read up to its end
 pub record AreRead (items most : ℕ) (events : List Event) : Type 0 where
@@ -82,15 +77,12 @@ prefix_read h bytes events rest e = records_read h MOST_RECORDS bytes events res
 
 -- ---- several streams
 
-none_at : {X : Type 0} (p : X → Bool) (xs : List X) (i : ℕ) (d : X) → i < length xs → list_any p xs ≡ false → p (get_or xs i d) ≡ false
-none_at p xs i d lt none = grind (arith, list_any_at)
-
 -- one more stream, of another group and of the same launch
-pub with_one : (seen : List Flat) (f : Flat) → AreStreams seen → IsAccepted f.header.items f.events → list_any (λ s. s.header.group == f.header.group) seen ≡ false → list_any (λ s. not (s.header.launch == f.header.launch)) seen ≡ false → AreStreams (seen ++ f ∷ [])
+pub with_one : (seen : List Flat) (f : Flat) → AreStreams seen → IsAccepted f.header.items f.events → All (λ s. s.group ≢ f.header.group) (headers_in seen) → All (λ s. s.launch ≡ f.header.launch) (headers_in seen) → AreStreams (seen ++ f ∷ [])
 with_one seen f are accepted other same = record {
   accepted = All-push (λ s. IsAccepted s.header.items s.events) seen f are.accepted accepted;
-  groups = all_pairs_push (λ a b. a.header.group ≢ b.header.group) seen f are.groups (λ k d lt. eqb-false _ _ (none_at (λ s. s.header.group == f.header.group) seen k d lt other));
-  launch = all_pairs_push (λ a b. a.header.launch ≡ b.header.launch) seen f are.launch (λ k d lt. eqb-true _ _ (not-false _ (none_at (λ s. not (s.header.launch == f.header.launch)) seen k d lt same)));
+  groups = all_pairs_push (λ a b. a.header.group ≢ b.header.group) seen f are.groups (all_from_map (λ s. s.header) (λ s. s.group ≢ f.header.group) seen other);
+  launch = all_pairs_push (λ a b. a.header.launch ≡ b.header.launch) seen f are.launch (all_from_map (λ s. s.header) (λ s. s.launch ≡ f.header.launch) seen same);
 }
 
 -- the bytes begin with this stream, and these are left after it
@@ -102,53 +94,41 @@ pub record BeginsWith (bytes : List ℕ) (f : Flat) (rest : List ℕ) : Type 0 w
 -- and it may follow these
 pub record Follows (seen : List Flat) (bytes : List ℕ) (f : Flat) (rest : List ℕ) : Type 0 where
   pub begins : BeginsWith bytes f rest
-  pub group : list_any (λ s. s.header.group == f.header.group) seen ≡ false
-  pub launch : list_any (λ s. not (s.header.launch == f.header.launch)) seen ≡ false
+  pub after : IsAfter (headers_in seen) bytes f.header begins.behind
 
-module _ (seen : List Flat) (bytes : List ℕ) (f : Flat) (rest : List ℕ) where
-  abbrev by_records : Header → Bool → Bool → Result (List Event × List ℕ) RecordError → Result (Flat × List ℕ) Fault
-  by_records h a b r =
-      cond a (Err (faults.SameGroup (length seen)))
-      (cond b (Err (faults.OtherLaunch (length seen))) (joined_spec.◌>>=◌ {Y = Flat × List ℕ} (at_place (length seen) r) (λ x. Ok (record { header = h; events = x.0 }, x.1))))
-
-  by_parts : (h : Header) (behind : List ℕ) → front_header_at bytes ≡ Ok (h, behind) → (a b : Bool) → list_any (λ s. s.header.group == h.group) seen ≡ a → list_any (λ s. not (s.header.launch == h.launch)) seen ≡ b
-      → (r : Result (List Event × List ℕ) RecordError) → front_records_at h behind ≡ r → by_records h a b r ≡ Ok (f, rest) → Follows seen bytes f rest
-  by_parts h behind header true b group launch r records k = absurd cc
-  by_parts h behind header false true group launch r records k = absurd cc
-  by_parts h behind header false false group launch (Err e) records k = absurd cc
-  by_parts h behind header false false group launch (Ok x) records k =
-      subst (λ (y : Flat × List ℕ). Follows seen bytes y.0 y.1) (same_ok {E = Fault} (record { header = h; events = x.0 }, x.1) (f, rest) k)
-      (record { begins = record { behind = behind; header = header; records = records }; group = group; launch = launch })
-
-  abbrev by_found : Header × List ℕ → Result (Flat × List ℕ) Fault
-  by_found x = by_records x.0 (list_any (λ s. s.header.group == x.0.group) seen) (list_any (λ s. not (s.header.launch == x.0.launch)) seen) (front_records_at x.0 x.1)
-
-  by_header : (r : Result (Header × List ℕ) RecordError) → front_header_at bytes ≡ r → joined_spec.◌>>=◌ {Y = Flat × List ℕ} (at_place (length seen) r) by_found ≡ Ok (f, rest) → Follows seen bytes f rest
-  by_header (Err e) header k = absurd cc
-  by_header (Ok (h, behind)) header k = by_parts h behind header _ _ refl refl _ refl k
-
-  pub follows : stream_at seen bytes ≡ Ok (f, rest) → Follows seen bytes f rest
-  unfolding stream_at
-  follows k = by_header (front_header_at bytes) refl k
+pub follows : (seen : List Flat) (bytes : List ℕ) (f : Flat) (rest : List ℕ) → stream_at seen bytes ≡ Ok (f, rest) → Follows seen bytes f rest
+unfolding stream_at
+follows seen bytes f rest is =
+    let (h, first, k) = then_ok (header_after (headers_in seen) bytes) (λ h. at_place (length seen) (front_records_at h.0 h.1) >>= λ r. Ok (record { header = h.0; events = r.0 }, r.1)) (f, rest) is in
+    let (r, records, pair) = then_ok (at_place (length seen) (front_records_at h.0 h.1)) (λ r. Ok (record { header = h.0; events = r.0 }, r.1)) (f, rest) k in
+    let after = is_after (headers_in seen) bytes h.0 h.1 first in
+    let same = same_ok {E = Fault} (record { header = h.0; events = r.0 }, r.1) (f, rest) pair in
+    subst (λ (y : Flat × List ℕ). Follows seen bytes y.0 y.1) same (record { begins = record { behind = h.1; header = after.front; records = at_place_ok (length seen) (front_records_at h.0 h.1) r records }; after = after })
 
 pub stream_is_one : (seen : List Flat) (bytes : List ℕ) → AreStreams seen → (f : Flat) (rest : List ℕ) → stream_at seen bytes ≡ Ok (f, rest) → AreStreams (seen ++ f ∷ [])
 stream_is_one seen bytes are f rest k =
-    let after = follows seen bytes f rest k in
-    let read = prefix_read f.header after.begins.behind f.events rest after.begins.records in
-    with_one seen f are (record { few = read.few; good = read.good; ended = read.ended }) after.group after.launch
+    let is = follows seen bytes f rest k in
+    let read = prefix_read f.header is.begins.behind f.events rest is.begins.records in
+    with_one seen f are (record { few = read.few; good = read.good; ended = read.ended }) is.after.group is.after.launch
+
+-- no bytes are left, or a stream was read and then others
+pub joined_cases : (n : ℕ) (seen : List Flat) (bytes : List ℕ) (out : List Flat) → joined_at (suc n) seen bytes ≡ Ok out
+    → ((length bytes ≡ 0) × (seen ≡ out)) ⊎ ((x : Flat × List ℕ) × (stream_at seen bytes ≡ Ok x) × (joined_at n (seen ++ x.0 ∷ []) x.1 ≡ Ok out))
+unfolding joined_at
+joined_cases n seen bytes out is =
+    elim (cases_Bool (length bytes == 0)) [
+      | inl none ↦ inl (eqb-true (length bytes) 0 none, same_ok {E = Fault} seen out (rw none at is))
+      | inr some ↦ inr (then_ok (stream_at seen bytes) (λ s. joined_at n (seen ++ s.0 ∷ []) s.1) out (rw some at is))
+    ]
 
 pub joined_are : (n : ℕ) (seen : List Flat) (bytes : List ℕ) → AreStreams seen → (out : List Flat) → joined_at n seen bytes ≡ Ok out → AreStreams out
 unfolding joined_at
 joined_are zero seen bytes are out h = subst AreStreams (same_ok {E = Fault} seen out h) are
 joined_are (suc n) seen bytes are out h =
-    by_length (length bytes == 0) h (λ f rest more k. joined_are n (seen ++ f ∷ []) rest more out k)
-  where
-    by_stream : (r : Result (Flat × List ℕ) Fault) → stream_at seen bytes ≡ r → joined_spec.◌>>=◌ {Y = List Flat} r (λ s. joined_at n (seen ++ s.0 ∷ []) s.1) ≡ Ok out → ((f : Flat) (rest : List ℕ) → AreStreams (seen ++ f ∷ []) → joined_at n (seen ++ f ∷ []) rest ≡ Ok out → AreStreams out) → AreStreams out
-    by_stream (Err d) is k later = cc
-    by_stream (Ok (f, rest)) is k later = later f rest (stream_is_one seen bytes are f rest is) k
-
-    by_length : (b : Bool) → cond b (ok seen) (joined_spec.◌>>=◌ {Y = List Flat} (stream_at seen bytes) (λ s. joined_at n (seen ++ s.0 ∷ []) s.1)) ≡ Ok out → ((f : Flat) (rest : List ℕ) → AreStreams (seen ++ f ∷ []) → joined_at n (seen ++ f ∷ []) rest ≡ Ok out → AreStreams out) → AreStreams out
-    by_length b k later = grind (arith, by_stream, ok, same_ok)
+    elim (joined_cases n seen bytes out h) [
+      | inl none ↦ subst AreStreams none.1 are
+      | inr (x, is, later) ↦ joined_are n (seen ++ x.0 ∷ []) x.1 (stream_is_one seen bytes are x.0 x.1 is) out later
+    ]
 
 pub none_are : AreStreams []
 none_are = record { accepted = λ k d lt. absurd (omega arith); groups = λ i j d before lt. absurd (omega arith); launch = λ i j d before lt. absurd (omega arith) }

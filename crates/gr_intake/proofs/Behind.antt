@@ -1,5 +1,5 @@
 -- What the bytes after those that were read add: a header, a record, and bytes that are no whole one.
-use Rattle.gr_model.proofs.Common.{◌≡◌, ℕ, zero, suc, ◌+◌, ◌-◌, ◌<◌, ◌≤◌, true, false, List, [], ◌∷◌, ◌++◌, length, take, drop, Option, Some, None, Result, Ok, Err, refl, sym, ap, ◌∙◌, subst, arith, inl, inr, append-nil, append_assoc, eqb-true, IfOk, not, ◌==◌, drop_at, length-append, length-drop, take-append-drop, take_at, list_any, cases_lt, eqb-false, le-ltb, lt-ltb, ne_eqb}
+use Rattle.gr_model.proofs.Common.{◌≡◌, ℕ, zero, suc, ◌+◌, ◌-◌, ◌<◌, ◌≤◌, true, false, List, [], ◌∷◌, ◌++◌, length, take, drop, Some, None, Result, Ok, Err, refl, sym, ap, ◌∙◌, subst, arith, inl, inr, append_assoc, eqb-true, ◌==◌, drop_at, length-append, length-drop, length-map, take-append-drop, take_at, cases_lt, eqb-false, lt-ltb, ne_eqb}
 use Rattle.gr_model.specs.declared.event.Event.{Event}
 use Rattle.gr_model.specs.declared.limits.TheConstants.{MOST_RECORDS}
 use Rattle.gr_model.specs.Prelude.{is_end}
@@ -8,41 +8,15 @@ use Rattle.gr_record.specs.declared.error.RecordError.TheVariants as errors
 use Rattle.gr_record.specs.declared.fault.Fault.{Fault}
 use Rattle.gr_record.specs.declared.fault.Fault.TheVariants as faults
 use Rattle.gr_record.specs.declared.header.Header.{Header}
-use Rattle.gr_record.specs.declared.header.Version.{Version}
 use Rattle.gr_record.specs.declared.layout.TheConstants.{HEADER_LENGTH}
 use Rattle.gr_record.specs.declared.stop.Stop.{Stop}
-use Rattle.gr_record.specs.Prelude.{Records, records_at, records_of, step, event_at, header_at, record_length, front_header_at, front_records_at, up_to, whole}
-use Rattle.gr_record.specs.Reading as reading_spec
-use Rattle.gr_record.specs.WholeStreams as record_spec
+use Rattle.gr_record.specs.Prelude.{Records, records_at, records_of, step, event_at, record_length, front_header_at, front_records_at, up_to, whole}
 use Rattle.gr_record.proofs.Loop as loop
-use Rattle.gr_intake.proofs.Accepted.{ok, same_ok}
+use Rattle.gr_intake.proofs.Accepted.{follows}
+use Rattle.gr_intake.proofs.Faults.{ok}
+use Rattle.gr_intake.proofs.Seen.{front_is, is_after}
 use Rattle.gr_intake.specs.Intakes.{behind_events, next_event_at, read_behind, with_event}
-use Rattle.gr_intake.specs.Joined as joined_spec
-use Rattle.gr_intake.specs.Joined.{Flat, at_place, joined_at, stream_at}
-
--- ---- a header depends on its own bytes only
-
-module _ (rest : List ℕ) where
-  same_behind : (v : Option Version) (prefix : List ℕ) → length prefix ≡ 12 → reading_spec.header_behind v (prefix ++ rest) ≡ reading_spec.header_behind v prefix
-  same_behind None prefix is = refl
-  same_behind (Some v) (a ∷ b ∷ c ∷ d ∷ e ∷ f ∷ g ∷ h ∷ i ∷ j ∷ k ∷ l ∷ []) is = refl
-  same_behind (Some v) _ is = absurd (omega arith)
-
-  same_magic : (prefix : List ℕ) → length prefix ≡ 12 → reading_spec.field 0 4 (prefix ++ rest) ≡ reading_spec.field 0 4 prefix
-  same_magic (a ∷ b ∷ c ∷ d ∷ e ∷ f ∷ g ∷ h ∷ i ∷ j ∷ k ∷ l ∷ []) is = refl
-  same_magic _ is = absurd (omega arith)
-
-  pub same_header : (prefix : List ℕ) → length prefix ≡ HEADER_LENGTH → header_at (prefix ++ rest) ≡ header_at prefix
-  unfolding header_at
-  same_header prefix is = rw (same_magic prefix is, same_behind (reading_spec.version_of (reading_spec.field 0 4 prefix)) prefix is) refl
-
--- the header at the front, where its bytes are known
-module _ (unit rest : List ℕ) (all : length unit ≡ HEADER_LENGTH) where
-  pub front_of_unit : front_header_at (unit ++ rest) ≡ record_spec.◌>>=◌ {Y = Header × List ℕ} (header_at unit) (λ h. Ok (h, rest))
-  unfolding front_header_at
-  front_of_unit =
-      let long : HEADER_LENGTH ≤ length (unit ++ rest) = omega (arith, length-append unit rest, all) in
-      rw (le-ltb (length (unit ++ rest)) HEADER_LENGTH long, same_header rest unit all, drop_at unit rest HEADER_LENGTH all) refl
+use Rattle.gr_intake.specs.Joined.{Flat, ◌>>=◌, at_place, header_after, headers_in, joined_at, stream_at}
 
 -- ---- what is left is no longer
 
@@ -72,16 +46,14 @@ records_shorter h bytes x is = grind (arith, up_to_rest, rest_no_longer)
 abbrev with_stream : ℕ → List Flat → Flat × List ℕ → Result (List Flat) Fault
 with_stream n seen s = joined_at n (seen ++ s.0 ∷ []) s.1
 
-header_shorter : (bytes : List ℕ) → IfOk (front_header_at bytes) (λ x. length x.1 < length bytes)
-unfolding front_header_at
-header_shorter bytes = grind arith
-
-stream_shorter : (seen : List Flat) (bytes : List ℕ) → IfOk (stream_at seen bytes) (λ s. length s.1 < length bytes)
-unfolding stream_at
-stream_shorter seen bytes = grind (arith, header_shorter bytes, records_shorter)
+stream_shorter : (seen : List Flat) (bytes : List ℕ) (f : Flat) (rest : List ℕ) → stream_at seen bytes ≡ Ok (f, rest) → length rest < length bytes
+stream_shorter seen bytes f rest is =
+    let begins = (follows seen bytes f rest is).begins in
+    let front = front_is bytes f.header begins.behind begins.header in
+    omega (arith, records_shorter f.header begins.behind (f.events, rest) begins.records, ap length front.left, length-drop HEADER_LENGTH bytes, front.long)
 
 -- where bytes are there and one stream more may follow, one is read
-goes_on : (m n : ℕ) (seen : List Flat) (bytes : List ℕ) → m ≡ suc n → (length bytes == 0) ≡ false → joined_at m seen bytes ≡ joined_spec.◌>>=◌ {Y = List Flat} (stream_at seen bytes) (with_stream n seen)
+goes_on : (m n : ℕ) (seen : List Flat) (bytes : List ℕ) → m ≡ suc n → (length bytes == 0) ≡ false → joined_at m seen bytes ≡ stream_at seen bytes >>= with_stream n seen
 unfolding joined_at
 goes_on m n seen bytes is some = rw (is, some) refl
 
@@ -94,7 +66,11 @@ same_bound zero (suc m) seen (b ∷ bytes) le lt = absurd (omega (arith, le))
 same_bound (suc n) zero seen [] le lt = refl
 same_bound (suc n) zero seen (b ∷ bytes) le lt = absurd (omega (arith, lt))
 same_bound (suc n) (suc m) seen [] le lt = refl
-same_bound (suc n) (suc m) seen (b ∷ bytes) le lt = grind (arith, stream_shorter seen (b ∷ bytes), same_bound n m)
+same_bound (suc n) (suc m) seen (b ∷ bytes) le lt = rw (ne_eqb (length (b ∷ bytes)) 0 (λ e. omega (arith, e))) (by_stream (stream_at seen (b ∷ bytes)) refl (same_bound n m))
+  where
+    by_stream : (r : Result (Flat × List ℕ) Fault) → stream_at seen (b ∷ bytes) ≡ r → ((fs : List Flat) (xs : List ℕ) → length xs ≤ n → length xs ≤ m → joined_at n fs xs ≡ joined_at m fs xs) → (r >>= with_stream n seen) ≡ (r >>= with_stream m seen)
+    by_stream (Err e) is later = refl
+    by_stream (Ok (f, rest)) is later = let less = stream_shorter seen (b ∷ bytes) f rest is in later (seen ++ f ∷ []) rest (omega (arith, less, le)) (omega (arith, less, lt))
 
 -- the records after a header are those of a stream where none has come
 whole_is : (h : Header) (rest : List ℕ) → front_records_at h rest ≡ whole (behind_events [] (records_of h (MOST_RECORDS - 0) rest))
@@ -103,68 +79,40 @@ whole_is h rest = refl
 
 -- ---- no stream goes on
 
-module _ (seen : List Flat) (unit rest : List ℕ) (all : length unit ≡ HEADER_LENGTH) where
-  -- one stream more may follow
-  one_bound : (n : ℕ) → length (unit ++ rest) ≡ suc n → joined_at (length (unit ++ rest)) seen (unit ++ rest) ≡ joined_spec.◌>>=◌ {Y = List Flat} (stream_at seen (unit ++ rest)) (with_stream n seen)
-  one_bound n is = goes_on (length (unit ++ rest)) n seen (unit ++ rest) is (ne_eqb (length (unit ++ rest)) 0 (λ e. omega (arith, e, is)))
+module _ (seen : List Flat) (bytes : List ℕ) (some : 0 < length bytes) where
+  one_follows : read_behind seen None bytes ≡ stream_at seen bytes >>= with_stream (length bytes - 1) seen
+  one_follows = goes_on (length bytes) (length bytes - 1) seen bytes (omega (arith, some)) (ne_eqb (length bytes) 0 (λ e. omega (arith, e, some)))
 
-  some_bound : (n : ℕ) × (length (unit ++ rest) ≡ suc n) × (length rest ≤ n)
-  some_bound = let long = length-append unit rest in (11 + length rest, omega (arith, long, all), omega arith)
-
-  pub header_refused : (d : RecordError) → header_at unit ≡ Err d → read_behind seen None (unit ++ rest) ≡ Err (faults.Stream (length seen) d)
+  pub header_refused : (f : Fault) → header_after (headers_in seen) bytes ≡ Err f → read_behind seen None bytes ≡ Err f
   unfolding stream_at
-  header_refused d is =
-      let front : front_header_at (unit ++ rest) ≡ Err d = front_of_unit unit rest all ∙ rw is refl in
-      let stream : stream_at seen (unit ++ rest) ≡ Err (faults.Stream (length seen) d) = rw front refl in
-      one_bound some_bound.0 some_bound.1 ∙ rw stream refl
+  header_refused f is = one_follows ∙ rw is refl
 
-  module _ (h : Header) (is : header_at unit ≡ Ok h) where
-    front : front_header_at (unit ++ rest) ≡ Ok (h, rest)
-    front = front_of_unit unit rest all ∙ rw is refl
+  pub stream_begins : (h : Header) (rest : List ℕ) → header_after (headers_in seen) bytes ≡ Ok (h, rest) → read_behind seen None bytes ≡ read_behind seen (Some (record { header = h; events = [] })) rest
+  unfolding stream_at
+  stream_begins h rest is = one_follows ∙ rw is (by_records (front_records_at h rest) refl)
+    where
+      less : length rest < length bytes
+      less = let front = front_is bytes h rest (is_after (headers_in seen) bytes h rest is).front in omega (arith, ap length front.left, length-drop HEADER_LENGTH bytes, front.long)
 
-    pub same_group_refused : list_any (λ s. s.header.group == h.group) seen ≡ true → read_behind seen None (unit ++ rest) ≡ Err (faults.SameGroup (length seen))
-    unfolding stream_at
-    same_group_refused t = grind (arith, front, one_bound some_bound.0 some_bound.1, some_bound)
-
-    module _ (fresh : list_any (λ s. s.header.group == h.group) seen ≡ false) where
-      pub other_launch_refused : list_any (λ s. not (s.header.launch == h.launch)) seen ≡ true → read_behind seen None (unit ++ rest) ≡ Err (faults.OtherLaunch (length seen))
-      unfolding stream_at
-      other_launch_refused t = grind (arith, front, one_bound some_bound.0 some_bound.1, some_bound)
-
-      abbrev ends : Result (List Event × List ℕ) RecordError → Result (List Flat) Fault
-      ends x = joined_spec.◌>>=◌ {Y = List Flat} (at_place (length seen) x) (λ r. joined_at (length r.1) (seen ++ record { header = h; events = r.0 } ∷ []) r.1)
-
-      pub stream_begins : list_any (λ s. not (s.header.launch == h.launch)) seen ≡ false → read_behind seen None (unit ++ rest) ≡ read_behind seen (Some (record { header = h; events = [] })) rest
-      unfolding stream_at
-      stream_begins same =
-          let stream : stream_at seen (unit ++ rest) ≡ joined_spec.◌>>=◌ {Y = Flat × List ℕ} (at_place (length seen) (front_records_at h rest)) (λ r. Ok (record { header = h; events = r.0 }, r.1)) = rw (front, fresh, same) refl in
-          let n = some_bound.0 in
-          one_bound n some_bound.1 ∙ ap (λ (x : Result (Flat × List ℕ) Fault). joined_spec.◌>>=◌ {Y = List Flat} x (with_stream n seen)) stream ∙ by_records_read (front_records_at h rest) refl
-        where
-          by_records_read : (x : Result (List Event × List ℕ) RecordError) → front_records_at h rest ≡ x
-              → joined_spec.◌>>=◌ {Y = List Flat} (joined_spec.◌>>=◌ {Y = Flat × List ℕ} (at_place (length seen) x) (λ r. Ok (record { header = h; events = r.0 }, r.1))) (with_stream some_bound.0 seen)
-              ≡ ends (whole (behind_events [] (records_of h (MOST_RECORDS - 0) rest)))
-          by_records_read x k = grind (arith, records_shorter, same_bound, some_bound, whole_is)
+      by_records : (x : Result (List Event × List ℕ) RecordError) → front_records_at h rest ≡ x
+          → ((at_place (length seen) x >>= λ r. Ok (record { header = h; events = r.0 }, r.1)) >>= with_stream (length bytes - 1) seen)
+          ≡ (at_place (length seen) (whole (behind_events [] (records_of h (MOST_RECORDS - 0) rest))) >>= λ r. joined_at (length r.1) (seen ++ record { header = h; events = r.0 } ∷ []) r.1)
+      by_records x k = grind (arith, records_shorter, same_bound, less, whole_is)
 
 -- bytes that are no whole header
 pub nothing_follows : (seen : List Flat) → read_behind seen None [] ≡ Ok seen
 unfolding joined_at
 nothing_follows seen = refl
 
-stream_cut : (seen : List Flat) (bytes : List ℕ) → length bytes < HEADER_LENGTH → stream_at seen bytes ≡ Err (faults.Stream (length seen) errors.Truncated)
-unfolding stream_at front_header_at
-stream_cut seen bytes short = rw (lt-ltb (length bytes) HEADER_LENGTH short) refl
-
 pub header_cut : (seen : List Flat) (bytes : List ℕ) → 0 < length bytes → length bytes < HEADER_LENGTH → read_behind seen None bytes ≡ Err (faults.Stream (length seen) errors.Truncated)
-header_cut seen bytes some short =
-    goes_on (length bytes) (length bytes - 1) seen bytes (omega (arith, some)) (ne_eqb (length bytes) 0 (λ e. omega (arith, e, some)))
-    ∙ ap (λ (x : Result (Flat × List ℕ) Fault). joined_spec.◌>>=◌ {Y = List Flat} x (with_stream (length bytes - 1) seen)) (stream_cut seen bytes short)
+unfolding header_after front_header_at
+header_cut seen bytes some short = header_refused seen bytes some (faults.Stream (length seen) errors.Truncated) (rw (lt-ltb (length bytes) HEADER_LENGTH short, length-map) refl)
 
 -- ---- a stream goes on
 
 module _ (seen : List Flat) (f : Flat) where
   abbrev then : Result (List Event × List ℕ) RecordError → Result (List Flat) Fault
-  then x = joined_spec.◌>>=◌ {Y = List Flat} (at_place (length seen) x) (λ r. joined_at (length r.1) (seen ++ record { header = f.header; events = r.0 } ∷ []) r.1)
+  then x = at_place (length seen) x >>= (λ r. joined_at (length r.1) (seen ++ record { header = f.header; events = r.0 } ∷ []) r.1)
 
   abbrev size : ℕ
   size = record_length f.header.version
@@ -211,16 +159,6 @@ split_whole n bytes unit rest front back = sym (take-append-drop n bytes) ∙ (a
 
 pub split_more : (n : ℕ) (bytes unit rest more : List ℕ) → unit ≡ take n bytes → rest ≡ drop n bytes → bytes ++ more ≡ unit ++ (rest ++ more)
 split_more n bytes unit rest more front back = ap (λ (x : List ℕ). x ++ more) (split_whole n bytes unit rest front back) ∙ append_assoc unit rest more
-
-module _ (unit : List ℕ) (all : length unit ≡ HEADER_LENGTH) where
-  front_alone : front_header_at unit ≡ record_spec.◌>>=◌ {Y = Header × List ℕ} (header_at unit) (λ h. Ok (h, []))
-  front_alone = ap front_header_at (sym (append-nil unit)) ∙ front_of_unit unit [] all
-
-  pub header_found : (h : Header) (rest : List ℕ) → front_header_at unit ≡ Ok (h, rest) → header_at unit ≡ Ok h
-  header_found h rest is = grind (arith, front_alone, ok, same_ok)
-
-  pub header_failed : (e : RecordError) → front_header_at unit ≡ Err e → header_at unit ≡ Err e
-  header_failed e is = grind (arith, front_alone)
 
 -- ---- what the next record says
 

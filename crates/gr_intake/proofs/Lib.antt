@@ -4,7 +4,7 @@ pub mod Reporting
 mod Sources
 pub mod Faults
 pub mod Judged
-pub mod Headers
+pub mod Seen
 pub mod Comings
 pub mod Behind
 mod Backlogs

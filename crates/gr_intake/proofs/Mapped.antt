@@ -1,5 +1,5 @@
 -- Lists that are mapped: what they have, and a test of each of their elements.
-use Rattle.gr_model.proofs.Common.{◌≡◌, zero, suc, Bool, List, [], ◌∷◌, map, Contains, ◌||◌, refl, ap, ◌∙◌, arith, list_any, get_or-map, length-map}
+use Rattle.gr_model.proofs.Common.{◌≡◌, zero, suc, Bool, List, [], ◌∷◌, map, All, Contains, subst, ◌||◌, refl, ap, ◌∙◌, arith, list_any, get_or-map, length-map}
 
 module _ {X Y : Type 0} (f : X → Y) where
   pub any_of_map : (test : Y → Bool) (xs : List X) → list_any test (map f xs) ≡ list_any (λ x. test (f x)) xs
@@ -13,3 +13,6 @@ module _ {X Y : Type 0} (f : X → Y) where
   mapped_from [] y (k, lt, is) = absurd (omega (arith, lt))
   mapped_from (x ∷ xs) y (zero, lt, is) = (x, (0, omega arith, refl), is)
   mapped_from (x ∷ xs) y (suc k, lt, is) = let found = mapped_from xs y (k, omega (arith, lt), is) in (found.0, (suc found.1.0, omega (arith, found.1.1), found.1.2), found.2)
+
+  pub all_from_map : (P : Y → Type 0) (xs : List X) → All P (map f xs) → All (λ x. P (f x)) xs
+  all_from_map P xs all = λ k d lt. subst P (get_or-map f xs k d (f d) lt) (all k (f d) (omega (arith, lt, length-map xs f)))

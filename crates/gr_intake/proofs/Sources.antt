@@ -3,8 +3,8 @@ use Rattle.gr_model.proofs.Common.{◌≡◌, ◌≢◌, ◌<◌, ℕ, List, [],
 use Rattle.gr_model.specs.declared.event.Event.{Event}
 use Rattle.gr_model.specs.Prelude.{Streams, IsAccepted, IsPrefix}
 use Rattle.gr_record.specs.declared.header.Header.{Header}
-use Rattle.gr_intake.specs.Intakes.{AreGroupsOf, come, come_of, headers_of}
-use Rattle.gr_intake.specs.Joined.{Flat}
+use Rattle.gr_intake.specs.Intakes.{AreSeen, come, come_of}
+use Rattle.gr_intake.specs.Joined.{Flat, headers_in}
 use Rattle.gr_intake.specs.Laws.{AreStreams}
 use Rattle.gr_intake.specs.Waiting.{Coming}
 use Rattle.gr_taking.specs.Sources.{MayCome, come_from}
@@ -35,7 +35,7 @@ come_flat s (c ∷ cs) = ap (λ (fs : List Flat). come_of s c ∷ fs) (come_flat
 pub come_as : (s t : Streams) (old new : List Coming) → pairs s old ≡ pairs t new → come s old ≡ come t new
 come_as s t old new same = sym (come_flat s old) ∙ (ap (map flat) same ∙ come_flat t new)
 
-module _ (s : Streams) (cs : List Coming) (are : AreStreams (come s cs)) (groups : AreGroupsOf s.sizes (headers_of cs)) where
+module _ (s : Streams) (cs : List Coming) (are : AreStreams (come s cs)) (seen : AreSeen s.sizes (headers_in (come s cs))) where
   -- the stream of a source
   in_come : (k : ℕ) (p : Header × List Event) → k < length (pairs s cs) → Contains (come s cs) (flat (get_or (pairs s cs) k p))
   in_come k p lt =
@@ -47,11 +47,11 @@ module _ (s : Streams) (cs : List Coming) (are : AreStreams (come s cs)) (groups
   -- so they may come
   pub streams_may_come : MayCome group s.sizes (pairs s cs)
   streams_may_come = record {
-    there = λ k p lt. (its_group s cs groups (flat (get_or (pairs s cs) k p)) (in_come k p lt)).0;
+    there = λ k p lt. (its_group s (come s cs) seen (flat (get_or (pairs s cs) k p)) (in_come k p lt)).0;
     prefixes = λ k p lt.
         let f = flat (get_or (pairs s cs) k p) in
         let here : IsAccepted f.header.items f.events = All-contains (λ (x : Flat). IsAccepted x.header.items x.events) (come s cs) f are.accepted (in_come k p lt) in
-        subst (λ (n : ℕ). IsPrefix n f.events) (sym (its_group s cs groups f (in_come k p lt)).1) (record { few = here.few; good = here.good });
+        subst (λ (n : ℕ). IsPrefix n f.events) (sym (its_group s (come s cs) seen f (in_come k p lt)).1) (record { few = here.few; good = here.good });
     differ = λ i j p lt in_list. λ same.
         let before : i < length (pairs s cs) = omega (arith, lt, in_list) in
         apart i j (flat p) lt (omega (arith, in_list, length-map (pairs s cs) flat))

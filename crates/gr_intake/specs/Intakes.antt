@@ -1,7 +1,6 @@
 -- What was read of streams that follow one another, and what the bytes after it add.
 -- Source: docs/FORMATS.md, "Several streams".
-use Rattle.std.specs.Prelude.{◌≡◌, ◌≢◌, ℕ, ◌-◌, ◌<◌, ◌≤◌, Bool, true, false, not, ◌==◌, List, [], ◌∷◌, ◌++◌, length, map, slice_index, Contains, Option, Some, None, IfSome, option_map, Result, Ok, Err, if◌then◌else◌}
-use Rattle.std.specs.List.{list_any}
+use Rattle.std.specs.Prelude.{◌≡◌, ◌≢◌, ℕ, ◌-◌, ◌<◌, ◌≤◌, Bool, true, false, ◌==◌, List, All, AllPairs, [], ◌∷◌, ◌++◌, length, map, slice_index, Contains, Option, Some, None, IfSome, option_map, Result, Ok, Err, if◌then◌else◌}
 use Rattle.gr_model.specs.declared.event.Event.{Event}
 use Rattle.gr_model.specs.declared.limits.TheConstants.{MOST_RECORDS}
 use Rattle.gr_model.specs.Prelude.{IsEventOk, is_end, Streams, list_of}
@@ -51,13 +50,13 @@ AreOpen items [] = Unit {0}
 AreOpen items (e ∷ events) = (IsEventOk e items × (is_end e ≡ false)) × AreOpen items events
 
 -- the header of a stream that may follow others
-pub record MayFollow (seen : List Flat) (h : Header) : Type 0 where
+pub record MayFollow (seen : List Header) (h : Header) : Type 0 where
   pub header : IsHeader h
-  pub group : list_any (λ s. s.header.group == h.group) seen ≡ false
-  pub launch : list_any (λ s. not (s.header.launch == h.launch)) seen ≡ false
+  pub group : All (λ s. s.group ≢ h.group) seen
+  pub launch : All (λ s. s.launch ≡ h.launch) seen
 
 -- a stream that may follow others, as far as it has come: its end has not
-pub record IsNext (seen : List Flat) (f : Flat) : Type 0 where
+pub record IsNext (seen : List Header) (f : Flat) : Type 0 where
   pub follows : MayFollow seen f.header
   pub few : length f.events ≤ MOST_RECORDS
   pub events : AreOpen f.header.items f.events
@@ -71,6 +70,12 @@ pub record AreGroupsOf (sizes : List ℕ) (headers : List Header) : Type 0 where
   pub top : (g : ℕ) → g < length sizes → (h : Header) × Contains headers h × (g ≤ h.group)
   pub others : (g : ℕ) → ((h : Header) → Contains headers h → h.group ≢ g) → slice_index sizes g ≡ 0
 
+-- headers of one launch, and the sizes of their groups
+pub record AreSeen (sizes : List ℕ) (headers : List Header) : Type 0 where
+  pub groups : AreGroupsOf sizes headers
+  pub some : All (λ h. 0 < h.items) headers
+  pub launch : AllPairs (λ g h. g.launch ≡ h.launch) headers
+
 -- ---- what was read
 
 abbrev pub list_in : {X : Type 0} → Option X → List X
@@ -82,8 +87,8 @@ pub record IsRead (q : Sequence) (kept : LaunchKept) (whole : List Coming) (curr
   pub sequence : IsSequence q
   pub shadows : AreShadowsOf q kept
   pub streams : AreStreams (come q.taken whole)
-  pub groups : AreGroupsOf q.taken.sizes (headers_of (whole ++ list_in current))
-  pub next : IfSome current (λ c. IsNext (come q.taken whole) (come_of q.taken c))
+  pub headers : AreSeen q.taken.sizes (headers_of (whole ++ list_in current))
+  pub next : IfSome current (λ c. IsNext (headers_of whole) (come_of q.taken c))
 
 -- how a stream that goes on is kept: once one record has to wait, all later ones wait
 pub record IsKeptOpen {Z : Type 0} (taken : Streams) (o : Open Z) : Type 0 where

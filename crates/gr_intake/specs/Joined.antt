@@ -1,6 +1,6 @@
 -- Streams that follow one another, or the first fault among them.
 -- Source: docs/FORMATS.md, "Several streams".
-use Rattle.std.specs.Prelude.{ℕ, zero, suc, not, ◌==◌, if◌then◌else◌, List, [], ◌∷◌, ◌++◌, length, Result, Ok, Err}
+use Rattle.std.specs.Prelude.{ℕ, zero, suc, not, ◌==◌, if◌then◌else◌, List, [], ◌∷◌, ◌++◌, length, map, Result, Ok, Err}
 use Rattle.std.specs.List.{list_any}
 use Rattle.gr_model.specs.declared.event.Event.{Event}
 use Rattle.gr_record.specs.declared.error.RecordError.{RecordError}
@@ -24,13 +24,25 @@ abbrev pub at_place : {X : Type 0} → ℕ → Result X RecordError → Result X
 at_place place (Ok x) = Ok x
 at_place place (Err e) = Err (faults.Stream place e)
 
+-- a header, unless its group is one of these headers', or its launch is another
+abbrev pub unless_seen : List Header → Header → Result Header Fault
+unless_seen seen h =
+    if list_any (λ s. s.group == h.group) seen then Err (faults.SameGroup (length seen))
+    else if list_any (λ s. not (s.launch == h.launch)) seen then Err (faults.OtherLaunch (length seen))
+    else Ok h
+
+-- the header at the front of the bytes, after these headers, and the bytes after it
+unfoldable pub header_after : List Header → List ℕ → Result (Header × List ℕ) Fault
+header_after seen bytes = at_place (length seen) (front_header_at bytes) >>= λ x. unless_seen seen x.0 >>= λ h. Ok (h, x.1)
+
+abbrev pub headers_in : List Flat → List Header
+headers_in seen = map (λ s. s.header) seen
+
 -- the stream at the front of the bytes, after these streams, and the bytes after it
 unfoldable pub stream_at : List Flat → List ℕ → Result (Flat × List ℕ) Fault
 stream_at seen bytes =
-    at_place (length seen) (front_header_at bytes) >>= λ h.
-    if list_any (λ s. s.header.group == h.0.group) seen then Err (faults.SameGroup (length seen))
-    else if list_any (λ s. not (s.header.launch == h.0.launch)) seen then Err (faults.OtherLaunch (length seen))
-    else at_place (length seen) (front_records_at h.0 h.1) >>= λ r. Ok (record { header = h.0; events = r.0 }, r.1)
+    header_after (headers_in seen) bytes >>= λ h.
+    at_place (length seen) (front_records_at h.0 h.1) >>= λ r. Ok (record { header = h.0; events = r.0 }, r.1)
 
 -- these streams, and at most n that follow in the bytes
 unfoldable pub joined_at : ℕ → List Flat → List ℕ → Result (List Flat) Fault

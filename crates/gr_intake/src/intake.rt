@@ -1,18 +1,17 @@
 //! What was read of a joined input, header by header and record by record, and which of the records were taken at once.
 
-ghost use Rattle.std.specs.Prelude.{◌≡◌, ◌==◌, ◌++◌, ◌∷◌, [], ◌<◌, ℕ, List, AllPairs, IfErr, IfOk, IsFalse, IsTrue, MatchOption, None, Ok, OnOk, Some, length, not};
-ghost use Rattle.std.specs.List.{list_any};
+ghost use Rattle.std.specs.Prelude.{◌≡◌, ◌++◌, ◌∷◌, [], ◌<◌, ℕ, List, IfErr, IfOk, IsFalse, IsTrue, MatchOption, None, Ok, OnOk, Some, length, option_map, slice_get};
 ghost use Rattle.gr_model.specs.Prelude.{IsReportOf, IsShape, AreAccepted, Streams as AnyStreams};
-ghost use Rattle.gr_record.specs.declared.layout.TheConstants.{HEADER_LENGTH};
-ghost use Rattle.gr_record.specs.Prelude.{IsOfValues, Fails, header_at};
+ghost use Rattle.gr_record.specs.Prelude.{IsHeader, IsOfValues, Fails, Gives};
 ghost use Rattle.gr_report.specs.Whole.{whole_of};
-ghost use Rattle.gr_intake.specs.Intakes.{IsBetween, IsGap, IsIntake, IsKeptOpen, IsNew, IsRead, IsStuck, MayFollow, Moves, Stays, behind, come, come_of, read_behind, read_on, streams_in, unit_of};
+ghost use Rattle.gr_intake.specs.Intakes.{IsBetween, IsGap, IsIntake, IsKeptOpen, IsNew, IsRead, IsStuck, Moves, Stays, behind, come, come_of, headers_of, read_behind, read_on, streams_in, unit_of};
+ghost use Rattle.gr_intake.specs.Joined.{header_after};
 ghost use Rattle.gr_intake.specs.Launch.{IsLaunchFault, IsLaunchOf};
 
 use crate::backlog::Backlog;
+use crate::headers::read_header_after;
 use crate::open::Open;
 use crate::reports::report_of;
-use gr_model::event::ItemId;
 use gr_model::growing::GrowingShape;
 use gr_model::memory::Memory;
 use gr_model::shape::ShapeError;
@@ -20,7 +19,6 @@ use gr_record::error::RecordError;
 use gr_record::fault::Fault;
 use gr_record::header::Header;
 use gr_record::layout::HEADER_LENGTH;
-use gr_record::stream::read_front_header;
 use gr_report::report::Report;
 use gr_sequencer::sequencer::Sequencer;
 use gr_shadow::launch::LaunchShadows;
@@ -39,15 +37,12 @@ pub struct Intake<A: Allocator = Global> {
     pub(crate) current: Option<Open<A>>,
 }
 
-/// Whether streams of one launch are of another launch than this.
-fn has_other_launch<A: Allocator>(streams: &[Backlog<A>], launch: u32) -> bool
-    requires { AllPairs (λ s t. s.header.launch ≡ t.header.launch) streams.now }
-    ensures { result ≡ list_any (λ s. not (s.header.launch == launch)) streams.now }
+/// The header of the first of the streams, where there is one.
+fn first_header<A: Allocator>(streams: &[Backlog<A>]) -> Option<Header>
+    ensures { result ≡ option_map (λ s. s.header) (slice_get streams.now 0) }
 {
-    match streams.first() {
-        None => false,
-        Some(stream) => stream.header().launch != launch,
-    }
+    let stream = streams.first()?;
+    Some(stream.header())
 }
 
 impl<A: Allocator + Copy> Intake<A> {
@@ -67,35 +62,20 @@ impl<A: Allocator + Copy> Intake<A> {
         })
     }
 
-    /// The header in these bytes, where no stream goes on.
+    /// The header at the front of the bytes, where no stream goes on, and the bytes after it.
     ///
     /// # Errors
-    /// The header's fault; `SameGroup` if its group has come; `OtherLaunch` if the streams that have come are of another launch.
-    fn header_of(&self, unit: &[u8]) -> Result<Header, Fault>
-        requires all { length unit.now ≡ HEADER_LENGTH }
+    /// The header's fault, `SameGroup`, `OtherLaunch`.
+    fn read_header<'p>(&self, bytes: &'p [u8]) -> Result<(Header, &'p [u8]), Fault>
         requires intake { IsIntake self.now }
         requires none { IsBetween self.now }
-        ensures header { IfOk result (λ h. header_at unit.now ≡ Ok h) }
-        ensures follows { IfOk result (λ h. MayFollow (streams_in self.now) h) }
-        ensures fault { IfErr result (λ f. (more : List ℕ) → Fails f (behind self.now (unit.now ++ more))) }
+        ensures exact { Gives (λ x. (x.0, x.1.now)) result (header_after (headers_of self.now.streams.items) bytes.now) }
+        ensures header { IfOk result (λ x. IsHeader x.0) }
         ensures values { IfErr result IsOfValues }
     {
         let place = self.streams.len() as u64;
-        let header = match read_front_header(unit) {
-            Ok((header, _)) => header,
-            Err(error) => return Err(Fault::of_stream(place, error)),
-        };
-        let first = ItemId {
-            group: header.group,
-            item: 0,
-        };
-        if self.sequencer.shape().has(first) {
-            return Err(Fault::SameGroup(place));
-        }
-        if has_other_launch(&self.streams, header.launch) {
-            return Err(Fault::OtherLaunch(place));
-        }
-        Ok(header)
+        let first = first_header(&self.streams);
+        read_header_after(place, self.sequencer.shape(), first, bytes)
     }
 
     /// Takes the header at the front of the bytes, where no stream goes on, and returns the bytes after it; all of them where
@@ -114,8 +94,7 @@ impl<A: Allocator + Copy> Intake<A> {
         if bytes.len() < HEADER_LENGTH {
             return Ok(bytes);
         }
-        let (unit, rest) = bytes.split_at(HEADER_LENGTH);
-        let header = self.header_of(unit)?;
+        let (header, rest) = self.read_header(bytes)?;
         let empty = Sequencer::without_groups(alloc)?;
         let sequencer = mem::replace(&mut self.sequencer, empty);
         let grown = sequencer.with_group(header.group, header.items)?;

@@ -3,6 +3,7 @@
 #![tactic(auto)]
 
 pub mod backlog;
+pub mod headers;
 pub mod intake;
 mod open;
 mod piece;

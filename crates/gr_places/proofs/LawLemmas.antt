@@ -1,5 +1,5 @@
 -- A fault of the stream of an input, and where reading of that input stops.
-use Rattle.gr_model.proofs.Common.{◌≡◌, ◌⊎◌, ℕ, suc, ◌+◌, ◌≤◌, Bool, true, false, List, [], ◌∷◌, ◌++◌, length, take, drop, Some, Result, Ok, Err, refl, sym, ap, ◌∙◌, arith, inl, inr, ◌==◌, if◌then◌else◌, not, slice_get, ne_eqb, length-append, length-take, take-append-drop, list_any, cases_lt, lt-ltb, le-ltb}
+use Rattle.gr_model.proofs.Common.{◌≡◌, ◌⊎◌, ℕ, suc, ◌+◌, Bool, true, false, List, [], ◌∷◌, ◌++◌, length, drop, Some, Result, Ok, Err, refl, ap, ◌∙◌, arith, inl, inr, ◌==◌, if◌then◌else◌, not, slice_get, ne_eqb, length-append, length-map, list_any, cases_lt, lt-ltb, le-ltb}
 use Rattle.gr_model.specs.declared.event.Event.{Event}
 use Rattle.gr_model.specs.declared.limits.TheConstants.{MOST_RECORDS}
 use Rattle.gr_record.specs.declared.error.RecordError.{RecordError}
@@ -13,8 +13,8 @@ use Rattle.gr_record.specs.declared.stop.Stop.TheVariants.{Inside, AtEnd, AtFaul
 use Rattle.gr_record.specs.Prelude.{close, last_answer, read_from, reading, records_of, header_at, front_header_at, front_records_at, under, up_to}
 use Rattle.gr_record.specs.WholeStreams as record_spec
 use Rattle.gr_replay.specs.Each.{each_at, only_stream_at}
-use Rattle.gr_intake.specs.Joined.{Flat, ◌>>=◌, at_place, stream_at}
-use Rattle.gr_intake.proofs.Behind.{same_header}
+use Rattle.gr_intake.specs.Joined.{Flat, ◌>>=◌, at_place, header_after, headers_in, stream_at}
+use Rattle.gr_intake.proofs.Seen.{own_bytes}
 use Rattle.gr_places.specs.Laws.{FaultsAreWhereReadingStops}
 
 -- ---- where reading stops, by what is at the front of the bytes
@@ -24,11 +24,6 @@ stops_by (Err d) = Err d
 stops_by (Ok h) = let r = records_of h.0 MOST_RECORDS h.1 in last_answer (close r.stop r.rest)
 
 module _ (bytes : List ℕ) where
-  own_bytes : HEADER_LENGTH ≤ length bytes → header_at (take HEADER_LENGTH bytes) ≡ header_at bytes
-  own_bytes long =
-      let len : length (take HEADER_LENGTH bytes) ≡ HEADER_LENGTH = omega (arith, length-take HEADER_LENGTH bytes, long) in
-      sym (ap header_at (sym (take-append-drop HEADER_LENGTH bytes)) ∙ same_header (drop HEADER_LENGTH bytes) (take HEADER_LENGTH bytes) len)
-
   under_stops : (x : Result Header RecordError) → last_answer (under x MOST_RECORDS bytes).stop ≡ stops_by (record_spec.◌>>=◌ {Y = Header × List ℕ} x (λ h. Ok (h, drop HEADER_LENGTH bytes)))
   under_stops (Err d) = refl
   under_stops (Ok h) = refl
@@ -38,7 +33,7 @@ module _ (bytes : List ℕ) where
   reading_stops =
       elim (cases_lt (length bytes) HEADER_LENGTH) [
         | inl lt ↦ rw (lt-ltb (length bytes) HEADER_LENGTH lt) refl
-        | inr long ↦ rw (le-ltb (length bytes) HEADER_LENGTH long, own_bytes long) (under_stops (header_at bytes))
+        | inr long ↦ rw (le-ltb (length bytes) HEADER_LENGTH long, own_bytes bytes long) (under_stops (header_at bytes))
       ]
 
 -- ---- the stream at a place stops for an error
@@ -62,27 +57,28 @@ module _ (seen : List Flat) (place : ℕ) (e : RecordError) where
       (cc, cc)
   records_stop h (AtFault d) events rest is = (cc, cc)
 
-  -- after a header: the group and the launch are compared first
-  abbrev compared : Bool → Bool → Header × List ℕ → Result (Flat × List ℕ) Fault
-  compared same other h =
-      if same then Err (faults.SameGroup (length seen))
-      else if other then Err (faults.OtherLaunch (length seen))
-      else at_place (length seen) (front_records_at h.0 h.1) >>= kept h.0
+  abbrev records : Header × List ℕ → Result (Flat × List ℕ) Fault
+  records h = at_place (length seen) (front_records_at h.0 h.1) >>= kept h.0
 
-  header_stops : (same other : Bool) (h : Header × List ℕ) → (compared same other h >>= only) ≡ Err (faults.Stream place e) → Stops (stops_by (Ok h))
+  -- after a header: the group and the launch are compared first
+  abbrev compared : Bool → Bool → Header × List ℕ → Result (Header × List ℕ) Fault
+  compared same other h =
+      (if same then Err (faults.SameGroup (length (headers_in seen))) else if other then Err (faults.OtherLaunch (length (headers_in seen))) else Ok h.0) >>= λ g. Ok (g, h.1)
+
+  header_stops : (same other : Bool) (h : Header × List ℕ) → ((compared same other h >>= records) >>= only) ≡ Err (faults.Stream place e) → Stops (stops_by (Ok h))
   unfolding front_records_at
   header_stops true other h is = absurd cc
   header_stops false true h is = absurd cc
   header_stops false false h is = let r = records_of h.0 MOST_RECORDS h.1 in records_stop h.0 r.stop r.events r.rest is
 
-  front_stops : (same other : Header × List ℕ → Bool) (x : Result (Header × List ℕ) RecordError) → ((at_place (length seen) x >>= λ h. compared (same h) (other h) h) >>= only) ≡ Err (faults.Stream place e) → Stops (stops_by x)
-  front_stops same other (Err d) is = (cc, cc)
+  front_stops : (same other : Header × List ℕ → Bool) (x : Result (Header × List ℕ) RecordError) → (((at_place (length (headers_in seen)) x >>= λ h. compared (same h) (other h) h) >>= records) >>= only) ≡ Err (faults.Stream place e) → Stops (stops_by x)
+  front_stops same other (Err d) is = let at : place ≡ length (headers_in seen) = cc in (at ∙ length-map seen (λ f. f.header), cc)
   front_stops same other (Ok h) is = header_stops (same h) (other h) h is
 
   stream_stops : (bytes : List ℕ) → only_stream_at seen bytes ≡ Err (faults.Stream place e) → Stops (last_answer (reading MOST_RECORDS bytes).stop)
-  unfolding only_stream_at stream_at
+  unfolding only_stream_at stream_at header_after
   stream_stops bytes is =
-      rw (reading_stops bytes) (front_stops (λ h. list_any (λ s. s.header.group == h.0.group) seen) (λ h. list_any (λ s. not (s.header.launch == h.0.launch)) seen) (front_header_at bytes) is)
+      rw (reading_stops bytes) (front_stops (λ h. list_any (λ s. s.group == h.0.group) (headers_in seen)) (λ h. list_any (λ s. not (s.launch == h.0.launch)) (headers_in seen)) (front_header_at bytes) is)
 
 -- ---- an input stops for an error, with `before` others before these inputs
 

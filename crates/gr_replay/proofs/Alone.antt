@@ -1,17 +1,17 @@
 -- One stream, and the bytes that follow it.
-use Rattle.gr_model.proofs.Common.{◌≡◌, ℕ, ◌≤◌, List, [], ◌++◌, length, Result, Ok, Err, sym, ap, ◌∙◌, subst, arith, append-nil, append_assoc, eqb-true, not, ◌==◌, if◌then◌else◌, list_any, length-take, nil_from_length, take-append-drop}
+use Rattle.gr_model.proofs.Common.{◌≡◌, ℕ, List, [], ◌++◌, length, Result, Ok, Err, refl, sym, ap, ◌∙◌, subst, arith, append-nil, eqb-true, ◌==◌, if◌then◌else◌, nil_from_length}
 use Rattle.gr_model.specs.declared.event.Event.{Event}
 use Rattle.gr_record.specs.declared.error.RecordError.{RecordError}
 use Rattle.gr_record.specs.declared.error.RecordError.TheVariants as errors
 use Rattle.gr_record.specs.declared.fault.Fault.{Fault}
 use Rattle.gr_record.specs.declared.fault.Fault.TheVariants as faults
 use Rattle.gr_record.specs.declared.header.Header.{Header}
-use Rattle.gr_record.specs.declared.layout.TheConstants.{HEADER_LENGTH}
 use Rattle.gr_record.specs.Prelude.{front_header_at, front_records_at, whole}
 use Rattle.gr_record.proofs.Growing.{grown, records_grow}
-use Rattle.gr_intake.specs.Joined.{Flat, ◌>>=◌, stream_at}
-use Rattle.gr_intake.proofs.Accepted.{BeginsWith, follows, same_ok}
-use Rattle.gr_intake.proofs.Behind.{front_of_unit}
+use Rattle.gr_intake.specs.Joined.{Flat, ◌>>=◌, header_after, headers_in, stream_at, unless_seen}
+use Rattle.gr_intake.proofs.Accepted.{BeginsWith, follows}
+use Rattle.gr_intake.proofs.Faults.{same_ok}
+use Rattle.gr_intake.proofs.Seen.{front_is, front_more}
 use Rattle.gr_replay.specs.Each.{only_stream_at}
 
 -- the bytes are this stream
@@ -20,17 +20,8 @@ IsStreamOf bytes f = BeginsWith bytes f []
 
 -- ---- more bytes
 
-pub header_long : (bytes : List ℕ) (x : Header × List ℕ) → front_header_at bytes ≡ Ok x → HEADER_LENGTH ≤ length bytes
-unfolding front_header_at
-header_long bytes x is = grind arith
-
-module _ (unit tail more : List ℕ) (all : length unit ≡ HEADER_LENGTH) (h : Header) (behind : List ℕ) where
-  unit_on : front_header_at (unit ++ tail) ≡ Ok (h, behind) → front_header_at ((unit ++ tail) ++ more) ≡ Ok (h, behind ++ more)
-  unit_on is = grind (arith, append_assoc, front_of_unit, behind, same_ok)
-
 header_on : (bytes more : List ℕ) (h : Header) (behind : List ℕ) → front_header_at bytes ≡ Ok (h, behind) → front_header_at (bytes ++ more) ≡ Ok (h, behind ++ more)
-header_on bytes more h behind is =
-    grind (arith, header_long bytes (h, behind) is, behind, take-append-drop HEADER_LENGTH bytes, length-take HEADER_LENGTH bytes, unit_on)
+header_on bytes more h behind is = front_more bytes more (front_is bytes h behind is).long ∙ rw is refl
 
 records_on : (h : Header) (bytes more : List ℕ) (events : List Event) → front_records_at h bytes ≡ Ok (events, []) → front_records_at h (bytes ++ more) ≡ Ok (events, more)
 unfolding front_records_at
@@ -51,16 +42,13 @@ alone bytes more f g is whole =
 module _ (seen : List Flat) where
   -- a stream of another group, and of the same launch; or why it is none
   abbrev pub checked : Flat → Result Flat Fault
-  checked f =
-      if list_any (λ s. s.header.group == f.header.group) seen then Err (faults.SameGroup (length seen))
-      else if list_any (λ s. not (s.header.launch == f.header.launch)) seen then Err (faults.OtherLaunch (length seen))
-      else Ok f
+  checked f = unless_seen (headers_in seen) f.header >>= λ _. Ok f
 
   abbrev pub followed : List ℕ → Flat → Result (Flat × List ℕ) Fault
   followed more f = Ok (f, more)
 
   pub stream_on : (bytes more : List ℕ) (f : Flat) → IsStreamOf bytes f → stream_at seen (bytes ++ more) ≡ checked f >>= followed more
-  unfolding stream_at
+  unfolding header_after stream_at
   stream_on bytes more f is = grind (arith, header_on bytes more f.header is.behind is.header, records_on f.header is.behind more f.events is.records)
 
   abbrev only : Flat × List ℕ → Result Flat Fault

@@ -1,11 +1,13 @@
 -- Inputs are the streams of a launch in whatever order.
-use Rattle.gr_model.proofs.Common.{◌≡◌, ◌≢◌, ℕ, List, [], ◌∷◌, ◌++◌, map, get_or, All, AllPairs, Contains, IsPermutation, Result, Ok, Err, refl, sym, ap, ◌∙◌, subst, arith, append-nil, append_assoc, cases_lt, get_or_append_left, get_or_default, length-append, Contains-get_or, list_any_none, All-permutation, Contains-permutation, IsPermutation-map, IsPermutation-sym, get_or-append_seam}
+use Rattle.gr_model.proofs.Common.{◌≡◌, ◌≢◌, ℕ, List, [], ◌∷◌, ◌++◌, map, get_or, All, AllPairs, Contains, IsPermutation, Result, Ok, Err, refl, sym, ap, ◌∙◌, subst, arith, append-nil, append_assoc, cases_lt, get_or_append_left, get_or_default, length-append, Contains-get_or, All-map, All-permutation, Contains-permutation, IsPermutation-map, IsPermutation-sym, get_or-append_seam}
 use Rattle.gr_model.specs.Prelude.{Streams}
 use Rattle.gr_record.specs.declared.fault.Fault.{Fault}
 use Rattle.gr_record.specs.declared.header.Version.TheVariants.{One}
-use Rattle.gr_intake.specs.Joined.{Flat}
+use Rattle.gr_intake.specs.Joined.{Flat, headers_in}
 use Rattle.gr_intake.specs.Launch.{AreApart, IsLaunchOf}
-use Rattle.gr_intake.proofs.Accepted.{none_are, ok, same_ok}
+use Rattle.gr_intake.proofs.Accepted.{none_are}
+use Rattle.gr_intake.proofs.Faults.{ok, same_ok}
+use Rattle.gr_intake.proofs.Seen.{not_seen}
 use Rattle.gr_replay.specs.Each.{only_stream_at}
 use Rattle.gr_replay.specs.Laws.{InputsInAnyOrder, IsOneStream, ReportInAnyOrder}
 use Rattle.gr_replay.proofs.Alone.{checked, only_on}
@@ -49,7 +51,7 @@ before_it : (R : Flat → Flat → Type 0) (seen : List Flat) (f : Flat) (fs : L
 before_it R seen f fs pairs k d lt = grind (arith, length-append seen (f ∷ fs), get_or_append_left seen (f ∷ fs) d k lt, get_or-append_seam seen f fs d)
 
 checked_one : (seen : List Flat) (f : Flat) → All (λ s. s.header.group ≢ f.header.group) seen → All (λ s. launch s ≡ launch f) seen → checked seen f ≡ Ok f
-checked_one seen f other same = grind (arith, list_any_none)
+checked_one seen f other same = rw (not_seen (headers_in seen) f.header (All-map (λ s. s.group ≢ f.header.group) (λ s. s.header) seen other) (All-map (λ s. s.launch ≡ f.header.launch) (λ s. s.header) seen same)) refl
 
 none_refused : (fs seen : List Flat) → AreApart (seen ++ fs) → AreOfOne (seen ++ fs) → all_checked seen fs ≡ Ok (seen ++ fs)
 none_refused [] seen apart one = ap (ok {E = Fault}) (sym (append-nil seen))

@@ -1,14 +1,16 @@
 -- Inputs, each of which is one stream, and their bytes one after another.
-use Rattle.gr_model.proofs.Common.{◌≡◌, ℕ, zero, suc, ◌≤◌, List, [], ◌∷◌, ◌++◌, length, All, Result, Ok, Err, refl, sym, ◌∙◌, subst, arith, length-append}
+use Rattle.gr_model.proofs.Common.{◌≡◌, ℕ, zero, suc, ◌≤◌, List, [], ◌∷◌, ◌++◌, length, All, Result, Ok, refl, sym, ◌∙◌, subst, arith, length-append}
 use Rattle.gr_record.specs.declared.fault.Fault.{Fault}
 use Rattle.gr_intake.specs.Joined.{Flat, ◌>>=◌, joined_at, joined_of}
 use Rattle.gr_intake.specs.Launch.{Reads}
 use Rattle.gr_intake.specs.Laws.{AreStreams}
-use Rattle.gr_intake.proofs.Accepted.{same_ok, stream_is_one}
+use Rattle.gr_intake.proofs.Accepted.{stream_is_one}
+use Rattle.gr_intake.proofs.Faults.{same_ok, then_ok}
+use Rattle.gr_intake.proofs.Seen.{front_is}
 use Rattle.gr_replay.specs.Each.{ReadsEach, each_at, each_of, only_stream_at}
 use Rattle.gr_replay.specs.Replays.{IsExact, IsExactOfEach}
 use Rattle.gr_replay.specs.Laws.{InputsAreJoined, IsOneStream, JoinedReportIsEqual, JoinedReportIsSame, joined}
-use Rattle.gr_replay.proofs.Alone.{IsStreamOf, checked, header_long, only_is, only_on, only_read, stream_on}
+use Rattle.gr_replay.proofs.Alone.{IsStreamOf, checked, only_is, only_on, only_read, stream_on}
 use Rattle.gr_replay.proofs.Joining.{nothing_left}
 use Rattle.gr_replay.proofs.OneLaunch.{bytes_have_one_report}
 
@@ -36,9 +38,9 @@ unfolding joined_at
 joined_checked n [] [] seen are le = nothing_left n seen [] refl
 joined_checked n [] (f ∷ fs) seen are le = absurd are
 joined_checked n (bytes ∷ inputs) [] seen are le = absurd are
-joined_checked zero (bytes ∷ inputs) (f ∷ fs) seen are le = let long = header_long bytes _ are.0.header in absurd (omega (arith, length-append bytes (joined inputs)))
+joined_checked zero (bytes ∷ inputs) (f ∷ fs) seen are le = let long = (front_is bytes f.header are.0.behind are.0.header).long in absurd (omega (arith, length-append bytes (joined inputs)))
 joined_checked (suc n) (bytes ∷ inputs) (f ∷ fs) seen are le =
-    let long = header_long bytes _ are.0.header in
+    let long = (front_is bytes f.header are.0.behind are.0.header).long in
     grind (arith, length-append bytes (joined inputs), stream_on seen bytes (joined inputs) f are.0, joined_checked n inputs fs (seen ++ f ∷ []) are.1)
 
 pub all_of : (inputs : List (List ℕ)) (fs : List Flat) → AreStreamsOf inputs fs → joined_of (joined inputs) ≡ all_checked [] fs
@@ -52,21 +54,18 @@ same_of inputs fs are = all_of inputs fs are ∙ sym (each_checked inputs fs [] 
 pub each_is : (inputs : List (List ℕ)) (seen out : List Flat) → each_at seen inputs ≡ Ok out → (fs : List Flat) × AreStreamsOf inputs fs
 unfolding each_at
 each_is [] seen out is = ([], tt)
-each_is (bytes ∷ inputs) seen out is = by_stream (only_stream_at seen bytes) refl is (λ f later. each_is inputs (seen ++ f ∷ []) out later)
-  where
-    by_stream : (r : Result Flat Fault) → only_stream_at seen bytes ≡ r → (r >>= λ f. each_at (seen ++ f ∷ []) inputs) ≡ Ok out → ((f : Flat) → each_at (seen ++ f ∷ []) inputs ≡ Ok out → (fs : List Flat) × AreStreamsOf inputs fs) → (fs : List Flat) × AreStreamsOf (bytes ∷ inputs) fs
-    by_stream (Err e) one k later = absurd cc
-    by_stream (Ok f) one k later = let more = later f k in (f ∷ more.0, (only_is seen bytes f one, more.1))
+each_is (bytes ∷ inputs) seen out is =
+    let (f, one, later) = then_ok (only_stream_at seen bytes) (λ f. each_at (seen ++ f ∷ []) inputs) out is in
+    let more = each_is inputs (seen ++ f ∷ []) out later in
+    (f ∷ more.0, (only_is seen bytes f one, more.1))
 
 -- and of different groups and one launch, each a list that its group may have
 pub each_are : (inputs : List (List ℕ)) (seen out : List Flat) → AreStreams seen → each_at seen inputs ≡ Ok out → AreStreams out
 unfolding each_at
 each_are [] seen out are is = subst AreStreams (same_ok {E = Fault} seen out is) are
-each_are (bytes ∷ inputs) seen out are is = by_stream (only_stream_at seen bytes) refl is (λ f more later. each_are inputs (seen ++ f ∷ []) out more later)
-  where
-    by_stream : (r : Result Flat Fault) → only_stream_at seen bytes ≡ r → (r >>= λ f. each_at (seen ++ f ∷ []) inputs) ≡ Ok out → ((f : Flat) → AreStreams (seen ++ f ∷ []) → each_at (seen ++ f ∷ []) inputs ≡ Ok out → AreStreams out) → AreStreams out
-    by_stream (Err e) one k later = absurd cc
-    by_stream (Ok f) one k later = later f (stream_is_one seen bytes are f [] (only_read seen bytes f one)) k
+each_are (bytes ∷ inputs) seen out are is =
+    let (f, one, later) = then_ok (only_stream_at seen bytes) (λ f. each_at (seen ++ f ∷ []) inputs) out is in
+    each_are inputs (seen ++ f ∷ []) out (stream_is_one seen bytes are f [] (only_read seen bytes f one)) later
 
 pub all_one : (inputs : List (List ℕ)) (fs : List Flat) → AreStreamsOf inputs fs → All IsOneStream inputs
 all_one [] fs are = λ k d lt. absurd (omega (arith, lt))

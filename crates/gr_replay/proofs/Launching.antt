@@ -1,16 +1,15 @@
 -- From streams to the launch that they are of.
 use mathlib.Core.List.{map-map}
-use Rattle.gr_model.proofs.Common.{◌≡◌, ◌≢◌, ◌⊎◌, ℕ, zero, suc, ◌<◌, ◌≤◌, List, [], ◌∷◌, length, map, get_or, AllPairs, IsPermutation, Some, slice_get, slice_index, sym, ap, ◌∙◌, subst, ⊎_elim, arith, eqb, eq-or-lt_of_le, option_map, inl, inr, cases_lt, Decides-eqb, get_or-map, get_or_default, length-map, All-contains, Contains-get_or, IsPermutation-map, IsPermutation-sym, Contains-permutation, AllPairs-from_IsDistinct, IsDistinct-from_AllPairs, get_or_from_slice_get, slice_get-map}
+use Rattle.gr_model.proofs.Common.{◌≡◌, ◌≢◌, ◌⊎◌, ℕ, zero, suc, ◌<◌, ◌≤◌, List, [], ◌∷◌, length, map, get_or, AllPairs, IsPermutation, Some, slice_get, sym, ap, ◌∙◌, subst, ⊎_elim, arith, eqb, eq-or-lt_of_le, option_map, inl, inr, cases_lt, Decides-eqb, get_or-map, get_or_default, length-map, Contains-get_or, IsPermutation-map, IsPermutation-sym, Contains-permutation, AllPairs-from_IsDistinct, IsDistinct-from_AllPairs, get_or_from_slice_get, slice_get-map}
 use Rattle.std.proofs.lemmas.Map.Keys.{IsDistinct-IsPermutation}
 use Rattle.std.specs.List.Sorted.{IsNonDecreasingBy}
-use Rattle.gr_model.specs.Prelude.{IsShape, Streams, IsAccepted, AreAccepted}
+use Rattle.gr_model.specs.Prelude.{Streams}
 use Rattle.gr_model.specs.declared.event.Event.{Event}
 use Rattle.gr_model.proofs.HitsAreRaces.{eqb_swap}
 use Rattle.gr_model.proofs.Places.{Contains-at}
 use Rattle.gr_replay.specs.declared.joined.Stream.{Stream}
 use Rattle.gr_intake.specs.Joined.{Flat}
 use Rattle.gr_replay.specs.InMemory.{flats}
-use Rattle.gr_intake.specs.Laws.{AreStreams}
 use Rattle.gr_intake.specs.Launch.{IsLaunchOf, IsLeastMissing, AreApart, AreRising, ArePlaced}
 use Rattle.gr_steps.proofs.Orders.{there_is}
 
@@ -80,22 +79,6 @@ module _ (fs : List Flat) (rising : AreRising fs) where
           (eq-or-lt_of_le above)
 
 -- ---- the launch
-
--- the model accepts the lists of a launch of a shape
-pub launch_accepts : (seen : List Flat) (s : Streams) → AreStreams seen → IsLaunchOf seen s → IsShape s.sizes → AreAccepted s
-launch_accepts seen s are launch shape = record {
-  shape = shape;
-  count = launch.count;
-  each = λ g lt.
-      let has = launch.there g lt in
-      let f = has.0 in
-      let at = launch.each f has.1 in
-      let size : slice_index s.sizes f.header.group ≡ f.header.items = get_or_from_slice_get s.sizes f.header.group f.header.items 0 at.0 in
-      let list : get_or s.lists f.header.group [] ≡ f.events = get_or_from_slice_get s.lists f.header.group f.events [] at.1 in
-      let accepted : IsAccepted f.header.items f.events = All-contains (λ x. IsAccepted x.header.items x.events) seen f are.accepted has.1 in
-      subst (λ n. IsAccepted (slice_index s.sizes n) (get_or s.lists n [])) has.2
-      (subst (IsAccepted (slice_index s.sizes f.header.group)) (sym list) (subst (λ n. IsAccepted n f.events) (sym size) accepted));
-}
 
 -- each group's items and records, of streams that are each at the place of its group
 abbrev pub launch_of : List Flat → Streams

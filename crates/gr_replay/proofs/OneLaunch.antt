@@ -5,7 +5,7 @@ use Rattle.gr_model.proofs.ReportLaws.{one_report}
 use Rattle.gr_record.specs.declared.fault.Fault.{Fault}
 use Rattle.gr_intake.specs.Joined.{Flat}
 use Rattle.gr_intake.specs.Launch.{IsLaunchOf}
-use Rattle.gr_intake.proofs.Accepted.{same_ok}
+use Rattle.gr_intake.proofs.Faults.{same_ok}
 use Rattle.gr_replay.specs.Laws.{BytesAreOneLaunch, BytesHaveOneReport, InputsAreOneLaunch, InputsHaveOneReport}
 
 -- ---- streams are those of one launch

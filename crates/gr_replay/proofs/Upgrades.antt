@@ -1,21 +1,23 @@
 -- Streams and what they are upgraded to are read as the same launch.
 use mathlib.Core.List.{map-map}
-use Rattle.gr_model.proofs.Common.{◌≡◌, ℕ, suc, ◌≤◌, List, [], ◌∷◌, ◌++◌, length, map, slice_get, Some, inl, inr, All, Result, Ok, Err, refl, sym, ap, ◌∙◌, subst, arith, append-nil, length-map, map_push, flat_map-map}
+use Rattle.gr_model.proofs.Common.{◌≡◌, ◌==◌, ◌||◌, not, list_any, ℕ, suc, ◌≤◌, Bool, List, [], ◌∷◌, ◌++◌, length, map, slice_get, Some, inl, inr, All, Result, Ok, Err, refl, sym, ap, ◌∙◌, subst, arith, append-nil, length-map, map_push, flat_map-map}
 use Rattle.gr_model.specs.Prelude.{Streams}
 use Rattle.gr_record.specs.declared.fault.Fault.{Fault}
+use Rattle.gr_record.specs.declared.header.Header.{Header}
 use Rattle.gr_record.specs.Prelude.{AreBytes, events_spelling, front_records_at, stream_spelling}
 use Rattle.gr_record.proofs.Places.{header_items}
 use Rattle.gr_text.specs.Dumps.{WholeStream, upgraded, upgraded_header}
 use Rattle.gr_text.specs.Wholes.{IsWhole, bytes_of, upgraded_stream}
 use Rattle.gr_text.proofs.SpelledStreams.{events_before, header_before}
 use Rattle.gr_text.proofs.UpgradedStreams.{twice, upgraded_are_streams}
-use Rattle.gr_intake.specs.Joined.{Flat, ◌>>=◌, joined_of}
+use Rattle.gr_intake.specs.Joined.{Flat, ◌>>=◌, headers_in, joined_of}
 use Rattle.gr_intake.specs.Launch.{IsLaunchOf}
-use Rattle.gr_intake.proofs.Accepted.{ok, same_ok}
-use Rattle.gr_intake.proofs.Mapped.{any_of_map, mapped_from, mapped_there}
+use Rattle.gr_intake.proofs.Faults.{ok, same_ok}
+use Rattle.gr_intake.proofs.Seen.{front_is}
+use Rattle.gr_intake.proofs.Mapped.{mapped_from, mapped_there}
 use Rattle.gr_replay.specs.Each.{ReadsEach, each_of}
 use Rattle.gr_replay.specs.Laws.{AreUpgraded, siteless, SitesAreNotRead, SitesAreNotJudged, UpgradedAreOneLaunch, UpgradedHaveOneReport, UpgradedInputsAreOneLaunch, UpgradedInputsHaveOneReport}
-use Rattle.gr_replay.proofs.Alone.{IsStreamOf, alone, checked, header_long}
+use Rattle.gr_replay.proofs.Alone.{IsStreamOf, alone, checked}
 use Rattle.gr_replay.proofs.JoinedInputs.{AreStreamsOf, all_checked, all_of, each_checked, each_is}
 use Rattle.gr_replay.proofs.OneLaunch.{IsReadAs}
 
@@ -31,8 +33,12 @@ one_up f = Ok (up f)
 abbrev pub all_up : List Flat → Result (List Flat) Fault
 all_up fs = Ok (map up fs)
 
+test_up : (test : Header → Bool) (seen : List Flat) → list_any test (headers_in (map up seen)) ≡ list_any (λ h. test (upgraded_header h)) (headers_in seen)
+test_up test [] = refl
+test_up test (f ∷ seen) = ap (λ b. test (upgraded_header f.header) || b) (test_up test seen)
+
 checked_up : (seen : List Flat) (f : Flat) → checked (map up seen) (up f) ≡ checked seen f >>= one_up
-checked_up seen f = grind (arith, any_of_map up, length-map)
+checked_up seen f = grind (arith, test_up (λ s. s.group == f.header.group) seen, test_up (λ s. not (s.launch == f.header.launch)) seen, length-map)
 
 all_checked_up : (seen fs : List Flat) → all_checked (map up seen) (map up fs) ≡ all_checked seen fs >>= all_up
 all_checked_up seen [] = refl
@@ -118,7 +124,7 @@ one_long : (s : WholeStream) (more : List ℕ) → 1 ≤ length (spelled s ++ mo
 one_long s more = omega arith
 
 wholes_go : (ss ts : List WholeStream) → All IsWhole ss → All IsWhole ts → map upgraded_stream ss ≡ map upgraded_stream ts → Goes (bytes_of ss) (bytes_of ts)
-wholes_go [] ts whole also same f is = let long = header_long [] _ is.header in absurd (omega (arith, long))
+wholes_go [] ts whole also same f is = let long = (front_is [] f.header is.behind is.header).long in absurd (omega (arith, long))
 wholes_go (s ∷ t ∷ ss) ts whole also same f is =
     let none = (alone (spelled s) (bytes_of (t ∷ ss)) (siteless s) f (whole_is s (whole 0 s (omega arith))) is).1 in
     absurd (omega (arith, ap length none, one_long t (bytes_of ss)))

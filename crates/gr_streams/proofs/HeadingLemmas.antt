@@ -5,8 +5,8 @@ use Rattle.gr_record.specs.declared.fault.Fault.{Fault}
 use Rattle.gr_record.specs.Prelude.{Fails}
 use Rattle.gr_record.proofs.Outside.{fails_through}
 use Rattle.gr_replay.specs.Each.{all_known}
-use Rattle.gr_intake.specs.Joined.{◌>>=◌}
-use Rattle.gr_streams.specs.Headers.{header_behind, headers_behind, headers_of}
+use Rattle.gr_intake.specs.Joined.{◌>>=◌, header_after}
+use Rattle.gr_streams.specs.Headers.{headers_behind, headers_of}
 use Rattle.gr_streams.specs.Sources.{AreKnown}
 
 -- ---- bytes that are known
@@ -44,16 +44,16 @@ after : (seen : List Header) (xs ys : List (List ℕ)) → headers_behind seen (
 unfolding headers_behind
 after seen [] ys = refl
 after seen (b ∷ xs) ys =
-    elim (header_behind seen b) as (λ r. (r >>= λ h. headers_behind (seen ++ h ∷ []) (xs ++ ys)) ≡ (r >>= λ h. headers_behind (seen ++ h ∷ []) xs) >>= λ hs. headers_behind hs ys) [
+    elim (header_after seen b) as (λ r. (r >>= λ h. headers_behind (seen ++ h.0 ∷ []) (xs ++ ys)) ≡ (r >>= λ h. headers_behind (seen ++ h.0 ∷ []) xs) >>= λ hs. headers_behind hs ys) [
       | Err e ↦ refl
-      | Ok h ↦ after (seen ++ h ∷ []) xs ys
+      | Ok h ↦ after (seen ++ h.0 ∷ []) xs ys
     ]
 
 module _ (xs : List (List ℕ)) (hs : List Header) (read : headers_of xs ≡ Ok hs) (bytes : List ℕ) where
-  pub one_more_header : (h : Header) → header_behind hs bytes ≡ Ok h → headers_of (xs ++ bytes ∷ []) ≡ Ok (hs ++ h ∷ [])
+  pub one_more_header : (h : Header) (rest : List ℕ) → header_after hs bytes ≡ Ok (h, rest) → headers_of (xs ++ bytes ∷ []) ≡ Ok (hs ++ h ∷ [])
   unfolding headers_behind
-  one_more_header h is = rw (after [] xs (bytes ∷ []), read, is) refl
+  one_more_header h rest is = rw (after [] xs (bytes ∷ []), read, is) refl
 
-  pub header_refused : (ys : List (List ℕ)) (f : Fault) → Fails f (header_behind hs bytes) → Fails f (headers_of (xs ++ bytes ∷ ys))
+  pub header_refused : (ys : List (List ℕ)) (f : Fault) → Fails f (header_after hs bytes) → Fails f (headers_of (xs ++ bytes ∷ ys))
   unfolding headers_behind
-  header_refused ys f h = fails_through f (header_behind hs bytes) (headers_of (xs ++ bytes ∷ ys)) h (λ e. rw (after [] xs (bytes ∷ ys), read, e) refl)
+  header_refused ys f h = fails_through f (header_after hs bytes) (headers_of (xs ++ bytes ∷ ys)) h (λ e. rw (after [] xs (bytes ∷ ys), read, e) refl)

@@ -1,5 +1,5 @@
 -- The outcome of a stream is the same, read piece by piece or as a whole.
-use Rattle.gr_model.proofs.Common.{◌≡◌, ℕ, ◌≤◌, List, [], length, take, drop, Some, Result, Ok, Err, refl, sym, ap, ◌∙◌, arith, le-ltb, length-take, take-append-drop}
+use Rattle.gr_model.proofs.Common.{◌≡◌, ℕ, ◌≤◌, List, [], length, take, drop, Some, Result, Ok, Err, refl, arith, le-ltb}
 use Rattle.gr_model.specs.declared.event.Event.{Event}
 use Rattle.gr_model.specs.declared.limits.TheConstants.{MOST_RECORDS}
 use Rattle.gr_record.specs.declared.error.RecordError.{RecordError}
@@ -12,7 +12,7 @@ use Rattle.gr_record.specs.Prelude.{closed, read_from, reading, records_of, head
 use Rattle.gr_intake.specs.Joined.{at_place}
 use Rattle.gr_intake.proofs.Accepted.{AreRead, records_read}
 use Rattle.gr_streams.specs.Records.{events_at}
-use Rattle.gr_intake.proofs.Behind.{same_header}
+use Rattle.gr_intake.proofs.Seen.{own_bytes}
 
 -- what a stream is, by where its reading stops
 abbrev pub told_by : Stop → List Event → Result (List Event) RecordError
@@ -20,15 +20,10 @@ told_by AtEnd events = Ok events
 told_by Inside events = Err errors.Truncated
 told_by (AtFault e) events = Err e
 
-its_header : (bytes : List ℕ) → HEADER_LENGTH ≤ length bytes → header_at bytes ≡ header_at (take HEADER_LENGTH bytes)
-its_header bytes long =
-    let len : length (take HEADER_LENGTH bytes) ≡ HEADER_LENGTH = omega (arith, length-take HEADER_LENGTH bytes, long) in
-    ap header_at (sym (take-append-drop HEADER_LENGTH bytes)) ∙ same_header (drop HEADER_LENGTH bytes) (take HEADER_LENGTH bytes) len
-
 -- the events of a stream that is read piece by piece
 pub events_told : (place : ℕ) (bytes : List ℕ) → events_at place bytes ≡ at_place place (told_by (reading MOST_RECORDS bytes).stop (reading MOST_RECORDS bytes).events)
 unfolding events_at front_header_at front_records_at read_from
-events_told place bytes = grind (arith, its_header bytes)
+events_told place bytes = grind (arith, own_bytes bytes)
 
 -- ---- whole streams
 

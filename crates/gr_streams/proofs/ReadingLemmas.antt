@@ -15,7 +15,7 @@ use Rattle.gr_streams.specs.Records.{events_at}
 use Rattle.gr_streams.specs.Sending.{AreSent, IsFed, Tells}
 use Rattle.gr_streams.specs.Sources.{IsHeaded}
 use Rattle.gr_streams.proofs.AcceptedLemmas.{none_refused, sent_as_they_are}
-use Rattle.gr_intake.proofs.Behind.{header_found}
+use Rattle.gr_intake.proofs.Seen.{front_is}
 use Rattle.gr_streams.proofs.OutcomeLemmas.{events_told, read_to_end}
 
 -- ---- a fault
@@ -50,7 +50,7 @@ module _ (place : ℕ) (fed : List ℕ) (h : Header) (d : Standing) (s : Sending
       list : IsAccepted s.items events
       list =
           let long : 12 ≤ length fed = omega (arith, length-take 12 fed, headed.1) in
-          let read = read_to_end fed h long (header_found (take 12 fed) headed.1 h [] headed.0) end in
+          let read = read_to_end fed h long (front_is (take 12 fed) h [] headed.0).header end in
           subst (λ n. IsAccepted n events) (sym items) (record { few = read.few; good = read.good; ended = read.ended })
 
       by_refused : (b : Bool) → AreSent s.items events s.sent b → pushed ≡ events

@@ -1,13 +1,14 @@
 //! The headers that were read. A further one is compared with them, without a look at each.
 
-ghost use Rattle.std.specs.Prelude.{◌≡◌, ◌≢◌, ◌==◌, ◌++◌, ◌∷◌, [], not, length, All, IfErr, IfOk};
-ghost use Rattle.std.specs.List.{list_any};
+ghost use Rattle.std.specs.Prelude.{◌≡◌, ◌++◌, ◌∷◌, [], IfErr, IfOk};
 ghost use Rattle.gr_model.specs.Prelude.{IsShape};
-ghost use Rattle.gr_record.specs.Prelude.{IsHeader};
+ghost use Rattle.gr_record.specs.Prelude.{Gives, IsHeader, IsOfValues};
+ghost use Rattle.gr_intake.specs.Intakes.{MayFollow};
+ghost use Rattle.gr_intake.specs.Joined.{header_after};
 ghost use Rattle.gr_intake.specs.Launch.{IsLaunchFault};
 ghost use Rattle.gr_streams.specs.Headers.{AreHeadersOf, bares};
 
-use gr_model::event::ItemId;
+use gr_intake::headers::read_header_after;
 use gr_model::growing::GrowingShape;
 use gr_model::memory::Memory;
 use gr_model::shape::Shape;
@@ -26,7 +27,7 @@ pub(crate) struct Seen<A: Allocator = Global> {
 impl<A: Allocator> Model for Seen<A> {
     ghost use Rattle.std.specs.Prelude.{List};
     ghost use Rattle.gr_record.specs.declared.header.Header.{Header as AnyHeader};
-    ghost use Rattle.gr_streams.specs.Headers.{AreSeen};
+    ghost use Rattle.gr_intake.specs.Intakes.{AreSeen};
 
     ghost Value = { List AnyHeader };
 
@@ -48,36 +49,24 @@ impl<A: Allocator> Seen<A> {
         }
     }
 
-    /// The number of headers.
-    pub(crate) fn count(&self) -> u64
-        ensures { result ≡ length self.now }
+    /// The header at the front of the bytes, which comes after these, and the bytes after it.
+    ///
+    /// # Errors
+    /// The header's fault; `SameGroup`; `OtherLaunch`.
+    pub(crate) fn read_next<'p>(&self, bytes: &'p [u8]) -> Result<(Header, &'p [u8]), Fault>
+        ensures exact { Gives (λ x. (x.0, x.1.now)) result (header_after self.now bytes.now) }
+        ensures header { IfOk result (λ x. IsHeader x.0) }
+        ensures values { IfErr result IsOfValues }
     {
-        self.headers.len() as u64
-    }
-
-    /// Whether one of the headers is of this group.
-    pub(crate) fn has_group(&self, group: u16) -> bool
-        ensures { result ≡ list_any (λ s. s.group == group) self.now }
-    {
-        self.groups.has(ItemId { group, item: 0 })
-    }
-
-    /// Whether one of the headers is of another launch.
-    pub(crate) fn has_other_launch(&self, launch: u32) -> bool
-        ensures { result ≡ list_any (λ s. not (s.launch == launch)) self.now }
-    {
-        match self.headers.first() {
-            None => false,
-            Some(header) => header.launch != launch,
-        }
+        let place = self.headers.len() as u64;
+        let first = self.headers.first().copied();
+        read_header_after(place, &self.groups, first, bytes)
     }
 
     /// These headers, and one more.
     /// Requires: it is of the same launch, and of a group that none of them has.
     pub(crate) fn with_header(self, header: Header) -> Result<Seen<A>, Memory>
-        requires header { IsHeader header }
-        requires group { All (λ s. s.group ≢ header.group) self }
-        requires launch { All (λ s. s.launch ≡ header.launch) self }
+        requires { MayFollow self header }
         ensures { IfOk result (λ s. s ≡ self ++ header ∷ []) }
     {
         let Seen {

@@ -1,11 +1,12 @@
 //! A reader after the header of its stream was read.
 
-ghost use Rattle.std.specs.Prelude.{◌≡◌, ◌≢◌, ◌<◌, ◌≤◌, length, All, IfErr, IfOk, IfSome, Ok, Some};
+ghost use Rattle.std.specs.Prelude.{◌≡◌, ◌<◌, ℕ, List, length, IfErr, IfOk, IfSome, Ok, Some};
 ghost use Rattle.std.specs.Io.KnownBytes.{Consumes, IsAtEnd};
-ghost use Rattle.gr_record.specs.Prelude.{Fails, Gives, IsOfReading, IsHeader};
+ghost use Rattle.gr_record.specs.Prelude.{Fails, IsOfReading};
 ghost use Rattle.gr_record.specs.declared.fault.Fault.TheVariants as faults;
 ghost use Rattle.gr_record.specs.declared.layout.TheConstants.{HEADER_LENGTH};
-ghost use Rattle.gr_streams.specs.Headers.{header_behind};
+ghost use Rattle.gr_intake.specs.Intakes.{MayFollow};
+ghost use Rattle.gr_intake.specs.Joined.{header_after};
 ghost use Rattle.gr_streams.specs.Sources.{IsHeaded, known_of};
 
 use crate::seen::Seen;
@@ -13,7 +14,6 @@ use arrayvec::ArrayVec;
 use gr_record::fault::Fault;
 use gr_record::header::Header;
 use gr_record::layout::HEADER_LENGTH;
-use gr_record::stream::read_front_header;
 use gr_threads::sender::Sender;
 use std::alloc::{Allocator, Global};
 use std::io::Read;
@@ -60,34 +60,6 @@ fn read_prefix<T: Read>(reader: &mut T) -> Result<ArrayVec<u8, HEADER_LENGTH>, F
     Ok(prefix)
 }
 
-/// The header at the front of the bytes, which comes after these headers.
-/// Requires: there are at most as many bytes as a header has.
-///
-/// # Errors
-/// The header's fault; `SameGroup`; `OtherLaunch`.
-fn header_behind<A: Allocator>(seen: &Seen<A>, prefix: &[u8]) -> Result<Header, Fault>
-    requires { length prefix.now ≤ HEADER_LENGTH }
-    ensures exact { Gives (λ h. h) result (header_behind seen.now prefix.now) }
-    ensures good { IfOk result IsHeader }
-    ensures apart { IfOk result (λ h. All (λ s. s.group ≢ h.group) seen.now) }
-    ensures launch { IfOk result (λ h. All (λ s. s.launch ≡ h.launch) seen.now) }
-    ensures headed { IfOk result (λ h. IsHeaded h prefix.now) }
-    ensures fault { IfErr result IsOfReading }
-{
-    let place = seen.count();
-    let (header, _rest) = match read_front_header(prefix) {
-        Ok(found) => found,
-        Err(error) => return Err(Fault::of_stream(place, error)),
-    };
-    if seen.has_group(header.group) {
-        return Err(Fault::SameGroup(place));
-    }
-    if seen.has_other_launch(header.launch) {
-        return Err(Fault::OtherLaunch(place));
-    }
-    Ok(header)
-}
-
 /// Reads the header of a reader's stream, which comes after these headers.
 ///
 /// # Errors
@@ -97,16 +69,14 @@ pub(crate) fn open<T: Read + Drop, A: Allocator>(
     seen: &Seen<A>,
 ) -> Result<Source<T>, Fault>
     ensures known { IfOk result (λ s. IfSome (T.remaining reader) (λ bytes. known_of T.remaining s ≡ Some bytes)) }
-    ensures header { IfOk result (λ s. IfSome (T.remaining reader) (λ bytes. header_behind seen.now bytes ≡ Ok s.header)) }
-    ensures good { IfOk result (λ s. IsHeader s.header) }
-    ensures apart { IfOk result (λ s. All (λ h. h.group ≢ s.header.group) seen.now) }
-    ensures launch { IfOk result (λ s. All (λ h. h.launch ≡ s.header.launch) seen.now) }
+    ensures header { IfOk result (λ s. IfSome (T.remaining reader) (λ bytes. (rest : List ℕ) × (header_after seen.now bytes ≡ Ok (s.header, rest)))) }
+    ensures follows { IfOk result (λ s. MayFollow seen.now s.header) }
     ensures headed { IfOk result (λ s. IsHeaded s.header s.prefix.items) }
-    ensures exact { IfErr result (λ f. IfSome (T.remaining reader) (λ bytes. Fails f (header_behind seen.now bytes))) }
+    ensures exact { IfErr result (λ f. IfSome (T.remaining reader) (λ bytes. Fails f (header_after seen.now bytes))) }
     ensures fault { IfErr result IsOfReading }
 {
     let prefix = read_prefix(&mut reader)?;
-    let header = header_behind(seen, prefix.as_slice())?;
+    let (header, _rest) = seen.read_next(prefix.as_slice())?;
     Ok(Source {
         header,
         prefix,

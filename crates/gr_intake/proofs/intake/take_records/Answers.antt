@@ -1,4 +1,4 @@
-use Rattle.gr_model.proofs.Common.{◌≡◌, ◌<◌, ◌++◌, ℕ, List, Some, None, ap, sym, subst, ◌∙◌, length, arith, append_assoc, length-append, length-map, length-take-le}
+use Rattle.gr_model.proofs.Common.{◌≡◌, ◌<◌, ◌++◌, [], ℕ, List, Some, None, ap, refl, sym, subst, ◌∙◌, length, arith, append_assoc, length-append, length-map, length-take-le}
 use Rattle.gr_record.specs.Prelude.{Fails, stream_fault, record_length}
 use Rattle.gr_model.specs.declared.limits.TheConstants.{MOST_RECORDS}
 use Rattle.gr_record.proofs.Loop as loop
@@ -12,6 +12,15 @@ use Rattle.gr_intake.proofs.intake.take_records.Goals as goal
 -- one record more lies before the bytes that are left
 further : (bytes front rest unit after : List ℕ) → bytes ≡ front ++ rest → rest ≡ unit ++ after → bytes ≡ (front ++ unit) ++ after
 further bytes front rest unit after is parts = is ∙ (ap (λ (x : List ℕ). front ++ x) parts ∙ sym (append_assoc front unit after))
+
+pub loop-rest-init : goal.loop-rest-init
+loop-rest-init g c = record {
+  read = c.requires.read;
+  kept = c.requires.kept;
+  goes = λ more. refl;
+  left = ([], refl);
+  size = rw c.header.ensures at c.record_length-size.ensures.length;
+}
 
 pub read-requires-clause-size : goal.read-requires-clause-size
 read-requires-clause-size g c = ap length c.split_at.ensures.front ∙ (length-take-le _ c.loop-rest.rest.now (omega (arith, c.loop-rest-test.true)) ∙ c.loop-rest.invariant.size)

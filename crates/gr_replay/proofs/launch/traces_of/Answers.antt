@@ -2,7 +2,8 @@ use Rattle.gr_model.proofs.Common.{refl, subst, sym, ◌∙◌}
 use Rattle.gr_model.specs.Prelude.{IsShape, IsShapeFault, Streams, AreAccepted}
 use Rattle.gr_replay.specs.InMemory.{flats}
 use Rattle.gr_intake.specs.Launch.{IsLaunchOf}
-use Rattle.gr_replay.proofs.Launching.{launch_of, missing_permutation, launch_is, is_launch, launch_accepts}
+use Rattle.gr_intake.proofs.Judged.{launch_accepts}
+use Rattle.gr_replay.proofs.Launching.{launch_of, missing_permutation, launch_is, is_launch}
 use Rattle.gr_replay.proofs.launch.traces_of.Goals as goal
 
 pub returns-in-Some-clause-fault : goal.returns-in-Some-clause-fault

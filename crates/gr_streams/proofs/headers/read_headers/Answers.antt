@@ -1,8 +1,9 @@
-use Rattle.gr_model.proofs.Common.{◌≡◌, ◌≢◌, ◌∙◌, ◌++◌, ◌∷◌, [], Ok, ap, arith, append_assoc, map, refl, rules, sym, into_iter_items, map-append, map_push, All-push, same_Some, err_from_is_err_and}
+use Rattle.gr_model.proofs.Common.{◌≡◌, ◌≢◌, ◌∙◌, ◌++◌, ◌∷◌, [], ℕ, List, Ok, ap, arith, append_assoc, map, refl, rules, sym, into_iter_items, map-append, map_push, All-push, same_Some, err_from_is_err_and}
 use Rattle.std.proofs.lemmas.List.Quantifiers.{all_pairs_push}
 use Rattle.gr_record.specs.Prelude.{Fails}
 use Rattle.gr_record.specs.declared.header.Header.{Header}
-use Rattle.gr_streams.specs.Headers.{header_behind, headers_behind, headers_of}
+use Rattle.gr_intake.specs.Joined.{header_after}
+use Rattle.gr_streams.specs.Headers.{headers_behind, headers_of}
 use Rattle.gr_streams.specs.Sources.{IsHeaded, known_of}
 use Rattle.gr_streams.specs.declared.source.Source.{Source}
 use Rattle.gr_streams.proofs.HeadingLemmas.{header_refused, known_so_far, one_more_header, one_more_known}
@@ -32,7 +33,7 @@ returns-in_err-source-clause-exact g c =
     rw (p.1, p.2, ← inv.left, items, map-append rem c.loop-reader.yielded)
     (known_so_far (map rem c.loop-reader.yielded) (map rem left) (rem c.in-Some.reader)
     (λ inputs. headers_of inputs ≡ Ok c.loop-reader.headers)
-    (λ bytes. Fails f (header_behind c.loop-reader.headers bytes))
+    (λ bytes. Fails f (header_after c.loop-reader.headers bytes))
     (λ inputs. Fails f (headers_of inputs))
     inv.headers c.in_err-source.ensures.exact (λ xs b ys _ read fails. header_refused xs c.loop-reader.headers read b ys f fails))
 
@@ -46,16 +47,16 @@ loop-reader-preserved g c =
     let items : into_iter_items c.loop-reader.reader-iterator ≡ c.in-Some.reader ∷ left = search rules in
     rw (c.in_ok-headers.ensures, c.in_ok-keep.ensures) (record {
       left = rw (append_assoc, ← items) inv.left;
-      apart = all_pairs_push (λ (g h : Header). g.group ≢ h.group) hs s.header inv.apart c.in_ok-source.ensures.apart;
+      apart = all_pairs_push (λ (g h : Header). g.group ≢ h.group) hs s.header inv.apart c.in_ok-source.ensures.follows.group;
       sources = map_push (λ (x : Source _). x.header) c.loop-reader.sources.items s ∙ ap (λ l. l ++ s.header ∷ []) inv.sources;
       known = rw (map_push rem c.loop-reader.yielded c.in-Some.reader, map_push (known_of rem) c.loop-reader.sources.items s) (one_more_known (map rem c.loop-reader.yielded) (map (known_of rem) c.loop-reader.sources.items) (rem c.in-Some.reader) (known_of rem s) inv.known c.in_ok-source.ensures.known);
       headed = All-push (λ (x : Source _). IsHeaded x.header x.prefix.items) c.loop-reader.sources.items s inv.headed c.in_ok-source.ensures.headed;
       headers = rw (map_push rem c.loop-reader.yielded c.in-Some.reader)
           (known_so_far (map rem c.loop-reader.yielded) [] (rem c.in-Some.reader)
           (λ inputs. headers_of inputs ≡ Ok hs)
-          (λ bytes. header_behind hs bytes ≡ Ok s.header)
+          (λ bytes. (rest : List ℕ) × (header_after hs bytes ≡ Ok (s.header, rest)))
           (λ inputs. headers_of inputs ≡ Ok (hs ++ s.header ∷ []))
-          inv.headers c.in_ok-source.ensures.header (λ xs b ys none read is. rw (← same_Some [] ys none) (one_more_header xs hs read b s.header is)));
+          inv.headers c.in_ok-source.ensures.header (λ xs b ys none read is. rw (← same_Some [] ys none) (one_more_header xs hs read b s.header is.0 is.1)));
     })
 
 pub returns-clause-headers : goal.returns-clause-headers

@@ -5,7 +5,7 @@ use Rattle.gr_replay.specs.Each.{all_known}
 use Rattle.gr_intake.specs.Launch.{IsLaunchFault}
 use Rattle.gr_intake.proofs.Accepted.{none_are}
 use Rattle.gr_replay.proofs.JoinedInputs.{each_are}
-use Rattle.gr_replay.proofs.Launching.{launch_accepts}
+use Rattle.gr_intake.proofs.Judged.{launch_accepts}
 use Rattle.gr_report.specs.Whole.{whole_of}
 use Rattle.gr_streams.specs.Headers.{AreApart, bares, streams_with}
 use Rattle.gr_streams.specs.Streams.{IsReportOn}
