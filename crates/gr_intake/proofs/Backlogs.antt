@@ -1,9 +1,6 @@
 -- Records that wait: one more, and the first of them.
 use Rattle.gr_model.proofs.Common.{◌≡◌, ◌⊎◌, ℕ, zero, suc, ◌+◌, ◌<◌, ◌≤◌, Bool, true, false, cond, List, [], ◌∷◌, ◌++◌, length, drop, filter, get_or, set, refl, sym, ap, ◌∙◌, arith, append-nil, append_assoc, eqb-true, ◌==◌, flat_map, drop_all, drop_more, drop-append-le, length-append, get_or-set_other, get_or_append_left, length-set}
-use Rattle.gr_model.specs.declared.event.Event.{Event}
-use Rattle.gr_model.specs.declared.event.Name.{Name}
-use Rattle.gr_record.specs.declared.header.Header.{Header}
-use Rattle.gr_intake.specs.declared.short.Short.{Short}
+use Rattle.gr_intake.specs.Types.{Event, Name, Header, Short}
 use Rattle.gr_intake.specs.Waiting.{AreNamed, ArePieces, Coming, behind_names, first_names, listed, short_of, with_names}
 
 -- a stream with what waits of it

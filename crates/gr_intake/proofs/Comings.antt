@@ -1,8 +1,7 @@
 -- Streams as far as they have come, where a stream begins, a record comes, and a stream ends.
 use Rattle.gr_model.proofs.Common.{◌≡◌, ◌≢◌, ℕ, suc, ◌+◌, ◌<◌, ◌≤◌, true, false, List, [], ◌∷◌, ◌++◌, length, take, slice_index, All, Contains, Option, Some, None, Ok, Err, refl, sym, ap, ◌∙◌, subst, arith, ⊎_elim, append-nil, append_assoc, option_map, cases_lt, get_or-set_same, All-contains, All-push, All-tail, length-append, length-drop, map-append, take-append-drop, Contains-append_left, Contains-push, Contains-push_cases, sum_by-le}
 use Rattle.std.proofs.lemmas.List.Quantifiers.{all_pairs_push}
-use Rattle.gr_model.specs.declared.event.Event.{Event}
-use Rattle.gr_model.specs.declared.limits.TheConstants.{MOST_ITEMS_OF_A_GROUP, MOST_RECORDS}
+use Rattle.gr_intake.specs.Types.{Event, MOST_ITEMS_OF_A_GROUP, MOST_RECORDS, Truncated, Fault, Header, HEADER_LENGTH, Intake, Open}
 use Rattle.gr_model.specs.Prelude.{IsEventOk, is_end, CanAdd, put, with_group, IsPartOfShape, Streams, is_complete, list_of, size_of}
 use Rattle.gr_model.proofs.GroupLaws.{group_grows, list_stays, nothing_came, part_of_none, prefixes_with_group}
 use Rattle.gr_steps.proofs.Orders.{lawful_empty}
@@ -16,14 +15,8 @@ use Rattle.gr_closure.specs.AccessesAlong.AreAccesses.{of_none}
 use Rattle.gr_lanes.specs.Takes.{CanTake, with_record}
 use Rattle.gr_record.proofs.Outside.{fails_through}
 use Rattle.gr_record.proofs.Places.{header_group, header_items}
-use Rattle.gr_record.specs.declared.error.RecordError.TheVariants.{Truncated}
 use Rattle.gr_record.specs.declared.fault.Fault.TheVariants as faults
-use Rattle.gr_record.specs.declared.fault.Fault.{Fault}
-use Rattle.gr_record.specs.declared.header.Header.{Header}
-use Rattle.gr_record.specs.declared.layout.TheConstants.{HEADER_LENGTH}
 use Rattle.gr_record.specs.Prelude.{Fails, IsHeader}
-use Rattle.gr_intake.specs.declared.intake.Intake.{Intake}
-use Rattle.gr_intake.specs.declared.open.Open.{Open}
 use Rattle.gr_intake.specs.Intakes.{AreGroupsOf, AreOpen, AreSeen, IsIntake, IsKeptOpen, IsNext, IsRead, MayFollow, Moves, behind, coming_in, read_behind, unit_at, unit_of, come, come_of, headers_of, with_event}
 use Rattle.gr_intake.specs.Joined.{Flat, header_after, headers_in}
 use Rattle.gr_intake.specs.Laws.{AreStreams}

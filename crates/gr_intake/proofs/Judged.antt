@@ -1,9 +1,7 @@
 -- The launch whose streams have come, or why there is none, which the sizes of its groups show.
 use Rattle.gr_model.proofs.Common.{◌≡◌, ◌≢◌, ℕ, ◌<◌, List, [], ◌∷◌, ◌++◌, ◌==◌, length, get_or, slice_index, All, Contains, Some, refl, sym, ap, ◌∙◌, subst, arith, append-nil, eqb-true, get_or_from_slice_get, All-contains, Any-from_list_any, slice_get-get_or}
-use Rattle.gr_model.specs.declared.event.Event.{Event}
+use Rattle.gr_intake.specs.Types.{Event, Fault, Header}
 use Rattle.gr_model.specs.Prelude.{IsShape, AreAccepted, IsAccepted, Streams, list_of, size_of}
-use Rattle.gr_record.specs.declared.fault.Fault.{Fault}
-use Rattle.gr_record.specs.declared.header.Header.{Header}
 use Rattle.gr_intake.specs.Intakes.{AreSeen, IsGap, come, come_of, headers_of}
 use Rattle.gr_intake.specs.Joined.{Flat, headers_in}
 use Rattle.gr_intake.specs.Laws.{AreStreams}

@@ -1,8 +1,7 @@
 -- The streams that have come are sources, whose records that wait are still to come.
 use Rattle.gr_model.proofs.Common.{◌≡◌, ◌≢◌, ◌<◌, ℕ, List, [], ◌∷◌, length, map, get_or, AllPairs, Contains, refl, sym, ap, ◌∙◌, subst, arith, get_or-map, length-map, All-contains, Contains-get_or}
-use Rattle.gr_model.specs.declared.event.Event.{Event}
+use Rattle.gr_intake.specs.Types.{Event, Header}
 use Rattle.gr_model.specs.Prelude.{Streams, IsAccepted, IsPrefix}
-use Rattle.gr_record.specs.declared.header.Header.{Header}
 use Rattle.gr_intake.specs.Intakes.{AreSeen, come, come_of}
 use Rattle.gr_intake.specs.Joined.{Flat, headers_in}
 use Rattle.gr_intake.specs.Laws.{AreStreams}

@@ -1,25 +1,17 @@
 -- What was read of streams that follow one another, and what the bytes after it add.
 -- Source: docs/FORMATS.md, "Several streams".
 use Rattle.std.specs.Prelude.{◌≡◌, ◌≢◌, ℕ, ◌-◌, ◌<◌, ◌≤◌, Bool, true, false, ◌==◌, List, All, AllPairs, [], ◌∷◌, ◌++◌, length, map, slice_index, Contains, Option, Some, None, IfSome, option_map, Result, Ok, Err, if◌then◌else◌}
-use Rattle.gr_model.specs.declared.event.Event.{Event}
-use Rattle.gr_model.specs.declared.limits.TheConstants.{MOST_RECORDS}
+use Rattle.gr_intake.specs.Types.{Event, MOST_RECORDS, Fault, Header, HEADER_LENGTH, RecordError, TooManyRecords, Intake, Open}
 use Rattle.gr_model.specs.Prelude.{IsEventOk, is_end, Streams, list_of}
-use Rattle.gr_record.specs.declared.fault.Fault.{Fault}
 use Rattle.gr_record.specs.declared.fault.Fault.TheVariants.{MissingGroup, Shape}
 use Rattle.gr_model.specs.declared.shape.ShapeError.TheVariants.{NoGroups}
-use Rattle.gr_record.specs.declared.header.Header.{Header}
-use Rattle.gr_record.specs.declared.layout.TheConstants.{HEADER_LENGTH}
 use Rattle.gr_record.specs.Prelude.{Records, records_of, event_at, IsHeader, record_length, whole}
-use Rattle.gr_record.specs.declared.error.RecordError.{RecordError}
-use Rattle.gr_record.specs.declared.error.RecordError.TheVariants.{TooManyRecords}
 use Rattle.gr_order.specs.Sequences.{IsSequence, Sequence}
 use Rattle.gr_shadow.specs.Launches.{LaunchKept}
 use Rattle.gr_intake.specs.Joined.{Flat, ◌>>=◌, at_place, joined_at}
 use Rattle.gr_intake.specs.Laws.{AreStreams}
 use Rattle.gr_intake.specs.Sequencing.{AreShadowsOf}
 use Rattle.gr_intake.specs.Waiting.{Coming}
-use Rattle.gr_intake.specs.declared.intake.Intake.{Intake}
-use Rattle.gr_intake.specs.declared.open.Open.{Open}
 
 -- ---- streams as far as they have come
 

@@ -2,10 +2,7 @@
 -- Source: docs/FORMATS.md, "Several streams".
 use Rattle.std.specs.Prelude.{ℕ, zero, suc, not, ◌==◌, if◌then◌else◌, List, [], ◌∷◌, ◌++◌, length, map, Result, Ok, Err}
 use Rattle.std.specs.List.{list_any}
-use Rattle.gr_model.specs.declared.event.Event.{Event}
-use Rattle.gr_record.specs.declared.error.RecordError.{RecordError}
-use Rattle.gr_record.specs.declared.header.Header.{Header}
-use Rattle.gr_record.specs.declared.fault.Fault.{Fault}
+use Rattle.gr_intake.specs.Types.{Event, RecordError, Header, Fault}
 use Rattle.gr_record.specs.declared.fault.Fault.TheVariants as faults
 use Rattle.gr_record.specs.Prelude.{front_header_at, front_records_at}
 

@@ -4,3 +4,4 @@ pub mod Launch
 pub mod Sequencing
 pub mod Intakes
 pub mod Waiting
+pub mod Types

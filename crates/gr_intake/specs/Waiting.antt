@@ -1,10 +1,7 @@
 -- Records that have come and wait to be taken.
 -- Source: docs/FORMATS.md, "Stream".
 use Rattle.std.specs.Prelude.{◌≡◌, ℕ, ◌<◌, ◌≤◌, Bool, List, [], ◌∷◌, ◌++◌, drop, filter, length, slice_index_or, if◌then◌else◌}
-use Rattle.gr_model.specs.declared.event.Event.{Event}
-use Rattle.gr_model.specs.declared.event.Name.{Name}
-use Rattle.gr_record.specs.declared.header.Header.{Header}
-use Rattle.gr_intake.specs.declared.short.Short.{Short}
+use Rattle.gr_intake.specs.Types.{Event, Name, Header, Short}
 
 -- a stream with the records of it that wait
 pub record Coming : Type 0 where

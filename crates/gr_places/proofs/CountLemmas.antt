@@ -1,8 +1,7 @@
 -- How many records of a kind a list has.
 use Rattle.gr_model.proofs.Common.{◌≤◌, List, length}
 use Rattle.gr_model.proofs.ListsOfRecords.{length-filter_le}
-use Rattle.gr_model.specs.declared.event.Event.{Event}
-use Rattle.gr_places.specs.declared.counts.RecordKind.{RecordKind}
+use Rattle.gr_places.specs.Types.{Event, RecordKind}
 use Rattle.gr_places.specs.Counts.{count_in, is_of_kind}
 
 pub not_more : (k : RecordKind) (list : List Event) → count_in k list ≤ length list

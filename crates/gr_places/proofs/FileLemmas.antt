@@ -3,10 +3,8 @@ use Rattle.gr_model.proofs.Common.{◌≡◌, ℕ, List, Option, Result, Ok, Err
 use Rattle.gr_record.proofs.Outside.{at_known}
 use Rattle.gr_record.specs.Prelude.{IsOutside}
 use Rattle.gr_places.specs.SideLines.{BufferSaid, PlaceSaid, buffers_in, places_in}
-use Rattle.gr_record.specs.declared.fault.Fault.{Fault}
+use Rattle.gr_places.specs.Types.{Fault, SidesFault, Buffers, Places, Run}
 use Rattle.gr_replay.specs.Each.{all_known}
-use Rattle.gr_places.specs.declared.sides_fault.SidesFault.{SidesFault}
-use Rattle.gr_places.specs.declared.sides_fault.SidesFault.TheVariants.{Buffers, Places, Run}
 use Rattle.gr_places.specs.Opening.{AreAllOpened, HoldsOfAllFiles, IsSidesFault, Pair, RefusesBuffers, RefusesPlaces, known_of}
 use Rattle.gr_places.specs.Sides.{SidesSaid}
 use Rattle.gr_places.specs.Files.{IsShowFault}

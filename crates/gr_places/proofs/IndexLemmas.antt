@@ -2,8 +2,7 @@
 use Rattle.gr_model.proofs.Common.{◌≡◌, ◌<◌, ◌+◌, ℕ, cond, List, arith, Some, Bor, ap, drop, get_or, length, map, ◌∙◌, option_map, position_from}
 use Rattle.std.proofs.lemmas.List.{drop_more}
 use Rattle.gr_text.specs.LineReading.{same}
-use Rattle.gr_places.specs.declared.places.Placed.{Placed}
-use Rattle.gr_places.specs.declared.places.PlaceLine.{PlaceLine}
+use Rattle.gr_places.specs.Types.{Placed, PlaceLine}
 use Rattle.gr_places.specs.PlaceIndexes.{number_in, same_key, text_in}
 use Rattle.gr_places.specs.SideLines.{PlaceSaid, place_line, place_of, same_placed}
 

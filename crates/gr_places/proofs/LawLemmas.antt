@@ -1,12 +1,8 @@
 -- A fault of the stream of an input, and where reading of that input stops.
 use Rattle.gr_model.proofs.Common.{◌≡◌, ◌⊎◌, ℕ, suc, ◌+◌, Bool, true, false, List, [], ◌∷◌, ◌++◌, length, drop, Some, Result, Ok, Err, refl, ap, ◌∙◌, arith, inl, inr, ◌==◌, if◌then◌else◌, not, slice_get, ne_eqb, length-append, length-map, list_any, cases_lt, lt-ltb, le-ltb}
-use Rattle.gr_model.specs.declared.event.Event.{Event}
-use Rattle.gr_model.specs.declared.limits.TheConstants.{MOST_RECORDS}
-use Rattle.gr_record.specs.declared.error.RecordError.{RecordError}
+use Rattle.gr_places.specs.Types.{Event, MOST_RECORDS, RecordError, Fault, Header}
 use Rattle.gr_record.specs.declared.error.RecordError.TheVariants as errors
-use Rattle.gr_record.specs.declared.fault.Fault.{Fault}
 use Rattle.gr_record.specs.declared.fault.Fault.TheVariants as faults
-use Rattle.gr_record.specs.declared.header.Header.{Header}
 use Rattle.gr_record.specs.declared.layout.TheConstants.{HEADER_LENGTH}
 use Rattle.gr_record.specs.declared.stop.Stop.{Stop}
 use Rattle.gr_record.specs.declared.stop.Stop.TheVariants.{Inside, AtEnd, AtFault}

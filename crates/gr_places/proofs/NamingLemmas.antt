@@ -3,8 +3,7 @@ use Rattle.gr_model.proofs.Common.{◌≡◌, ℕ, ◌-◌, ◌^◌, ◌<◌, �
 use Rattle.std.proofs.lemmas.Option.{cond_some}
 use Rattle.gr_text.specs.LineReading.{◌>>=◌, same}
 use Rattle.gr_text.proofs.LineNumbers.{each_some, number_back, number_told, same_is, same_self, same_told}
-use Rattle.gr_model.specs.declared.event.Word.{Word}
-use Rattle.gr_places.specs.declared.buffers.BufferLine.{BufferLine}
+use Rattle.gr_places.specs.Types.{Word, BufferLine}
 use Rattle.gr_places.specs.SideLines.{BufferSaid, ElementSaid, buffer_line, element_of, index_in}
 use Rattle.gr_places.proofs.Reading.{element_found, made}
 use Rattle.gr_places.specs.Naming.{IsSaid, IsText, after, before, in_brackets, index_after, number_of, word_at, word_if, word_in}

@@ -2,8 +2,7 @@
 use Rattle.gr_model.proofs.Common.{◌≡◌, ℕ, Bool, List, [], ◌∷◌, ◌++◌, Option, Some, None, Result, Ok, Err, refl, ap, map, length, arith, find, is_some, option_and_then, option_map, IsUtf8, append-nil, false_from_ne_true}
 use Rattle.std.specs.Result.{MatchResult, result_ok}
 use Rattle.std.proofs.lemmas.Str.{IsUtf8-from_is_utf8, is_utf8-from_IsUtf8}
-use Rattle.gr_model.specs.declared.event.Word.{Word}
-use Rattle.gr_places.specs.declared.buffers.BufferLine.{BufferLine}
+use Rattle.gr_places.specs.Types.{Word, BufferLine}
 use Rattle.gr_places.specs.SideLines.{BufferSaid, ElementSaid, buffer_line, element_of, index_in, text_said}
 
 -- what lines say, after what the lines before them said

@@ -3,13 +3,12 @@
 use Rattle.std.specs.Prelude.{◌≡◌, ◌⊎◌, ℕ, Bool, true, false, List, Option, Result, IfSome}
 use Rattle.gr_model.specs.Prelude.{AreAccepted, Streams}
 use Rattle.gr_record.specs.Prelude.{IsOutside}
-use Rattle.gr_record.specs.declared.fault.Fault.{Fault}
+use Rattle.gr_places.specs.Types.{Fault, Counts}
 use Rattle.gr_record.specs.declared.fault.Fault.TheVariants as faults
 use Rattle.gr_places.specs.Files.{HoldsOfFiles, IsOpeningFault}
 use Rattle.gr_replay.specs.Each.{IsEachFault, ReadsEach}
 use Rattle.gr_places.specs.declared.checking.Checked.{Checked}
 use Rattle.gr_places.specs.declared.checking.Checked.TheVariants as answers
-use Rattle.gr_places.specs.declared.counts.Counts.{Counts}
 use Rattle.gr_places.specs.Counts.{counts}
 use Rattle.gr_places.specs.Places.{PlaceSaid, place_of, place_said}
 

@@ -2,12 +2,10 @@
 -- Source: docs/OUTPUT.md, "check".
 use Rattle.std.specs.Prelude.{ℕ, Bool, true, false, List, length, filter, sum}
 use Rattle.std.specs.List.{sum_by}
-use Rattle.gr_model.specs.declared.event.Event.{Event}
+use Rattle.gr_places.specs.Types.{Event, Counts, RecordKind}
 use Rattle.gr_model.specs.declared.event.Kind.{Kind}
 use Rattle.gr_model.specs.declared.event.Kind.TheVariants.{Read, Write, Load, Store, Rmw, Barrier, End}
 use Rattle.gr_model.specs.Prelude.{Streams}
-use Rattle.gr_places.specs.declared.counts.Counts.{Counts}
-use Rattle.gr_places.specs.declared.counts.RecordKind.{RecordKind}
 use Rattle.gr_places.specs.declared.counts.RecordKind.TheVariants as kinds
 
 -- whether a record is of this kind, whatever its scope, its order and its flags are

@@ -3,8 +3,7 @@
 use Rattle.std.specs.Prelude.{ℕ, List, ◌++◌, codes, decimal}
 use Rattle.gr_report.specs.FaultText.{fault_line}
 use Rattle.gr_report.specs.Putting.{field}
-use Rattle.gr_places.specs.declared.sides_fault.SidesFault.{SidesFault}
-use Rattle.gr_places.specs.declared.sides_fault.SidesFault.TheVariants.{Buffers, Places, Run}
+use Rattle.gr_places.specs.Types.{SidesFault, Buffers, Places, Run}
 
 abbrev pub bad_line : List ℕ → ℕ → List ℕ
 bad_line before line = field before (decimal line) ++ codes ": bad line\n"

@@ -11,3 +11,4 @@ pub mod Neighbours
 pub mod Places
 pub mod Checked
 pub mod Laws
+pub mod Types

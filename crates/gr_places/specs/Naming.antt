@@ -4,8 +4,7 @@ use Rattle.std.specs.Prelude.{◌≡◌, ℕ, ◌+◌, ◌-◌, ◌^◌, ◌<◌
 use Rattle.std.specs.Option.{option_map}
 use Rattle.gr_text.specs.LineReading as reading
 use Rattle.gr_text.specs.LineReading.{◌>>=◌, same}
-use Rattle.gr_model.specs.declared.event.Word.{Word}
-use Rattle.gr_model.specs.declared.event.Word.TheVariants.{Global, Local}
+use Rattle.gr_places.specs.Types.{Word, Global, Local}
 use Rattle.gr_places.specs.SideLines.{BufferSaid, ElementSaid, element_of}
 
 -- an index in brackets

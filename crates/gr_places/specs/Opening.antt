@@ -5,8 +5,7 @@ use Rattle.gr_record.specs.Prelude.{IsOutside}
 use Rattle.gr_places.specs.SideLines.{buffers_in, places_in}
 use Rattle.gr_replay.specs.Each.{all_known}
 use Rattle.gr_record.specs.declared.fault.Fault.TheVariants as faults
-use Rattle.gr_places.specs.declared.sides_fault.SidesFault.{SidesFault}
-use Rattle.gr_places.specs.declared.sides_fault.SidesFault.TheVariants.{Buffers, Places, Run}
+use Rattle.gr_places.specs.Types.{SidesFault, Buffers, Places, Run}
 use Rattle.gr_places.specs.declared.files.SideNames.{SideNames}
 use Rattle.gr_places.specs.Sides.{SidesSaid}
 use Rattle.gr_places.specs.Files.{AreOpened, IsOpeningFault, IsShowFault}

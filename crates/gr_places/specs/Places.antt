@@ -1,11 +1,10 @@
 -- What the fault of files is about.
 -- Source: docs/OUTPUT.md, "check".
 use Rattle.std.specs.Prelude.{ℕ, List, Option, option_map, slice_get}
-use Rattle.gr_record.specs.declared.fault.Fault.{Fault}
+use Rattle.gr_places.specs.Types.{Fault, Spot}
 use Rattle.gr_record.specs.declared.fault.Fault.TheVariants as faults
 use Rattle.gr_places.specs.declared.fault_places.FaultPlace.{FaultPlace}
 use Rattle.gr_places.specs.declared.fault_places.FaultPlace.TheVariants as places
-use Rattle.gr_places.specs.declared.spot.Spot.{Spot}
 use Rattle.gr_places.specs.Neighbours.{first_above, first_like}
 use Rattle.gr_places.specs.Spots.{spot}
 

@@ -5,16 +5,12 @@ use Rattle.std.specs.List.{find, position_from}
 use Rattle.std.specs.Option.{is_some, option_and_then, option_map}
 use Rattle.std.specs.Str.{is_utf8}
 use Rattle.gr_text.specs.LineReading.{◌>>=◌, first_of, number_of, same, short_of}
-use Rattle.gr_model.specs.declared.event.Word.{Word}
-use Rattle.gr_model.specs.declared.event.Word.TheVariants.{Global, Local}
+use Rattle.gr_places.specs.Types.{Word, Global, Local, BufferLine, Placed, PlaceLine}
 use Rattle.gr_text.specs.Lines.{lines_of}
-use Rattle.gr_places.specs.declared.buffers.BufferLine.{BufferLine}
 use Rattle.gr_places.specs.declared.buffers.Element.{Element}
 use Rattle.gr_places.specs.declared.fault.SideFault.{SideFault}
 use Rattle.gr_places.specs.declared.fault.SideFault.TheVariants.{BadLine, Memory}
-use Rattle.gr_places.specs.declared.places.Placed.{Placed}
 use Rattle.gr_places.specs.declared.places.Placed.TheVariants.{Event, Site}
-use Rattle.gr_places.specs.declared.places.PlaceLine.{PlaceLine}
 
 -- ---- texts
 

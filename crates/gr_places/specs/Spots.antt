@@ -1,12 +1,9 @@
 -- Where in a stream its fault is.
 -- Source: docs/OUTPUT.md, "check".
 use Rattle.std.specs.Prelude.{ℕ, ◌-◌, List, length, Result, Ok, Err}
-use Rattle.gr_model.specs.declared.limits.TheConstants.{MOST_RECORDS}
-use Rattle.gr_record.specs.declared.error.RecordError.{RecordError}
+use Rattle.gr_places.specs.Types.{MOST_RECORDS, RecordError, Header, Spot}
 use Rattle.gr_record.specs.declared.error.RecordError.TheVariants.{AfterEnd}
-use Rattle.gr_record.specs.declared.header.Header.{Header}
 use Rattle.gr_record.specs.Prelude.{front_header_at, records_of}
-use Rattle.gr_places.specs.declared.spot.Spot.{Spot}
 use Rattle.gr_places.specs.declared.spot.Spot.TheVariants as spots
 
 -- a fault after a header: if it is after the end, it has no record number

@@ -1,12 +1,11 @@
 -- The races of clashes, and of the words that are hit along the order of all grounded events.
 use Rattle.gr_model.proofs.Common.{◌≡◌, ◌<◌, ◌≤◌, ◌+◌, ◌++◌, ◌∷◌, [], ℕ, List, All, Contains, ap, get_or, length, map, subst, sym, take, ◌∙◌, map_push, take_all, take_more, All-contains, All-push, All-weaker, get_or_from_slice_get, slice_get-get_or}
 use Rattle.gr_closure.proofs.Pairing.{clashes_are_race_pairs, clashing_events_differ}
-use Rattle.gr_model.specs.declared.race.Race.{Race}
+use Rattle.gr_replay.specs.Types.{Race, Clash}
 use Rattle.gr_model.specs.declared.event.Word.{Word}
 use Rattle.gr_model.specs.Prelude.{ArePairedRaces, IsRacePair, Streams, Lists, WordBelow}
 use Rattle.gr_order.specs.Sequences.{IsDone, IsSequence, Sequence}
 use Rattle.gr_clocks.specs.ClockedAccess.{ClockedAccess}
-use Rattle.gr_shadow.specs.declared.clash.Clash.{Clash}
 use Rattle.gr_shadow.specs.Clashes.{IsClashIn, IsHitIn}
 use Rattle.gr_shadow.specs.Launches.{LaunchKept, StandsForLaunch}
 use Rattle.gr_replay.specs.Races.{AreRacesOfHits, IsRaceIn, IsRaceOf}

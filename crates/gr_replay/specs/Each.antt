@@ -2,8 +2,7 @@
 -- Source: docs/FORMATS.md, "Several streams".
 use Rattle.std.specs.Prelude.{◌≡◌, ◌⊎◌, ℕ, List, [], ◌∷◌, ◌++◌, length, map, Option, Some, None, option_map, IfSome, Result, Ok, Err, Vec, ⊤, ◌==◌, if◌then◌else◌}
 use Rattle.gr_model.specs.Prelude.{Streams}
-use Rattle.gr_record.specs.declared.error.RecordError.TheVariants.{AfterEnd}
-use Rattle.gr_record.specs.declared.fault.Fault.{Fault}
+use Rattle.gr_replay.specs.Types.{AfterEnd, Fault}
 use Rattle.gr_record.specs.declared.fault.Fault.TheVariants as faults
 use Rattle.gr_record.specs.Prelude.{Fails}
 use Rattle.gr_intake.specs.Joined.{Flat, ◌>>=◌, stream_at}

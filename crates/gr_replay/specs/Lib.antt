@@ -4,3 +4,4 @@ pub mod Replays
 pub mod Each
 pub mod Races
 pub mod Laws
+pub mod Types

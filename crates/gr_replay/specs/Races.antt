@@ -1,10 +1,9 @@
 -- The races of the words that are hit along an order.
 -- Source: docs/MODEL.md, "Hits" and "Races".
 use Rattle.std.specs.Prelude.{◌≡◌, ◌≢◌, List, All, map}
-use Rattle.gr_model.specs.declared.race.Race.{Race}
+use Rattle.gr_replay.specs.Types.{Race, Clash}
 use Rattle.gr_model.specs.Prelude.{IsTurned, EventBelow, Lists, WordBelow}
 use Rattle.gr_clocks.specs.ClockedAccess.{ClockedAccess}
-use Rattle.gr_shadow.specs.declared.clash.Clash.{Clash}
 use Rattle.gr_shadow.specs.Clashes.{IsClashIn, IsHitIn}
 
 -- the race of a clash: its word, and its two events in their order

@@ -1,8 +1,6 @@
 -- Records in the bytes that have them.
 use Rattle.std.specs.Prelude.{◌≡◌, ℕ, List, [], Result, Ok, Err}
-use Rattle.gr_model.specs.declared.event.Event.{Event}
-use Rattle.gr_record.specs.declared.error.RecordError.{RecordError}
-use Rattle.gr_record.specs.declared.header.Header.{Header}
+use Rattle.gr_replay.specs.Types.{Event, RecordError, Header}
 use Rattle.gr_record.specs.Prelude.{front_records_at}
 
 abbrev pub events_in : Result (List Event × List ℕ) RecordError → List Event

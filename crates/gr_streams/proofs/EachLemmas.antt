@@ -1,8 +1,6 @@
 -- Inputs are the same streams if their headers and their records are read separately.
 use Rattle.gr_model.proofs.Common.{◌≡◌, ℕ, List, [], ◌∷◌, ◌++◌, length, Ok, refl, ap, arith, length-append}
-use Rattle.gr_model.specs.declared.event.Event.{Event}
-use Rattle.gr_record.specs.declared.header.Header.{Header}
-use Rattle.gr_record.specs.declared.fault.Fault.{Fault}
+use Rattle.gr_streams.specs.Types.{Event, Header, Fault}
 use Rattle.gr_replay.specs.Each.{each_at, only_stream_at}
 use Rattle.gr_intake.specs.Joined.{Flat, header_after, headers_in, stream_at}
 use Rattle.gr_intake.proofs.Faults.{same_ok, then_ok}

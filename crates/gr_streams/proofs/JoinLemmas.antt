@@ -1,14 +1,12 @@
 -- The senders and the receipts of streams, one stream after the other.
 use Rattle.gr_model.proofs.Common.{◌≡◌, ◌≢◌, ℕ, suc, ◌+◌, ◌-◌, ◌<◌, List, [], ◌∷◌, ◌++◌, length, map, get_or, set, All, Contains, Option, None, Some, Ok, Err, add-zero, append-nil, refl, sym, ap, ◌∙◌, subst, arith, cases_eq, cases_lt, get_or-append-add, get_or-set_other, get_or-set_same, get_or_append_left, get_or_past, length-append, length-map, map-append, nil_from_length, places, Contains-append_left, Contains-append_right}
-use Rattle.gr_model.specs.declared.event.Event.{Event}
-use Rattle.gr_record.specs.declared.header.Header.{Header}
+use Rattle.gr_streams.specs.Types.{Event, Header, Ended}
 use Rattle.gr_intake.specs.Joined.{◌>>=◌}
 use Rattle.gr_route.specs.Batches.{all_of}
 use Rattle.gr_threads.specs.Senders.{Sending}
 use Rattle.gr_streams.specs.Headers.{AreApart}
 use Rattle.gr_streams.specs.Records.{and_one, events_at, lists_behind}
 use Rattle.gr_streams.specs.Sources.{AreBegun, AreEndsOf, ArePlaced, AreServed, Begun, HasSender, IsEndOf}
-use Rattle.gr_streams.specs.declared.forward.Ended.{Ended}
 
 -- ---- before the first stream
 

@@ -1,8 +1,7 @@
 -- The launch of streams that were sent.
 use Rattle.gr_model.proofs.Common.{◌≡◌, ◌≢◌, ℕ, zero, suc, ◌<◌, cond, List, [], ◌∷◌, length, map, get_or, Contains, Option, None, Some, IfSome, slice_get, refl, sym, ap, ◌∙◌, subst, arith, eq-eqb, ne_eqb, range_with_len, cases_lt, get_or-map, get_or_past, length-map, All-cons, All-tail, Contains-append_right, get_or-map-range_with_len, length-map-range_with_len, IfSome_then, slice_get-get_or, slice_get_within, get_or_from_slice_get}
 use Rattle.gr_detector.specs.Runs.{AreReceiptsOf, AreSendersOf, IsOfRun, IsSenderOf, Run, sent_by, sent_of}
-use Rattle.gr_model.specs.declared.event.Event.{Event}
-use Rattle.gr_record.specs.declared.header.Header.{Header}
+use Rattle.gr_streams.specs.Types.{Event, Header}
 use Rattle.gr_replay.specs.Each.{all_known}
 use Rattle.gr_intake.specs.Joined.{Flat}
 use Rattle.gr_intake.specs.Launch.{HasGroup, IsLaunchOf}

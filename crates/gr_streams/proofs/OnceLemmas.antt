@@ -2,9 +2,8 @@
 use Rattle.gr_model.proofs.Common.{◌≡◌, ◌≢◌, ℕ, zero, suc, List, [], ◌∷◌, length, Contains, refl, sym, ap, ◌∙◌, subst, arith, eq-eqb, ne_eqb, ◌==◌, filter}
 use Rattle.gr_detector.specs.Refusals.{IsHandedBack}
 use Rattle.gr_detector.specs.Runs.{IsEachOnce, Run}
-use Rattle.gr_detector.specs.declared.error.FinishError.{FinishError}
+use Rattle.gr_streams.specs.Types.{FinishError, Header}
 use Rattle.gr_detector.specs.declared.error.FinishError.TheVariants.{Memory as NoMemory, Receipts}
-use Rattle.gr_record.specs.declared.header.Header.{Header}
 use Rattle.gr_route.specs.IntakeSeats.{Seat}
 use Rattle.gr_streams.specs.Headers.{AreApart, AreHeadersOf}
 use Rattle.gr_streams.specs.Streams.{IsWantOfMemory}

@@ -1,8 +1,7 @@
 -- The launch of headers that were read, or the group that is missing, which the sizes of their groups show.
 use Rattle.gr_model.proofs.Common.{◌≡◌, ◌<◌, ℕ, List, [], ◌∷◌, length, replicate, slice_index, refl, sym, ap, ◌∙◌, arith, get_or-map, get_or-replicate, length-map, length-replicate}
 use Rattle.gr_model.specs.Prelude.{Streams}
-use Rattle.gr_model.specs.declared.event.Event.{Event}
-use Rattle.gr_record.specs.declared.header.Header.{Header}
+use Rattle.gr_streams.specs.Types.{Event, Header}
 use Rattle.gr_intake.specs.Intakes.{AreSeen}
 use Rattle.gr_intake.specs.Joined.{Flat, headers_in}
 use Rattle.gr_intake.specs.Launch.{IsLeastMissing}

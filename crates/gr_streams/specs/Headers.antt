@@ -1,11 +1,9 @@
 -- The headers of streams with an input each, before any record is read, and the launch that the headers are of.
 -- Source: docs/FORMATS.md, "Several streams".
 use Rattle.std.specs.Prelude.{◌≡◌, ◌≢◌, ℕ, List, [], ◌∷◌, ◌++◌, map, AllPairs, Result, Ok}
-use Rattle.gr_record.specs.declared.header.Header.{Header}
-use Rattle.gr_record.specs.declared.fault.Fault.{Fault}
+use Rattle.gr_streams.specs.Types.{Header, Fault, Event}
 use Rattle.gr_intake.specs.Launch.{IsLaunchOf}
 use Rattle.gr_intake.specs.Joined.{Flat, ◌>>=◌, header_after}
-use Rattle.gr_model.specs.declared.event.Event.{Event}
 use Rattle.gr_model.specs.Prelude.{Streams}
 
 -- these headers, and those of the inputs

@@ -3,3 +3,4 @@ pub mod Records
 pub mod Streams
 pub mod Sending
 pub mod Sources
+pub mod Types

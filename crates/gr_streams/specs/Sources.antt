@@ -4,11 +4,8 @@ use Rattle.std.specs.Prelude.{◌≡◌, ◌≢◌, ℕ, ◌+◌, ◌<◌, ◌�
 use Rattle.std.specs.Prelude.{Option, Some, None, IfSome, Ok, ⊤, Vec, vec_capacity, vec_len}
 use Rattle.std.specs.List.{AllZip}
 use Rattle.std.specs.Io.KnownBytes.{prepend_known}
-use Rattle.gr_model.specs.declared.limits.TheConstants.{MOST_RECORDS}
-use Rattle.gr_record.specs.declared.header.Header.{Header}
-use Rattle.gr_record.specs.declared.layout.TheConstants.{HEADER_LENGTH}
+use Rattle.gr_streams.specs.Types.{MOST_RECORDS, Header, HEADER_LENGTH, Fault, Ended, Source, Unread}
 use Rattle.gr_record.specs.Prelude.{front_header_at}
-use Rattle.gr_record.specs.declared.fault.Fault.{Fault}
 use Rattle.gr_record.specs.declared.fault.Fault.TheVariants as faults
 use Rattle.gr_route.specs.IntakeSeats.{Seat}
 use Rattle.gr_threads.specs.Senders.{Sending}
@@ -16,12 +13,9 @@ use Rattle.gr_detector.specs.Runs.{IsOfRun, Run}
 use Rattle.gr_streams.specs.Headers.{AreApart}
 use Rattle.gr_streams.specs.Records.{events_at, lists_of}
 use Rattle.gr_streams.specs.Sending.{Tells}
-use Rattle.gr_streams.specs.declared.forward.Ended.{Ended}
 use Rattle.gr_streams.specs.declared.thread.OfReader.{OfReader}
 use Rattle.gr_streams.specs.declared.thread.ReaderState.{ReaderState}
 use Rattle.gr_streams.specs.declared.thread.ReaderState.TheVariants.{Started, Over, Joining}
-use Rattle.gr_streams.specs.declared.source.Source.{Source}
-use Rattle.gr_streams.specs.declared.source.Unread.{Unread}
 
 -- the bytes of the stream with its header, if they are known
 abbrev pub known_of : {T : Type 0} → (T → Option (List ℕ)) → Source T → Option (List ℕ)

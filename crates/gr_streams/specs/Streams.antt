@@ -1,12 +1,9 @@
 -- What a run reports of streams with an input each, and why it refuses them.
 -- Source: docs/FORMATS.md, "Faults", and docs/MODEL.md, "The report".
 use Rattle.std.specs.Prelude.{◌≡◌, ◌⊎◌, ℕ, List, Option, Ok, ⊤}
-use Rattle.gr_detector.specs.declared.error.FinishError.{FinishError}
+use Rattle.gr_streams.specs.Types.{FinishError, Event, Header, Fault}
 use Rattle.gr_detector.specs.declared.error.FinishError.TheVariants.{Memory as NoMemory, Receipts}
-use Rattle.gr_model.specs.declared.event.Event.{Event}
 use Rattle.gr_model.specs.Prelude.{IsReportOf, WholeReport, IsShape, Streams}
-use Rattle.gr_record.specs.declared.header.Header.{Header}
-use Rattle.gr_record.specs.declared.fault.Fault.{Fault}
 use Rattle.gr_record.specs.declared.fault.Fault.TheVariants as faults
 use Rattle.gr_record.specs.Prelude.{Fails}
 use Rattle.gr_report.specs.Putting.{AppendsPrefix}

@@ -1,6 +1,5 @@
 use Rattle.gr_model.proofs.Common.{◌≡◌, ◌++◌, List, take}
-use Rattle.gr_model.specs.declared.event.Event.{Event}
-use Rattle.gr_model.specs.declared.limits.TheConstants.{MOST_RECORDS}
+use Rattle.gr_streams.specs.Types.{Event, MOST_RECORDS}
 use Rattle.gr_streams.specs.Sending.{AreSent, IsSameSender, events_in}
 use Rattle.gr_streams.proofs.forward.forward_all.Given as goal
 

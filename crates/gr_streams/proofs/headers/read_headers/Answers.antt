@@ -1,11 +1,10 @@
 use Rattle.gr_model.proofs.Common.{◌≡◌, ◌≢◌, ◌∙◌, ◌++◌, ◌∷◌, [], ℕ, List, Ok, ap, arith, append_assoc, map, refl, rules, sym, into_iter_items, map-append, map_push, All-push, same_Some, err_from_is_err_and}
 use Rattle.std.proofs.lemmas.List.Quantifiers.{all_pairs_push}
 use Rattle.gr_record.specs.Prelude.{Fails}
-use Rattle.gr_record.specs.declared.header.Header.{Header}
+use Rattle.gr_streams.specs.Types.{Header, Source}
 use Rattle.gr_intake.specs.Joined.{header_after}
 use Rattle.gr_streams.specs.Headers.{headers_behind, headers_of}
 use Rattle.gr_streams.specs.Sources.{IsHeaded, known_of}
-use Rattle.gr_streams.specs.declared.source.Source.{Source}
 use Rattle.gr_streams.proofs.HeadingLemmas.{header_refused, known_so_far, one_more_header, one_more_known}
 use Rattle.gr_streams.proofs.JoinLemmas.{all_yielded}
 use Rattle.gr_streams.proofs.headers.read_headers.Goals as goal

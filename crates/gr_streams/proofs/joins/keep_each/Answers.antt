@@ -1,7 +1,6 @@
 use Rattle.gr_model.proofs.Common.{◌≡◌, ◌≢◌, ◌∙◌, ◌+◌, ◌++◌, ◌∷◌, [], List, Option, Some, Result, append-nil, append_assoc, ap, arith, length, map, rules, subst, sym, IfSome, length-map, length_push, map_push, nil_from_length}
 use Rattle.std.proofs.lemmas.Slice.Zip.{AllZip-long}
-use Rattle.gr_model.specs.declared.event.Event.{Event}
-use Rattle.gr_record.specs.declared.fault.Fault.{Fault}
+use Rattle.gr_streams.specs.Types.{Event, Fault}
 use Rattle.gr_record.specs.declared.fault.Fault.TheVariants as faults
 use Rattle.gr_route.specs.IntakeSeats.{Seat}
 use Rattle.gr_streams.specs.Records.{and_one, events_at, lists_of}

@@ -1,10 +1,9 @@
 use Rattle.gr_model.proofs.Common.{◌≡◌, ◌∙◌, ◌+◌, ◌++◌, ◌∷◌, [], List, append_assoc, ap, arith, length, map, refl, rules, sym, into_iter_items, length-append, length-map, map-append, All-append}
 use Rattle.gr_detector.specs.Runs.{IsOfRun}
-use Rattle.gr_record.specs.declared.header.Header.{Header}
+use Rattle.gr_streams.specs.Types.{Header, Source}
 use Rattle.gr_route.specs.Batches.{all_of}
 use Rattle.gr_route.proofs.BatchLemmas.{all_of_push}
 use Rattle.gr_streams.specs.Sources.{AreBegun, Begun, IsHeaded, known_of}
-use Rattle.gr_streams.specs.declared.source.Source.{Source}
 use Rattle.gr_streams.proofs.JoinLemmas.{all_back, all_front, all_joined, begun_append, begun_count, none_begun, served_front}
 use Rattle.gr_streams.proofs.joins.start_all.Goals as goal
 

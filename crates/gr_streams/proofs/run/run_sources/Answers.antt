@@ -3,7 +3,7 @@ use Rattle.gr_detector.specs.Refusals.{IsHandedBack}
 use Rattle.gr_detector.specs.Runs.{IsEachOnce, sent_by}
 use Rattle.gr_model.specs.Prelude.{IsReportOf}
 use Rattle.gr_record.specs.Prelude.{Fails}
-use Rattle.gr_record.specs.declared.fault.Fault.{Fault}
+use Rattle.gr_streams.specs.Types.{Fault, Source}
 use Rattle.gr_record.specs.declared.fault.Fault.TheVariants as faults
 use Rattle.gr_report.specs.Whole.{whole_of}
 use Rattle.gr_route.specs.IntakeSeats.{Seat}
@@ -11,7 +11,6 @@ use Rattle.gr_streams.specs.Records.{lists_of}
 use Rattle.gr_streams.specs.Sending.{FailsHere, Tells}
 use Rattle.gr_streams.specs.Sources.{AreSenders}
 use Rattle.gr_streams.specs.Streams.{IsWantOfMemory}
-use Rattle.gr_streams.specs.declared.source.Source.{Source}
 use Rattle.gr_streams.proofs.JoinLemmas.{begun_count}
 use Rattle.gr_streams.proofs.LaunchLemmas.{launch_sent, of_run, receipts_of_run, served}
 use Rattle.gr_streams.proofs.OnceLemmas.{each_once, only_memory}

@@ -1,9 +1,7 @@
 use Rattle.gr_model.proofs.Common.{◌≡◌, ◌∙◌, ◌++◌, ◌∷◌, [], List, append-nil, append_assoc, arith, length, map, rules, refl, subst, sym, into_iter_items, nil_from_length, length-map, length_push, map_push, All-head, All-nil, All-push, All-tail}
 use Rattle.gr_detector.specs.Runs.{IsOfRun}
-use Rattle.gr_record.specs.declared.header.Header.{Header}
+use Rattle.gr_streams.specs.Types.{Header, Source, Unread}
 use Rattle.gr_streams.specs.Sources.{AreServed, Begun, IsHeaded, IsUnread, begun_of, known_of}
-use Rattle.gr_streams.specs.declared.source.Source.{Source}
-use Rattle.gr_streams.specs.declared.source.Unread.{Unread}
 use Rattle.gr_streams.proofs.JoinLemmas.{begun_append, begun_count, contains_head, has_place, none_begun, one_begun, served_next, was_there}
 use Rattle.gr_streams.proofs.share.Share.with_senders.Goals as goal
 
