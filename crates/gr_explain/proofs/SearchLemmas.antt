@@ -1,6 +1,7 @@
 -- What a search keeps of the accesses to a word, after one more.
 use Rattle.gr_model.proofs.Common.{arith, ◌≡◌, ◌≢◌, ◌⊎◌, ◌↔◌, true, false, Contains, ℕ, ◌<◌, List, [], ◌∷◌, ◌++◌, length, get_or, slice_set, Some, refl, sym, ap, ◌∙◌, inl, inr, ⊎_elim, Contains-append_left, Contains-push, Contains-push_cases}
-use Rattle.gr_explain.specs.Types.{EventId, Word, Class, Search}
+use Rattle.gr_explain.specs.Types.{EventId, Word, Class}
+use Rattle.gr_explain.specs.declared.search.Search.{Search}
 use Rattle.gr_model.specs.Prelude.{Pair}
 use Rattle.gr_shadow.specs.Clashes.{ClockedAccess, event_of}
 use Rattle.gr_explain.specs.ClashPairs.{IsClashPair}

@@ -2,7 +2,8 @@
 use Rattle.gr_model.proofs.Common.{◌≡◌, ◌≢◌, ◌⊎◌, ℕ, zero, suc, ◌<◌, Bool, true, false, Contains, List, [], ◌∷◌, ◌++◌, length, get_or, slice_set, Some, None, arith, refl, sym, ap, ◌∙◌, subst, inl, inr, ⊎_elim, list_any, nat_tests, cases_eq, common_steps, get_or-set_other, get_or-set_same, get_or_default, length-set, Contains-append_cases, Contains-append_left, Contains-append_right, Contains-get_or, Contains-push, Contains-push_cases, list_any-append}
 use Rattle.std.specs.List.{position}
 use Rattle.std.proofs.lemmas.List.Quantifiers.{all_pairs_push}
-use Rattle.gr_explain.specs.Types.{EventId, Word, Class, Race, TaggedRace, TagPairs}
+use Rattle.gr_explain.specs.Types.{EventId, Word, Class, Race, TaggedRace}
+use Rattle.gr_explain.specs.declared.tag_pairs.TagPairs.{TagPairs}
 use Rattle.gr_clocks.proofs.RowLemmas.{same_item_self}
 use Rattle.gr_shadow.specs.Clashes.{ClockedAccess, event_of}
 use Rattle.gr_shadow.proofs.KeepsLemmas.{find_is, finds as contains_any}

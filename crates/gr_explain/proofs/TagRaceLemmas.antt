@@ -1,7 +1,8 @@
 -- The races of words, one for each two tags, from what is kept of the accesses along a lawful order of all grounded events.
 use Rattle.gr_model.proofs.Common.{◌<◌, length, ◌≡◌, ◌⊎◌, ℕ, suc, Bool, true, false, All, AllPairs, Contains, List, [], ◌∷◌, ◌++◌, arith, get_or, map, sym, ◌∙◌, subst, inl, inr, ⊎_elim, nat_tests, get_or-map, length-map, All-append, All-contains, All-map, All-weaker, Contains-append_left, Contains-append_right, Contains-get_or}
 use Rattle.std.proofs.lemmas.List.Kept.{AllPairs-cons}
-use Rattle.gr_explain.specs.Types.{EventId, Word, Race, TaggedRace, TagPairs}
+use Rattle.gr_explain.specs.Types.{EventId, Word, Race, TaggedRace}
+use Rattle.gr_explain.specs.declared.tag_pairs.TagPairs.{TagPairs}
 use Rattle.gr_model.specs.Prelude.{IsWholeOrder, IsRacePair, TagsRace, WordBelow, Streams}
 use Rattle.gr_closure.specs.AccessesAlong.{AreAccesses}
 use Rattle.gr_shadow.specs.Clashes.{ClockedAccess}

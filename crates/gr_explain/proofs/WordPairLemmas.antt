@@ -1,7 +1,8 @@
 -- The pairs of tags that race on each of some words, where one more access comes.
 use Rattle.gr_model.proofs.Common.{◌≡◌, ◌≢◌, ℕ, ◌+◌, ◌<◌, true, false, cond, Contains, List, [], ◌∷◌, ◌++◌, Some, None, get_or, length, take, refl, ⊎_elim, arith, cases_Bool, take_more, Contains-push_cases}
 use Rattle.std.specs.Map.{lookup}
-use Rattle.gr_explain.specs.Types.{EventId, Word, TagPairs}
+use Rattle.gr_explain.specs.Types.{EventId, Word}
+use Rattle.gr_explain.specs.declared.tag_pairs.TagPairs.{TagPairs}
 use Rattle.gr_model.specs.contracts.event.WordEq.TheImpl.Laws as equal
 use Rattle.gr_model.proofs.WordLemmas.{same_from_equal}
 use Rattle.gr_shadow.specs.Clashes.{ClockedAccess, event_of}

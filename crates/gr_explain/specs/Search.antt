@@ -1,7 +1,8 @@
 -- What a search keeps of the accesses to a word: their events by classes, and the least pair of them that clashes.
 -- Source: docs/MODEL.md, "Hits".
 use Rattle.std.specs.Prelude.{◌≡◌, ◌⊎◌, ◌↔◌, Contains, List, [], ◌∷◌, ◌++◌}
-use Rattle.gr_explain.specs.Types.{EventId, Word, Class, Search}
+use Rattle.gr_explain.specs.Types.{EventId, Word, Class}
+use Rattle.gr_explain.specs.declared.search.Search.{Search}
 use Rattle.gr_model.specs.Prelude.{Pair}
 use Rattle.gr_shadow.specs.Clashes.{ClockedAccess}
 use Rattle.gr_explain.specs.ClashPairs.{IsClashPair, IsOfList}

@@ -2,7 +2,8 @@
 -- Source: docs/MODEL.md, "Hits". Tags are this project's own.
 use Rattle.std.specs.Prelude.{◌≡◌, ◌⊎◌, ◌∷◌, ◌++◌, ◌==◌, ◌&&◌, ◌||◌, ℕ, Bool, false, AllPairs, Contains, IsTrue, List, []}
 use Rattle.std.specs.List.{list_any}
-use Rattle.gr_explain.specs.Types.{EventId, Word, Class, Race, TaggedRace, TagPairs}
+use Rattle.gr_explain.specs.Types.{EventId, Word, Class, Race, TaggedRace}
+use Rattle.gr_explain.specs.declared.tag_pairs.TagPairs.{TagPairs}
 use Rattle.gr_model.specs.Prelude.{HasTags, IsTurned, EventBelow}
 use Rattle.gr_shadow.specs.Clashes.{ClockedAccess, IsClashIn, event_of}
 use Rattle.gr_explain.specs.Alike.{AlikeEvents, IsInPlaceOf, are_of_groups, event_clashes, is_sought}

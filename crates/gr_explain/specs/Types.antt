@@ -1,8 +1,6 @@
 -- The types, variants and constants that definitions and proofs cite most, passed on from one place. Declares nothing.
 pub use Rattle.gr_clocks.specs.declared.access.Access.{Access}
 pub use Rattle.gr_explain.specs.declared.judging.Judgement.{Judgement}
-pub use Rattle.gr_explain.specs.declared.search.Search.{Search}
-pub use Rattle.gr_explain.specs.declared.tag_pairs.TagPairs.{TagPairs}
 pub use Rattle.gr_explain.specs.declared.tag_pairs.TaggedRace.{TaggedRace}
 pub use Rattle.gr_model.specs.declared.class.Class.{Class}
 pub use Rattle.gr_model.specs.declared.event.Event.{Event}

@@ -1,7 +1,8 @@
 -- The pairs of tags that race on each of some words.
 use Rattle.std.specs.Prelude.{◌≡◌, ℕ, List, [], ◌∷◌, ◌++◌, Contains, Option, None, Some, map}
 use Rattle.std.specs.Map.{lookup}
-use Rattle.gr_explain.specs.Types.{EventId, Word, Race, TagPairs}
+use Rattle.gr_explain.specs.Types.{EventId, Word, Race}
+use Rattle.gr_explain.specs.declared.tag_pairs.TagPairs.{TagPairs}
 use Rattle.gr_shadow.specs.Clashes.{ClockedAccess}
 use Rattle.gr_shadow.specs.Kept.{same_word}
 use Rattle.gr_explain.specs.TagPairs.{StandsForTags}

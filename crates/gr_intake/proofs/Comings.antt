@@ -1,7 +1,9 @@
 -- Streams as far as they have come, where a stream begins, a record comes, and a stream ends.
 use Rattle.gr_model.proofs.Common.{◌≡◌, ◌≢◌, ℕ, suc, ◌+◌, ◌<◌, ◌≤◌, true, false, List, [], ◌∷◌, ◌++◌, length, take, slice_index, All, Contains, Option, Some, None, Ok, Err, refl, sym, ap, ◌∙◌, subst, arith, ⊎_elim, append-nil, append_assoc, option_map, cases_lt, get_or-set_same, All-contains, All-push, All-tail, length-append, length-drop, map-append, take-append-drop, Contains-append_left, Contains-push, Contains-push_cases, sum_by-le}
 use Rattle.std.proofs.lemmas.List.Quantifiers.{all_pairs_push}
-use Rattle.gr_intake.specs.Types.{Event, MOST_ITEMS_OF_A_GROUP, MOST_RECORDS, Truncated, Fault, Header, HEADER_LENGTH, Intake, Open}
+use Rattle.gr_intake.specs.Types.{Event, MOST_ITEMS_OF_A_GROUP, MOST_RECORDS, Truncated, Fault, Header, HEADER_LENGTH}
+use Rattle.gr_intake.specs.declared.open.Open.{Open}
+use Rattle.gr_intake.specs.declared.intake.Intake.{Intake}
 use Rattle.gr_model.specs.Prelude.{IsEventOk, is_end, CanAdd, put, with_group, IsPartOfShape, Streams, is_complete, list_of, size_of}
 use Rattle.gr_model.proofs.GroupLaws.{group_grows, list_stays, nothing_came, part_of_none, prefixes_with_group}
 use Rattle.gr_steps.proofs.Orders.{lawful_empty}

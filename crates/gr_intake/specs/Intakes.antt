@@ -1,7 +1,9 @@
 -- What was read of streams that follow one another, and what the bytes after it add.
 -- Source: docs/FORMATS.md, "Several streams".
 use Rattle.std.specs.Prelude.{◌≡◌, ◌≢◌, ℕ, ◌-◌, ◌<◌, ◌≤◌, Bool, true, false, ◌==◌, List, All, AllPairs, [], ◌∷◌, ◌++◌, length, map, slice_index, Contains, Option, Some, None, IfSome, option_map, Result, Ok, Err, if◌then◌else◌}
-use Rattle.gr_intake.specs.Types.{Event, MOST_RECORDS, Fault, Header, HEADER_LENGTH, RecordError, TooManyRecords, Intake, Open}
+use Rattle.gr_intake.specs.Types.{Event, MOST_RECORDS, Fault, Header, HEADER_LENGTH, RecordError, TooManyRecords}
+use Rattle.gr_intake.specs.declared.open.Open.{Open}
+use Rattle.gr_intake.specs.declared.intake.Intake.{Intake}
 use Rattle.gr_model.specs.Prelude.{IsEventOk, is_end, Streams, list_of}
 use Rattle.gr_record.specs.declared.fault.Fault.TheVariants.{MissingGroup, Shape}
 use Rattle.gr_model.specs.declared.shape.ShapeError.TheVariants.{NoGroups}

@@ -1,6 +1,4 @@
 -- The types, variants and constants that definitions and proofs cite most, passed on from one place. Declares nothing.
-pub use Rattle.gr_intake.specs.declared.intake.Intake.{Intake}
-pub use Rattle.gr_intake.specs.declared.open.Open.{Open}
 pub use Rattle.gr_intake.specs.declared.short.Short.{Short}
 pub use Rattle.gr_model.specs.declared.event.Event.{Event}
 pub use Rattle.gr_model.specs.declared.event.Name.{Name}

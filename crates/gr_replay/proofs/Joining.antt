@@ -1,6 +1,7 @@
 -- Reading streams one after the other, as a loop does.
 use Rattle.gr_model.proofs.Common.{◌≡◌, ℕ, zero, suc, ◌+◌, ◌-◌, ◌<◌, ◌≤◌, Bool, true, false, List, [], ◌∷◌, ◌++◌, length, Result, Ok, Err, refl, sym, ◌∙◌, arith, not, ◌==◌, list_any, length-map}
-use Rattle.gr_replay.specs.Types.{Event, RecordError, Header, Fault, Stream}
+use Rattle.gr_replay.specs.Types.{Event, RecordError, Header, Fault}
+use Rattle.gr_replay.specs.declared.joined.Stream.{Stream}
 use Rattle.gr_record.specs.declared.fault.Fault.TheVariants as faults
 use Rattle.gr_record.specs.Prelude.{stream_fault, front_header_at, front_records_at, Fails}
 use Rattle.gr_record.specs.WholeStreams as record_spec

@@ -4,7 +4,8 @@ use Rattle.gr_model.proofs.Common.{◌≡◌, ◌≢◌, ◌⊎◌, ℕ, zero, s
 use Rattle.std.proofs.lemmas.Map.Keys.{IsDistinct-IsPermutation}
 use Rattle.std.specs.List.Sorted.{IsNonDecreasingBy}
 use Rattle.gr_model.specs.Prelude.{Streams}
-use Rattle.gr_replay.specs.Types.{Event, Stream}
+use Rattle.gr_replay.specs.Types.{Event}
+use Rattle.gr_replay.specs.declared.joined.Stream.{Stream}
 use Rattle.gr_model.proofs.HitsAreRaces.{eqb_swap}
 use Rattle.gr_model.proofs.Places.{Contains-at}
 use Rattle.gr_intake.specs.Joined.{Flat}

@@ -5,5 +5,4 @@ pub use Rattle.gr_record.specs.declared.error.RecordError.{RecordError}
 pub use Rattle.gr_record.specs.declared.error.RecordError.TheVariants.{AfterEnd}
 pub use Rattle.gr_record.specs.declared.fault.Fault.{Fault}
 pub use Rattle.gr_record.specs.declared.header.Header.{Header}
-pub use Rattle.gr_replay.specs.declared.joined.Stream.{Stream}
 pub use Rattle.gr_shadow.specs.declared.clash.Clash.{Clash}
