@@ -1,7 +1,7 @@
 -- Headers of one launch: what the first of them and the sizes of their groups tell, and a header that comes after them.
-use Rattle.gr_model.proofs.Common.{Decides, ◌≡◌, ◌≢◌, ◌<◌, ◌≤◌, ℕ, suc, Bool, true, false, List, [], ◌∷◌, ◌++◌, length, drop, take, slice_get, get_or, Option, MatchOption, None, Some, Result, Ok, Err, refl, sym, ap, ◌∙◌, subst, arith, inl, inr, not, ◌==◌, All, list_any, cases_Bool, drop-append-le, eq-eqb, eqb-false, eqb-true, le-ltb, length-append, length-take, not-false, take-append-drop, true_from_ne_false, All-contains, Any-from_list_any, list_any_at, list_any_none}
+use Rattle.gr_model.proofs.Common.{Decides, ◌≡◌, ◌≢◌, ◌<◌, ◌≤◌, ℕ, suc, Bool, true, false, List, [], ◌∷◌, ◌++◌, length, drop, take, slice_get, get_or, Option, MatchOption, None, Some, Result, Ok, refl, sym, ap, ◌∙◌, subst, arith, inl, inr, not, ◌==◌, All, list_any, cases_Bool, drop-append-le, eq-eqb, eqb-false, eqb-true, le-ltb, length-append, length-take, not-false, take-append-drop, true_from_ne_false, All-contains, Any-from_list_any, list_any_at, list_any_none}
 use Rattle.gr_model.specs.Prelude.{HasItem}
-use Rattle.gr_intake.specs.Types.{RecordError, Fault, Header, HEADER_LENGTH}
+use Rattle.gr_intake.specs.Types.{Fault, Header, HEADER_LENGTH}
 use Rattle.gr_record.specs.declared.header.Version.{Version}
 use Rattle.gr_record.specs.Prelude.{front_header_at, header_at}
 use Rattle.gr_record.specs.Reading as reading_spec
@@ -38,14 +38,7 @@ module _ (bytes more : List ℕ) (long : HEADER_LENGTH ≤ length bytes) where
 
   pub front_more : front_header_at (bytes ++ more) ≡ record_spec.◌>>=◌ {Y = Header × List ℕ} (front_header_at bytes) (λ x. Ok (x.0, x.1 ++ more))
   unfolding front_header_at
-  front_more =
-      rw (le-ltb (length bytes) HEADER_LENGTH long, le-ltb (length (bytes ++ more)) HEADER_LENGTH (omega (arith, length-append bytes more, long)), same_header, drop-append-le HEADER_LENGTH bytes more long)
-      (by_header (header_at bytes))
-    where
-      by_header : (r : Result Header RecordError)
-          → record_spec.◌>>=◌ {Y = Header × List ℕ} r (λ h. Ok (h, drop HEADER_LENGTH bytes ++ more)) ≡ record_spec.◌>>=◌ {Y = Header × List ℕ} (record_spec.◌>>=◌ {Y = Header × List ℕ} r (λ h. Ok (h, drop HEADER_LENGTH bytes))) (λ x. Ok (x.0, x.1 ++ more))
-      by_header (Ok h) = refl
-      by_header (Err e) = refl
+  front_more = grind (arith, le-ltb, length-append bytes more, same_header, drop-append-le HEADER_LENGTH bytes more long)
 
   abbrev pub and_more : Header × List ℕ → Result (Header × List ℕ) Fault
   and_more x = Ok (x.0, x.1 ++ more)
@@ -53,20 +46,7 @@ module _ (bytes more : List ℕ) (long : HEADER_LENGTH ≤ length bytes) where
   -- what follows a header stays behind it
   pub after_more : (seen : List Header) → header_after seen (bytes ++ more) ≡ header_after seen bytes >>= and_more
   unfolding header_after
-  after_more seen = rw front_more (by_front (front_header_at bytes))
-    where
-      with_rest : List ℕ → Header → Result (Header × List ℕ) Fault
-      with_rest rest h = Ok (h, rest)
-
-      by_seen : (r : Result Header Fault) (rest : List ℕ) → (r >>= with_rest (rest ++ more)) ≡ (r >>= with_rest rest) >>= and_more
-      by_seen (Ok h) rest = refl
-      by_seen (Err e) rest = refl
-
-      by_front : (r : Result (Header × List ℕ) RecordError)
-          → (at_place (length seen) (record_spec.◌>>=◌ {Y = Header × List ℕ} r (λ x. Ok (x.0, x.1 ++ more))) >>= λ x. unless_seen seen x.0 >>= with_rest x.1)
-          ≡ (at_place (length seen) r >>= λ x. unless_seen seen x.0 >>= with_rest x.1) >>= and_more
-      by_front (Ok x) = by_seen (unless_seen seen x.0) x.1
-      by_front (Err e) = refl
+  after_more seen = grind (arith, front_more)
 
 pub own_bytes : (bytes : List ℕ) → HEADER_LENGTH ≤ length bytes → header_at (take HEADER_LENGTH bytes) ≡ header_at bytes
 own_bytes bytes long =

@@ -1,10 +1,9 @@
 -- Streams from an input each, read one after the other.
-use Rattle.gr_model.proofs.Common.{◌≡◌, ℕ, ◌+◌, ◌<◌, ◌≤◌, true, false, List, [], ◌∷◌, ◌++◌, length, map, drop, get_or, Option, Some, None, Result, Ok, Err, refl, sym, ap, subst, ◌∙◌, ◌==◌, IfSome, option_map, Vec, at_drop_more, at_drop_all, map_push, slice_get-get_or, slice_get-map, get_or_from_slice_get}
-use Rattle.gr_replay.specs.Types.{AfterEnd, Fault}
-use Rattle.gr_record.specs.declared.fault.Fault.TheVariants as faults
+use Rattle.gr_model.proofs.Common.{◌≡◌, ℕ, ◌+◌, ◌<◌, ◌≤◌, List, [], ◌∷◌, ◌++◌, length, map, drop, get_or, Option, Some, None, Result, Ok, refl, sym, ap, subst, ◌∙◌, IfSome, option_map, Vec, at_drop_more, at_drop_all, map_push, slice_get-get_or, slice_get-map, get_or_from_slice_get}
+use Rattle.gr_record.specs.declared.fault.Fault.{Fault}
 use Rattle.gr_record.specs.Prelude.{Fails}
 use Rattle.gr_record.proofs.Outside.{fails_through}
-use Rattle.gr_intake.specs.Joined.{Flat, stream_at}
+use Rattle.gr_intake.specs.Joined.{Flat}
 use Rattle.gr_replay.specs.Each.{AreRead, all_known, each_at, inputs_of, only_stream_at}
 
 -- ---- readers
@@ -30,22 +29,6 @@ at_all_known (Some bytes ∷ known) (b ∷ inputs) P h p =
     behind (Some xs) h = h
 at_all_known [] (b ∷ inputs) P h p = absurd h
 at_all_known (o ∷ known) [] P h p = absurd h
-
--- ---- one stream
-
-module _ (seen : List Flat) (bytes : List ℕ) where
-  pub only_fails : (f : Fault) → Fails f (stream_at seen bytes) → Fails f (only_stream_at seen bytes)
-  unfolding only_stream_at
-  only_fails f h = fails_through f (stream_at seen bytes) (only_stream_at seen bytes) h (λ e. rw e refl)
-
-  module _ (s : Flat) (rest : List ℕ) (is : stream_at seen bytes ≡ Ok (s, rest)) where
-    pub only_one : (length rest == 0) ≡ true → only_stream_at seen bytes ≡ Ok s
-    unfolding only_stream_at
-    only_one none = rw (is, none) refl
-
-    pub more_behind : (length rest == 0) ≡ false → only_stream_at seen bytes ≡ Err (faults.Stream (length seen) AfterEnd)
-    unfolding only_stream_at
-    more_behind some = rw (is, some) refl
 
 -- ---- the loop over inputs
 

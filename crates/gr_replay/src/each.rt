@@ -48,6 +48,7 @@ pub fn read_inputs<A: Allocator + Copy, T: Read + Drop>(
 }
 
 /// The stream that the bytes are, after these streams.
+#[tactic(auto, unfolding(crate::specs::Each::only_stream_at))]
 fn read_only_stream<'a>(streams: &[Stream<'a>], bytes: &'a [u8]) -> Result<Stream<'a>, Fault>
     ensures exact { Gives flat result (only_stream_at (flats streams.now) bytes.now) }
     ensures good { AreStreams (flats streams.now) → IfOk result (λ s. AreStreams (flats streams.now ++ flat s ∷ [])) }

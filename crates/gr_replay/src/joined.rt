@@ -35,6 +35,7 @@ fn has_other_launch(streams: &[Stream<'_>], launch: u32) -> bool
 }
 
 /// The stream at the front of the bytes, after these streams, and the bytes after it.
+#[tactic(auto, using(crate::proofs::Joining::count, crate::proofs::Joining::tested), unfolding(gr_intake::specs::Joined::header_after, gr_intake::specs::Joined::stream_at))]
 pub(crate) fn read_stream<'a>(
     streams: &[Stream<'a>],
     bytes: &'a [u8],

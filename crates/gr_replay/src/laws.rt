@@ -33,6 +33,7 @@ pub fn inputs_come_in_any_order()
 {}
 
 /// Streams that differ only in the sites of their records are read as the same streams, and have the same report.
+#[tactic(auto, using(crate::proofs::Upgrades::sites_are_not_read, crate::proofs::Upgrades::sites_are_not_judged))]
 pub fn sites_are_not_judged()
     ensures streams { SitesAreNotRead }
     ensures report { SitesAreNotJudged }
