@@ -15,16 +15,8 @@ use crate::reason::Reason;
 use gr_model::event::{EventId, ItemId, Name, Word, word_of};
 use std::alloc::Allocator;
 
-/// The word of the release of this name, which has this index.
-#[tactic(auto, using(gr_lanes::proofs::IndexLemmas::record_is))]
-fn release_word<A: Allocator>(judged: &Judged<A>, name: Name, index: u32) -> Option<Word>
-    requires { release_place judged.now name ≡ Some index }
-    ensures { result ≡ word_at judged.now (record { at = name.at; index = index }) }
-{
-    judged.lanes().release_word(name)
-}
-
 /// Why a name of an event on this word holds the event for ever, if it does.
+#[tactic(auto, using(gr_lanes::proofs::IndexLemmas::record_is))]
 fn root_by_name<A: Allocator>(
     judged: &Judged<A>,
     event: EventId,
@@ -37,7 +29,7 @@ fn root_by_name<A: Allocator>(
 {
     match judged.lanes().release_at(name) {
         None => Some(Reason::Absent(name)),
-        Some(index) if release_word(judged, name, index) == word => None,
+        Some(_) if judged.lanes().release_word(name) == word => None,
         Some(_) => Some(Reason::OtherWord(name)),
     }
 }
