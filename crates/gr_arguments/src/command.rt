@@ -423,6 +423,7 @@ fn arg_of<'a>(alloc: Global, parameter: Parameter) -> Arg<'a>
 }
 
 /// The command of a page.
+#[tactic(auto, using(std::proofs::lemmas::List::Sums::fold_more))]
 fn command_of<'a>(alloc: Global, page: &Page) -> Result<Command<'a>, AllocError>
     ensures shape { IfOk result (λ c. shape_of c ≡ shape_for page.now) }
     ensures alone { IfOk result (λ c. (fields_of c).has_globals ≡ false) }
@@ -441,7 +442,7 @@ fn command_of<'a>(alloc: Global, page: &Page) -> Result<Command<'a>, AllocError>
 }
 
 /// The program, with the commands of these pages too.
-#[tactic(auto, unfolding(crate::specs::Pages::with_commands))]
+#[tactic(auto, using(std::proofs::lemmas::List::Sums::fold_more), unfolding(crate::specs::Pages::with_commands))]
 fn with_pages<'a>(
     alloc: Global,
     mut command: Command<'a>,
