@@ -1,11 +1,7 @@
--- Lists that are mapped: what they have, and a test of each of their elements.
-use Rattle.gr_model.proofs.Common.{◌≡◌, zero, suc, Bool, List, [], ◌∷◌, map, All, Contains, subst, ◌||◌, refl, ap, ◌∙◌, arith, list_any, get_or-map, length-map}
+-- Lists that are mapped: what they have.
+use Rattle.gr_model.proofs.Common.{◌≡◌, zero, suc, List, [], ◌∷◌, map, All, Contains, subst, refl, ap, ◌∙◌, arith, get_or-map, length-map}
 
 module _ {X Y : Type 0} (f : X → Y) where
-  pub any_of_map : (test : Y → Bool) (xs : List X) → list_any test (map f xs) ≡ list_any (λ x. test (f x)) xs
-  any_of_map test [] = refl
-  any_of_map test (x ∷ xs) = ap (λ b. test (f x) || b) (any_of_map test xs)
-
   pub mapped_there : (xs : List X) (x : X) → Contains xs x → Contains (map f xs) (f x)
   mapped_there xs x (k, lt, is) = (k, omega (arith, lt, length-map xs f), get_or-map f xs k x (f x) lt ∙ ap f is)
 

@@ -1,18 +1,20 @@
 -- Reading streams one after the other, as a loop does.
-use Rattle.gr_model.proofs.Common.{◌≡◌, ℕ, zero, suc, ◌+◌, ◌-◌, ◌<◌, ◌≤◌, Bool, true, false, List, [], ◌∷◌, ◌++◌, length, Result, Ok, refl, sym, ◌∙◌, arith, ◌==◌, list_any, length-map}
-use Rattle.gr_replay.specs.Types.{Header, Fault}
+use Rattle.gr_model.proofs.Common.{◌≡◌, ℕ, zero, suc, ◌+◌, ◌-◌, ◌<◌, ◌≤◌, true, false, List, [], ◌∷◌, ◌++◌, length, Result, Ok, refl, sym, ◌∙◌, arith, ◌==◌, length-map, map_push, option_map, slice_get}
+use Rattle.gr_replay.specs.Types.{Fault}
 use Rattle.gr_record.specs.Prelude.{Fails}
 use Rattle.gr_replay.specs.declared.joined.Stream.{Stream}
 use Rattle.gr_intake.specs.Joined.{Flat, headers_in, stream_at, joined_at}
 use Rattle.gr_replay.specs.InMemory.{flat, flats}
-use Rattle.gr_intake.proofs.Mapped.{any_of_map}
 
 pub count : (seen : List Stream) → length (headers_in (flats seen)) ≡ length seen
 count seen = length-map (flats seen) (λ f. f.header) ∙ length-map seen flat
 
--- a test of headers is one of the streams that have them
-pub tested : (test : Header → Bool) (seen : List Stream) → list_any test (headers_in (flats seen)) ≡ list_any (λ s. test s.header) seen
-tested test seen = any_of_map (λ f. f.header) test (flats seen) ∙ any_of_map flat (λ f. test f.header) seen
+pub first_header : (seen : List Stream) → slice_get (headers_in (flats seen)) 0 ≡ option_map (λ s. s.header) (slice_get seen 0)
+first_header [] = refl
+first_header (s ∷ seen) = refl
+
+pub headers_push : (seen : List Stream) (s : Stream) → headers_in (flats (seen ++ s ∷ [])) ≡ headers_in (flats seen) ++ s.header ∷ []
+headers_push seen s = rw map_push (map_push (λ f. f.header) (flats seen) (flat s))
 
 -- ---- the loop over streams
 

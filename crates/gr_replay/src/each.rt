@@ -4,10 +4,13 @@ ghost use Rattle.std.specs.Prelude.{◌≡◌, ◌++◌, ◌∷◌, [], IfErr, I
 ghost use Rattle.gr_record.specs.Prelude.{IsOfReading, IsOfValues, Gives, IsOutside};
 ghost use Rattle.gr_replay.specs.Each.{AreRead, IsEachFault, ReadsEach, all_known, each_of, inputs_of, only_stream_at};
 ghost use Rattle.gr_replay.specs.InMemory.{flat, flats};
+ghost use Rattle.gr_intake.specs.Intakes.{AreSeen, MayFollow};
+ghost use Rattle.gr_intake.specs.Joined.{headers_in};
 ghost use Rattle.gr_intake.specs.Laws.{AreStreams};
 
 use crate::joined::{Stream, keep, read_stream};
 use crate::launch::traces_of;
+use gr_model::growing::GrowingShape;
 use gr_model::memory::Memory;
 use gr_model::traces::Traces;
 use gr_record::error::RecordError;
@@ -47,14 +50,20 @@ pub fn read_inputs<A: Allocator + Copy, T: Read + Drop>(
     Ok(inputs)
 }
 
-/// The stream that the bytes are, after these streams.
+/// The stream that the bytes are, after these streams, whose groups have these sizes.
 #[tactic(auto, unfolding(crate::specs::Each::only_stream_at))]
-fn read_only_stream<'a>(streams: &[Stream<'a>], bytes: &'a [u8]) -> Result<Stream<'a>, Fault>
+fn read_only_stream<'a, A: Allocator>(
+    streams: &[Stream<'a>],
+    groups: &GrowingShape<A>,
+    bytes: &'a [u8],
+) -> Result<Stream<'a>, Fault>
+    requires seen { AreSeen groups.now (headers_in (flats streams.now)) }
     ensures exact { Gives flat result (only_stream_at (flats streams.now) bytes.now) }
+    ensures follows { IfOk result (λ s. MayFollow (headers_in (flats streams.now)) s.header) }
     ensures good { AreStreams (flats streams.now) → IfOk result (λ s. AreStreams (flats streams.now ++ flat s ∷ [])) }
     ensures values { IfErr result IsOfValues }
 {
-    let (stream, rest) = read_stream(streams, bytes)?;
+    let (stream, rest) = read_stream(streams, groups, bytes)?;
     if rest.is_empty() {
         Ok(stream)
     } else {
@@ -76,9 +85,10 @@ pub fn read_only_streams<'a, A: Allocator + Copy>(
     ensures values { IfErr result IsOfValues }
 {
     let mut streams = Vec::new(alloc);
+    let mut groups = GrowingShape::new(alloc);
     for input in inputs {
-        let stream = read_only_stream(streams.as_slice(), input.as_slice())?;
-        keep(&mut streams, stream)?;
+        let stream = read_only_stream(&streams, &groups, input)?;
+        groups = keep(&mut streams, groups, stream)?;
     }
     Ok(streams)
 }

@@ -1,16 +1,18 @@
 //! Streams that follow one another in a list of bytes.
 
-ghost use Rattle.std.specs.Prelude.{◌≡◌, ◌==◌, ◌++◌, ◌∷◌, [], not, length, IfErr, IfOk, OnOk, Ok};
-ghost use Rattle.std.specs.List.{list_any};
+ghost use Rattle.std.specs.Prelude.{◌≡◌, ◌++◌, ◌∷◌, [], IfErr, IfOk, OnOk};
 ghost use Rattle.gr_record.specs.Prelude.{IsOfValues, Gives};
+ghost use Rattle.gr_intake.specs.Intakes.{AreSeen, MayFollow};
 ghost use Rattle.gr_intake.specs.Laws.{AreStreams};
-ghost use Rattle.gr_intake.specs.Joined.{stream_at, joined_of};
+ghost use Rattle.gr_intake.specs.Joined.{headers_in, stream_at, joined_of};
 ghost use Rattle.gr_replay.specs.InMemory.{flat, flats};
 
 use crate::records::Records;
+use gr_intake::headers::read_header_after;
+use gr_model::growing::GrowingShape;
+use gr_model::memory::Memory;
 use gr_record::fault::Fault;
 use gr_record::header::Header;
-use gr_record::stream::read_front_header;
 use std::alloc::Allocator;
 
 /// One stream: its header, and its records up to the end.
@@ -20,58 +22,40 @@ pub struct Stream<'a> {
     pub events: Records<'a>,
 }
 
-/// Whether one of the streams is of this group.
-fn has_group(streams: &[Stream<'_>], group: u16) -> bool
-    ensures { result ≡ list_any (λ s. s.header.group == group) streams.now }
-{
-    streams.iter().any(|stream| stream.header.group == group)
-}
-
-/// Whether one of the streams is of another launch.
-fn has_other_launch(streams: &[Stream<'_>], launch: u32) -> bool
-    ensures { result ≡ list_any (λ s. not (s.header.launch == launch)) streams.now }
-{
-    streams.iter().any(|stream| stream.header.launch != launch)
-}
-
-/// The stream at the front of the bytes, after these streams, and the bytes after it.
-#[tactic(auto, using(crate::proofs::Joining::count, crate::proofs::Joining::tested), unfolding(gr_intake::specs::Joined::header_after, gr_intake::specs::Joined::stream_at))]
-pub(crate) fn read_stream<'a>(
+/// The stream at the front of the bytes, after these streams, whose groups have these sizes; and the bytes after it.
+pub(crate) fn read_stream<'a, A: Allocator>(
     streams: &[Stream<'a>],
+    groups: &GrowingShape<A>,
     bytes: &'a [u8],
 ) -> Result<(Stream<'a>, &'a [u8]), Fault>
+    requires seen { AreSeen groups.now (headers_in (flats streams.now)) }
     ensures exact { Gives (λ x. (flat x.0, x.1.now)) result (stream_at (flats streams.now) bytes.now) }
+    ensures follows { IfOk result (λ x. MayFollow (headers_in (flats streams.now)) x.0.header) }
     ensures values { IfErr result IsOfValues }
 {
     let place = streams.len() as u64;
-    let (header, rest) = match read_front_header(bytes) {
-        Ok(found) => found,
-        Err(error) => return Err(Fault::of_stream(place, error)),
-    };
-    if has_group(streams, header.group) {
-        return Err(Fault::SameGroup(place));
-    }
-    if has_other_launch(streams, header.launch) {
-        return Err(Fault::OtherLaunch(place));
-    }
+    let first = streams.first().map(|stream| stream.header);
+    let (header, rest) = read_header_after(place, groups, first, bytes)?;
     match Records::find(header, rest) {
         Ok((events, rest)) => Ok((Stream { header, events }, rest)),
         Err(error) => Err(Fault::of_stream(place, error)),
     }
 }
 
-/// Keeps one more stream.
+/// Keeps one more stream, which may follow these, and gives the sizes of all groups.
 pub(crate) fn keep<'a, A: Allocator>(
     streams: &mut Vec<Stream<'a>, A>,
+    groups: GrowingShape<A>,
     stream: Stream<'a>,
-) -> Result<(), Fault>
+) -> Result<GrowingShape<A>, Memory>
+    requires seen { AreSeen groups (headers_in (flats streams.old.items)) }
+    requires follows { MayFollow (headers_in (flats streams.old.items)) stream.header }
     ensures kept { OnOk result (streams.new.items ≡ streams.old.items ++ stream.entry ∷ []) }
-    ensures memory { IfErr result (λ f. f ≡ Fault.Memory) }
+    ensures seen { IfOk result (λ g. AreSeen g (headers_in (flats streams.new.items))) }
 {
-    match streams.push(stream) {
-        Ok(()) => Ok(()),
-        Err(_) => Err(Fault::Memory),
-    }
+    let Header { group, items, .. } = stream.header;
+    streams.push(stream)?;
+    groups.with_group(group, items)
 }
 
 /// The streams in the bytes, in their order.
@@ -88,13 +72,14 @@ pub fn read_streams<'a, A: Allocator + Copy>(
     ensures values { IfErr result IsOfValues }
 {
     let mut streams = Vec::new(alloc);
+    let mut groups = GrowingShape::new(alloc);
     let mut rest = bytes;
     for _ in 0..bytes.len() {
         if rest.is_empty() {
             return Ok(streams);
         }
-        let (stream, after) = read_stream(streams.as_slice(), rest)?;
-        keep(&mut streams, stream)?;
+        let (stream, after) = read_stream(&streams, &groups, rest)?;
+        groups = keep(&mut streams, groups, stream)?;
         rest = after;
     }
     Ok(streams)
