@@ -6,7 +6,7 @@ use crate::streams::runs::fault_of;
 use gr_model::shape::ShapeError;
 use gr_record::fault::Fault;
 use gr_streams::NoWatch;
-use refusing::failing::FailingWriter;
+use refusing::failing::{FailingWriter, Failure};
 use std::alloc::Global;
 use std::sync::{Arc, Wait};
 use std::test::*;
@@ -58,11 +58,16 @@ fn a_writer_that_fails_is_a_write_fault(rt: HostRuntime) -> Result<(), Fail> {
     let report = report_with(alloc, lines)?;
     assert_eq!(rt; report.len(), 93);
     for room in 0..94 {
-        let mut output = FailingWriter::within(alloc, &report, room);
+        let failure = if room < report.len() {
+            Failure::Error
+        } else {
+            Failure::Flush
+        };
+        let mut output = FailingWriter::new(alloc, room, failure);
         let watch = Arc::new(alloc, NoWatch)?;
         let fault = fault_of(rt, alloc, race_of(alloc, 73)?, watch, &mut output)?;
         assert!(rt;
-            fault == Some(Fault::Write) && output.has_front(&report, room),
+            fault == Some(Fault::Write) && report.get(..room) == Some(output.taken.as_slice()),
             "after {room} bytes"
         );
     }
