@@ -91,6 +91,15 @@ class LargeLaunches(ProgramTest):
         ran = self.gpurace("replay", path, preexec_fn=lambda: resource.setrlimit(resource.RLIMIT_AS, (room, room)))
         self.assert_run(ran, report(groups, groups * 256, groups * 1_027 - 1, []), 0)
 
+    def test_60_000_groups_take_little_time(self):
+        """Each group has one item, which writes a word of its own. If a header were compared with all before it, 2 seconds would be too little."""
+        streams = (b"GRT3" + header(group, 1)[4:] + access(0, 1, 0, group) + END for group in range(60_000))
+        path = self.put("stream", b"".join(streams))
+        for words in ("explain", "g", 0), ("history", "g", 0), ("races",), ("check",):
+            with self.subTest(command=words[0]):
+                ran = self.gpurace(*words, path, preexec_fn=lambda: resource.setrlimit(resource.RLIMIT_CPU, (2, 2)))
+                self.assertEqual((ran.returncode, ran.stderr), (0, b""))
+
     def test_more_files_than_may_be_open(self):
         """Each of 400 groups has a file of its own, and 300 files may be open."""
         groups, most = 400, 300
