@@ -61,12 +61,9 @@ impl Piece {
         Ok(Piece { bytes, at, end })
     }
 
-    /// The same bytes, for a reader. Fails if they are of a file that can't be opened.
-    pub fn open(&self) -> io::Result<Piece> {
-        if let Bytes::File(rt, path) = &self.bytes {
-            File::open(rt, path.as_str())?;
-        }
-        Ok(self.part(self.at, self.end)?)
+    /// The same bytes, for a reader. A file is opened when it is read.
+    pub fn open(&self) -> Result<Piece, AllocError> {
+        self.part(self.at, self.end)
     }
 
     /// How many bytes there are, if that is known.
@@ -83,6 +80,9 @@ impl Read for Piece {
     fn read(&mut self, buf: &mut [u8]) -> io::Result<usize> {
         let left = self.end.saturating_sub(self.at);
         let most = buf.len().min(left as usize);
+        if most == 0 {
+            return Ok(0);
+        }
         let n = match &self.bytes {
             Bytes::File(rt, path) => {
                 let mut file = File::open(rt, path.as_str())?;
