@@ -11,11 +11,12 @@ use Rattle.gr_explain.specs.Seen.{IsAmong, IsPairWith, SeenList}
 use Rattle.gr_explain.proofs.ClashLemmas.{clash_added, clash_was, new_is_of, of_cases, still_of, still_pair}
 use Rattle.gr_explain.proofs.Lists.{set_has, set_still, set_was}
 use Rattle.gr_explain.proofs.PairOrder.{least_same, least_then}
+use Rattle.gr_explain.proofs.SeenLemmas.{Items}
 
 -- ---- the lists of the classes
 
 -- where an event is put into a list, the other lists stay
-put_in : (old new : List SeenList) (before : List EventId) (after : SeenList) (event : EventId) (class : Class) → after.class ≡ class → ((e : EventId) → IsAmong after.events e ↔ ((e ≡ event) ⊎ IsAmong before e)) → Contains new after → ((e : EventId) → IsAmong before e → IsSeen old e class) → ((l : SeenList) → Contains new l → (after ≡ l) ⊎ Contains old l) → ((l : SeenList) → Contains old l → ((l.class ≡ class) × (before ≡ l.events)) ⊎ Contains new l) → IsSeenMore old event class new
+put_in : (old new : List SeenList) (before : Items) (after : SeenList) (event : EventId) (class : Class) → after.class ≡ class → ((e : EventId) → IsAmong after.items e ↔ ((e ≡ event) ⊎ IsAmong before e)) → Contains new after → ((e : EventId) → IsAmong before e → IsSeen old e class) → ((l : SeenList) → Contains new l → (after ≡ l) ⊎ Contains old l) → ((l : SeenList) → Contains old l → ((l.class ≡ class) × (before ≡ l.items)) ⊎ Contains new l) → IsSeenMore old event class new
 put_in old new before after event class is among has seen_before was still e c = (
   λ (seen : IsSeen new e c). ⊎_elim
       (λ (here : after ≡ seen.list).
@@ -32,14 +33,14 @@ put_in old new before after event class is among has seen_before was still e c =
 )
 
 -- where the list of its class has it now
-pub put_in_list : (classes : List SeenList) (place : ℕ) (before after : SeenList) (event : EventId) (class : Class) → place < length classes → before ≡ get_or classes place before → after.class ≡ class → after.class ≡ before.class → ((e : EventId) → IsAmong after.events e ↔ ((e ≡ event) ⊎ IsAmong before.events e)) → IsSeenMore classes event class (slice_set classes place after)
+pub put_in_list : (classes : List SeenList) (place : ℕ) (before after : SeenList) (event : EventId) (class : Class) → place < length classes → before ≡ get_or classes place before → after.class ≡ class → after.class ≡ before.class → ((e : EventId) → IsAmong after.items e ↔ ((e ≡ event) ⊎ IsAmong before.items e)) → IsSeenMore classes event class (slice_set classes place after)
 put_in_list classes place before after event class lt is_before is same among =
-    put_in classes (slice_set classes place after) before.events after event class is among (set_has classes place after lt)
+    put_in classes (slice_set classes place after) before.items after event class is among (set_has classes place after lt)
     (λ e was. record { list = before; there = (place, lt, sym is_before); class = sym same ∙ is; among = was }) (set_was classes place after)
     (λ l there. grind (arith, set_still classes place after before l there))
 
 -- where a list of its class is new
-pub put_behind : (classes : List SeenList) (after : SeenList) (event : EventId) (class : Class) → after.class ≡ class → ((e : EventId) → IsAmong after.events e ↔ ((e ≡ event) ⊎ IsAmong [] e)) → IsSeenMore classes event class (classes ++ after ∷ [])
+pub put_behind : (classes : List SeenList) (after : SeenList) (event : EventId) (class : Class) → after.class ≡ class → ((e : EventId) → IsAmong after.items e ↔ ((e ≡ event) ⊎ IsAmong [] e)) → IsSeenMore classes event class (classes ++ after ∷ [])
 put_behind classes after event class is among =
     put_in classes (classes ++ after ∷ []) [] after event class is among (Contains-push classes after) (λ e none. absurd (let no : false ≡ true = none in cc))
     (λ l there. grind (arith, Contains-push_cases classes after l there)) (λ l there. inr (Contains-append_left classes (after ∷ []) l there))

@@ -14,7 +14,7 @@ pub record IsSeen (classes : List SeenList) (e : EventId) (c : Class) : Type 0 w
   pub list : SeenList
   pub there : Contains classes list
   pub class : list.class ≡ c
-  pub among : IsAmong list.events e
+  pub among : IsAmong list.items e
 
 -- the event of a class is seen, or was
 abbrev pub IsSeenMore : List SeenList → EventId → Class → List SeenList → Type 0

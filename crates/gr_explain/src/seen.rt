@@ -13,28 +13,26 @@ use gr_model::event::{EventId, ItemId};
 use gr_model::memory::Memory;
 use gr_model::race::{is_below, turned};
 use std::alloc::{Allocator, Global};
-use std::collections::BTreeSet;
+use std::collections::{BTreeMap, BTreeSet};
 use std::marker::Model;
 
 /// The accesses of one class to a word.
-///
-/// Invariant: the item of each event is one of the items.
 #[derive(Drop)]
 #[derive_where(Debug)]
 pub(crate) struct Seen<A: Allocator = Global> {
+    #[derive_where(skip)]
+    alloc: A,
     class: Class,
-    items: BTreeSet<ItemId, A>,
-    events: BTreeSet<EventId, A>,
+    /// Of each item the indices of its events.
+    items: BTreeMap<ItemId, BTreeSet<u32, A>, A>,
 }
 
 impl<A: Allocator> Model for Seen<A> {
-    ghost use Rattle.gr_explain.specs.Seen.{HaveItems, SeenList};
+    ghost use Rattle.gr_explain.specs.Seen.{SeenList};
 
     ghost Value = { SeenList };
 
-    ghost view = { λ s. record { class = s.class; events = s.events.keys } };
-
-    ghost invariant = { λ s. HaveItems s.items.keys s.events.keys };
+    ghost view = { λ s. record { class = s.class; items = s.items.entries } };
 }
 
 /// The event of an access.
@@ -72,15 +70,31 @@ fn is_passed(least: Option<(EventId, EventId)>, item: ItemId, event: EventId) ->
     least.is_some_and(|(first, _)| first.at < item && is_below(first, event))
 }
 
+/// The first of an item's events of a class, of which these are the indices, with which a later access clashes.
+fn first_of<A: Allocator>(
+    class: Class,
+    item: ItemId,
+    indices: &BTreeSet<u32, A>,
+    access: &Access<A>,
+) -> Option<EventId>
+    ensures { IsFirstOf class item indices.now.keys (clocked access.now) result }
+{
+    if item == access.item || exempt(class, item.group, access.class, access.item.group) {
+        return None;
+    }
+    let index = *indices.range(access.clock.get(item)..).next()?;
+    Some(EventId { at: item, index })
+}
+
 impl<A: Allocator + Copy> Seen<A> {
     /// No accesses of a class.
     pub(crate) fn new(alloc: A, class: Class) -> Seen<A>
         ensures { result ≡ nothing_seen class }
     {
         Seen {
+            alloc,
             class,
-            items: BTreeSet::new(alloc),
-            events: BTreeSet::new(alloc),
+            items: BTreeMap::new(alloc),
         }
     }
 
@@ -97,22 +111,22 @@ impl<A: Allocator + Copy> Seen<A> {
         requires { access.now.class ≡ self.old.class }
         ensures class { OnOk result (self.new.class ≡ access.now.class) }
         ensures same { OnOk result (self.new.class ≡ self.old.class) }
-        ensures events { OnOk result ((e : AnyEvent) → IsAmong self.new.events e ↔ ((e ≡ spec.event_of (clocked access.now)) ⊎ IsAmong self.old.events e)) }
+        ensures events { OnOk result ((e : AnyEvent) → IsAmong self.new.items e ↔ ((e ≡ spec.event_of (clocked access.now)) ⊎ IsAmong self.old.items e)) }
     {
-        let event = event_of(access);
-        self.items.insert(event.at)?;
-        self.events.insert(event)?;
+        let none = BTreeSet::new(self.alloc);
+        let indices = self.items.entry(access.item)?.or_insert(none);
+        indices.insert(access.index)?;
         Ok(())
     }
 }
 
 impl<A: Allocator> Seen<A> {
-    /// Whether there are events, all of one work-group.
+    /// Whether there are items, all of one work-group.
     fn is_within(&self, group: u16) -> bool
-        ensures { IsTrue result → (e : EventId) → IsAmong self.now.events e → e.at.group ≡ group }
+        ensures { IsTrue result → (e : EventId) → IsAmong self.now.items e → e.at.group ≡ group }
     {
-        match (self.events.first(), self.events.last()) {
-            (Some(first), Some(last)) => first.at.group == group && last.at.group == group,
+        match (self.items.first_key_value(), self.items.last_key_value()) {
+            (Some((first, _)), Some((last, _))) => first.group == group && last.group == group,
             _ => false,
         }
     }
@@ -127,24 +141,8 @@ impl<A: Allocator> Seen<A> {
             || (exempt(self.class, group, access.class, group) && self.is_within(group))
     }
 
-    /// The first event of an item with which a later access clashes.
-    fn first_of(&self, item: ItemId, access: &Access<A>) -> Option<EventId>
-        ensures { IsFirstOf self.now (clocked access.now) item result }
-    {
-        if item == access.item || exempt(self.class, item.group, access.class, access.item.group) {
-            return None;
-        }
-        let unseen = EventId {
-            at: item,
-            index: access.clock.get(item),
-        };
-        match self.events.range(unseen..).next() {
-            None => None,
-            Some(first) => { if first.at == item { Some(*first) } else { None } }
-        }
-    }
-
     /// The least of these pairs: the least one so far, if there is one, and those of a later access with the ones with which it clashes.
+    /// Of the latter, the least is that of the first event.
     pub(crate) fn with_pairs(
         &self,
         access: &Access<A>,
@@ -155,15 +153,13 @@ impl<A: Allocator> Seen<A> {
         if self.is_exempt(access) {
             return least;
         }
-        let mut least = least;
         let event = event_of(access);
-        for item in self.items.iter() {
+        for (item, indices) in self.items.iter() {
             if is_passed(least, *item, event) {
                 return least;
             }
-            match self.first_of(*item, access) {
-                None => {}
-                Some(earlier) => least = Some(lesser(least, turned(earlier, event))),
+            if let Some(earlier) = first_of(self.class, *item, indices, access) {
+                return Some(lesser(least, turned(earlier, event)));
             }
         }
         least

@@ -1,9 +1,10 @@
-use Rattle.gr_model.proofs.Common.{◌≡◌, ◌⊎◌, Some, map}
-use Rattle.std.specs.Map.Iter.{deref}
+use Rattle.gr_model.proofs.Common.{◌≡◌, false, map}
+use Rattle.gr_model.specs.declared.event.EventId.{EventId}
+use Rattle.std.specs.Map.Iter.{deref_pair}
 use Rattle.gr_clocks.specs.ClockedAccess.{clocked}
-use Rattle.gr_explain.specs.LeastRaces.{IsLeastOf}
-use Rattle.gr_explain.proofs.SeenLemmas.{IsPairOn}
+use Rattle.gr_shadow.specs.Clashes.{clashes_with}
+use Rattle.gr_explain.specs.Seen.{IsAmong}
 use Rattle.gr_explain.proofs.seen.Seen.with_pairs.Given as goal
 
 abbrev pub invariant-loop-item : goal.invariant-loop-item
-invariant-loop-item g l = IsLeastOf (λ p. (l.fn.least ≡ Some p) ⊎ IsPairOn l.self (clocked l.access) (map deref l.yielded) p) l.least
+invariant-loop-item g l = (e : EventId) → IsAmong (map deref_pair l.yielded) e → clashes_with e.at e.index l.self.class (clocked l.access) ≡ false
