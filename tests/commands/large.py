@@ -2,6 +2,7 @@
 
 import itertools
 import json
+import re
 import struct
 
 from testing.program import END, ProgramTest, access, header, pack
@@ -238,17 +239,31 @@ def named(before, names, count):
     return f"{before} {', '.join(names[:8])}" + (f" and {count - 8} more" if count > 8 else "")
 
 
+def singles_of(line, record_of):
+    """The lines of the accesses of a line, each as if it were alone."""
+    spans = re.fullmatch(r"access (\d+) (\d+) (\d+) to (\d+) (.*) record (\d+) to (\d+) (.*)", line)
+    if not spans:
+        return [line]
+    group, item, first, last, kind, first_record, last_record, rest = spans.groups()
+    ends = record_of(int(item), int(first)), record_of(int(item), int(last))
+    assert ends == (int(first_record), int(last_record)), line
+    indices = range(int(first), int(last) + 1)
+    return [f"access {group} {item} {index} {kind} record {record_of(int(item), index)} {rest}" for index in indices]
+
+
 class Histories(ProgramTest):
     """Histories of a word whose accesses nothing orders but that some are of one item."""
 
-    def assert_history(self, files, kind, record_of, count, end, status):
+    def assert_history(self, files, kind, record_of, rows, end, status):
         """Each access is after just those of its item that are above it, and races with the others where these are writes.
-        `record_of` has the number of an access's record."""
+        `record_of` has the number of an access's record. So many lines have them all, and the last one says how many they are."""
         ran = self.gpurace("history", "g", "16", *files)
         *lines, last = ran.stdout.decode().splitlines()
-        self.assertEqual((len(lines), last, ran.returncode, ran.stderr), (count, end, status, b""))
+        self.assertEqual((len(lines), last, ran.returncode, ran.stderr), (rows, end, status, b""))
+        singles = [single for line in lines for single in singles_of(line, record_of)]
+        self.assertEqual(len(singles), int(end.split()[2]))
         above = {}
-        for number, line in enumerate(lines):
+        for number, line in enumerate(singles):
             group, item, index = (int(it) for it in line.split()[1:4])
             names = above.setdefault((group, item), [])
             self.assertEqual(index, len(names))
@@ -268,17 +283,16 @@ class Histories(ProgramTest):
         self.assert_history(["turns"], "write", lambda item, index: 2 * index + item, 2_000, end, 1)
 
     def test_20000_reads_of_5000_items(self):
-        """Each item of 20 groups reads the word four times."""
+        """Each item of 20 groups reads the word four times: its first read is after none of its own, the others are alike."""
         reads = b"".join(access(item, READ, GLOBAL, 16) * 4 for item in range(250))
         files = [self.put(f"group{group}", header(group, 250) + reads + END).name for group in range(20)]
         end = "end accesses 20000 held 0 races no"
-        self.assert_history(files, "read", lambda item, index: 4 * item + index, 20_000, end, 0)
+        self.assert_history(files, "read", lambda item, index: 4 * item + index, 10_000, end, 0)
 
     def test_2000_accesses_of_one_item(self):
         self.put("writes", header(0, 1) + access(0, WRITE, GLOBAL, 16) * 2_000 + END)
-        behind = ["none"] + ["all"] * 1_999
-        wanted = "".join(f"access 0 0 {index} write record {index} phase 0 behind {it}\n" for index, it in enumerate(behind))
-        self.assert_run(self.gpurace("history", "g", "16", "writes"), f"{wanted}end accesses 2000 held 0 races no\n".encode(), 0)
+        wanted = b"access 0 0 0 write record 0 phase 0 behind none\naccess 0 0 1 to 1999 write record 1 to 1999 phase 0 behind all\n"
+        self.assert_run(self.gpurace("history", "g", "16", "writes"), wanted + b"end accesses 2000 held 0 races no\n", 0)
 
     def test_262144_items_that_count(self):
         """Each item of 1,024 groups adds one to a counter."""

@@ -1,8 +1,8 @@
 //! The text of the history of a word.
 
-use crate::parts::{Added, AtText, DetailsText, EventText, put_buffer};
+use crate::parts::{Added, AtText, KindText, put_buffer};
 use gr_model::class::class_of;
-use gr_model::event::{EventId, Word};
+use gr_model::event::{EventId, Kind, Word};
 use gr_model::memory::Memory;
 use gr_places::index::PlaceIndex;
 use gr_places::places::Placed;
@@ -13,6 +13,21 @@ use gr_timeline::standing::{Above, Named, Standing};
 use gr_timeline::word_history::HistoryAnswer;
 use itoa::Buffer;
 use std::alloc::Allocator;
+
+/// A line: one access, or some of one item that come one after another in it, are alike, and relate alike to all above them.
+#[derive(Drop)]
+struct Row<'a, A: Allocator> {
+    /// The first.
+    first: EventId,
+    /// The index of the last.
+    last: u32,
+    /// The details of the first.
+    details: Option<Details>,
+    /// The number of the last one's record.
+    last_record: usize,
+    standing: Option<Standing<A>>,
+    place: Option<&'a str>,
+}
 
 /// Adds an event as `EventText` does, and faster than `write!`: most of a long history is events.
 fn put_event<A: Allocator>(text: &mut String<A>, event: EventId) -> Added {
@@ -49,37 +64,97 @@ fn put_standing<A: Allocator + Copy>(text: &mut String<A>, standing: &Standing<A
     put_named(text, " but", &standing.unordered)
 }
 
-/// Adds the details of an access, and how it is ordered with respect to those above it. Then counts it among them.
-fn put_access<A: Allocator + Copy>(
-    alloc: A,
-    text: &mut String<A>,
-    above: &mut Above<A>,
-    entry: &Entry<A>,
-    details: &Details,
-) -> Result<(), Memory> {
-    write!(text, " {}", DetailsText(*details))?;
-    if let Some(class) = class_of(&details.kind) {
-        let standing = above.add(alloc, entry, class)?;
-        put_standing(text, &standing)?;
+/// Adds a number, or the first and the last of some.
+fn put_span<A: Allocator>(text: &mut String<A>, first: usize, last: usize) -> Added {
+    if first == last {
+        write!(text, " {first}")
+    } else {
+        write!(text, " {first} to {last}")
     }
-    Ok(())
 }
 
-/// Adds the accesses of a history, each with where it is in the source.
+impl<A: Allocator + Copy> Row<'_, A> {
+    /// Whether another access goes on with these.
+    fn takes(&self, next: &Row<'_, A>) -> bool {
+        next.first.at == self.first.at
+            && Some(next.first.index) == self.last.checked_add(1)
+            && next.kind_and_phase() == self.kind_and_phase()
+            && next.place == self.place
+            && match (&self.standing, &next.standing) {
+                (Some(mine), Some(theirs)) => mine.is_like(theirs),
+                _ => false,
+            }
+    }
+
+    fn kind_and_phase(&self) -> Option<(Kind, usize)> {
+        self.details.map(|details| (details.kind, details.phase))
+    }
+
+    /// Adds the line.
+    fn put(&self, text: &mut String<A>) -> Added {
+        let EventId { at, index } = self.first;
+        write!(text, "access {} {}", at.group, at.item)?;
+        put_span(text, index as usize, self.last as usize)?;
+        if let Some(details) = self.details {
+            write!(text, " {} record", KindText(details.kind))?;
+            put_span(text, details.number, self.last_record)?;
+            write!(text, " phase {}", details.phase)?;
+        }
+        if let Some(standing) = &self.standing {
+            put_standing(text, standing)?;
+        }
+        writeln!(text, "{}", AtText(self.place))
+    }
+}
+
+/// The line of an access alone, which then counts among those above the next.
+fn row_of<'a, A: Allocator + Copy>(
+    alloc: A,
+    places: &PlaceIndex<'a, A>,
+    above: &mut Above<A>,
+    entry: &Entry<A>,
+    details: Option<Details>,
+) -> Result<Row<'a, A>, Memory> {
+    let standing = match details.and_then(|details| class_of(&details.kind)) {
+        Some(class) => Some(above.add(alloc, entry, class)?),
+        None => None,
+    };
+    Ok(Row {
+        first: entry.event,
+        last: entry.event.index,
+        details,
+        last_record: details.map_or(0, |details| details.number),
+        standing,
+        place: places.place_of(Placed::Event(entry.event)),
+    })
+}
+
+/// Adds the accesses of a history, those of one item that are alike in one line.
 fn put_accesses<A: Allocator + Copy>(
     alloc: A,
     text: &mut String<A>,
     places: &PlaceIndex<'_, A>,
-    above: &mut Above<A>,
     history: &HistoryAnswer<A>,
 ) -> Result<(), Memory> {
+    let mut above = Above::new(alloc);
+    let mut last: Option<Row<'_, A>> = None;
     for entry in &history.entries {
-        write!(text, "access {}", EventText(entry.event))?;
-        if let Some(details) = history.known.get(&entry.event) {
-            put_access(alloc, text, above, entry, details)?;
+        let details = history.known.get(&entry.event).copied();
+        let next = row_of(alloc, places, &mut above, entry, details)?;
+        match &mut last {
+            Some(row) if row.takes(&next) => {
+                row.last = next.last;
+                row.last_record = next.last_record;
+            }
+            _ => {
+                if let Some(row) = last.replace(next) {
+                    row.put(text)?;
+                }
+            }
         }
-        let at = AtText(places.place_of(Placed::Event(entry.event)));
-        writeln!(text, "{at}")?;
+    }
+    if let Some(row) = last {
+        row.put(text)?;
     }
     Ok(())
 }
@@ -101,10 +176,9 @@ pub fn history_text<A: Allocator + Copy>(
     history: &HistoryAnswer<A>,
 ) -> Result<Vec<u8, A>, Memory> {
     let places = PlaceIndex::of(alloc, sides.places)?;
-    let mut above = Above::new(alloc);
     let mut text = String::new(alloc);
     put_buffer(&mut text, sides, word)?;
-    put_accesses(alloc, &mut text, &places, &mut above, history)?;
+    put_accesses(alloc, &mut text, &places, history)?;
     put_end(&mut text, history)?;
     Ok(text.into_bytes())
 }

@@ -3,7 +3,7 @@
 ghost use Rattle.std.specs.Prelude.{Some};
 ghost use Rattle.gr_plain.specs.Explanations.{event_text, word_text};
 
-use gr_model::event::{EventId, Word};
+use gr_model::event::{EventId, Kind, Word};
 use gr_places::buffers::element_of;
 use gr_places::sides::Sides;
 use gr_races::cause::Cause;
@@ -56,6 +56,20 @@ impl Display for AtText<'_> {
     }
 }
 
+/// What a record does, and the scope and the order of an atomic one.
+#[derive(Clone, Copy)]
+pub(crate) struct KindText(pub(crate) Kind);
+
+impl Display for KindText {
+    fn fmt<W: fmt::Write>(&self, f: &mut Formatter<W>) -> fmt::Result {
+        write!(f, "{}", kind_name(self.0))?;
+        match atomic_of(self.0) {
+            None => Ok(()),
+            Some((scope, order)) => write!(f, " {} {}", scope_name(scope), order_name(order)),
+        }
+    }
+}
+
 /// The details of an access.
 #[derive(Clone, Copy)]
 pub(crate) struct DetailsText(pub(crate) Details);
@@ -63,11 +77,12 @@ pub(crate) struct DetailsText(pub(crate) Details);
 impl Display for DetailsText {
     fn fmt<W: fmt::Write>(&self, f: &mut Formatter<W>) -> fmt::Result {
         let details = self.0;
-        write!(f, "{}", kind_name(details.kind))?;
-        if let Some((scope, order)) = atomic_of(details.kind) {
-            write!(f, " {} {}", scope_name(scope), order_name(order))?;
-        }
-        write!(f, " record {} phase {}", details.number, details.phase)
+        let kind = KindText(details.kind);
+        write!(
+            f,
+            "{kind} record {} phase {}",
+            details.number, details.phase
+        )
     }
 }
 

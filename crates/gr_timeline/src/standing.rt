@@ -18,7 +18,7 @@ const MOST_NAMED: usize = 8;
 
 /// Some events: the first few by name, and how many there are.
 #[derive(Drop)]
-#[derive_where(Debug)]
+#[derive_where(Debug, PartialEq)]
 pub struct Named<A: Allocator = Global> {
     /// The first few.
     pub events: Vec<EventId, A>,
@@ -111,9 +111,24 @@ impl<A: Allocator + Copy> Named<A> {
 }
 
 impl<A: Allocator + Copy> Standing<A> {
+    /// Whether another access relates to those above it as this one does: it races with the same ones, and the same do not happen before it.
+    pub fn is_like(&self, other: &Standing<A>) -> bool {
+        self.races == other.races
+            && self.unordered == other.unordered
+            && (self.behind == 0) == (other.behind == 0)
+    }
+
     /// Whether no more accesses are to be named.
     fn is_named(&self) -> bool {
         self.races.is_full() && self.unordered.is_full()
+    }
+}
+
+impl<A: Allocator> Trail<A> {
+    /// Whether a clock that counts so many events of the item can count another number of these. It counts all where the last one did and
+    /// it counts the last of them.
+    fn may_change(&self, events: u32) -> bool {
+        self.counted < self.indices.len() || self.indices.last().is_some_and(|last| *last >= events)
     }
 }
 
@@ -220,7 +235,7 @@ fn turn<A: Allocator + Copy>(
     group: &mut ClassCounts<A>,
     launch: &mut ClassCounts<A>,
 ) {
-    for trail in trails.iter_mut() {
+    for trail in trails.iter_mut().filter(|trail| trail.may_change(events)) {
         let counted = trail.indices.partition_point(|index| *index < events);
         group.recount(trail.class, trail.counted, counted);
         launch.recount(trail.class, trail.counted, counted);
@@ -238,18 +253,12 @@ impl<A: Allocator + Copy> Above<A> {
         }
     }
 
-    /// Takes what a clock counts of an item in place of what the last one did.
-    fn turn_item(&mut self, at: ItemId, clock: &Clock<A>) {
-        if let Some(group) = self.groups.get_mut(&at.group) {
-            if let Some(trails) = group.items.get_mut(&at.item) {
-                turn(trails, clock.get(at), &mut group.counts, &mut self.counts);
-            }
-        }
-    }
-
-    /// How many accesses of an item there are, if there is one.
-    fn count_of(&self, at: ItemId) -> Option<usize> {
-        let trails = self.groups.get(&at.group)?.items.get(&at.item)?;
+    /// Takes what a clock counts of an item in place of what the last one did. Gives how many accesses of the item there are, if there
+    /// is one.
+    fn turn_item(&mut self, at: ItemId, clock: &Clock<A>) -> Option<usize> {
+        let group = self.groups.get_mut(&at.group)?;
+        let trails = group.items.get_mut(&at.item)?;
+        turn(trails, clock.get(at), &mut group.counts, &mut self.counts);
         let counts = trails.iter().map(|trail| trail.indices.len());
         Some(counts.fold(0, |sum: usize, count| sum.saturating_add(count)))
     }
@@ -260,10 +269,11 @@ impl<A: Allocator + Copy> Above<A> {
         let mut is_later = false;
         if let Some(last) = self.last {
             is_later = clock.covers(last.at, last.index);
-            self.turn_item(last.at, clock);
+            if last.at != at {
+                self.turn_item(last.at, clock);
+            }
         }
-        self.turn_item(at, clock);
-        let own = self.count_of(at).unwrap_or(0);
+        let own = self.turn_item(at, clock).unwrap_or(0);
         if self.counts.counted == own && clock.lacks_all(at) {
             return;
         }
@@ -280,6 +290,9 @@ impl<A: Allocator + Copy> Above<A> {
     /// How many accesses the last clock does not count: of those that never race with an access of this class and group, or of those that
     /// can.
     fn uncounted(&self, class: Class, group: u16, is_exempt: bool) -> usize {
+        if self.counts.counted == self.counts.all {
+            return 0;
+        }
         let another = u16::from(group == 0);
         let as_others = self.counts.uncounted(another, class, group, is_exempt);
         match self.groups.get(&group) {
