@@ -82,7 +82,11 @@ fn first_of<A: Allocator>(
     if item == access.item || exempt(class, item.group, access.class, access.item.group) {
         return None;
     }
-    let index = *indices.range(access.clock.get(item)..).next()?;
+    let counted = access.clock.get(item);
+    if indices.last().is_none_or(|last| *last < counted) {
+        return None;
+    }
+    let index = *indices.range(counted..).next()?;
     Some(EventId { at: item, index })
 }
 
