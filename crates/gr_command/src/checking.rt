@@ -10,8 +10,7 @@ ghost use Rattle.gr_command.specs.Answers.{ChecksPrefixOfFiles, IsCheckedOfFiles
 use gr_arguments::request::Arguments;
 use gr_json::check::check_json;
 use gr_model::memory::Memory;
-use gr_places::checked::check_files;
-use gr_places::checking::Checked;
+use gr_places::checking::{Checked, check_files};
 use gr_plain::check::check_text;
 use gr_record::fault::Fault;
 use gr_show::writing::write_text;

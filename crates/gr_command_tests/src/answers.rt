@@ -2,7 +2,7 @@
 
 use crate::launches::Files;
 use gr_model::event::{EventId, ItemId, Word};
-use gr_places::checked::check_files;
+use gr_places::checking::check_files;
 use gr_places::sides_fault::SidesFault;
 use gr_plain::check::check_text;
 use gr_record::fault::Fault;

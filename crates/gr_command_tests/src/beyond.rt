@@ -4,7 +4,7 @@ use gr_command::execute::execute;
 use gr_command::status::status_of;
 use gr_json::check::check_json;
 use gr_model::shape::ShapeError;
-use gr_places::checked::check_files;
+use gr_places::checking::check_files;
 use gr_places::sides_fault::{SidesFault, write_sides_fault};
 use gr_plain::check::check_text;
 use gr_record::error::RecordError;

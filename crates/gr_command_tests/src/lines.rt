@@ -2,10 +2,11 @@
 
 use gr_model::event::{EventId, ItemId, Word};
 use gr_model::memory::Memory;
-use gr_places::buffers::{element_of, read_buffers};
-use gr_places::fault::SideFault;
+use gr_places::buffers::{buffers_of, element_of};
 use gr_places::index::PlaceIndex;
-use gr_places::places::{Placed, read_places};
+use gr_places::places::{Placed, places_of};
+use gr_places::sides_fault::SidesFault;
+use gr_record::fault::Fault;
 use refusing::growths::refuse_each;
 use std::alloc::{Allocator, Global};
 use std::test::Fail;
@@ -27,8 +28,8 @@ fn has<A: Allocator>(index: &PlaceIndex<'_, A>, of: Placed, due: Option<(&str, u
 }
 
 /// Whether the index of `LINES` has the places and numbers that it should have.
-fn is_indexed<A: Allocator + Copy>(alloc: A) -> Result<bool, SideFault> {
-    let lines = read_places(alloc, LINES)?;
+fn is_indexed<A: Allocator + Copy>(alloc: A) -> Result<bool, SidesFault> {
+    let lines = places_of(alloc, LINES)?;
     let index = PlaceIndex::of(alloc, &lines)?;
     Ok(
         has(&index, event(0, 0), Some(("a:1", 0)))
@@ -41,8 +42,8 @@ fn is_indexed<A: Allocator + Copy>(alloc: A) -> Result<bool, SideFault> {
 }
 
 /// Whether a line may have the greatest numbers, and a site has the place of its line.
-fn is_placed<A: Allocator + Copy>(alloc: A) -> Result<bool, SideFault> {
-    let lines = read_places(alloc, b"65535 65535 4294967295 a\n1 scan.cl:5000:3\n")?;
+fn is_placed<A: Allocator + Copy>(alloc: A) -> Result<bool, SidesFault> {
+    let lines = places_of(alloc, b"65535 65535 4294967295 a\n1 scan.cl:5000:3\n")?;
     let greatest = EventId {
         at: ItemId {
             group: 65_535,
@@ -56,8 +57,8 @@ fn is_placed<A: Allocator + Copy>(alloc: A) -> Result<bool, SideFault> {
 }
 
 /// Whether a word of a buffer has its name and its place there.
-fn is_named<A: Allocator + Copy>(alloc: A) -> Result<bool, SideFault> {
-    let lines = read_buffers(
+fn is_named<A: Allocator + Copy>(alloc: A) -> Result<bool, SidesFault> {
+    let lines = buffers_of(
         alloc,
         b"g 448 300 psc\nl 1 0 16 tile\ng 700 100 marks.byte\n",
     )?;
@@ -66,11 +67,11 @@ fn is_named<A: Allocator + Copy>(alloc: A) -> Result<bool, SideFault> {
 }
 
 /// An answer about lines, or want of memory.
-fn or_memory(answer: Result<bool, SideFault>) -> Result<bool, Memory> {
+fn or_memory(answer: Result<bool, SidesFault>) -> Result<bool, Memory> {
     match answer {
         Ok(is_right) => Ok(is_right),
-        Err(SideFault::Memory) => Err(Memory),
-        Err(SideFault::BadLine(_)) => Ok(false),
+        Err(SidesFault::Run(Fault::Memory)) => Err(Memory),
+        Err(_) => Ok(false),
     }
 }
 

@@ -4,7 +4,7 @@ use crate::values::{Text, line_of};
 use gr_places::checking::Checked;
 use gr_places::counts::Counts;
 use gr_places::fault_places::FaultPlace;
-use gr_places::sentences::{right, wrong};
+use gr_places::sentences::wrong_and_right;
 use gr_places::spot::Spot;
 use serde::Serialize;
 use std::alloc::Global;
@@ -126,12 +126,13 @@ pub fn check_json(alloc: Global, checked: &Checked<'_>) -> Text {
             line_of(alloc, &line)
         }
         Checked::Refused { fault, place } => {
+            let (wrong, right) = wrong_and_right(fault);
             let line = RefusedLine {
                 accepted: false,
                 place: place_object(place),
-                right: right(fault),
+                right,
                 line: "check",
-                wrong: wrong(fault),
+                wrong,
             };
             line_of(alloc, &line)
         }

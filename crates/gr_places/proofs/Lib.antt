@@ -6,4 +6,3 @@ pub mod NamingLemmas
 mod CountLemmas
 mod LawLemmas
 mod NeighbourLemmas
-mod SpotLemmas

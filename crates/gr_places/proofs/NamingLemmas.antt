@@ -1,18 +1,16 @@
 -- Texts of the form NAME[INDEX], and the words of buffers that they name.
-use Rattle.gr_model.proofs.Common.{◌≡◌, ℕ, ◌-◌, ◌^◌, ◌<◌, ◌&&◌, ◌==◌, if◌then◌else◌, Bool, true, false, List, [], ◌∷◌, ◌++◌, Option, Some, None, refl, sym, ap, ◌∙◌, length, arith, map, MatchOption, decimal, find, is_some, nat_tests, and_parts, eq-eqb, eqb-true, option_map, option_and_then_some, subst, drop_at, length-append, take-append-drop, take_at, IfSome}
-use Rattle.std.proofs.lemmas.Option.{cond_some}
-use Rattle.gr_text.specs.LineReading.{◌>>=◌, same}
-use Rattle.gr_text.proofs.LineNumbers.{each_some, number_back, number_told, same_is, same_self, same_told}
+use Rattle.gr_model.proofs.Common.{◌≡◌, ℕ, ◌-◌, ◌^◌, ◌<◌, Bool, true, false, List, [], ◌∷◌, ◌++◌, Option, Some, None, refl, sym, ap, ◌∙◌, length, arith, map, MatchOption, decimal, find, is_some, nat_tests, eq-eqb, option_map, option_and_then_some, subst, drop_at, length-append, take-append-drop, take_at, IfSome, IsSomeAnd}
+use Rattle.gr_text.proofs.LineNumbers.{each_some, number_back, number_told, same_self, same_told}
 use Rattle.gr_places.specs.Types.{Word, BufferLine}
 use Rattle.gr_places.specs.SideLines.{BufferSaid, ElementSaid, buffer_line, element_of, index_in}
 use Rattle.gr_places.proofs.Reading.{element_found, made}
-use Rattle.gr_places.specs.Naming.{IsSaid, IsText, after, before, in_brackets, index_after, number_of, word_at, word_if, word_in}
+use Rattle.gr_places.specs.Naming.{IsSaid, IsText, after, before, in_brackets, index_after, number_of, word_at, word_in}
 
 -- ---- options and lists
 
-from_both : {X Y : Type 0} (o : Option X) (f : X → Option Y) (y : Y) → (o >>= f) ≡ Some y → (x : X) × (o ≡ Some x) × (f x ≡ Some y)
-from_both None f y e = absurd cc
-from_both (Some x) f y e = (x, refl, e)
+some_and : {X : Type 0} (o : Option X) (P : X → Type 0) → IsSomeAnd o P → (x : X) × (o ≡ Some x) × P x
+some_and None P s = absurd s
+some_and (Some x) P s = (x, refl, s)
 
 from_map : {X Y : Type 0} (g : X → Y) (o : Option X) (y : Y) → option_map g o ≡ Some y → (x : X) × (o ≡ Some x) × (g x ≡ y)
 from_map g None y e = absurd cc
@@ -57,22 +55,17 @@ word_of_index b w k e lt = (grind (arith, nat_tests), grind (arith, nat_tests))
 small_word : (b : BufferSaid) (w : Word) (k : ℕ) → word_at b k ≡ Some w → number_of w < 2 ^ 32
 small_word b w k e = grind (arith, nat_tests)
 
+small_told : (b : BufferSaid) (k : ℕ) → (word_at b k ≡ word_at b k) × IfSome (word_at b k) (λ w. number_of w < 2 ^ 32)
+small_told b k = (refl, each_some (word_at b k) (λ w. number_of w < 2 ^ 32) (λ w is. small_word b w k is))
+
+index_told : (name text : List ℕ) → (index_after name text ≡ index_after name text) × IfSome (index_after name text) (λ k. IsText name k text)
+index_told name text = (refl, each_some (index_after name text) (λ k. IsText name k text) (index_found name text))
+
 module _ (lines : List BufferSaid) (b : BufferSaid) (text : List ℕ) (w : Word) where
   -- the word of a line is said
   word_found : word_in lines b text ≡ Some w → IsSaid lines text w
   unfolding word_in
-  word_found e =
-      let i = from_both (index_after b.name text) (λ k. word_at b k >>= word_if lines b.name k) w e in
-      let v = from_both (word_at b i.0) (word_if lines b.name i.0) w i.2 in
-      let s = from_both (element_of lines v.0) (λ (said : ElementSaid). if (said.index == i.0) && same said.name b.name then Some v.0 else None) w v.2 in
-      let p = cond_some ((s.0.index == i.0) && same s.0.name b.name) v.0 w s.2 in
-      let t = and_parts (s.0.index == i.0) (same s.0.name b.name) p.0 in
-      record {
-        said = s.0;
-        is_element = ap (element_of lines) (sym p.1) ∙ s.1;
-        is_text = rw (eqb-true s.0.index i.0 t.0, same_is s.0.name b.name t.1) (index_found b.name text i.0 i.1);
-        small = small_word b w i.0 (v.1 ∙ ap (λ (x : Word). Some x) p.1);
-      }
+  word_found e = record { said = grind (arith, index_told, same_told, nat_tests); small = grind (arith, small_told) }
 
   -- a word that is said is that of its line
   word_back : (k : ℕ) → index_in b w ≡ Some k → number_of w < 2 ^ 32 → element_of lines w ≡ Some (record { name = b.name; index = k }) → IsText b.name k text → word_in lines b text ≡ Some w
@@ -94,9 +87,10 @@ module _ (lines : List BufferLine) (text : List ℕ) where
 
   pub none_said : find says lines ≡ None → (w : Word) → ¬ IsSaid (map buffer_line lines) text w
   none_said none w s =
-      option_and_then_some (made w) (find (has w) lines) s.said (element_found lines w (find (has w) lines) refl ∙ s.is_element) (λ b found is.
-      let at = from_map (λ (k : ℕ). record { name = b.name.now; index = k }) (index_in (buffer_line b) w) s.said is in
+      let t = some_and (element_of (map buffer_line lines) w) (λ e. IsText e.name e.index text) s.said in
+      option_and_then_some (made w) (find (has w) lines) t.0 (element_found lines w (find (has w) lines) refl ∙ t.1) (λ b found is.
+      let at = from_map (λ (k : ℕ). record { name = b.name.now; index = k }) (index_in (buffer_line b) w) t.0 is in
       let here : word_in (map buffer_line lines) (buffer_line b) text ≡ Some w =
-      word_back (map buffer_line lines) (buffer_line b) text w at.0 at.1 s.small (s.is_element ∙ ap (λ (e : ElementSaid). Some e) (sym at.2)) (subst (λ (e : ElementSaid). IsText e.name e.index text) (sym at.2) s.is_text) in
+      word_back (map buffer_line lines) (buffer_line b) text w at.0 at.1 s.small (t.1 ∙ ap (λ (e : ElementSaid). Some e) (sym at.2)) (subst (λ (e : ElementSaid). IsText e.name e.index text) (sym at.2) t.2) in
       let bad : false ≡ true = ap (λ (o : Option BufferLine). is_some o) (sym none) ∙ found_too (has w) says lines b found (ap (λ (o : Option Word). is_some o) here) in
       cc)

@@ -1,9 +1,9 @@
 -- What the lines of a file say, as a loop reads them, and how something is found in them.
-use Rattle.gr_model.proofs.Common.{◌≡◌, ℕ, Bool, List, [], ◌∷◌, ◌++◌, Option, Some, None, Result, Ok, Err, refl, ap, map, length, arith, find, is_some, option_and_then, option_map, IsUtf8, append-nil, false_from_ne_true}
-use Rattle.std.specs.Result.{MatchResult, result_ok}
+use Rattle.gr_model.proofs.Common.{◌≡◌, ℕ, Bool, List, [], ◌∷◌, ◌++◌, Option, Result, Ok, Err, refl, ap, map, arith, find, is_some, option_and_then, option_map, IsUtf8, append-nil, true}
+use Rattle.std.specs.Str.{is_utf8}
 use Rattle.std.proofs.lemmas.Str.{IsUtf8-from_is_utf8, is_utf8-from_IsUtf8}
 use Rattle.gr_places.specs.Types.{Word, BufferLine}
-use Rattle.gr_places.specs.SideLines.{BufferSaid, ElementSaid, buffer_line, element_of, index_in, text_said}
+use Rattle.gr_places.specs.SideLines.{BufferSaid, ElementSaid, buffer_line, element_of, index_in}
 
 -- what lines say, after what the lines before them said
 abbrev pub joined : {X : Type 0} → List X → Result (List X) ℕ → Result (List X) ℕ
@@ -20,16 +20,8 @@ find_viewed view test (x ∷ xs) = grind (arith, find_viewed view test xs)
 
 -- ---- the text at the end of a line
 
-pub text_none : (bytes : List ℕ) → length bytes ≡ 0 → text_said bytes ≡ None
-unfolding text_said
-text_none [] none = refl
-text_none (b ∷ bytes) none = absurd (omega (arith, none))
-
-pub text_read : {S E : Type 0} (view : S → List ℕ) (Q : E → Type 0) (bytes : List ℕ) (r : Result S E) → (length bytes ≡ 0 → ⊥) → MatchResult r (λ s. (view s ≡ bytes) × IsUtf8 bytes) (λ e. ¬ IsUtf8 bytes × Q e) → option_map view (result_ok r) ≡ text_said bytes
-unfolding text_said
-text_read view Q [] r some m = absurd (some refl)
-text_read view Q (b ∷ bytes) (Ok s) some m = rw (is_utf8-from_IsUtf8 (b ∷ bytes) m.1) (ap (λ (t : List ℕ). Some t) m.0)
-text_read view Q (b ∷ bytes) (Err e) some m = rw (false_from_ne_true _ (λ t. m.0 (IsUtf8-from_is_utf8 (b ∷ bytes) t))) refl
+pub utf8_told : (bytes : List ℕ) → (is_utf8 bytes ≡ is_utf8 bytes) × (is_utf8 bytes ≡ true → IsUtf8 bytes) × (IsUtf8 bytes → is_utf8 bytes ≡ true)
+utf8_told bytes = (refl, IsUtf8-from_is_utf8 bytes, is_utf8-from_IsUtf8 bytes)
 
 -- ---- what is found in lines
 

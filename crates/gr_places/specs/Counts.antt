@@ -8,8 +8,9 @@ use Rattle.gr_model.specs.declared.event.Kind.TheVariants.{Read, Write, Load, St
 use Rattle.gr_model.specs.Prelude.{Streams}
 use Rattle.gr_places.specs.declared.counts.RecordKind.TheVariants as kinds
 
--- whether a record is of this kind, whatever its scope, its order and its flags are
+-- whether a record is of this kind, or this is any kind, whatever the record's scope, its order and its flags are
 abbrev pub is_of_kind : RecordKind → Kind → Bool
+is_of_kind kinds.Any kind = true
 is_of_kind kinds.Read Read = true
 is_of_kind kinds.Write Write = true
 is_of_kind kinds.Load (Load scope order) = true
@@ -32,7 +33,7 @@ abbrev pub counts : Streams → Counts
 counts s = record {
   groups = length s.sizes;
   items = sum s.sizes;
-  records = sum_by length s.lists;
+  records = count_of kinds.Any s;
   reads = count_of kinds.Read s;
   writes = count_of kinds.Write s;
   loads = count_of kinds.Load s;

@@ -1,11 +1,11 @@
 -- The word of memory that a text of the form NAME[INDEX] names.
 -- Source: docs/FORMATS.md, "Side files".
-use Rattle.std.specs.Prelude.{◌≡◌, ℕ, ◌+◌, ◌-◌, ◌^◌, ◌<◌, ◌&&◌, ◌==◌, nat_lt, if◌then◌else◌, List, [], ◌∷◌, ◌++◌, length, take, drop, Option, None, Some, decimal}
+use Rattle.std.specs.Prelude.{◌≡◌, ℕ, ◌+◌, ◌-◌, ◌^◌, ◌<◌, ◌&&◌, ◌==◌, nat_lt, if◌then◌else◌, List, [], ◌∷◌, ◌++◌, length, take, drop, IsSomeAnd, Option, None, Some, decimal}
 use Rattle.std.specs.Option.{option_map}
 use Rattle.gr_text.specs.LineReading as reading
 use Rattle.gr_text.specs.LineReading.{◌>>=◌, same}
 use Rattle.gr_places.specs.Types.{Word, Global, Local}
-use Rattle.gr_places.specs.SideLines.{BufferSaid, ElementSaid, element_of}
+use Rattle.gr_places.specs.SideLines.{BufferSaid, element_of}
 
 -- an index in brackets
 abbrev pub in_brackets : ℕ → List ℕ
@@ -22,9 +22,7 @@ number_of (Local g n) = n
 
 -- the text names the word's buffer and its place in it, by the first line that has the word
 pub record IsSaid (lines : List BufferSaid) (text : List ℕ) (w : Word) : Type 0 where
-  pub said : ElementSaid
-  pub is_element : element_of lines w ≡ Some said
-  pub is_text : IsText said.name said.index text
+  pub said : IsSomeAnd (element_of lines w) (λ e. IsText e.name e.index text)
   pub small : number_of w < 2 ^ 32
 
 -- ---- how the word is found

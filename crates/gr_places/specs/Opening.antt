@@ -4,7 +4,6 @@ use Rattle.std.specs.Prelude.{◌≡◌, ◌⊎◌, ℕ, List, [], ◌∷◌, �
 use Rattle.gr_record.specs.Prelude.{IsOutside}
 use Rattle.gr_places.specs.SideLines.{buffers_in, places_in}
 use Rattle.gr_replay.specs.Each.{all_known}
-use Rattle.gr_record.specs.declared.fault.Fault.TheVariants as faults
 use Rattle.gr_places.specs.Types.{SidesFault, Buffers, Places, Run}
 use Rattle.gr_places.specs.declared.files.SideNames.{SideNames}
 use Rattle.gr_places.specs.Sides.{SidesSaid}
@@ -42,18 +41,6 @@ known_of remaining (Some file) = remaining file
 pub record Say {T : Type 0} (remaining : T → Option (List ℕ)) (sides : Pair T) (said : SidesSaid) : Type 0 where
   pub places : IfSome (known_of remaining sides.places) (λ bytes. places_in bytes ≡ Ok said.places)
   pub buffers : IfSome (known_of remaining sides.buffers) (λ bytes. buffers_in bytes ≡ Ok said.buffers)
-
--- why bytes are not places: the first line that is out of form; or memory ran out
-abbrev pub RefusesPlaces : List ℕ → SidesFault → Type 0
-RefusesPlaces bytes (Run f) = f ≡ faults.Memory
-RefusesPlaces bytes (Places line) = places_in bytes ≡ Err line
-RefusesPlaces bytes (Buffers line) = ⊥
-
--- the same of buffers
-abbrev pub RefusesBuffers : List ℕ → SidesFault → Type 0
-RefusesBuffers bytes (Run f) = f ≡ faults.Memory
-RefusesBuffers bytes (Places line) = ⊥
-RefusesBuffers bytes (Buffers line) = buffers_in bytes ≡ Err line
 
 module _ {T E : Type 0} (remaining : T → Option (List ℕ)) (Gives : List ℕ → Result T E → Type 0) (named : Pair (List ℕ)) (names : List (List ℕ)) where
   -- the files are open, the side files are in form, and this holds of the bytes of the streams' files, if they are known, and of what the side files say

@@ -1,20 +1,16 @@
 -- An index of the places that lines give.
 -- Source: docs/FORMATS.md, "Side files".
-use Rattle.std.specs.Prelude.{◌≡◌, ℕ, Bool, List, Option}
+use Rattle.std.specs.Prelude.{◌≡◌, ℕ, List, Option}
 use Rattle.std.specs.Borrow.{Bor}
 use Rattle.std.specs.Map.{lookup}
 use Rattle.std.specs.Option.{option_and_then, option_map}
 use Rattle.gr_text.specs.LineReading.{same}
-use Rattle.gr_places.specs.contracts.places.PlacedPartialEq.TheImpl as equality
 use Rattle.gr_places.specs.declared.places.Placed.{Placed}
-use Rattle.gr_places.specs.SideLines.{PlaceSaid, place_number, place_of}
-
-abbrev pub same_key : Placed → Placed → Bool
-same_key p q = (equality.eq-value).it p q
+use Rattle.gr_places.specs.SideLines.{PlaceSaid, place_number, place_of, same_placed}
 
 -- the text that is kept for an event or a site
 abbrev pub text_in : List (Placed × Bor (List ℕ)) → Placed → Option (Bor (List ℕ))
-text_in entries p = lookup (same_key p) entries
+text_in entries p = lookup (same_placed p) entries
 
 -- the number that is kept for a text
 abbrev pub number_in : List (Bor (List ℕ) × ℕ) → Bor (List ℕ) → Option ℕ
@@ -24,9 +20,6 @@ number_in entries text = lookup (λ other. same text.now other.now) entries
 pub record Indexed : Type 0 where
   pub texts : List (Placed × Bor (List ℕ))
   pub numbers : List (Bor (List ℕ) × ℕ)
-
-abbrev pub indexed : List (Placed × Bor (List ℕ)) → List (Bor (List ℕ) × ℕ) → Indexed
-indexed texts numbers = record { texts = texts; numbers = numbers }
 
 -- the place of an event or a site
 abbrev pub place_at : Indexed → Placed → Option (List ℕ)

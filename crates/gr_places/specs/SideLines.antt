@@ -1,23 +1,22 @@
 -- What the lines of side files say.
 -- Source: docs/FORMATS.md, "Side files".
-use Rattle.std.specs.Prelude.{◌≡◌, ℕ, ◌+◌, ◌-◌, Bool, false, ◌&&◌, ◌==◌, nat_le, nat_lt, if◌then◌else◌, List, [], ◌∷◌, Option, None, Some, Result, Ok, Err, codes}
+use Rattle.std.specs.Prelude.{◌≡◌, ◌⊎◌, ℕ, ◌+◌, ◌-◌, Bool, false, ◌&&◌, ◌==◌, nat_le, nat_lt, not, length, if◌then◌else◌, List, [], ◌∷◌, Option, None, Some, Result, Ok, Err, codes}
 use Rattle.std.specs.List.{find, position_from}
 use Rattle.std.specs.Option.{is_some, option_and_then, option_map}
 use Rattle.std.specs.Str.{is_utf8}
 use Rattle.gr_text.specs.LineReading.{◌>>=◌, first_of, number_of, same, short_of}
-use Rattle.gr_places.specs.Types.{Word, Global, Local, BufferLine, Placed, PlaceLine}
+use Rattle.gr_places.specs.Types.{Word, Global, Local, BufferLine, Placed, PlaceLine, Run, SidesFault}
 use Rattle.gr_text.specs.Lines.{lines_of}
+use Rattle.gr_places.specs.contracts.places.PlacedPartialEq.TheImpl as equality
 use Rattle.gr_places.specs.declared.buffers.Element.{Element}
-use Rattle.gr_places.specs.declared.fault.SideFault.{SideFault}
-use Rattle.gr_places.specs.declared.fault.SideFault.TheVariants.{BadLine, Memory}
+use Rattle.gr_record.specs.declared.fault.Fault.TheVariants.{Memory}
 use Rattle.gr_places.specs.declared.places.Placed.TheVariants.{Event, Site}
 
 -- ---- texts
 
 -- the text up to the end of a line: it is not empty, and is UTF-8
 unfoldable pub text_said : List ℕ → Option (List ℕ)
-text_said [] = None
-text_said (b ∷ bytes) = if is_utf8 (b ∷ bytes) then Some (b ∷ bytes) else None
+text_said bytes = if is_utf8 bytes && not (length bytes == 0) then Some bytes else None
 
 abbrev pub begins_with_digit : List ℕ → Bool
 begins_with_digit [] = false
@@ -36,11 +35,9 @@ abbrev pub said_from : {X : Type 0} → (List ℕ → Option X) → ℕ → List
 said_from said n [] = Ok []
 said_from said n (l ∷ ls) = said_next n (said l) (said_from said (n + 1) ls)
 
--- a call returned what the file says, as `view` shows it, or its first line that is out of form; or memory ran out
-abbrev pub Answers : {X Y : Type 0} → (X → Y) → Result X SideFault → Result Y ℕ → Type 0
-Answers view (Ok x) meaning = meaning ≡ Ok (view x)
-Answers view (Err (BadLine n)) meaning = meaning ≡ Err n
-Answers view (Err Memory) meaning = Unit {0}
+-- why lines are refused: memory ran out, or this fault is that of the first line that is out of form
+abbrev pub Refuses : {X : Type 0} → (ℕ → SidesFault) → Result X ℕ → SidesFault → Type 0
+Refuses refusal meaning f = (f ≡ Run Memory) ⊎ (n : ℕ) × (f ≡ refusal n) × (meaning ≡ Err n)
 
 -- ---- places
 
@@ -73,10 +70,7 @@ places_in text = said_from place_line_said 1 (lines_of text)
 
 -- the same event, or the same site
 abbrev pub same_placed : Placed → Placed → Bool
-same_placed (Event e) (Event f) = (e.at.group == f.at.group) && (e.at.item == f.at.item) && (e.index == f.index)
-same_placed (Site s) (Site t) = s == t
-same_placed (Event e) (Site t) = false
-same_placed (Site s) (Event f) = false
+same_placed p q = (equality.eq-value).it p q
 
 -- the place of an event or a site: that of the first line that has it
 abbrev pub place_of : List PlaceSaid → Placed → Option (List ℕ)

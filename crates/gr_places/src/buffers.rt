@@ -1,12 +1,13 @@
 //! Which words of memory belong to which buffer.
 
-ghost use Rattle.std.specs.Prelude.{◌≡◌, map};
+ghost use Rattle.std.specs.Prelude.{◌≡◌, IfErr, IfOk, map};
 ghost use Rattle.std.specs.List.{find};
 ghost use Rattle.std.specs.Option.{is_some, option_map};
 ghost use Rattle.gr_places.specs.SideLines as spec;
+ghost use Rattle.gr_places.specs.declared.sides_fault.SidesFault.TheVariants.{Buffers};
 
-use crate::fault::SideFault;
 use crate::lines::{SideLine, parse_text, read_lines};
+use crate::sides_fault::SidesFault;
 use gr_model::event::Word;
 use gr_text::words::{is_word, parse_number, parse_short, split_word};
 use std::alloc::Allocator;
@@ -66,12 +67,15 @@ fn parse_buffer(group: Option<u16>, bytes: &[u8]) -> Option<BufferLine<'_>>
 
 impl<'a> SideLine<'a> for BufferLine<'a> {
     ghost use Rattle.gr_places.specs.SideLines.{BufferSaid, buffer_line, buffer_line_said};
+    ghost use Rattle.gr_places.specs.declared.sides_fault.SidesFault.TheVariants.{Buffers};
 
     ghost Said = { BufferSaid };
 
     ghost said = { buffer_line };
 
     ghost said_in = { buffer_line_said };
+
+    ghost refusal = { Buffers };
 
     #[tactic(auto, unfolding(crate::specs::SideLines::buffer_line_said))]
     fn parse(line: &'a [u8]) -> Option<BufferLine<'a>> {
@@ -87,19 +91,26 @@ impl<'a> SideLine<'a> for BufferLine<'a> {
             None
         }
     }
+
+    fn refusal(line: u64) -> SidesFault
+        ensures { result ≡ Buffers line }
+    {
+        SidesFault::Buffers(line)
+    }
 }
 
 /// What the lines of a file of buffers say, in their order.
 ///
 /// # Errors
-/// `BadLine` with the number, from 1, of the first line that does not have the form; `Memory` if an allocation is refused.
-pub fn read_buffers<A: Allocator>(
+/// `Buffers` with the number, from 1, of the first line that does not have the form; `Run` with `Memory`.
+pub fn buffers_of<A: Allocator>(
     alloc: A,
-    text: &[u8],
-) -> Result<Vec<BufferLine<'_>, A>, SideFault>
-    ensures { spec.Answers (λ lines. map spec.buffer_line lines.items) result (spec.buffers_in text.now) }
+    bytes: &[u8],
+) -> Result<Vec<BufferLine<'_>, A>, SidesFault>
+    ensures said { IfOk result (λ lines. spec.buffers_in bytes.now ≡ Ok (map spec.buffer_line lines.items)) }
+    ensures fault { IfErr result (spec.Refuses Buffers (spec.buffers_in bytes.now)) }
 {
-    read_lines(alloc, text)
+    read_lines(alloc, bytes)
 }
 
 /// The first line that has a word.

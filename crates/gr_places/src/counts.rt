@@ -1,7 +1,6 @@
 //! How many records of each kind a launch has.
 
-ghost use Rattle.std.specs.Prelude.{◌≡◌, length};
-ghost use Rattle.std.specs.List.{sum_by};
+ghost use Rattle.std.specs.Prelude.{◌≡◌};
 ghost use Rattle.gr_places.specs.Counts.{count_in, count_of, counts, is_of_kind};
 
 use gr_model::event::{Event, Kind};
@@ -24,9 +23,10 @@ pub struct Counts {
     pub ends: u64,
 }
 
-/// What a record is, whatever its scope, its order and its flags are.
+/// What a record is, whatever its scope, its order and its flags are. Each record is of any kind.
 #[derive(Clone, Copy, Debug, PartialEq, Eq)]
 enum RecordKind {
+    Any,
     Read,
     Write,
     Load,
@@ -40,14 +40,15 @@ enum RecordKind {
 fn is_of_kind(wanted: RecordKind, kind: Kind) -> bool
     ensures { result ≡ is_of_kind wanted kind }
 {
-    match kind {
-        Kind::Read => wanted == RecordKind::Read,
-        Kind::Write => wanted == RecordKind::Write,
-        Kind::Load(_, _) => wanted == RecordKind::Load,
-        Kind::Store(_, _) => wanted == RecordKind::Store,
-        Kind::Rmw(_, _) => wanted == RecordKind::Rmw,
-        Kind::Barrier { .. } => wanted == RecordKind::Barrier,
-        Kind::End { .. } => wanted == RecordKind::End,
+    match wanted {
+        RecordKind::Any => true,
+        RecordKind::Read => matches!(kind, Kind::Read),
+        RecordKind::Write => matches!(kind, Kind::Write),
+        RecordKind::Load => matches!(kind, Kind::Load(_, _)),
+        RecordKind::Store => matches!(kind, Kind::Store(_, _)),
+        RecordKind::Rmw => matches!(kind, Kind::Rmw(_, _)),
+        RecordKind::Barrier => matches!(kind, Kind::Barrier { .. }),
+        RecordKind::End => matches!(kind, Kind::End { .. }),
     }
 }
 
@@ -72,17 +73,6 @@ fn count_of<A: Allocator>(wanted: RecordKind, traces: &Traces<A>) -> u64
     count
 }
 
-/// How many records a launch has, its ends among them.
-fn all_records<A: Allocator>(traces: &Traces<A>) -> u64
-    ensures { result ≡ sum_by length traces.now.lists }
-{
-    let mut records: u64 = 0;
-    for group in 0..traces.shape().groups() {
-        records += traces.list(group).len() as u64;
-    }
-    records
-}
-
 /// How large a launch is, and how many records of each kind it has.
 pub(crate) fn counts_of<A: Allocator>(traces: &Traces<A>) -> Counts
     ensures { result ≡ counts traces.now }
@@ -90,7 +80,7 @@ pub(crate) fn counts_of<A: Allocator>(traces: &Traces<A>) -> Counts
     Counts {
         groups: traces.shape().groups(),
         items: traces.shape().total(),
-        records: all_records(traces),
+        records: count_of(RecordKind::Any, traces),
         reads: count_of(RecordKind::Read, traces),
         writes: count_of(RecordKind::Write, traces),
         loads: count_of(RecordKind::Load, traces),

@@ -4,15 +4,10 @@ ghost use Rattle.std.specs.Prelude.{◌≡◌, ◌<◌, ◌++◌, false, IfErr, 
 ghost use Rattle.std.specs.Fn.{FnReturnsAt};
 ghost use Rattle.std.specs.Option.{is_some};
 ghost use Rattle.gr_record.specs.Prelude.{IsOutside};
-ghost use Rattle.gr_places.specs.SideLines.{buffer_line, buffers_in, place_line, places_in};
 ghost use Rattle.gr_places.specs.Opening as spec;
 ghost use Rattle.gr_places.specs.Files.{IsOpeningFault};
 
-use crate::buffers::{BufferLine, read_buffers};
-use crate::fault::SideFault;
 use crate::opening::open_all;
-use crate::places::{PlaceLine, read_places};
-use crate::sides_fault::SidesFault;
 use gr_model::memory::Memory;
 use gr_record::fault::Fault;
 use gr_record::input::read_all;
@@ -108,38 +103,5 @@ pub fn bytes_of<A: Allocator, T: Read + Drop>(
     match file {
         None => Ok(Vec::new(alloc)),
         Some(mut file) => read_all(alloc, &mut file),
-    }
-}
-
-/// What a file of places says.
-///
-/// # Errors
-/// `Places` with the first line that is out of form; `Run` with `Memory`.
-pub fn places_of<A: Allocator>(alloc: A, bytes: &[u8]) -> Result<Vec<PlaceLine<'_>, A>, SidesFault>
-    ensures said { IfOk result (λ lines. places_in bytes.now ≡ Ok (map place_line lines.items)) }
-    ensures fault { IfErr result (spec.RefusesPlaces bytes.now) }
-{
-    match read_places(alloc, bytes) {
-        Ok(lines) => Ok(lines),
-        Err(SideFault::BadLine(line)) => Err(SidesFault::Places(line)),
-        Err(SideFault::Memory) => Err(SidesFault::Run(Fault::Memory)),
-    }
-}
-
-/// What a file of buffers says.
-///
-/// # Errors
-/// `Buffers` with the first line that is out of form; `Run` with `Memory`.
-pub fn buffers_of<A: Allocator>(
-    alloc: A,
-    bytes: &[u8],
-) -> Result<Vec<BufferLine<'_>, A>, SidesFault>
-    ensures said { IfOk result (λ lines. buffers_in bytes.now ≡ Ok (map buffer_line lines.items)) }
-    ensures fault { IfErr result (spec.RefusesBuffers bytes.now) }
-{
-    match read_buffers(alloc, bytes) {
-        Ok(lines) => Ok(lines),
-        Err(SideFault::BadLine(line)) => Err(SidesFault::Buffers(line)),
-        Err(SideFault::Memory) => Err(SidesFault::Run(Fault::Memory)),
     }
 }

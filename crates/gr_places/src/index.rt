@@ -28,11 +28,11 @@ pub struct PlaceIndex<'a, A: Allocator = Global> {
 }
 
 impl<'a, A: Allocator> Model for PlaceIndex<'a, A> {
-    ghost use Rattle.gr_places.specs.PlaceIndexes.{Indexed, indexed};
+    ghost use Rattle.gr_places.specs.PlaceIndexes.{Indexed};
 
     ghost Value = { Indexed };
 
-    ghost view = { λ s. indexed s.texts.entries s.numbers.entries };
+    ghost view = { λ s. record { texts = s.texts.entries; numbers = s.numbers.entries } };
 }
 
 impl<'a, A: Allocator + Copy> PlaceIndex<'a, A> {
@@ -56,17 +56,12 @@ impl<'a, A: Allocator + Copy> PlaceIndex<'a, A> {
 }
 
 impl<'a, A: Allocator> PlaceIndex<'a, A> {
-    fn text_of(&self, placed: Placed) -> Option<&'a str>
-        ensures { result ≡ spec.text_in self.now.texts placed }
-    {
-        self.texts.get(&placed).copied()
-    }
-
     /// The place of an event or a site, or `None` if no line has it.
     pub fn place_of(&self, placed: Placed) -> Option<&'a str>
-        ensures { option_map (λ text. text.now) result ≡ spec.place_at self.now placed }
+        ensures kept { result ≡ spec.text_in self.now.texts placed }
+        ensures place { option_map (λ text. text.now) result ≡ spec.place_at self.now placed }
     {
-        self.text_of(placed)
+        self.texts.get(&placed).copied()
     }
 
     /// The number of the place of an event or a site, or `None` if no line has it: how many lines come before the first line
@@ -75,7 +70,7 @@ impl<'a, A: Allocator> PlaceIndex<'a, A> {
     pub fn number_of(&self, placed: Placed) -> Option<usize>
         ensures { result ≡ spec.number_at self.now placed }
     {
-        let text = self.text_of(placed)?;
+        let text = self.place_of(placed)?;
         self.numbers.get(&text).copied()
     }
 }

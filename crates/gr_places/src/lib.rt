@@ -6,10 +6,8 @@
 #![tactic(auto)]
 
 pub mod buffers;
-pub mod checked;
 pub mod checking;
 pub mod counts;
-pub mod fault;
 pub mod fault_places;
 pub mod files;
 pub mod index;

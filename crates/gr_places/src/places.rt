@@ -1,11 +1,12 @@
 //! Where in the source events and barriers are.
 
-ghost use Rattle.std.specs.Prelude.{◌≡◌, map};
+ghost use Rattle.std.specs.Prelude.{◌≡◌, IfErr, IfOk, map};
 ghost use Rattle.std.specs.Option.{option_map};
 ghost use Rattle.gr_places.specs.SideLines as spec;
+ghost use Rattle.gr_places.specs.declared.sides_fault.SidesFault.TheVariants.{Places};
 
-use crate::fault::SideFault;
 use crate::lines::{SideLine, is_digit_first, parse_text, read_lines};
+use crate::sides_fault::SidesFault;
 use gr_model::event::{EventId, ItemId};
 use gr_text::words::{parse_number, parse_short, split_word};
 use std::alloc::Allocator;
@@ -51,12 +52,15 @@ fn parse_event<'a>(group: &[u8], bytes: &'a [u8]) -> Option<PlaceLine<'a>>
 
 impl<'a> SideLine<'a> for PlaceLine<'a> {
     ghost use Rattle.gr_places.specs.SideLines.{PlaceSaid, place_line, place_line_said};
+    ghost use Rattle.gr_places.specs.declared.sides_fault.SidesFault.TheVariants.{Places};
 
     ghost Said = { PlaceSaid };
 
     ghost said = { place_line };
 
     ghost said_in = { place_line_said };
+
+    ghost refusal = { Places };
 
     #[tactic(auto, unfolding(crate::specs::SideLines::place_line_said))]
     fn parse(line: &'a [u8]) -> Option<PlaceLine<'a>> {
@@ -69,14 +73,21 @@ impl<'a> SideLine<'a> for PlaceLine<'a> {
         let text = parse_text(bytes)?;
         Some(PlaceLine { of, text })
     }
+
+    fn refusal(line: u64) -> SidesFault
+        ensures { result ≡ Places line }
+    {
+        SidesFault::Places(line)
+    }
 }
 
 /// What the lines of a file of places say, in their order.
 ///
 /// # Errors
-/// `BadLine` with the number, from 1, of the first line that does not have the form; `Memory` if an allocation is refused.
-pub fn read_places<A: Allocator>(alloc: A, text: &[u8]) -> Result<Vec<PlaceLine<'_>, A>, SideFault>
-    ensures { spec.Answers (λ lines. map spec.place_line lines.items) result (spec.places_in text.now) }
+/// `Places` with the number, from 1, of the first line that does not have the form; `Run` with `Memory`.
+pub fn places_of<A: Allocator>(alloc: A, bytes: &[u8]) -> Result<Vec<PlaceLine<'_>, A>, SidesFault>
+    ensures said { IfOk result (λ lines. spec.places_in bytes.now ≡ Ok (map spec.place_line lines.items)) }
+    ensures fault { IfErr result (spec.Refuses Places (spec.places_in bytes.now)) }
 {
-    read_lines(alloc, text)
+    read_lines(alloc, bytes)
 }

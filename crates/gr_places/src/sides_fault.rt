@@ -5,7 +5,9 @@ ghost use Rattle.std.specs.Io.KnownBytes.{Appends};
 ghost use Rattle.gr_report.specs.Putting.{AppendsPrefix, Puts};
 ghost use Rattle.gr_places.specs.FaultText as spec;
 ghost use Rattle.gr_places.specs.declared.sides_fault.SidesFault.TheVariants.{Run as ARun};
+ghost use Rattle.gr_record.specs.declared.fault.Fault.TheVariants as faults;
 
+use gr_model::memory::Memory;
 use gr_record::fault::Fault;
 use gr_report::putting::{WriteFault, finish, put, put_field};
 use gr_report::write_fault;
@@ -27,6 +29,14 @@ impl From<Fault> for SidesFault {
 
     fn from(fault: Fault) -> SidesFault {
         SidesFault::Run(fault)
+    }
+}
+
+impl From<Memory> for SidesFault {
+    ghost from_gives = { λ _ f. f ≡ ARun faults.Memory };
+
+    fn from(_error: Memory) -> SidesFault {
+        SidesFault::Run(Fault::Memory)
     }
 }
 

@@ -3,7 +3,7 @@
 ghost use Rattle.std.specs.Prelude.{◌≡◌, ◌≤◌, length};
 ghost use Rattle.gr_model.specs.declared.limits.TheConstants.{MOST_RECORDS};
 ghost use Rattle.gr_record.specs.Prelude.{records_of};
-ghost use Rattle.gr_places.specs.Spots.{behind_header, spot};
+ghost use Rattle.gr_places.specs.Spots.{spot};
 
 use gr_model::limits::MOST_RECORDS;
 use gr_record::error::RecordError;
@@ -46,19 +46,9 @@ fn skip_accepted(header: Header, bytes: &[u8]) -> (usize, &[u8])
     (MOST_RECORDS, rest)
 }
 
-/// Where a fault after a header is: after `number` records, at this byte.
-fn behind_header(error: RecordError, number: u64, byte: u64) -> Spot
-    ensures { result ≡ behind_header error number byte }
-{
-    match error {
-        RecordError::AfterEnd => Spot::Behind { byte },
-        _ => Spot::Record { number, byte },
-    }
-}
-
 /// Where this fault is in a stream of these bytes: at the header, if it can't be read; else at the first record that is not
 /// accepted, or after the end.
-#[tactic(auto, using(crate::proofs::SpotLemmas::rest_is_short))]
+#[tactic(auto, unfolding(gr_record::specs::WholeStreams::front_header_at))]
 pub(crate) fn spot_of(error: RecordError, bytes: &[u8]) -> Spot
     ensures { result ≡ spot error bytes.now }
 {
@@ -66,8 +56,11 @@ pub(crate) fn spot_of(error: RecordError, bytes: &[u8]) -> Spot
         Err(_) => Spot::Header,
         Ok((header, records)) => {
             let (number, rest) = skip_accepted(header, records);
-            let byte = bytes.len() - rest.len();
-            behind_header(error, number as u64, byte as u64)
+            let (number, byte) = (number as u64, (bytes.len() - rest.len()) as u64);
+            match error {
+                RecordError::AfterEnd => Spot::Behind { byte },
+                _ => Spot::Record { number, byte },
+            }
         }
     }
 }

@@ -4,7 +4,7 @@ use gr_model::memory::Memory;
 use gr_places::checking::Checked;
 use gr_places::counts::Counts;
 use gr_places::fault_places::FaultPlace;
-use gr_places::sentences::{right, wrong};
+use gr_places::sentences::wrong_and_right;
 use gr_places::spot::Spot;
 use gr_record::fault::Fault;
 use gr_report::put_fault;
@@ -52,7 +52,8 @@ fn put_below<W: Write>(writer: &mut W, fault: Fault, place: FaultPlace<'_>) -> i
         FaultPlace::Missing { beside, .. } => put_file(writer, "beside", beside)?,
         FaultPlace::Nothing => {}
     }
-    writeln!(writer, "wrong: {}\nright: {}", wrong(fault), right(fault))
+    let (wrong, right) = wrong_and_right(fault);
+    writeln!(writer, "wrong: {wrong}\nright: {right}")
 }
 
 /// The text of a check.

@@ -11,7 +11,9 @@ ghost use Rattle.gr_places.specs.declared.sides_fault.SidesFault.TheVariants.{Ru
 use crate::question::{Question, Rendered};
 use crate::streams::answer_of_streams;
 use crate::writing::write_text;
-use gr_places::files::{Opened, SideNames, buffers_of, bytes_of, open_files, places_of};
+use gr_places::buffers::buffers_of;
+use gr_places::files::{Opened, SideNames, bytes_of, open_files};
+use gr_places::places::places_of;
 use gr_places::sides::Sides;
 use gr_places::sides_fault::SidesFault;
 use gr_record::fault::Fault;

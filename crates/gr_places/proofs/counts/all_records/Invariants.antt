@@ -1,6 +1,0 @@
-use Rattle.std.proofs.Common.{sum_by}
-use Rattle.gr_model.proofs.Common.{◌≡◌, ◌≤◌, ◌*◌, length, take}
-use Rattle.gr_places.proofs.counts.all_records.Given as goal
-
-abbrev pub invariant-loop-group : goal.invariant-loop-group
-invariant-loop-group g l = record { so_far : l.records ≡ sum_by length (take l.group l.traces.lists); bound : l.records ≤ 16777216 * l.group }
