@@ -1,10 +1,10 @@
 -- Each race of a launch has a kind, and it is said whether there is one.
-use Rattle.gr_model.proofs.Common.{suc, ◌≡◌, ◌↔◌, ℕ, true, false, List, [], ◌∷◌, ◌++◌, Option, Some, Contains, IsTrue, All, option_and_then, ap, arith, length, map, refl, sym, ◌∙◌, true≢false, AllPairs, if◌then◌else◌, filter_map, nat_lt, slice_get, ◌+◌, not, option_map, list_any, nat_tests, and_parts, false_from_ne_true, lt-ltb, ltb-true, All-cons, All-nil, Contains-permutation, IsPermutation-sym, list_any-append, list_any_at}
+use Rattle.gr_model.proofs.Common.{suc, ◌≡◌, ◌↔◌, ℕ, true, false, List, [], ◌∷◌, ◌++◌, Option, None, Some, Contains, IsTrue, All, option_and_then, ap, arith, is_some, length, map, refl, sym, ◌∙◌, true≢false, AllPairs, if◌then◌else◌, filter_map, nat_lt, slice_get, ◌+◌, not, option_map, list_any, nat_tests, and_parts, false_from_ne_true, lt-ltb, ltb-true, All-cons, All-nil, Contains-permutation, IsPermutation-sym, list_any-append, list_any_at}
 use Rattle.std.proofs.Math.Bool.{beq}
 use Rattle.std.proofs.lemmas.List.Quantifiers.{all_pairs_push}
 use Rattle.std.proofs.lemmas.List.Sorted.{IsPermutation-filter_both}
 use Rattle.std.specs.List.{enumerate_from}
-use Rattle.gr_races.specs.Types.{Cause, Event, EventId, Kind, Word, Race, Placed, KindedRace, Operation, PlacedOperation, RaceKind}
+use Rattle.gr_races.specs.Types.{Account, Cause, Event, EventId, Kind, Word, Race, Placed, KindedRace, Operation, PlacedOperation, RaceKind}
 use Rattle.gr_model.specs.Prelude.{event_word, word_if_access, word_in, IsRacy, AreRaces, Streams, event_at, word_at, IsGrounded}
 use Rattle.gr_model.specs.declared.event.Kind.TheVariants as kinds
 use Rattle.gr_model.specs.contracts.event.SpacePartialEq.TheImpl as spaces
@@ -13,6 +13,7 @@ use Rattle.gr_places.specs.SideLines.{PlaceSaid, place_number}
 use Rattle.gr_places.specs.declared.places.Placed.TheVariants as of_places
 use Rattle.gr_races.specs.contracts.kinds.PlacedOperationPartialEq.TheImpl as placed
 use Rattle.gr_races.specs.contracts.kinds.RaceKindEq.TheImpl.Laws as equal
+use Rattle.gr_races.specs.Accounts.{IsAccountOf, account_said}
 use Rattle.gr_races.specs.Causes.{IsPairOf}
 use Rattle.gr_races.specs.Kinds.{all_kinded, by_tags, is_alike, kinded, operation_of, placed_at, same_kind, tag_at}
 use Rattle.gr_races.specs.Listing.{in_order, kinds_after, kinds_of, with_kind}
@@ -26,6 +27,11 @@ numbers_said i lines is = λ j p. is.numbers p j
 pub race_said : (s : Streams) (racy : List Word) (n : ℕ) → AreRaces s racy → n ≡ length racy → IsTrue (nat_lt 0 n) ↔ ((w : Word) × IsRacy s (IsGrounded s) w)
 race_said s [] n are same = (λ t. absurd (omega (arith, same, ltb-true 0 n t)), λ racy. absurd (omega (arith, ((are.exact racy.0).1 racy.1).1)))
 race_said s (w ∷ racy) n are same = (λ _. (w, (are.exact w).0 (0, omega arith, refl)), λ _. lt-ltb 0 n (omega (arith, same)))
+
+-- a word has an account exactly if it is racy
+pub account_racy : {Z : Type 0} (s : Streams) (numbers : Placed → Option ℕ) (w : Word) (account : Option (Account Z)) → IsAccountOf s numbers w (option_map account_said account) → IsTrue (is_some account) ↔ IsRacy s (IsGrounded s) w
+account_racy s numbers w None none = (λ no. absurd (true≢false (sym no)), λ racy. absurd (none racy))
+account_racy s numbers w (Some a) is = (λ yes. let race = is.least.0 in (a.first, a.second, race.first, race.second, race.race), λ racy. refl)
 
 -- ---- each race has a kind
 

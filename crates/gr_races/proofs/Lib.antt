@@ -1,5 +1,4 @@
 pub mod KindLemmas
 pub mod RelaxingLemmas
 pub mod PartingLemmas
-pub mod AccountLemmas
 mod TakenLists

@@ -2,10 +2,8 @@
 use Rattle.gr_model.proofs.Common.{◌≡◌, ℕ, ◌<◌, ◌≤◌, ◌==◌, ◌&&◌, Bool, true, List, [], ◌∷◌, All, filter, length, map, Option, Some, None, option_and_then, option_map, slice_get, suc, refl, sym, ap, ◌∙◌, subst, arith, not, list_all, nat_tests, and_parts, slice_get-map, ext_get_or, length-map}
 use Rattle.std.proofs.Math.ListN.{get_or-map}
 use Rattle.gr_races.specs.Types.{Event, EventId, Kind, Word, Race, Relaxation}
-use Rattle.gr_model.specs.declared.event.Name.{Name}
-use Rattle.gr_model.specs.declared.event.Space.{Space}
 use Rattle.gr_model.specs.declared.limits.TheConstants.{MOST_RECORDS}
-use Rattle.gr_model.specs.Prelude.{event_word, is_acquire_kind, word_if_access, word_in, IsKindOk, IsNamingOk, is_end_kind, AreAccepted, AreGood, IsAccepted, IsGoodAt, Streams, event_at, is_complete, is_of, list_of, size_of, word_at}
+use Rattle.gr_model.specs.Prelude.{event_word, is_acquire_kind, word_if_access, word_in, IsEventOk, is_end_kind, AreAccepted, AreGood, IsAccepted, IsGoodAt, Streams, event_at, is_complete, is_of, list_of, size_of, word_at}
 use Rattle.gr_explain.specs.declared.judging.Judgement.TheVariants.{Race as AsRace}
 use Rattle.gr_explain.specs.Judged.{AreAccesses, AreJudgements}
 use Rattle.gr_races.specs.Causes.{IsPairOf}
@@ -16,11 +14,8 @@ use Rattle.gr_races.specs.Relaxing.{is_relaxed, relaxed, relaxed_event, relaxed_
 same_kind : (r : Relaxation) (k : Kind) → (is_end_kind (relaxed_kind r k) ≡ is_end_kind k) × (is_acquire_kind (relaxed_kind r k) ≡ is_acquire_kind k) × ((w : Word) → word_if_access (relaxed_kind r k) w ≡ word_if_access k w) × (is_relaxed r k ≡ true → relaxed_kind r k ≡ k)
 same_kind r k = (grind arith, grind arith, λ w. grind arith, λ is. grind (arith, nat_tests))
 
-still_kind : (r : Relaxation) (k : Kind) (item : ℕ) (space : Space) (word : ℕ) → IsKindOk k item space word → IsKindOk (relaxed_kind r k) item space word
-still_kind r k item space word ok = grind arith
-
-still_naming : (r : Relaxation) (k : Kind) (names : List Name) → IsNamingOk k names → IsNamingOk (relaxed_kind r k) names
-still_naming r k names ok = grind (arith, same_kind r k)
+still_event : (r : Relaxation) (items : ℕ) (x : Event) → IsEventOk x items → IsEventOk (relaxed_event r x) items
+still_event r items x ok = (ok.0, grind (arith, same_kind r x.kind), grind arith)
 
 -- ---- one list
 
@@ -31,14 +26,14 @@ still_complete r (x ∷ y ∷ xs) = still_complete r (y ∷ xs)
 
 still_good : (r : Relaxation) (items : ℕ) (list : List Event) → AreGood items list → AreGood items (map (relaxed_event r) list)
 still_good r items list good p x at =
-    option_map_some (slice_get list p) refl (sym (slice_get-map (relaxed_event r) list p) ∙ at)
+    by (slice_get list p) refl (sym (slice_get-map (relaxed_event r) list p) ∙ at)
   where
-    option_map_some : (o : Option Event) → slice_get list p ≡ o → option_map (relaxed_event r) o ≡ Some x → IsGoodAt items (map (relaxed_event r) list) p x
-    option_map_some None here there = cc
-    option_map_some (Some y) here there =
+    by : (o : Option Event) → slice_get list p ≡ o → option_map (relaxed_event r) o ≡ Some x → IsGoodAt items (map (relaxed_event r) list) p x
+    by None here there = cc
+    by (Some y) here there =
         let same : relaxed_event r y ≡ x = cc in
         let ok = good p y here in
-        subst (IsGoodAt items (map (relaxed_event r) list) p) same ((ok.0.0, still_naming r y.kind y.names ok.0.1, still_kind r y.kind y.item y.space y.word ok.0.2), λ end. ok.1 (sym (same_kind r y.kind).0 ∙ end) ∙ sym (length-map list (relaxed_event r)))
+        subst (IsGoodAt items (map (relaxed_event r) list) p) same (still_event r items y ok.0, λ end. ok.1 (sym (same_kind r y.kind).0 ∙ end) ∙ sym (length-map list (relaxed_event r)))
 
 still_accepted : (r : Relaxation) (items : ℕ) (list : List Event) → IsAccepted items list → IsAccepted items (map (relaxed_event r) list)
 still_accepted r items list accepted = record {

@@ -1,8 +1,7 @@
 -- What lanes have taken of a launch, list after list.
 use Rattle.gr_model.proofs.Common.{◌≡◌, ℕ, ◌+◌, ◌<◌, ◌≤◌, List, [], ◌∷◌, ◌++◌, length, get_or, set-set, take, refl, sym, ◌∙◌, arith, ext_get_or, get_or-set_other, get_or-set_same, length-map, length-set, take_more}
 use Rattle.gr_model.specs.declared.event.Event.{Event}
-use Rattle.gr_model.specs.Prelude.{Streams, AreAccepted, ArePrefixes, list_of}
-use Rattle.gr_model.proofs.GroupLaws.{part_of_shape}
+use Rattle.gr_model.specs.Prelude.{Streams, list_of}
 use Rattle.gr_lanes.specs.Remembered.{Remembered, remembering}
 use Rattle.gr_lanes.specs.Takes.{nothing_taken, with_record}
 use Rattle.gr_taking.specs.Taken.{with_list}
@@ -46,7 +45,3 @@ pub all_are_taken : (s : Streams) (bound : ℕ) (t : Streams) → length s.lists
 all_are_taken s bound t all h =
     let lists : t.lists ≡ s.lists = ext_get_or [] t.lists s.lists h.count (λ g lt. h.before g (omega (arith, h.count, all))) in
     λ k. record { sizes = h.sizes k; lists = lists k }
-
--- lists that are accepted are prefixes
-pub accepted_prefixes : (s : Streams) → AreAccepted s → ArePrefixes s
-accepted_prefixes s a = record { shape = part_of_shape s.sizes a.shape; count = a.count; each = λ g there. let list = a.each g there in record { few = list.few; good = list.good } }

@@ -57,7 +57,7 @@ fn other_races<A: Allocator + Copy>(
 ) -> Result<Vec<KindedRace, A>, Memory>
     ensures { IfOk result (λ others. (w : AnyWord) → AreTagRaces tags.now.records.now (tag_at tags.now.records.now (number_at tags.now.index.now)) (w ∷ []) races.now → AreOthers tags.now.records.now (number_at tags.now.index.now) w first second others.items) }
 {
-    let rows = ordered_rows(alloc, tags.records, tags.index, races, &[])?;
+    let rows = ordered_rows(alloc, tags, races, &[])?;
     let one_group = first.at.group == second.at.group;
     let (tag, other) = (tags.tag(first), tags.tag(second));
     let others = rows

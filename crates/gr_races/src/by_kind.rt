@@ -44,28 +44,26 @@ impl<A: Allocator> RacesByKind<A> {
     }
 }
 
-/// The races of a launch kind by kind, and its report, which is this one, if this index has the places.
+/// The races of a launch kind by kind, and its report, which is this one.
 fn list_found<A: Allocator + Copy>(
     alloc: A,
     traces: &Traces<A>,
-    records: &Records<'_, A>,
-    index: &PlaceIndex<'_, A>,
+    tags: &PlaceTags<'_, A>,
     causes: bool,
     report: Report<A>,
 ) -> Result<RacesByKind<A>, Memory>
-    requires same { records.now ≡ traces.now }
+    requires same { tags.now.records.now ≡ traces.now }
     requires races { AreRaces traces.now report.races }
-    ensures listed { IfOk result (λ r. AreListedRaces traces.now (number_at index.now) causes (map entry_of r.kinds.items) r.races) }
+    ensures listed { IfOk result (λ r. AreListedRaces traces.now (number_at tags.now.index.now) causes (map entry_of r.kinds.items) r.races) }
     ensures report { IfOk result (λ r. r.report ≡ report) }
 {
-    let tags = PlaceTags { records, index };
-    let races = races_by_tags(alloc, traces, report.races.as_slice(), &tags)?;
+    let races = races_by_tags(alloc, traces, report.races.as_slice(), tags)?;
     let told = if causes {
         causes_of(alloc, traces, &races)?
     } else {
         Vec::new(alloc)
     };
-    let kinds = entries_of(alloc, records, index, &races, &told)?;
+    let kinds = entries_of(alloc, tags, &races, &told)?;
     Ok(RacesByKind {
         kinds,
         races: report.races.as_slice().len(),
@@ -85,7 +83,11 @@ fn list_races<A: Allocator + Copy>(
 {
     let report = detect(alloc, traces)?;
     let records = Records::of(alloc, traces)?;
-    list_found(alloc, traces, &records, index, causes, report)
+    let tags = PlaceTags {
+        records: &records,
+        index,
+    };
+    list_found(alloc, traces, &tags, causes, report)
 }
 
 /// The races of a launch kind by kind, and its report.

@@ -3,7 +3,7 @@
 ghost use Rattle.std.specs.Prelude.{◌≡◌, ◌↔◌, All, IfOk, IsTrue, map};
 ghost use Rattle.gr_model.specs.declared.event.EventId.{EventId as AnyEvent};
 ghost use Rattle.gr_model.specs.declared.event.Word.{Word as AnyWord};
-ghost use Rattle.gr_model.specs.Prelude.{IsRacePair, ArePrefixes, Streams};
+ghost use Rattle.gr_model.specs.Prelude.{IsRacePair, Streams};
 ghost use Rattle.gr_explain.specs.declared.judging.Judgement.TheVariants.{Race as AsRace};
 ghost use Rattle.gr_explain.specs.Judgements.{IsJudgement};
 ghost use Rattle.gr_explain.specs.Judged.{AreJudgements};
@@ -74,12 +74,12 @@ fn is_mended(judgement: Judgement) -> bool
 #[tactic(auto, using(gr_steps::proofs::EventRecords::group_of_event, gr_steps::proofs::EventRecords::item_of_event))]
 fn cause_from<A: Allocator>(lanes: &Lanes<A>, race: &Race, by_flags: bool, by_scope: bool) -> Cause
     requires pair { IsPairOf lanes.now.streams race.now }
-    requires prefixes { ArePrefixes lanes.now.streams }
     requires whole { IsWhole lanes.now }
     requires flags { IsTrue by_flags ↔ IsMended lanes.now.streams relaxations.BothFlags race.now.word race.now.first race.now.second }
     requires scope { IsTrue by_scope ↔ IsMended lanes.now.streams relaxations.DeviceScope race.now.word race.now.first race.now.second }
     ensures { IsCauseOf lanes.now.streams race.now result }
 {
+    let _prefixes = lanes.shape();
     if by_flags {
         return Cause::Flags;
     }
@@ -105,7 +105,6 @@ fn causes_from<A: Allocator + Copy>(
     with_scope: &[Judgement],
 ) -> Result<Vec<Cause, A>, Memory>
     requires pairs { All (IsPairOf lanes.now.streams) races.now }
-    requires prefixes { ArePrefixes lanes.now.streams }
     requires whole { IsWhole lanes.now }
     requires flags { AreJudgements (spec.relaxed relaxations.BothFlags lanes.now.streams) races.now with_flags.now }
     requires scope { AreJudgements (spec.relaxed relaxations.DeviceScope lanes.now.streams) races.now with_scope.now }

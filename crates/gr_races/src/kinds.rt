@@ -89,8 +89,8 @@ pub struct KindedRace {
 }
 
 /// What a record of this kind does, or `None` if it is no access.
-fn operation_of(kind: &Kind) -> Option<Operation>
-    ensures { result ≡ spec.operation_of kind.now }
+pub(crate) fn operation_of(kind: Kind) -> Option<Operation>
+    ensures { result ≡ spec.operation_of kind }
 {
     match kind {
         Kind::Read => Some(Operation::Read),
@@ -100,21 +100,6 @@ fn operation_of(kind: &Kind) -> Option<Operation>
         Kind::Rmw(_, _) => Some(Operation::Rmw),
         Kind::Barrier { .. } | Kind::End { .. } => None,
     }
-}
-
-/// What an event of a launch does, and where, or `None` if it is not there or is no access.
-fn placed_at<A: Allocator>(
-    records: &Records<'_, A>,
-    index: &PlaceIndex<'_, A>,
-    event: EventId,
-) -> Option<PlacedOperation>
-    ensures { result ≡ spec.placed_at records.now (number_at index.now) event }
-{
-    let operation = operation_of(&records.event_at(event)?.kind)?;
-    Some(PlacedOperation {
-        operation,
-        place: index.number_of(Placed::Event(event)),
-    })
 }
 
 /// The number of an operation: those that modify come first.
@@ -138,37 +123,6 @@ fn tag_of(placed: PlacedOperation) -> u128
     place * 5 + operation_number(placed.operation)
 }
 
-/// A race with its kind and this cause, or `None` if its events are not two accesses of the launch.
-pub(crate) fn kinded<A: Allocator>(
-    records: &Records<'_, A>,
-    index: &PlaceIndex<'_, A>,
-    race: &Race,
-    cause: Option<Cause>,
-) -> Option<KindedRace>
-    ensures { result ≡ spec.kinded records.now (number_at index.now) (race.now, cause) }
-{
-    let first = placed_at(records, index, race.first)?;
-    let second = placed_at(records, index, race.second)?;
-    let (first, second, race) = if tag_of(second) < tag_of(first) {
-        let turned = Race {
-            word: race.word,
-            first: race.second,
-            second: race.first,
-        };
-        (second, first, turned)
-    } else {
-        (first, second, *race)
-    };
-    let kind = RaceKind {
-        space: memory_of(race.word),
-        first,
-        second,
-        one_group: race.first.at.group == race.second.at.group,
-        cause,
-    };
-    Some(KindedRace { kind, race })
-}
-
 /// The tags of the events of a launch, from its records and the places of its events: two events have one tag exactly if they do the same
 /// at one place, or at no known one.
 #[derive(Clone, Copy)]
@@ -179,10 +133,49 @@ pub(crate) struct PlaceTags<'a, A: Allocator> {
     pub(crate) index: &'a PlaceIndex<'a, A>,
 }
 
+impl<A: Allocator> PlaceTags<'_, A> {
+    /// What an event does, and where, or `None` if it is not there or is no access.
+    fn placed_at(&self, event: EventId) -> Option<PlacedOperation>
+        ensures { result ≡ spec.placed_at self.now.records.now (number_at self.now.index.now) event }
+    {
+        let operation = operation_of(self.records.event_at(event)?.kind)?;
+        Some(PlacedOperation {
+            operation,
+            place: self.index.number_of(Placed::Event(event)),
+        })
+    }
+
+    /// A race with its kind and this cause, or `None` if its events are not two accesses of the launch.
+    pub(crate) fn kinded(&self, race: &Race, cause: Option<Cause>) -> Option<KindedRace>
+        ensures { result ≡ spec.kinded self.now.records.now (number_at self.now.index.now) (race.now, cause) }
+    {
+        let first = self.placed_at(race.first)?;
+        let second = self.placed_at(race.second)?;
+        let (first, second, race) = if tag_of(second) < tag_of(first) {
+            let turned = Race {
+                word: race.word,
+                first: race.second,
+                second: race.first,
+            };
+            (second, first, turned)
+        } else {
+            (first, second, *race)
+        };
+        let kind = RaceKind {
+            space: memory_of(race.word),
+            first,
+            second,
+            one_group: race.first.at.group == race.second.at.group,
+            cause,
+        };
+        Some(KindedRace { kind, race })
+    }
+}
+
 impl<A: Allocator> Tags for PlaceTags<'_, A> {
     ghost tag_of = { λ t. spec.tag_at t.records.now (number_at t.index.now) };
 
     fn tag(&self, event: EventId) -> u128 {
-        placed_at(self.records, self.index, event).map_or(0, tag_of)
+        self.placed_at(event).map_or(0, tag_of)
     }
 }

@@ -7,12 +7,10 @@ ghost use Rattle.gr_races.specs.Kinds.{all_kinded, same_kind};
 ghost use Rattle.gr_races.specs.Listing as spec;
 
 use crate::cause::Cause;
-use crate::kinds::{KindedRace, RaceKind, kinded};
+use crate::kinds::{KindedRace, PlaceTags, RaceKind};
 use crate::runs::{Run, runs_of};
-use gr_explain::records::Records;
 use gr_model::memory::Memory;
 use gr_model::race::Race;
-use gr_places::index::PlaceIndex;
 use std::alloc::{Allocator, Global};
 
 /// The races of one kind.
@@ -37,17 +35,16 @@ fn cause_at(causes: &[Cause], place: usize) -> Option<Cause>
 /// The races with their kinds and these causes, the first of the first race.
 fn all_kinded<A: Allocator + Copy>(
     alloc: A,
-    records: &Records<'_, A>,
-    index: &PlaceIndex<'_, A>,
+    tags: &PlaceTags<'_, A>,
     races: &[Race],
     causes: &[Cause],
 ) -> Result<Vec<KindedRace, A>, Memory>
-    ensures { IfOk result (λ rows. rows.items ≡ all_kinded records.now (number_at index.now) races.now causes.now) }
+    ensures { IfOk result (λ rows. rows.items ≡ all_kinded tags.now.records.now (number_at tags.now.index.now) races.now causes.now) }
 {
     let rows = races
         .iter()
         .enumerate()
-        .filter_map(|(place, race)| kinded(records, index, race, cause_at(causes, place)))
+        .filter_map(|(place, race)| tags.kinded(race, cause_at(causes, place)))
         .collect(alloc)?;
     Ok(rows)
 }
@@ -127,14 +124,13 @@ fn list_kinds<A: Allocator + Copy>(
 /// The races with their kinds and these causes, those of two tags before those of one.
 pub(crate) fn ordered_rows<A: Allocator + Copy>(
     alloc: A,
-    records: &Records<'_, A>,
-    index: &PlaceIndex<'_, A>,
+    tags: &PlaceTags<'_, A>,
     races: &[Race],
     causes: &[Cause],
 ) -> Result<Vec<KindedRace, A>, Memory>
-    ensures { IfOk result (λ rows. rows.items ≡ spec.in_order (all_kinded records.now (number_at index.now) races.now causes.now)) }
+    ensures { IfOk result (λ rows. rows.items ≡ spec.in_order (all_kinded tags.now.records.now (number_at tags.now.index.now) races.now causes.now)) }
 {
-    let rows = all_kinded(alloc, records, index, races, causes)?;
+    let rows = all_kinded(alloc, tags, races, causes)?;
     let mut ordered: Vec<KindedRace, A> = rows
         .iter()
         .copied()
@@ -152,13 +148,12 @@ pub(crate) fn ordered_rows<A: Allocator + Copy>(
 /// The races kind by kind, those of two tags before those of one, with these causes, the first of the first race.
 pub(crate) fn entries_of<A: Allocator + Copy>(
     alloc: A,
-    records: &Records<'_, A>,
-    index: &PlaceIndex<'_, A>,
+    tags: &PlaceTags<'_, A>,
     races: &[Race],
     causes: &[Cause],
 ) -> Result<Vec<KindEntry<A>, A>, Memory>
-    ensures { IfOk result (λ entries. map spec.entry_of entries.items ≡ spec.entries (spec.in_order (all_kinded records.now (number_at index.now) races.now causes.now))) }
+    ensures { IfOk result (λ entries. map spec.entry_of entries.items ≡ spec.entries (spec.in_order (all_kinded tags.now.records.now (number_at tags.now.index.now) races.now causes.now))) }
 {
-    let rows = ordered_rows(alloc, records, index, races, causes)?;
+    let rows = ordered_rows(alloc, tags, races, causes)?;
     list_kinds(alloc, &rows)
 }

@@ -1,7 +1,7 @@
 //! The words in texts and JSON for the parts of answers.
 
 use crate::cause::Cause;
-use crate::kinds::Operation;
+use crate::kinds::{Operation, operation_of};
 use gr_model::event::{Kind, Order, Scope, Space, Word};
 use gr_model::report::{AcquireCause, DivergenceCause};
 
@@ -26,14 +26,10 @@ pub fn operation_name(operation: Operation) -> &'static str {
 
 /// The name of what a record says, without its scope and its order.
 pub fn kind_name(kind: Kind) -> &'static str {
-    match kind {
-        Kind::Read => "read",
-        Kind::Write => "write",
-        Kind::Load(_, _) => "load",
-        Kind::Store(_, _) => "store",
-        Kind::Rmw(_, _) => "rmw",
-        Kind::Barrier { .. } => "barrier",
-        Kind::End { .. } => "end",
+    match operation_of(kind) {
+        Some(operation) => operation_name(operation),
+        None if kind.is_end() => "end",
+        None => "barrier",
     }
 }
 

@@ -1,7 +1,7 @@
 //! All records of a launch, with their index. Nothing of them is forgotten, since nothing is handled.
 
 ghost use Rattle.std.specs.Prelude.{◌≡◌, ◌<◌, [], IfOk, OnOk, length};
-ghost use Rattle.gr_model.specs.Prelude.{ArePrefixes, IsAccepted, list_of, size_of};
+ghost use Rattle.gr_model.specs.Prelude.{IsAccepted, list_of, size_of};
 ghost use Rattle.gr_lanes.specs.Remembered.{IsWhole, remembering};
 ghost use Rattle.gr_taking.specs.Taken.{with_list};
 
@@ -37,7 +37,6 @@ pub(crate) fn take_all<A: Allocator + Copy>(
     traces: &Traces<A>,
 ) -> Result<Lanes<A>, Memory>
     ensures streams { IfOk result (λ lanes. lanes.streams ≡ traces.now) }
-    ensures prefixes { IfOk result (λ lanes. ArePrefixes lanes.streams) }
     ensures whole { IfOk result (λ lanes. IsWhole lanes) }
 {
     let mut lanes = Lanes::new(alloc, traces.shape().copy()?)?;

@@ -1,6 +1,6 @@
 use Rattle.gr_model.proofs.Common.{◌<◌, ◌≤◌, ◌∙◌, length, ap, arith}
 use Rattle.gr_lanes.specs.Remembered.{Remembered}
-use Rattle.gr_races.proofs.TakenLists.{accepted_prefixes, all_are_taken, lanes_are_new, list_taken}
+use Rattle.gr_races.proofs.TakenLists.{all_are_taken, lanes_are_new, list_taken}
 use Rattle.gr_races.proofs.taken.take_all.Goals as goal
 
 pub loop-group-init : goal.loop-group-init
@@ -29,6 +29,3 @@ returns-clause-streams g c =
     let s = c.args.traces.now in
     let all : length s.lists ≤ c.loop-group.group = omega (arith, ap length c.shape-2.ensures.sizes, c.shape.ensures.accepted.count) in
     all_are_taken s c.loop-group.group c.loop-group.lanes.streams all c.loop-group.invariant.taken
-
-pub returns-clause-prefixes : goal.returns-clause-prefixes
-returns-clause-prefixes g c = rw (returns-clause-streams g c) (accepted_prefixes c.args.traces.now c.shape.ensures.accepted)

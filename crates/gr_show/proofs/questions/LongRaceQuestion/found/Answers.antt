@@ -1,5 +1,5 @@
 use Rattle.gr_places.specs.SideLines.{place_number}
-use Rattle.gr_races.proofs.AccountLemmas.{account_racy}
+use Rattle.gr_races.proofs.KindLemmas.{account_racy}
 use Rattle.gr_show.proofs.questions.LongRaceQuestion.found.Goals as goal
 
 pub returns : goal.returns
