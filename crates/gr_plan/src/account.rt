@@ -8,7 +8,7 @@ use gr_record::error::RecordError;
 use gr_record::fault::Fault;
 use gr_record::header::Header;
 use gr_record::layout::HEADER_LENGTH;
-use gr_record::reading::read_event;
+use gr_record::reading::{read_event, site_of};
 use gr_record::stream::read_front_header;
 use std::alloc::Global;
 use std::io::Read;
@@ -33,8 +33,6 @@ pub struct Account {
     pub starts: Vec<u64>,
     /// How many records of the present stream were passed.
     pub records: u64,
-    /// How many records were passed in all.
-    all_records: u64,
     /// How many bytes were passed.
     pub passed: u64,
     /// Why the next bytes are not of a stream, if they are not.
@@ -58,7 +56,6 @@ impl Account {
             last: None,
             starts: Vec::new(alloc),
             records: 0,
-            all_records: 0,
             passed: 0,
             fault: None,
             header: None,
@@ -68,12 +65,11 @@ impl Account {
 
     /// Passes and shows what was taken before, takes a piece of bytes, and gives how many records were passed.
     pub fn take(&mut self, piece: &[u8], seen: &mut Seen) -> Result<u64, Memory> {
-        let before = self.all_records;
-        self.pass(seen)?;
+        let records = self.pass(seen)?;
         if self.fault.is_none() {
             self.bytes.extend_from_slice(piece)?;
         }
-        Ok(self.all_records.saturating_sub(before))
+        Ok(records)
     }
 
     /// Takes, passes and shows the bytes of a reader, up to its end or to bytes that are not of a stream.
@@ -92,27 +88,29 @@ impl Account {
         Ok(())
     }
 
-    /// Passes and shows the whole headers and records that were taken, and removes them.
-    pub fn pass(&mut self, seen: &mut Seen) -> Result<(), Memory> {
-        let mut at: usize = 0;
+    /// Passes and shows the whole headers and records that were taken, removes them, and gives how many records they are.
+    pub fn pass(&mut self, seen: &mut Seen) -> Result<u64, Memory> {
+        let (mut at, mut all): (usize, u64) = (0, 0);
         for _ in 0..self.bytes.len() {
-            let n = self.pass_front(at, seen)?;
-            if n == 0 {
-                break;
-            }
-            at = at.saturating_add(n);
+            let (length, records) = match self.pass_front(at, seen) {
+                Ok(passed) => passed,
+                Err(RecordError::Memory) => return Err(Memory),
+                Err(RecordError::Truncated) => break,
+                Err(fault) => {
+                    self.fault = Some(fault);
+                    break;
+                }
+            };
+            at = at.saturating_add(length);
+            self.passed = self.passed.saturating_add(length as u64);
+            self.records = self.records.saturating_add(records);
+            all = all.saturating_add(records);
         }
         let at = at.min(self.bytes.len());
         let left = self.bytes.len() - at;
         self.bytes.as_mut_slice().copy_within(at.., 0);
         self.bytes.truncate(left);
-        Ok(())
-    }
-
-    /// Whether the present stream is the last one.
-    fn is_at_last(&self) -> bool {
-        self.last
-            .is_some_and(|last| self.starts.len() as u64 > last)
+        Ok(all)
     }
 
     /// The bytes that were taken, from this place on.
@@ -120,31 +118,39 @@ impl Account {
         self.bytes.get(at..).unwrap_or(&[])
     }
 
-    /// Passes the header or the records at this place, and gives how long they are: 0 if none is passed.
-    fn pass_front(&mut self, at: usize, seen: &mut Seen) -> Result<usize, Memory> {
-        let passed = match self.header {
-            None => self.pass_header(at, seen),
-            Some(header) => match self.pass_plain(at, header, seen) {
-                0 => self.pass_record(at, header, seen),
-                n => Ok(n),
-            },
+    /// Passes the header or the records at this place, and gives how many bytes and how many records were passed. Where nobody looks at
+    /// the records, those up to the stream's end are passed at once.
+    fn pass_front(&mut self, at: usize, seen: &mut Seen) -> Result<(usize, u64), RecordError> {
+        let Some(header) = self.header else {
+            self.pass_header(at, seen)?;
+            return Ok((HEADER_LENGTH, 0));
         };
-        match passed {
-            Ok(n) => {
-                self.passed = self.passed.saturating_add(n as u64);
-                Ok(n)
-            }
-            Err(RecordError::Memory) => Err(Memory),
-            Err(RecordError::Truncated) => Ok(0),
-            Err(fault) => {
-                self.fault = Some(fault);
-                Ok(0)
+        let length = header.version.record_length();
+        let streams = self.starts.len() as u64;
+        let is_at_last = self.last.is_some_and(|last| streams > last);
+        let judges = self.judges || is_at_last;
+        if !judges && seen.is_blind() {
+            let records = self.rest(at).chunks_exact(length);
+            let plain = records.take_while(|record| record.first().is_some_and(|kind| *kind < END));
+            let count = plain.count();
+            if count > 0 {
+                return Ok((count.saturating_mul(length), count as u64));
             }
         }
+        let record = self.rest(at).get(..length).ok_or(RecordError::Truncated)?;
+        let is_end = record.first() == Some(&END);
+        match read_event(header, record) {
+            Err(error) if judges || error == RecordError::BadKind => return Err(error),
+            _ if is_end && is_at_last => return Err(RecordError::AfterEnd),
+            _ if is_end => self.header = None,
+            Ok(event) => seen.pass(&header, &event, site_of(header.version, record))?,
+            Err(_) => {}
+        }
+        Ok((length, 1))
     }
 
-    /// Passes the header at this place, and gives how long it is. Where it begins is noted once.
-    fn pass_header(&mut self, at: usize, seen: &mut Seen) -> Result<usize, RecordError> {
+    /// Passes the header at this place. Where it begins is noted once.
+    fn pass_header(&mut self, at: usize, seen: &mut Seen) -> Result<(), RecordError> {
         let is_noted = self.starts.last().copied() == Some(self.passed);
         if begins_stream(self.rest(at)) && !is_noted && self.starts.len() < MOST_STREAMS {
             self.starts.push(self.passed)?;
@@ -152,47 +158,7 @@ impl Account {
         let (header, _) = read_front_header(self.rest(at))?;
         self.header = Some(header);
         self.records = 0;
-        seen.begin(&header)?;
-        Ok(HEADER_LENGTH)
-    }
-
-    /// Passes the records at this place, up to the stream's end, if only their first bytes are checked. Gives how long they are.
-    fn pass_plain(&mut self, at: usize, header: Header, seen: &Seen) -> usize {
-        if self.judges || self.is_at_last() || !seen.is_blind() {
-            return 0;
-        }
-        let length = header.version.record_length();
-        let records = self.rest(at).chunks_exact(length);
-        let plain = records.take_while(|record| record.first().is_some_and(|kind| *kind < END));
-        let count = plain.count();
-        self.records = self.records.saturating_add(count as u64);
-        self.all_records = self.all_records.saturating_add(count as u64);
-        count.saturating_mul(length)
-    }
-
-    /// Passes the record at this place, and gives how long it is.
-    fn pass_record(
-        &mut self,
-        at: usize,
-        header: Header,
-        seen: &mut Seen,
-    ) -> Result<usize, RecordError> {
-        let length = header.version.record_length();
-        let is_at_last = self.is_at_last();
-        let record = self.rest(at).get(..length).ok_or(RecordError::Truncated)?;
-        let is_end = record.first() == Some(&END);
-        match read_event(header, record) {
-            Err(error) if self.judges || is_at_last || error == RecordError::BadKind => {
-                return Err(error);
-            }
-            _ if is_end && is_at_last => return Err(RecordError::AfterEnd),
-            _ if is_end => self.header = None,
-            Ok(event) => seen.pass(&header, &event, record)?,
-            Err(_) => {}
-        }
-        self.records = self.records.saturating_add(1);
-        self.all_records = self.all_records.saturating_add(1);
-        Ok(length)
+        Ok(seen.begin(&header)?)
     }
 
     /// Whether the bytes end inside a stream.
@@ -208,11 +174,9 @@ impl Account {
     /// Whether a header begins inside the next record. A header that is cut short counts, too.
     pub fn has_header_inside(&self) -> bool {
         self.header.is_some_and(|header| {
-            let mut places = 0..header.version.record_length();
-            places.any(|at| {
-                let rest = self.rest(at);
-                let header = read_front_header(rest);
-                begins_stream(rest) && !matches!(header, Err(RecordError::BadHeader))
+            (0..header.version.record_length()).any(|at| {
+                let header = read_front_header(self.rest(at));
+                begins_stream(self.rest(at)) && !matches!(header, Err(RecordError::BadHeader))
             })
         })
     }

@@ -61,8 +61,7 @@ fn path_below(alloc: Global, folder: &str, name: &str) -> Result<String, Memory>
 
 /// All bytes of a file.
 pub fn read_file(rt: HostRuntime, path: &str) -> Result<Vec<u8>, Fault> {
-    let mut file = File::open(&rt, path).map_err(|error| fault_of(&error))?;
-    read_all(rt.alloc(), &mut file)
+    fs::read(&rt, path).map_err(|error| fault_of(&error))
 }
 
 /// The sorted paths of what is in a folder, if its name has this ending; none if the folder can't be read.
@@ -193,23 +192,18 @@ impl Files {
     pub fn open(&self, name: &str) -> io::Result<Source> {
         match self.pieces.get(name) {
             None => Source::open(self.rt, name, self.names.len()),
-            Some(piece) => Ok(Source::Piece(piece.open()?)),
+            Some(piece) => Ok(Source::Piece(piece.clone()?)),
         }
     }
 
     /// Adds the streams of what has this name. `run` reads pipes while they are written, so each has one stream; for all other
     /// commands the whole pipe is read here.
     fn add(&mut self, line: &Line<'_>, name: &str) -> Result<(), Fault> {
-        let rt = self.rt;
-        match file_kind(rt, name) {
-            FileKind::Input => self.add_bytes(name, &mut rt.stdin()),
-            FileKind::File => self.add_file(name),
+        match file_kind(self.rt, name) {
+            FileKind::Pipe if line.command == "run" => Ok(self.add_name(name)?),
+            FileKind::Input | FileKind::Pipe => self.add_bytes(name),
+            FileKind::File | FileKind::Missing => self.add_file(name),
             FileKind::Folder => self.add_folder(name),
-            FileKind::Pipe if line.command != "run" => match File::open(&rt, name) {
-                Err(_) => Ok(self.add_name(name)?),
-                Ok(mut pipe) => self.add_bytes(name, &mut pipe),
-            },
-            FileKind::Pipe | FileKind::Missing => Ok(self.add_name(name)?),
         }
     }
 
@@ -231,8 +225,7 @@ impl Files {
     /// Adds a name as it is.
     fn add_name(&mut self, name: &str) -> Result<(), Memory> {
         let name = self.copy_of(name)?;
-        self.names.push(name)?;
-        Ok(())
+        Ok(self.names.push(name)?)
     }
 
     /// Has a name open a piece. A name that has one keeps it.
@@ -243,7 +236,7 @@ impl Files {
         Ok(())
     }
 
-    /// Adds the streams that begin at these bytes of what has a name.
+    /// Adds the streams that begin at these bytes of what has a name, all of which `whole` opens.
     fn add_parts(&mut self, name: &str, whole: &Piece, starts: &[u64]) -> Result<(), Memory> {
         let ends = starts.iter().copied().skip(1).chain(iter::once(u64::MAX));
         for (start, end) in starts.iter().zip(ends) {
@@ -254,10 +247,13 @@ impl Files {
         Ok(())
     }
 
-    /// Adds the streams of a reader, up to its end.
-    fn add_bytes<R: Read>(&mut self, name: &str, reader: &mut R) -> Result<(), Fault> {
+    /// Adds the streams of standard input or of a pipe, all of which is read here. A pipe that can't be opened stays a name.
+    fn add_bytes(&mut self, name: &str) -> Result<(), Fault> {
         let alloc = self.rt.alloc();
-        let bytes = read_all(alloc, reader)?;
+        let Ok(mut source) = Source::open(self.rt, name, 1) else {
+            return Ok(self.add_name(name)?);
+        };
+        let bytes = read_all(alloc, &mut source)?;
         let starts = self.starts_of(name, &mut bytes.as_slice())?;
         let whole = Piece::of_bytes(alloc, bytes)?;
         if starts.len() > 1 {
@@ -267,7 +263,7 @@ impl Files {
         Ok(self.add_piece(self.copy_of(name)?, whole)?)
     }
 
-    /// Adds the streams of the file of this path.
+    /// Adds the streams of the file of this path. A file that can't be opened or read stays a name.
     fn add_file(&mut self, path: &str) -> Result<(), Fault> {
         let rt = self.rt;
         let Ok(mut file) = File::open(&rt, path) else {

@@ -16,8 +16,6 @@ pub enum Taking {
 pub struct Line<'a> {
     pub rt: HostRuntime,
     pub command: &'a str,
-    /// What it does with its files.
-    pub taking: Taking,
     /// Its options, each with its value if that is the next word.
     options: Vec<(&'a str, Option<&'a str>)>,
     /// All other words: files, and what comes before them.
@@ -55,12 +53,7 @@ fn takes_value(option: &str) -> bool {
 
 impl<'a> Line<'a> {
     /// The line of a command, with the words after it.
-    pub fn of(
-        rt: HostRuntime,
-        command: &'a str,
-        taking: Taking,
-        words: &'a [String],
-    ) -> Result<Line<'a>, Memory> {
+    pub fn of(rt: HostRuntime, command: &'a str, words: &'a [String]) -> Result<Line<'a>, Memory> {
         let (mut options, mut values) = (Vec::new(rt.alloc()), Vec::new(rt.alloc()));
         let mut words = words.iter().map(|word| word.as_str());
         while let Some(word) = words.next() {
@@ -78,7 +71,6 @@ impl<'a> Line<'a> {
         Ok(Line {
             rt,
             command,
-            taking,
             options,
             values,
         })

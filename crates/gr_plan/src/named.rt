@@ -2,7 +2,7 @@
 //! memories have.
 
 use crate::files::{FileKind, buffers_of, file_kind, launch_in, read_file};
-use crate::line::{Line, Taking};
+use crate::line::{Line, Taking, taking_of};
 use crate::notes::reason_of;
 use crate::plan::Refusal;
 use gr_arguments::words::group_of;
@@ -11,7 +11,7 @@ use gr_model::memory::Memory;
 use gr_places::buffers::{BufferLine, Element, buffers_of as lines_said, element_of};
 use gr_places::naming::word_said;
 use gr_text::words::parse_number;
-use std::alloc::Global;
+use std::alloc::{AllocError, Global};
 use std::fs;
 
 /// What is reported about a name if no file says which word has it.
@@ -31,14 +31,15 @@ pub struct Naming<'l, 'a> {
     pub files: &'l [&'a str],
 }
 
-/// The name among the words of a command on a word, if there is one: after a memory, or else the first or the last of the words.
-pub fn naming_by<'l, 'a, F>(line: &'l Line<'a>, is_name: F) -> Option<Naming<'l, 'a>>
-where
-    F: Fn(&str) -> bool,
-    requires { F.IsAlwaysCallable is_name }
-{
+/// The name among the words of a command on a word, if there is one: after a memory, or else the first or the last of the words. It has
+/// an index in brackets, or else names no file.
+pub fn naming_in<'l, 'a>(line: &'l Line<'a>, is_indexed: bool) -> Option<Naming<'l, 'a>> {
+    let is_name = |word: &str| match is_indexed {
+        true => word.ends_with(']') && word.contains('['),
+        false => file_kind(line.rt, word) == FileKind::Missing,
+    };
     let (name, space, files) = match line.values.as_slice() {
-        _ if !matches!(line.taking, Taking::Each(2)) => return None,
+        _ if !matches!(taking_of(line.command), Some(Taking::Each(2))) => return None,
         [] | [_] => return None,
         [space, name, files @ ..] if *space == "g" || group_of(space).is_some() => {
             (*name, Some(*space), files)
@@ -66,52 +67,45 @@ impl Naming<'_, '_> {
 
     /// Whether the words of a line are of the memory that is given, if one is.
     fn is_of(&self, line: &BufferLine<'_>) -> bool {
-        match (line.first, self.space) {
-            (_, None) => true,
-            (Word::Global(_), Some(space)) => space == "g",
-            (Word::Local(group, _), Some(space)) => group_of(space) == Some(group),
-        }
+        self.space.is_none_or(|space| match line.first {
+            Word::Global(_) => space == "g",
+            Word::Local(group, _) => group_of(space) == Some(group),
+        })
     }
 
     /// The refusal of a name that no word has, by the lines of this file of buffers.
     fn refusal(&self, path: &str, lines: &[BufferLine<'_>]) -> Result<Refusal, Memory> {
-        let (alloc, why) = (self.line.rt.alloc(), self.why_unnamed(lines)?);
-        let name = match self.space {
-            None => String::from_str(alloc, self.name)?,
-            Some(space) => format!(in alloc; "{space} {}", self.name)?,
-        };
-        let text = format!(in alloc; "no word is {name}, by the file of buffers {path}: {why}");
+        let alloc = self.line.rt.alloc();
+        let mut named = Vec::from_slice(alloc, lines)?;
+        named.retain(|line| line.name == self.parts().0);
+        let mut of_space = Vec::from_slice(alloc, &named)?;
+        of_space.retain(|line| self.is_of(line));
+        let why = self.why_unnamed(lines, &named, &of_space)?;
+        let (name, space) = (self.name, self.space.unwrap_or(""));
+        let between = if space.is_empty() { "" } else { " " };
+        let text = format!(in alloc;
+            "no word is {space}{between}{name}, by the file of buffers {path}: {why}"
+        );
         Ok(Refusal::Usage(text?))
     }
 
-    /// Why no word has the name, by the lines of a file of buffers.
-    fn why_unnamed(&self, lines: &[BufferLine<'_>]) -> Result<String, Memory> {
-        let alloc = self.line.rt.alloc();
-        let (buffer, _) = self.parts();
-        let mut named = Vec::from_slice(alloc, lines)?;
-        named.retain(|line| line.name == buffer);
-        let mut of_space = Vec::from_slice(alloc, &named)?;
-        of_space.retain(|line| self.is_of(line));
-        self.why_unnamed_by(lines, &named, &of_space)
-    }
-
     /// Why no word has the name, by all lines, those with its buffer, and those of them that are of the memory.
-    fn why_unnamed_by(
+    fn why_unnamed(
         &self,
         lines: &[BufferLine<'_>],
         named: &[BufferLine<'_>],
         of_space: &[BufferLine<'_>],
-    ) -> Result<String, Memory> {
+    ) -> Result<String, AllocError> {
         let alloc = self.line.rt.alloc();
         let (buffer, index) = self.parts();
         if lines.is_empty() {
-            return Ok(String::from_str(alloc, "it names no buffer")?);
+            return String::from_str(alloc, "it names no buffer");
         } else if named.is_empty() {
-            let names = list_of(alloc, lines, |line| Ok(String::from_str(alloc, line.name)?))?;
-            return Ok(format!(in alloc; "its buffers are {names}")?);
+            let names = list_of(alloc, lines, |line| String::from_str(alloc, line.name))?;
+            return format!(in alloc; "its buffers are {names}");
         } else if of_space.is_empty() {
             let spaces = spaces_of(alloc, named)?;
-            return Ok(format!(in alloc; "{buffer} is in {spaces}")?);
+            return format!(in alloc; "{buffer} is in {spaces}");
         }
         let found = element_at(lines, of_space, index);
         let Some((word, Element { name, index })) = found else {
@@ -136,21 +130,20 @@ impl Naming<'_, '_> {
 
     /// Why no word is found by the name if there is no file of buffers.
     fn refusal_without_buffers(&self) -> Result<Refusal, Memory> {
-        let (rt, alloc) = (self.line.rt, self.line.rt.alloc());
-        for name in self.files {
-            if file_kind(rt, name) == FileKind::Missing
-                && let Err(error) = fs::metadata(&rt, name)
+        let (rt, alloc, name) = (self.line.rt, self.line.rt.alloc(), self.name);
+        for file in self.files {
+            if *file != "-"
+                && let Err(error) = fs::metadata(&rt, file)
             {
-                return Ok(Refusal::NoFile(reason_of(alloc, name, &error)?));
+                return Ok(Refusal::NoFile(reason_of(alloc, file, &error)?));
             }
-            if let Some(launch) = launch_in(rt, name)? {
+            if let Some(launch) = launch_in(rt, file)? {
                 let text = format!(in alloc;
-                    "{name} holds launches; give one of them, such as {launch}"
+                    "{file} holds launches; give one of them, such as {launch}"
                 );
                 return Ok(Refusal::Usage(text?));
             }
         }
-        let name = self.name;
         Ok(Refusal::Usage(format!(in alloc; "{name} {NO_BUFFERS}")?))
     }
 
@@ -195,23 +188,23 @@ impl Naming<'_, '_> {
 }
 
 /// A memory, as the command line writes it.
-fn space_of(alloc: Global, word: Word) -> Result<String, Memory> {
+fn space_of(alloc: Global, word: Word) -> Result<String, AllocError> {
     match word {
-        Word::Global(_) => Ok(String::from_str(alloc, "g")?),
-        Word::Local(group, _) => Ok(format!(in alloc; "l{group}")?),
+        Word::Global(_) => String::from_str(alloc, "g"),
+        Word::Local(group, _) => format!(in alloc; "l{group}"),
     }
 }
 
 /// The memory and the number of a word, as the command line writes them.
-pub fn spelling_of(alloc: Global, word: Word) -> Result<(String, String), Memory> {
+pub fn spelling_of(alloc: Global, word: Word) -> Result<(String, String), AllocError> {
     let (Word::Global(number) | Word::Local(_, number)) = word;
     Ok((space_of(alloc, word)?, format!(in alloc; "{number}")?))
 }
 
 /// The texts of lines, each text once.
-fn list_of<F>(alloc: Global, lines: &[BufferLine<'_>], text_of: F) -> Result<String, Memory>
+fn list_of<F>(alloc: Global, lines: &[BufferLine<'_>], text_of: F) -> Result<String, AllocError>
 where
-    F: Fn(&BufferLine<'_>) -> Result<String, Memory>,
+    F: Fn(&BufferLine<'_>) -> Result<String, AllocError>,
     requires { F.IsAlwaysCallable text_of }
 {
     let mut shown: Vec<String> = Vec::new(alloc);
@@ -222,15 +215,15 @@ where
         }
         if shown.len() >= MOST_SHOWN {
             let list = shown.join(alloc, ", ")?;
-            return Ok(format!(in alloc; "{list} and others")?);
+            return format!(in alloc; "{list} and others");
         }
         shown.push(next)?;
     }
-    Ok(shown.join(alloc, ", ")?)
+    shown.join(alloc, ", ")
 }
 
 /// The memories of lines, each once.
-fn spaces_of(alloc: Global, lines: &[BufferLine<'_>]) -> Result<String, Memory> {
+fn spaces_of(alloc: Global, lines: &[BufferLine<'_>]) -> Result<String, AllocError> {
     list_of(alloc, lines, |line| space_of(alloc, line.first))
 }
 
@@ -250,13 +243,12 @@ fn element_at<'a>(
 }
 
 /// How many words a buffer has, and how they are named.
-fn size_of(alloc: Global, buffer: &str, named: &[BufferLine<'_>]) -> Result<String, Memory> {
+fn size_of(alloc: Global, buffer: &str, named: &[BufferLine<'_>]) -> Result<String, AllocError> {
     let words = named.iter().map(|line| line.words).max().unwrap_or(0);
     let last = words.saturating_sub(1);
-    let text = match words {
+    match words {
         0 => format!(in alloc; "{buffer} has no words"),
         1 => format!(in alloc; "{buffer} has one word, {buffer}[0]"),
         _ => format!(in alloc; "{buffer} has {words} words, {buffer}[0] to {buffer}[{last}]"),
-    };
-    Ok(text?)
+    }
 }

@@ -4,6 +4,7 @@ use crate::account::{Account, begins_stream};
 use crate::files::{FileKind, file_kind, launch_in};
 use crate::held::Held;
 use crate::plan::Plan;
+use crate::reading::Kept;
 use crate::seen::Seen;
 use crate::text_fault::put_bad_line;
 use gr_record::error::RecordError;
@@ -11,6 +12,7 @@ use gr_record::fault::Fault;
 use std::alloc::{AllocError, Global};
 use std::fs::File;
 use std::io::{self, ErrorKind, Read, Write};
+use std::mem;
 
 /// How the line of a stream's fault ends if it is about the header.
 const OF_HEADER: [&str; 4] = [
@@ -31,16 +33,19 @@ pub fn note(plan: &mut Plan, command: &str, errors: &mut Held) -> io::Result<()>
     let number = number_in(line, "gpurace: line ").filter(|_| line.ends_with(": bad line\n"));
     let stream = number_in(line, "gpurace: stream ");
     errors.pass()?;
-    match (stream, number) {
-        (Some(stream), _) => note_stream(errors, plan, stream, is_header),
-        (None, Some(number)) => note_line(errors, plan, number),
-        (None, None) => match &plan.files.torn {
-            Some(name) if is_missing => writeln!(
-                errors,
-                "gpurace: {name}: its last stream is truncated, and streams after it may be lost"
-            ),
-            _ => Ok(()),
-        },
+    if let Some(stream) = stream {
+        return note_stream(errors, plan, stream, is_header);
+    }
+    match (&plan.reading.kept, number, &plan.files.torn) {
+        (Kept::Text(text), Some(_), _) if begins_stream(text) => {
+            writeln!(errors, "gpurace: the input is packed already")
+        }
+        (Kept::Text(text), Some(number), _) => put_bad_line(errors, text, number),
+        (_, None, Some(name)) if is_missing => writeln!(
+            errors,
+            "gpurace: {name}: its last stream is truncated, and streams after it may be lost"
+        ),
+        _ => Ok(()),
     }
 }
 
@@ -65,10 +70,10 @@ fn try_file(rt: HostRuntime, name: &str, is_read: bool) -> io::Result<()> {
 fn first_error(plan: &Plan, is_read: bool) -> Option<(&str, io::Error)> {
     let files = &plan.files;
     let sides = files.places.iter().chain(&files.buffers);
-    let sides = sides.filter(|_| files.takes_sides);
-    let names = files.names.iter();
-    let whole = names.filter(|name| !files.has_piece(name.as_str()));
-    let mut names = sides.chain(whole).chain(&plan.reading.names);
+    let names = files.names.iter().chain(&plan.reading.names);
+    let mut names = sides
+        .filter(|_| files.takes_sides)
+        .chain(names.filter(|name| !files.has_piece(name.as_str())));
     names.find_map(|name| {
         let error = try_file(plan.rt, name.as_str(), is_read).err()?;
         Some((name.as_str(), error))
@@ -85,15 +90,16 @@ pub fn reason_of(alloc: Global, name: &str, error: &io::Error) -> Result<String,
 }
 
 /// Reports that a folder has no stream, or that it holds the folders of launches.
-fn note_folder<W: Write>(rt: HostRuntime, name: &str, to: &mut W) -> io::Result<()> {
+fn note_folder(rt: HostRuntime, name: &str, to: &mut Held) -> io::Result<()> {
+    write!(to, "gpurace: {name}: ")?;
     match launch_in(rt, name) {
         Ok(Some(launch)) => writeln!(
             to,
-            "gpurace: {name}: this folder holds launches; give one of them, such as {launch}"
+            "this folder holds launches; give one of them, such as {launch}"
         ),
         Ok(None) | Err(_) => writeln!(
             to,
-            "gpurace: {name}: no stream in this folder: no file whose name ends in .gpurace"
+            "no stream in this folder: no file whose name ends in .gpurace"
         ),
     }
 }
@@ -117,8 +123,8 @@ fn note_unread(plan: &Plan, command: &str, errors: &mut Held) -> io::Result<()> 
 }
 
 /// Writes where the fault of a stream is, if its file has a name, and what may have caused it.
-fn put<W: Write>(
-    to: &mut W,
+fn put(
+    to: &mut Held,
     (stream, is_header): (u64, bool),
     name: Option<&str>,
     account: &Account,
@@ -126,12 +132,12 @@ fn put<W: Write>(
     let record = account.records;
     if let Some(name) = name {
         write!(to, "gpurace: {name}: stream {stream}, ")?;
-        if account.fault == Some(RecordError::AfterEnd) && !is_header {
-            writeln!(to, "after its end")?;
-        } else if account.header.is_none() || is_header {
-            writeln!(to, "at its header")?;
-        } else {
-            writeln!(to, "at its record {record}")?;
+        match account.header {
+            _ if account.fault == Some(RecordError::AfterEnd) && !is_header => {
+                writeln!(to, "after its end")?;
+            }
+            Some(_) if !is_header => writeln!(to, "at its record {record}")?,
+            _ => writeln!(to, "at its header")?,
         }
     }
     if is_header && account.is_text() {
@@ -164,12 +170,7 @@ fn account_again(plan: &Plan, name: &str) -> Option<Account> {
 }
 
 /// Reports the fault of a stream that is read from a file of its own or from the input.
-fn note_stream<W: Write>(
-    to: &mut W,
-    plan: &mut Plan,
-    stream: u64,
-    is_header: bool,
-) -> io::Result<()> {
+fn note_stream(to: &mut Held, plan: &mut Plan, stream: u64, is_header: bool) -> io::Result<()> {
     let number = stream as usize;
     if let Some(name) = plan.files.names.get(number) {
         let name = name.as_str();
@@ -178,7 +179,8 @@ fn note_stream<W: Write>(
             Some(account) => put(to, (stream, is_header), Some(name), &account),
         };
     }
-    let Some(mut account) = plan.reading.account.take() else {
+    let kept = mem::replace(&mut plan.reading.kept, Kept::Nothing);
+    let Kept::Streams(mut account) = kept else {
         return Ok(());
     };
     account.last = Some(stream);
@@ -188,13 +190,4 @@ fn note_stream<W: Write>(
     let start = account.starts.get(number).copied();
     let name = plan.reading.name_at(start.unwrap_or(account.passed));
     put(to, (stream, is_header), name, &account)
-}
-
-/// Reports a line at fault of a text.
-fn note_line<W: Write>(to: &mut W, plan: &Plan, number: u64) -> io::Result<()> {
-    match &plan.reading.text {
-        None => Ok(()),
-        Some(text) if begins_stream(text) => writeln!(to, "gpurace: the input is packed already"),
-        Some(text) => put_bad_line(to, text, number),
-    }
 }

@@ -1,10 +1,12 @@
 //! How the words of a command line are done: the words for `gr_command`, its input, and what names open.
 
+use crate::account::Account;
 use crate::files::{FileKind, Files, copies_of, file_kind, paths_of_streams};
+use crate::held::Held;
 use crate::line::{Line, Taking, is_option, may_be_command, taking_of};
-use crate::named::{Naming, naming_by, spelling_of};
+use crate::named::{Naming, naming_in, spelling_of};
 use crate::progress::Progress;
-use crate::reading::{Keeping, Reading};
+use crate::reading::{Kept, Reading};
 use crate::seen::Sought;
 use clap::error::ErrorKind;
 use gr_arguments::request::Request;
@@ -56,10 +58,12 @@ impl From<Fault> for Refusal {
 /// # Errors
 /// Why nothing is done.
 pub fn plan_of(rt: HostRuntime, words: &[String]) -> Result<Plan, Refusal> {
+    let alloc = rt.alloc();
+    let streams = Kept::Streams(Account::new(alloc, false));
     let mut plan = Plan {
         rt,
         words: None,
-        reading: Reading::new(rt, Vec::new(rt.alloc()), Keeping::Last)?,
+        reading: Reading::new(rt, Vec::new(alloc), streams)?,
         files: Files::new(rt),
         note: None,
     };
@@ -84,7 +88,7 @@ impl Plan {
 
     /// Reports what an answer without a race does not say about its word: that nothing accesses it, and that its name is in several
     /// memories.
-    pub fn note_word<W: Write>(&self, errors: &mut W) -> io::Result<()> {
+    pub fn note_word(&self, errors: &mut Held) -> io::Result<()> {
         if let Some(sought) = &self.files.seen.sought {
             sought.report(errors)?;
         }
@@ -111,32 +115,31 @@ impl Plan {
         let Some(line) = line_of(self.rt, words)? else {
             return Ok(());
         };
-        let Taking::Each(leading) = line.taking else {
+        let Some(Taking::Each(leading)) = taking_of(line.command) else {
             return Ok(self.take_joined(&line)?);
         };
-        if let Some(naming) = naming_by(&line, |word| word.ends_with(']') && word.contains('[')) {
+        if let Some(naming) = naming_in(&line, true) {
             return self.take_named(&naming);
         }
         if is_taken(self.rt.alloc(), words)? {
             let (before, names) = line.values.split_at(leading.min(line.values.len()));
             return Ok(self.take_each(&line, before, names)?);
         }
-        match naming_by(&line, |word| file_kind(line.rt, word) == FileKind::Missing) {
-            None => Ok(()),
-            Some(naming) => naming.check(),
-        }
+        naming_in(&line, false).map_or(Ok(()), |naming| naming.check())
     }
 
     /// Takes a command that reads its files as one.
     fn take_joined(&mut self, line: &Line<'_>) -> Result<(), Memory> {
-        let keeping = match line.command {
-            "pack" => Keeping::Text,
-            "replay" => Keeping::Last,
-            _ => Keeping::Fault,
+        let alloc = self.rt.alloc();
+        let (kept, names) = match line.command {
+            "pack" => (Kept::Text(Vec::new(alloc)), copies_of(alloc, &line.values)?),
+            command => (
+                Kept::Streams(Account::new(alloc, command != "replay")),
+                files_given(self.rt, &line.values)?,
+            ),
         };
-        let names = files_given(self.rt, &line.values, keeping)?;
-        self.reading = Reading::new(self.rt, names, keeping)?;
-        self.words = Some(copies_of(self.rt.alloc(), &line.head(true)?)?);
+        self.reading = Reading::new(self.rt, names, kept)?;
+        self.words = Some(copies_of(alloc, &line.head(true)?)?);
         Ok(())
     }
 
@@ -153,7 +156,7 @@ impl Plan {
     /// Takes a command on a word that is given by its name.
     fn take_named(&mut self, naming: &Naming<'_, '_>) -> Result<(), Refusal> {
         let (word, note) = naming.word()?;
-        let (space, number) = spelling_of(self.rt.alloc(), word)?;
+        let (space, number) = spelling_of(self.rt.alloc(), word).map_err(Memory::from)?;
         let before = [space.as_str(), number.as_str()];
         self.note = note;
         Ok(self.take_each(naming.line, &before, naming.files)?)
@@ -165,10 +168,9 @@ fn line_of<'a>(rt: HostRuntime, words: &'a [String]) -> Result<Option<Line<'a>>,
     let Some((first, after)) = words.split_first() else {
         return Ok(None);
     };
-    let first = first.as_str();
-    let line = match taking_of(first) {
-        Some(taking) => Line::of(rt, first, taking, after),
-        None if asks_for_report(rt, words) => Line::of(rt, "replay", Taking::Joined, words),
+    let line = match taking_of(first.as_str()) {
+        Some(_) => Line::of(rt, first.as_str(), after),
+        None if asks_for_report(rt, words) => Line::of(rt, "replay", words),
         None => return Ok(None),
     };
     Ok(Some(line?))
@@ -184,18 +186,18 @@ fn asks_for_report(rt: HostRuntime, words: &[String]) -> bool {
     })
 }
 
-/// The files that names mean: the files of a folder's streams, or the name itself.
-fn files_given(rt: HostRuntime, names: &[&str], keeping: Keeping) -> Result<Vec<String>, Memory> {
+/// The files of streams that names mean: those of a folder, or the name itself.
+fn files_given(rt: HostRuntime, names: &[&str]) -> Result<Vec<String>, Memory> {
     let mut given = Vec::new(rt.alloc());
     for name in names {
-        let mut paths = Vec::new(rt.alloc());
-        if keeping != Keeping::Text && file_kind(rt, name) == FileKind::Folder {
-            paths = paths_of_streams(rt, name)?;
-        }
+        let paths = match file_kind(rt, name) {
+            FileKind::Folder => paths_of_streams(rt, name)?,
+            _ => Vec::new(rt.alloc()),
+        };
         if paths.is_empty() {
-            paths.push(String::from_str(rt.alloc(), name)?)?;
+            given.push(String::from_str(rt.alloc(), name)?)?;
         }
-        given.append(&mut paths)?;
+        given.extend(paths)?;
     }
     Ok(given)
 }

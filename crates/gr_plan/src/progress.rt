@@ -92,11 +92,6 @@ pub struct Watched {
     read: u64,
 }
 
-/// How many records there are in the first bytes of a stream of this version.
-fn records_in(version: Version, bytes: u64) -> u64 {
-    bytes.saturating_sub(HEADER_LENGTH as u64) / version.record_length() as u64
-}
-
 impl Watched {
     /// Opens a name, and lets the progress count what is read.
     pub fn open(files: &Files, name: &str) -> io::Result<Watched> {
@@ -108,26 +103,25 @@ impl Watched {
         })
     }
 
-    /// Counts bytes that were read.
-    fn count(&mut self, piece: &[u8]) {
-        let Some(progress) = &self.progress else {
-            return;
-        };
-        if self.read == 0 && matches!(piece, [b'G', b'R', b'T', b'2' | b'4', ..]) {
-            // version 4 has records of the same length
-            self.version = Version::Two;
-        }
-        let before = records_in(self.version, self.read);
-        self.read = self.read.saturating_add(piece.len() as u64);
-        let records = records_in(self.version, self.read).saturating_sub(before);
-        progress.add(piece.len() as u64, records);
+    /// How many records of the stream were read.
+    fn records(&self) -> u64 {
+        self.read.saturating_sub(HEADER_LENGTH as u64) / self.version.record_length() as u64
     }
 }
 
 impl Read for Watched {
     fn read(&mut self, buf: &mut [u8]) -> io::Result<usize> {
         let n = self.source.read(buf)?;
-        self.count(&buf[..n]);
+        if self.read == 0 && matches!(&buf[..n], [b'G', b'R', b'T', b'2' | b'4', ..]) {
+            // version 4 has records of the same length
+            self.version = Version::Two;
+        }
+        let before = self.records();
+        self.read = self.read.saturating_add(n as u64);
+        let records = self.records().saturating_sub(before);
+        if let Some(progress) = &self.progress {
+            progress.add(n as u64, records);
+        }
         Ok(n)
     }
 }

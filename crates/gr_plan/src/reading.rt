@@ -9,17 +9,17 @@ use std::io::{self, Read};
 use std::sync::Arc;
 
 /// What is kept of an input, to report where a fault of it is.
-#[derive(Clone, Copy, PartialEq, Eq)]
-pub enum Keeping {
-    /// The text.
-    Text,
-    /// Where its streams begin, and what was read last: for an input that is judged while it is read.
-    Last,
-    /// The same, up to its first record at fault: for an input that is judged after all of it was read.
-    Fault,
+#[derive(Drop)]
+pub enum Kept {
+    /// All bytes of a text.
+    Text(Vec<u8>),
+    /// An account of streams.
+    Streams(Account),
+    /// Nothing: memory ran out.
+    Nothing,
 }
 
-/// The input, with an account of what was read of it.
+/// The input, with what is kept of it.
 #[derive(Drop)]
 pub struct Reading {
     /// The names of the files, if it is not standard input.
@@ -32,10 +32,8 @@ pub struct Reading {
     read: u64,
     /// The places of the files that were read from, and the bytes at which they begin.
     begins: Vec<(usize, u64)>,
-    /// What was read, as streams; none if it is a text, or memory ran out.
-    pub account: Option<Account>,
-    /// All bytes that were read, if they are a text.
-    pub text: Option<Vec<u8>>,
+    /// What is kept of the bytes that were read.
+    pub kept: Kept,
     /// Who reports how far the reading is.
     pub progress: Option<Arc<Progress>>,
 }
@@ -47,30 +45,24 @@ fn sources_of(rt: HostRuntime, names: &[String]) -> Result<Vec<Source>, Memory> 
         sources.push(Source::Input(rt.stdin()))?;
     }
     for name in names {
-        if name.as_str() == "-" {
-            sources.push(Source::Input(rt.stdin()))?;
-        } else if let Ok(source) = Source::open(rt, name.as_str(), names.len()) {
-            sources.push(source)?;
-        } else {
+        let Ok(source) = Source::open(rt, name.as_str(), names.len()) else {
             return Ok(Vec::new(rt.alloc()));
-        }
+        };
+        sources.push(source)?;
     }
     Ok(sources)
 }
 
 impl Reading {
-    /// The input from these files, one after another, or from standard input if there are none.
-    pub fn new(rt: HostRuntime, names: Vec<String>, keeping: Keeping) -> Result<Reading, Memory> {
-        let alloc = rt.alloc();
-        let is_text = keeping == Keeping::Text;
+    /// The input from these files, one after another, or from standard input if there are none. `kept` has nothing yet.
+    pub fn new(rt: HostRuntime, names: Vec<String>, kept: Kept) -> Result<Reading, Memory> {
         Ok(Reading {
             sources: sources_of(rt, &names)?,
             names,
             at: 0,
             read: 0,
-            begins: Vec::new(alloc),
-            account: (!is_text).then_some(Account::new(alloc, keeping == Keeping::Fault)),
-            text: is_text.then_some(Vec::new(alloc)),
+            begins: Vec::new(rt.alloc()),
+            kept,
             progress: None,
         })
     }
@@ -81,15 +73,14 @@ impl Reading {
             self.begins.push((self.at, self.read))?;
         }
         self.read = self.read.saturating_add(piece.len() as u64);
-        let records = match &mut self.account {
-            None => 0,
-            Some(account) => account.take(piece, &mut Seen::default())?,
-        };
+        let mut records = 0;
+        match &mut self.kept {
+            Kept::Text(text) => text.extend_from_slice(piece)?,
+            Kept::Streams(account) => records = account.take(piece, &mut Seen::default())?,
+            Kept::Nothing => {}
+        }
         if let Some(progress) = &self.progress {
             progress.add(piece.len() as u64, records);
-        }
-        if let Some(text) = &mut self.text {
-            text.extend_from_slice(piece)?;
         }
         Ok(())
     }
@@ -117,8 +108,7 @@ impl Read for Reading {
             let n = source.read(buf)?;
             if n > 0 {
                 if self.note(&buf[..n]).is_err() {
-                    self.account = None;
-                    self.text = None;
+                    self.kept = Kept::Nothing;
                 }
                 return Ok(n);
             }

@@ -1,6 +1,7 @@
 //! What is seen in the records of files while their streams are found: whether they access the word that is asked for, and where in the
 //! source they are, by their sites and the folder's file `sites`.
 
+use crate::held::Held;
 use gr_arguments::words::word_named;
 use gr_model::event::{Event, Kind, Word, word_of};
 use gr_model::memory::Memory;
@@ -8,9 +9,6 @@ use gr_record::header::Header;
 use itoa::Buffer;
 use std::alloc::Global;
 use std::io::{self, Write};
-
-/// The byte of a record at which its site begins.
-const SITE: usize = 6;
 
 /// A word that is asked for, and what was seen of it.
 #[derive(Clone, Copy)]
@@ -32,7 +30,7 @@ impl Sought {
     }
 
     /// Reports if no record accesses the word.
-    pub fn report<W: Write>(&self, errors: &mut W) -> io::Result<()> {
+    pub fn report(&self, errors: &mut Held) -> io::Result<()> {
         match self.word {
             Word::Local(group, _) if !self.has_group => {
                 writeln!(errors, "gpurace: the launch has no group {group}")
@@ -67,12 +65,6 @@ pub struct Sited {
     pub places: Vec<u8>,
 }
 
-/// The line of the file of sites, from 0, that a record gives, if it gives one.
-fn site_of(record: &[u8]) -> Option<usize> {
-    let site = record.get(SITE..)?.first_chunk::<2>()?;
-    usize::from(u16::from_le_bytes(*site)).checked_sub(1)
-}
-
 impl Sited {
     /// For a folder whose file of sites has this text. No record has passed.
     pub fn new(alloc: Global, sites: Vec<u8>) -> Result<Sited, Memory> {
@@ -91,15 +83,16 @@ impl Sited {
         })
     }
 
-    /// Adds the line of a group's record, if it has a site. `event` is what the record says. Barriers of one site have one line.
-    pub fn pass(&mut self, group: u16, event: &Event, record: &[u8]) -> Result<(), Memory> {
+    /// Adds the line of a group's record of this site, if it has one: 0 is none. `event` is what the record says. Barriers of one site
+    /// have one line.
+    fn pass(&mut self, group: u16, event: &Event, site: u16) -> Result<(), Memory> {
         let Some(passed) = self.passed.get_mut(usize::from(event.item)) else {
             return Ok(());
         };
         let index = *passed;
         *passed = index.saturating_add(1);
-        let site = site_of(record);
-        let Some(place) = site.and_then(|site| self.lines.get(site)).copied() else {
+        let line = usize::from(site).checked_sub(1);
+        let Some(place) = line.and_then(|line| self.lines.get(line)).copied() else {
             return Ok(());
         };
         match event.kind {
@@ -154,14 +147,14 @@ impl Seen {
         self.sited.is_none() && self.sought.is_none()
     }
 
-    /// Passes a record of a stream of this header. It is not an end, and `event` is what it says.
-    pub fn pass(&mut self, header: &Header, event: &Event, record: &[u8]) -> Result<(), Memory> {
+    /// Passes a record of a stream of this header, which has this site. It is not an end, and `event` is what it says.
+    pub fn pass(&mut self, header: &Header, event: &Event, site: u16) -> Result<(), Memory> {
         if let Some(sought) = &mut self.sought {
             sought.is_accessed |= word_of(header.group, event) == Some(sought.word);
         }
         match &mut self.sited {
             None => Ok(()),
-            Some(sited) => sited.pass(header.group, event, record),
+            Some(sited) => sited.pass(header.group, event, site),
         }
     }
 }

@@ -10,7 +10,7 @@ use std::sync::Arc;
 const MOST_OPEN: usize = 256;
 
 /// Where the bytes of a piece are.
-#[derive(Drop)]
+#[derive(Clone, Drop)]
 enum Bytes {
     /// In the file of a path. It is open only while it is read, so thousands of its streams may be read side by side.
     File(HostRuntime, String),
@@ -18,8 +18,8 @@ enum Bytes {
     Kept(Arc<Vec<u8>>),
 }
 
-/// Bytes from one place up to another, or up to their end if that comes first.
-#[derive(Drop)]
+/// Bytes from one place up to another, or up to their end if that comes first. A file is opened when it is read.
+#[derive(Clone, Drop)]
 pub struct Piece {
     bytes: Bytes,
     at: u64,
@@ -53,17 +53,9 @@ impl Piece {
 
     /// The bytes from `at` up to `end`, or up to the end of the piece.
     pub fn part(&self, at: u64, end: u64) -> Result<Piece, AllocError> {
-        let bytes = match &self.bytes {
-            Bytes::File(rt, path) => Bytes::File(*rt, path.clone()?),
-            Bytes::Kept(bytes) => Bytes::Kept(Arc::try_clone(bytes)?),
-        };
+        let bytes = self.bytes.clone()?;
         let end = end.min(self.end);
         Ok(Piece { bytes, at, end })
-    }
-
-    /// The same bytes, for a reader. A file is opened when it is read.
-    pub fn open(&self) -> Result<Piece, AllocError> {
-        self.part(self.at, self.end)
     }
 
     /// How many bytes there are, if that is known.
@@ -109,8 +101,11 @@ pub enum Source {
 }
 
 impl Source {
-    /// Opens the file or pipe of a path. It is one of `count` files.
+    /// Opens the file or pipe of a path, or standard input if it is `-`. It is one of `count` files.
     pub fn open(rt: HostRuntime, path: &str, count: usize) -> io::Result<Source> {
+        if path == "-" {
+            return Ok(Source::Input(rt.stdin()));
+        }
         let file = File::open(&rt, path)?;
         if count > MOST_OPEN && file_size(rt, path).is_some() {
             let path = String::from_str(rt.alloc(), path)?;

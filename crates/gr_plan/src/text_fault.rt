@@ -1,5 +1,6 @@
 //! Which word of a line of a text is at fault, and what should be in its place (docs/FORMATS.md, "Text form").
 
+use crate::held::Held;
 use gr_model::limits::MOST_RECORDS;
 use gr_record::header::{Header, Version};
 use gr_text::place::{Place, take_line};
@@ -67,10 +68,8 @@ fn is_among(word: &[u8], words: &[&str]) -> bool {
 
 /// Whether a word is the site of a record.
 fn is_site(word: &[u8]) -> bool {
-    match word {
-        [b'@', number @ ..] => parse_short(number).is_some_and(|site| site > 0),
-        _ => false,
-    }
+    let number = word.strip_prefix(b"@").and_then(parse_short);
+    number.is_some_and(|site| site > 0)
 }
 
 /// What is due at this place of the line of a header. The end of the line gives the version.
@@ -147,32 +146,28 @@ impl Due {
     }
 }
 
-/// Writes words, one of which is due, with `or` before the last.
-fn put_words<W: Write>(to: &mut W, words: Words, or: &str, last: &str) -> io::Result<()> {
+/// Writes what is due: of several words with `or` before the last.
+fn put_due(to: &mut Held, due: Due) -> io::Result<()> {
+    let (words, or, last) = match due {
+        Due::Header => return write!(to, "the header of a stream, which begins with group"),
+        Due::Items(most) => return write!(to, "a number from 1 to {most}"),
+        Due::Item(items) => return write!(to, "an item below {items}, or end"),
+        Due::Number(what, below) => return write!(to, "{what} below {below}"),
+        Due::Word(words) => match words.split_last() {
+            None => return Ok(()),
+            Some((last, words)) => (words, " or ", *last),
+        },
+        Due::Last(words, false) => (words, " or ", "the end of the line"),
+        Due::Last(words, true) => (words, ", ", SITE_OR_END),
+    };
     for (at, word) in words.iter().enumerate() {
         write!(to, "{}{word}", if at == 0 { "" } else { ", " })?;
     }
     write!(to, "{}{last}", if words.is_empty() { "" } else { or })
 }
 
-/// Writes what is due.
-fn put_due<W: Write>(to: &mut W, due: Due) -> io::Result<()> {
-    match due {
-        Due::Header => write!(to, "the header of a stream, which begins with group"),
-        Due::Items(most) => write!(to, "a number from 1 to {most}"),
-        Due::Item(items) => write!(to, "an item below {items}, or end"),
-        Due::Number(what, below) => write!(to, "{what} below {below}"),
-        Due::Word(words) => match words.split_last() {
-            None => Ok(()),
-            Some((last, words)) => put_words(to, words, " or ", last),
-        },
-        Due::Last(words, false) => put_words(to, words, " or ", "the end of the line"),
-        Due::Last(words, true) => put_words(to, words, ", ", SITE_OR_END),
-    }
-}
-
 /// Writes the first bytes of a word; a byte that is not visible ASCII is a question mark.
-fn put_shown<W: Write>(to: &mut W, word: &[u8]) -> io::Result<()> {
+fn put_shown(to: &mut Held, word: &[u8]) -> io::Result<()> {
     for byte in word.iter().take(MOST_SHOWN) {
         to.write_all(&[if byte.is_ascii_graphic() { *byte } else { b'?' }])?;
     }
@@ -180,7 +175,7 @@ fn put_shown<W: Write>(to: &mut W, word: &[u8]) -> io::Result<()> {
 }
 
 /// Writes the word at fault at a place of a line, and what is due there.
-fn put_bad_word<W: Write>(to: &mut W, line: &[u8], at: usize, due: Due) -> io::Result<()> {
+fn put_bad_word(to: &mut Held, line: &[u8], at: usize, due: Due) -> io::Result<()> {
     write!(to, ", word {}: ", at.saturating_add(1))?;
     match word_at(line, at) {
         None => write!(to, "the line ends")?,
@@ -193,7 +188,7 @@ fn put_bad_word<W: Write>(to: &mut W, line: &[u8], at: usize, due: Due) -> io::R
 }
 
 /// Writes which word is at fault in the first line at fault of a text, and what is due in its place. The line has this number, from 1.
-pub fn put_bad_line<W: Write>(to: &mut W, text: &[u8], number: u64) -> io::Result<()> {
+pub fn put_bad_line(to: &mut Held, text: &[u8], number: u64) -> io::Result<()> {
     let Some((line, place)) = bad_line(text) else {
         return Ok(());
     };
