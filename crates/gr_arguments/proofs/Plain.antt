@@ -17,7 +17,7 @@ use Rattle.gr_arguments.specs.declared.request.Misuse.TheVariants.{NoWordToExpla
 use Rattle.gr_arguments.specs.Naming.{IsNumber, Names as NamesWord}
 use Rattle.gr_arguments.specs.Asked.{Asked, AsksTo, IsAskedBy, IsInquiry, ask, refuse}
 use Rattle.gr_arguments.specs.Commands.{command_of, explaining, faults, gpurace, name_met, values_met}
-use Rattle.gr_arguments.specs.Plain.{about_word, ArePlain, IsPlain, LongWordsAsk, PlainWordsAsk, PlainWordsMisname}
+use Rattle.gr_arguments.specs.Plain.{about_word, flag_words, ArePlain, IsPlain, PlainWordsAsk, PlainWordsMisname}
 
 -- ---- the words after the command's name
 
@@ -52,11 +52,7 @@ abbrev file_rows : List Text → List Row
 file_rows [] = []
 file_rows (f ∷ fs) = row (codes "FILE") (f ∷ fs) ∷ []
 
--- the flag, if the long form is asked for, and its row before or after those of the other words
-abbrev flag_words : Bool → List Text
-flag_words true = codes "--long" ∷ []
-flag_words false = []
-
+-- the row of the flag, if the long form is asked for, before or after those of the other words
 abbrev flag_given : Bool → List Row
 flag_given true = row (codes "long") (codes "true" ∷ []) ∷ []
 flag_given false = []
@@ -220,20 +216,14 @@ plain_words_ask_by long space number file files space_plain number_plain plain a
     }
 
 -- words that name a word of memory
-words_ask : (long : Bool) (space number file : Text) (files : List Text) (w : Word) → NamesWord space number w → ArePlain (file ∷ files) → AsksTo (ask (about_word long w (file ∷ files))) (explain ∷ flag_words long ++ space ∷ number ∷ file ∷ files)
-words_ask long space number file files w named plain =
+pub plain_words_ask : PlainWordsAsk
+plain_words_ask long space number file files w named plain =
     let texts = words_are_plain space number w named in
     plain_words_ask_by long space number file files texts.0 texts.1 plain _ (record { command = refl; values = asks long })
   where
     asks : (long : Bool) → IsInquiry (all_rows space number long (file ∷ files)) (about_word long w (file ∷ files))
     asks true = record { query = (refl, record { space = space; number = number; at_space = refl; at_number = refl; names = named }); places = refl; buffers = refl; as_json = refl; at_files = refl }
     asks false = record { query = ((refl, refl, refl), record { space = space; number = number; at_space = refl; at_number = refl; names = named }); places = refl; buffers = refl; as_json = refl; at_files = refl }
-
-pub plain_words_ask : PlainWordsAsk
-plain_words_ask = words_ask false
-
-pub long_words_ask : LongWordsAsk
-long_words_ask = words_ask true
 
 pub plain_words_misname : PlainWordsMisname
 plain_words_misname space number file files none plain =

@@ -1,5 +1,5 @@
 -- Which words ask for what, if no word is an option.
-use Rattle.std.specs.Prelude.{◌≡◌, ◌==◌, Bool, false, true, List, [], ◌∷◌, None, ⊤, codes}
+use Rattle.std.specs.Prelude.{◌≡◌, ◌==◌, Bool, false, true, List, [], ◌∷◌, ◌++◌, None, ⊤, codes}
 use Rattle.clap.specs.Walk.{Text}
 use Rattle.gr_model.specs.declared.event.Word.{Word}
 use Rattle.gr_arguments.specs.declared.request.Misuse.TheVariants.{NoWordToExplain}
@@ -41,13 +41,14 @@ ArePlain (word ∷ words) = IsPlain word × ArePlain words
 abbrev pub about_word : Bool → Word → List Text → Inquiry
 about_word long w files = record { query = Explain long w; places = None; buffers = None; json = false; files = files }
 
--- the words `explain SPACE WORD FILE..` ask for the word that SPACE and WORD name
-abbrev pub PlainWordsAsk : Type 0
-PlainWordsAsk = (space number file : Text) (files : List Text) (w : Word) → Names space number w → ArePlain (file ∷ files) → AsksTo (ask (about_word false w (file ∷ files))) (codes "explain" ∷ space ∷ number ∷ file ∷ files)
+-- the flag of the long form, if it is asked for
+abbrev pub flag_words : Bool → List Text
+flag_words true = codes "--long" ∷ []
+flag_words false = []
 
--- the words `explain --long SPACE WORD FILE..` ask for it in the long form, without side files
-abbrev pub LongWordsAsk : Type 0
-LongWordsAsk = (space number file : Text) (files : List Text) (w : Word) → Names space number w → ArePlain (file ∷ files) → AsksTo (ask (about_word true w (file ∷ files))) (codes "explain" ∷ codes "--long" ∷ space ∷ number ∷ file ∷ files)
+-- the words `explain SPACE WORD FILE..` ask for the word that SPACE and WORD name; with the flag before SPACE, in the long form
+abbrev pub PlainWordsAsk : Type 0
+PlainWordsAsk = (long : Bool) (space number file : Text) (files : List Text) (w : Word) → Names space number w → ArePlain (file ∷ files) → AsksTo (ask (about_word long w (file ∷ files))) (codes "explain" ∷ flag_words long ++ space ∷ number ∷ file ∷ files)
 
 -- if SPACE and WORD name no word, they are refused
 abbrev pub PlainWordsMisname : Type 0

@@ -1,6 +1,6 @@
 //! Which words ask for what. Each law is the contract of a function that does nothing.
 
-ghost use Rattle.gr_arguments.specs.Plain.{LongWordsAsk, NamesAsk, NoWordAsks, PlainWordsAsk, PlainWordsMisname, WordsAskOnce};
+ghost use Rattle.gr_arguments.specs.Plain.{NamesAsk, NoWordAsks, PlainWordsAsk, PlainWordsMisname, WordsAskOnce};
 
 /// Words ask for at most one thing.
 #[tactic(auto, using(crate::proofs::OneAsked::words_ask_once))]
@@ -20,6 +20,5 @@ pub fn names_ask_for_tasks()
 /// they ask for the long form.
 pub fn plain_words_ask_for_a_word()
     ensures asks { PlainWordsAsk }
-    ensures long { LongWordsAsk }
     ensures misnamed { PlainWordsMisname }
 {}
