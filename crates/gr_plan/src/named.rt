@@ -8,7 +8,8 @@ use crate::plan::Refusal;
 use gr_arguments::words::group_of;
 use gr_model::event::Word;
 use gr_model::memory::Memory;
-use gr_places::buffers::{BufferLine, Element, buffers_of as lines_said, element_of};
+use gr_places::buffers::{BufferLine, Element, element_of};
+use gr_places::files::buffers_of as lines_said;
 use gr_places::naming::word_said;
 use gr_text::words::parse_number;
 use std::alloc::{AllocError, Global};
@@ -67,20 +68,21 @@ impl Naming<'_, '_> {
 
     /// Whether the words of a line are of the memory that is given, if one is.
     fn is_of(&self, line: &BufferLine<'_>) -> bool {
-        self.space.is_none_or(|space| match line.first {
-            Word::Global(_) => space == "g",
-            Word::Local(group, _) => group_of(space) == Some(group),
-        })
+        match (line.first, self.space) {
+            (_, None) => true,
+            (Word::Global(_), Some(space)) => space == "g",
+            (Word::Local(group, _), Some(space)) => group_of(space) == Some(group),
+        }
+    }
+
+    /// Whether a line is of the buffer in the name, and of the memory that is given, if one is.
+    fn is_named(&self, line: &BufferLine<'_>) -> bool {
+        line.name == self.parts().0 && self.is_of(line)
     }
 
     /// The refusal of a name that no word has, by the lines of this file of buffers.
     fn refusal(&self, path: &str, lines: &[BufferLine<'_>]) -> Result<Refusal, Memory> {
-        let alloc = self.line.rt.alloc();
-        let mut named = Vec::from_slice(alloc, lines)?;
-        named.retain(|line| line.name == self.parts().0);
-        let mut of_space = Vec::from_slice(alloc, &named)?;
-        of_space.retain(|line| self.is_of(line));
-        let why = self.why_unnamed(lines, &named, &of_space)?;
+        let (alloc, why) = (self.line.rt.alloc(), self.why_unnamed(lines)?);
         let (name, space) = (self.name, self.space.unwrap_or(""));
         let between = if space.is_empty() { "" } else { " " };
         let text = format!(in alloc;
@@ -89,39 +91,46 @@ impl Naming<'_, '_> {
         Ok(Refusal::Usage(text?))
     }
 
-    /// Why no word has the name, by all lines, those with its buffer, and those of them that are of the memory.
-    fn why_unnamed(
-        &self,
-        lines: &[BufferLine<'_>],
-        named: &[BufferLine<'_>],
-        of_space: &[BufferLine<'_>],
-    ) -> Result<String, AllocError> {
+    /// Why no word has the name, by the lines of a file of buffers.
+    fn why_unnamed(&self, lines: &[BufferLine<'_>]) -> Result<String, AllocError> {
         let alloc = self.line.rt.alloc();
-        let (buffer, index) = self.parts();
+        let (buffer, _) = self.parts();
         if lines.is_empty() {
             return String::from_str(alloc, "it names no buffer");
-        } else if named.is_empty() {
+        } else if !lines.iter().any(|line| line.name == buffer) {
             let names = list_of(alloc, lines, |line| String::from_str(alloc, line.name))?;
             return format!(in alloc; "its buffers are {names}");
-        } else if of_space.is_empty() {
-            let spaces = spaces_of(alloc, named)?;
-            return format!(in alloc; "{buffer} is in {spaces}");
         }
-        let found = element_at(lines, of_space, index);
+        let named = lines.iter().filter(|line| self.is_named(line));
+        let Some(words) = named.map(|line| line.words).max() else {
+            let spaces = spaces_of(alloc, lines, buffer)?;
+            return format!(in alloc; "{buffer} is in {spaces}");
+        };
+        let found = self.element_in(lines);
         let Some((word, Element { name, index })) = found else {
-            return size_of(alloc, buffer, of_space);
+            return size_of(alloc, buffer, words);
         };
         let (space, number) = spelling_of(alloc, word)?;
         Ok(format!(in alloc; "word {space} {number} is {name}[{index}]")?)
     }
 
+    /// The word at the place of the name in the first of its buffers that has the place, and the name of this word by all lines.
+    fn element_in<'b>(&self, lines: &[BufferLine<'b>]) -> Option<(Word, Element<'b>)> {
+        let (_, index) = self.parts();
+        let index = index?;
+        let mut named = lines.iter().filter(|line| self.is_named(line));
+        let word = match named.find(|line| index < line.words)?.first {
+            Word::Global(first) => Word::Global(first.checked_add(index)?),
+            Word::Local(group, first) => Word::Local(group, first.checked_add(index)?),
+        };
+        Some((word, element_of(lines, word)?))
+    }
+
     /// The note about the name of a word, if other memories have a buffer of the name, too.
     fn note(&self, lines: &[BufferLine<'_>], word: Word) -> Result<Option<String>, Memory> {
         let alloc = self.line.rt.alloc();
-        let (buffer, _) = self.parts();
-        let mut named = Vec::from_slice(alloc, lines)?;
-        named.retain(|line| line.name == buffer);
-        let (name, space, spaces) = (self.name, space_of(alloc, word)?, spaces_of(alloc, &named)?);
+        let (name, (buffer, _)) = (self.name, self.parts());
+        let (space, spaces) = (space_of(alloc, word)?, spaces_of(alloc, lines, buffer)?);
         if spaces == space {
             return Ok(None);
         }
@@ -222,29 +231,15 @@ where
     shown.join(alloc, ", ")
 }
 
-/// The memories of lines, each once.
-fn spaces_of(alloc: Global, lines: &[BufferLine<'_>]) -> Result<String, AllocError> {
-    list_of(alloc, lines, |line| space_of(alloc, line.first))
-}
-
-/// The first word at this place in a buffer of `named`, and its name by all lines.
-fn element_at<'a>(
-    lines: &[BufferLine<'a>],
-    named: &[BufferLine<'a>],
-    index: Option<u32>,
-) -> Option<(Word, Element<'a>)> {
-    let index = index?;
-    let line = named.iter().find(|line| index < line.words)?;
-    let word = match line.first {
-        Word::Global(first) => Word::Global(first.checked_add(index)?),
-        Word::Local(group, first) => Word::Local(group, first.checked_add(index)?),
-    };
-    Some((word, element_of(lines, word)?))
+/// The memories of the lines of a buffer, each once.
+fn spaces_of(alloc: Global, lines: &[BufferLine<'_>], buffer: &str) -> Result<String, AllocError> {
+    let mut named = Vec::from_slice(alloc, lines)?;
+    named.retain(|line| line.name == buffer);
+    list_of(alloc, &named, |line| space_of(alloc, line.first))
 }
 
 /// How many words a buffer has, and how they are named.
-fn size_of(alloc: Global, buffer: &str, named: &[BufferLine<'_>]) -> Result<String, AllocError> {
-    let words = named.iter().map(|line| line.words).max().unwrap_or(0);
+fn size_of(alloc: Global, buffer: &str, words: u32) -> Result<String, AllocError> {
     let last = words.saturating_sub(1);
     match words {
         0 => format!(in alloc; "{buffer} has no words"),
