@@ -3,6 +3,7 @@ pub mod Sets
 pub mod PairOrder
 pub mod AnswerLemmas
 pub mod KeptLemmas
+pub mod IndexLemmas
 pub mod SeenLemmas
 pub mod Lists
 pub mod ClashLemmas

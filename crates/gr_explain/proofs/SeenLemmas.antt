@@ -2,7 +2,6 @@
 use Rattle.std.proofs.Common.{Equal, Greater, Less, Ordering}
 use Rattle.gr_model.proofs.Common.{◌↔◌, ◌≡◌, ◌≢◌, ◌⊎◌, ℕ, IsTrue, List, [], ◌∷◌, ◌++◌, Option, Some, None, IsSome, MatchOption, ◌∙◌, sym, ap, inl, inr, ⊎_elim, arith, refl, true≢false, false, nat_tests, list_any-append, AllByRecursion}
 use Rattle.std.specs.BTreeMap.{insert_entry, is_at}
-use Rattle.std.specs.BTreeSet.{BTreeSet}
 use Rattle.std.specs.Map.{keys_of, lookup}
 use Rattle.std.proofs.lemmas.Map.Keys.{sorted_head, sorted_tail}
 use Rattle.std.specs.List.Sorted.{IsStrictlySortedBy}
@@ -18,7 +17,7 @@ use Rattle.gr_explain.proofs.PairOrder.{least_group}
 
 -- items, each with the indices of its events
 abbrev pub Items : Type 0
-Items = List (ItemId × BTreeSet ℕ)
+Items = List (ItemId × List ℕ)
 
 -- ---- items
 
@@ -26,7 +25,7 @@ item_ties : (i j : ItemId) → is_at ((item_order.cmp-value).it i) j ≡ same_it
 item_ties i j = grind (arith, nat_tests)
 
 -- what a look-up finds is among them
-found_among : (items : Items) (e : EventId) (indices : BTreeSet ℕ) → lookup (is_at ((item_order.cmp-value).it e.at)) items ≡ Some indices → IsTrue (has_index indices.keys e.index) → IsAmong items e
+found_among : (items : Items) (e : EventId) (indices : List ℕ) → lookup (is_at ((item_order.cmp-value).it e.at)) items ≡ Some indices → IsTrue (has_index indices e.index) → IsAmong items e
 found_among [] e indices found has = absurd (let none = found in cc)
 found_among (x ∷ items) e indices found has = grind (arith, found_among items e indices)
 
@@ -35,13 +34,13 @@ pub among_found : (items : Items) (e : EventId) → IsAmong items e → IsSome (
 among_found [] e among = absurd (true≢false (sym among))
 among_found (x ∷ items) e among = grind (arith, among_found items e)
 
-of_item : (x : ItemId × BTreeSet ℕ) (e : EventId) → IsTrue (is_of e x) → (e.at ≡ x.0) × IsTrue (has_index x.1.keys e.index)
+of_item : (x : ItemId × List ℕ) (e : EventId) → IsTrue (is_of e x) → (e.at ≡ x.0) × IsTrue (has_index x.1 e.index)
 of_item x e of = grind (arith, item_ties, same_items)
 
 -- an item's indices with one more
-module _ (i : ItemId) (n : ℕ) (indices : BTreeSet ℕ) (e : EventId) where
+module _ (i : ItemId) (n : ℕ) (indices : List ℕ) (e : EventId) where
   abbrev pub HasMore : Items → Type 0
-  HasMore items = (m : ℕ) → IsTrue (has_index indices.keys m) ↔ ((m ≡ n) ⊎ MatchOption (lookup (is_at ((item_order.cmp-value).it i)) items) ⊥ (λ was. IsTrue (has_index was.keys m)))
+  HasMore items = (m : ℕ) → IsTrue (has_index indices m) ↔ ((m ≡ n) ⊎ MatchOption (lookup (is_at ((item_order.cmp-value).it i)) items) ⊥ (λ was. IsTrue (has_index was m)))
 
   new_or_was : (items : Items) → HasMore items → IsTrue (is_of e (i, indices)) → (e ≡ record { at = i; index = n }) ⊎ IsAmong items e
   new_or_was items more of = grind (arith, of_item (i, indices) e of, more e.index, found_among items e)
@@ -49,7 +48,7 @@ module _ (i : ItemId) (n : ℕ) (indices : BTreeSet ℕ) (e : EventId) where
   new_is_of : (items : Items) → HasMore items → e ≡ record { at = i; index = n } → IsTrue (is_of e (i, indices))
   new_is_of items more is = grind (arith, item_ties, same_item_self, more n)
 
-  put_step : (order : Ordering) (x : ItemId × BTreeSet ℕ) (items : Items) → (item_order.cmp-value).it i x.0 ≡ order → HasMore (x ∷ items) → (HasMore items → IsAmong (insert_entry (item_order.cmp-value).it items i indices) e ↔ ((e ≡ record { at = i; index = n }) ⊎ IsAmong items e)) → IsAmong (insert_entry (item_order.cmp-value).it (x ∷ items) i indices) e ↔ ((e ≡ record { at = i; index = n }) ⊎ IsAmong (x ∷ items) e)
+  put_step : (order : Ordering) (x : ItemId × List ℕ) (items : Items) → (item_order.cmp-value).it i x.0 ≡ order → HasMore (x ∷ items) → (HasMore items → IsAmong (insert_entry (item_order.cmp-value).it items i indices) e ↔ ((e ≡ record { at = i; index = n }) ⊎ IsAmong items e)) → IsAmong (insert_entry (item_order.cmp-value).it (x ∷ items) i indices) e ↔ ((e ≡ record { at = i; index = n }) ⊎ IsAmong (x ∷ items) e)
   put_step Less x items is more rest = grind (arith, new_or_was (x ∷ items) more, new_is_of (x ∷ items) more)
   put_step Equal x items is more rest =
       let same : i ≡ x.0 = grind (arith, item_ties i x.0, same_items) in
@@ -57,7 +56,7 @@ module _ (i : ItemId) (n : ℕ) (indices : BTreeSet ℕ) (e : EventId) where
       grind (arith, same, was, new_or_was (x ∷ items) more, new_is_of (x ∷ items) more)
   put_step Greater x items is more rest = grind (arith, rest (λ m. grind (arith, more m)))
 
-pub put_among : (items : Items) (i : ItemId) (n : ℕ) (indices : BTreeSet ℕ) (e : EventId) → HasMore i n indices e items → IsAmong (insert_entry (item_order.cmp-value).it items i indices) e ↔ ((e ≡ record { at = i; index = n }) ⊎ IsAmong items e)
+pub put_among : (items : Items) (i : ItemId) (n : ℕ) (indices : List ℕ) (e : EventId) → HasMore i n indices e items → IsAmong (insert_entry (item_order.cmp-value).it items i indices) e ↔ ((e ≡ record { at = i; index = n }) ⊎ IsAmong items e)
 put_among [] i n indices e more = grind (arith, new_or_was i n indices e [] more, new_is_of i n indices e [] more)
 put_among (x ∷ items) i n indices e more = put_step i n indices e ((item_order.cmp-value).it i x.0) x items refl more (put_among items i n indices e)
 
@@ -91,16 +90,16 @@ above_all i [] e all among = absurd (true≢false (sym among))
 above_all i (x ∷ items) e all among = grind (arith, nat_tests, item_ties, same_items, above_all i items e all.1)
 
 -- an event of these is of one before an item, or of the item, or of one above it
-later_among : (before : Items) (x : ItemId × BTreeSet ℕ) (items : Items) (e : EventId) → IsStrictlySortedBy (item_order.cmp-value).it (keys_of (before ++ x ∷ items)) → IsAmong (before ++ x ∷ items) e → IsAmong before e ⊎ (IsTrue (is_of e x) ⊎ IsItemBelow x.0 e.at)
+later_among : (before : Items) (x : ItemId × List ℕ) (items : Items) (e : EventId) → IsStrictlySortedBy (item_order.cmp-value).it (keys_of (before ++ x ∷ items)) → IsAmong (before ++ x ∷ items) e → IsAmong before e ⊎ (IsTrue (is_of e x) ⊎ IsItemBelow x.0 e.at)
 later_among [] x items e sorted among = grind (arith, above_all x.0 items e (sorted_head (item_order.cmp-value).it x.0 (keys_of items) sorted))
 later_among (k ∷ before) x items e sorted among = grind (arith, later_among before x items e (sorted_tail (item_order.cmp-value).it k.0 (keys_of (before ++ x ∷ items)) sorted))
 
-among_last : (before : Items) (x : ItemId × BTreeSet ℕ) (e : EventId) → IsAmong (before ++ x ∷ []) e → IsAmong before e ⊎ IsTrue (is_of e x)
+among_last : (before : Items) (x : ItemId × List ℕ) (e : EventId) → IsAmong (before ++ x ∷ []) e → IsAmong before e ⊎ IsTrue (is_of e x)
 among_last before x e among = grind (arith, list_any-append)
 
 -- a list of items before one, none of whose events clashes
-module _ (seen : SeenList) (y : ClockedAccess) (before : Items) (x : ItemId × BTreeSet ℕ) (none_before : (e : EventId) → IsAmong before e → clashes_with e.at e.index seen.class y ≡ false) where
-  pub none_more : IsFirstOf seen.class x.0 x.1.keys y None → (e : EventId) → IsAmong (before ++ x ∷ []) e → clashes_with e.at e.index seen.class y ≡ false
+module _ (seen : SeenList) (y : ClockedAccess) (before : Items) (x : ItemId × List ℕ) (none_before : (e : EventId) → IsAmong before e → clashes_with e.at e.index seen.class y ≡ false) where
+  pub none_more : IsFirstOf seen.class x.0 x.1 y None → (e : EventId) → IsAmong (before ++ x ∷ []) e → clashes_with e.at e.index seen.class y ≡ false
   none_more none e among = ⊎_elim (none_before e) (λ of. let here = of_item x e of in rw here.0 (none e.index here.1)) (among_last before x e among)
 
   module _ (items : Items) (left : before ++ x ∷ items ≡ seen.items) (sorted : IsStrictlySortedBy (item_order.cmp-value).it (keys_of seen.items)) where
@@ -116,7 +115,7 @@ module _ (seen : SeenList) (y : ClockedAccess) (before : Items) (x : ItemId × B
     )
 
     -- where the item has a first event that clashes
-    module _ (d : EventId) (first : IsFirstOf seen.class x.0 x.1.keys y (Some d)) where
+    module _ (d : EventId) (first : IsFirstOf seen.class x.0 x.1 y (Some d)) where
       first_clashes : IsClashing seen y d
       first_clashes = record { among = rw (← left) (grind (arith, list_any-append, item_ties, same_item_self)); clash = grind arith }
 

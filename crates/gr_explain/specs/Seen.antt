@@ -2,7 +2,6 @@
 use Rattle.std.specs.Prelude.{◌≡◌, ◌<◌, ◌≤◌, ◌⊎◌, ◌&&◌, ℕ, Bool, false, IsTrue, List, [], MatchOption, Option, Some}
 use Rattle.std.specs.List.{list_any}
 use Rattle.std.specs.BTreeMap.{is_at}
-use Rattle.std.specs.BTreeSet.{BTreeSet}
 use Rattle.std.specs.Ordering.{nat_cmp}
 use Rattle.gr_explain.specs.Types.{EventId, ItemId, Class}
 use Rattle.gr_model.specs.contracts.event.ItemIdOrd.TheImpl as item_order
@@ -12,7 +11,7 @@ use Rattle.gr_shadow.specs.Clashes.{ClockedAccess, clashes_with, event_of}
 -- the events of accesses of one class: of each item the indices
 pub record SeenList : Type 0 where
   pub class : Class
-  pub items : List (ItemId × BTreeSet ℕ)
+  pub items : List (ItemId × List ℕ)
 
 abbrev pub nothing_seen : Class → SeenList
 nothing_seen class = record { class = class; items = [] }
@@ -22,11 +21,11 @@ abbrev pub has_index : List ℕ → ℕ → Bool
 has_index indices n = list_any (is_at (nat_cmp n)) indices
 
 -- whether an event is one of an item's
-abbrev pub is_of : EventId → ItemId × BTreeSet ℕ → Bool
-is_of e entry = is_at ((item_order.cmp-value).it e.at) entry.0 && has_index entry.1.keys e.index
+abbrev pub is_of : EventId → ItemId × List ℕ → Bool
+is_of e entry = is_at ((item_order.cmp-value).it e.at) entry.0 && has_index entry.1 e.index
 
 -- an event is one of these
-abbrev pub IsAmong : List (ItemId × BTreeSet ℕ) → EventId → Type 0
+abbrev pub IsAmong : List (ItemId × List ℕ) → EventId → Type 0
 IsAmong items e = IsTrue (list_any (is_of e) items)
 
 -- a later access clashes with that of an event

@@ -8,6 +8,7 @@
 mod accesses;
 mod alike;
 pub mod explain;
+mod indices;
 pub mod judging;
 pub mod records;
 mod search;

@@ -7,13 +7,14 @@ ghost use Rattle.gr_shadow.specs.Clashes as spec;
 ghost use Rattle.gr_explain.specs.LeastRaces.{IsLeastOf, PairBelow};
 ghost use Rattle.gr_explain.specs.Seen.{IsAmong, IsFirstOf, IsClashing, IsPairWith, IsPassed, nothing_seen};
 
+use crate::indices::Indices;
 use gr_clocks::access::Access;
 use gr_model::class::{Class, exempt};
 use gr_model::event::{EventId, ItemId};
 use gr_model::memory::Memory;
 use gr_model::race::{is_below, turned};
 use std::alloc::{Allocator, Global};
-use std::collections::{BTreeMap, BTreeSet};
+use std::collections::BTreeMap;
 use std::marker::Model;
 
 /// The accesses of one class to a word.
@@ -24,7 +25,7 @@ pub(crate) struct Seen<A: Allocator = Global> {
     alloc: A,
     class: Class,
     /// Of each item the indices of its events.
-    items: BTreeMap<ItemId, BTreeSet<u32, A>, A>,
+    items: BTreeMap<ItemId, Indices<A>, A>,
 }
 
 impl<A: Allocator> Model for Seen<A> {
@@ -74,19 +75,15 @@ fn is_passed(least: Option<(EventId, EventId)>, item: ItemId, event: EventId) ->
 fn first_of<A: Allocator>(
     class: Class,
     item: ItemId,
-    indices: &BTreeSet<u32, A>,
+    indices: &Indices<A>,
     access: &Access<A>,
 ) -> Option<EventId>
-    ensures { IsFirstOf class item indices.now.keys (clocked access.now) result }
+    ensures { IsFirstOf class item indices.now (clocked access.now) result }
 {
     if item == access.item || exempt(class, item.group, access.class, access.item.group) {
         return None;
     }
-    let counted = access.clock.get(item);
-    if indices.last().is_none_or(|last| *last < counted) {
-        return None;
-    }
-    let index = *indices.range(counted..).next()?;
+    let index = indices.first_from(access.clock.get(item))?;
     Some(EventId { at: item, index })
 }
 
@@ -117,9 +114,9 @@ impl<A: Allocator + Copy> Seen<A> {
         ensures same { OnOk result (self.new.class ≡ self.old.class) }
         ensures events { OnOk result ((e : AnyEvent) → IsAmong self.new.items e ↔ ((e ≡ spec.event_of (clocked access.now)) ⊎ IsAmong self.old.items e)) }
     {
-        let none = BTreeSet::new(self.alloc);
+        let none = Indices::new(self.alloc);
         let indices = self.items.entry(access.item)?.or_insert(none);
-        indices.insert(access.index)?;
+        indices.add(access.index)?;
         Ok(())
     }
 }

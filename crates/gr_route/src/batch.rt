@@ -111,15 +111,12 @@ impl<T: Drop, A: Allocator> Batch<T, A> {
         }
     }
 
-    /// The list that held the values, if there is one. The values are dropped.
+    /// The list that holds the values, if there is one. Who fills it again drops them.
     pub fn into_list(self) -> Option<Vec<T, A>> {
         let Batch { content, ended: _ } = self;
         match content {
             Content::One(_) => None,
-            Content::Several(mut values) => {
-                values.clear();
-                Some(values)
-            }
+            Content::Several(values) => Some(values),
         }
     }
 

@@ -138,7 +138,7 @@ fn shade_batch<A: Allocator + Copy, W: Watch>(
     Some(shadows)
 }
 
-/// Gives the list of a batch back, to be filled again. Its accesses are dropped.
+/// Gives the list of a batch back, to be filled again. Its accesses are dropped there: then one thread alone counts who shares a clock.
 fn give_back<R: Wait, A: Allocator>(
     rt: &R,
     queue: &Arc<WorkQueue<A>, A>,
