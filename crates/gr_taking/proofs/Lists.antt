@@ -1,8 +1,9 @@
 -- The lists of a launch, of which all records are to come, and then none is.
-use Rattle.gr_model.proofs.Common.{[], ◌≡◌, ◌<◌, ◌∷◌, ℕ, List, length, get_or, map, map-id, refl, sym, ap, ◌∙◌, append-nil, arith, All, ext_get_or, get_or-map, length-map}
+use Rattle.gr_model.proofs.Common.{[], ◌≡◌, ◌<◌, ◌∷◌, ℕ, List, length, get_or, map, map-id, refl, sym, ap, ◌∙◌, append-nil, arith, All, ext_get_or, get_or-map, length-map, get_or_past, cases_lt, inl, ⊎_elim, ◌++◌, ◌≤◌}
 use Rattle.std.proofs.Math.ListN.{get_or-map as map_at}
 use Rattle.gr_model.specs.declared.event.Event.{Event}
-use Rattle.gr_model.specs.Prelude.{Streams, AreAccepted, list_of}
+use Rattle.gr_model.specs.Prelude.{AreAccepted, Grows, IsPrefix, Streams, list_of, size_of}
+use Rattle.gr_model.proofs.StreamPrefixes.{prefix_whole}
 use Rattle.gr_lanes.specs.Takes.{nothing_taken}
 use Rattle.gr_taking.specs.Sources.{AreListsOf, ListedRecords, MayCome, come_from, come_of}
 use Rattle.gr_taking.specs.Taken.{read_by}
@@ -49,6 +50,27 @@ module _ (s : Streams) (accepted : AreAccepted s) (xs : List ListedRecords) (are
       grind (arith, get_or-map, empty g none, append-nil) in
       let lists : t.lists ≡ s.lists = ext_get_or [] t.lists s.lists (count ∙ (ap length sizes ∙ sym accepted.count)) (λ g lt. at g (omega (arith, lt, count, ap length sizes, are.count))) in
       λ k. record { sizes = sizes k; lists = lists k }
+
+  -- and before, what was taken grows to it
+  pub some_came : (t : Streams) (ys : List ListedRecords) → t.sizes ≡ s.sizes → length t.lists ≡ length t.sizes → come t ys ≡ come (nothing_taken s.sizes) xs → Grows t s
+  some_came t ys sizes count same =
+      let all = length-map xs (come_of own itself records (nothing_taken s.sizes)) in
+      let as_many = length-map ys (come_of own itself records t) in
+      let at : (g : ℕ) → g < length xs → list_of s g ≡ list_of t g ++ (get_or ys g none).records = λ g lt.
+      let is : get_or (come t ys) g (come_of own itself records t none) ≡ (g, list_of s g) = rw same (first_at g _ lt) in
+      grind (arith, get_or-map) in
+      let prefix : (g : ℕ) → g < length xs → IsPrefix (size_of s g) (list_of t g ++ (get_or ys g none).records) = λ g lt.
+      let list = accepted.each g (omega (arith, lt, are.count)) in
+      rw (← at g lt) (record { few = list.few; good = list.good }) in
+      let past : (g : ℕ) → length xs ≤ g → list_of s g ≡ list_of t g = λ g le. grind (arith, get_or_past, are.count, accepted.count) in
+      record {
+        sizes = λ g. inl (ap (λ l. get_or l g 0) sizes);
+        lists = λ g. ⊎_elim (λ lt. ((get_or ys g none).records, at g lt)) (λ le. ([], past g le ∙ sym (append-nil (list_of t g)))) (cases_lt g (length xs));
+        whole = λ g whole. ⊎_elim
+            (λ lt. at g lt ∙ (ap (λ l. list_of t g ++ l) (prefix_whole (size_of s g) (list_of t g) (get_or ys g none).records (prefix g lt) whole) ∙ append-nil (list_of t g)))
+            (λ le. past g le)
+            (cases_lt g (length xs));
+      }
 
 -- ---- how records are read
 

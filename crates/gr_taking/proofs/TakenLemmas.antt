@@ -1,13 +1,14 @@
 -- What a sequencer has taken, and what stands for the accesses that it answers.
 use Rattle.gr_model.proofs.Common.{[], ◌≡◌, ℕ, zero, suc, List, ◌∷◌, map, get_or, refl}
 use Rattle.gr_model.specs.declared.event.Event.{Event}
-use Rattle.gr_model.specs.Prelude.{Streams}
+use Rattle.gr_model.specs.Prelude.{Grows, Streams}
 use Rattle.gr_lanes.specs.Takes.{CanTake, with_record}
 use Rattle.gr_lanes.proofs.Growth.{record_grows}
 use Rattle.gr_order.specs.Sequences.{IsDone, IsSequence, Sequence, taking}
+use Rattle.gr_steps.proofs.StepGrowth.{lawful_grows}
 use Rattle.gr_closure.proofs.Growing.{accesses_stay}
 use Rattle.gr_clocks.specs.ClockedAccess.{ClockedAccess}
-use Rattle.gr_taking.specs.Along.{IsAlong, IsAlongWhole}
+use Rattle.gr_taking.specs.Along.{IsAlong, IsAlongSome, IsAlongWhole}
 
 -- the accesses along the order stay so where a record is taken
 pub along_stays : {X : Type 0} (stands : List ClockedAccess → X → Type 0) (q new : Sequence) (g : ℕ) (x : Event) (v : X) → IsSequence q → CanTake q.taken g x → new ≡ taking q g x → IsAlong stands q v → IsAlong stands new v
@@ -35,3 +36,13 @@ whole_at_end stands s q v taken done sequence along = rw (← taken) (record {
   are = along.1;
   stands = along.2;
 })
+
+-- and before, a lawful order of some of them, where what was taken grows
+pub some_along : {X : Type 0} (stands : List ClockedAccess → X → Type 0) (s : Streams) (q : Sequence) (v : X) → Grows q.taken s → IsSequence q → IsAlong stands q v → IsAlongSome stands s v
+some_along stands s q v grows sequence along = record {
+  order = q.handled;
+  lawful = lawful_grows q.taken s grows q.handled sequence.lawful;
+  accesses = along.0;
+  are = accesses_stay q.taken s grows q.handled along.0 sequence.lawful along.1;
+  stands = along.2;
+}

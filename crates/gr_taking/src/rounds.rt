@@ -1,7 +1,8 @@
 //! What is to come of several streams, taken by a sequencer. The groups take turns, so that few records wait for those of other
 //! groups.
 
-ghost use Rattle.std.specs.Prelude.{◌≡◌, ◌<◌, [], All, IfOk, IsFalse, IsTrue, OnOk, length};
+ghost use Rattle.std.specs.Prelude.{◌≡◌, ◌<◌, [], All, IfOk, IsFalse, IsTrue, OnOk, length, true};
+ghost use Rattle.std.specs.Fn.{FnReturnsAt};
 ghost use Rattle.std.specs.List.{sum_by};
 ghost use Rattle.gr_order.specs.Sequences.{IsDone, IsSequence};
 ghost use Rattle.gr_taking.specs.Along.{IsAlong};
@@ -79,6 +80,39 @@ pub fn take_round<A: Allocator + Copy, K: Keeper<A>, S: Source>(
     Ok(took)
 }
 
+/// Has a sequencer take what is to come of streams, round by round, and handle what can be, until what is kept is enough or nothing more
+/// is to come. Tells whether all was taken, and handled as it can be.
+///
+/// # Errors
+/// `Memory`: out of memory.
+pub fn take_until<A: Allocator + Copy, K: Keeper<A>, S: Source, F: Fn(&K::Kept) -> bool>(
+    sequencer: &mut Sequencer<A>,
+    keeper: &K,
+    kept: &mut K::Kept,
+    sources: &mut [S],
+    is_enough: F,
+) -> Result<bool, Memory>
+    requires may { MayCome S.group_of sequencer.old.taken.sizes (come_from S.header S.group_of S.coming sequencer.old.taken sources.old) }
+    requires sequence { IsSequence sequencer.old }
+    requires along { IsAlong (K.stands keeper.now) sequencer.old kept.old }
+    requires callable { F.IsAlwaysCallable is_enough }
+    ensures come { OnOk result (come_from S.header S.group_of S.coming sequencer.new.taken sources.new ≡ come_from S.header S.group_of S.coming sequencer.old.taken sources.old) }
+    ensures sizes { OnOk result (sequencer.new.taken.sizes ≡ sequencer.old.taken.sizes) }
+    ensures none { IfOk result (λ all. IsTrue all → All (λ s. S.coming s ≡ []) sources.new) }
+    ensures done { IfOk result (λ all. IsTrue all → IsDone sequencer.new) }
+    ensures enough { IfOk result (λ all. IsFalse all → FnReturnsAt F.Fn is_enough kept.new true) }
+    ensures sequence { OnOk result (IsSequence sequencer.new) }
+    ensures along { OnOk result (IsAlong (K.stands keeper.now) sequencer.new kept.new) }
+{
+    while !is_enough(kept) {
+        if !take_round(sequencer, keeper, kept, sources)? {
+            handle_ready(sequencer, keeper, kept)?;
+            return Ok(true);
+        }
+    }
+    Ok(false)
+}
+
 /// Has a sequencer take all that is to come of streams, and handles all that can be.
 ///
 /// # Errors
@@ -99,6 +133,6 @@ pub fn take_all<A: Allocator + Copy, K: Keeper<A>, S: Source>(
     ensures sequence { OnOk result (IsSequence sequencer.new) }
     ensures along { OnOk result (IsAlong (K.stands keeper.now) sequencer.new kept.new) }
 {
-    while take_round(sequencer, keeper, kept, sources)? {}
-    handle_ready(sequencer, keeper, kept)
+    take_until(sequencer, keeper, kept, sources, |_| false)?;
+    Ok(())
 }
