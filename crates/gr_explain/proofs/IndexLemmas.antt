@@ -26,7 +26,10 @@ first_at indices least place None point up past = λ n has.
     let at = at_place indices n has in
     grind (arith, nat_tests, at.1, at.2, past, point.0 at.0 n)
 first_at indices least place (Some i) point up is =
-    let from : least ≤ i.now = grind (arith, nat_tests, is.0, is.1 i.now, point.1 place i.now) in
-    (has_at indices place i.now is.0 (sym (is.1 i.now)), from, λ n has least_n.
-        let at = at_place indices n has in
-        grind (arith, nat_tests, at.1, at.2, point.0 at.0 n, up place at.0 n, is.1 n))
+    let from : least ≤ i.now = grind (arith, nat_tests, is.0, is.1 i.now, point.1 place i.now) in (
+      has_at indices place i.now is.0 (sym (is.1 i.now)),
+      from,
+      λ n has least_n.
+          let at = at_place indices n has in
+          grind (arith, nat_tests, at.1, at.2, point.0 at.0 n, up place at.0 n, is.1 n),
+    )

@@ -1,7 +1,7 @@
 -- What is kept of the wanted events, where one more access comes, and along all grounded events.
-use Rattle.gr_model.proofs.Common.{◌≡◌, ◌≢◌, ◌⊎◌, true, false, cond, Contains, List, [], ◌∷◌, ◌++◌, Option, Some, None, slice_get, sym, ap, ◌∙◌, subst, arith, inl, inr, ⊎_elim, zero, suc, ℕ, cases_Bool, Contains-append_left, Contains-push, Contains-push_cases}
+use Rattle.gr_model.proofs.Common.{◌≡◌, ◌≢◌, ◌⊎◌, true, false, cond, Contains, List, [], ◌∷◌, ◌++◌, IsSome, Option, Some, None, slice_get, sym, ap, ◌∙◌, subst, arith, inl, inr, ⊎_elim, zero, suc, ℕ, cases_Bool, Contains-append_left, Contains-push, Contains-push_cases}
 use Rattle.gr_explain.specs.Types.{EventId, Race, Access}
-use Rattle.gr_model.specs.Prelude.{IsIn, IsWholeOrder, Streams, word_at}
+use Rattle.gr_model.specs.Prelude.{IsIn, IsLawful, IsWholeOrder, Streams, word_at}
 use Rattle.gr_model.proofs.Cuts.{same_event as from_parts}
 use Rattle.gr_model.proofs.Descent.{lawful_is_grounded}
 use Rattle.gr_clocks.specs.ClockedAccess.{ClockedAccess, bare, clocked}
@@ -9,7 +9,7 @@ use Rattle.gr_closure.specs.Accesses.{IsAccess}
 use Rattle.gr_closure.specs.AccessesAlong.{AreAccesses, of_none, of_access, of_other}
 use Rattle.gr_shadow.proofs.KeepsLemmas.{Contains-first, Contains-rest}
 use Rattle.gr_shadow.specs.Clashes.{event_of}
-use Rattle.gr_explain.specs.Accesses.{AreBothKept, AreThoseOf, AreWanted, IsKept, IsThatOf, access_at}
+use Rattle.gr_explain.specs.Accesses.{AreBothKept, AreBothThere, AreThoseOf, AreWanted, IsKept, IsThatOf, access_at}
 use Rattle.gr_explain.specs.Events.{Has, same_event}
 use Rattle.gr_explain.proofs.Lists.{first_or_rest}
 use Rattle.gr_explain.proofs.Sets.{event_from_equal, event_itself}
@@ -58,18 +58,33 @@ module _ (s : Streams) where
   access_there _ _ zero d (of_other {e = e} {order = order} {accesses = accesses} none rest) at = let same : e ≡ d = cc in inl (rw (← same) none)
   access_there _ _ (suc p) d (of_other {e = e} {order = order} {accesses = accesses} none rest) at = access_there order accesses p d rest at
 
+-- along a lawful order, an access that is kept is that of its event, which is grounded
+module _ {Z : Type 0} (s : Streams) (wanted : List EventId) (kept : List (EventId × Access Z)) (order : List EventId) (lawful : IsLawful s order) (accesses : List ClockedAccess) (are : AreAccesses s order accesses) where
+  kept_of_some : (d : EventId) (a : Access Z) → IsThatOf accesses d (Some a) → IsKept s d (Some a)
+  kept_of_some d a that =
+      let h = event_there s order accesses (clocked a) are that.0 in
+      let of : IsAccess s d (bare (clocked a)) = subst (λ (e : EventId). IsAccess s e (bare (clocked a))) that.1 h.1 in (
+        lawful_is_grounded s order d lawful (subst (IsIn order) that.1 h.0),
+        record { word = of.word; item = of.item; index = of.index; event = of.event; at_event = of.at_event; class = of.class; counts = of.counts },
+      )
+
+  kept_of_one : (d : EventId) (o : Option (Access Z)) → IsSome o → IsThatOf accesses d o → IsKept s d o
+  kept_of_one d None there that = absurd cc
+  kept_of_one d (Some a) there that = kept_of_some d a that
+
+  pub there_kept : AreThoseOf wanted accesses kept → (r : Race) → AreWanted wanted r → AreBothThere kept r → AreBothKept s kept r
+  there_kept those r both there = record {
+    first = kept_of_one r.first (access_at kept r.first) there.first (those r.first both.first);
+    second = kept_of_one r.second (access_at kept r.second) there.second (those r.second both.second);
+  }
+
 -- along all grounded events, what is kept of a wanted event is its access, and so of both events of a pair
 module _ {Z : Type 0} (s : Streams) (wanted : List EventId) (kept : List (EventId × Access Z)) (order : List EventId) (whole : IsWholeOrder s order) (accesses : List ClockedAccess) (are : AreAccesses s order accesses) where
   kept_of : (d : EventId) (o : Option (Access Z)) → IsThatOf accesses d o → IsKept s d o
   kept_of d None none = λ grounded.
       let there = whole.whole d grounded in
       ⊎_elim (λ no_word. no_word) (λ h. absurd (none h.0 h.1 h.2)) (access_there s order accesses there.0 d are there.1)
-  kept_of d (Some a) that =
-      let h = event_there s order accesses (clocked a) are that.0 in
-      let of : IsAccess s d (bare (clocked a)) = subst (λ (e : EventId). IsAccess s e (bare (clocked a))) that.1 h.1 in (
-        lawful_is_grounded s order d whole.lawful (subst (IsIn order) that.1 h.0),
-        record { word = of.word; item = of.item; index = of.index; event = of.event; at_event = of.at_event; class = of.class; counts = of.counts },
-      )
+  kept_of d (Some a) that = kept_of_some s wanted kept order whole.lawful accesses are d a that
 
   pub both_kept : AreThoseOf wanted accesses kept → (r : Race) → AreWanted wanted r → AreBothKept s kept r
   both_kept those r both = record { first = kept_of r.first (access_at kept r.first) (those r.first both.first); second = kept_of r.second (access_at kept r.second) (those r.second both.second) }

@@ -1,6 +1,6 @@
 -- The accesses of some events, kept as the events are handled.
 -- Source: docs/MODEL.md, "Steps" and "Clocks".
-use Rattle.std.specs.Prelude.{◌≡◌, ◌≢◌, Contains, List, Option, None, Some}
+use Rattle.std.specs.Prelude.{◌≡◌, ◌≢◌, Contains, IsSome, List, Option, None, Some}
 use Rattle.std.specs.Map.{lookup}
 use Rattle.gr_explain.specs.Types.{EventId, Race, Access}
 use Rattle.gr_model.specs.Prelude.{Streams, word_at, IsGrounded}
@@ -26,6 +26,11 @@ IsThatOf accesses e (Some a) = Contains accesses (clocked a) × (event_of (clock
 -- this is so of each wanted event
 abbrev pub AreThoseOf : {Z : Type 0} → List EventId → List ClockedAccess → List (EventId × Access Z) → Type 0
 AreThoseOf wanted accesses kept = (e : EventId) → Has wanted e → IsThatOf accesses e (access_at kept e)
+
+-- an access is kept of both events of a pair
+pub record AreBothThere {Z : Type 0} (kept : List (EventId × Access Z)) (r : Race) : Type 0 where
+  pub first : IsSome (access_at kept r.first)
+  pub second : IsSome (access_at kept r.second)
 
 -- what is kept of an event is its access, and the event is grounded; where nothing is kept, it is not grounded, or is no access
 abbrev pub IsKept : {Z : Type 0} → Streams → EventId → Option (Access Z) → Type 0

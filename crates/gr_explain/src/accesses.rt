@@ -1,10 +1,10 @@
 //! The accesses of some events of a launch, kept as they are handled.
 
-ghost use Rattle.std.specs.Prelude.{All, IfOk, OnOk};
+ghost use Rattle.std.specs.Prelude.{All, IfOk, IsTrue, OnOk};
 ghost use Rattle.gr_model.specs.declared.race.Race.{Race as AnyRace};
 ghost use Rattle.gr_model.specs.Prelude.{AreAccepted};
 ghost use Rattle.gr_taking.specs.Taken.{read_by};
-ghost use Rattle.gr_explain.specs.Accesses.{AreBothKept, AreThoseOf, AreWanted};
+ghost use Rattle.gr_explain.specs.Accesses.{AreBothKept, AreBothThere, AreThoseOf, AreWanted};
 
 use crate::seen::event_of;
 use gr_clocks::access::Access;
@@ -14,7 +14,7 @@ use gr_model::race::Race;
 use gr_model::traces::Traces;
 use gr_taking::keeper::Keeper;
 use gr_taking::source::Reading;
-use gr_taking::traces::follow_read;
+use gr_taking::traces::follow_until;
 use indexmap::{IndexMap, IndexSet};
 use std::alloc::Allocator;
 use std::hash::{BuildHasherDefault, FoldHasher};
@@ -71,7 +71,22 @@ impl<A: Allocator + Copy> Keeper<A> for WantedKeeper<'_, A> {
     fn close(&self, kept: &mut Accesses<A>, group: u16) {}
 }
 
-/// The accesses of those events of these pairs that are grounded, in a launch whose records are read so.
+/// Whether the accesses of both events of a pair are kept.
+fn are_both_there<A: Allocator>(kept: &Accesses<A>, race: &Race) -> bool
+    ensures { IsTrue result → AreBothThere kept.now.entries race.now }
+{
+    kept.contains_key(&race.first) && kept.contains_key(&race.second)
+}
+
+/// Whether the accesses of these many events are kept, and so those of both events of each pair.
+fn are_all_there<A: Allocator>(kept: &Accesses<A>, count: usize, races: &[Race]) -> bool
+    ensures { IsTrue result → All (AreBothThere kept.now.entries) races.now }
+{
+    kept.len() >= count && races.iter().all(|race| are_both_there(kept, race))
+}
+
+/// The accesses of those events of these pairs that are grounded, in a launch whose records are read so. It handles no more of the launch
+/// once it has the accesses of all events.
 pub(crate) fn accesses_of_pairs<A: Allocator + Copy, R: Reading>(
     alloc: A,
     traces: &Traces<A>,
@@ -83,12 +98,13 @@ pub(crate) fn accesses_of_pairs<A: Allocator + Copy, R: Reading>(
 {
     let wanted = events_of(alloc, races)?;
     let mut accesses = IndexMap::new(alloc);
-    follow_read(
+    follow_until(
         alloc,
         traces,
         reading,
         &WantedKeeper { wanted: &wanted },
         &mut accesses,
+        |accesses| are_all_there(accesses, wanted.len(), races),
     )?;
     Ok(accesses)
 }

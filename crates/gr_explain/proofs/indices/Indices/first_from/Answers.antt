@@ -9,5 +9,5 @@ returns g c =
     let indices = c.as_slice-indices.result.now in
     let same : indices ≡ c.args.self.now = search rules in
     let point = IsPartitionPoint-from_clause (λ n. ltb n c.args.least) indices c.partition_point-place.result c.partition_point-place.ensures.partitioned
-        (IsPartitionedBy-ltb (λ n. n) indices c.args.least (rw same (rw (← c.self.view_is) c.self.invariant))) (λ a r q k. search rules) in
+    (IsPartitionedBy-ltb (λ n. n) indices c.args.least (rw same (rw (← c.self.view_is) c.self.invariant))) (λ a r q k. search rules) in
     rw (c.copied.ensures, ← same) (first_at indices c.args.least c.partition_point-place.result c.get.result point (rw same (rw (← c.self.view_is) c.self.invariant)) c.get.ensures.lookup.3)
