@@ -93,9 +93,10 @@ pub fn history_json(alloc: Global, sides: &Sides<'_>, word: Word, history: &Hist
     let places = PlaceIndex::of(alloc, sides.places)?;
     let mut above = Above::new(alloc);
     let mut text = Vec::new(alloc);
+    let mut place = 0;
     for entry in &history.entries {
-        if let Some(details) = history.known.get(&entry.event) {
-            push_access(&mut text, &places, &mut above, entry, details)?;
+        if let Some(details) = history.details_at(&mut place, entry.event) {
+            push_access(&mut text, &places, &mut above, entry, &details)?;
         }
     }
     let end = EndLine {

@@ -138,8 +138,9 @@ fn put_accesses<A: Allocator + Copy>(
 ) -> Result<(), Memory> {
     let mut above = Above::new(alloc);
     let mut last: Option<Row<'_, A>> = None;
+    let mut place = 0;
     for entry in &history.entries {
-        let details = history.known.get(&entry.event).copied();
+        let details = history.details_at(&mut place, entry.event);
         let next = row_of(alloc, places, &mut above, entry, details)?;
         match &mut last {
             Some(row) if row.takes(&next) => {

@@ -7,9 +7,10 @@ ghost use Rattle.gr_timeline.specs.Racy.{IsRacyIn};
 ghost use Rattle.gr_timeline.specs.Histories.{IsHistory, lines_of};
 
 use crate::accesses::{Accesses, accesses_of};
+use crate::details::Details;
 use crate::entry::Entry;
 use crate::history::history_of;
-use gr_model::event::Word;
+use gr_model::event::{EventId, Word};
 use gr_model::memory::Memory;
 use gr_model::traces::Traces;
 use std::alloc::{Allocator, Global};
@@ -25,6 +26,19 @@ pub struct HistoryAnswer<A: Allocator = Global> {
     pub held: usize,
     /// Whether it is racy.
     pub racy: bool,
+}
+
+impl<A: Allocator> HistoryAnswer<A> {
+    /// The details of an access. They are looked for at a place first, which is then the one after them: as a group's accesses come in the
+    /// history, their details mostly come too.
+    pub fn details_at(&self, next: &mut usize, event: EventId) -> Option<Details> {
+        let found = match self.known.get_index(*next) {
+            Some((at, _)) if *at == event => *next,
+            _ => self.known.get_index_of(&event)?,
+        };
+        *next = found.saturating_add(1);
+        self.known.get_index(found).map(|(_, details)| *details)
+    }
 }
 
 /// All accesses to a word of a launch, its history, how many accesses are held, and whether the word is racy.
