@@ -5,7 +5,8 @@ fuzz_pairs.py [--launches N] [--seed S] [--program FILE]
 
 The launches are those of the examples and random ones, in which each event has a place of a few, or none. Of each racy word the pairs of
 an operation and a place that race have to be those of the kinds that `races` writes, each pair once, with two events that race, of two
-groups if there are such. A launch of which other pairs are shown is left in a file `different` of the working folder.
+groups if there are such; and the cause of each race has to be the first that applies (docs/OUTPUT.md, "explain --long"). A launch of which
+other pairs or causes are shown is left in a file `different` of the working folder.
 """
 import argparse
 import json
@@ -18,7 +19,9 @@ from collections import defaultdict
 
 sys.dont_write_bytecode = True
 
-from launch_model import as_text, events_of, grounded_of, launch_of, races_of, random_launch, relate  # noqa: E402
+from launch_model import (  # noqa: E402
+    ATOMIC, Event, as_text, divergence, events_of, grounded_of, instances, launch_of, races_of, random_launch, relate,
+)
 
 TOP = pathlib.Path(__file__).resolve().parent.parent
 OPERATIONS = {"r": "read", "w": "write", "ld": "load", "st": "store", "rmw": "rmw"}
@@ -68,6 +71,53 @@ def wrong(lines, races, places):
     return None if lines[-1]["races"] == len(races) else "the number of racy words"
 
 
+def name_of(event):
+    return (*event.at, event.index)
+
+
+def relaxed(traces, rule):
+    """The traces where the flags of each barrier name both memories, or each atomic has device scope."""
+    changed = defaultdict(list)
+    for events in traces.values():
+        for event in events:
+            memory = "gl" if rule == "flags" and event.kind == "bar" else event.memory
+            scope = "dev" if rule == "scope" and event.kind in ATOMIC else event.scope
+            changed[event.at].append(Event(event.at, event.index, event.kind, memory, event.word, scope, event.order, event.names))
+    return changed
+
+
+def judged(sizes, traces):
+    """The events that are grounded, and the pairs of them that race."""
+    pairs, _ = relate(sizes, traces)
+    grounded = grounded_of(events_of(traces))
+    races = {frozenset(map(name_of, pair)) for found in races_of(grounded, pairs).values() for pair in found}
+    return set(map(name_of, grounded)), races
+
+
+def are_parted(sizes, traces, pair):
+    """Whether one of two events of a group comes after its item's barrier of a divergent instance, and the other does not."""
+    group = pair[0][0]
+    for (at, _), barriers in instances(sizes, traces).items():
+        if at == group and divergence(sizes[group], barriers):
+            after = [item in barriers and barriers[item].index < index for _, item, index in pair]
+            if after[0] != after[1]:
+                return True
+    return False
+
+
+def wrong_cause(lines, sizes, traces):
+    """A race of another cause than is said, or None."""
+    relaxing = [(rule, *judged(sizes, relaxed(traces, rule))) for rule in ("flags", "scope")]
+    for kind in (line for line in lines if line["type"] == "kind"):
+        pair = access_in(kind, "first")[1], access_in(kind, "second")[1]
+        mended = [rule for rule, grounded, races in relaxing if grounded.issuperset(pair) and frozenset(pair) not in races]
+        alone = "divergent" if pair[0][0] == pair[1][0] and are_parted(sizes, traces, pair) else "no-barrier"
+        cause = mended[0] if mended else "no-hand-over" if pair[0][0] != pair[1][0] else alone
+        if kind["race"]["cause"]["name"] != cause:
+            return f"the cause of {pair} is {cause}: {kind}"
+    return None
+
+
 def judge(program, name, text, sizes, traces, places):
     """Stops if the kinds that `races` writes of a launch are wrong."""
     with tempfile.TemporaryDirectory() as folder:
@@ -75,12 +125,13 @@ def judge(program, name, text, sizes, traces, places):
         packed.write_bytes(subprocess.run([program, "pack"], input=text.encode(), capture_output=True, check=True).stdout)
         lines = "".join(f"{' '.join(str(part) for part in event)} {place}\n" for event, place in places.items())
         pathlib.Path(folder, "side").write_text(lines)
-        words = [program, "races", "--json", "--places", f"{folder}/side", str(packed)]
+        words = [program, "races", "--causes", "--json", "--places", f"{folder}/side", str(packed)]
         run = subprocess.run(words, capture_output=True, check=False)
     said = run.stdout.decode()
     pairs, _ = relate(sizes, traces)
     races = races_of(grounded_of(events_of(traces)), pairs)
-    why = wrong([json.loads(line) for line in said.splitlines()], races, places) if run.returncode < 2 else run.stderr.decode()
+    told = [json.loads(line) for line in said.splitlines()]
+    why = wrong(told, races, places) or wrong_cause(told, sizes, traces) if run.returncode < 2 else run.stderr.decode()
     if why:
         pathlib.Path("different").write_text(f"{name}: {why}\n\nplaces:\n{lines}\nsaid:\n{said}\n{text}", encoding="utf-8")
         sys.exit(f"{name}: {why} (see the file `different`)")
@@ -102,7 +153,7 @@ def main():
         text = as_text(choose, sizes, traces)
         places = {(*event.at, event.index): f"kernel.cl:{choose.randrange(4)}" for event in events_of(traces) if choose.random() < 0.8}
         judge(arguments.program, f"seed {seed}", text, sizes, traces, places)
-    print(f"{len(examples)} examples and {arguments.launches} launches: each pair that races is shown, and no other")
+    print(f"{len(examples)} examples and {arguments.launches} launches: each pair that races is shown, with its cause, and no other")
 
 
 if __name__ == "__main__":
