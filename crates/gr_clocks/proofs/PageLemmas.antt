@@ -8,12 +8,16 @@ use Rattle.gr_clocks.specs.Pages.{IsPageWithin, in_page, page_at, page_of, row_o
 use Rattle.gr_clocks.proofs.RowLemmas.{one_item}
 
 -- what is counted of an item is what its page counts
-row_whole : (pages : List Counts) (g : ℕ) → get_or (whole pages) g [] ≡ row_of pages g
+pub row_whole : (pages : List Counts) (g : ℕ) → get_or (whole pages) g [] ≡ row_of pages g
 row_whole pages g =
     grind (arith, get_or-map-range_with_len (row_of pages) 0 (256 * length pages) g g [], length-map-range_with_len (row_of pages) 0 (256 * length pages), get_or_past)
 
 pub count_whole : (pages : List Counts) (j : ItemId) → count_of (whole pages) j ≡ count_of (page_of pages j.group) (in_page j)
 count_whole pages j = ap (λ (row : List ℕ). slice_index row j.item) (row_whole pages j.group)
+
+-- nor has a group after the last page a row
+pub row_past : (pages : List Counts) (g : ℕ) → length pages ≤ g / 256 → get_or (whole pages) g [] ≡ []
+row_past pages g past = grind (arith, row_whole, get_or_past)
 
 -- a group by its page and its place there
 apart_in_page : (i j : ItemId) → i ≢ j → i.group / 256 ≡ j.group / 256 → in_page i ≢ in_page j

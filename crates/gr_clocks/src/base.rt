@@ -1,12 +1,13 @@
 //! The counts of all items, which clocks share. An item of which nothing is counted may have no count here.
 
-ghost use Rattle.std.specs.Prelude.{IsTrue, ◌≡◌, ◌+◌, ◌/◌, ◌<◌, ◌≤◌, All, IfOk, OnOk, IsOkUnless, length, max};
+ghost use Rattle.std.specs.Prelude.{IsTrue, ◌≡◌, ◌+◌, ◌/◌, ◌<◌, ◌≤◌, All, IfOk, OnOk, IsOkUnless, [], length, max, slice_index_or};
 ghost use Rattle.gr_clocks.specs.declared.clock.ClockError.TheVariants.{Memory as OutOfMemory};
 ghost use Rattle.gr_model.specs.declared.event.ItemId.{ItemId as AnyItem};
 ghost use Rattle.gr_clocks.specs.Counts.{count_of, CountSame, IsJoin};
 ghost use Rattle.gr_clocks.specs.Owned.{IsRaisedBy, IsRaisedTo};
 ghost use Rattle.gr_clocks.specs.Pages.{page_at, in_page, whole};
 
+use crate::block::count_at;
 use crate::clock::{ClockError, LARGEST_COUNT};
 use crate::page::Page;
 use crate::pages::{Pages, in_page};
@@ -82,18 +83,26 @@ impl<A: Allocator> Base<A> {
         }
     }
 
+    /// The counts of a group's items, as far as there are some.
+    #[tactic(auto, using(crate::proofs::PageLemmas::row_whole, crate::proofs::PageLemmas::row_past))]
+    pub(crate) fn row(&self, group: u16) -> &[u32]
+        ensures counts { result.now ≡ slice_index_or self.now group [] }
+        ensures limit { All (λ n. n ≤ LARGEST_COUNT) result.now }
+    {
+        let place = usize::from(group / 256);
+        if place < self.pages.len() {
+            self.pages.at(place).row(group % 256)
+        } else {
+            &[]
+        }
+    }
+
     /// How many events of the item are counted; 0 where there is no such item.
-    #[tactic(auto, using(crate::proofs::PageLemmas::count_whole, crate::proofs::PageLemmas::count_past))]
     pub(crate) fn get(&self, item: ItemId) -> u32
         ensures count { result ≡ count_of self.now item }
         ensures limit { result ≤ LARGEST_COUNT }
     {
-        let place = usize::from(item.group / 256);
-        if place < self.pages.len() {
-            self.pages.at(place).get(in_page(item))
-        } else {
-            0
-        }
+        count_at(self.row(item.group), item.item)
     }
 
     /// Whether it is sure that nothing is counted of the group's items.

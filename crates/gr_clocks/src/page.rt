@@ -1,14 +1,14 @@
 //! The counts of the items of some work-groups, in blocks of one work-group each, which clocks share. A group of which nothing is counted
 //! may have no block.
 
-ghost use Rattle.std.specs.Prelude.{IsTrue, ◌≡◌, ◌<◌, ◌≤◌, All, IfOk, OnOk, IsOkUnless, length};
+ghost use Rattle.std.specs.Prelude.{IsTrue, ◌≡◌, ◌<◌, ◌≤◌, All, IfOk, OnOk, IsOkUnless, [], length, slice_index_or};
 ghost use Rattle.gr_clocks.specs.declared.clock.ClockError.TheVariants.{Memory as OutOfMemory};
 ghost use Rattle.gr_model.specs.declared.event.ItemId.{ItemId as AnyItem};
 ghost use Rattle.gr_clocks.specs.Pages.{IsPageWithin};
 ghost use Rattle.gr_clocks.specs.Counts.{count_of, CountSame, IsJoin};
 ghost use Rattle.gr_clocks.specs.Owned.{IsRaisedBy, IsRaisedTo};
 
-use crate::block::Block;
+use crate::block::{Block, count_at};
 use crate::clock::{ClockError, LARGEST_COUNT};
 use gr_model::event::ItemId;
 use std::alloc::{Allocator, Global};
@@ -40,14 +40,14 @@ impl<A: Allocator> Page<A> {
         }
     }
 
-    /// How many events of the item are counted; 0 where there is no such item.
-    pub(crate) fn get(&self, item: ItemId) -> u32
-        ensures count { result ≡ count_of self.now item }
-        ensures limit { result ≤ LARGEST_COUNT }
+    /// The counts of a group's items, as far as there are some.
+    pub(crate) fn row(&self, group: u16) -> &[u32]
+        ensures counts { result.now ≡ slice_index_or self.now group [] }
+        ensures limit { All (λ n. n ≤ LARGEST_COUNT) result.now }
     {
-        match self.blocks.get(item.group as usize) {
-            None => 0,
-            Some(block) => block.get(item.item),
+        match self.blocks.get(group as usize) {
+            None => &[],
+            Some(block) => block.as_slice(),
         }
     }
 
@@ -119,7 +119,7 @@ impl<A: Allocator + Clone> Page<A> {
     {
         let group = item.group as usize;
         self.reach(group + 1)?;
-        if self.blocks[group].get(item.item) < count {
+        if count_at(self.row(item.group), item.item) < count {
             let block = self.blocks[group].with(item.item, count)?;
             self.blocks[group] = block;
         }

@@ -135,6 +135,7 @@ impl<A: Allocator + Copy> Group<A> {
     ///
     /// # Errors
     /// `Memory`: out of memory. The group is then as it was.
+    #[inline(always)]
     pub(crate) fn take(&mut self, event: &Event) -> Result<(), Memory>
         requires good { IsEventOk event.now self.old.size }
         requires before_end { ¬ IsTrue (is_complete self.old.list) }
@@ -221,6 +222,7 @@ impl<A: Allocator> Group<A> {
     }
 
     /// The record of an item's barrier with this number.
+    #[inline(always)]
     pub(crate) fn barrier_event(&self, item: u16, number: u32) -> Option<Event>
         requires { IsKeptOf self.now.forgotten self.now.list item number }
         ensures { result ≡ slice_get (filter model_barriers.is_barrier (filter (is_of item) self.now.list)) number }

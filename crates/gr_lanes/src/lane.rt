@@ -131,6 +131,7 @@ impl<A: Allocator> Lane<A> {
 
     /// The record of this item's barrier with this number. So many are forgotten, and `firsts` are the first barriers of the
     /// instances after them.
+    #[inline(always)]
     #[tactic(auto, using(crate::proofs::LaneLemmas::said_alike, crate::proofs::LaneLemmas::said_apart))]
     pub(crate) fn barrier_event(
         &self,

@@ -191,6 +191,7 @@ impl<A: Allocator> Lanes<A> {
 
     /// The record of an item's barrier with this number, counted from 0, or `None` where no such barrier was taken.
     /// Requires: its instance is not forgotten.
+    #[inline(always)]
     pub fn barrier_event(&self, item: ItemId, number: u32) -> Option<Event>
         requires { IsRemembered self.now item number }
         ensures { result ≡ record_of self.now.streams is_barrier item number }

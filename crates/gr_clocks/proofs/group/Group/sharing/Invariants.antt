@@ -6,4 +6,4 @@ use Rattle.gr_clocks.proofs.RowLemmas.{AreEach}
 use Rattle.gr_clocks.proofs.group.Group.sharing.Given as goal
 
 abbrev pub invariant-loop-item : goal.invariant-loop-item
-invariant-loop-item g l = AreEach (λ k c. (CountSame c.counts l.met.value) × (c.owner ≡ item_of l.group k)) no_clock l.clocks.items l.item
+invariant-loop-item g l = AreEach (λ k c. (CountSame c.counts l.shared.value) × (c.owner ≡ item_of l.group k)) no_clock l.clocks.items l.item
