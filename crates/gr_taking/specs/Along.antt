@@ -18,7 +18,7 @@ accesses_of _ = []
 abbrev pub IsAlong : {X : Type 0} → (List ClockedAccess → X → Type 0) → Sequence → X → Type 0
 IsAlong Stands q x = (accesses : List ClockedAccess) × AreAccesses q.taken q.handled accesses × Stands accesses x
 
--- it stands for those of a lawful order of some of the grounded events, and of all of them
+-- it stands for those of a lawful order of some of the grounded events
 pub record IsAlongSome {X : Type 0} (Stands : List ClockedAccess → X → Type 0) (s : Streams) (x : X) : Type 0 where
   pub order : List EventId
   pub lawful : IsLawful s order
@@ -26,6 +26,7 @@ pub record IsAlongSome {X : Type 0} (Stands : List ClockedAccess → X → Type 
   pub are : AreAccesses s order accesses
   pub stands : Stands accesses x
 
+-- it stands for those of a lawful order of all grounded events
 pub record IsAlongWhole {X : Type 0} (Stands : List ClockedAccess → X → Type 0) (s : Streams) (x : X) : Type 0 where
   pub order : List EventId
   pub whole : IsWholeOrder s order

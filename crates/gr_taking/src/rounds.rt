@@ -85,7 +85,7 @@ pub fn take_round<A: Allocator + Copy, K: Keeper<A>, S: Source>(
 ///
 /// # Errors
 /// `Memory`: out of memory.
-pub fn take_until<A: Allocator + Copy, K: Keeper<A>, S: Source, F: Fn(&K::Kept) -> bool>(
+pub(crate) fn take_until<A: Allocator + Copy, K: Keeper<A>, S: Source, F: Fn(&K::Kept) -> bool>(
     sequencer: &mut Sequencer<A>,
     keeper: &K,
     kept: &mut K::Kept,
