@@ -322,6 +322,7 @@ impl<A: Allocator> Schedule<A> {
     /// # Errors
     /// The first of `UnknownGroup`, `AfterEnd` with the group, `UnknownItem` and `Memory` that is there. Nothing is then
     /// taken.
+    #[inline(always)]
     pub fn take(&mut self, group: u16, event: Event) -> Result<(), SeqError>
     where
         A: Copy,
