@@ -5,7 +5,7 @@
 #![tactic(auto)]
 
 use gr_command::execute::execute;
-use gr_command::status::{FAILED, USAGE, status_of_sides_fault};
+use gr_command::status::{FAILED, REFUSED, USAGE, status_of_sides_fault};
 use gr_model::memory::Memory;
 use gr_places::sides_fault::write_sides_fault;
 use gr_plan::held::Held;
@@ -50,6 +50,10 @@ fn refuse<E: Write>(refusal: &Refusal, errors: &mut E) -> u8 {
         Refusal::NoFile(reason) => {
             let _ = writeln!(errors, "gpurace: {reason}");
             FAILED
+        }
+        Refusal::Empty(name) => {
+            let _ = writeln!(errors, "gpurace: {name}: the file is empty");
+            REFUSED
         }
         Refusal::Usage(text) => {
             let _ = writeln!(errors, "error: {text}");

@@ -1,6 +1,6 @@
 //! The races of a launch kind by kind as JSON.
 
-use crate::report::{diverge_line, end_line};
+use crate::report::{cut_line, diverge_line, end_line};
 use crate::values::{
     ElementObject, EventObject, Text, WordObject, buffer_object, objects_of, place_of, push_line,
     push_lines,
@@ -130,7 +130,7 @@ fn push_kind(
     push_line(text, &line)
 }
 
-/// The divergent barriers of a launch, its races kind by kind, at most `most` kinds, with what side files say about them, and an end
+/// The groups of a launch that are cut, its divergent barriers, its races kind by kind, at most `most` kinds, with what side files say about them, and an end
 /// that counts all of them and all other findings, as lines of JSON.
 ///
 /// # Errors
@@ -143,6 +143,7 @@ pub fn races_json(
 ) -> Text {
     let places = PlaceIndex::of(alloc, sides.places)?;
     let mut text = Vec::new(alloc);
+    push_lines(&mut text, found.report.cut.as_slice(), cut_line)?;
     push_lines(&mut text, found.report.divergences.as_slice(), diverge_line)?;
     for entry in found.at_most(most) {
         push_kind(&mut text, sides, &places, entry)?;

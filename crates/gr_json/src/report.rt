@@ -20,7 +20,7 @@ struct LaunchLine {
 
 /// A group that is cut.
 #[derive(Drop, Serialize)]
-struct CutLine {
+pub(crate) struct CutLine {
     group: u16,
     #[serde(rename = "type")]
     line: &'static str,
@@ -66,6 +66,14 @@ pub(crate) struct EndLine {
     unmatched: usize,
 }
 
+/// The line of a group that is cut.
+pub(crate) fn cut_line(group: &u16) -> CutLine {
+    CutLine {
+        group: *group,
+        line: "cut",
+    }
+}
+
 /// The line of a divergent instance.
 pub(crate) fn diverge_line(divergence: &Divergence) -> DivergeLine {
     DivergeLine {
@@ -101,14 +109,7 @@ fn push_report<A: Allocator>(text: &mut Vec<u8>, report: &Report<A>) -> Result<(
         line: "launch",
     };
     push_line(text, &launch)?;
-    push_lines(
-        text,
-        report.cut.as_slice(),
-        |group| CutLine {
-            group: *group,
-            line: "cut",
-        },
-    )?;
+    push_lines(text, report.cut.as_slice(), cut_line)?;
     push_lines(
         text,
         races,

@@ -23,7 +23,7 @@ fn index_after(name: &str, text: &str) -> Option<u32>
 }
 
 /// The word at this place of a buffer, if it has one.
-fn word_at(line: &BufferLine<'_>, index: u32) -> Option<Word>
+pub fn word_at(line: &BufferLine<'_>, index: u32) -> Option<Word>
     ensures { result ≡ spec.word_at (buffer_line line.now) index }
 {
     if index >= line.words {

@@ -2,7 +2,6 @@
 
 use crate::parts::{Added, WordText, put_cause, put_race};
 use gr_model::memory::Memory;
-use gr_model::report::Divergence;
 use gr_places::index::PlaceIndex;
 use gr_places::places::Placed;
 use gr_places::sides::Sides;
@@ -11,6 +10,7 @@ use gr_races::kinds::RaceKind;
 use gr_races::listing::KindEntry;
 use gr_races::names::{divergence_name, operation_name, space_name};
 use gr_races::runs::number_of;
+use gr_report::report::Report;
 use std::alloc::Allocator;
 
 /// How many runs of a kind's words are shown at most.
@@ -76,8 +76,12 @@ fn put_entry<A: Allocator>(
     }
 }
 
-fn put_divergences<A: Allocator>(text: &mut String<A>, divergences: &[Divergence]) -> Added {
-    for divergence in divergences {
+/// Adds the groups that are cut and the divergent barriers, since races may follow from them.
+fn put_causes<A: Allocator>(text: &mut String<A>, report: &Report<A>) -> Added {
+    for group in report.cut.as_slice() {
+        writeln!(text, "cut {group}")?;
+    }
+    for divergence in report.divergences.as_slice() {
         let (group, instance) = (divergence.group, divergence.instance);
         let cause = divergence_name(divergence.cause);
         writeln!(text, "diverge {group} {instance} {cause}")?;
@@ -93,7 +97,7 @@ fn put_end<A: Allocator>(text: &mut String<A>, found: &RacesByKind<A>) -> Added 
     writeln!(text, "unmatched {unmatched} held {held}")
 }
 
-/// The text of the divergent barriers of a launch, its races kind by kind, at most `most` kinds, with what side files say about them,
+/// The text of the groups of a launch that are cut, its divergent barriers, its races kind by kind, at most `most` kinds, with what side files say about them,
 /// and an end that counts all of them.
 ///
 /// # Errors
@@ -106,7 +110,7 @@ pub fn races_text<A: Allocator + Copy>(
 ) -> Result<Vec<u8, A>, Memory> {
     let places = PlaceIndex::of(alloc, sides.places)?;
     let mut text = String::new(alloc);
-    put_divergences(&mut text, found.report.divergences.as_slice())?;
+    put_causes(&mut text, &found.report)?;
     for entry in found.at_most(most) {
         put_entry(&mut text, sides, &places, entry)?;
     }

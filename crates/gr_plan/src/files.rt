@@ -2,6 +2,8 @@
 
 use crate::account::Account;
 use crate::line::Line;
+use crate::notes::reason_of;
+use crate::plan::Refusal;
 use crate::progress::Progress;
 use crate::seen::{Seen, Sited};
 use crate::source::{Piece, Source, file_size};
@@ -59,9 +61,17 @@ fn path_below(alloc: Global, folder: &str, name: &str) -> Result<String, Memory>
     Ok(format!(in alloc; "{folder}{between}{name}")?)
 }
 
-/// All bytes of a file.
-pub fn read_file(rt: HostRuntime, path: &str) -> Result<Vec<u8>, Fault> {
-    fs::read(&rt, path).map_err(|error| fault_of(&error))
+/// The refusal of a file that can't be read.
+pub fn no_file(alloc: Global, path: &str, error: &io::Error) -> Refusal {
+    match reason_of(alloc, path, error) {
+        Ok(reason) if error.kind() != ErrorKind::OutOfMemory => Refusal::NoFile(reason),
+        Ok(_) | Err(_) => Refusal::from(Memory),
+    }
+}
+
+/// All bytes of a side file.
+pub fn read_file(rt: HostRuntime, path: &str) -> Result<Vec<u8>, Refusal> {
+    fs::read(&rt, path).map_err(|error| no_file(rt.alloc(), path, &error))
 }
 
 /// The sorted paths of what is in a folder, if its name has this ending; none if the folder can't be read.
@@ -159,7 +169,7 @@ impl Files {
 
     /// Adds the streams of the files of a command, and its side files. If a file is missing, all names stay as they are, and the
     /// command reports the missing file.
-    pub fn add_all(&mut self, line: &Line<'_>, names: &[&str]) -> Result<(), Fault> {
+    pub fn add_all(&mut self, line: &Line<'_>, names: &[&str]) -> Result<(), Refusal> {
         let rt = self.rt;
         self.takes_sides = line.takes_sides();
         self.places = line.path_of("--places")?;
@@ -198,11 +208,11 @@ impl Files {
 
     /// Adds the streams of what has this name. `run` reads pipes while they are written, so each has one stream; for all other
     /// commands the whole pipe is read here.
-    fn add(&mut self, line: &Line<'_>, name: &str) -> Result<(), Fault> {
+    fn add(&mut self, line: &Line<'_>, name: &str) -> Result<(), Refusal> {
         match file_kind(self.rt, name) {
             FileKind::Pipe if line.command == "run" => Ok(self.add_name(name)?),
-            FileKind::Input | FileKind::Pipe => self.add_bytes(name),
-            FileKind::File | FileKind::Missing => self.add_file(name),
+            FileKind::Input | FileKind::Pipe => Ok(self.add_bytes(name)?),
+            FileKind::File | FileKind::Missing => Ok(self.add_file(name)?),
             FileKind::Folder => self.add_folder(name),
         }
     }
@@ -280,7 +290,7 @@ impl Files {
     }
 
     /// Adds the streams of the files of a folder, and its side files. A folder without streams stays a name.
-    fn add_folder(&mut self, folder: &str) -> Result<(), Fault> {
+    fn add_folder(&mut self, folder: &str) -> Result<(), Refusal> {
         let paths = paths_of_streams(self.rt, folder)?;
         if paths.is_empty() {
             return Ok(self.add_name(folder)?);
@@ -297,7 +307,7 @@ impl Files {
     }
 
     /// Adds the side files of a folder, if there were none.
-    fn add_sides(&mut self, folder: &str) -> Result<(), Fault> {
+    fn add_sides(&mut self, folder: &str) -> Result<(), Refusal> {
         let rt = self.rt;
         if self.places.is_none() {
             self.places = side_file(rt, folder, "places")?;

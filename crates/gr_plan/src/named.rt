@@ -1,15 +1,14 @@
 //! A word of memory that is given by its name, such as `partial[10]`, and reports about names that no word has, or that words of several
 //! memories have.
 
-use crate::files::{FileKind, buffers_of, file_kind, launch_in, read_file};
+use crate::files::{FileKind, buffers_of, file_kind, launch_in, no_file, read_file};
 use crate::line::{Line, Taking, taking_of};
-use crate::notes::reason_of;
 use crate::plan::Refusal;
 use gr_arguments::words::group_of;
 use gr_model::event::Word;
 use gr_model::memory::Memory;
 use gr_places::buffers::{BufferLine, Element, buffers_of as lines_said, element_of};
-use gr_places::naming::word_said;
+use gr_places::naming::{word_at, word_said};
 use gr_text::words::parse_number;
 use std::alloc::{AllocError, Global};
 use std::fs;
@@ -118,22 +117,29 @@ impl Naming<'_, '_> {
         let (_, index) = self.parts();
         let index = index?;
         let mut named = lines.iter().filter(|line| self.is_named(line));
-        let word = match named.find(|line| index < line.words)?.first {
-            Word::Global(first) => Word::Global(first.checked_add(index)?),
-            Word::Local(group, first) => Word::Local(group, first.checked_add(index)?),
-        };
+        let word = named.find_map(|line| word_at(line, index))?;
         Some((word, element_of(lines, word)?))
     }
 
-    /// The note about the name of a word, if other memories have a buffer of the name, too.
+    /// The note about the name of a word, if other memories have a buffer of the name, or another word of this memory has the name.
     fn note(&self, lines: &[BufferLine<'_>], word: Word) -> Result<Option<String>, Memory> {
         let alloc = self.line.rt.alloc();
-        let (name, (buffer, _)) = (self.name, self.parts());
+        let (name, (buffer, index)) = (self.name, self.parts());
         let (space, spaces) = (space_of(alloc, word)?, spaces_of(alloc, lines, buffer)?);
-        if spaces == space {
-            return Ok(None);
+        if spaces != space {
+            let text = format!(in alloc; "this is {name} of {space}; {buffer} is in {spaces}");
+            return Ok(Some(text?));
         }
-        Ok(Some(format!(in alloc; "this is {name} of {space}; {buffer} is in {spaces}")?))
+        let mut named = lines.iter().filter(|line| self.is_named(line));
+        let other = named.find_map(|line| word_at(line, index?).filter(|other| *other != word));
+        let Some(other) = other else {
+            return Ok(None);
+        };
+        let ((_, number), (_, other)) = (spelling_of(alloc, word)?, spelling_of(alloc, other)?);
+        let text = format!(in alloc;
+            "this is {name} at {space} {number}; another one is at {space} {other}"
+        );
+        Ok(Some(text?))
     }
 
     /// Why no word is found by the name if there is no file of buffers.
@@ -143,7 +149,7 @@ impl Naming<'_, '_> {
             if *file != "-"
                 && let Err(error) = fs::metadata(&rt, file)
             {
-                return Ok(Refusal::NoFile(reason_of(alloc, file, &error)?));
+                return Ok(no_file(alloc, file, &error));
             }
             if let Some(launch) = launch_in(rt, file)? {
                 let text = format!(in alloc;

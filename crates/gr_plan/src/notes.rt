@@ -32,9 +32,14 @@ pub fn note(plan: &mut Plan, command: &str, errors: &mut Held) -> io::Result<()>
     let is_missing = line.starts_with("gpurace: group ") && line.ends_with(" missing\n");
     let number = number_in(line, "gpurace: line ").filter(|_| line.ends_with(": bad line\n"));
     let stream = number_in(line, "gpurace: stream ");
+    let is_of_places = line.starts_with("gpurace: places: line ");
+    let is_of_buffers = line.starts_with("gpurace: buffers: line ");
     errors.pass()?;
     if let Some(stream) = stream {
         return note_stream(errors, plan, stream, is_header);
+    }
+    if is_of_places || is_of_buffers {
+        return note_side(plan, is_of_places, errors);
     }
     match (&plan.reading.kept, number, &plan.files.torn) {
         (Kept::Text(text), Some(_), _) if begins_stream(text) => {
@@ -53,6 +58,25 @@ pub fn note(plan: &mut Plan, command: &str, errors: &mut Held) -> io::Result<()>
 fn number_in(text: &str, word: &str) -> Option<u64> {
     let (number, _) = text.strip_prefix(word)?.split_once(':')?;
     number.parse::<u64>().ok()
+}
+
+/// Reports which side file has a line that is out of form, and the form. A file of sites is read as the places that are made of it.
+fn note_side(plan: &Plan, is_of_places: bool, errors: &mut Held) -> io::Result<()> {
+    let files = &plan.files;
+    let (path, form) = match is_of_places {
+        true => (&files.places, "GROUP ITEM INDEX TEXT, or SITE TEXT"),
+        false => (
+            &files.buffers,
+            "g FIRST WORDS NAME, or l GROUP FIRST WORDS NAME",
+        ),
+    };
+    match path {
+        None => Ok(()),
+        Some(path) if files.has_piece(path.as_str()) => {
+            writeln!(errors, "gpurace: {path}: its lines are texts, none empty")
+        }
+        Some(path) => writeln!(errors, "gpurace: {path}: its lines are {form}"),
+    }
 }
 
 /// Opens a file, and reads of it if asked to. Pipes are left as they are.
@@ -89,10 +113,11 @@ pub fn reason_of(alloc: Global, name: &str, error: &io::Error) -> Result<String,
     }
 }
 
-/// Reports that a folder has no stream, or that it holds the folders of launches.
-fn note_folder(rt: HostRuntime, name: &str, to: &mut Held) -> io::Result<()> {
+/// Reports that a folder has no stream, or that it holds the folders of launches; or that the command takes no folder.
+fn note_folder(rt: HostRuntime, name: &str, command: &str, to: &mut Held) -> io::Result<()> {
     write!(to, "gpurace: {name}: ")?;
     match launch_in(rt, name) {
+        _ if command == "pack" => writeln!(to, "this is a folder; pack takes files of text"),
         Ok(Some(launch)) => writeln!(
             to,
             "this folder holds launches; give one of them, such as {launch}"
@@ -116,7 +141,7 @@ fn note_unread(plan: &Plan, command: &str, errors: &mut Held) -> io::Result<()> 
     }
     let mut sides = plan.files.places.iter().chain(&plan.files.buffers);
     if error.kind() == ErrorKind::IsADirectory && sides.all(|side| side.as_str() != name) {
-        return note_folder(plan.rt, name, errors);
+        return note_folder(plan.rt, name, command, errors);
     }
     let reason = reason_of(plan.rt.alloc(), name, &error)?;
     writeln!(errors, "gpurace: {reason}")
@@ -175,6 +200,10 @@ fn note_stream(to: &mut Held, plan: &mut Plan, stream: u64, is_header: bool) -> 
     if let Some(name) = plan.files.names.get(number) {
         let name = name.as_str();
         return match account_again(plan, name) {
+            None if file_kind(plan.rt, name) == FileKind::Pipe => writeln!(
+                to,
+                "gpurace: {name}: stream {number}; run reads one stream of a pipe"
+            ),
             None => writeln!(to, "gpurace: {name}: stream {number}"),
             Some(account) => put(to, (stream, is_header), Some(name), &account),
         };

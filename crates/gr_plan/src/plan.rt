@@ -8,9 +8,11 @@ use crate::named::{Naming, naming_in, spelling_of};
 use crate::progress::Progress;
 use crate::reading::{Kept, Reading};
 use crate::seen::Sought;
+use crate::source::file_size;
 use clap::error::ErrorKind;
 use gr_arguments::request::Request;
 use gr_arguments::request_of;
+use gr_arguments::words::word_named;
 use gr_model::memory::Memory;
 use gr_places::sides_fault::SidesFault;
 use gr_record::fault::Fault;
@@ -35,8 +37,10 @@ pub struct Plan {
 pub enum Refusal {
     /// Reading fails, memory runs out, or a line of a file of buffers is out of form.
     Fault(SidesFault),
-    /// A word is given by its name, and a file can't be opened: which file, and why.
+    /// A file that is needed first can't be read: which file, and why.
     NoFile(String),
+    /// A file of streams has no byte: which file.
+    Empty(String),
     /// A word is given by a name that no word has, or no file has: why.
     Usage(String),
 }
@@ -116,27 +120,31 @@ impl Plan {
             return Ok(());
         };
         let Some(Taking::Each(leading)) = taking_of(line.command) else {
-            return Ok(self.take_joined(&line)?);
+            return self.take_joined(&line);
         };
         if let Some(naming) = naming_in(&line, true) {
             return self.take_named(&naming);
         }
         if is_taken(self.rt.alloc(), words)? {
             let (before, names) = line.values.split_at(leading.min(line.values.len()));
-            return Ok(self.take_each(&line, before, names)?);
+            return self.take_each(&line, before, names);
+        }
+        if let (2, Some((word, names))) = (leading, word_at_end(&line.values)) {
+            return self.take_each(&line, word, names);
         }
         naming_in(&line, false).map_or(Ok(()), |naming| naming.check())
     }
 
     /// Takes a command that reads its files as one.
-    fn take_joined(&mut self, line: &Line<'_>) -> Result<(), Memory> {
+    fn take_joined(&mut self, line: &Line<'_>) -> Result<(), Refusal> {
         let alloc = self.rt.alloc();
-        let (kept, names) = match line.command {
-            "pack" => (Kept::Text(Vec::new(alloc)), copies_of(alloc, &line.values)?),
-            command => (
-                Kept::Streams(Account::new(alloc, command != "replay")),
-                files_given(self.rt, &line.values)?,
-            ),
+        let (kept, names) = if line.command == "pack" {
+            (Kept::Text(Vec::new(alloc)), copies_of(alloc, &line.values)?)
+        } else {
+            let names = files_given(self.rt, &line.values)?;
+            check_filled(self.rt, &names)?;
+            let account = Account::new(alloc, line.command != "replay");
+            (Kept::Streams(account), names)
         };
         self.reading = Reading::new(self.rt, names, kept)?;
         self.words = Some(copies_of(alloc, &line.head(true)?)?);
@@ -144,7 +152,12 @@ impl Plan {
     }
 
     /// Takes a command that reads a stream from each of these files, with these words before the files.
-    fn take_each(&mut self, line: &Line<'_>, before: &[&str], names: &[&str]) -> Result<(), Fault> {
+    fn take_each(
+        &mut self,
+        line: &Line<'_>,
+        before: &[&str],
+        names: &[&str],
+    ) -> Result<(), Refusal> {
         if let [space, number] = before {
             self.files.seen.sought = Sought::new(space, number);
         }
@@ -159,7 +172,7 @@ impl Plan {
         let (space, number) = spelling_of(self.rt.alloc(), word).map_err(Memory::from)?;
         let before = [space.as_str(), number.as_str()];
         self.note = note;
-        Ok(self.take_each(naming.line, &before, naming.files)?)
+        self.take_each(naming.line, &before, naming.files)
     }
 }
 
@@ -200,6 +213,26 @@ fn files_given(rt: HostRuntime, names: &[&str]) -> Result<Vec<String>, Memory> {
         given.extend(paths)?;
     }
     Ok(given)
+}
+
+/// Refuses an empty file: whoever was to write it has failed, and its group would be left out.
+fn check_filled(rt: HostRuntime, names: &[String]) -> Result<(), Refusal> {
+    for name in names {
+        if file_size(rt, name.as_str()) == Some(0) {
+            let name = String::from_str(rt.alloc(), name.as_str());
+            return Err(Refusal::Empty(name.map_err(Memory::from)?));
+        }
+    }
+    Ok(())
+}
+
+/// The memory and the number of a word that come after the files, and the files.
+fn word_at_end<'l, 'a>(values: &'l [&'a str]) -> Option<(&'l [&'a str], &'l [&'a str])> {
+    let (files, word) = values.split_at(values.len().checked_sub(2)?);
+    match word {
+        [space, number] if word_named(space, number).is_some() => Some((word, files)),
+        _ => None,
+    }
 }
 
 /// Whether the words of a command on files are right, and ask for something.
