@@ -36,7 +36,7 @@ def races_said(program: str, folder: str, most_seconds: int) -> Tuple[List[Dict[
     except subprocess.TimeoutExpired:
         ran = subprocess.run(words, capture_output=True, start_new_session=True)
     if ran.returncode != 1:
-        return [], ran.stderr.decode(errors="replace").strip()
+        return [], ran.stderr.decode(errors="replace").partition("\n")[0]
     kinds = [it for it in map(json.loads, ran.stdout.decode(errors="replace").splitlines()) if it["type"] == "kind"]
     for kind in kinds:
         kind["race"]["cause"] = kind["race"]["cause"] or {"name": "", "sentence": f"the cause was not known after {most_seconds} s"}

@@ -37,13 +37,15 @@ pub fn naming_in<'l, 'a>(line: &'l Line<'a>, is_indexed: bool) -> Option<Naming<
         true => word.ends_with(']') && word.contains('['),
         false => file_kind(line.rt, word) == FileKind::Missing,
     };
+    let is_space = |word: &str| word == "g" || group_of(word).is_some();
     let (name, space, files) = match line.values.as_slice() {
         _ if !matches!(taking_of(line.command), Some(Taking::Each(2))) => return None,
         [] | [_] => return None,
-        [space, name, files @ ..] if *space == "g" || group_of(space).is_some() => {
+        [space, name, files @ ..] if is_space(space) => (*name, Some(*space), files),
+        [name, files @ ..] if is_name(name) => (*name, None, files),
+        [files @ .., space, name] if is_space(space) && !files.is_empty() => {
             (*name, Some(*space), files)
         }
-        [name, files @ ..] if is_name(name) => (*name, None, files),
         [files @ .., name] => (*name, None, files),
     };
     is_name(name).then_some(Naming {
