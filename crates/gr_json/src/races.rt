@@ -130,8 +130,8 @@ fn push_kind(
     push_line(text, &line)
 }
 
-/// The groups of a launch that are cut, its divergent barriers, its races kind by kind, at most `most` kinds, with what side files say about them, and an end
-/// that counts all of them and all other findings, as lines of JSON.
+/// The groups of a launch that are cut, its divergent barriers, its races kind by kind, at most `most` kinds, with what side files say
+/// about them, and an end that counts all of them and all other findings, as lines of JSON.
 ///
 /// # Errors
 /// `Memory`: out of memory.

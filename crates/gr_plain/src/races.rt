@@ -97,8 +97,8 @@ fn put_end<A: Allocator>(text: &mut String<A>, found: &RacesByKind<A>) -> Added 
     writeln!(text, "unmatched {unmatched} held {held}")
 }
 
-/// The text of the groups of a launch that are cut, its divergent barriers, its races kind by kind, at most `most` kinds, with what side files say about them,
-/// and an end that counts all of them.
+/// The text of the groups of a launch that are cut, its divergent barriers, its races kind by kind, at most `most` kinds, with what side
+/// files say about them, and an end that counts all of them.
 ///
 /// # Errors
 /// `Memory`: out of memory.

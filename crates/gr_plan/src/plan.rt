@@ -230,7 +230,9 @@ fn check_filled(rt: HostRuntime, names: &[String]) -> Result<(), Refusal> {
 fn word_at_end<'l, 'a>(values: &'l [&'a str]) -> Option<(&'l [&'a str], &'l [&'a str])> {
     let (files, word) = values.split_at(values.len().checked_sub(2)?);
     match word {
-        [space, number] if word_named(space, number).is_some() => Some((word, files)),
+        [space, number] if !files.is_empty() && word_named(space, number).is_some() => {
+            Some((word, files))
+        }
         _ => None,
     }
 }
