@@ -45,7 +45,7 @@ pub fn note(plan: &mut Plan, command: &str, errors: &mut Held) -> io::Result<()>
         (Kept::Text(text), Some(_), _) if begins_stream(text) => {
             writeln!(errors, "gpurace: the input is packed already")
         }
-        (Kept::Text(text), Some(number), _) => put_bad_line(errors, text, number),
+        (Kept::Text(_), Some(number), _) => note_line(plan, number, errors),
         (_, None, Some(name)) if is_missing => writeln!(
             errors,
             "gpurace: {name}: its last stream is truncated, and streams after it may be lost"
@@ -58,6 +58,31 @@ pub fn note(plan: &mut Plan, command: &str, errors: &mut Held) -> io::Result<()>
 fn number_in(text: &str, word: &str) -> Option<u64> {
     let (number, _) = text.strip_prefix(word)?.split_once(':')?;
     number.parse::<u64>().ok()
+}
+
+/// What a line of the input, which is this text, is called: by its number, or by its file and its number there if there are several files.
+fn line_name(plan: &Plan, text: &[u8], number: u64) -> Result<String, AllocError> {
+    let (alloc, reading) = (plan.rt.alloc(), &plan.reading);
+    let lines = text.split_inclusive(|byte| *byte == b'\n');
+    let above = lines.take(number.saturating_sub(1) as usize);
+    let start = above.fold(0_u64, |start, line| start.saturating_add(line.len() as u64));
+    match reading.file_at(start) {
+        Some((name, begin)) if reading.names.len() > 1 => {
+            let others = text.iter().take(begin as usize);
+            let lines = others.filter(|byte| **byte == b'\n').count() as u64;
+            format!(in alloc; "{name}: line {}", number.saturating_sub(lines))
+        }
+        _ => format!(in alloc; "line {number}"),
+    }
+}
+
+/// Reports which word of a line of the input is at fault, if the input is a text.
+fn note_line(plan: &Plan, number: u64, errors: &mut Held) -> io::Result<()> {
+    let Kept::Text(text) = &plan.reading.kept else {
+        return Ok(());
+    };
+    let name = line_name(plan, text, number)?;
+    put_bad_line(errors, text, name.as_str())
 }
 
 /// Reports which side file has a line that is out of form, and the form. A file of sites is read as the places that are made of it.
@@ -217,6 +242,7 @@ fn note_stream(to: &mut Held, plan: &mut Plan, stream: u64, is_header: bool) -> 
         return Ok(());
     }
     let start = account.starts.get(number).copied();
-    let name = plan.reading.name_at(start.unwrap_or(account.passed));
+    let file = plan.reading.file_at(start.unwrap_or(account.passed));
+    let name = file.map(|(name, _)| name);
     put(to, (stream, is_header), name, &account)
 }

@@ -85,11 +85,11 @@ impl Reading {
         Ok(())
     }
 
-    /// The name of the file that has this byte of the input.
-    pub fn name_at(&self, byte: u64) -> Option<&str> {
+    /// The name of the file that has this byte of the input, and the byte at which it begins.
+    pub fn file_at(&self, byte: u64) -> Option<(&str, u64)> {
         let mut begins = self.begins.iter().rev();
-        let (file, _) = begins.find(|(_, begin)| *begin <= byte)?;
-        Some(self.names.get(*file)?.as_str())
+        let (file, begin) = begins.find(|(_, begin)| *begin <= byte)?;
+        Some((self.names.get(*file)?.as_str(), *begin))
     }
 }
 

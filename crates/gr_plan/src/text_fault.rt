@@ -187,12 +187,12 @@ fn put_bad_word(to: &mut Held, line: &[u8], at: usize, due: Due) -> io::Result<(
     writeln!(to, "")
 }
 
-/// Writes which word is at fault in the first line at fault of a text, and what is due in its place. The line has this number, from 1.
-pub fn put_bad_line(to: &mut Held, text: &[u8], number: u64) -> io::Result<()> {
+/// Writes which word is at fault in the first line at fault of a text, and what is due in its place. The line is called `name`.
+pub fn put_bad_line(to: &mut Held, text: &[u8], name: &str) -> io::Result<()> {
     let Some((line, place)) = bad_line(text) else {
         return Ok(());
     };
-    write!(to, "gpurace: line {number}")?;
+    write!(to, "gpurace: {name}")?;
     for at in 0..usize::MAX {
         let due = match place {
             Place::Outside => due_in_header(line, at),
