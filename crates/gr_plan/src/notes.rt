@@ -32,11 +32,13 @@ pub fn note(plan: &mut Plan, command: &str, errors: &mut Held) -> io::Result<()>
     let is_missing = line.starts_with("gpurace: group ") && line.ends_with(" missing\n");
     let number = number_in(line, "gpurace: line ").filter(|_| line.ends_with(": bad line\n"));
     let stream = number_in(line, "gpurace: stream ");
+    let is_after_end = command == "run" && line.ends_with(": after end\n");
     let is_of_places = line.starts_with("gpurace: places: line ");
     let is_of_buffers = line.starts_with("gpurace: buffers: line ");
     errors.pass()?;
     if let Some(stream) = stream {
-        return note_stream(errors, plan, stream, is_header);
+        note_stream(errors, plan, stream, is_header)?;
+        return note_pipe(plan, stream, is_after_end, errors);
     }
     if is_of_places || is_of_buffers {
         return note_side(plan, is_of_places, errors);
@@ -225,10 +227,6 @@ fn note_stream(to: &mut Held, plan: &mut Plan, stream: u64, is_header: bool) -> 
     if let Some(name) = plan.files.names.get(number) {
         let name = name.as_str();
         return match account_again(plan, name) {
-            None if file_kind(plan.rt, name) == FileKind::Pipe => writeln!(
-                to,
-                "gpurace: {name}: stream {number}; run reads one stream of a pipe"
-            ),
             None => writeln!(to, "gpurace: {name}: stream {number}"),
             Some(account) => put(to, (stream, is_header), Some(name), &account),
         };
@@ -245,4 +243,17 @@ fn note_stream(to: &mut Held, plan: &mut Plan, stream: u64, is_header: bool) -> 
     let file = plan.reading.file_at(start.unwrap_or(account.passed));
     let name = file.map(|(name, _)| name);
     put(to, (stream, is_header), name, &account)
+}
+
+/// Reports that `run` reads one stream of a pipe, if this one is of a pipe and more came after its end.
+fn note_pipe(plan: &Plan, stream: u64, is_after_end: bool, to: &mut Held) -> io::Result<()> {
+    match plan.files.names.get(stream as usize) {
+        Some(name) if is_after_end && file_kind(plan.rt, name.as_str()) == FileKind::Pipe => {
+            writeln!(
+                to,
+                "gpurace: {name} is a pipe, of which run reads one stream"
+            )
+        }
+        _ => Ok(()),
+    }
 }

@@ -28,7 +28,7 @@ pub struct Plan {
     pub words: Option<Vec<String>>,
     pub reading: Reading,
     pub files: Files,
-    /// A note about the name of a word, if the name is in several memories.
+    /// A note about the name of a word, if other words have it, too.
     note: Option<String>,
 }
 
