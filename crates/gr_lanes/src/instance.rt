@@ -32,6 +32,7 @@ pub fn has_mark_of(mine: &Event, other: &Event) -> bool
 
 /// Whether an item came to an instance with the mark of a barrier.
 /// Requires: the instance is not forgotten.
+#[inline(always)]
 pub fn came_with<A: Allocator>(lanes: &Lanes<A>, item: ItemId, number: u32, mine: &Event) -> bool
     requires mark { is_some (mark_of mine.now) ≡ true }
     requires remembered { IsRemembered lanes.now item number }

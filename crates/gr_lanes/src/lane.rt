@@ -163,6 +163,7 @@ impl<A: Allocator> Lane<A> {
     ///
     /// # Errors
     /// `Memory`: out of memory. All is then as it was.
+    #[inline(always)]
     pub(crate) fn take(
         &mut self,
         firsts: &mut VecDeque<Bare, A>,

@@ -15,6 +15,7 @@ use std::alloc::Allocator;
 ///
 /// # Errors
 /// `Memory`: out of memory. Nothing is then kept.
+#[inline(always)]
 pub(crate) fn keep<A: Allocator + Copy>(
     windows: &mut Windows<A>,
     group: u16,

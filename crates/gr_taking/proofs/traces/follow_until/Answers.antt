@@ -1,4 +1,4 @@
-use Rattle.gr_model.proofs.Common.{◌≡◌, [], ap, subst, sym, ◌∙◌}
+use Rattle.gr_model.proofs.Common.{[], ap, subst, sym, ◌∙◌}
 use Rattle.gr_closure.specs.AccessesAlong.{AreAccesses, of_none}
 use Rattle.gr_order.specs.Sequences.{Sequence, nothing}
 use Rattle.gr_taking.specs.Taken.{read_by}
