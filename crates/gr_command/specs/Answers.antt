@@ -17,7 +17,6 @@ use Rattle.gr_timeline.specs.Racy.{IsRacyIn}
 use Rattle.gr_places.specs.Checked.{CheckedSaid, IsCheckFileFault, IsCheckedAsKnown, is_accepted}
 use Rattle.gr_timeline.specs.Why.{IsWhy}
 use Rattle.gr_places.specs.SideLines.{place_number}
-use Rattle.gr_races.specs.Accounts.{IsAccountOf}
 use Rattle.gr_replay.specs.Replays.{IsExact, IsExactOfEach, IsReplayFault}
 use Rattle.gr_record.specs.Prelude.{Fails, IsOutside}
 use Rattle.gr_text.specs.Texts.{packed}
@@ -165,7 +164,7 @@ module _ {T X : Type 0} (remaining : T → Option (List ℕ)) (Gives : List ℕ 
     -- the races, and whether there is one; of all accesses to a word, and whether it is racy; of why an event is held, and whether it is
     abbrev pub IsAnswerTo : Query → Type 0
     IsAnswerTo (Explain false w) = IsAnswered (in_form a.json (λ said s. Renders (IsExplanation s w)) (λ said. IsLine w)) (IsRacyIn w)
-    IsAnswerTo (Explain true w) = IsAnswered (in_both a.json (λ said s. Renders (IsAccountOf s (place_number said.places) w))) (IsRacyIn w)
+    IsAnswerTo (Explain true w) = IsAnswered (in_both a.json (λ said s. Renders (IsLongAnswer s (place_number said.places) w))) (IsRacyIn w)
     IsAnswerTo (Races most causes) = IsAnswered (in_both a.json (λ said s. Renders (AreRaces said causes s))) HasRace
     IsAnswerTo (History w) = IsAnswered (in_both a.json (λ said s. Renders (IsHistoryOf s w))) (IsRacyIn w)
     IsAnswerTo (query.Run config) = IsRunAnswer

@@ -1,19 +1,11 @@
 //! Why an event is held as JSON.
 
-use crate::values::{EventObject, Text, push_line, push_lines};
+use crate::values::{EventObject, ReleaseObject, Text, push_line, push_lines};
 use gr_model::event::{EventId, Name};
 use gr_timeline::reason::{Link, Reason};
 use gr_timeline::why::WhyHeld;
 use serde::Serialize;
 use std::alloc::{Allocator, Global};
-
-/// A release that an acquire names.
-#[derive(Drop, Serialize)]
-struct ReleaseObject {
-    group: u16,
-    item: u16,
-    number: u32,
-}
 
 /// Why an event is held: by an event, by a release that is named, or by the event in a line above.
 #[derive(Drop, Serialize)]
@@ -51,12 +43,10 @@ fn by_event(name: &'static str, event: EventId) -> ReasonObject {
 }
 
 fn by_release(name: &'static str, named: Name) -> ReasonObject {
-    let release = ReleaseObject {
-        group: named.at.group,
-        item: named.at.item,
-        number: named.release,
-    };
-    ReasonObject::Release { name, release }
+    ReasonObject::Release {
+        name,
+        release: named.into(),
+    }
 }
 
 fn reason_object(reason: Reason) -> ReasonObject {

@@ -1,8 +1,8 @@
 //! The history of a word as JSON.
 
 use crate::values::{
-    ElementObject, EventObject, KindObject, Text, WordObject, buffer_object, objects_of, place_of,
-    push_line,
+    DetailsObject, ElementObject, EventObject, KindObject, Text, WordObject, buffer_object,
+    details_object, objects_of, place_of, push_line, push_lines,
 };
 use gr_model::class::class_of;
 use gr_model::event::Word;
@@ -37,6 +37,15 @@ struct AccessLine<'a> {
     #[serde(rename = "type")]
     line: &'static str,
     unordered_with: NamedObject,
+}
+
+/// An access that is held.
+#[derive(Drop, Serialize)]
+struct HeldLine<'a> {
+    #[serde(flatten)]
+    details: DetailsObject<'a>,
+    #[serde(rename = "type")]
+    line: &'static str,
 }
 
 /// The word, its buffer, how many accesses there are, how many others are held, and whether some of them race.
@@ -99,6 +108,11 @@ pub fn history_json(alloc: Global, sides: &Sides<'_>, word: Word, history: &Hist
             push_access(&mut text, &places, &mut above, entry, &details)?;
         }
     }
+    let held = history.held_accesses(alloc)?;
+    push_lines(&mut text, &held, |(event, details)| HeldLine {
+        details: details_object(&places, *event, details),
+        line: "held",
+    })?;
     let end = EndLine {
         accesses: history.entries.len(),
         buffer: buffer_object(sides, word),

@@ -2,10 +2,10 @@
 //! what side files say.
 
 use crate::values::{
-    DetailsObject, ElementObject, EventObject, Text, WordObject, buffer_object, details_object,
-    line_of, objects_of, place_of,
+    DetailsObject, ElementObject, EventObject, KindObject, ReleaseObject, Text, WordObject,
+    buffer_object, details_object, line_of, objects_of, place_of,
 };
-use gr_model::event::{EventId, Word};
+use gr_model::event::{EventId, Word, word_of};
 use gr_model::memory::Memory;
 use gr_places::index::PlaceIndex;
 use gr_places::places::Placed;
@@ -17,11 +17,13 @@ use gr_races::names::{cause_name, operation_name};
 use serde::Serialize;
 use std::alloc::Global;
 
-/// A word and its racing pair, if it has one.
+/// A word and its racing pair, if it has one; or how many accesses to it are held, if that is counted.
 #[derive(Drop, Serialize)]
 struct RaceLine {
     #[serde(skip_serializing_if = "Option::is_none")]
     first: Option<EventObject>,
+    #[serde(skip_serializing_if = "Option::is_none")]
+    held: Option<usize>,
     #[serde(skip_serializing_if = "Option::is_none")]
     second: Option<EventObject>,
     #[serde(rename = "type")]
@@ -31,7 +33,7 @@ struct RaceLine {
 
 /// A barrier instance: its number, its site and its flags, and where the site is in the source.
 #[derive(Drop, Serialize)]
-struct CrossingObject<'a> {
+pub(crate) struct CrossingObject<'a> {
     global: bool,
     instance: usize,
     local: bool,
@@ -39,12 +41,25 @@ struct CrossingObject<'a> {
     site: u32,
 }
 
+/// Half of a hand-over: a detailed event, the releases that it names, and its word.
+#[derive(Drop, Serialize)]
+struct HalfObject<'a> {
+    access: KindObject,
+    #[serde(flatten)]
+    event: EventObject,
+    names: Vec<ReleaseObject>,
+    phase: usize,
+    place: Option<&'a str>,
+    record: usize,
+    word: Option<WordObject>,
+}
+
 /// What is between two accesses: the halves of a hand-over, each if there is one, and barriers.
 #[derive(Drop, Serialize)]
 struct BetweenObject<'a> {
-    acquire: Option<DetailsObject<'a>>,
+    acquire: Option<HalfObject<'a>>,
     barriers: Vec<CrossingObject<'a>>,
-    release: Option<DetailsObject<'a>>,
+    release: Option<HalfObject<'a>>,
 }
 
 /// What an access does, its event, and where it is in the source.
@@ -77,21 +92,25 @@ struct AccountLine<'a> {
     word: WordObject,
 }
 
+fn race_line(word: Word, pair: Option<(EventId, EventId)>, held: Option<usize>) -> RaceLine {
+    RaceLine {
+        first: pair.map(|(first, _)| first.into()),
+        held,
+        second: pair.map(|(_, second)| second.into()),
+        line: if pair.is_some() { "race" } else { "no race" },
+        word: word.into(),
+    }
+}
+
 /// The line of a word and its racing pair, or that it has none.
 ///
 /// # Errors
 /// `Memory`: out of memory.
 pub fn race_json(alloc: Global, word: Word, pair: Option<(EventId, EventId)>) -> Text {
-    let race = RaceLine {
-        first: pair.map(|(first, _)| first.into()),
-        second: pair.map(|(_, second)| second.into()),
-        line: if pair.is_some() { "race" } else { "no race" },
-        word: word.into(),
-    };
-    line_of(alloc, &race)
+    line_of(alloc, &race_line(word, pair, None))
 }
 
-fn crossing_object<'a>(places: &PlaceIndex<'a>, crossing: &Crossing) -> CrossingObject<'a> {
+pub(crate) fn crossing_object<'a>(places: &PlaceIndex<'a>, crossing: &Crossing) -> CrossingObject<'a> {
     CrossingObject {
         global: crossing.global,
         instance: crossing.instance,
@@ -101,17 +120,40 @@ fn crossing_object<'a>(places: &PlaceIndex<'a>, crossing: &Crossing) -> Crossing
     }
 }
 
+fn half_object<'a>(
+    alloc: Global,
+    places: &PlaceIndex<'a>,
+    half: Option<DetailedEvent>,
+) -> Result<Option<HalfObject<'a>>, Memory> {
+    let Some(DetailedEvent {
+        event,
+        said,
+        details,
+    }) = half
+    else {
+        return Ok(None);
+    };
+    Ok(Some(HalfObject {
+        access: details.kind.into(),
+        event: event.into(),
+        names: objects_of(alloc, said.names.as_slice(), |name| (*name).into())?,
+        phase: details.phase,
+        place: place_of(places, event),
+        record: details.number,
+        word: word_of(event.at.group, &said).map(|word| word.into()),
+    }))
+}
+
 fn between_object<'a>(
     alloc: Global,
     places: &PlaceIndex<'a>,
     between: &Between,
 ) -> Result<BetweenObject<'a>, Memory> {
-    let half = |half: DetailedEvent| details_object(places, half.event, &half.details);
     let crossings = &between.crossings;
     Ok(BetweenObject {
-        acquire: between.acquire.map(half),
+        acquire: half_object(alloc, places, between.acquire)?,
         barriers: objects_of(alloc, crossings, |it| crossing_object(places, it))?,
-        release: between.release.map(half),
+        release: half_object(alloc, places, between.release)?,
     })
 }
 
@@ -154,7 +196,7 @@ fn account_line<'a>(
     })
 }
 
-/// The line of a word's racing pair with all that, or that it has none.
+/// The line of a word's racing pair with all that, or that it has none and how many accesses to the word are held.
 ///
 /// # Errors
 /// `Memory`: out of memory.
@@ -163,9 +205,10 @@ pub fn account_json(
     sides: &Sides<'_>,
     word: Word,
     account: Option<&Account>,
+    held: usize,
 ) -> Text {
     let Some(account) = account else {
-        return race_json(alloc, word, None);
+        return line_of(alloc, &race_line(word, None, Some(held)));
     };
     let places = PlaceIndex::of(alloc, sides.places)?;
     line_of(alloc, &account_line(alloc, sides, &places, word, account)?)

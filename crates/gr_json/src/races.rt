@@ -1,5 +1,6 @@
 //! The races of a launch kind by kind as JSON.
 
+use crate::race::{CrossingObject, crossing_object};
 use crate::report::{cut_line, diverge_line, end_line};
 use crate::values::{
     ElementObject, EventObject, Text, WordObject, buffer_object, objects_of, place_of, push_line,
@@ -10,6 +11,7 @@ use gr_model::memory::Memory;
 use gr_model::race::Race;
 use gr_places::index::PlaceIndex;
 use gr_places::sides::Sides;
+use gr_races::arrivals::arrivals_of;
 use gr_races::by_kind::RacesByKind;
 use gr_races::listing::KindEntry;
 use gr_races::names::{cause_name, cause_sentence, operation_name, space_name};
@@ -56,6 +58,24 @@ struct KindObject {
 struct RunObject {
     first: WordObject,
     last: u32,
+}
+
+/// Items one after another that came to one barrier, or never came.
+#[derive(Drop, Serialize)]
+struct ArrivalObject<'a> {
+    barrier: Option<CrossingObject<'a>>,
+    first: u32,
+    last: u32,
+}
+
+/// What the items of a group came with to a divergent instance of barriers.
+#[derive(Drop, Serialize)]
+struct ArrivalsLine<'a> {
+    group: u16,
+    instance: u32,
+    items: Vec<ArrivalObject<'a>>,
+    #[serde(rename = "type")]
+    line: &'static str,
 }
 
 /// A kind, the first of its races, and its words.
@@ -130,6 +150,26 @@ fn push_kind(
     push_line(text, &line)
 }
 
+/// Adds the line of what the items came with to the first divergent barrier, if there is one.
+fn push_arrivals(text: &mut Vec<u8>, places: &PlaceIndex<'_>, found: &RacesByKind) -> Result<(), Memory> {
+    let alloc = *text.allocator();
+    let Some(first) = found.report.divergences.as_slice().first() else {
+        return Ok(());
+    };
+    let arrivals = arrivals_of(alloc, &found.came)?;
+    let line = ArrivalsLine {
+        group: first.group,
+        instance: first.instance,
+        items: objects_of(alloc, &arrivals, |it| ArrivalObject {
+            barrier: it.barrier.map(|barrier| crossing_object(places, &barrier)),
+            first: it.first,
+            last: it.last,
+        })?,
+        line: "arrivals",
+    };
+    push_line(text, &line)
+}
+
 /// The groups of a launch that are cut, its divergent barriers, its races kind by kind, at most `most` kinds, with what side files say
 /// about them, and an end that counts all of them and all other findings, as lines of JSON.
 ///
@@ -145,6 +185,7 @@ pub fn races_json(
     let mut text = Vec::new(alloc);
     push_lines(&mut text, found.report.cut.as_slice(), cut_line)?;
     push_lines(&mut text, found.report.divergences.as_slice(), diverge_line)?;
+    push_arrivals(&mut text, &places, found)?;
     for entry in found.at_most(most) {
         push_kind(&mut text, sides, &places, entry)?;
     }

@@ -1,6 +1,6 @@
 //! The parts of answers, and lines of them, as JSON. Members are in the order of their names.
 
-use gr_model::event::{EventId, Kind, Word};
+use gr_model::event::{EventId, Kind, Name, Word};
 use gr_model::memory::Memory;
 use gr_places::buffers::{Element, element_of};
 use gr_places::index::PlaceIndex;
@@ -37,6 +37,14 @@ pub(crate) struct EventObject {
     group: u16,
     index: u32,
     item: u16,
+}
+
+/// A release that an acquire names.
+#[derive(Drop, Serialize)]
+pub(crate) struct ReleaseObject {
+    group: u16,
+    item: u16,
+    number: u32,
 }
 
 /// What a record says. Atomic accesses have an order and a scope.
@@ -81,6 +89,16 @@ impl From<EventId> for EventObject {
             group: event.at.group,
             index: event.index,
             item: event.at.item,
+        }
+    }
+}
+
+impl From<Name> for ReleaseObject {
+    fn from(name: Name) -> ReleaseObject {
+        ReleaseObject {
+            group: name.at.group,
+            item: name.at.item,
+            number: name.release,
         }
     }
 }

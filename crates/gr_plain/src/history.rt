@@ -1,6 +1,6 @@
 //! The text of the history of a word.
 
-use crate::parts::{Added, AtText, KindText, put_buffer};
+use crate::parts::{Added, AtText, DetailsText, EventText, KindText, put_buffer};
 use gr_model::class::class_of;
 use gr_model::event::{EventId, Kind, Word};
 use gr_model::memory::Memory;
@@ -13,6 +13,9 @@ use gr_timeline::standing::{Above, Named, Standing};
 use gr_timeline::word_history::HistoryAnswer;
 use itoa::Buffer;
 use std::alloc::Allocator;
+
+/// How many accesses that are held are listed at most.
+const MOST_HELD: usize = 8;
 
 /// A line: one access, or some of one item that come one after another in it, are alike, and relate alike to all above them.
 #[derive(Drop)]
@@ -160,6 +163,24 @@ fn put_accesses<A: Allocator + Copy>(
     Ok(())
 }
 
+/// Adds the first accesses that are held, and how many more there are.
+fn put_held<A: Allocator + Copy>(
+    alloc: A,
+    text: &mut String<A>,
+    places: &PlaceIndex<'_, A>,
+    history: &HistoryAnswer<A>,
+) -> Added {
+    for (event, details) in history.held_accesses(alloc)?.iter().take(MOST_HELD) {
+        let (shown, details) = (EventText(*event), DetailsText(*details));
+        let at = AtText(places.place_of(Placed::Event(*event)));
+        writeln!(text, "held {shown} {details}{at}")?;
+    }
+    match history.held.saturating_sub(MOST_HELD) {
+        0 => Ok(()),
+        more => writeln!(text, "held and {more} more"),
+    }
+}
+
 fn put_end<A: Allocator>(text: &mut String<A>, history: &HistoryAnswer<A>) -> Added {
     let (accesses, held) = (history.entries.len(), history.held);
     let races = if history.racy { "yes" } else { "no" };
@@ -180,6 +201,7 @@ pub fn history_text<A: Allocator + Copy>(
     let mut text = String::new(alloc);
     put_buffer(&mut text, sides, word)?;
     put_accesses(alloc, &mut text, &places, history)?;
+    put_held(alloc, &mut text, &places, history)?;
     put_end(&mut text, history)?;
     Ok(text.into_bytes())
 }

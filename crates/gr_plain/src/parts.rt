@@ -5,7 +5,10 @@ ghost use Rattle.gr_plain.specs.Explanations.{event_text, word_text};
 
 use gr_model::event::{EventId, Kind, Word};
 use gr_places::buffers::element_of;
+use gr_places::index::PlaceIndex;
+use gr_places::places::Placed;
 use gr_places::sides::Sides;
+use gr_races::between::Crossing;
 use gr_races::cause::Cause;
 use gr_races::names::{atomic_of, cause_name, cause_sentence, kind_name, order_name, scope_name};
 use gr_timeline::details::Details;
@@ -108,6 +111,22 @@ pub(crate) fn put_buffer<A: Allocator>(
         None => Ok(()),
         Some(named) => writeln!(text, "buffer {}[{}]", named.name, named.index),
     }
+}
+
+/// Adds the rest of a line: the site and the flags of a barrier, and where it is in the source.
+pub(crate) fn put_site<A: Allocator>(
+    text: &mut String<A>,
+    places: &PlaceIndex<'_, A>,
+    crossing: &Crossing,
+) -> Added {
+    let flags = match (crossing.global, crossing.local) {
+        (false, false) => "-",
+        (true, false) => "g",
+        (false, true) => "l",
+        (true, true) => "gl",
+    };
+    let at = AtText(places.place_of(Placed::Site(crossing.site)));
+    writeln!(text, "site {} {flags}{at}", crossing.site)
 }
 
 /// Adds the line of a cause of a race on a word.

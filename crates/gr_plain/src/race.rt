@@ -4,8 +4,8 @@
 ghost use Rattle.std.specs.Prelude.{◌≡◌, IfOk};
 ghost use Rattle.gr_plain.specs.Explanations.{explanation_line};
 
-use crate::parts::{Added, AtText, DetailsText, EventText, WordText, put_cause, put_race};
-use gr_model::event::{EventId, Word};
+use crate::parts::{Added, AtText, DetailsText, EventText, WordText, put_cause, put_race, put_site};
+use gr_model::event::{EventId, Name, Word, word_of};
 use gr_model::memory::Memory;
 use gr_places::index::PlaceIndex;
 use gr_places::places::Placed;
@@ -17,15 +17,6 @@ use gr_races::names::operation_name;
 use gr_timeline::details::Details;
 use std::alloc::Allocator;
 
-fn flags_text(crossing: &Crossing) -> &'static str {
-    match (crossing.global, crossing.local) {
-        (false, false) => "-",
-        (true, false) => "g",
-        (false, true) => "l",
-        (true, true) => "gl",
-    }
-}
-
 /// A text, with the places of events in the source.
 #[derive(Drop)]
 struct PlacedText<'a, A: Allocator> {
@@ -34,34 +25,59 @@ struct PlacedText<'a, A: Allocator> {
 }
 
 impl<A: Allocator> PlacedText<'_, A> {
+    /// Adds the rest of a line: where an event is in the source.
+    fn put_at(&mut self, event: EventId) -> Added {
+        let at = AtText(self.places.place_of(Placed::Event(event)));
+        writeln!(self.text, "{at}")
+    }
+
     /// Adds a label, the details of an access, and where it is in the source.
     fn put_details(&mut self, label: &str, event: EventId, details: &Details) -> Added {
-        let at = AtText(self.places.place_of(Placed::Event(event)));
-        writeln!(self.text, "{label} {}{at}", DetailsText(*details))
+        write!(self.text, "{label} {}", DetailsText(*details))?;
+        self.put_at(event)
     }
 
     fn put_crossings(&mut self, crossings: &[Crossing]) -> Added {
         for crossing in crossings {
-            let (instance, site, flags) = (crossing.instance, crossing.site, flags_text(crossing));
-            let at = AtText(self.places.place_of(Placed::Site(site)));
-            writeln!(self.text, "barrier {instance} site {site} {flags}{at}")?;
+            write!(self.text, "barrier {} ", crossing.instance)?;
+            put_site(&mut self.text, &self.places, crossing)?;
         }
         Ok(())
     }
 
-    /// Adds half of a hand-over, if there is one.
+    /// Adds half of a hand-over, if there is one: its word, and the releases that an acquire names.
     fn put_half(&mut self, label: &str, half: Option<DetailedEvent>) -> Added {
         let Some(half) = half else {
             return Ok(());
         };
-        write!(self.text, "{label} {}", EventText(half.event))?;
-        self.put_details("", half.event, &half.details)
+        let (event, details) = (EventText(half.event), DetailsText(half.details));
+        write!(self.text, "{label} {event} {details}")?;
+        if let Some(word) = word_of(half.event.at.group, &half.said) {
+            write!(self.text, " on {}", WordText(word))?;
+        }
+        if half.said.kind.is_acquire() {
+            self.put_names(half.said.names.as_slice())?;
+        }
+        self.put_at(half.event)
+    }
+
+    /// Adds the releases that an acquire names.
+    fn put_names(&mut self, names: &[Name]) -> Added {
+        write!(self.text, " from")?;
+        for name in names {
+            let Name { at, release } = name;
+            write!(self.text, " {} {} {release}", at.group, at.item)?;
+        }
+        if names.is_empty() {
+            write!(self.text, " none")?;
+        }
+        Ok(())
     }
 
     /// Adds what an access does, and where it is in the source.
     fn put_operation(&mut self, label: &str, operation: Operation, event: EventId) -> Added {
-        let at = AtText(self.places.place_of(Placed::Event(event)));
-        writeln!(self.text, "{label} {}{at}", operation_name(operation))
+        write!(self.text, "{label} {}", operation_name(operation))?;
+        self.put_at(event)
     }
 
     /// Adds what the accesses of a word's racing pair are, what is between them, the cause, and the word's other races.
@@ -110,7 +126,7 @@ pub fn race_text<A: Allocator>(
 }
 
 /// The text of a word and its least racing pair: what the two accesses are, what is between them, the cause of their race and the
-/// word's other races, with what side files say; or that the word has no race.
+/// word's other races, with what side files say; or that the word has no race, and how many accesses to it are held.
 ///
 /// # Errors
 /// `Memory`: out of memory.
@@ -119,10 +135,14 @@ pub fn account_text<A: Allocator + Copy>(
     sides: &Sides<'_>,
     word: Word,
     account: Option<&Account<A>>,
+    held: usize,
 ) -> Result<Vec<u8, A>, Memory> {
     let mut text = String::new(alloc);
     let Some(account) = account else {
         writeln!(text, "no race {}", WordText(word))?;
+        if held > 0 {
+            writeln!(text, "held {held}")?;
+        }
         return Ok(text.into_bytes());
     };
     put_race(&mut text, sides, word, (account.first, account.second))?;

@@ -1,20 +1,26 @@
 //! The text of races, kind by kind.
 
-use crate::parts::{Added, WordText, put_cause, put_race};
+use crate::parts::{Added, WordText, put_cause, put_race, put_site};
 use gr_model::memory::Memory;
+use gr_model::report::Divergence;
 use gr_places::index::PlaceIndex;
 use gr_places::places::Placed;
 use gr_places::sides::Sides;
+use gr_races::arrivals::{Arrival, arrivals_of};
+use gr_races::between::Crossing;
 use gr_races::by_kind::RacesByKind;
 use gr_races::kinds::RaceKind;
 use gr_races::listing::KindEntry;
 use gr_races::names::{divergence_name, operation_name, space_name};
 use gr_races::runs::number_of;
-use gr_report::report::Report;
-use std::alloc::Allocator;
+use std::alloc::{AllocError, Allocator};
+use std::fmt::Display;
 
-/// How many runs of a kind's words are shown at most.
-const MOST_RUNS: usize = 5;
+/// How many runs of a kind's words, or of items that came to a barrier, are shown at most.
+const MOST_RUNS: u32 = 5;
+
+/// How many barriers that items came to are shown at most.
+const MOST_BARRIERS: usize = 5;
 
 /// Adds the line of a kind, and how many words have it.
 fn put_kind<A: Allocator>(text: &mut String<A>, kind: RaceKind, words: usize) -> Added {
@@ -29,23 +35,33 @@ fn put_kind<A: Allocator>(text: &mut String<A>, kind: RaceKind, words: usize) ->
     writeln!(text, "kind {space} {first} {second} {groups} words {words}")
 }
 
-/// Adds the first runs of a kind's words, and how many more words there are.
-fn put_words<A: Allocator>(text: &mut String<A>, entry: &KindEntry<A>) -> Added {
-    write!(text, "words")?;
-    let mut left = entry.races.len() as u64;
-    for run in entry.runs.iter().take(MOST_RUNS) {
-        let (first, number) = (WordText(run.first), number_of(run.first));
-        write!(text, " {first}")?;
-        if run.last != number {
-            write!(text, "..{}", run.last)?;
+/// Adds the first of the runs that are to be shown, each by its first, the number of that, and the number of its last; and how many more
+/// there are of what is shown.
+fn put_runs<A: Allocator, T, U: Display + Drop, F: Fn(&T) -> Option<(U, u32, u32)>>(
+    text: &mut String<A>,
+    runs: &[T],
+    shown: F,
+) -> Added
+    requires { F.IsAlwaysCallable shown }
+{
+    let (mut count, mut more): (u32, u64) = (0, 0);
+    for run in runs {
+        let Some((first, number, last)) = shown(run) else {
+            continue;
+        };
+        count = count.saturating_add(1);
+        if count > MOST_RUNS {
+            more = more.saturating_add(u64::from(last.saturating_sub(number)) + 1);
+        } else if last == number {
+            write!(text, " {first}")?;
+        } else {
+            write!(text, " {first}..{last}")?;
         }
-        let words = u64::from(run.last.saturating_sub(number)).saturating_add(1);
-        left = left.saturating_sub(words);
     }
-    if left > 0 {
-        write!(text, " and {left} more")?;
+    if more > 0 {
+        write!(text, " and {more} more")?;
     }
-    writeln!(text, "")
+    Ok(())
 }
 
 /// Adds a kind with its words, and the first of its races with what side files say, and with its cause if it is known.
@@ -57,7 +73,13 @@ fn put_entry<A: Allocator>(
 ) -> Added {
     let kind = entry.kind;
     put_kind(text, kind, entry.races.len())?;
-    put_words(text, entry)?;
+    write!(text, "words")?;
+    put_runs(
+        text,
+        &entry.runs,
+        |run| Some((WordText(run.first), number_of(run.first), run.last)),
+    )?;
+    writeln!(text, "")?;
     let Some(race) = entry.races.first() else {
         return Ok(());
     };
@@ -76,17 +98,97 @@ fn put_entry<A: Allocator>(
     }
 }
 
-/// Adds the groups that are cut and the divergent barriers, since races may follow from them.
-fn put_causes<A: Allocator>(text: &mut String<A>, report: &Report<A>) -> Added {
-    for group in report.cut.as_slice() {
-        writeln!(text, "cut {group}")?;
+/// Adds the items that came to a barrier of an instance, or that never came.
+fn put_arrival<A: Allocator>(
+    text: &mut String<A>,
+    places: &PlaceIndex<'_, A>,
+    arrivals: &[Arrival],
+    barrier: Option<Crossing>,
+) -> Added {
+    let what = if barrier.is_some() { "came" } else { "missing" };
+    write!(text, "{what} items")?;
+    put_runs(
+        text,
+        arrivals,
+        |it| (it.barrier == barrier).then_some((it.first, it.first, it.last)),
+    )?;
+    match barrier {
+        None => writeln!(text, ""),
+        Some(barrier) => {
+            write!(text, " ")?;
+            put_site(text, places, &barrier)
+        }
     }
-    for divergence in report.divergences.as_slice() {
-        let (group, instance) = (divergence.group, divergence.instance);
-        let cause = divergence_name(divergence.cause);
-        writeln!(text, "diverge {group} {instance} {cause}")?;
+}
+
+/// Adds for each barrier of an instance the items that came to it; and those that never came.
+fn put_arrivals<A: Allocator + Copy>(
+    alloc: A,
+    text: &mut String<A>,
+    places: &PlaceIndex<'_, A>,
+    came: &[Option<Crossing>],
+) -> Added {
+    let arrivals = arrivals_of(alloc, came)?;
+    let mut barriers: Vec<Option<Crossing>, A> = Vec::new(alloc);
+    for arrival in &arrivals {
+        if barriers.len() < MOST_BARRIERS && !barriers.contains(&arrival.barrier) {
+            barriers.push(arrival.barrier)?;
+            put_arrival(text, places, &arrivals, arrival.barrier)?;
+        }
     }
     Ok(())
+}
+
+/// Divergent instances of a group, one after another by their numbers, that have one cause: the first, and the number of the last.
+type DivergenceRun = (Divergence, u32);
+
+/// The divergent instances by their causes.
+fn divergence_runs<A: Allocator>(
+    alloc: A,
+    divergences: &[Divergence],
+) -> Result<Vec<DivergenceRun, A>, AllocError> {
+    let mut runs: Vec<DivergenceRun, A> = Vec::new(alloc);
+    for next in divergences {
+        match runs.last_mut() {
+            Some((first, last))
+                if first.group == next.group
+                    && first.cause == next.cause
+                    && last.checked_add(1) == Some(next.instance) =>
+            {
+                *last = next.instance;
+            }
+            Some(_) | None => runs.push((*next, next.instance))?,
+        }
+    }
+    Ok(runs)
+}
+
+/// Adds the first of the divergent barriers, since races may follow from them; what the items brought to the first of all; and how many
+/// more barriers there are.
+fn put_divergences<A: Allocator + Copy>(
+    alloc: A,
+    text: &mut String<A>,
+    places: &PlaceIndex<'_, A>,
+    found: &RacesByKind<A>,
+) -> Added {
+    let divergences = found.report.divergences.as_slice();
+    let mut more = divergences.len() as u64;
+    let runs = divergence_runs(alloc, divergences)?;
+    for (place, (first, last)) in runs.iter().take(MOST_RUNS as usize).enumerate() {
+        write!(text, "diverge {} {}", first.group, first.instance)?;
+        if *last > first.instance {
+            write!(text, "..{last}")?;
+        }
+        writeln!(text, " {}", divergence_name(first.cause))?;
+        if place == 0 {
+            put_arrivals(alloc, text, places, &found.came)?;
+        }
+        more = more.saturating_sub(u64::from(last.saturating_sub(first.instance)) + 1);
+    }
+    match more {
+        0 => Ok(()),
+        more => writeln!(text, "diverge and {more} more"),
+    }
 }
 
 fn put_end<A: Allocator>(text: &mut String<A>, found: &RacesByKind<A>) -> Added {
@@ -110,7 +212,10 @@ pub fn races_text<A: Allocator + Copy>(
 ) -> Result<Vec<u8, A>, Memory> {
     let places = PlaceIndex::of(alloc, sides.places)?;
     let mut text = String::new(alloc);
-    put_causes(&mut text, &found.report)?;
+    for group in found.report.cut.as_slice() {
+        writeln!(text, "cut {group}")?;
+    }
+    put_divergences(alloc, &mut text, &places, found)?;
     for entry in found.at_most(most) {
         put_entry(&mut text, sides, &places, entry)?;
     }

@@ -3,11 +3,10 @@
 use Rattle.std.specs.Prelude.{ℕ, Bool, false, List, [], Option, None, drop, filter, filter_map, find, if◌then◌else◌, nat_lt, option_and_then, option_map, take, ◌==◌}
 use Rattle.std.specs.List.{enumerate_from, last_or, range_with_len}
 use Rattle.std.specs.Option.{option_map_or}
-use Rattle.gr_races.specs.Types.{Event, EventId, Details}
+use Rattle.gr_races.specs.Types.{Crossing, Event, EventId, Details}
 use Rattle.gr_model.specs.declared.event.ItemId.{ItemId}
 use Rattle.gr_model.specs.Prelude.{is_acquire_kind, is_release, is_barrier, mark_of, Mark, Streams, event_at, places_from, trace_of}
 use Rattle.gr_races.specs.declared.between.Between.{Between}
-use Rattle.gr_races.specs.declared.between.Crossing.{Crossing}
 use Rattle.gr_races.specs.declared.between.DetailedEvent.{DetailedEvent}
 use Rattle.gr_timeline.specs.Details.{details_of, phase_of}
 
@@ -37,12 +36,12 @@ crossings s e f =
 abbrev pub is_acquire_at : Streams → ItemId → ℕ → Bool
 is_acquire_at s i k = let e : EventId = record { at = i; index = k } in option_map_or (λ x. is_acquire_kind x.kind) (event_at s e) false
 
-abbrev pub with_details : EventId → Details → DetailedEvent
-with_details e d = record { event = e; details = d }
+abbrev pub with_details : EventId → Event → Details → DetailedEvent
+with_details e x d = record { event = e; said = x; details = d }
 
--- an item's event of this index with its details, if there is one
+-- an item's event of this index with its record and its details, if there is one
 abbrev pub detailed_at : Streams → ItemId → ℕ → Option DetailedEvent
-detailed_at s i k = let e : EventId = record { at = i; index = k } in option_map (with_details e) (details_of s e)
+detailed_at s i k = let e : EventId = record { at = i; index = k } in option_and_then (λ x. option_map (with_details e x) (details_of s e)) (event_at s e)
 
 -- the first release of its item's trace after an event
 abbrev pub release_behind : Streams → EventId → Option DetailedEvent

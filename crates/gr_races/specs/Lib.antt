@@ -2,6 +2,7 @@ pub mod Relaxing
 pub mod Parting
 pub mod Causes
 pub mod Between
+pub mod Arrivals
 pub mod Kinds
 pub mod Runs
 pub mod Listing

@@ -4,8 +4,10 @@ pub use Rattle.gr_model.specs.declared.event.EventId.{EventId}
 pub use Rattle.gr_model.specs.declared.event.Kind.{Kind}
 pub use Rattle.gr_model.specs.declared.event.Word.{Word}
 pub use Rattle.gr_model.specs.declared.race.Race.{Race}
+pub use Rattle.gr_model.specs.declared.report.Divergence.{Divergence}
 pub use Rattle.gr_places.specs.declared.places.Placed.{Placed}
 pub use Rattle.gr_races.specs.declared.account.Account.{Account}
+pub use Rattle.gr_races.specs.declared.between.Crossing.{Crossing}
 pub use Rattle.gr_races.specs.declared.cause.Cause.{Cause}
 pub use Rattle.gr_races.specs.declared.kinds.KindedRace.{KindedRace}
 pub use Rattle.gr_races.specs.declared.kinds.Operation.{Operation}

@@ -29,11 +29,13 @@ pub struct Crossing {
     pub local: bool,
 }
 
-/// An event of a launch, with its details.
+/// An event of a launch, with its record and its details.
 #[derive(Clone, Copy, Debug, PartialEq, Eq)]
 pub struct DetailedEvent {
     /// The event.
     pub event: EventId,
+    /// What its record says.
+    pub said: Event,
     /// What it is.
     pub details: Details,
 }
@@ -51,7 +53,7 @@ pub struct Between<A: Allocator = Global> {
 }
 
 /// The instance of a barrier, which has this number among its item's barriers.
-fn crossing_of(instance: usize, event: &Event) -> Option<Crossing>
+pub(crate) fn crossing_of(instance: usize, event: &Event) -> Option<Crossing>
     ensures { result ≡ spec.crossing_of (instance, event.now) }
 {
     let Kind::Barrier { global, local } = event.kind else {
@@ -143,7 +145,7 @@ fn acquire_below<A: Allocator>(records: &Records<'_, A>, at: ItemId, index: u32)
         .last()
 }
 
-/// An item's event of this index with its details, if there is one.
+/// An item's event of this index with its record and its details, if there is one.
 fn detailed_at<A: Allocator>(
     traces: &Traces<A>,
     records: &Records<'_, A>,
@@ -155,8 +157,13 @@ fn detailed_at<A: Allocator>(
     ensures { result ≡ option_and_then (spec.detailed_at traces.now at) index }
 {
     let event = EventId { at, index: index? };
+    let said = records.event_at(event)?;
     let details = details_at(traces, records, event)?;
-    Some(DetailedEvent { event, details })
+    Some(DetailedEvent {
+        event,
+        said,
+        details,
+    })
 }
 
 /// What lies between two accesses of a launch. It takes time that grows with the records of their groups.

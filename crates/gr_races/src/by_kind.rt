@@ -5,10 +5,13 @@ ghost use Rattle.gr_model.specs.Prelude.{AreRaces, IsReportOf};
 ghost use Rattle.gr_report.specs.Whole.{whole_of};
 ghost use Rattle.gr_places.specs.PlaceIndexes.{number_at};
 ghost use Rattle.gr_places.specs.SideLines.{place_number};
+ghost use Rattle.gr_races.specs.Arrivals.{came_to_first};
 ghost use Rattle.gr_races.specs.Listing.{entry_of};
 ghost use Rattle.gr_races.specs.Shown.{AreListedRaces};
 ghost use Rattle.gr_places.specs.Sides.{sides_said};
 
+use crate::arrivals::came_to_first;
+use crate::between::Crossing;
 use crate::cause::causes_of;
 use crate::kinds::PlaceTags;
 use crate::listing::{KindEntry, entries_of};
@@ -32,6 +35,8 @@ pub struct RacesByKind<A: Allocator = Global> {
     pub races: usize,
     /// The report.
     pub report: Report<A>,
+    /// For each item of its group its barrier of the first divergent instance, if it came; nothing if no instance is divergent.
+    pub came: Vec<Option<Crossing>, A>,
 }
 
 impl<A: Allocator> RacesByKind<A> {
@@ -56,6 +61,7 @@ fn list_found<A: Allocator + Copy>(
     requires races { AreRaces traces.now report.races }
     ensures listed { IfOk result (λ r. AreListedRaces traces.now (number_at tags.now.index.now) causes (map entry_of r.kinds.items) r.races) }
     ensures report { IfOk result (λ r. r.report ≡ report) }
+    ensures came { IfOk result (λ r. r.came.items ≡ came_to_first traces.now r.report.divergences) }
 {
     let races = races_by_tags(alloc, traces, report.races.as_slice(), tags)?;
     let told = if causes {
@@ -64,10 +70,12 @@ fn list_found<A: Allocator + Copy>(
         Vec::new(alloc)
     };
     let kinds = entries_of(alloc, tags, &races, &told)?;
+    let came = came_to_first(alloc, traces, report.divergences.as_slice())?;
     Ok(RacesByKind {
         kinds,
         races: report.races.as_slice().len(),
         report,
+        came,
     })
 }
 
@@ -80,6 +88,7 @@ fn list_races<A: Allocator + Copy>(
 ) -> Result<RacesByKind<A>, Memory>
     ensures listed { IfOk result (λ r. AreListedRaces traces.now (number_at index.now) causes (map entry_of r.kinds.items) r.races) }
     ensures report { IfOk result (λ r. IsReportOf traces.now (whole_of r.report)) }
+    ensures came { IfOk result (λ r. r.came.items ≡ came_to_first traces.now r.report.divergences) }
 {
     let report = detect(alloc, traces)?;
     let records = Records::of(alloc, traces)?;
@@ -103,6 +112,7 @@ pub fn races_by_kind<A: Allocator + Copy>(
 ) -> Result<RacesByKind<A>, Memory>
     ensures listed { IfOk result (λ r. AreListedRaces traces.now (place_number (sides_said sides.now).places) causes (map entry_of r.kinds.items) r.races) }
     ensures report { IfOk result (λ r. IsReportOf traces.now (whole_of r.report)) }
+    ensures came { IfOk result (λ r. r.came.items ≡ came_to_first traces.now r.report.divergences) }
 {
     let index = PlaceIndex::of(alloc, sides.places)?;
     list_races(alloc, traces, &index, causes)

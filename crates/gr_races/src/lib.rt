@@ -6,6 +6,7 @@
 #![tactic(auto)]
 
 pub mod account;
+pub mod arrivals;
 pub mod between;
 pub mod by_kind;
 pub mod cause;

@@ -13,8 +13,11 @@ use Rattle.gr_timeline.specs.Accesses.{AreAccesses}
 use Rattle.gr_timeline.specs.Held.{IsHeldCount}
 use Rattle.gr_timeline.specs.Racy.{IsRacyIn}
 use Rattle.gr_timeline.specs.Waiting.{IsHeldEvent}
+use Rattle.gr_races.specs.Types.{Crossing, Placed}
 use Rattle.gr_races.specs.declared.by_kind.RacesByKind.{RacesByKind}
+use Rattle.gr_races.specs.Arrivals.{came_to_first}
 use Rattle.gr_races.specs.Listing.{Entry, entry_of}
+use Rattle.gr_races.specs.Accounts.{AccountSaid, IsAccountOf}
 use Rattle.gr_races.specs.Shown.{AreListedRaces}
 use Rattle.gr_timeline.specs.declared.word_history.HistoryAnswer.{HistoryAnswer}
 use Rattle.gr_timeline.specs.Histories.{IsHistory, Line, lines_of}
@@ -30,25 +33,31 @@ pub record IsLine (w : Word) (s : Streams) (line : List ℕ) : Type 0 where
   pub least : IsExplanation s w pair
   pub is : line ≡ explanation_line w pair
 
+-- the account of the word's least racing pair and no number; or, if the word is not racy, how many accesses to it are held
+abbrev pub IsLongAnswer : Streams → (Placed → Option ℕ) → Word → Option AccountSaid × ℕ → Type 0
+IsLongAnswer s numbers w a = IsAccountOf s numbers w a.0 × MatchOption a.0 (IsHeldCount s w a.1) (λ account. a.1 ≡ 0)
+
 -- the event is held in a launch
 abbrev pub IsHeldIn : EventId → Streams → Type 0
 IsHeldIn e s = IsHeldEvent s e
 
 -- ---- races by kinds
 
--- the kinds of races, how many races there are, and the report
+-- the kinds of races, how many races there are, the report, and what the items brought to its first divergent barrier
 pub record RacesSaid : Type 0 where
   pub by_kind : List Entry
   pub races : ℕ
   pub report : WholeReport
+  pub came : List (Option Crossing)
 
 abbrev pub races_said : {Z : Type 0} → RacesByKind Z → RacesSaid
-races_said r = record { by_kind = map entry_of r.kinds.items; races = r.races; report = whole_of r.report }
+races_said r = record { by_kind = map entry_of r.kinds.items; races = r.races; report = whole_of r.report; came = r.came.items }
 
 -- the races of a launch, with what side files say and with causes if they are asked for, and its report
 pub record AreRaces (said : SidesSaid) (causes : Bool) (s : Streams) (r : RacesSaid) : Type 0 where
   pub listed : AreListedRaces s (place_number said.places) causes r.by_kind r.races
   pub report : IsReportOf s r.report
+  pub came : r.came ≡ came_to_first s r.report.divergences
 
 -- ---- the history of a word
 

@@ -2,12 +2,12 @@
 
 ghost use Rattle.std.specs.Prelude.{option_map};
 ghost use Rattle.gr_places.specs.SideLines.{place_number};
-ghost use Rattle.gr_races.specs.Accounts.{IsAccountOf, account_said};
+ghost use Rattle.gr_races.specs.Accounts.{account_said};
 ghost use Rattle.gr_races.specs.Shown.{HasRace};
 ghost use Rattle.gr_timeline.specs.Racy.{IsRacyIn};
 ghost use Rattle.gr_timeline.specs.Why.{IsWhy, answer_of};
 ghost use Rattle.gr_show.specs.Rendering.{Renders};
-ghost use Rattle.gr_show.specs.Shown.{AreRaces, IsExplanation, IsHeldIn, IsLine, IsHistoryOf, history_said, races_said};
+ghost use Rattle.gr_show.specs.Shown.{AreRaces, IsExplanation, IsHeldIn, IsLine, IsLongAnswer, IsHistoryOf, history_said, races_said};
 
 use crate::question::{JsonQuestion, OrMemory, Question, Text};
 use gr_explain::explain::explain;
@@ -31,11 +31,15 @@ use std::alloc::{Allocator, Global};
 /// Two events that race.
 type Pair = (EventId, EventId);
 
+/// The account of a racing pair; or how many accesses are held.
+type LongAnswer<A = Global> = (Option<Account<A>>, usize);
+
 /// The least racing pair of a word.
 #[derive(Clone, Copy, Debug)]
 pub struct LeastRace(pub Word);
 
-/// The least racing pair of a word, with what its accesses are, what is between them, the cause, and the other races of the word.
+/// The least racing pair of a word, with what its accesses are, what is between them, the cause, and the other races of the word; or how
+/// many accesses to the word are held.
 #[derive(Clone, Copy, Debug)]
 pub struct LongRace(pub Word);
 
@@ -87,37 +91,35 @@ impl JsonQuestion for LeastRace {
 }
 
 impl<A: Allocator + Copy> Question<A> for LongRace {
-    type Answer = Option<Account<A>>;
+    type Answer = LongAnswer<A>;
 
-    ghost is_answer = { λ q said launch account. IsAccountOf launch (place_number said.places) q.0 (option_map account_said account) };
+    ghost is_answer = { λ q said launch a. IsLongAnswer launch (place_number said.places) q.0 (option_map account_said a.0, a.1) };
 
     ghost is_found = { λ q. IsRacyIn q.0 };
 
-    ghost is_text = { λ q said launch. Renders (IsAccountOf launch (place_number said.places) q.0) };
+    ghost is_text = { λ q said launch. Renders (IsLongAnswer launch (place_number said.places) q.0) };
 
-    fn answer(
-        &self,
-        alloc: A,
-        launch: &Traces<A>,
-        sides: &Sides<'_>,
-    ) -> OrMemory<Option<Account<A>>> {
-        account_of(alloc, launch, sides, self.0)
+    fn answer(&self, alloc: A, launch: &Traces<A>, sides: &Sides<'_>) -> OrMemory<LongAnswer<A>> {
+        match account_of(alloc, launch, sides, self.0)? {
+            None => Ok((None, word_history_of(alloc, launch, self.0)?.held)),
+            Some(account) => Ok((Some(account), 0)),
+        }
     }
 
-    fn found(&self, account: &Option<Account<A>>) -> bool {
-        account.is_some()
+    fn found(&self, answer: &LongAnswer<A>) -> bool {
+        answer.0.is_some()
     }
 
-    fn text(&self, alloc: A, account: &Option<Account<A>>, sides: &Sides<'_>) -> Text<A> {
-        account_text(alloc, sides, self.0, account.as_ref())
+    fn text(&self, alloc: A, answer: &LongAnswer<A>, sides: &Sides<'_>) -> Text<A> {
+        account_text(alloc, sides, self.0, answer.0.as_ref(), answer.1)
     }
 }
 
 impl JsonQuestion for LongRace {
-    ghost is_json = { λ q said launch. Renders (IsAccountOf launch (place_number said.places) q.0) };
+    ghost is_json = { λ q said launch. Renders (IsLongAnswer launch (place_number said.places) q.0) };
 
-    fn json(&self, alloc: Global, account: &Option<Account>, sides: &Sides<'_>) -> Text {
-        account_json(alloc, sides, self.0, account.as_ref())
+    fn json(&self, alloc: Global, answer: &LongAnswer, sides: &Sides<'_>) -> Text {
+        account_json(alloc, sides, self.0, answer.0.as_ref(), answer.1)
     }
 }
 

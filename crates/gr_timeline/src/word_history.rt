@@ -13,7 +13,9 @@ use crate::history::history_of;
 use gr_model::event::{EventId, Word};
 use gr_model::memory::Memory;
 use gr_model::traces::Traces;
-use std::alloc::{Allocator, Global};
+use indexmap::IndexSet;
+use std::alloc::{AllocError, Allocator, Global};
+use std::hash::{BuildHasherDefault, FoldHasher};
 
 /// What is known of a word.
 #[derive(Drop)]
@@ -26,6 +28,29 @@ pub struct HistoryAnswer<A: Allocator = Global> {
     pub held: usize,
     /// Whether it is racy.
     pub racy: bool,
+}
+
+impl<A: Allocator + Copy> HistoryAnswer<A> {
+    /// The accesses that are held, with the details of each, by their groups and records.
+    ///
+    /// # Errors
+    /// `AllocError`: out of memory.
+    pub fn held_accesses(&self, alloc: A) -> Result<Vec<(EventId, Details), A>, AllocError> {
+        if self.held == 0 {
+            return Ok(Vec::new(alloc));
+        }
+        let mut judged: IndexSet<EventId, BuildHasherDefault<FoldHasher>, A> = IndexSet::new(alloc);
+        for entry in &self.entries {
+            judged.insert(entry.event)?;
+        }
+        let mut held = Vec::with_capacity(alloc, self.held)?;
+        for (event, details) in &self.known {
+            if !judged.contains(event) {
+                held.push((*event, *details))?;
+            }
+        }
+        Ok(held)
+    }
 }
 
 impl<A: Allocator> HistoryAnswer<A> {
