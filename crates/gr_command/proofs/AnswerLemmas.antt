@@ -14,16 +14,13 @@ use Rattle.gr_record.specs.Prelude.{Fails, IsOutside}
 use Rattle.gr_record.proofs.Outside.{at_any}
 use Rattle.gr_places.specs.FaultText.{sides_fault_line}
 use Rattle.gr_places.specs.declared.sides_fault.SidesFault.TheVariants.{Run}
-use Rattle.gr_record.specs.declared.fault.Fault.{Fault}
+use Rattle.gr_text.specs.Prelude.{Fault, packed, dumped, upgraded, text_before_fault}
 use Rattle.gr_record.specs.declared.fault.Fault.TheVariants.{Write, Memory}
 use Rattle.gr_replay.specs.Replays.{IsExact, IsExactOfEach, IsReplayFault, WritesPrefix}
 use Rattle.gr_report.specs.FaultText.{fault_line}
 use Rattle.gr_report.specs.Putting.{AppendsPrefix}
 use Rattle.gr_report.specs.ReportText.{report_text}
 use Rattle.gr_streams.specs.Streams.{IsRunFault, WritesPrefixOfEach}
-use Rattle.gr_text.specs.Texts.{packed}
-use Rattle.gr_text.specs.Dumps.{dumped, upgraded}
-use Rattle.gr_text.specs.Partial.{text_before_fault}
 use Rattle.gr_text.specs.Writes.{Writes}
 use Rattle.gr_command.specs.Answers.{IsAnswerOf, IsAnswerTo, IsDone, IsFaultTold, IsPartialDump, IsUsageTold, WritesReportPrefix}
 use Rattle.gr_command.specs.Statuses.{fault_status, sides_fault_status}

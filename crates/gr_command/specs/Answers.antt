@@ -9,7 +9,7 @@ use Rattle.gr_arguments.specs.declared.request.Query.TheVariants.{Check, Explain
 use Rattle.gr_arguments.specs.declared.request.Query.TheVariants as query
 use Rattle.gr_arguments.specs.declared.request.Task.{Task}
 use Rattle.gr_arguments.specs.declared.request.Task.TheVariants.{Replay, Pack, Dump, Upgrade}
-use Rattle.gr_record.specs.declared.fault.Fault.{Fault}
+use Rattle.gr_text.specs.Prelude.{Fault, packed, dumped, upgraded, text_before_fault}
 use Rattle.gr_record.specs.declared.fault.Fault.TheVariants.{Write}
 use Rattle.gr_report.specs.ReportText.{report_text}
 use Rattle.gr_report.specs.FaultText.{fault_line}
@@ -19,9 +19,6 @@ use Rattle.gr_timeline.specs.Why.{IsWhy}
 use Rattle.gr_places.specs.SideLines.{place_number}
 use Rattle.gr_replay.specs.Replays.{IsExact, IsExactOfEach, IsReplayFault}
 use Rattle.gr_record.specs.Prelude.{Fails, IsOutside}
-use Rattle.gr_text.specs.Texts.{packed}
-use Rattle.gr_text.specs.Dumps.{dumped, upgraded}
-use Rattle.gr_text.specs.Partial.{text_before_fault}
 use Rattle.gr_text.specs.Writes.{Writes, WritesPrefix as WritesPrefixOf}
 use Rattle.gr_places.specs.declared.sides_fault.SidesFault.TheVariants.{Run}
 use Rattle.gr_places.specs.FaultText.{sides_fault_line}

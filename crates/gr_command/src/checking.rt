@@ -3,7 +3,6 @@
 ghost use Rattle.std.specs.Prelude.{◌≡◌, ◌≢◌, IfErr, IfOk, map};
 ghost use Rattle.std.specs.Fn.{FnReturnsAt};
 ghost use Rattle.std.specs.Io.KnownBytes.{Keeps};
-ghost use Rattle.gr_record.specs.declared.fault.Fault.TheVariants as faults;
 ghost use Rattle.gr_places.specs.Checked.{IsCheckFileFault};
 ghost use Rattle.gr_command.specs.Answers.{ChecksPrefixOfFiles, IsCheckedOfFiles};
 
@@ -40,13 +39,11 @@ pub fn write_check<T: Read + Drop, O: Fn(&str) -> io::Result<T>, W: Write>(
     requires { O.IsAlwaysCallable opener }
     ensures checked { IfOk result (λ accepted. IsCheckedOfFiles T.remaining (FnReturnsAt O.Fn opener) (W.contents writer.old) (W.contents writer.new) (map (λ s. s.now) arguments.now.files.items) accepted) }
     ensures fault { IfErr result (λ f. IsCheckFileFault T.remaining (FnReturnsAt O.Fn opener) (map (λ s. s.now) arguments.now.files.items) f) }
-    ensures untouched { IfErr result (λ f. f ≢ faults.Write → Keeps (W.contents writer.old) (W.contents writer.new)) }
-    ensures prefix { IfErr result (λ f. f ≡ faults.Write → ChecksPrefixOfFiles T.remaining (FnReturnsAt O.Fn opener) (W.contents writer.old) (W.contents writer.new) (map (λ s. s.now) arguments.now.files.items)) }
+    ensures untouched { IfErr result (λ f. f ≢ Fault.Write → Keeps (W.contents writer.old) (W.contents writer.new)) }
+    ensures prefix { IfErr result (λ f. f ≡ Fault.Write → ChecksPrefixOfFiles T.remaining (FnReturnsAt O.Fn opener) (W.contents writer.old) (W.contents writer.new) (map (λ s. s.now) arguments.now.files.items)) }
 {
     let checked = check_files(alloc, arguments.files.as_slice(), opener)?;
     let text = text_of(alloc, &checked, arguments.json)?;
-    match write_text(writer, &text) {
-        Ok(()) => Ok(checked.is_accepted()),
-        Err(_) => Err(Fault::Write),
-    }
+    write_text(writer, &text)?;
+    Ok(checked.is_accepted())
 }

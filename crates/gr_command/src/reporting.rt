@@ -3,7 +3,6 @@
 ghost use Rattle.std.specs.Prelude.{◌≡◌, ◌≢◌, ◌⊎◌, true, IfErr, IfOk, IfSome, OnOk, map};
 ghost use Rattle.std.specs.Fn.{FnReturnsAt};
 ghost use Rattle.std.specs.Io.KnownBytes.{Keeps};
-ghost use Rattle.gr_record.specs.declared.fault.Fault.TheVariants as faults;
 ghost use Rattle.gr_model.specs.Prelude.{WholeReport};
 ghost use Rattle.gr_replay.specs.Replays.{IsExact, IsReplayFault};
 ghost use Rattle.gr_report.specs.Whole.{whole_of};
@@ -30,9 +29,9 @@ use std::time::Clock;
 /// `Memory`, before anything is written; `Write`, after which the writer has a prefix.
 fn write_json<W: Write>(alloc: Global, report: &Report, writer: &mut W) -> Result<(), Fault>
     ensures whole { OnOk result (WritesReport true (whole_of report.now) (W.contents writer.old) (W.contents writer.new)) }
-    ensures fault { IfErr result (λ f. (f ≡ faults.Memory) ⊎ (f ≡ faults.Write)) }
-    ensures untouched { IfErr result (λ f. f ≢ faults.Write → Keeps (W.contents writer.old) (W.contents writer.new)) }
-    ensures prefix { IfErr result (λ f. f ≡ faults.Write → WritesReportPrefix true (whole_of report.now) (W.contents writer.old) (W.contents writer.new)) }
+    ensures fault { IfErr result (λ f. (f ≡ Fault.Memory) ⊎ (f ≡ Fault.Write)) }
+    ensures untouched { IfErr result (λ f. f ≢ Fault.Write → Keeps (W.contents writer.old) (W.contents writer.new)) }
+    ensures prefix { IfErr result (λ f. f ≡ Fault.Write → WritesReportPrefix true (whole_of report.now) (W.contents writer.old) (W.contents writer.new)) }
 {
     let text = report_json(alloc, report)?;
     write_text(writer, &text)
@@ -50,8 +49,8 @@ pub fn replay_json<R: Read, W: Write>(
     ensures report { IfOk result (λ r. IfSome (R.remaining reader.old) (λ bytes. IsExact bytes (whole_of r))) }
     ensures text { IfOk result (λ r. WritesReport true (whole_of r) (W.contents writer.old) (W.contents writer.new)) }
     ensures fault { IfErr result (λ f. IfSome (R.remaining reader.old) (λ bytes. IsReplayFault bytes f)) }
-    ensures untouched { IfErr result (λ f. f ≢ faults.Write → Keeps (W.contents writer.old) (W.contents writer.new)) }
-    ensures prefix { IfErr result (λ f. f ≡ faults.Write → IfSome (R.remaining reader.old) (λ bytes. (r : WholeReport) × IsExact bytes r × WritesReportPrefix true r (W.contents writer.old) (W.contents writer.new))) }
+    ensures untouched { IfErr result (λ f. f ≢ Fault.Write → Keeps (W.contents writer.old) (W.contents writer.new)) }
+    ensures prefix { IfErr result (λ f. f ≡ Fault.Write → IfSome (R.remaining reader.old) (λ bytes. (r : WholeReport) × IsExact bytes r × WritesReportPrefix true r (W.contents writer.old) (W.contents writer.new))) }
 {
     let report = read_report(alloc, reader)?;
     write_json(alloc, &report, writer)?;
@@ -80,13 +79,11 @@ where
     ensures report { IfOk result (λ r. IsReportOfFiles T.remaining (FnReturnsAt O.Fn opener) (map (λ s. s.now) arguments.now.files.items) (whole_of r)) }
     ensures text { IfOk result (λ r. WritesReport arguments.now.json (whole_of r) (W.contents writer.old) (W.contents writer.new)) }
     ensures fault { IfErr result (λ f. IsFaultOfFiles T.remaining (FnReturnsAt O.Fn opener) (map (λ s. s.now) arguments.now.files.items) f) }
-    ensures untouched { IfErr result (λ f. f ≢ faults.Write → Keeps (W.contents writer.old) (W.contents writer.new)) }
-    ensures prefix { IfErr result (λ f. f ≡ faults.Write → WritesPrefixOfFiles T.remaining (FnReturnsAt O.Fn opener) (map (λ s. s.now) arguments.now.files.items) arguments.now.json (W.contents writer.old) (W.contents writer.new)) }
+    ensures untouched { IfErr result (λ f. f ≢ Fault.Write → Keeps (W.contents writer.old) (W.contents writer.new)) }
+    ensures prefix { IfErr result (λ f. f ≡ Fault.Write → WritesPrefixOfFiles T.remaining (FnReturnsAt O.Fn opener) (map (λ s. s.now) arguments.now.files.items) arguments.now.json (W.contents writer.old) (W.contents writer.new)) }
 {
     let files = open_all(alloc, arguments.files.as_slice(), opener)?;
-    let Ok(watch) = Arc::new(alloc, NoWatch) else {
-        return Err(Fault::Memory);
-    };
+    let watch = Arc::new(alloc, NoWatch).map_err(|_| Fault::Memory)?;
     if !arguments.json {
         return run_streams(rt, alloc, files, config, watch, writer);
     }

@@ -2,9 +2,5 @@
 pub use Rattle.gr_clocks.specs.declared.access.Access.{Access}
 pub use Rattle.gr_explain.specs.declared.judging.Judgement.{Judgement}
 pub use Rattle.gr_explain.specs.declared.tag_pairs.TaggedRace.{TaggedRace}
-pub use Rattle.gr_model.specs.declared.class.Class.{Class}
-pub use Rattle.gr_model.specs.declared.event.Event.{Event}
-pub use Rattle.gr_model.specs.declared.event.EventId.{EventId}
-pub use Rattle.gr_model.specs.declared.event.ItemId.{ItemId}
-pub use Rattle.gr_model.specs.declared.event.Word.{Word}
+pub use Rattle.gr_model.specs.Types.{Class, Event, EventId, ItemId, Word}
 pub use Rattle.gr_model.specs.declared.race.Race.{Race}

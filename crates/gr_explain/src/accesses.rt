@@ -1,7 +1,6 @@
 //! The accesses of some events of a launch, kept as they are handled.
 
 ghost use Rattle.std.specs.Prelude.{All, IfOk, IsTrue, OnOk};
-ghost use Rattle.gr_model.specs.declared.race.Race.{Race as AnyRace};
 ghost use Rattle.gr_model.specs.Prelude.{AreAccepted};
 ghost use Rattle.gr_taking.specs.Taken.{read_by};
 ghost use Rattle.gr_explain.specs.Accesses.{AreBothKept, AreBothThere, AreThoseOf, AreWanted};
@@ -28,7 +27,7 @@ pub(crate) type Accesses<A> = IndexMap<EventId, Access<A>, BuildHasherDefault<Fo
 /// Adds both events of a pair.
 fn add_pair<A: Allocator>(events: &mut Events<A>, race: &Race) -> Result<(), Memory>
     ensures added { OnOk result (AreWanted events.new.keys race.now) }
-    ensures others { OnOk result ((r : AnyRace) → AreWanted events.old.keys r → AreWanted events.new.keys r) }
+    ensures others { OnOk result ((r : Race) → AreWanted events.old.keys r → AreWanted events.new.keys r) }
 {
     events.insert(race.first)?;
     events.insert(race.second)?;

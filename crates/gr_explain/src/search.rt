@@ -1,7 +1,6 @@
 //! The search for the least racing pair of a word, along the order in which events are handled.
 
 ghost use Rattle.std.specs.Prelude.{◌≡◌, ◌⊎◌, [], OnOk, Some};
-ghost use Rattle.gr_model.specs.declared.event.Word.{Word as AnyWord};
 ghost use Rattle.gr_clocks.specs.ClockedAccess.{clocked};
 ghost use Rattle.gr_shadow.specs.Clashes.{event_of};
 ghost use Rattle.gr_explain.specs.LeastRaces.{IsLeastOf};
@@ -56,7 +55,7 @@ fn least_with<A: Allocator>(
 impl<A: Allocator + Copy> Search<A> {
     /// No accesses.
     pub(crate) fn new(alloc: A) -> Search<A>
-        ensures { (w : AnyWord) → StandsFor w [] result }
+        ensures { (w : Word) → StandsFor w [] result }
     {
         Search {
             classes: Vec::new(alloc),

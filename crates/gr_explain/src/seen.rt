@@ -1,7 +1,6 @@
 //! The accesses of one class to a word that came so far.
 
 ghost use Rattle.std.specs.Prelude.{◌≡◌, ◌≢◌, ◌↔◌, ◌⊎◌, IsTrue, MatchOption, OnOk, Some};
-ghost use Rattle.gr_model.specs.declared.event.EventId.{EventId as AnyEvent};
 ghost use Rattle.gr_clocks.specs.ClockedAccess.{clocked};
 ghost use Rattle.gr_shadow.specs.Clashes as spec;
 ghost use Rattle.gr_explain.specs.LeastRaces.{IsLeastOf, PairBelow};
@@ -112,12 +111,11 @@ impl<A: Allocator + Copy> Seen<A> {
         requires { access.now.class ≡ self.old.class }
         ensures class { OnOk result (self.new.class ≡ access.now.class) }
         ensures same { OnOk result (self.new.class ≡ self.old.class) }
-        ensures events { OnOk result ((e : AnyEvent) → IsAmong self.new.items e ↔ ((e ≡ spec.event_of (clocked access.now)) ⊎ IsAmong self.old.items e)) }
+        ensures events { OnOk result ((e : EventId) → IsAmong self.new.items e ↔ ((e ≡ spec.event_of (clocked access.now)) ⊎ IsAmong self.old.items e)) }
     {
         let none = Indices::new(self.alloc);
         let indices = self.items.entry(access.item)?.or_insert(none);
-        indices.add(access.index)?;
-        Ok(())
+        indices.add(access.index)
     }
 }
 

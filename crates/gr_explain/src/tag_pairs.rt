@@ -2,7 +2,6 @@
 
 ghost use Rattle.std.specs.Prelude.{◌≡◌, ◌∷◌, [], IsTrue, OnOk, ℕ};
 ghost use Rattle.std.specs.List.{position};
-ghost use Rattle.gr_model.specs.declared.event.EventId.{EventId as AnyEvent};
 ghost use Rattle.gr_model.specs.declared.event.Word.{Word as AnyWord};
 ghost use Rattle.gr_clocks.specs.ClockedAccess.{clocked};
 ghost use Rattle.gr_explain.specs.TagPairs.{Finds, IsFound, IsPreferred, KeepsMore, IsTagAdded, StandsForTags, is_of_tags};
@@ -140,7 +139,7 @@ fn keep<A: Allocator + Copy>(
 impl<A: Allocator + Copy> TagPairs<A> {
     /// No accesses.
     pub(crate) fn new(alloc: A) -> TagPairs<A>
-        ensures { (tag_of : AnyEvent → ℕ) (w : AnyWord) → StandsForTags tag_of w [] result }
+        ensures { (tag_of : EventId → ℕ) (w : AnyWord) → StandsForTags tag_of w [] result }
     {
         TagPairs {
             lists: Vec::new(alloc),

@@ -3,7 +3,6 @@
 ghost use Rattle.std.specs.Prelude.{◌≡◌, ◌∷◌, ◌++◌, [], ℕ, AllPairs, IfOk, List, OnOk};
 ghost use Rattle.std.specs.Map.{lookup};
 ghost use Rattle.gr_model.specs.declared.event.EventId.{EventId as AnyEvent};
-ghost use Rattle.gr_model.specs.declared.event.Word.{Word as AnyWord};
 ghost use Rattle.gr_model.specs.Prelude.{WordBelow};
 ghost use Rattle.gr_clocks.specs.ClockedAccess.{ClockedAccess, clocked};
 ghost use Rattle.gr_shadow.specs.Kept.{same_word};
@@ -47,7 +46,7 @@ pub(crate) fn add_access<A: Allocator + Copy, T: Tags>(
     tags: &T,
     access: &Access<A>,
 ) -> Result<(), Memory>
-    ensures { OnOk result ((words : List AnyWord) (accesses : List ClockedAccess) → StandForWords (T.tag_of tags.now) words accesses pairs.old.entries → StandForWords (T.tag_of tags.now) words (accesses ++ clocked access.now ∷ []) pairs.new.entries) }
+    ensures { OnOk result ((words : List Word) (accesses : List ClockedAccess) → StandForWords (T.tag_of tags.now) words accesses pairs.old.entries → StandForWords (T.tag_of tags.now) words (accesses ++ clocked access.now ∷ []) pairs.new.entries) }
 {
     match pairs.get_mut(&access.word) {
         None => Ok(()),
@@ -132,6 +131,5 @@ pub fn races_by_tags<A: Allocator + Copy, T: Tags>(
     }
     let mut pairs = pairs_of_words(alloc, words)?;
     follow(alloc, traces, &WordsKeeper { words, tags }, &mut pairs)?;
-    let races = list_words(alloc, &pairs, words)?;
-    Ok(races)
+    list_words(alloc, &pairs, words)
 }

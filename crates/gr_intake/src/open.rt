@@ -1,7 +1,6 @@
 //! The stream that goes on.
 
 ghost use Rattle.std.specs.Prelude.{◌≡◌, ◌≢◌, ◌<◌, ◌≤◌, [], ℕ, Err, IfErr, IfOk, OnOk, length};
-ghost use Rattle.gr_model.specs.declared.limits.TheConstants.{MOST_RECORDS};
 ghost use Rattle.gr_model.specs.Prelude.{IsEventOk, list_of, size_of};
 ghost use Rattle.gr_order.specs.Sequences.{IsSequence};
 ghost use Rattle.gr_record.specs.Prelude.{record_length};

@@ -1,7 +1,7 @@
 //! Why an event is held as JSON.
 
 use crate::values::{EventObject, ReleaseObject, Text, push_line, push_lines};
-use gr_model::event::{EventId, Name};
+use gr_model::event::EventId;
 use gr_timeline::reason::{Link, Reason};
 use gr_timeline::why::WhyHeld;
 use serde::Serialize;
@@ -9,20 +9,14 @@ use std::alloc::{Allocator, Global};
 
 /// Why an event is held: by an event, by a release that is named, or by the event in a line above.
 #[derive(Drop, Serialize)]
-#[serde(untagged)]
-enum ReasonObject {
-    Event {
-        event: EventObject,
-        name: &'static str,
-    },
-    Release {
-        name: &'static str,
-        release: ReleaseObject,
-    },
-    Circle {
-        line: usize,
-        name: &'static str,
-    },
+struct ReasonObject {
+    #[serde(skip_serializing_if = "Option::is_none")]
+    event: Option<EventObject>,
+    #[serde(skip_serializing_if = "Option::is_none")]
+    line: Option<usize>,
+    name: &'static str,
+    #[serde(skip_serializing_if = "Option::is_none")]
+    release: Option<ReleaseObject>,
 }
 
 /// An event, and why it is held, if it is.
@@ -35,31 +29,20 @@ struct EventLine {
     line: &'static str,
 }
 
-fn by_event(name: &'static str, event: EventId) -> ReasonObject {
-    ReasonObject::Event {
-        event: event.into(),
-        name,
-    }
-}
-
-fn by_release(name: &'static str, named: Name) -> ReasonObject {
-    ReasonObject::Release {
-        name,
-        release: named.into(),
-    }
-}
-
 fn reason_object(reason: Reason) -> ReasonObject {
-    match reason {
-        Reason::Behind(event) => by_event("behind", event),
-        Reason::Release(event) => by_event("release", event),
-        Reason::Barrier(event) => by_event("barrier", event),
-        Reason::Absent(named) => by_release("absent", named),
-        Reason::OtherWord(named) => by_release("other-word", named),
-        Reason::Circle(line) => ReasonObject::Circle {
-            line,
-            name: "circle",
-        },
+    let (name, named, line) = match reason {
+        Reason::Behind(_) => ("behind", None, None),
+        Reason::Release(_) => ("release", None, None),
+        Reason::Barrier(_) => ("barrier", None, None),
+        Reason::Absent(named) => ("absent", Some(named), None),
+        Reason::OtherWord(named) => ("other-word", Some(named), None),
+        Reason::Circle(line) => ("circle", None, Some(line)),
+    };
+    ReasonObject {
+        event: reason.leads_to().map(|event| event.into()),
+        line,
+        name,
+        release: named.map(|named| named.into()),
     }
 }
 

@@ -2,7 +2,7 @@
 
 use crate::values::{
     DetailsObject, ElementObject, EventObject, KindObject, Text, WordObject, buffer_object,
-    details_object, objects_of, place_of, push_line, push_lines,
+    details_object, place_of, push_line, push_lines,
 };
 use gr_model::class::class_of;
 use gr_model::event::Word;
@@ -61,8 +61,9 @@ struct EndLine<'a> {
 }
 
 fn named_object(alloc: Global, named: &Named) -> Result<NamedObject, Memory> {
+    let events = named.events.iter().map(|event| (*event).into());
     Ok(NamedObject {
-        events: objects_of(alloc, &named.events, |event| (*event).into())?,
+        events: events.collect(alloc)?,
         others: named.others,
     })
 }
@@ -109,10 +110,14 @@ pub fn history_json(alloc: Global, sides: &Sides<'_>, word: Word, history: &Hist
         }
     }
     let held = history.held_accesses(alloc)?;
-    push_lines(&mut text, &held, |(event, details)| HeldLine {
-        details: details_object(&places, *event, details),
-        line: "held",
-    })?;
+    push_lines(
+        &mut text,
+        &held,
+        |(event, details)| HeldLine {
+            details: details_object(&places, *event, details),
+            line: "held",
+        },
+    )?;
     let end = EndLine {
         accesses: history.entries.len(),
         buffer: buffer_object(sides, word),

@@ -2,8 +2,8 @@
 //! what side files say.
 
 use crate::values::{
-    DetailsObject, ElementObject, EventObject, KindObject, ReleaseObject, Text, WordObject,
-    buffer_object, details_object, line_of, objects_of, place_of,
+    AccessObject, DetailsObject, ElementObject, EventObject, KindObject, ReleaseObject, Text,
+    WordObject, access_object, buffer_object, details_object, line_of, place_of,
 };
 use gr_model::event::{EventId, Word, word_of};
 use gr_model::memory::Memory;
@@ -12,8 +12,8 @@ use gr_places::places::Placed;
 use gr_places::sides::Sides;
 use gr_races::account::Account;
 use gr_races::between::{Between, Crossing, DetailedEvent};
-use gr_races::kinds::{KindedRace, Operation};
-use gr_races::names::{cause_name, operation_name};
+use gr_races::kinds::KindedRace;
+use gr_races::names::cause_name;
 use serde::Serialize;
 use std::alloc::Global;
 
@@ -62,20 +62,11 @@ struct BetweenObject<'a> {
     release: Option<HalfObject<'a>>,
 }
 
-/// What an access does, its event, and where it is in the source.
-#[derive(Drop, Serialize)]
-struct OperationObject<'a> {
-    #[serde(flatten)]
-    event: EventObject,
-    operation: &'static str,
-    place: Option<&'a str>,
-}
-
 /// A race of two accesses.
 #[derive(Drop, Serialize)]
 struct OtherObject<'a> {
-    first: OperationObject<'a>,
-    second: OperationObject<'a>,
+    first: AccessObject<'a>,
+    second: AccessObject<'a>,
 }
 
 /// A word's racing pair, what its accesses are, what is between them, the cause of their race and the word's other races.
@@ -110,7 +101,10 @@ pub fn race_json(alloc: Global, word: Word, pair: Option<(EventId, EventId)>) ->
     line_of(alloc, &race_line(word, pair, None))
 }
 
-pub(crate) fn crossing_object<'a>(places: &PlaceIndex<'a>, crossing: &Crossing) -> CrossingObject<'a> {
+pub(crate) fn crossing_object<'a>(
+    places: &PlaceIndex<'a>,
+    crossing: &Crossing,
+) -> CrossingObject<'a> {
     CrossingObject {
         global: crossing.global,
         instance: crossing.instance,
@@ -125,18 +119,21 @@ fn half_object<'a>(
     places: &PlaceIndex<'a>,
     half: Option<DetailedEvent>,
 ) -> Result<Option<HalfObject<'a>>, Memory> {
-    let Some(DetailedEvent {
-        event,
-        said,
-        details,
-    }) = half
+    let Some(
+        DetailedEvent {
+            event,
+            said,
+            details,
+        },
+    ) = half
     else {
         return Ok(None);
     };
+    let names = said.names.as_slice().iter();
     Ok(Some(HalfObject {
         access: details.kind.into(),
         event: event.into(),
-        names: objects_of(alloc, said.names.as_slice(), |name| (*name).into())?,
+        names: names.map(|name| (*name).into()).collect(alloc)?,
         phase: details.phase,
         place: place_of(places, event),
         record: details.number,
@@ -149,31 +146,20 @@ fn between_object<'a>(
     places: &PlaceIndex<'a>,
     between: &Between,
 ) -> Result<BetweenObject<'a>, Memory> {
-    let crossings = &between.crossings;
+    let crossings = between.crossings.iter();
+    let barriers = crossings.map(|it| crossing_object(places, it));
     Ok(BetweenObject {
         acquire: half_object(alloc, places, between.acquire)?,
-        barriers: objects_of(alloc, crossings, |it| crossing_object(places, it))?,
+        barriers: barriers.collect(alloc)?,
         release: half_object(alloc, places, between.release)?,
     })
-}
-
-fn operation_object<'a>(
-    places: &PlaceIndex<'a>,
-    operation: Operation,
-    event: EventId,
-) -> OperationObject<'a> {
-    OperationObject {
-        event: event.into(),
-        operation: operation_name(operation),
-        place: place_of(places, event),
-    }
 }
 
 fn other_object<'a>(places: &PlaceIndex<'a>, other: &KindedRace) -> OtherObject<'a> {
     let (kind, race) = (other.kind, other.race);
     OtherObject {
-        first: operation_object(places, kind.first.operation, race.first),
-        second: operation_object(places, kind.second.operation, race.second),
+        first: access_object(places, race.first, Some(kind.first.operation)),
+        second: access_object(places, race.second, Some(kind.second.operation)),
     }
 }
 
@@ -184,12 +170,13 @@ fn account_line<'a>(
     word: Word,
     account: &Account,
 ) -> Result<AccountLine<'a>, Memory> {
+    let others = account.others.iter().map(|it| other_object(places, it));
     Ok(AccountLine {
         between: between_object(alloc, places, &account.between)?,
         buffer: buffer_object(sides, word),
         cause: cause_name(account.cause),
         first: details_object(places, account.first, &account.first_details),
-        others: objects_of(alloc, &account.others, |it| other_object(places, it))?,
+        others: others.collect(alloc)?,
         second: details_object(places, account.second, &account.second_details),
         line: "race",
         word: word.into(),

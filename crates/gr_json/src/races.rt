@@ -3,10 +3,9 @@
 use crate::race::{CrossingObject, crossing_object};
 use crate::report::{cut_line, diverge_line, end_line};
 use crate::values::{
-    ElementObject, EventObject, Text, WordObject, buffer_object, objects_of, place_of, push_line,
+    AccessObject, ElementObject, Text, WordObject, access_object, buffer_object, push_line,
     push_lines,
 };
-use gr_model::event::EventId;
 use gr_model::memory::Memory;
 use gr_model::race::Race;
 use gr_places::index::PlaceIndex;
@@ -17,14 +16,6 @@ use gr_races::listing::KindEntry;
 use gr_races::names::{cause_name, cause_sentence, operation_name, space_name};
 use serde::Serialize;
 use std::alloc::Global;
-
-/// An event, and where it is in the source.
-#[derive(Drop, Serialize)]
-struct AccessObject<'a> {
-    #[serde(flatten)]
-    event: EventObject,
-    place: Option<&'a str>,
-}
 
 /// A cause, and the sentence about it.
 #[derive(Drop, Serialize)]
@@ -89,13 +80,6 @@ struct KindLine<'a> {
     words: usize,
 }
 
-fn access_object<'a>(places: &PlaceIndex<'a>, event: EventId) -> AccessObject<'a> {
-    AccessObject {
-        event: event.into(),
-        place: place_of(places, event),
-    }
-}
-
 /// The first race of a kind.
 fn first_race<'a>(
     sides: &Sides<'a>,
@@ -113,8 +97,8 @@ fn first_race<'a>(
             name: cause_name(cause),
             sentence: cause_sentence(word, cause),
         }),
-        first: access_object(places, first),
-        second: access_object(places, second),
+        first: access_object(places, first, None),
+        second: access_object(places, second, None),
         word: word.into(),
     })
 }
@@ -127,6 +111,10 @@ fn push_kind(
     entry: &KindEntry,
 ) -> Result<(), Memory> {
     let kind = &entry.kind;
+    let runs = entry.runs.iter().map(|run| RunObject {
+        first: run.first.into(),
+        last: run.last,
+    });
     let line = KindLine {
         kind: KindObject {
             all_write_here: kind.all_write_here(),
@@ -136,14 +124,7 @@ fn push_kind(
             space: space_name(kind.space),
         },
         race: first_race(sides, places, entry),
-        runs: objects_of(
-            *text.allocator(),
-            &entry.runs,
-            |run| RunObject {
-                first: run.first.into(),
-                last: run.last,
-            },
-        )?,
+        runs: runs.collect(*text.allocator())?,
         line: "kind",
         words: entry.races.len(),
     };
@@ -151,20 +132,25 @@ fn push_kind(
 }
 
 /// Adds the line of what the items came with to the first divergent barrier, if there is one.
-fn push_arrivals(text: &mut Vec<u8>, places: &PlaceIndex<'_>, found: &RacesByKind) -> Result<(), Memory> {
+fn push_arrivals(
+    text: &mut Vec<u8>,
+    places: &PlaceIndex<'_>,
+    found: &RacesByKind,
+) -> Result<(), Memory> {
     let alloc = *text.allocator();
     let Some(first) = found.report.divergences.as_slice().first() else {
         return Ok(());
     };
     let arrivals = arrivals_of(alloc, &found.came)?;
+    let items = arrivals.iter().map(|it| ArrivalObject {
+        barrier: it.barrier.map(|barrier| crossing_object(places, &barrier)),
+        first: it.first,
+        last: it.last,
+    });
     let line = ArrivalsLine {
         group: first.group,
         instance: first.instance,
-        items: objects_of(alloc, &arrivals, |it| ArrivalObject {
-            barrier: it.barrier.map(|barrier| crossing_object(places, &barrier)),
-            first: it.first,
-            last: it.last,
-        })?,
+        items: items.collect(alloc)?,
         line: "arrivals",
     };
     push_line(text, &line)

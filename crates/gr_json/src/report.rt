@@ -1,7 +1,6 @@
 //! The report of a launch as JSON: a line for how large the launch is, a line for each finding, and the end.
 
 use crate::values::{EventObject, Text, WordObject, push_line, push_lines};
-use gr_model::memory::Memory;
 use gr_model::report::Divergence;
 use gr_races::names::{acquire_name, divergence_name};
 use gr_report::report::Report;
@@ -100,7 +99,12 @@ pub(crate) fn end_line<A: Allocator>(
     }
 }
 
-fn push_report<A: Allocator>(text: &mut Vec<u8>, report: &Report<A>) -> Result<(), Memory> {
+/// The report as lines of JSON, in the order of its text.
+///
+/// # Errors
+/// `Memory`: out of memory.
+pub fn report_json<A: Allocator>(alloc: Global, report: &Report<A>) -> Text {
+    let mut text = Vec::new(alloc);
     let races = report.races.as_slice();
     let launch = LaunchLine {
         groups: report.groups,
@@ -108,35 +112,18 @@ fn push_report<A: Allocator>(text: &mut Vec<u8>, report: &Report<A>) -> Result<(
         records: report.records,
         line: "launch",
     };
-    push_line(text, &launch)?;
-    push_lines(text, report.cut.as_slice(), cut_line)?;
-    push_lines(
-        text,
-        races,
-        |word| RaceLine {
-            line: "race",
-            word: (*word).into(),
-        },
-    )?;
-    push_lines(text, report.divergences.as_slice(), diverge_line)?;
-    push_lines(
-        text,
-        report.unmatched.as_slice(),
-        |acquire| UnmatchedLine {
-            cause: acquire_name(acquire.cause),
-            event: acquire.event.into(),
-            line: "unmatched",
-        },
-    )?;
-    push_line(text, &end_line(report, races.len(), None))
-}
-
-/// The report as lines of JSON, in the order of its text.
-///
-/// # Errors
-/// `Memory`: out of memory.
-pub fn report_json<A: Allocator>(alloc: Global, report: &Report<A>) -> Text {
-    let mut text = Vec::new(alloc);
-    push_report(&mut text, report)?;
+    push_line(&mut text, &launch)?;
+    push_lines(&mut text, report.cut.as_slice(), cut_line)?;
+    for word in races {
+        let (line, word) = ("race", (*word).into());
+        push_line(&mut text, &RaceLine { line, word })?;
+    }
+    push_lines(&mut text, report.divergences.as_slice(), diverge_line)?;
+    for acquire in report.unmatched.as_slice() {
+        let (cause, event) = (acquire_name(acquire.cause), acquire.event.into());
+        let line = "unmatched";
+        push_line(&mut text, &UnmatchedLine { cause, event, line })?;
+    }
+    push_line(&mut text, &end_line(report, races.len(), None))?;
     Ok(text)
 }

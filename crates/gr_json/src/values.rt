@@ -6,7 +6,8 @@ use gr_places::buffers::{Element, element_of};
 use gr_places::index::PlaceIndex;
 use gr_places::places::Placed;
 use gr_places::sides::Sides;
-use gr_races::names::{atomic_of, kind_name, order_name, scope_name};
+use gr_races::kinds::Operation;
+use gr_races::names::{atomic_of, kind_name, operation_name, order_name, scope_name};
 use gr_timeline::details::Details;
 use serde::Serialize;
 use std::alloc::Global;
@@ -69,6 +70,16 @@ pub(crate) struct DetailsObject<'a> {
     record: usize,
 }
 
+/// An event, what it does if that is said, and where it is in the source.
+#[derive(Drop, Serialize)]
+pub(crate) struct AccessObject<'a> {
+    #[serde(flatten)]
+    event: EventObject,
+    #[serde(skip_serializing_if = "Option::is_none")]
+    operation: Option<&'static str>,
+    place: Option<&'a str>,
+}
+
 impl From<Word> for WordObject {
     fn from(word: Word) -> WordObject {
         let (group, number, space) = match word {
@@ -119,6 +130,19 @@ pub(crate) fn place_of<'a>(places: &PlaceIndex<'a>, event: EventId) -> Option<&'
     places.place_of(Placed::Event(event))
 }
 
+/// An event with this operation, if one is given, and its place.
+pub(crate) fn access_object<'a>(
+    places: &PlaceIndex<'a>,
+    event: EventId,
+    operation: Option<Operation>,
+) -> AccessObject<'a> {
+    AccessObject {
+        event: event.into(),
+        operation: operation.map(operation_name),
+        place: place_of(places, event),
+    }
+}
+
 /// An event and its details.
 pub(crate) fn details_object<'a>(
     places: &PlaceIndex<'a>,
@@ -138,21 +162,6 @@ pub(crate) fn details_object<'a>(
 pub(crate) fn buffer_object<'a>(sides: &Sides<'a>, word: Word) -> Option<ElementObject<'a>> {
     let Element { name, index } = element_of(sides.buffers, word)?;
     Some(ElementObject { index, name })
-}
-
-/// The objects of items, in their order.
-pub(crate) fn objects_of<T, U: Drop, F: Fn(&T) -> U>(
-    alloc: Global,
-    items: &[T],
-    object_of: F,
-) -> Result<Vec<U>, Memory>
-    requires { F.IsAlwaysCallable object_of }
-{
-    let mut objects = Vec::new(alloc);
-    for item in items {
-        objects.push(object_of(item))?;
-    }
-    Ok(objects)
 }
 
 /// Adds an object to a text as a line, with the version of the format first.

@@ -1,7 +1,6 @@
 //! Shapes, events, items and barriers of small launches.
 
 ghost use Rattle.std.specs.Prelude.{◌≡◌, ◌≤◌, ◌∷◌, [], IfOk, length, map};
-ghost use Rattle.gr_model.specs.declared.event.ItemId.{ItemId as AnyItem};
 ghost use Rattle.gr_barriers.specs.Arrived.{fresh_group, marks_of, sizes_of};
 
 use gr_barriers::instances::Instances;
@@ -42,7 +41,7 @@ pub(crate) fn access(kind: Kind, space: Space) -> Event
 pub(crate) fn new_instances<A: Allocator + Copy>(alloc: A) -> Result<Instances<A>, Memory>
     ensures new { IfOk result (λ v. v ≡ map fresh_group (2 ∷ [])) }
     ensures sizes { IfOk result (λ v. sizes_of v ≡ 2 ∷ []) }
-    ensures none { IfOk result (λ v. (i : AnyItem) → length (marks_of v i) ≤ 0) }
+    ensures none { IfOk result (λ v. (i : ItemId) → length (marks_of v i) ≤ 0) }
 {
     Instances::new(alloc, &shape_of(alloc, &[2])?)
 }

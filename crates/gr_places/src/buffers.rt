@@ -92,9 +92,7 @@ impl<'a> SideLine<'a> for BufferLine<'a> {
         }
     }
 
-    fn refusal(line: u64) -> SidesFault
-        ensures { result ≡ Buffers line }
-    {
+    fn refusal(line: u64) -> SidesFault {
         SidesFault::Buffers(line)
     }
 }

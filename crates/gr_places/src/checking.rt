@@ -2,7 +2,6 @@
 
 ghost use Rattle.std.specs.Prelude.{◌≡◌, ◌≢◌, IfErr, IfOk, map};
 ghost use Rattle.std.specs.Fn.{FnReturnsAt};
-ghost use Rattle.gr_record.specs.declared.fault.Fault.TheVariants as faults;
 ghost use Rattle.gr_record.specs.Prelude.{IsOutside, IsOfValues};
 ghost use Rattle.gr_model.specs.Prelude.{AreAccepted};
 ghost use Rattle.gr_replay.specs.Each.{IsEachFault, ReadsEach, inputs_of};
@@ -87,7 +86,7 @@ where
     requires { O.IsAlwaysCallable opener }
     ensures checked { IfOk result (λ c. HoldsOfFiles T.remaining (FnReturnsAt O.Fn opener) (map (λ s. s.now) names.now) (λ known. IsCheckedAsKnown (map (λ s. s.now) names.now) known (checked_said c))) }
     ensures fault { IfErr result (λ f. IsCheckFileFault T.remaining (FnReturnsAt O.Fn opener) (map (λ s. s.now) names.now) f) }
-    ensures reading { IfErr result (λ f. f ≢ faults.Write) }
+    ensures reading { IfErr result (λ f. f ≢ Fault.Write) }
 {
     let files = open_all(alloc, names, opener)?;
     let inputs = read_inputs(alloc, files)?;

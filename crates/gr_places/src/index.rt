@@ -2,7 +2,6 @@
 
 ghost use Rattle.std.specs.Prelude.{◌≡◌, IfOk, map};
 ghost use Rattle.std.specs.Option.{option_map};
-ghost use Rattle.gr_places.specs.declared.places.Placed.{Placed as AnyPlaced};
 ghost use Rattle.gr_places.specs.PlaceIndexes as spec;
 ghost use Rattle.gr_places.specs.SideLines.{place_line};
 

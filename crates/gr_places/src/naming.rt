@@ -3,7 +3,6 @@
 ghost use Rattle.std.specs.Prelude.{◌≡◌, MatchOption, map};
 ghost use Rattle.std.specs.List.{find};
 ghost use Rattle.std.specs.Option.{is_some};
-ghost use Rattle.gr_model.specs.declared.event.Word.{Word as AnyWord};
 ghost use Rattle.gr_places.specs.Naming as spec;
 ghost use Rattle.gr_places.specs.SideLines.{buffer_line};
 
@@ -60,7 +59,7 @@ fn line_said<'a>(lines: &[BufferLine<'a>], text: &str) -> Option<BufferLine<'a>>
 /// decimal digits without leading zeros. If there are several, as in the local memory of several groups, it is the word of the first
 /// line. `None` if no word has this name.
 pub fn word_said(lines: &[BufferLine<'_>], text: &str) -> Option<Word>
-    ensures { MatchOption result ((w : AnyWord) → ¬ spec.IsSaid (map buffer_line lines.now) text.now w) (λ w. spec.IsSaid (map buffer_line lines.now) text.now w) }
+    ensures { MatchOption result ((w : Word) → ¬ spec.IsSaid (map buffer_line lines.now) text.now w) (λ w. spec.IsSaid (map buffer_line lines.now) text.now w) }
 {
     let line = line_said(lines, text)?;
     word_in(lines, &line, text)

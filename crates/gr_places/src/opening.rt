@@ -9,8 +9,8 @@ use gr_record::fault::Fault;
 use std::alloc::Allocator;
 use std::io::{self, ErrorKind};
 
-/// The fault of a file that can't be opened.
-fn fault_of_opening(error: &io::Error) -> Fault
+/// The fault of a file that can't be opened or read.
+pub fn fault_of(error: &io::Error) -> Fault
     ensures { (result ≡ Fault.Memory) ⊎ (result ≡ Fault.Read) }
 {
     if error.kind() == ErrorKind::OutOfMemory {
@@ -38,7 +38,7 @@ pub fn open_all<A: Allocator, T: Drop, O: Fn(&str) -> io::Result<T>>(
     for name in names {
         match opener(name) {
             Ok(file) => keep(&mut files, file)?,
-            Err(error) => return Err(fault_of_opening(&error)),
+            Err(error) => return Err(fault_of(&error)),
         }
     }
     Ok(files)

@@ -74,9 +74,7 @@ impl<'a> SideLine<'a> for PlaceLine<'a> {
         Some(PlaceLine { of, text })
     }
 
-    fn refusal(line: u64) -> SidesFault
-        ensures { result ≡ Places line }
-    {
+    fn refusal(line: u64) -> SidesFault {
         SidesFault::Places(line)
     }
 }

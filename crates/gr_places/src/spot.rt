@@ -1,7 +1,6 @@
 //! Where in a stream its fault is.
 
 ghost use Rattle.std.specs.Prelude.{◌≡◌, ◌≤◌, length};
-ghost use Rattle.gr_model.specs.declared.limits.TheConstants.{MOST_RECORDS};
 ghost use Rattle.gr_record.specs.Prelude.{records_of};
 ghost use Rattle.gr_places.specs.Spots.{spot};
 

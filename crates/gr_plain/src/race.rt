@@ -4,7 +4,9 @@
 ghost use Rattle.std.specs.Prelude.{◌≡◌, IfOk};
 ghost use Rattle.gr_plain.specs.Explanations.{explanation_line};
 
-use crate::parts::{Added, AtText, DetailsText, EventText, WordText, put_cause, put_race, put_site};
+use crate::parts::{
+    Added, AtText, DetailsText, EventText, WordText, put_cause, put_race, put_site,
+};
 use gr_model::event::{EventId, Name, Word, word_of};
 use gr_model::memory::Memory;
 use gr_places::index::PlaceIndex;

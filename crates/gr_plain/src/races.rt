@@ -153,8 +153,7 @@ fn divergence_runs<A: Allocator>(
             Some((first, last))
                 if first.group == next.group
                     && first.cause == next.cause
-                    && last.checked_add(1) == Some(next.instance) =>
-            {
+                    && last.checked_add(1) == Some(next.instance) => {
                 *last = next.instance;
             }
             Some(_) | None => runs.push((*next, next.instance))?,

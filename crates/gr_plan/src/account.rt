@@ -1,9 +1,9 @@
 //! What was read of the streams in a series of bytes: where each begins, and how many records there were.
 
-use crate::files::fault_of;
 use crate::seen::Seen;
 use gr_model::limits::MOST_GROUPS;
 use gr_model::memory::Memory;
+use gr_places::opening::fault_of;
 use gr_record::error::RecordError;
 use gr_record::fault::Fault;
 use gr_record::header::Header;

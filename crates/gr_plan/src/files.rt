@@ -41,14 +41,6 @@ pub fn file_kind(rt: HostRuntime, name: &str) -> FileKind {
     }
 }
 
-/// The fault of reading.
-pub fn fault_of(error: &io::Error) -> Fault {
-    match error.kind() {
-        ErrorKind::OutOfMemory => Fault::Memory,
-        _ => Fault::Read,
-    }
-}
-
 /// Copies of texts.
 pub fn copies_of(alloc: Global, texts: &[&str]) -> Result<Vec<String>, Memory> {
     let copies = texts.iter().map(|text| String::from_str(alloc, text));

@@ -106,8 +106,7 @@ impl Naming<'_, '_> {
             let spaces = spaces_of(alloc, lines, buffer)?;
             return format!(in alloc; "{buffer} is in {spaces}");
         };
-        let found = self.element_in(lines);
-        let Some((word, Element { name, index })) = found else {
+        let Some((word, Element { name, index })) = self.element_in(lines) else {
             return size_of(alloc, buffer, words);
         };
         let (space, number) = spelling_of(alloc, word)?;

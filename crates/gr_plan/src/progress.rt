@@ -48,17 +48,14 @@ impl Progress {
     pub fn add(&self, bytes: u64, records: u64) {
         self.bytes.fetch_add(bytes, Ordering::SeqCst);
         self.records.fetch_add(records, Ordering::SeqCst);
-        let Ok(now) = self.rt.monotonic() else {
-            return;
-        };
+        let now = self.rt.monotonic().unwrap_or(self.begun);
         let passed = now.saturating_sub(self.begun).as_millis();
         let passed = u64::try_from(passed).unwrap_or(u64::MAX);
-        if passed < self.next.load(Ordering::SeqCst) {
-            return;
+        if passed >= self.next.load(Ordering::SeqCst) {
+            let next = passed.saturating_add(BETWEEN);
+            self.next.store(next, Ordering::SeqCst);
+            let _ = self.report(passed);
         }
-        self.next
-            .store(passed.saturating_add(BETWEEN), Ordering::SeqCst);
-        let _ = self.report(passed);
     }
 
     /// Reports how much was read, `passed` milliseconds after the start.

@@ -1,7 +1,6 @@
 //! The least racing pair of a word, what its accesses are, what lies between them, the cause of their race, and the word's other races.
 
 ghost use Rattle.std.specs.Prelude.{◌≡◌, ◌∷◌, [], IfOk, option_map};
-ghost use Rattle.gr_model.specs.declared.event.Word.{Word as AnyWord};
 ghost use Rattle.gr_explain.specs.LeastRaces.{IsLeastRace};
 ghost use Rattle.gr_explain.specs.TagRaces.{AreTagRaces};
 ghost use Rattle.gr_places.specs.PlaceIndexes.{number_at};
@@ -55,7 +54,7 @@ fn other_races<A: Allocator + Copy>(
     first: EventId,
     second: EventId,
 ) -> Result<Vec<KindedRace, A>, Memory>
-    ensures { IfOk result (λ others. (w : AnyWord) → AreTagRaces tags.now.records.now (tag_at tags.now.records.now (number_at tags.now.index.now)) (w ∷ []) races.now → AreOthers tags.now.records.now (number_at tags.now.index.now) w first second others.items) }
+    ensures { IfOk result (λ others. (w : Word) → AreTagRaces tags.now.records.now (tag_at tags.now.records.now (number_at tags.now.index.now)) (w ∷ []) races.now → AreOthers tags.now.records.now (number_at tags.now.index.now) w first second others.items) }
 {
     let rows = ordered_rows(alloc, tags, races, &[])?;
     let one_group = first.at.group == second.at.group;

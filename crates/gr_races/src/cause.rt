@@ -1,14 +1,9 @@
 //! What the cause of a race is, and the causes of many races at once.
 
 ghost use Rattle.std.specs.Prelude.{◌≡◌, ◌↔◌, All, IfOk, IsTrue, map};
-ghost use Rattle.gr_model.specs.declared.event.EventId.{EventId as AnyEvent};
-ghost use Rattle.gr_model.specs.declared.event.Word.{Word as AnyWord};
 ghost use Rattle.gr_model.specs.Prelude.{IsRacePair, Streams};
-ghost use Rattle.gr_explain.specs.declared.judging.Judgement.TheVariants.{Race as AsRace};
 ghost use Rattle.gr_explain.specs.Judgements.{IsJudgement};
 ghost use Rattle.gr_explain.specs.Judged.{AreJudgements};
-ghost use Rattle.gr_races.specs.declared.relaxing.Relaxation.{Relaxation as AnyRelaxation};
-ghost use Rattle.gr_races.specs.declared.relaxing.Relaxation.TheVariants as relaxations;
 ghost use Rattle.gr_lanes.specs.Remembered.{IsWhole};
 ghost use Rattle.gr_races.specs.Causes.{AreCauses, IsCause, IsCauseOf, IsMended, IsPairOf};
 ghost use Rattle.gr_races.specs.Relaxing as spec;
@@ -41,7 +36,7 @@ pub enum Cause {
 
 /// The judgement that each of some races is a race.
 fn all_race<A: Allocator>(alloc: A, races: &[Race]) -> Result<Vec<Judgement, A>, Memory>
-    ensures { IfOk result (λ judgements. judgements.items ≡ map (λ race. AsRace) races.now) }
+    ensures { IfOk result (λ judgements. judgements.items ≡ map (λ race. Judgement.Race) races.now) }
 {
     let judgements = races.iter().map(|_| Judgement::Race).collect(alloc)?;
     Ok(judgements)
@@ -65,7 +60,7 @@ fn judged_where<A: Allocator + Copy>(
 
 /// Whether two events, with this judgement if a rule is relaxed, are then both judged and no race.
 fn is_mended(judgement: Judgement) -> bool
-    ensures { (s : Streams) (r : AnyRelaxation) (w : AnyWord) (e f : AnyEvent) → IsJudgement (spec.relaxed r s) w e f judgement → IsTrue result ↔ IsMended s r w e f }
+    ensures { (s : Streams) (r : Relaxation) (w : Word) (e f : EventId) → IsJudgement (spec.relaxed r s) w e f judgement → IsTrue result ↔ IsMended s r w e f }
 {
     matches!(judgement, Judgement::NoRace)
 }
@@ -75,8 +70,8 @@ fn is_mended(judgement: Judgement) -> bool
 fn cause_from<A: Allocator>(lanes: &Lanes<A>, race: &Race, by_flags: bool, by_scope: bool) -> Cause
     requires pair { IsPairOf lanes.now.streams race.now }
     requires whole { IsWhole lanes.now }
-    requires flags { IsTrue by_flags ↔ IsMended lanes.now.streams relaxations.BothFlags race.now.word race.now.first race.now.second }
-    requires scope { IsTrue by_scope ↔ IsMended lanes.now.streams relaxations.DeviceScope race.now.word race.now.first race.now.second }
+    requires flags { IsTrue by_flags ↔ IsMended lanes.now.streams Relaxation.BothFlags race.now.word race.now.first race.now.second }
+    requires scope { IsTrue by_scope ↔ IsMended lanes.now.streams Relaxation.DeviceScope race.now.word race.now.first race.now.second }
     ensures { IsCauseOf lanes.now.streams race.now result }
 {
     let _prefixes = lanes.shape();
@@ -106,8 +101,8 @@ fn causes_from<A: Allocator + Copy>(
 ) -> Result<Vec<Cause, A>, Memory>
     requires pairs { All (IsPairOf lanes.now.streams) races.now }
     requires whole { IsWhole lanes.now }
-    requires flags { AreJudgements (spec.relaxed relaxations.BothFlags lanes.now.streams) races.now with_flags.now }
-    requires scope { AreJudgements (spec.relaxed relaxations.DeviceScope lanes.now.streams) races.now with_scope.now }
+    requires flags { AreJudgements (spec.relaxed Relaxation.BothFlags lanes.now.streams) races.now with_flags.now }
+    requires scope { AreJudgements (spec.relaxed Relaxation.DeviceScope lanes.now.streams) races.now with_scope.now }
     ensures { IfOk result (λ causes. AreCauses lanes.now.streams races.now causes.items) }
 {
     let mut causes = Vec::new(alloc);

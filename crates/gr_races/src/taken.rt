@@ -23,10 +23,7 @@ fn take_list<A: Allocator + Copy>(
     ensures { OnOk result (lanes.new ≡ remembering lanes.old (with_list lanes.old.streams group list.now)) }
 {
     for event in list {
-        match lanes.take(group, *event) {
-            Ok(()) => {}
-            Err(_) => return Err(Memory),
-        }
+        lanes.take(group, *event).map_err(|_| Memory)?;
     }
     Ok(())
 }

@@ -1,11 +1,9 @@
 -- Bytes that are read as a launch are inputs one after another, each of which is one stream.
 use Rattle.gr_model.proofs.Common.{◌≡◌, ℕ, zero, suc, ◌≤◌, List, [], ◌∷◌, ◌++◌, length, Ok, inl, inr, sym, ap, subst, ◌∙◌, arith, append_assoc, length-append, nil_from_length}
-use Rattle.gr_model.specs.declared.event.Event.{Event}
+use Rattle.gr_text.specs.Prelude.{Event, WholeStream, IsWhole}
 use Rattle.gr_model.specs.Prelude.{is_complete}
 use Rattle.gr_record.specs.Prelude.{AreBytes, all_sited, events_spelling, header_spelling}
 use Rattle.gr_record.proofs.FoundPrefixes.{events_sited}
-use Rattle.gr_text.specs.Dumps.{WholeStream}
-use Rattle.gr_text.specs.Wholes.{IsWhole}
 use Rattle.gr_text.proofs.Streaming.{events_found, header_found}
 use Rattle.gr_intake.specs.Joined.{Flat, joined_at}
 use Rattle.gr_intake.proofs.Accepted.{BeginsWith, follows, joined_cases}

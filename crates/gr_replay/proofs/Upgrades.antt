@@ -2,11 +2,9 @@
 use mathlib.Core.List.{map-map}
 use Rattle.gr_model.proofs.Common.{◌≡◌, ◌==◌, ◌||◌, not, list_any, ℕ, suc, ◌≤◌, Bool, List, [], ◌∷◌, ◌++◌, length, map, slice_get, Some, inl, inr, All, Result, Ok, Err, refl, sym, ap, ◌∙◌, subst, arith, append-nil, length-map, map_push, flat_map-map}
 use Rattle.gr_model.specs.Prelude.{Streams}
-use Rattle.gr_replay.specs.Types.{Fault, Header}
+use Rattle.gr_text.specs.Prelude.{Fault, Header, WholeStream, upgraded, upgraded_header, IsWhole, bytes_of, upgraded_stream}
 use Rattle.gr_record.specs.Prelude.{AreBytes, events_spelling, front_records_at, stream_spelling}
 use Rattle.gr_record.proofs.Places.{header_items}
-use Rattle.gr_text.specs.Dumps.{WholeStream, upgraded, upgraded_header}
-use Rattle.gr_text.specs.Wholes.{IsWhole, bytes_of, upgraded_stream}
 use Rattle.gr_text.proofs.SpelledStreams.{events_before, header_before}
 use Rattle.gr_text.proofs.UpgradedStreams.{twice, upgraded_are_streams}
 use Rattle.gr_intake.specs.Joined.{Flat, ◌>>=◌, headers_in, joined_of}

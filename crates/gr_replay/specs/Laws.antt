@@ -5,8 +5,7 @@ use Rattle.std.specs.List.{flat_map}
 use Rattle.std.specs.List.Sorted.{IsPermutation}
 use Rattle.gr_model.specs.Prelude.{WholeReport, Streams}
 use Rattle.gr_record.specs.Prelude.{AreBytes, events_of}
-use Rattle.gr_text.specs.Dumps.{WholeStream, upgraded}
-use Rattle.gr_text.specs.Wholes.{IsWhole, bytes_of}
+use Rattle.gr_text.specs.Prelude.{WholeStream, upgraded, IsWhole, bytes_of}
 use Rattle.gr_intake.specs.Joined.{Flat, joined_of}
 use Rattle.gr_intake.specs.Launch.{Reads}
 use Rattle.gr_replay.specs.Each.{ReadsEach, only_stream_at}

@@ -1,8 +1,5 @@
 -- The types, variants and constants that definitions and proofs cite most, passed on from one place. Declares nothing.
-pub use Rattle.gr_model.specs.declared.event.Event.{Event}
+pub use Rattle.gr_record.specs.Types.{Event, RecordError, Fault, Header}
 pub use Rattle.gr_model.specs.declared.race.Race.{Race}
-pub use Rattle.gr_record.specs.declared.error.RecordError.{RecordError}
 pub use Rattle.gr_record.specs.declared.error.RecordError.TheVariants.{AfterEnd}
-pub use Rattle.gr_record.specs.declared.fault.Fault.{Fault}
-pub use Rattle.gr_record.specs.declared.header.Header.{Header}
 pub use Rattle.gr_shadow.specs.declared.clash.Clash.{Clash}

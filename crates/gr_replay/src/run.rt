@@ -4,7 +4,6 @@ ghost use Rattle.std.specs.Prelude.{◌≡◌, ◌≢◌, IfOk, IfErr, IfSome};
 ghost use Rattle.std.specs.Io.KnownBytes.{Appends, Keeps};
 ghost use Rattle.gr_intake.specs.Intakes.{IsIntake, IsNew};
 ghost use Rattle.gr_intake.specs.Launch.{IsReadFault};
-ghost use Rattle.gr_record.specs.declared.fault.Fault.TheVariants as faults;
 ghost use Rattle.gr_record.specs.Prelude.{IsOfReading};
 ghost use Rattle.gr_replay.specs.Replays.{IsExact, IsReplayFault, WritesPrefix};
 ghost use Rattle.gr_report.specs.ReportText.{report_text};
@@ -77,8 +76,8 @@ pub fn replay<A: Allocator + Copy, T: Read, W: Write>(
     ensures fault { IfErr result (λ f. IfSome (T.remaining reader.old) (λ bytes. IsReplayFault bytes f)) }
 
     // What a refusal leaves with the writer.
-    ensures untouched { IfErr result (λ f. f ≢ faults.Write → Keeps (W.contents writer.old) (W.contents writer.new)) }
-    ensures prefix { IfErr result (λ f. f ≡ faults.Write → IfSome (T.remaining reader.old) (λ bytes. WritesPrefix bytes (W.contents writer.old) (W.contents writer.new))) }
+    ensures untouched { IfErr result (λ f. f ≢ Fault.Write → Keeps (W.contents writer.old) (W.contents writer.new)) }
+    ensures prefix { IfErr result (λ f. f ≡ Fault.Write → IfSome (T.remaining reader.old) (λ bytes. WritesPrefix bytes (W.contents writer.old) (W.contents writer.new))) }
 {
     let report = read_report(alloc, reader)?;
     write(&report, writer).map_err(|_| Fault::Write)?;

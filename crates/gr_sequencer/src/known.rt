@@ -1,7 +1,6 @@
 //! What the work-items know of the handled events: their clocks, and the snapshot of each handled release.
 
 ghost use Rattle.std.specs.Prelude.{◌≡◌, ◌≢◌, ◌<◌, ◌++◌, ◌∷◌, [], Some, IfOk, OnErr, OnOk, IsTrue, length};
-ghost use Rattle.gr_model.specs.declared.event.EventId.{EventId as AnyEvent};
 ghost use Rattle.gr_model.specs.Access as model;
 ghost use Rattle.gr_model.specs.Prelude.{IsConvergent, Mark, event_at, word_at, Sees};
 ghost use Rattle.gr_steps.specs.Steps.{HasMet};
@@ -198,7 +197,7 @@ impl<A: Allocator + Clone> Known<A> {
         requires access { IsAccessOf order.now.taken event access.now }
         ensures clocks { self.new.clocks ≡ self.old.clocks }
         ensures kept { OnOk result (IsTrue (model.is_release taken.now) → IsSnapshotBy order.now.taken event (snapshot_at self.new.snapshots event)) }
-        ensures others { (r : AnyEvent) → r ≢ event → snapshot_at self.new.snapshots r ≡ snapshot_at self.old.snapshots r }
+        ensures others { (r : EventId) → r ≢ event → snapshot_at self.new.snapshots r ≡ snapshot_at self.old.snapshots r }
     {
         match (release_scope(&taken.kind), access) {
             (Some(scope), Some(access)) => {

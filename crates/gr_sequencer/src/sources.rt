@@ -1,7 +1,6 @@
 //! The sources of an acquire: the snapshots of those releases that it names with inclusive scope. Its clock joins them.
 
 ghost use Rattle.std.specs.Prelude.{◌≡◌, ◌<◌, ◌++◌, ◌∷◌, [], Some, MatchOption, Contains, map, length};
-ghost use Rattle.gr_model.specs.declared.limits.TheConstants.{MOST_NAMES};
 ghost use Rattle.gr_model.specs.Prelude.{release_place, event_at};
 ghost use Rattle.gr_steps.specs.Steps.{IsReady};
 ghost use Rattle.gr_sequencer.specs.Known.{AreSnapshots};

@@ -1,19 +1,16 @@
 -- What answers the questions about a launch, and the line of a word's least racing pair.
 -- Source: docs/OUTPUT.md, "explain".
 use Rattle.std.specs.Prelude.{◌≡◌, ◌↔◌, ℕ, Bool, IsTrue, List, Option, MatchOption, map}
-use Rattle.gr_model.specs.declared.event.EventId.{EventId}
-use Rattle.gr_model.specs.declared.event.Word.{Word}
 use Rattle.gr_model.specs.Prelude.{IsRacy, Streams, IsGrounded, Pair, IsReportOf, WholeReport}
 use Rattle.gr_explain.specs.LeastRaces.{IsLeastRace}
 use Rattle.gr_report.specs.Whole.{whole_of}
 use Rattle.gr_places.specs.SideLines.{place_number}
 use Rattle.gr_places.specs.Sides.{SidesSaid}
-use Rattle.gr_timeline.specs.declared.details.Details.{Details}
 use Rattle.gr_timeline.specs.Accesses.{AreAccesses}
 use Rattle.gr_timeline.specs.Held.{IsHeldCount}
 use Rattle.gr_timeline.specs.Racy.{IsRacyIn}
 use Rattle.gr_timeline.specs.Waiting.{IsHeldEvent}
-use Rattle.gr_races.specs.Types.{Crossing, Placed}
+use Rattle.gr_races.specs.Types.{Crossing, Placed, EventId, Word, Details}
 use Rattle.gr_races.specs.declared.by_kind.RacesByKind.{RacesByKind}
 use Rattle.gr_races.specs.Arrivals.{came_to_first}
 use Rattle.gr_races.specs.Listing.{Entry, entry_of}

@@ -3,7 +3,6 @@
 ghost use Rattle.std.specs.Prelude.{◌≡◌, ◌≢◌, IfErr, IfOk, map};
 ghost use Rattle.std.specs.Fn.{FnReturnsAt};
 ghost use Rattle.std.specs.Io.KnownBytes.{Keeps};
-ghost use Rattle.gr_record.specs.declared.fault.Fault.TheVariants as faults;
 ghost use Rattle.gr_places.specs.Opening.{HoldsOfAllFiles, IsSidesFault, side_names};
 ghost use Rattle.gr_show.specs.Told.{IsShown, IsTold, ShowsPrefix};
 ghost use Rattle.gr_places.specs.declared.sides_fault.SidesFault.TheVariants.{Run as ARun};
@@ -16,7 +15,6 @@ use gr_places::files::{Opened, SideNames, bytes_of, open_files};
 use gr_places::places::places_of;
 use gr_places::sides::Sides;
 use gr_places::sides_fault::SidesFault;
-use gr_record::fault::Fault;
 use std::alloc::Allocator;
 use std::io::{self, Read, Write};
 
@@ -40,7 +38,7 @@ where
     requires { O.IsAlwaysCallable opener }
     ensures told { IfOk result (λ told. HoldsOfAllFiles T.remaining (FnReturnsAt O.Fn opener) (side_names sides.now) (map (λ s. s.now) names.now) (λ known said. IsTold (Q.is_text question.now said) (Q.is_found question.now) known told.text.items told.found)) }
     ensures fault { IfErr result (λ f. IsSidesFault T.remaining (FnReturnsAt O.Fn opener) (side_names sides.now) (map (λ s. s.now) names.now) f) }
-    ensures reading { IfErr result (λ f. (f ≢ ARun faults.Write) × (f ≢ ARun faults.Threads)) }
+    ensures reading { IfErr result (λ f. (f ≢ ARun Fault.Write) × (f ≢ ARun Fault.Threads)) }
 {
     let Opened {
         places,
@@ -83,13 +81,11 @@ where
     requires { O.IsAlwaysCallable opener }
     ensures shown { IfOk result (λ found. HoldsOfAllFiles T.remaining (FnReturnsAt O.Fn opener) (side_names sides.now) (map (λ s. s.now) names.now) (λ known said. IsShown (Q.is_text question.now said) (Q.is_found question.now) known found (W.contents writer.old) (W.contents writer.new))) }
     ensures fault { IfErr result (λ f. IsSidesFault T.remaining (FnReturnsAt O.Fn opener) (side_names sides.now) (map (λ s. s.now) names.now) f) }
-    ensures untouched { IfErr result (λ f. f ≢ ARun faults.Write → Keeps (W.contents writer.old) (W.contents writer.new)) }
-    ensures prefix { IfErr result (λ f. f ≡ ARun faults.Write → HoldsOfAllFiles T.remaining (FnReturnsAt O.Fn opener) (side_names sides.now) (map (λ s. s.now) names.now) (λ known said. ShowsPrefix (Q.is_text question.now said) known (W.contents writer.old) (W.contents writer.new))) }
-    ensures threads { IfErr result (λ f. f ≢ ARun faults.Threads) }
+    ensures untouched { IfErr result (λ f. f ≢ ARun Fault.Write → Keeps (W.contents writer.old) (W.contents writer.new)) }
+    ensures prefix { IfErr result (λ f. f ≡ ARun Fault.Write → HoldsOfAllFiles T.remaining (FnReturnsAt O.Fn opener) (side_names sides.now) (map (λ s. s.now) names.now) (λ known said. ShowsPrefix (Q.is_text question.now said) known (W.contents writer.old) (W.contents writer.new))) }
+    ensures threads { IfErr result (λ f. f ≢ ARun Fault.Threads) }
 {
     let told = answer_of_files(alloc, question, sides, names, opener)?;
-    match write_text(writer, &told.text) {
-        Ok(()) => Ok(told.found),
-        Err(_) => Err(SidesFault::Run(Fault::Write)),
-    }
+    write_text(writer, &told.text)?;
+    Ok(told.found)
 }

@@ -2,7 +2,6 @@
 
 ghost use Rattle.std.specs.Prelude.{◌≡◌, ◌≢◌, IfErr, IfOk, IfSome, map};
 ghost use Rattle.std.specs.Io.KnownBytes.{Keeps};
-ghost use Rattle.gr_record.specs.declared.fault.Fault.TheVariants as faults;
 ghost use Rattle.gr_replay.specs.Each.{IsEachFault, all_known};
 ghost use Rattle.gr_places.specs.Files.{IsShowFault};
 ghost use Rattle.gr_places.specs.Sides.{sides_said};
@@ -32,7 +31,7 @@ pub(crate) fn answer_of_streams<A: Allocator + Copy, Q: Question<A>, T: Read + D
 ) -> Result<Rendered<A>, Fault>
     ensures told { IfOk result (λ told. IsTold (Q.is_text question.now (sides_said sides.now)) (Q.is_found question.now) (all_known (map T.remaining readers.items)) told.text.items told.found) }
     ensures fault { IfErr result (λ f. IfSome (all_known (map T.remaining readers.items)) (λ inputs. IsEachFault inputs f)) }
-    ensures reading { IfErr result (λ f. (f ≢ faults.Write) × (f ≢ faults.Threads)) }
+    ensures reading { IfErr result (λ f. (f ≢ Fault.Write) × (f ≢ Fault.Threads)) }
 {
     let launch = read_each(alloc, readers)?;
     let answer = question.answer(alloc, &launch, sides)?;
@@ -58,9 +57,9 @@ pub fn show_race<A: Allocator + Copy, T: Read + Drop, W: Write>(
     ensures fault { IfErr result (λ f. IfSome (all_known (map T.remaining readers.items)) (λ inputs. IsShowFault inputs f)) }
 
     // What a refusal leaves with the writer.
-    ensures untouched { IfErr result (λ f. f ≢ faults.Write → Keeps (W.contents writer.old) (W.contents writer.new)) }
-    ensures prefix { IfErr result (λ f. f ≡ faults.Write → ShowsPrefix (IsLine word) (all_known (map T.remaining readers.items)) (W.contents writer.old) (W.contents writer.new)) }
-    ensures threads { IfErr result (λ f. f ≢ faults.Threads) }
+    ensures untouched { IfErr result (λ f. f ≢ Fault.Write → Keeps (W.contents writer.old) (W.contents writer.new)) }
+    ensures prefix { IfErr result (λ f. f ≡ Fault.Write → ShowsPrefix (IsLine word) (all_known (map T.remaining readers.items)) (W.contents writer.old) (W.contents writer.new)) }
+    ensures threads { IfErr result (λ f. f ≢ Fault.Threads) }
 {
     let sides = Sides {
         places: &[],

@@ -2,7 +2,6 @@
 
 ghost use Rattle.std.specs.Prelude.{◌≡◌, IfErr, OnErr, OnOk};
 ghost use Rattle.std.specs.Io.KnownBytes.{Appends};
-ghost use Rattle.gr_record.specs.declared.fault.Fault.TheVariants as faults;
 ghost use Rattle.gr_report.specs.Putting.{AppendsPrefix};
 
 use gr_record::fault::Fault;
@@ -16,7 +15,7 @@ use std::io::Write;
 pub fn write_text<W: Write>(writer: &mut W, text: &[u8]) -> Result<(), Fault>
     ensures whole { OnOk result (Appends (W.contents writer.old) (W.contents writer.new) text.now) }
     ensures prefix { OnErr result (AppendsPrefix (W.contents writer.old) (W.contents writer.new) text.now) }
-    ensures fault { IfErr result (λ f. f ≡ faults.Write) }
+    ensures fault { IfErr result (λ f. f ≡ Fault.Write) }
 {
     if put(writer, text).is_ok() && finish(writer).is_ok() {
         Ok(())

@@ -5,7 +5,6 @@ ghost use Rattle.gr_model.specs.declared.event.Event.{Event as AnyEvent};
 ghost use Rattle.gr_model.specs.Prelude.{is_complete};
 ghost use Rattle.gr_model.specs.declared.limits.TheConstants.{MOST_RECORDS};
 ghost use Rattle.gr_record.specs.Prelude.{HasMemory, answer, last_answer, stream_fault};
-ghost use Rattle.gr_record.specs.declared.fault.Fault.TheVariants as faults;
 ghost use Rattle.gr_streams.specs.Sending.{AreSent, IsFed, IsSameSender, MayFollow, events_in, sent_as};
 
 use gr_model::event::{Event, Kind};
@@ -193,7 +192,7 @@ impl<A: Allocator + Copy> Forward<A> {
         ensures group { result.receipt.group ≡ self.sender.group }
         ensures queue { result.receipt.queue ≡ self.sender.queue.queue }
         ensures fault { IfErr (last_answer self.decoder.stop) (λ e. result.fault ≡ Some (stream_fault place e)) }
-        ensures write { IfSome result.fault (λ f. f ≢ faults.Write) }
+        ensures write { IfSome result.fault (λ f. f ≢ Fault.Write) }
         ensures whole { IfOk (last_answer self.decoder.stop) (λ _. (result.fault ≡ None) × (IsTrue (is_complete self.sender.sent) → result.receipt.pushed ≡ self.sender.sent)) }
     {
         match self.decoder.finish() {

@@ -4,7 +4,6 @@ ghost use Rattle.std.specs.Prelude.{◌≡◌, ◌≢◌, ◌<◌, ◌≤◌, �
 ghost use Rattle.std.specs.Prelude.{IfOk, IfSome, Result, length, map, vec_capacity, vec_len};
 ghost use Rattle.gr_model.specs.declared.event.Event.{Event as AnyEvent};
 ghost use Rattle.gr_record.specs.declared.fault.Fault.{Fault as AnyFault};
-ghost use Rattle.gr_record.specs.declared.fault.Fault.TheVariants as faults;
 ghost use Rattle.gr_detector.specs.Runs.{Run};
 ghost use Rattle.gr_route.specs.Batches.{all_of};
 ghost use Rattle.gr_streams.specs.Records.{and_one};
@@ -138,7 +137,7 @@ where
 
 /// The first of two faults; `next` is of a later stream. But `Threads` comes before all others.
 fn first_of(first: Option<Fault>, next: Option<Fault>) -> Option<Fault>
-    ensures write { IfSome first (λ f. f ≢ faults.Write) → IfSome next (λ f. f ≢ faults.Write) → IfSome result (λ f. f ≢ faults.Write) }
+    ensures write { IfSome first (λ f. f ≢ Fault.Write) → IfSome next (λ f. f ≢ Fault.Write) → IfSome result (λ f. f ≢ Fault.Write) }
     ensures tells { (lists : Result (List (List AnyEvent)) AnyFault) (list : Result (List AnyEvent) AnyFault) (pushed : List (List AnyEvent)) (more : List AnyEvent) → Tells lists pushed first → Tells list more next → Tells (and_one lists list) (pushed ++ more ∷ []) result }
 {
     match (first, next) {

@@ -3,7 +3,6 @@
 ghost use Rattle.std.specs.Prelude.{◌≡◌, ◌≢◌, ◌++◌, ℕ, List, All, IfSome, map, take, vec_len};
 ghost use Rattle.gr_record.specs.declared.header.Header.{Header as AnyHeader};
 ghost use Rattle.gr_record.specs.declared.layout.TheConstants.{HEADER_LENGTH};
-ghost use Rattle.gr_record.specs.declared.fault.Fault.TheVariants as faults;
 ghost use Rattle.gr_streams.specs.Records.{events_at};
 ghost use Rattle.gr_streams.specs.Sending.{IsFed, Tells};
 ghost use Rattle.gr_streams.specs.Sources.{AreEndsOf, IsHeaded, IsRoomFor, IsUnread, begun_of, known_of};
@@ -34,7 +33,7 @@ fn read_rest<R: Wait + Clock, A: Allocator + Copy, T: Read>(
 ) -> Ended<A>
     ensures group { result.receipt.group ≡ forward.sender.group }
     ensures queue { result.receipt.queue ≡ forward.sender.queue.queue }
-    ensures write { IfSome result.fault (λ f. f ≢ faults.Write) }
+    ensures write { IfSome result.fault (λ f. f ≢ Fault.Write) }
     ensures tells { (fed : List ℕ) (h : AnyHeader) → IsHeaded h (take HEADER_LENGTH fed) → forward.sender.items ≡ h.items → IsFed fed forward.decoder forward.sender forward.refused → IfSome (T.remaining reader.old) (λ rest. Tells (events_at place (fed ++ rest)) result.receipt.pushed result.fault) }
 {
     let mut piece = [0u8; PIECE_LENGTH];
@@ -67,7 +66,7 @@ pub(crate) fn read_on<R: Wait + Clock, A: Allocator + Copy, T: Read + Drop>(
     requires { IsUnread stream }
     ensures group { result.receipt.group ≡ stream.sender.group }
     ensures queue { result.receipt.queue ≡ stream.sender.queue.queue }
-    ensures write { IfSome result.fault (λ f. f ≢ faults.Write) }
+    ensures write { IfSome result.fault (λ f. f ≢ Fault.Write) }
     ensures tells { IfSome (known_of T.remaining stream.source) (λ bytes. Tells (events_at stream.place bytes) result.receipt.pushed result.fault) }
 {
     let Unread {

@@ -4,7 +4,6 @@ ghost use Rattle.std.specs.Prelude.{◌≡◌, ◌≢◌, ◌⊎◌, ℕ, List, 
 ghost use Rattle.std.specs.Io.KnownBytes.{Appends, Keeps};
 ghost use Rattle.gr_record.specs.Prelude.{Fails};
 ghost use Rattle.gr_model.specs.Prelude.{IsShape};
-ghost use Rattle.gr_record.specs.declared.fault.Fault.TheVariants as faults;
 ghost use Rattle.gr_replay.specs.Each.{all_known};
 ghost use Rattle.gr_report.specs.ReportText.{report_text};
 ghost use Rattle.gr_report.specs.Whole.{whole_of};
@@ -40,7 +39,7 @@ fn judge<A: Allocator>(
 ) -> Result<Report<A>, Fault>
     requires { IfErr finished IsWantOfMemory }
     ensures report { IfOk result (λ r. (fault ≡ None) × (finished ≡ Ok r)) }
-    ensures fault { IfErr result (λ f. (fault ≡ Some f) ⊎ (f ≡ faults.Memory)) }
+    ensures fault { IfErr result (λ f. (fault ≡ Some f) ⊎ (f ≡ Fault.Memory)) }
 {
     match (fault, finished) {
         (Some(fault), _) => Err(fault),
@@ -73,8 +72,8 @@ where
     requires shape { AreHeadersOf (map (λ s. s.header) sources.items) shape }
     requires good { IsShape shape }
     ensures report { IfOk result (λ r. (inputs : List (List ℕ)) → map (known_of T.remaining) sources.items ≡ map (λ x. Some x) inputs → IsReportOn (map (λ s. s.header) sources.items) inputs (whole_of r)) }
-    ensures fault { IfErr result (λ f. (inputs : List (List ℕ)) → map (known_of T.remaining) sources.items ≡ map (λ x. Some x) inputs → (f ≡ faults.Threads) ⊎ Fails f (lists_of inputs)) }
-    ensures write { IfErr result (λ f. f ≢ faults.Write) }
+    ensures fault { IfErr result (λ f. (inputs : List (List ℕ)) → map (known_of T.remaining) sources.items ≡ map (λ x. Some x) inputs → (f ≡ Fault.Threads) ⊎ Fails f (lists_of inputs)) }
+    ensures write { IfErr result (λ f. f ≢ Fault.Write) }
 {
     let Room {
         shares,
@@ -114,7 +113,7 @@ where
     W: Watch + Send + Sync + Drop + 'static,
     ensures report { IfOk result (λ r. IfSome (all_known (map T.remaining readers.items)) (λ inputs. IsExactOfEach inputs (whole_of r))) }
     ensures fault { IfErr result (λ f. IfSome (all_known (map T.remaining readers.items)) (λ inputs. IsRunFault inputs f)) }
-    ensures write { IfErr result (λ f. f ≢ faults.Write) }
+    ensures write { IfErr result (λ f. f ≢ Fault.Write) }
 {
     let Headed { headers, sources } = read_headers(alloc, readers)?;
     let shape = headers.shape(alloc)?;
@@ -148,8 +147,8 @@ where
     ensures fault { IfErr result (λ f. IfSome (all_known (map T.remaining readers.items)) (λ inputs. IsRunFault inputs f)) }
 
     // What the writer has after an error.
-    ensures untouched { IfErr result (λ f. f ≢ faults.Write → Keeps (O.contents writer.old) (O.contents writer.new)) }
-    ensures prefix { IfErr result (λ f. f ≡ faults.Write → IfSome (all_known (map T.remaining readers.items)) (λ inputs. WritesPrefixOfEach inputs (O.contents writer.old) (O.contents writer.new))) }
+    ensures untouched { IfErr result (λ f. f ≢ Fault.Write → Keeps (O.contents writer.old) (O.contents writer.new)) }
+    ensures prefix { IfErr result (λ f. f ≡ Fault.Write → IfSome (all_known (map T.remaining readers.items)) (λ inputs. WritesPrefixOfEach inputs (O.contents writer.old) (O.contents writer.new))) }
 {
     let report = detect_streams(rt, alloc, readers, config, watch)?;
     match write(&report, writer) {

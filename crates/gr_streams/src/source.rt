@@ -3,8 +3,6 @@
 ghost use Rattle.std.specs.Prelude.{◌≡◌, ◌<◌, ℕ, List, length, IfErr, IfOk, IfSome, Ok, Some};
 ghost use Rattle.std.specs.Io.KnownBytes.{Consumes, IsAtEnd};
 ghost use Rattle.gr_record.specs.Prelude.{Fails, IsOfReading};
-ghost use Rattle.gr_record.specs.declared.fault.Fault.TheVariants as faults;
-ghost use Rattle.gr_record.specs.declared.layout.TheConstants.{HEADER_LENGTH};
 ghost use Rattle.gr_intake.specs.Intakes.{MayFollow};
 ghost use Rattle.gr_intake.specs.Joined.{header_after};
 ghost use Rattle.gr_streams.specs.Sources.{IsHeaded, known_of};
@@ -43,7 +41,7 @@ pub(crate) struct Unread<T, A: Allocator = Global> {
 fn read_prefix<T: Read>(reader: &mut T) -> Result<ArrayVec<u8, HEADER_LENGTH>, Fault>
     ensures bytes { IfOk result (λ prefix. Consumes (T.remaining reader.old) (T.remaining reader.new) prefix.items) }
     ensures short { IfOk result (λ prefix. length prefix.items < HEADER_LENGTH → IsAtEnd (T.remaining reader.new)) }
-    ensures fault { IfErr result (λ f. f ≡ faults.Read) }
+    ensures fault { IfErr result (λ f. f ≡ Fault.Read) }
 {
     let mut prefix = ArrayVec::new();
     let mut piece = [0u8; HEADER_LENGTH];

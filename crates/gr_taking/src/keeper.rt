@@ -37,15 +37,11 @@ impl<A: Allocator> Keeper<A> for NoKeeper {
 
     ghost stands = { λ keeper accesses kept. Unit {0} };
 
-    fn add(&self, kept: &mut (), access: &mut Option<Access<A>>) -> Result<(), Memory>
-        ensures { OnOk result ((accesses : List ClockedAccess) → Unit {0} → Unit {0}) }
-    {
+    fn add(&self, kept: &mut (), access: &mut Option<Access<A>>) -> Result<(), Memory> {
         Ok(())
     }
 
-    fn close(&self, kept: &mut (), group: u16)
-        ensures { (accesses : List ClockedAccess) → Unit {0} → Unit {0} }
-    {}
+    fn close(&self, kept: &mut (), group: u16) {}
 }
 
 /// Keeps the shadows of all words.
@@ -58,18 +54,18 @@ impl<A: Allocator + Copy> Keeper<A> for ShadowKeeper {
     ghost stands = { λ keeper accesses shadows. StandsForLaunch accesses shadows };
 
     #[inline(always)]
-    fn add(&self, kept: &mut LaunchShadows<A>, access: &mut Option<Access<A>>) -> Result<(), Memory>
-        ensures { OnOk result ((accesses : List ClockedAccess) → StandsForLaunch accesses kept.old → StandsForLaunch (accesses ++ in_flight_list (option_map clocked access.old)) kept.new) }
-    {
+    fn add(
+        &self,
+        kept: &mut LaunchShadows<A>,
+        access: &mut Option<Access<A>>,
+    ) -> Result<(), Memory> {
         if let Some(access) = access {
             kept.apply(access)?;
         }
         Ok(())
     }
 
-    fn close(&self, kept: &mut LaunchShadows<A>, group: u16)
-        ensures { (accesses : List ClockedAccess) → StandsForLaunch accesses kept.old → StandsForLaunch accesses kept.new }
-    {
+    fn close(&self, kept: &mut LaunchShadows<A>, group: u16) {
         kept.close(group);
     }
 }

@@ -1,10 +1,6 @@
 -- What each of the three senders sends.
 use Rattle.std.specs.Prelude.{◌≡◌, ℕ, zero, suc, ◌<◌, false, List, [], ◌∷◌, ◌++◌, Vec, IsTrue}
-use Rattle.gr_model.specs.declared.event.Event.{Event}
-use Rattle.gr_model.specs.declared.event.Sent.{Sent}
-use Rattle.gr_model.specs.declared.event.Kind.TheVariants.{Write}
-use Rattle.gr_model.specs.declared.event.Space.TheVariants.{Global}
-use Rattle.gr_model.specs.declared.limits.TheConstants.{MOST_RECORDS}
+use Rattle.gr_model.specs.Types.{Event, Sent, Write, Global, MOST_RECORDS}
 use Rattle.gr_model.specs.Prelude.{end_of, is_complete}
 use Rattle.gr_route.specs.Rooms.{Room}
 use Rattle.gr_route.specs.IntakeSeats.{Seat, Taker, popped_of}

@@ -1,10 +1,5 @@
 -- The types, variants and constants that definitions and proofs cite most, passed on from one place. Declares nothing.
-pub use Rattle.gr_model.specs.declared.event.Event.{Event}
-pub use Rattle.gr_model.specs.declared.event.EventId.{EventId}
-pub use Rattle.gr_model.specs.declared.event.ItemId.{ItemId}
-pub use Rattle.gr_model.specs.declared.event.Name.{Name}
-pub use Rattle.gr_model.specs.declared.event.Word.{Word}
-pub use Rattle.gr_model.specs.declared.limits.TheConstants.{MOST_RECORDS}
+pub use Rattle.gr_model.specs.Types.{Event, EventId, ItemId, Name, Word, MOST_RECORDS}
 pub use Rattle.gr_timeline.specs.declared.counting.Count.{Count}
 pub use Rattle.gr_timeline.specs.declared.details.Details.{Details}
 pub use Rattle.gr_timeline.specs.declared.entry.Entry.{Entry}

@@ -1,7 +1,6 @@
 //! All accesses of a launch to one word.
 
 ghost use Rattle.std.specs.Prelude.{◌≡◌, None, IfOk, OnOk};
-ghost use Rattle.gr_model.specs.declared.event.EventId.{EventId as AnyEvent};
 ghost use Rattle.gr_model.specs.Prelude.{IsAccepted};
 ghost use Rattle.gr_timeline.specs.Accesses.{AreAccesses, details_at};
 ghost use Rattle.gr_timeline.specs.Gathering.{AreKnownIn, AreOthersKept, KeepsRecord};
@@ -52,7 +51,7 @@ fn add_group<A: Allocator + Copy>(
     list: &[Event],
 ) -> Result<(), Memory>
     requires accepted { IsAccepted items list.now }
-    requires none { (e : AnyEvent) → e.at.group ≡ group → details_at known.old.entries e ≡ None }
+    requires none { (e : EventId) → e.at.group ≡ group → details_at known.old.entries e ≡ None }
     ensures here { OnOk result (AreKnownIn list.now word group known.new.entries) }
     ensures others { OnOk result (AreOthersKept group known.old.entries known.new.entries) }
 {

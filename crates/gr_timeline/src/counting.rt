@@ -1,7 +1,6 @@
 //! How many records of each item of a group, and how many barriers among them, the pass over the group's list has seen.
 
 ghost use Rattle.std.specs.Prelude.{◌≡◌, ◌<◌, [], ℕ, IfOk, Some, length, option_map, slice_get};
-ghost use Rattle.gr_timeline.specs.declared.counting.Count.{Count as AnyCount};
 ghost use Rattle.gr_timeline.specs.Counting.{AreCounts, IsSmall, after_record};
 
 use gr_lanes::kinds::is_barrier;
@@ -35,7 +34,7 @@ pub(crate) fn none_counted<A: Allocator + Copy>(
 /// Counts a record of a group, unless it is the end of its list.
 pub(crate) fn count_record<A: Allocator>(counts: &mut Vec<Count, A>, event: &Event)
     requires item { event.now.item < length counts.old.items }
-    requires small { (c : AnyCount) → slice_get counts.old.items event.now.item ≡ Some c → IsSmall c }
+    requires small { (c : Count) → slice_get counts.old.items event.now.item ≡ Some c → IsSmall c }
     ensures length { length counts.new.items ≡ length counts.old.items }
     ensures each { (i : ℕ) → slice_get counts.new.items i ≡ option_map (after_record i event.now) (slice_get counts.old.items i) }
 {

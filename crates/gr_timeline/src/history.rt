@@ -1,13 +1,11 @@
 //! The accesses to one word of a launch, in an order in which they can be handled.
 
-ghost use Rattle.std.specs.Prelude.{◌↔◌, ◌∷◌, ◌++◌, [], Contains, IfOk, IsTrue, List, OnOk};
-ghost use Rattle.gr_clocks.specs.ClockedAccess.{ClockedAccess, clocked};
+ghost use Rattle.std.specs.Prelude.{◌↔◌, Contains, IfOk, IsTrue, List};
+ghost use Rattle.gr_clocks.specs.ClockedAccess.{ClockedAccess};
 ghost use Rattle.gr_shadow.specs.Clashes.{IsHitIn};
 ghost use Rattle.gr_shadow.specs.StandsFor.{StandsFor};
 ghost use Rattle.gr_timeline.specs.Histories.{IsHistory, IsKeptOf, lines_of};
 ghost use Rattle.gr_timeline.specs.Racy.{IsRacyIn};
-ghost use Rattle.std.specs.Option.{option_map};
-ghost use Rattle.gr_closure.specs.AccessesAlong.{in_flight_list};
 
 use crate::entry::Entry;
 use gr_clocks::access::Access;
@@ -38,9 +36,7 @@ impl<A: Allocator + Copy> Keeper<A> for WordKeeper {
 
     ghost stands = { λ keeper accesses kept. IsKeptOf keeper.word accesses kept.entries.items kept.shadows };
 
-    fn add(&self, kept: &mut KeptWord<A>, access: &mut Option<Access<A>>) -> Result<(), Memory>
-        ensures { OnOk result ((accesses : List ClockedAccess) → IsKeptOf self.now.word accesses kept.old.entries.items kept.old.shadows → IsKeptOf self.now.word (accesses ++ in_flight_list (option_map clocked access.old)) kept.new.entries.items kept.new.shadows) }
-    {
+    fn add(&self, kept: &mut KeptWord<A>, access: &mut Option<Access<A>>) -> Result<(), Memory> {
         let Some(access) = access.take() else {
             return Ok(());
         };
@@ -58,9 +54,7 @@ impl<A: Allocator + Copy> Keeper<A> for WordKeeper {
         Ok(())
     }
 
-    fn close(&self, _kept: &mut KeptWord<A>, _group: u16)
-        ensures { (accesses : List ClockedAccess) → IsKeptOf self.now.word accesses _kept.old.entries.items _kept.old.shadows → IsKeptOf self.now.word accesses _kept.new.entries.items _kept.new.shadows }
-    {}
+    fn close(&self, kept: &mut KeptWord<A>, group: u16) {}
 }
 
 /// Whether a word is one of these.

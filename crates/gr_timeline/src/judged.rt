@@ -3,7 +3,6 @@
 //! Invariant: all records were taken, every list is complete, and just the grounded events were handled: of each item the first ones.
 
 ghost use Rattle.std.specs.Prelude.{◌≡◌, ◌↔◌, ◌<◌, IfOk, IsTrue, List};
-ghost use Rattle.gr_model.specs.declared.event.EventId.{EventId as AnyEvent};
 ghost use Rattle.gr_model.specs.Prelude.{IsWholeOrder, IsGrounded};
 ghost use Rattle.gr_model.specs.Streams as model;
 ghost use Rattle.gr_timeline.specs.Waiting.{ForgetsGrounded};
@@ -53,7 +52,7 @@ impl<A: Allocator> Judged<A> {
         ensures grounded { ForgetsGrounded result.now }
         ensures complete { model.AreComplete self.now }
         ensures prefixes { model.ArePrefixes self.now }
-        ensures whole { (order : List AnyEvent) × IsWholeOrder self.now order }
+        ensures whole { (order : List EventId) × IsWholeOrder self.now order }
     {
         self.sequencer.order().lanes()
     }
@@ -61,7 +60,7 @@ impl<A: Allocator> Judged<A> {
     /// The first event of an item that is not grounded, whether it is there or not.
     pub(crate) fn first_held(&self, item: ItemId) -> EventId
         ensures item { result.at ≡ item }
-        ensures grounded { (e : AnyEvent) → e.at ≡ item → IsGrounded self.now e ↔ (e.index < result.index) }
+        ensures grounded { (e : EventId) → e.at ≡ item → IsGrounded self.now e ↔ (e.index < result.index) }
     {
         EventId {
             at: item,

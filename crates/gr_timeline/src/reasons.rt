@@ -4,8 +4,6 @@
 //! for the events right before the barriers of its instance. It is held if one of them is.
 
 ghost use Rattle.std.specs.Prelude.{◌≡◌, ◌<◌, ℕ, All, Contains, MatchOption, None, Some, length};
-ghost use Rattle.gr_model.specs.declared.event.EventId.{EventId as AnyEvent};
-ghost use Rattle.gr_model.specs.declared.event.Name.{Name as AnyName};
 ghost use Rattle.gr_model.specs.Prelude.{StandsIn, HasName, IsOfItsWord, Matches, release_place, size_of, word_at, IsGrounded, IsPrevious};
 ghost use Rattle.gr_timeline.specs.Chains.{IsCause, LeadsToHeld, leads_to};
 ghost use Rattle.gr_timeline.specs.Waiting.{HasGroundedRelease, HaveArrived, IsHeldEvent, IsLate, IsPassed, IsStuck};
@@ -41,7 +39,7 @@ fn root_by_names<A: Allocator>(
     word: Option<Word>,
     names: &[Name],
 ) -> Option<Reason>
-    requires named { (n : AnyName) → Contains names.now n → HasName judged.now event n }
+    requires named { (n : Name) → Contains names.now n → HasName judged.now event n }
     requires word { word ≡ word_at judged.now event }
     ensures { MatchOption result (All (IsOfItsWord judged.now event) names.now) (λ r. IsCause judged.now event r × (leads_to r ≡ None)) }
 {
@@ -61,11 +59,7 @@ fn held_release<A: Allocator>(judged: &Judged<A>, event: EventId, name: Name) ->
 {
     let index = judged.lanes().release_at(name)?;
     let release = EventId { at: name.at, index };
-    if judged.is_grounded(release) {
-        None
-    } else {
-        Some(release)
-    }
+    (!judged.is_grounded(release)).then_some(release)
 }
 
 /// The first release of these names that is held, if one is.
@@ -74,7 +68,7 @@ fn first_held_release<A: Allocator>(
     event: EventId,
     names: &[Name],
 ) -> Option<EventId>
-    requires named { (n : AnyName) → Contains names.now n → HasName judged.now event n }
+    requires named { (n : Name) → Contains names.now n → HasName judged.now event n }
     requires words { All (IsOfItsWord judged.now event) names.now }
     ensures { MatchOption result (All (HasGroundedRelease judged.now event) names.now) (λ d. Matches judged.now event d × IsHeldEvent judged.now d) }
 {
@@ -89,27 +83,23 @@ fn first_held_release<A: Allocator>(
 /// Why the names of an event hold it, if they do.
 fn reason_by_names<A: Allocator>(judged: &Judged<A>, event: EventId) -> Option<Reason>
     requires { IsHeldEvent judged.now event }
-    ensures { MatchOption result ((n : AnyName) → HasName judged.now event n → HasGroundedRelease judged.now event n) (λ r. IsCause judged.now event r × LeadsToHeld judged.now r) }
+    ensures { MatchOption result ((n : Name) → HasName judged.now event n → HasGroundedRelease judged.now event n) (λ r. IsCause judged.now event r × LeadsToHeld judged.now r) }
 {
-    let Some(taken) = judged.record_of(event) else {
-        return None;
-    };
+    let taken = judged.record_of(event)?;
     let names = taken.names.as_slice();
     let root = root_by_names(judged, event, word_of(event.at.group, &taken), names);
     if root.is_some() {
         return root;
     }
-    match first_held_release(judged, event, names) {
-        None => None,
-        Some(release) => Some(Reason::Release(release)),
-    }
+    let release = first_held_release(judged, event, names)?;
+    Some(Reason::Release(release))
 }
 
 /// The event right before an item's barrier of this number, if that event is held.
 fn held_before<A: Allocator>(judged: &Judged<A>, item: ItemId, number: u32) -> Option<EventId>
     requires item { item.item < size_of judged.now item.group }
     requires stuck { IsStuck judged.now item.group number }
-    ensures { MatchOption result ((b d : AnyEvent) → b.at ≡ item → StandsIn judged.now b item.group number → IsPrevious d b → IsGrounded judged.now d) (λ d. IsLate judged.now item.group number d) }
+    ensures { MatchOption result ((b d : EventId) → b.at ≡ item → StandsIn judged.now b item.group number → IsPrevious d b → IsGrounded judged.now d) (λ d. IsLate judged.now item.group number d) }
 {
     let index = judged.lanes().barrier_at(item, number)?;
     if index == 0 {
@@ -119,11 +109,7 @@ fn held_before<A: Allocator>(judged: &Judged<A>, item: ItemId, number: u32) -> O
         at: item,
         index: index - 1,
     };
-    if judged.is_grounded(before) {
-        None
-    } else {
-        Some(before)
-    }
+    (!judged.is_grounded(before)).then_some(before)
 }
 
 /// The first item's event that is held and comes right before its barrier of an instance of a group, if there is one.

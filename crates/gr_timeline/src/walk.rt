@@ -4,7 +4,6 @@
 //! If it comes to an item for the second time, it comes to the same event, and the chain ends in a circle.
 
 ghost use Rattle.std.specs.Prelude.{◌≡◌, ◌<◌, ◌++◌, ◌∷◌, [], ℕ, IfOk, IfSome, OnOk, Some, length};
-ghost use Rattle.gr_model.specs.declared.event.EventId.{EventId as AnyEvent};
 ghost use Rattle.gr_clocks.specs.Counts.{Counts};
 ghost use Rattle.gr_timeline.specs.Chains.{IsChain, IsChainTo, IsReason, LeadsToHeld, event_of, leads_to};
 ghost use Rattle.gr_timeline.specs.Waiting.{IsFirstHeld, IsHeldEvent};
@@ -39,7 +38,7 @@ fn go_to_first<A: Allocator, B: Allocator>(
 ) -> Result<EventId, Memory>
     requires held { IsHeldEvent judged.now event }
     ensures held { IfOk result (λ first. IsHeldEvent judged.now first × IsFirstHeld judged.now first) }
-    ensures chain { IfOk result (λ first. (e : AnyEvent) → IsChainTo judged.now e links.old.items (Some event) → IsChainTo judged.now e links.new.items (Some first)) }
+    ensures chain { IfOk result (λ first. (e : EventId) → IsChainTo judged.now e links.old.items (Some event) → IsChainTo judged.now e links.new.items (Some first)) }
     ensures visited { OnOk result ((visited : Counts) → AreVisited judged.now links.old.items visited → AreVisited judged.now links.new.items visited) }
 {
     let first = judged.first_held(event.at);
@@ -87,7 +86,7 @@ fn go_on<A: Allocator, B: Allocator>(
     requires first { IsFirstHeld judged.now event }
     requires visited { AreVisited judged.now links.old.items visited.old }
     ensures held { IfOk result (λ next. IfSome next (IsHeldEvent judged.now)) }
-    ensures chain { IfOk result (λ next. (e : AnyEvent) → IsChainTo judged.now e links.old.items (Some event) → IsChainTo judged.now e links.new.items next) }
+    ensures chain { IfOk result (λ next. (e : EventId) → IsChainTo judged.now e links.old.items (Some event) → IsChainTo judged.now e links.new.items next) }
     ensures visited { OnOk result (AreVisited judged.now links.new.items visited.new) }
     ensures fewer { IfOk result (λ next. IfSome next (λ d. unvisited visited.new judged.now.sizes < unvisited visited.old judged.now.sizes)) }
 {
@@ -127,9 +126,8 @@ pub(crate) fn chain_of<A: Allocator + Copy>(
     requires held { IsHeldEvent judged.now event }
     ensures { IfOk result (λ links. IsChain judged.now event links.items) }
 {
-    let Ok(mut visited) = Tally::new(alloc, judged.lanes().shape()) else {
-        return Err(Memory);
-    };
+    let visited = Tally::new(alloc, judged.lanes().shape());
+    let mut visited = visited.map_err(|_| Memory)?;
     let mut links = Vec::new(alloc);
     follow(judged, &mut links, &mut visited, event)?;
     Ok(links)

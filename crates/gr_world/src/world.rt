@@ -5,7 +5,6 @@
 //! the one on its way to it, are all accesses of the handled events that go to this worker.
 
 ghost use Rattle.std.specs.Prelude.{◌≡◌, ◌≢◌, ◌↔◌, ◌<◌, ◌+◌, IsTrue, IsFalse, IfOk, IfErr, OnOk, OnErr, length, replicate};
-ghost use Rattle.gr_model.specs.declared.limits.TheConstants.{MOST_RECORDS};
 ghost use Rattle.gr_model.specs.Prelude.{IsEventOk, is_end, IsReportOf, Lists, WordBelow, list_of, size_of};
 ghost use Rattle.gr_steps.specs.Steps.{AreGrounded};
 ghost use Rattle.gr_report.specs.Whole.{whole_of};

@@ -1,7 +1,6 @@
 //! Facts of hits.
 
 ghost use Rattle.std.specs.Prelude.{◌≡◌, IfOk};
-ghost use Rattle.gr_model.specs.declared.event.ItemId.{ItemId as AnyItem};
 ghost use Rattle.gr_model.specs.declared.event.Word.TheVariants.{Global as GlobalWord};
 ghost use Rattle.gr_clocks.specs.Counts.{count_of};
 
@@ -32,7 +31,7 @@ fn access<A: Allocator + Copy>(
     ensures item { IfOk result (λ x. x.item ≡ item) }
     ensures index { IfOk result (λ x. x.index ≡ index) }
     ensures class { IfOk result (λ x. x.class ≡ class) }
-    ensures clock { IfOk result (λ x. (j : AnyItem) → count_of x.clock.counts j ≡ 0) }
+    ensures clock { IfOk result (λ x. (j : ItemId) → count_of x.clock.counts j ≡ 0) }
 {
     let shape = shape_of(alloc, &[1, 1])?;
     Ok(Access {

@@ -1,6 +1,5 @@
 use Rattle.gr_model.proofs.Common.{◌≡◌, ◌<◌, ◌++◌, [], ℕ, List, Some, None, ap, refl, sym, subst, ◌∙◌, length, arith, append_assoc, length-append, length-map, length-take-le}
-use Rattle.gr_record.specs.Prelude.{Fails, stream_fault, record_length}
-use Rattle.gr_model.specs.declared.limits.TheConstants.{MOST_RECORDS}
+use Rattle.gr_record.specs.Prelude.{Fails, stream_fault, record_length, MOST_RECORDS}
 use Rattle.gr_record.proofs.Loop as loop
 use Rattle.gr_intake.specs.Intakes.{come, come_of, next_event_at, read_behind}
 use Rattle.gr_intake.specs.Joined.{Flat}

@@ -6,7 +6,7 @@ use Rattle.gr_places.proofs.opening.open_all.Goals as goal
 pub returns-in-Err-clause-fault : goal.returns-in-Err-clause-fault
 returns-in-Err-clause-fault g c =
     let first = first_unopened (FnReturnsAt g.O.Fn c.args.opener) c.args.names.now c.loop-name.name-index _ c.loop-name.files.items c.loop-name-test.true c.loop-name.invariant c.in-Err.error (record { shown = _; shows = refl; says = record { met = c.in-Err.ensures } }) in
-    elim c.fault_of_opening.ensures [ inl m ↦ inl m | inr r ↦ inr (r, first) ]
+    elim c.fault_of.ensures [ inl m ↦ inl m | inr r ↦ inr (r, first) ]
 
 pub loop-name-preserved : goal.loop-name-preserved
 loop-name-preserved g c =

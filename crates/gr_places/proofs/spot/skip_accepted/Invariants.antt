@@ -1,6 +1,5 @@
 use Rattle.gr_model.proofs.Common.{◌≡◌, ◌≤◌, ◌+◌, ◌-◌, length}
-use Rattle.gr_model.specs.declared.limits.TheConstants.{MOST_RECORDS}
-use Rattle.gr_record.specs.Prelude.{records_of}
+use Rattle.gr_record.specs.Prelude.{records_of, MOST_RECORDS}
 use Rattle.gr_places.proofs.spot.skip_accepted.Given as goal
 
 -- `number` records were accepted, and the rest of the bytes completes what all bytes give

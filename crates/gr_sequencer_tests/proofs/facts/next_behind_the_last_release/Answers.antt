@@ -1,7 +1,5 @@
 use Rattle.gr_model.proofs.Common.{rules, ◌≡◌, ◌∙◌, ℕ, ◌<◌, List, Contains, Some, slice_get, ap, subst, sym, option_copied, get_or_from_slice_get, slice_get_within}
-use Rattle.gr_model.specs.declared.event.Event.{Event}
-use Rattle.gr_model.specs.declared.event.EventId.{EventId}
-use Rattle.gr_model.specs.declared.event.Name.{Name}
+use Rattle.gr_model.specs.Types.{Event, EventId, Name}
 use Rattle.gr_model.specs.Prelude.{names_of, release_place, Streams, event_at, for_release}
 use Rattle.gr_steps.specs.Steps.{IsReady}
 use Rattle.gr_clocks.specs.Counts.{Counts, count_of}

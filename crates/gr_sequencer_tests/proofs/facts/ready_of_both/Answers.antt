@@ -1,6 +1,5 @@
 use Rattle.gr_model.proofs.Common.{◌≡◌, ◌∙◌, false, Option, None, Some, is_some, true≢false, subst, sym, MatchOption}
-use Rattle.gr_order.specs.declared.steps.Ready.{Ready}
-use Rattle.gr_order.specs.declared.steps.Ready.TheVariants.{Item}
+use Rattle.gr_agenda.specs.Types.{Ready, Item}
 use Rattle.gr_order.specs.Answers.{CanMake}
 use Rattle.gr_order.specs.Sequences.{IsDone, Sequence}
 use Rattle.gr_sequencer_tests.proofs.facts.ready_of_both.Goals as goal

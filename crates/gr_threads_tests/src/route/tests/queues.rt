@@ -3,7 +3,6 @@
 ghost use Rattle.std.specs.Prelude.{◌≡◌, ◌∷◌, ◌++◌, [], IfOk, IfSome, IfNone, IsFalse};
 ghost use Rattle.gr_clocks.specs.Counts.{count_of};
 ghost use Rattle.gr_model.specs.declared.class.Class.TheVariants as classes;
-ghost use Rattle.gr_model.specs.declared.event.ItemId.{ItemId as AnyItem};
 ghost use Rattle.gr_model.specs.declared.event.Word.TheVariants as words;
 ghost use Rattle.gr_route.specs.WorkRule.{is_stop, is_stopped};
 
@@ -85,7 +84,7 @@ fn an_intake_queue_of_one_place(rt: HostRuntime) {
 
 /// The first record of an item, a write of global word 7, with a clock that counts nothing.
 pub(crate) fn write_by<A: Allocator + Copy>(alloc: A, item: u16) -> Result<Access<A>, Memory>
-    ensures { IfOk result (λ access. (access.word ≡ words.Global 7) × (access.item ≡ record { group = 0; item = item }) × (access.index ≡ 0) × (access.class ≡ classes.PlainWrite) × ((i : AnyItem) → count_of access.clock.counts i ≡ 0)) }
+    ensures { IfOk result (λ access. (access.word ≡ words.Global 7) × (access.item ≡ record { group = 0; item = item }) × (access.index ≡ 0) × (access.class ≡ classes.PlainWrite) × ((i : ItemId) → count_of access.clock.counts i ≡ 0)) }
 {
     let shape = Shape::new(vec![in alloc; 2]?).map_err(|_| Memory)?;
     Ok(Access {

@@ -1,6 +1,5 @@
 use Rattle.gr_model.proofs.Common.{◌∙◌, ◌++◌, arith}
-use Rattle.gr_model.specs.declared.limits.TheConstants.{MOST_RECORDS}
-use Rattle.gr_record.specs.Prelude.{reading, AreBytes}
+use Rattle.gr_record.specs.Prelude.{reading, AreBytes, MOST_RECORDS}
 use Rattle.gr_streams.proofs.SendingLemmas.{bytes_append, piece_events}
 use Rattle.gr_streams.proofs.forward.Forward.take.Goals as goal
 
