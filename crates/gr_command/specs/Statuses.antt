@@ -3,9 +3,11 @@
 use Rattle.std.specs.Prelude.{◌≡◌, ◌⊎◌, ℕ, Bool, if◌then◌else◌}
 use Rattle.gr_model.specs.Prelude.{WholeReport}
 use Rattle.gr_record.specs.declared.error.RecordError.TheVariants.{Memory as NoMemory}
-use Rattle.gr_places.specs.Types.{Fault, SidesFault, Buffers, Places, Run}
+use Rattle.gr_record.specs.declared.fault.Fault.{Fault}
 use Rattle.gr_record.specs.declared.fault.Fault.TheVariants.{Stream, SameGroup, OtherLaunch, MissingGroup, Shape, BadLine, NoEnd, LongStream, Read, Write, Memory, Threads}
 use Rattle.gr_report.specs.Whole.{HasFinding}
+use Rattle.gr_places.specs.declared.sides_fault.SidesFault.{SidesFault}
+use Rattle.gr_places.specs.declared.sides_fault.SidesFault.TheVariants.{Buffers, Places, Run}
 use Rattle.gr_command.specs.declared.status.TheConstants.{NOTHING, FOUND, REFUSED, NO_MEMORY_OR_THREAD, FAILED}
 
 -- a fault of the input is a refusal

@@ -1,6 +1,6 @@
 -- What was taken is what was sent, if all ends were popped.
 use Rattle.gr_model.proofs.Common.{◌≡◌, ◌==◌, ℕ, ◌<◌, ◌%◌, IsTrue, List, [], ◌∷◌, length, map, get_or, sym, ap, ◌∙◌, arith, filter, mod-lt, range_with_len, nat_tests, ext_get_or, get_or-map, length-map, get_or-map-range_with_len, length-map-range_with_len}
-use Rattle.gr_model.specs.Types.{Event, Sent}
+use Rattle.gr_route.specs.Types.{Event, Sent}
 use Rattle.gr_model.specs.Prelude.{IsConfig, Settings, AreComplete, events_of, is_complete, list_of}
 use Rattle.gr_order.specs.Sequences.{IsSequence, Sequence}
 use Rattle.gr_route.specs.IntakeSeats.{Seat, Taker, popped_of}

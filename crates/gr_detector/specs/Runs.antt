@@ -3,7 +3,7 @@
 use Rattle.std.specs.Prelude.{◌≡◌, ◌==◌, ◌<◌, ◌%◌, ℕ, List, [], ◌∷◌, length, map, filter, slice_get, slice_index, slice_index_or, All, Some, if◌then◌else◌}
 use Rattle.std.specs.List.{range_with_len}
 use Rattle.atomic_table.specs.Seated.{TableId}
-use Rattle.gr_model.specs.Types.{Event, MOST_RECORDS}
+use Rattle.gr_order.specs.Types.{Event, MOST_RECORDS}
 use Rattle.gr_model.specs.Prelude.{Settings, Streams}
 use Rattle.gr_route.specs.IntakeSeats.{Seat}
 use Rattle.gr_route.specs.WorkSeats.{Worker}

@@ -2,7 +2,8 @@
 -- Source: docs/QUEUES.md, "The intake queue" and "The work queue".
 use Rattle.std.specs.Prelude.{◌≡◌, ℕ, ◌<◌, ◌%◌, List, [], ◌∷◌, length, map, slice_get, slice_index_or, Some, IsTrue, ⊤}
 use Rattle.atomic_table.specs.Seated.{TableId}
-use Rattle.gr_model.specs.Types.{Event, Sent, Word}
+use Rattle.gr_steps.specs.Types.{Event, Word}
+use Rattle.gr_model.specs.declared.event.Sent.{Sent}
 use Rattle.gr_model.specs.Prelude.{events_of, is_complete}
 use Rattle.gr_route.specs.IntakeSeats.{Seat, Taker}
 use Rattle.gr_route.specs.Prefixes.{StartsWith}

@@ -1,9 +1,11 @@
 -- What is read of a stream is a list that its group may have.
 use Rattle.gr_model.proofs.Common.{◌≡◌, ◌≢◌, ◌⊎◌, ℕ, zero, suc, ◌+◌, ◌≤◌, Bool, true, false, cond, List, [], ◌∷◌, ◌++◌, length, take, drop, All, Some, Result, Ok, refl, sym, ap, ◌∙◌, subst, arith, inl, inr, IsTrue, ltb, true≢false, cases_Bool, eqb-true, ◌==◌, length-take, ltb-false, All-push}
 use Rattle.std.proofs.lemmas.List.Quantifiers.{all_pairs_push}
+use Rattle.gr_intake.specs.Types.{Event, MOST_RECORDS, RecordError, Header, Fault}
 use Rattle.gr_model.specs.Prelude.{is_end, IsEventOk, AreGood, IsAccepted, is_complete}
 use Rattle.gr_record.specs.declared.error.RecordError.TheVariants as errors
-use Rattle.gr_record.specs.Prelude.{record_length, Records, behind, step, records_of, records_at, event_at, whole, up_to, front_header_at, front_records_at, Event, MOST_RECORDS, RecordError, Header, Fault, AtEnd, AtFault, Inside}
+use Rattle.gr_record.specs.Prelude.{record_length, Records, behind, step, records_of, records_at, event_at, whole, up_to, front_header_at, front_records_at}
+use Rattle.gr_record.specs.declared.stop.Stop.TheVariants.{AtEnd, AtFault, Inside}
 use Rattle.gr_intake.specs.Joined.{Flat, ◌>>=◌, at_place, header_after, headers_in, stream_at, joined_at}
 use Rattle.gr_intake.specs.Laws.{AreStreams, JoinedAreStreams}
 use Rattle.gr_record.proofs.Found.{read_is_ok}

@@ -1,9 +1,11 @@
 -- What the bytes after those that were read add: a header, a record, and bytes that are no whole one.
 use Rattle.gr_model.proofs.Common.{◌≡◌, ℕ, zero, suc, ◌+◌, ◌-◌, ◌<◌, ◌≤◌, true, false, List, [], ◌∷◌, ◌++◌, length, take, drop, Some, None, Result, Ok, Err, refl, sym, ap, ◌∙◌, subst, arith, inl, inr, append_assoc, eqb-true, ◌==◌, drop_at, length-append, length-drop, length-map, take-append-drop, take_at, cases_lt, eqb-false, lt-ltb, ne_eqb}
+use Rattle.gr_intake.specs.Types.{Event, MOST_RECORDS, RecordError, Fault, Header, HEADER_LENGTH}
 use Rattle.gr_model.specs.Prelude.{is_end}
 use Rattle.gr_record.specs.declared.error.RecordError.TheVariants as errors
 use Rattle.gr_record.specs.declared.fault.Fault.TheVariants as faults
-use Rattle.gr_record.specs.Prelude.{Records, records_at, records_of, step, event_at, record_length, front_header_at, front_records_at, up_to, whole, Event, MOST_RECORDS, RecordError, Fault, Header, HEADER_LENGTH, Stop}
+use Rattle.gr_record.specs.declared.stop.Stop.{Stop}
+use Rattle.gr_record.specs.Prelude.{Records, records_at, records_of, step, event_at, record_length, front_header_at, front_records_at, up_to, whole}
 use Rattle.gr_record.proofs.Loop as loop
 use Rattle.gr_intake.proofs.Accepted.{follows}
 use Rattle.gr_intake.proofs.Faults.{ok}

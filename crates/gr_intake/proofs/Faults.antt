@@ -1,7 +1,8 @@
 -- What is read after what, and its faults; and faults that no input determines.
 use Rattle.gr_model.proofs.Common.{arith, ◌≡◌, ℕ, Result, Ok, Err, refl}
+use Rattle.gr_intake.specs.Types.{RecordError, Fault}
 use Rattle.gr_record.specs.declared.fault.Fault.TheVariants as faults
-use Rattle.gr_record.specs.Prelude.{stream_fault, Fails, RecordError, Fault}
+use Rattle.gr_record.specs.Prelude.{stream_fault, Fails}
 use Rattle.gr_record.specs.WholeStreams as record_spec
 use Rattle.gr_intake.specs.Joined.{◌>>=◌, at_place}
 

@@ -1,7 +1,9 @@
 -- Headers of one launch: what the first of them and the sizes of their groups tell, and a header that comes after them.
 use Rattle.gr_model.proofs.Common.{Decides, ◌≡◌, ◌≢◌, ◌<◌, ◌≤◌, ℕ, suc, Bool, true, false, List, [], ◌∷◌, ◌++◌, length, drop, take, slice_get, get_or, Option, MatchOption, None, Some, Result, Ok, refl, sym, ap, ◌∙◌, subst, arith, inl, inr, not, ◌==◌, All, list_any, cases_Bool, drop-append-le, eq-eqb, eqb-false, eqb-true, le-ltb, length-append, length-take, not-false, take-append-drop, true_from_ne_false, All-contains, Any-from_list_any, list_any_at, list_any_none}
 use Rattle.gr_model.specs.Prelude.{HasItem}
-use Rattle.gr_record.specs.Prelude.{front_header_at, header_at, Fault, Header, HEADER_LENGTH, Version}
+use Rattle.gr_intake.specs.Types.{Fault, Header, HEADER_LENGTH}
+use Rattle.gr_record.specs.declared.header.Version.{Version}
+use Rattle.gr_record.specs.Prelude.{front_header_at, header_at}
 use Rattle.gr_record.specs.Reading as reading_spec
 use Rattle.gr_record.specs.WholeStreams as record_spec
 use Rattle.gr_intake.specs.Intakes.{AreSeen}

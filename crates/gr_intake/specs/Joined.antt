@@ -2,8 +2,9 @@
 -- Source: docs/FORMATS.md, "Several streams".
 use Rattle.std.specs.Prelude.{ℕ, zero, suc, not, ◌==◌, if◌then◌else◌, List, [], ◌∷◌, ◌++◌, length, map, Result, Ok, Err}
 use Rattle.std.specs.List.{list_any}
+use Rattle.gr_intake.specs.Types.{Event, RecordError, Header, Fault}
 use Rattle.gr_record.specs.declared.fault.Fault.TheVariants as faults
-use Rattle.gr_record.specs.Prelude.{front_header_at, front_records_at, Event, RecordError, Header, Fault}
+use Rattle.gr_record.specs.Prelude.{front_header_at, front_records_at}
 
 -- a stream, wherever it lies in memory
 pub record Flat : Type 0 where

@@ -2,8 +2,9 @@
 -- Source: docs/FORMATS.md, "Several streams".
 use Rattle.std.specs.Prelude.{◌≡◌, ◌≢◌, ◌⊎◌, ℕ, ◌<◌, List, AllPairs, Contains, slice_index_or, length, slice_get, Some, Ok}
 use Rattle.gr_model.specs.Prelude.{IsShapeFault, Streams}
+use Rattle.gr_record.specs.declared.fault.Fault.{Fault}
 use Rattle.gr_record.specs.declared.fault.Fault.TheVariants as faults
-use Rattle.gr_record.specs.Prelude.{Fails, Fault}
+use Rattle.gr_record.specs.Prelude.{Fails}
 use Rattle.gr_intake.specs.Joined.{Flat, joined_of}
 
 -- one of the streams is of this group

@@ -1,7 +1,13 @@
 -- The definitions, tried on small lists.
 use Rattle.gr_model.proofs.Common.{◌≡◌, ℕ, zero, suc, ◌<◌, true, false, Option, Some, None, Contains, [], ◌∷◌, refl, sym, ◌∙◌, ap, inl, inr, lit<, option_map, subst, arith, IsTrue}
-use Rattle.gr_model.specs.Types.{Global, Local, Group, Device, Load, Rmw, Store, Name, Event, EventId, Word}
+use Rattle.gr_model.specs.declared.event.Space.TheVariants.{Global, Local}
+use Rattle.gr_model.specs.declared.event.Scope.TheVariants.{Group, Device}
 use Rattle.gr_model.specs.declared.event.Order.TheVariants.{Acquire, Both, Release}
+use Rattle.gr_model.specs.declared.event.Kind.TheVariants.{Load, Rmw, Store}
+use Rattle.gr_model.specs.declared.event.Name.{Name}
+use Rattle.gr_model.specs.declared.event.Event.{Event}
+use Rattle.gr_model.specs.declared.event.EventId.{EventId}
+use Rattle.gr_model.specs.declared.event.Word.{Word}
 use Rattle.gr_model.specs.declared.event.Word.TheVariants.{Global as GlobalWord, Local as LocalWord}
 use Rattle.gr_model.specs.declared.report.AcquireCause.TheVariants.{Absent, OtherWord, Behind}
 use Rattle.gr_model.specs.declared.report.DivergenceCause.TheVariants.{Missing}

@@ -1,6 +1,9 @@
 -- What facts need of concrete states: clocks that have counted nothing, few accesses, few barriers, and one list.
 use Rattle.gr_model.proofs.Common.{◌≡◌, ◌≢◌, ◌↔◌, ◌++◌, ℕ, zero, suc, ◌+◌, ◌<◌, Bool, true, false, IsTrue, List, [], ◌∷◌, map, length, get_or, Some, None, Result, Err, slice_get, max, true≢false, refl, sym, subst, ap, ◌∙◌, inl, inr, arith, nat_lt, not, slice_index}
-use Rattle.gr_model.specs.Types.{Event, ItemId, Space, Word, Global, Local, Class}
+use Rattle.gr_model.specs.declared.event.Event.{Event}
+use Rattle.gr_model.specs.declared.event.ItemId.{ItemId}
+use Rattle.gr_model.specs.declared.event.Space.{Space}
+use Rattle.gr_model.specs.declared.event.Word.{Word}
 use Rattle.gr_model.specs.Prelude.{is_end, Mark, Arrivals, IsDivergentOf, HasItem, Streams, list_of, AreAccepted, memory_of}
 use Rattle.gr_barriers.specs.declared.instances.BarrierError.{BarrierError}
 use Rattle.gr_barriers.specs.declared.instances.BarrierError.TheVariants.{Ended}
@@ -10,7 +13,9 @@ use Rattle.gr_clocks.specs.Counts.{Counts, CountSame, count_of, greatest_count}
 use Rattle.gr_clocks.specs.ItemClocks.{ItemClocks, ReleaseClock, clocks_in, clock_in, clocks_left, AreNew, IsSpent, Ticks, Acquires, MeetsClocks}
 use Rattle.gr_clocks.specs.Tables.{TicksGroup}
 use Rattle.gr_clocks.proofs.ReleaseLemmas.{left_elsewhere}
+use Rattle.gr_model.specs.declared.event.Space.TheVariants.{Global, Local}
 use Rattle.gr_model.specs.declared.event.Word.TheVariants.{Global as GlobalWord}
+use Rattle.gr_model.specs.declared.class.Class.{Class}
 use Rattle.gr_model.specs.declared.class.Class.TheVariants.{PlainRead, PlainWrite, GroupModify}
 use Rattle.gr_shadow.specs.Clashes.{clashes, IsHitIn}
 use Rattle.gr_shadow.specs.StandsFor.{IsHitBy}

@@ -1,7 +1,14 @@
 -- Small lists on which the definitions are tried, one for each rule that is easy to get wrong.
 use Rattle.std.specs.Prelude.{ℕ, Bool, true, false, List, [], ◌∷◌}
-use Rattle.gr_model.specs.Types.{Space, Global, Local, Group, Device, Kind, Read, Write, Load, Store, Rmw, Barrier, End, Name, Event, EventId}
+use Rattle.gr_model.specs.declared.event.Space.{Space}
+use Rattle.gr_model.specs.declared.event.Space.TheVariants.{Global, Local}
+use Rattle.gr_model.specs.declared.event.Scope.TheVariants.{Group, Device}
 use Rattle.gr_model.specs.declared.event.Order.TheVariants.{Acquire, Release, Both}
+use Rattle.gr_model.specs.declared.event.Kind.{Kind}
+use Rattle.gr_model.specs.declared.event.Kind.TheVariants.{Read, Write, Load, Store, Rmw, Barrier, End}
+use Rattle.gr_model.specs.declared.event.Name.{Name}
+use Rattle.gr_model.specs.declared.event.Event.{Event}
+use Rattle.gr_model.specs.declared.event.EventId.{EventId}
 use Rattle.gr_model.specs.Prelude.{Mark, Streams}
 
 -- a record without names, one with some names and one with one, a barrier and an end

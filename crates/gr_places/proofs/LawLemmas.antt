@@ -1,8 +1,11 @@
 -- A fault of the stream of an input, and where reading of that input stops.
 use Rattle.gr_model.proofs.Common.{◌≡◌, ◌⊎◌, ℕ, suc, ◌+◌, Bool, true, false, List, [], ◌∷◌, ◌++◌, length, drop, Some, Result, Ok, Err, refl, ap, ◌∙◌, arith, inl, inr, ◌==◌, if◌then◌else◌, not, slice_get, ne_eqb, length-append, length-map, list_any, cases_lt, lt-ltb, le-ltb}
+use Rattle.gr_places.specs.Types.{Event, MOST_RECORDS, RecordError, Fault, Header}
 use Rattle.gr_record.specs.declared.error.RecordError.TheVariants as errors
 use Rattle.gr_record.specs.declared.fault.Fault.TheVariants as faults
-use Rattle.gr_record.specs.Prelude.{close, last_answer, read_from, reading, records_of, header_at, front_header_at, front_records_at, under, up_to, Event, MOST_RECORDS, RecordError, Fault, Header, HEADER_LENGTH, Stop, Inside, AtEnd, AtFault}
+use Rattle.gr_text.specs.Types.{HEADER_LENGTH, Stop}
+use Rattle.gr_record.specs.declared.stop.Stop.TheVariants.{Inside, AtEnd, AtFault}
+use Rattle.gr_record.specs.Prelude.{close, last_answer, read_from, reading, records_of, header_at, front_header_at, front_records_at, under, up_to}
 use Rattle.gr_record.specs.WholeStreams as record_spec
 use Rattle.gr_replay.specs.Each.{each_at, only_stream_at}
 use Rattle.gr_intake.specs.Joined.{Flat, ◌>>=◌, at_place, header_after, headers_in, stream_at}

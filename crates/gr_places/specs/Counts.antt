@@ -3,7 +3,7 @@
 use Rattle.std.specs.Prelude.{ℕ, Bool, true, false, List, length, filter, sum}
 use Rattle.std.specs.List.{sum_by}
 use Rattle.gr_places.specs.Types.{Event, Counts, RecordKind}
-use Rattle.gr_model.specs.Types.{Kind, Read, Write, Load, Store, Rmw, Barrier, End}
+use Rattle.gr_record.specs.Types.{Barrier, End, Kind, Load, Read, Rmw, Store, Write}
 use Rattle.gr_model.specs.Prelude.{Streams}
 use Rattle.gr_places.specs.declared.counts.RecordKind.TheVariants as kinds
 

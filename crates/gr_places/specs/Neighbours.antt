@@ -1,7 +1,8 @@
 -- The file with which another file does not fit, by the groups in their headers.
 -- Source: docs/OUTPUT.md, "check".
 use Rattle.std.specs.Prelude.{ℕ, ◌+◌, Bool, false, ◌&&◌, nat_le, List, Option, None, Some, option_and_then, position, slice_get, Result, Ok, Err}
-use Rattle.gr_record.specs.Prelude.{front_header_at, MOST_GROUPS, RecordError, Header}
+use Rattle.gr_places.specs.Types.{MOST_GROUPS, RecordError, Header}
+use Rattle.gr_record.specs.Prelude.{front_header_at}
 
 abbrev pub group_of : Result (Header × List ℕ) RecordError → Option ℕ
 group_of (Ok h) = Some h.0.group

@@ -1,8 +1,8 @@
 -- The line of a word's least racing pair, or that it has none.
 -- Source: docs/OUTPUT.md, "explain".
 use Rattle.std.specs.Prelude.{ℕ, List, ◌++◌, Option, None, Some, decimal, codes}
-use Rattle.gr_model.specs.Types.{EventId, Word}
-use Rattle.gr_model.specs.declared.event.Word.TheVariants.{Global, Local}
+use Rattle.gr_model.specs.declared.event.EventId.{EventId}
+use Rattle.gr_places.specs.Types.{Global, Local, Word}
 use Rattle.gr_model.specs.Prelude.{Pair}
 
 -- a word of memory

@@ -2,7 +2,7 @@
 -- Source: docs/OUTPUT.md, "explain --long". What is relaxed is this project's own.
 use Rattle.std.specs.Prelude.{Bool, true}
 use Rattle.gr_races.specs.Types.{Event, Kind, Relaxation, BothFlags, DeviceScope}
-use Rattle.gr_model.specs.Types.{Load, Store, Rmw, Barrier, Device}
+use Rattle.gr_record.specs.Types.{Barrier, Device, Load, Rmw, Store}
 use Rattle.gr_model.specs.Prelude.{Streams}
 use Rattle.gr_model.specs.contracts.event.KindPartialEq.TheImpl as equality
 use Rattle.gr_taking.specs.Taken.{read_by}

@@ -1,6 +1,6 @@
 -- The types, variants and constants that definitions and proofs cite most, passed on from one place. Declares nothing.
-pub use Rattle.gr_model.specs.Types.{Event, EventId, Kind, Word}
-pub use Rattle.gr_model.specs.declared.race.Race.{Race}
+pub use Rattle.gr_explain.specs.Types.{Event, EventId, Race, Word}
+pub use Rattle.gr_model.specs.declared.event.Kind.{Kind}
 pub use Rattle.gr_model.specs.declared.report.Divergence.{Divergence}
 pub use Rattle.gr_places.specs.declared.places.Placed.{Placed}
 pub use Rattle.gr_races.specs.declared.account.Account.{Account}

@@ -13,18 +13,7 @@ use gr_model::event::ItemId;
 use gr_model::memory::Memory;
 use gr_model::report::Divergence;
 use gr_model::traces::Traces;
-use std::alloc::{AllocError, Allocator};
-
-/// Items of a group, one after another by their numbers, that came to an instance with the same barrier, or never came.
-#[derive(Clone, Copy, Debug)]
-pub struct Arrival {
-    /// The first item.
-    pub first: u32,
-    /// The last item.
-    pub last: u32,
-    /// Their barrier, if they came.
-    pub barrier: Option<Crossing>,
-}
+use std::alloc::Allocator;
 
 /// An item's barrier of an instance, if it came.
 fn came<A: Allocator>(lanes: &Lanes<A>, item: ItemId, number: u32) -> Option<Crossing>
@@ -77,27 +66,4 @@ pub(crate) fn came_to_first<A: Allocator + Copy>(
     };
     let lanes = take_all(alloc, traces)?;
     came_to(alloc, &lanes, first.group, first.instance)
-}
-
-/// The items of a group by their barriers of an instance; of each item its barrier is given, if it came.
-///
-/// # Errors
-/// `AllocError`: out of memory.
-pub fn arrivals_of<A: Allocator>(
-    alloc: A,
-    came: &[Option<Crossing>],
-) -> Result<Vec<Arrival, A>, AllocError> {
-    let mut arrivals: Vec<Arrival, A> = Vec::new(alloc);
-    for (item, barrier) in came.iter().enumerate() {
-        let item = item as u32;
-        match arrivals.last_mut() {
-            Some(arrival) if arrival.barrier == *barrier => arrival.last = item,
-            Some(_) | None => arrivals.push(Arrival {
-                first: item,
-                last: item,
-                barrier: *barrier,
-            })?,
-        }
-    }
-    Ok(arrivals)
 }

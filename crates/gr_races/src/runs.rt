@@ -1,4 +1,4 @@
-//! Runs of words with consecutive numbers.
+//! Runs of words with consecutive numbers; and spans of other consecutive numbers that have one value.
 
 ghost use Rattle.std.specs.Prelude.{◌≡◌, IfOk, map};
 ghost use Rattle.gr_races.specs.Runs as spec;
@@ -6,7 +6,7 @@ ghost use Rattle.gr_races.specs.Runs as spec;
 use gr_model::event::Word;
 use gr_model::memory::Memory;
 use gr_model::race::Race;
-use std::alloc::Allocator;
+use std::alloc::{AllocError, Allocator};
 
 /// Words of one memory with consecutive numbers; if the memory is local, of one work-group.
 #[derive(Clone, Copy, Debug)]
@@ -70,4 +70,36 @@ pub(crate) fn runs_of<A: Allocator>(alloc: A, races: &[Race]) -> Result<Vec<Run,
     }
     runs.push(run)?;
     Ok(runs)
+}
+
+/// Consecutive numbers that have one value.
+#[derive(Clone, Copy, Debug)]
+pub struct Span<T> {
+    /// The first number.
+    pub first: u32,
+    /// The last number.
+    pub last: u32,
+    /// Their value.
+    pub value: T,
+}
+
+/// The spans of numbers with their values.
+///
+/// # Errors
+/// `AllocError`: out of memory.
+pub fn spans_of<A: Allocator, T: Copy + PartialEq>(
+    alloc: A,
+    numbers: &[(u32, T)],
+) -> Result<Vec<Span<T>, A>, AllocError> {
+    let mut spans: Vec<Span<T>, A> = Vec::new(alloc);
+    for (number, value) in numbers {
+        let (first, last, value) = (*number, *number, *value);
+        match spans.last_mut() {
+            Some(span) if span.last.checked_add(1) == Some(first) && span.value == value => {
+                span.last = last;
+            }
+            Some(_) | None => spans.push(Span { first, last, value })?,
+        }
+    }
+    Ok(spans)
 }

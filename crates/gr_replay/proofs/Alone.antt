@@ -1,8 +1,9 @@
 -- One stream, and the bytes that follow it.
 use Rattle.gr_model.proofs.Common.{◌≡◌, ℕ, List, [], ◌++◌, length, Result, Ok, Err, refl, sym, ap, ◌∙◌, subst, arith, append-nil, eqb-true, ◌==◌, if◌then◌else◌, nil_from_length}
+use Rattle.gr_replay.specs.Types.{Event, RecordError, Fault, Header}
 use Rattle.gr_record.specs.declared.error.RecordError.TheVariants as errors
 use Rattle.gr_record.specs.declared.fault.Fault.TheVariants as faults
-use Rattle.gr_record.specs.Prelude.{front_header_at, front_records_at, whole, Event, RecordError, Fault, Header}
+use Rattle.gr_record.specs.Prelude.{front_header_at, front_records_at, whole}
 use Rattle.gr_record.proofs.Growing.{grown, records_grow}
 use Rattle.gr_intake.specs.Joined.{Flat, ◌>>=◌, header_after, headers_in, stream_at, unless_seen}
 use Rattle.gr_intake.proofs.Accepted.{BeginsWith, follows}

@@ -1,7 +1,7 @@
 -- Inputs are the streams of a launch in whatever order.
 use Rattle.gr_model.proofs.Common.{◌≡◌, ◌≢◌, ℕ, List, [], ◌∷◌, ◌++◌, map, get_or, All, AllPairs, Contains, IsPermutation, Result, Ok, Err, refl, sym, ap, ◌∙◌, subst, arith, append-nil, append_assoc, cases_lt, get_or_append_left, get_or_default, length-append, Contains-get_or, All-map, All-permutation, Contains-permutation, IsPermutation-map, IsPermutation-sym, get_or-append_seam}
 use Rattle.gr_model.specs.Prelude.{Streams}
-use Rattle.gr_record.specs.Types.{Fault, One}
+use Rattle.gr_text.specs.Types.{Fault, One}
 use Rattle.gr_intake.specs.Joined.{Flat, headers_in}
 use Rattle.gr_intake.specs.Launch.{AreApart, IsLaunchOf}
 use Rattle.gr_intake.proofs.Accepted.{none_are}

@@ -1,6 +1,7 @@
 -- Streams from an input each, read one after the other.
 use Rattle.gr_model.proofs.Common.{◌≡◌, ℕ, ◌+◌, ◌<◌, ◌≤◌, List, [], ◌∷◌, ◌++◌, length, map, drop, get_or, Option, Some, None, Result, Ok, refl, sym, ap, subst, ◌∙◌, IfSome, option_map, Vec, at_drop_more, at_drop_all, map_push, slice_get-get_or, slice_get-map, get_or_from_slice_get}
-use Rattle.gr_record.specs.Prelude.{Fails, Fault}
+use Rattle.gr_record.specs.declared.fault.Fault.{Fault}
+use Rattle.gr_record.specs.Prelude.{Fails}
 use Rattle.gr_record.proofs.Outside.{fails_through}
 use Rattle.gr_intake.specs.Joined.{Flat}
 use Rattle.gr_replay.specs.Each.{AreRead, all_known, each_at, inputs_of, only_stream_at}

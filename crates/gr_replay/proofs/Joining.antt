@@ -1,6 +1,7 @@
 -- Reading streams one after the other, as a loop does.
 use Rattle.gr_model.proofs.Common.{◌≡◌, ℕ, zero, suc, ◌+◌, ◌-◌, ◌<◌, ◌≤◌, true, false, List, [], ◌∷◌, ◌++◌, length, Result, Ok, refl, sym, ◌∙◌, arith, ◌==◌, length-map, map_push, option_map, slice_get}
-use Rattle.gr_record.specs.Prelude.{Fails, Fault}
+use Rattle.gr_replay.specs.Types.{Fault}
+use Rattle.gr_record.specs.Prelude.{Fails}
 use Rattle.gr_replay.specs.declared.joined.Stream.{Stream}
 use Rattle.gr_intake.specs.Joined.{Flat, headers_in, stream_at, joined_at}
 use Rattle.gr_replay.specs.InMemory.{flat, flats}

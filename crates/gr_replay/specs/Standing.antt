@@ -1,6 +1,7 @@
 -- Records in the bytes that have them.
 use Rattle.std.specs.Prelude.{◌≡◌, ℕ, List, [], Result, Ok, Err}
-use Rattle.gr_record.specs.Prelude.{front_records_at, Event, RecordError, Header}
+use Rattle.gr_replay.specs.Types.{Event, RecordError, Header}
+use Rattle.gr_record.specs.Prelude.{front_records_at}
 
 abbrev pub events_in : Result (List Event × List ℕ) RecordError → List Event
 events_in (Ok x) = x.0

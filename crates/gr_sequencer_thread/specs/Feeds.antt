@@ -2,10 +2,11 @@
 -- Source: docs/QUEUES.md, "The work queue", and docs/MODEL.md, "The world".
 use Rattle.std.specs.Prelude.{◌≡◌, ◌==◌, ◌<◌, ◌%◌, ℕ, All, Bool, false, List, [], ◌++◌, drop, length, map, filter, slice_index, slice_index_or, Option, None, Some, IsFalse, IsTrue, if◌then◌else◌}
 use Rattle.atomic_table.specs.Seated.{TableId}
-use Rattle.gr_route.specs.Types.{Event, Work}
+use Rattle.gr_model.specs.declared.event.Event.{Event}
 use Rattle.gr_model.specs.Prelude.{IsConfig, Settings, worker_number, AreComplete, IsPrefix, Streams, list_of, size_of}
 use Rattle.gr_clocks.specs.ClockedAccess.{ClockedAccess}
 use Rattle.gr_order.specs.Sequences.{IsDone, IsSequence, Sequence}
+use Rattle.gr_route.specs.declared.work.Work.{Work}
 use Rattle.gr_route.specs.Batches.{all_of}
 use Rattle.gr_route.specs.IntakeSeats.{Taker, popped_of}
 use Rattle.gr_route.specs.WorkRule.{is_stopped}

@@ -10,7 +10,8 @@ use Rattle.gr_timeline.specs.Accesses.{AreAccesses}
 use Rattle.gr_timeline.specs.Held.{IsHeldCount}
 use Rattle.gr_timeline.specs.Racy.{IsRacyIn}
 use Rattle.gr_timeline.specs.Waiting.{IsHeldEvent}
-use Rattle.gr_races.specs.Types.{Crossing, Placed, EventId, Word, Details}
+use Rattle.gr_races.specs.Types.{Details, EventId, Placed, Word}
+use Rattle.gr_races.specs.declared.between.Crossing.{Crossing}
 use Rattle.gr_races.specs.declared.by_kind.RacesByKind.{RacesByKind}
 use Rattle.gr_races.specs.Arrivals.{came_to_first}
 use Rattle.gr_races.specs.Listing.{Entry, entry_of}

@@ -1,6 +1,7 @@
 -- If a group may have a list of events, each of them is sent, and as it is.
 use Rattle.gr_model.proofs.Common.{◌≡◌, ℕ, zero, suc, ◌+◌, ◌≤◌, Bool, List, [], ◌∷◌, ◌++◌, length, map, refl, sym, subst, arith, inl, inr, true≢false, IsFalse, cases_Bool, length-append, length-map, nil_from_length}
-use Rattle.gr_model.specs.Types.{Event, Kind, End, Name, Space}
+use Rattle.gr_streams.specs.Types.{Event, Kind, End}
+use Rattle.gr_record.specs.Types.{Name, Space}
 use Rattle.gr_model.specs.Prelude.{IsEventOk, IsKindOk, IsNamingOk, end_of, is_end, AreGood, IsAccepted, IsPrefix, is_complete}
 use Rattle.gr_model.proofs.Sending.{is_complete-push}
 use Rattle.gr_model.proofs.StreamPrefixes.{next_ok, next_unended, prefix_prefix}

@@ -1,6 +1,7 @@
 -- A header at the front of bytes that come in pieces, after other headers.
 use Rattle.gr_model.proofs.Common.{◌≡◌, ◌<◌, ◌≤◌, ℕ, List, [], ◌++◌, length, Option, None, Some, Ok, refl, subst, ap, arith, inl, inr, append-nil, IfSome, Consumes, IsAtEnd, cases_lt, length-drop, nil_from_length}
-use Rattle.gr_record.specs.Prelude.{Fails, front_header_at, Header, Fault, HEADER_LENGTH}
+use Rattle.gr_streams.specs.Types.{Header, Fault, HEADER_LENGTH}
+use Rattle.gr_record.specs.Prelude.{Fails, front_header_at}
 use Rattle.gr_record.proofs.Outside.{fails_through}
 use Rattle.gr_intake.specs.Joined.{header_after}
 use Rattle.gr_intake.proofs.Seen.{after_more, front_is}

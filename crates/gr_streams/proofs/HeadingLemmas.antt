@@ -1,6 +1,7 @@
 -- Headers that are read one after the other.
 use Rattle.gr_model.proofs.Common.{◌≡◌, ℕ, List, [], ◌∷◌, ◌++◌, Option, None, Some, Ok, Err, refl, IfSome, option_map}
-use Rattle.gr_record.specs.Prelude.{Fails, Header, Fault}
+use Rattle.gr_streams.specs.Types.{Header, Fault}
+use Rattle.gr_record.specs.Prelude.{Fails}
 use Rattle.gr_record.proofs.Outside.{fails_through}
 use Rattle.gr_replay.specs.Each.{all_known}
 use Rattle.gr_intake.specs.Joined.{◌>>=◌, header_after}

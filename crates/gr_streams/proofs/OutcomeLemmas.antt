@@ -1,7 +1,9 @@
 -- The outcome of a stream is the same, read piece by piece or as a whole.
 use Rattle.gr_model.proofs.Common.{◌≡◌, ℕ, ◌≤◌, List, [], length, take, drop, Some, Result, Ok, Err, refl, arith, le-ltb}
+use Rattle.gr_streams.specs.Types.{Event, MOST_RECORDS, RecordError, Header, Inside, AtEnd, AtFault, HEADER_LENGTH}
 use Rattle.gr_record.specs.declared.error.RecordError.TheVariants as errors
-use Rattle.gr_record.specs.Prelude.{closed, read_from, reading, records_of, header_at, front_header_at, front_records_at, up_to, Event, MOST_RECORDS, RecordError, Header, Inside, AtEnd, AtFault, HEADER_LENGTH, Stop}
+use Rattle.gr_record.specs.declared.stop.Stop.{Stop}
+use Rattle.gr_record.specs.Prelude.{closed, read_from, reading, records_of, header_at, front_header_at, front_records_at, up_to}
 use Rattle.gr_intake.specs.Joined.{at_place}
 use Rattle.gr_intake.proofs.Accepted.{AreRead, records_read}
 use Rattle.gr_streams.specs.Records.{events_at}

@@ -1,8 +1,9 @@
 -- What a stream leaves after it is read agrees with its bytes.
 use Rattle.gr_model.proofs.Common.{◌≡◌, ℕ, ◌≤◌, Bool, true, false, List, [], ◌++◌, length, take, Option, None, Some, Result, Err, refl, sym, ap, ◌∙◌, subst, arith, append_assoc, IfErr, IfOk, IfSome, IsTrue, Consumes, prepend_known, length-take, take-append-le, take_all}
+use Rattle.gr_streams.specs.Types.{Event, MOST_RECORDS, RecordError, Header, Fault, AtEnd, AtFault}
 use Rattle.gr_model.specs.Prelude.{IsAccepted, is_complete}
 use Rattle.gr_record.specs.declared.error.RecordError.TheVariants as errors
-use Rattle.gr_record.specs.Prelude.{HasMemory, Standing, answer, last_answer, reading, stream_fault, Event, MOST_RECORDS, RecordError, Header, Fault, AtEnd, AtFault}
+use Rattle.gr_record.specs.Prelude.{HasMemory, Standing, answer, last_answer, reading, stream_fault}
 use Rattle.gr_record.proofs.Resuming.{fault_stays}
 use Rattle.gr_threads.specs.Senders.{Sending}
 use Rattle.gr_streams.specs.Records.{events_at}

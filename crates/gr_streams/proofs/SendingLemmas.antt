@@ -1,8 +1,9 @@
 -- Events that are sent as they are decoded.
 use Rattle.gr_model.proofs.Common.{◌≡◌, ℕ, ◌+◌, ◌-◌, ◌<◌, true, List, [], ◌∷◌, ◌++◌, length, map, take, get_or, Option, None, Some, Result, refl, ap, ◌∙◌, append_assoc, arith, IfErr, IsFalse, IsTrue, OnErr, OnOk, cases_lt, places, take_more}
+use Rattle.gr_streams.specs.Types.{Event, Part, Header}
 use Rattle.gr_model.specs.Prelude.{end_of, is_end, is_complete}
 use Rattle.gr_record.specs.declared.part.Part.TheVariants as parts
-use Rattle.gr_record.specs.Prelude.{AreBytes, GrowsAs, Reading, header_part, parts_of, Event, Part, Header}
+use Rattle.gr_record.specs.Prelude.{AreBytes, GrowsAs, Reading, header_part, parts_of}
 use Rattle.gr_threads.specs.declared.sender.SendError.{SendError}
 use Rattle.gr_threads.specs.Refusals.{IsRefusalOfEnd, is_full}
 use Rattle.gr_threads.specs.Senders.{Sending}

@@ -1,7 +1,8 @@
 -- The records of streams with an input each.
 -- Source: docs/FORMATS.md, "Several streams" and "Faults".
 use Rattle.std.specs.Prelude.{ℕ, ◌==◌, if◌then◌else◌, List, [], ◌∷◌, ◌++◌, length, Result, Ok, Err}
-use Rattle.gr_replay.specs.Types.{Event, Fault, AfterEnd}
+use Rattle.gr_streams.specs.Types.{Event, Fault}
+use Rattle.gr_record.specs.declared.error.RecordError.TheVariants.{AfterEnd}
 use Rattle.gr_record.specs.declared.fault.Fault.TheVariants as faults
 use Rattle.gr_record.specs.Prelude.{front_header_at, front_records_at}
 use Rattle.gr_intake.specs.Joined.{◌>>=◌, at_place}

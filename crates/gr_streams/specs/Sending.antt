@@ -1,10 +1,11 @@
 -- What was sent of a stream whose bytes have come so far.
 -- Source: docs/QUEUES.md, "Streams that are read while they are sent".
 use Rattle.std.specs.Prelude.{◌≡◌, ◌≢◌, ◌⊎◌, ℕ, ◌+◌, ◌<◌, Bool, true, false, List, [], ◌∷◌, ◌++◌, length, map, Option, Some, None, Result, Ok, Err, IsTrue, IsFalse}
+use Rattle.gr_streams.specs.Types.{Event, Kind, Read, Write, Load, Store, Rmw, Barrier, End, MOST_RECORDS, Fault, Part}
 use Rattle.gr_model.specs.Prelude.{end_of, is_end, is_complete}
 use Rattle.gr_record.specs.declared.fault.Fault.TheVariants as faults
 use Rattle.gr_record.specs.declared.part.Part.TheVariants as parts
-use Rattle.gr_record.specs.Prelude.{StandsFor, Standing, reading, AreBytes, Event, Kind, Read, Write, Load, Store, Rmw, Barrier, End, MOST_RECORDS, Fault, Part}
+use Rattle.gr_record.specs.Prelude.{StandsFor, Standing, reading, AreBytes}
 use Rattle.gr_threads.specs.Refusals.{IsSendable}
 use Rattle.gr_threads.specs.Senders.{Sending}
 

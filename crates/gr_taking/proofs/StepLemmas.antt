@@ -4,7 +4,8 @@ use Rattle.gr_closure.specs.AccessesAlong.{AreAccesses}
 use Rattle.gr_closure.proofs.Adding.{bare_access, handled_adds, met_add_none, others_add_none}
 use Rattle.gr_order.specs.Sequences.{Sequence, IsSequence, event_count}
 use Rattle.gr_sequencer.specs.Answers.{IsStep}
-use Rattle.gr_sequencer.specs.Types.{Handled, One, Meet}
+use Rattle.gr_sequencer.specs.declared.handled.Handled.{Handled}
+use Rattle.gr_sequencer.specs.declared.handled.Handled.TheVariants.{One, Meet}
 use Rattle.gr_clocks.specs.ClockedAccess.{ClockedAccess, clocked}
 use Rattle.gr_taking.specs.Along.{accesses_of}
 use Rattle.gr_taking.proofs.EventLists.{order_is_short}

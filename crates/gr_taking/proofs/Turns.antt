@@ -1,6 +1,6 @@
 -- The first of the records that are to come of a group may be taken, and was.
 use Rattle.gr_model.proofs.Common.{◌≡◌, ℕ, ◌<◌, List, ◌∷◌, length, sym, ap, ◌∙◌, subst, append_assoc, set-set, get_or-set_same, arith, length-append, length-set, get_or_past}
-use Rattle.gr_model.specs.Types.{Event, MOST_RECORDS}
+use Rattle.gr_order.specs.Types.{Event, MOST_RECORDS}
 use Rattle.gr_model.specs.Prelude.{Streams, list_of, size_of}
 use Rattle.gr_model.proofs.StreamPrefixes.{next_ok, next_room, next_unended}
 use Rattle.gr_lanes.specs.Takes.{CanTake, IsEventButItem, with_record}

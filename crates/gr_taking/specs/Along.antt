@@ -1,11 +1,13 @@
 -- What stands for the accesses of a launch, one after another along an order of its events.
 -- Source: docs/MODEL.md, "Steps" and "Hits".
 use Rattle.std.specs.Prelude.{List, [], ◌∷◌, Some}
-use Rattle.gr_sequencer.specs.Types.{EventId, Handled, One}
+use Rattle.gr_model.specs.declared.event.EventId.{EventId}
 use Rattle.gr_model.specs.Prelude.{IsLawful, IsWholeOrder, Streams}
 use Rattle.gr_clocks.specs.ClockedAccess.{ClockedAccess, clocked}
 use Rattle.gr_closure.specs.AccessesAlong.{AreAccesses}
 use Rattle.gr_order.specs.Sequences.{Sequence}
+use Rattle.gr_sequencer.specs.declared.handled.Handled.{Handled}
+use Rattle.gr_sequencer.specs.declared.handled.Handled.TheVariants.{One}
 
 -- the accesses of a step: one at most
 abbrev pub accesses_of : {Z : Type 0} → Handled Z → List ClockedAccess

@@ -3,7 +3,8 @@ use Rattle.gr_model.proofs.Common.{◌≡◌, ◌<◌, List, [], ◌∷◌, leng
 use Rattle.gr_model.specs.declared.event.Word.{Word}
 use Rattle.gr_model.specs.Prelude.{ClashesAt, Lists, WordBelow}
 use Rattle.gr_clocks.specs.declared.access.Access.{Access as AnyAccess}
-use Rattle.gr_route.specs.Types.{Work, Access, Stop}
+use Rattle.gr_route.specs.declared.work.Work.{Work}
+use Rattle.gr_route.specs.declared.work.Work.TheVariants.{Access, Stop}
 use Rattle.gr_shadow.specs.Clashes.{ClockedAccess, IsHitIn, clashes, clocked}
 use Rattle.gr_threads.specs.Given.{accesses_in}
 

@@ -1,6 +1,6 @@
 -- Which groups have ended, after one more event was popped.
 use Rattle.gr_model.proofs.Common.{◌≡◌, ℕ, zero, suc, arith, subst, IsTrue, ◌<◌, ◌==◌, Bool, true, false, cond, List, [], ◌∷◌, ◌++◌, sym, ap, ◌∙◌, append-nil, slice_index_or}
-use Rattle.gr_model.specs.Types.{Event, Sent}
+use Rattle.gr_route.specs.Types.{Event, Sent}
 use Rattle.gr_model.specs.Prelude.{is_end, events_of, is_complete}
 use Rattle.gr_model.proofs.Sending.{events_append, is_complete-push}
 use Rattle.gr_route.specs.IntakeSeats.{Taker, popped_of}

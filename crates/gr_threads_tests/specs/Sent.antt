@@ -1,6 +1,7 @@
 -- What each of the three senders sends.
 use Rattle.std.specs.Prelude.{◌≡◌, ℕ, zero, suc, ◌<◌, false, List, [], ◌∷◌, ◌++◌, Vec, IsTrue}
-use Rattle.gr_model.specs.Types.{Event, Sent, Write, Global, MOST_RECORDS}
+use Rattle.gr_record.specs.Types.{Event, Global, MOST_RECORDS, Write}
+use Rattle.gr_model.specs.declared.event.Sent.{Sent}
 use Rattle.gr_model.specs.Prelude.{end_of, is_complete}
 use Rattle.gr_route.specs.Rooms.{Room}
 use Rattle.gr_route.specs.IntakeSeats.{Seat, Taker, popped_of}

@@ -3,12 +3,13 @@ use Rattle.gr_model.proofs.Common.{◌≡◌, ◌≢◌, ℕ, ◌<◌, ◌≤◌
 use Rattle.gr_world.specs.Types.{EventId, Word, Access, GoError, Handle, Meet, Pass, WorkTake, StepError}
 use Rattle.gr_model.specs.declared.event.Word.TheVariants.{Global, Local}
 use Rattle.gr_model.specs.Prelude.{worker_number, Streams, HasItem}
-use Rattle.gr_order.specs.Types.{ItemId, NotReady as OrderNotReady, Memory as OrderMemory}
+use Rattle.gr_model.specs.declared.event.ItemId.{ItemId}
 use Rattle.gr_closure.specs.Accesses.{IsAccessOf}
 use Rattle.gr_closure.specs.AccessesAlong.{AreAccesses, in_flight_list}
 use Rattle.gr_closure.proofs.Adding.{bare_access, handled_adds, met_add_none, others_add_none}
 use Rattle.gr_order.specs.Sequences.{HandlesEvent, IsSequence, MeetsInstance, Sequence}
 use Rattle.gr_order.specs.Answers.{IsHandleFault, IsMeetFault}
+use Rattle.gr_order.specs.declared.go_error.GoError.TheVariants.{NotReady as OrderNotReady, Memory as OrderMemory}
 use Rattle.gr_shadow.specs.Clashes.{ClockedAccess, clocked}
 use Rattle.gr_steps.specs.Steps.{CanHandle, CanMeet}
 use Rattle.gr_world.specs.Steps.{Becomes, IsAllowed, IsInFlightFull, IsInFlightOf, IsStepRefusal, IsWorldStep}

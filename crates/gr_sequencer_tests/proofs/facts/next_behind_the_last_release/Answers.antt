@@ -1,5 +1,5 @@
 use Rattle.gr_model.proofs.Common.{rules, ◌≡◌, ◌∙◌, ℕ, ◌<◌, List, Contains, Some, slice_get, ap, subst, sym, option_copied, get_or_from_slice_get, slice_get_within}
-use Rattle.gr_model.specs.Types.{Event, EventId, Name}
+use Rattle.gr_steps.specs.Types.{Event, EventId, Name}
 use Rattle.gr_model.specs.Prelude.{names_of, release_place, Streams, event_at, for_release}
 use Rattle.gr_steps.specs.Steps.{IsReady}
 use Rattle.gr_clocks.specs.Counts.{Counts, count_of}

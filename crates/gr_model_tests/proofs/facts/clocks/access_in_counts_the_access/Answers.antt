@@ -1,5 +1,6 @@
 use Rattle.gr_model.proofs.Common.{ap, arith, refl}
-use Rattle.gr_model.specs.Types.{ItemId, Global}
+use Rattle.gr_model.specs.declared.event.ItemId.{ItemId}
+use Rattle.gr_model.specs.declared.event.Space.TheVariants.{Global}
 use Rattle.gr_model_tests.proofs.States.{not_spent, counts_one}
 use Rattle.gr_model_tests.proofs.facts.clocks.access_in_counts_the_access.Goals as goal
 

@@ -1,5 +1,6 @@
 use Rattle.gr_model.proofs.Common.{◌≡◌, ℕ, List, Ok, Err, Result, ap}
-use Rattle.gr_record.specs.Prelude.{◌>>=◌, front_records_at, Event, RecordError}
+use Rattle.gr_replay.specs.Types.{Event, RecordError}
+use Rattle.gr_record.specs.Prelude.{◌>>=◌, front_records_at}
 use Rattle.gr_replay.specs.Standing.{events_in}
 use Rattle.gr_replay.proofs.records.Records.find.Goals as goal
 

@@ -1,5 +1,6 @@
 use Rattle.gr_model.proofs.Common.{◌++◌, ◌∷◌, [], List, ap, refl}
-use Rattle.gr_route.specs.Types.{Work, Access}
+use Rattle.gr_route.specs.declared.work.Work.{Work}
+use Rattle.gr_route.specs.declared.work.Work.TheVariants.{Access}
 use Rattle.gr_sequencer_thread.specs.Feeds.{work_on_way}
 use Rattle.gr_sequencer_thread.proofs.WayLemmas.{both_unstopped, way_more}
 use Rattle.gr_sequencer_thread.proofs.way.Way.add.Goals as goal

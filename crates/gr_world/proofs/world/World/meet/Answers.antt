@@ -1,7 +1,8 @@
 use Rattle.gr_model.proofs.Common.{ℕ, rules, subst, err_from_is_err_and}
 use Rattle.gr_order.specs.Sequences.{MeetsInstance, Sequence}
 use Rattle.gr_sequencer.specs.Answers.{IsOfGroup, IsStep as IsSequencerStep}
-use Rattle.gr_sequencer.specs.Types.{Handled, One, Meet as Met}
+use Rattle.gr_sequencer.specs.declared.handled.Handled.{Handled}
+use Rattle.gr_sequencer.specs.declared.handled.Handled.TheVariants.{One, Meet as Met}
 use Rattle.gr_world.proofs.InFlightLemmas.{meet_refused, meeting_is_world, met_is_step}
 use Rattle.gr_world.proofs.world.World.meet.Goals as goal
 
