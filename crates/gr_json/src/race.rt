@@ -2,8 +2,8 @@
 //! what side files say.
 
 use crate::values::{
-    AccessObject, DetailsObject, ElementObject, EventObject, KindObject, ReleaseObject, Text,
-    WordObject, access_object, buffer_object, details_object, line_of, place_of,
+    AccessObject, DetailsObject, ElementObject, EventObject, Text, WordObject, access_object,
+    buffer_object, details_object, line_of, place_of,
 };
 use gr_model::event::{EventId, Word, word_of};
 use gr_model::memory::Memory;
@@ -41,25 +41,12 @@ pub(crate) struct CrossingObject<'a> {
     site: u32,
 }
 
-/// Half of a hand-over: a detailed event, the releases that it names, and its word.
-#[derive(Drop, Serialize)]
-struct HalfObject<'a> {
-    access: KindObject,
-    #[serde(flatten)]
-    event: EventObject,
-    names: Vec<ReleaseObject>,
-    phase: usize,
-    place: Option<&'a str>,
-    record: usize,
-    word: Option<WordObject>,
-}
-
 /// What is between two accesses: the halves of a hand-over, each if there is one, and barriers.
 #[derive(Drop, Serialize)]
 struct BetweenObject<'a> {
-    acquire: Option<HalfObject<'a>>,
+    acquire: Option<DetailsObject<'a>>,
     barriers: Vec<CrossingObject<'a>>,
-    release: Option<HalfObject<'a>>,
+    release: Option<DetailsObject<'a>>,
 }
 
 /// A race of two accesses.
@@ -118,27 +105,15 @@ fn half_object<'a>(
     alloc: Global,
     places: &PlaceIndex<'a>,
     half: Option<DetailedEvent>,
-) -> Result<Option<HalfObject<'a>>, Memory> {
-    let Some(
-        DetailedEvent {
-            event,
-            said,
-            details,
-        },
-    ) = half
-    else {
+) -> Result<Option<DetailsObject<'a>>, Memory> {
+    let Some(half) = half else {
         return Ok(None);
     };
-    let names = said.names.as_slice().iter();
-    Ok(Some(HalfObject {
-        access: details.kind.into(),
-        event: event.into(),
-        names: names.map(|name| (*name).into()).collect(alloc)?,
-        phase: details.phase,
-        place: place_of(places, event),
-        record: details.number,
-        word: word_of(event.at.group, &said).map(|word| word.into()),
-    }))
+    let names = half.said.names.as_slice().iter();
+    let mut object = details_object(places, half.event, &half.details);
+    object.names = Some(names.map(|name| (*name).into()).collect(alloc)?);
+    object.word = word_of(half.event.at.group, &half.said).map(|word| word.into());
+    Ok(Some(object))
 }
 
 fn between_object<'a>(

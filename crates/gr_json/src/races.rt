@@ -10,10 +10,10 @@ use gr_model::memory::Memory;
 use gr_model::race::Race;
 use gr_places::index::PlaceIndex;
 use gr_places::sides::Sides;
-use gr_races::arrivals::arrivals_of;
 use gr_races::by_kind::RacesByKind;
 use gr_races::listing::KindEntry;
 use gr_races::names::{cause_name, cause_sentence, operation_name, space_name};
+use gr_races::runs::spans_of;
 use serde::Serialize;
 use std::alloc::Global;
 
@@ -141,9 +141,9 @@ fn push_arrivals(
     let Some(first) = found.report.divergences.as_slice().first() else {
         return Ok(());
     };
-    let arrivals = arrivals_of(alloc, &found.came)?;
-    let items = arrivals.iter().map(|it| ArrivalObject {
-        barrier: it.barrier.map(|barrier| crossing_object(places, &barrier)),
+    let spans = spans_of(alloc, &found.came, |item, barrier| (item, *barrier))?;
+    let items = spans.iter().map(|it| ArrivalObject {
+        barrier: it.value.map(|barrier| crossing_object(places, &barrier)),
         first: it.first,
         last: it.last,
     });

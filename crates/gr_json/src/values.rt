@@ -59,15 +59,19 @@ pub(crate) struct KindObject {
 }
 
 /// An event, what its record says, how many barriers of its item come before it, where it is in the source, and the record's number in
-/// its stream.
+/// its stream; of half of a hand-over the releases that it names and its word, too.
 #[derive(Drop, Serialize)]
 pub(crate) struct DetailsObject<'a> {
     access: KindObject,
     #[serde(flatten)]
     event: EventObject,
+    #[serde(skip_serializing_if = "Option::is_none")]
+    pub(crate) names: Option<Vec<ReleaseObject>>,
     phase: usize,
     place: Option<&'a str>,
     record: usize,
+    #[serde(skip_serializing_if = "Option::is_none")]
+    pub(crate) word: Option<WordObject>,
 }
 
 /// An event, what it does if that is said, and where it is in the source.
@@ -152,9 +156,11 @@ pub(crate) fn details_object<'a>(
     DetailsObject {
         access: details.kind.into(),
         event: event.into(),
+        names: None,
         phase: details.phase,
         place: place_of(places, event),
         record: details.number,
+        word: None,
     }
 }
 

@@ -92,7 +92,9 @@ impl<'a> SideLine<'a> for BufferLine<'a> {
         }
     }
 
-    fn refusal(line: u64) -> SidesFault {
+    fn refusal(line: u64) -> SidesFault
+        ensures { result ≡ Buffers line }
+    {
         SidesFault::Buffers(line)
     }
 }

@@ -74,7 +74,9 @@ impl<'a> SideLine<'a> for PlaceLine<'a> {
         Some(PlaceLine { of, text })
     }
 
-    fn refusal(line: u64) -> SidesFault {
+    fn refusal(line: u64) -> SidesFault
+        ensures { result ≡ Places line }
+    {
         SidesFault::Places(line)
     }
 }

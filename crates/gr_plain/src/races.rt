@@ -2,18 +2,16 @@
 
 use crate::parts::{Added, WordText, put_cause, put_race, put_site};
 use gr_model::memory::Memory;
-use gr_model::report::Divergence;
 use gr_places::index::PlaceIndex;
 use gr_places::places::Placed;
 use gr_places::sides::Sides;
-use gr_races::arrivals::{Arrival, arrivals_of};
 use gr_races::between::Crossing;
 use gr_races::by_kind::RacesByKind;
 use gr_races::kinds::RaceKind;
 use gr_races::listing::KindEntry;
 use gr_races::names::{divergence_name, operation_name, space_name};
-use gr_races::runs::number_of;
-use std::alloc::{AllocError, Allocator};
+use gr_races::runs::{Span, number_of, spans_of};
+use std::alloc::Allocator;
 use std::fmt::Display;
 
 /// How many runs of a kind's words, or of items that came to a barrier, are shown at most.
@@ -35,6 +33,25 @@ fn put_kind<A: Allocator>(text: &mut String<A>, kind: RaceKind, words: usize) ->
     writeln!(text, "kind {space} {first} {second} {groups} words {words}")
 }
 
+/// How many numbers a run has.
+fn count_of(first: u32, last: u32) -> u64 {
+    u64::from(last.saturating_sub(first)).saturating_add(1)
+}
+
+/// Adds a run by its first, the number of that, and the number of its last.
+fn put_run<A: Allocator, U: Display + Drop>(
+    text: &mut String<A>,
+    shown: U,
+    first: u32,
+    last: u32,
+) -> Added {
+    if first == last {
+        write!(text, "{shown}")
+    } else {
+        write!(text, "{shown}..{last}")
+    }
+}
+
 /// Adds the first of the runs that are to be shown, each by its first, the number of that, and the number of its last; and how many more
 /// there are of what is shown.
 fn put_runs<A: Allocator, T, U: Display + Drop, F: Fn(&T) -> Option<(U, u32, u32)>>(
@@ -51,11 +68,10 @@ fn put_runs<A: Allocator, T, U: Display + Drop, F: Fn(&T) -> Option<(U, u32, u32
         };
         count = count.saturating_add(1);
         if count > MOST_RUNS {
-            more = more.saturating_add(u64::from(last.saturating_sub(number)) + 1);
-        } else if last == number {
-            write!(text, " {first}")?;
+            more = more.saturating_add(count_of(number, last));
         } else {
-            write!(text, " {first}..{last}")?;
+            write!(text, " ")?;
+            put_run(text, first, number, last)?;
         }
     }
     if more > 0 {
@@ -102,7 +118,7 @@ fn put_entry<A: Allocator>(
 fn put_arrival<A: Allocator>(
     text: &mut String<A>,
     places: &PlaceIndex<'_, A>,
-    arrivals: &[Arrival],
+    arrivals: &[Span<Option<Crossing>>],
     barrier: Option<Crossing>,
 ) -> Added {
     let what = if barrier.is_some() { "came" } else { "missing" };
@@ -110,7 +126,7 @@ fn put_arrival<A: Allocator>(
     put_runs(
         text,
         arrivals,
-        |it| (it.barrier == barrier).then_some((it.first, it.first, it.last)),
+        |it| (it.value == barrier).then_some((it.first, it.first, it.last)),
     )?;
     match barrier {
         None => writeln!(text, ""),
@@ -128,38 +144,15 @@ fn put_arrivals<A: Allocator + Copy>(
     places: &PlaceIndex<'_, A>,
     came: &[Option<Crossing>],
 ) -> Added {
-    let arrivals = arrivals_of(alloc, came)?;
+    let arrivals = spans_of(alloc, came, |item, barrier| (item, *barrier))?;
     let mut barriers: Vec<Option<Crossing>, A> = Vec::new(alloc);
     for arrival in &arrivals {
-        if barriers.len() < MOST_BARRIERS && !barriers.contains(&arrival.barrier) {
-            barriers.push(arrival.barrier)?;
-            put_arrival(text, places, &arrivals, arrival.barrier)?;
+        if barriers.len() < MOST_BARRIERS && !barriers.contains(&arrival.value) {
+            barriers.push(arrival.value)?;
+            put_arrival(text, places, &arrivals, arrival.value)?;
         }
     }
     Ok(())
-}
-
-/// Divergent instances of a group, one after another by their numbers, that have one cause: the first, and the number of the last.
-type DivergenceRun = (Divergence, u32);
-
-/// The divergent instances by their causes.
-fn divergence_runs<A: Allocator>(
-    alloc: A,
-    divergences: &[Divergence],
-) -> Result<Vec<DivergenceRun, A>, AllocError> {
-    let mut runs: Vec<DivergenceRun, A> = Vec::new(alloc);
-    for next in divergences {
-        match runs.last_mut() {
-            Some((first, last))
-                if first.group == next.group
-                    && first.cause == next.cause
-                    && last.checked_add(1) == Some(next.instance) => {
-                *last = next.instance;
-            }
-            Some(_) | None => runs.push((*next, next.instance))?,
-        }
-    }
-    Ok(runs)
 }
 
 /// Adds the first of the divergent barriers, since races may follow from them; what the items brought to the first of all; and how many
@@ -172,17 +165,20 @@ fn put_divergences<A: Allocator + Copy>(
 ) -> Added {
     let divergences = found.report.divergences.as_slice();
     let mut more = divergences.len() as u64;
-    let runs = divergence_runs(alloc, divergences)?;
-    for (place, (first, last)) in runs.iter().take(MOST_RUNS as usize).enumerate() {
-        write!(text, "diverge {} {}", first.group, first.instance)?;
-        if *last > first.instance {
-            write!(text, "..{last}")?;
-        }
-        writeln!(text, " {}", divergence_name(first.cause))?;
+    let spans = spans_of(
+        alloc,
+        divergences,
+        |_, it| (it.instance, (it.group, it.cause)),
+    )?;
+    for (place, span) in spans.iter().take(MOST_RUNS as usize).enumerate() {
+        let (first, last, (group, cause)) = (span.first, span.last, span.value);
+        write!(text, "diverge {group} ")?;
+        put_run(text, first, first, last)?;
+        writeln!(text, " {}", divergence_name(cause))?;
         if place == 0 {
             put_arrivals(alloc, text, places, &found.came)?;
         }
-        more = more.saturating_sub(u64::from(last.saturating_sub(first.instance)) + 1);
+        more = more.saturating_sub(count_of(first, last));
     }
     match more {
         0 => Ok(()),

@@ -83,22 +83,29 @@ pub struct Span<T> {
     pub value: T,
 }
 
-/// The spans of numbers with their values.
+/// The spans of items by the number and the value of each, which are made of its place and the item.
 ///
 /// # Errors
 /// `AllocError`: out of memory.
-pub fn spans_of<A: Allocator, T: Copy + PartialEq>(
+pub fn spans_of<A: Allocator, X, T: Copy + PartialEq, F: Fn(u32, &X) -> (u32, T)>(
     alloc: A,
-    numbers: &[(u32, T)],
-) -> Result<Vec<Span<T>, A>, AllocError> {
+    items: &[X],
+    number_and_value: F,
+) -> Result<Vec<Span<T>, A>, AllocError>
+    requires { F.IsAlwaysCallable number_and_value }
+{
     let mut spans: Vec<Span<T>, A> = Vec::new(alloc);
-    for (number, value) in numbers {
-        let (first, last, value) = (*number, *number, *value);
+    for (place, item) in items.iter().enumerate() {
+        let (first, value) = number_and_value(place as u32, item);
         match spans.last_mut() {
             Some(span) if span.last.checked_add(1) == Some(first) && span.value == value => {
-                span.last = last;
+                span.last = first;
             }
-            Some(_) | None => spans.push(Span { first, last, value })?,
+            Some(_) | None => spans.push(Span {
+                first,
+                last: first,
+                value,
+            })?,
         }
     }
     Ok(spans)
