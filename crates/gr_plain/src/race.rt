@@ -65,13 +65,13 @@ impl<A: Allocator> PlacedText<'_, A> {
 
     /// Adds the releases that an acquire names.
     fn put_names(&mut self, names: &[Name]) -> Added {
-        write!(self.text, " from")?;
-        for name in names {
-            let Name { at, release } = name;
-            write!(self.text, " {} {} {release}", at.group, at.item)?;
+        let mut between = " from";
+        for Name { at, release } in names {
+            write!(self.text, "{between} {} {} {release}", at.group, at.item)?;
+            between = ",";
         }
         if names.is_empty() {
-            write!(self.text, " none")?;
+            write!(self.text, " from none")?;
         }
         Ok(())
     }
