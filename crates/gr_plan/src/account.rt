@@ -142,9 +142,11 @@ impl Account {
         match read_event(header, record) {
             Err(error) if judges || error == RecordError::BadKind => return Err(error),
             _ if is_end && is_at_last => return Err(RecordError::AfterEnd),
-            _ if is_end => self.header = None,
             Ok(event) => seen.pass(&header, &event, site_of(header.version, record))?,
             Err(_) => {}
+        }
+        if is_end {
+            self.header = None;
         }
         Ok((length, 1))
     }

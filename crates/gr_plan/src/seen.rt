@@ -17,6 +17,8 @@ pub struct Sought {
     is_accessed: bool,
     /// Whether the group of the word's local memory was seen.
     has_group: bool,
+    /// The first group seen that is cut, and may have accessed the word.
+    cut: Option<u16>,
 }
 
 impl Sought {
@@ -26,11 +28,24 @@ impl Sought {
             word: word_named(space, number)?,
             is_accessed: false,
             has_group: false,
+            cut: None,
         })
     }
 
-    /// Reports if no record accesses the word.
+    /// Sees a record of a group.
+    fn pass(&mut self, group: u16, event: &Event) {
+        self.is_accessed |= word_of(group, event) == Some(self.word);
+        let may_access = !matches!(self.word, Word::Local(of, _) if of != group);
+        if may_access && event.kind == (Kind::End { cut: true }) {
+            self.cut = self.cut.or(Some(group));
+        }
+    }
+
+    /// Reports if no record accesses the word, and if records were lost that may.
     pub fn report(&self, errors: &mut Held) -> io::Result<()> {
+        if let Some(group) = self.cut {
+            writeln!(errors, "gpurace: records of group {group} were lost")?;
+        }
         match self.word {
             Word::Local(group, _) if !self.has_group => {
                 writeln!(errors, "gpurace: the launch has no group {group}")
@@ -147,14 +162,14 @@ impl Seen {
         self.sited.is_none() && self.sought.is_none()
     }
 
-    /// Passes a record of a stream of this header, which has this site. It is not an end, and `event` is what it says.
+    /// Passes a record of a stream of this header, which has this site. `event` is what it says.
     pub fn pass(&mut self, header: &Header, event: &Event, site: u16) -> Result<(), Memory> {
         if let Some(sought) = &mut self.sought {
-            sought.is_accessed |= word_of(header.group, event) == Some(sought.word);
+            sought.pass(header.group, event);
         }
         match &mut self.sited {
-            None => Ok(()),
-            Some(sited) => sited.pass(header.group, event, site),
+            Some(sited) if !event.kind.is_end() => sited.pass(header.group, event, site),
+            _ => Ok(()),
         }
     }
 }
