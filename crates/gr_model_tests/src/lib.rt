@@ -10,8 +10,6 @@ pub mod examples;
 #[cfg(test)]
 mod facts;
 #[cfg(test)]
-mod growths;
-#[cfg(test)]
 mod launch;
 #[cfg(test)]
 mod sharing_rows;

@@ -61,7 +61,7 @@ pub(crate) fn came_to_first<A: Allocator + Copy>(
 ) -> Result<Vec<Option<Crossing>, A>, Memory>
     ensures { IfOk result (λ all. all.items ≡ spec.came_to_first traces.now divergences.now) }
 {
-    let Some(first) = divergences.first() else {
+    let Some(first) = divergences.first().copied() else {
         return Ok(Vec::new(alloc));
     };
     let lanes = take_all(alloc, traces)?;

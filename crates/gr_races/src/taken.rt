@@ -23,7 +23,10 @@ fn take_list<A: Allocator + Copy>(
     ensures { OnOk result (lanes.new ≡ remembering lanes.old (with_list lanes.old.streams group list.now)) }
 {
     for event in list {
-        lanes.take(group, *event).map_err(|_| Memory)?;
+        match lanes.take(group, *event) {
+            Ok(()) => {}
+            Err(_) => return Err(Memory),
+        }
     }
     Ok(())
 }

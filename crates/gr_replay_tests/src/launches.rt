@@ -1,6 +1,6 @@
 //! Launches as the texts of their streams, and their reports.
 
-use gr_text::pack;
+use gr_text::packing::pack_text;
 use std::alloc::{AllocError, Global};
 use std::test::Fail;
 
@@ -42,9 +42,7 @@ pub(crate) static HAND_OVERS: Launch = (
 
 /// The bytes of the streams of a text.
 pub(crate) fn packed(alloc: Global, text: &str) -> Result<Vec<u8>, Fail> {
-    let mut bytes = Vec::new(alloc);
-    pack(alloc, &mut text.as_bytes(), &mut bytes).map_err(|_| "not packed")?;
-    Ok(bytes)
+    Ok(pack_text(alloc, text.as_bytes()).map_err(|_| "not packed")?)
 }
 
 /// The text of a report.

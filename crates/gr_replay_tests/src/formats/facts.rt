@@ -2,18 +2,12 @@
 
 ghost use Rattle.std.specs.Prelude.{Some, ◌∷◌, []};
 
-use gr_model::event::{Event, ItemId, Kind, Name, Order, Scope, Space, Word};
-use gr_model::names::Names;
-use gr_places::index::PlaceIndex;
-use gr_places::places::{PlaceLine, Placed};
+use gr_model::event::{ItemId, Kind, Name, Order, Scope};
 use gr_record::decoder::Decoder;
-use gr_record::encoding::{encode_event, encode_header};
+use gr_record::encoding::encode_header;
 use gr_record::header::{Header, Version};
 use gr_record::input::read_all;
-use gr_record::reading::{naming, read_event, site_of};
-use gr_report::report::Report;
-use gr_report::rows::Rows;
-use gr_report::write;
+use gr_record::reading::{naming, read_event};
 use std::io::{self, ErrorKind, Read};
 
 /// The name of the first release of the first item.
@@ -32,24 +26,6 @@ const HEADER: Header = Header {
     launch: 0,
 };
 
-/// The flag of global memory is the first.
-#[test]
-fn encode_event_of_a_barrier() {
-    let barrier = Event {
-        item: 0,
-        kind: Kind::Barrier {
-            global: true,
-            local: false,
-        },
-        space: Space::Global,
-        word: 0,
-        names: Names::none(),
-    };
-    let mut bytes = [0; 20];
-    encode_event(&barrier, &mut bytes);
-    prove!(bytes[1] == 1);
-}
-
 /// Byte 6 of a record is 0.
 #[test]
 #[tactic(auto, unfolding(gr_record::specs::Reading::event_at, gr_record::specs::Reading::bad_field_from))]
@@ -58,16 +34,6 @@ fn read_event_of_a_record_with_byte_6() {
         1, 0, 0, 0, 0, 0, 1, 0, 4, 0, 0, 0, 255, 255, 255, 255, 255, 255, 255, 255,
     ];
     prove!(read_event(HEADER, &write).is_err());
-}
-
-/// Bytes 6 and 7 of a record of version 3 are its site.
-#[test]
-#[tactic(auto, unfolding(gr_record::specs::Reading::site_at))]
-fn site_of_a_record() {
-    let write = [
-        1, 0, 0, 0, 0, 0, 2, 1, 4, 0, 0, 0, 255, 255, 255, 255, 255, 255, 255, 255,
-    ];
-    prove!(site_of(Version::Three, &write) == 258);
 }
 
 /// Version 1 does not allow a name of group 64; version 3 does.
@@ -115,23 +81,6 @@ fn naming_of_names_out_of_order() {
     prove!(naming(Version::One, ACQUIRE, &[later, NAME]).is_none());
 }
 
-/// The first line of a site gives its place.
-#[test]
-fn place_of_a_site_with_two_lines(rt: HostRuntime) {
-    let first = PlaceLine {
-        of: Placed::Site(3),
-        text: "a",
-    };
-    let second = PlaceLine {
-        of: Placed::Site(3),
-        text: "bb",
-    };
-    if let Ok(index) = PlaceIndex::of(rt.alloc(), &[first, second]) {
-        let place = index.place_of(Placed::Site(3));
-        prove!(matches!(place, Some(text) if text.len() == 1));
-    }
-}
-
 /// Has a byte left, and fails at each read.
 #[derive(Drop)]
 struct Broken;
@@ -148,24 +97,4 @@ impl Read for Broken {
 #[test]
 fn read_all_of_a_reader_that_fails(rt: HostRuntime) {
     prove!(read_all(rt.alloc(), &mut Broken).is_err());
-}
-
-/// A race on a global word is called so.
-#[test]
-fn write_of_a_global_race(rt: HostRuntime) -> io::Result<()> {
-    let report = Report {
-        races: Rows::of(vec![in rt.alloc(); Word::Global(4)]?),
-        divergences: Rows::of(Vec::new(rt.alloc())),
-        unmatched: Rows::of(Vec::new(rt.alloc())),
-        cut: Rows::of(Vec::new(rt.alloc())),
-        held: 0,
-        groups: 1,
-        items: 2,
-        records: 3,
-    };
-    let mut text = Vec::new(rt.alloc());
-    if let Ok(()) = write(&report, &mut text) {
-        prove!(text.len() == 92);
-    }
-    Ok(())
 }

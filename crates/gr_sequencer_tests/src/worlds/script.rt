@@ -46,8 +46,8 @@ pub(crate) struct Script {
     pub(crate) sizes: &'static [u16],
     pub(crate) numbers: Numbers,
     pub(crate) lines: &'static [Line],
-    /// What is reported at the end, or `None` where the world is not at rest then.
-    pub(crate) told: Option<Told>,
+    /// What is reported at the end.
+    pub(crate) told: Told,
 }
 
 /// The steps of a script, or `None` if out of memory.
@@ -64,8 +64,7 @@ fn first_wrong_line<A: Allocator + Copy>(world: &mut World<A>, script: &Script) 
     let last = script.lines.len().saturating_sub(1);
     for (place, (tried, answer)) in script.lines.iter().enumerate() {
         let is_answered = step(world, tried.step()) == Some(*answer);
-        let rests = place == last && script.told.is_some();
-        if !is_answered || world.at_rest() != rests {
+        if !is_answered || world.at_rest() != (place == last) {
             return Some(place);
         }
     }

@@ -19,8 +19,8 @@ pub trait Sends {
         ensures { IsSameSender sender.old sender.new };
 }
 
-/// How a run went: whether all was sent and seen, and of the report how many records and races there are, and whether the group was cut.
-pub type Went = (bool, u64, usize, bool);
+/// How a run went: whether all was sent and seen, and of the report how many records and races there are.
+pub type Went = (bool, u64, usize);
 
 /// Sends with the sender of a run, closes it, and sums up the report.
 fn went<R: Threads + Wait + Clock, W: Sends>(
@@ -29,25 +29,23 @@ fn went<R: Threads + Wait + Clock, W: Sends>(
     running: Running,
     mut sender: Sender,
     watch: &W,
-    cut: bool,
 ) -> Result<Went, Ended>
     requires { IsSender running sender }
 {
     let is_sent = watch.send_under(rt, &mut sender);
-    let receipt = close(rt, sender, cut);
+    let receipt = close(rt, sender);
     let report = finish_with(rt, running, Vec::new(alloc), receipt)?;
-    let is_cut = report.cut.as_slice() == [0].as_slice();
     let races = report.races.as_slice().len();
-    Ok((is_sent, report.records, races, is_cut))
+    Ok((is_sent, report.records, races))
 }
 
-/// Runs one sender under a watch, and closes it, as cut or not.
+/// Runs one sender under a watch, and closes it.
 pub fn run_one<
     R: Threads + Wait + Clock + Copy + Send + 'static,
     W: Watch + Sends + Send + Sync + Drop + 'static,
->(rt: R, alloc: Global, plan: Plan<'_>, watch: &Arc<W, Global>, cut: bool) -> Result<Went, Ended> {
+>(rt: R, alloc: Global, plan: Plan<'_>, watch: &Arc<W, Global>) -> Result<Went, Ended> {
     let theirs = Arc::try_clone(watch).map_err(|_| Ended::NotStarted)?;
     let (mut senders, running) = begin(rt, alloc, plan, theirs)?;
     let sender = pop_last(&running, &mut senders).ok_or(Ended::Wrongly)?;
-    went(&rt, alloc, running, sender, &**watch, cut)
+    went(&rt, alloc, running, sender, &**watch)
 }

@@ -29,14 +29,10 @@ pub fn sends<R: Wait + Clock, A: Allocator>(rt: &R, sender: &mut Sender<A>, even
 }
 
 /// Closes a sender, and gives its receipt. `None` if it was closed before.
-pub fn close<R: Wait + Clock, A: Allocator>(
-    rt: &R,
-    mut sender: Sender<A>,
-    cut: bool,
-) -> Option<Receipt<A>>
+pub fn close<R: Wait + Clock, A: Allocator>(rt: &R, mut sender: Sender<A>) -> Option<Receipt<A>>
     ensures { IfSome result (IsReceiptOf sender) }
 {
-    sender.close_wait(rt, cut).ok()?;
+    sender.close_wait(rt, false).ok()?;
     sender.into_receipt().ok()
 }
 
@@ -55,7 +51,7 @@ pub fn send_all<R: Wait + Clock, A: Allocator>(
             return None;
         }
     }
-    close(rt, sender, false)
+    close(rt, sender)
 }
 
 /// Sends on two threads: writes of the words 0 to 99 by one sender, and reads of the words 50 to 148 by the other.

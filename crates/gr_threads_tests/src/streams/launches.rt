@@ -1,6 +1,6 @@
 //! Launches as texts of their streams, and their reports.
 
-use gr_text::pack;
+use gr_text::packing::pack_text;
 use std::alloc::Global;
 use std::test::Fail;
 
@@ -42,9 +42,7 @@ pub(crate) static LAUNCHES: [Launch; 3] = [
 
 /// The bytes of the stream with this text.
 pub(crate) fn packed(alloc: Global, text: &str) -> Result<Vec<u8>, Fail> {
-    let mut bytes = Vec::new(alloc);
-    pack(alloc, &mut text.as_bytes(), &mut bytes).map_err(|_| "not packed")?;
-    Ok(bytes)
+    Ok(pack_text(alloc, text.as_bytes()).map_err(|_| "not packed")?)
 }
 
 /// The bytes of the streams with these texts.

@@ -1,35 +1,16 @@
-//! What each thread does while streams are still open, and a cut stream.
+//! What each thread does while streams are still open.
 
 ghost use Rattle.gr_threads_tests.specs.Senders.{IsSameSender};
 
-use crate::detector::counts::Counts;
 use crate::detector::gates::{Apart, Turns, came};
 use crate::detector::ones::{Sends, run_one};
 use crate::detector::senders::{plain, sends};
-use gr_detector::NoWatch;
 use gr_model::event::Kind;
 use gr_threads::sender::Sender;
 use std::sync::atomic::Ordering;
 use std::sync::{Arc, Wait};
 use std::test::*;
 use std::time::Clock;
-
-impl Sends for Counts {
-    /// Sends a write and a read of a word by two items. Gives whether both were sent, and their race was seen.
-    fn send_under<R: Wait + Clock>(&self, rt: &R, sender: &mut Sender) -> bool {
-        sends(rt, sender, plain(0, Kind::Write, 16))
-            && sends(rt, sender, plain(1, Kind::Read, 16))
-            && came(&self.races, 1)
-    }
-}
-
-#[test]
-fn a_race_is_seen_before_any_stream_ends(rt: HostRuntime) -> Result<(), Fail> {
-    let watch = Arc::new(rt.alloc(), Counts::default())?;
-    let went = run_one(rt, rt.alloc(), (&[2], 1, 1, 4), &watch, false);
-    assert_eq!(rt; went, Ok((true, 3, 1, false)));
-    Ok(())
-}
 
 impl Sends for Apart {
     /// Sends writes of two words. Gives whether both were sent.
@@ -41,10 +22,10 @@ impl Sends for Apart {
 #[test]
 fn two_workers_are_at_work_at_once(rt: HostRuntime) -> Result<(), Fail> {
     let watch = Arc::new(rt.alloc(), Apart::default())?;
-    let went = run_one(rt, rt.alloc(), (&[1], 2, 1, 4), &watch, false);
+    let went = run_one(rt, rt.alloc(), (&[1], 2, 1, 4), &watch);
     let seconds = watch.seconds.load(Ordering::SeqCst);
     let missed = watch.missed.load(Ordering::SeqCst);
-    assert_eq!(rt; (went, seconds, missed), (Ok((true, 3, 0, false)), 1, 0));
+    assert_eq!(rt; (went, seconds, missed), (Ok((true, 3, 0)), 1, 0));
     Ok(())
 }
 
@@ -63,23 +44,8 @@ impl Sends for Turns {
 #[test]
 fn the_sequencer_and_a_worker_wait_for_what_comes_later(rt: HostRuntime) -> Result<(), Fail> {
     let watch = Arc::new(rt.alloc(), Turns::default())?;
-    let went = run_one(rt, rt.alloc(), (&[1], 1, 1, 4), &watch, false);
+    let went = run_one(rt, rt.alloc(), (&[1], 1, 1, 4), &watch);
     let missed = watch.missed.load(Ordering::SeqCst);
-    assert_eq!(rt; (went, missed), (Ok((true, 3, 0, false)), 0));
-    Ok(())
-}
-
-impl Sends for NoWatch {
-    /// Sends a write.
-    fn send_under<R: Wait + Clock>(&self, rt: &R, sender: &mut Sender) -> bool {
-        sends(rt, sender, plain(0, Kind::Write, 16))
-    }
-}
-
-#[test]
-fn a_cut_stream_is_reported(rt: HostRuntime) -> Result<(), Fail> {
-    let watch = Arc::new(rt.alloc(), NoWatch)?;
-    let went = run_one(rt, rt.alloc(), (&[2], 8, 4, 1024), &watch, true);
-    assert_eq!(rt; went, Ok((true, 2, 0, true)));
+    assert_eq!(rt; (went, missed), (Ok((true, 3, 0)), 0));
     Ok(())
 }
