@@ -115,7 +115,8 @@ impl<A: Allocator + Copy> Seen<A> {
     {
         let none = Indices::new(self.alloc);
         let indices = self.items.entry(access.item)?.or_insert(none);
-        indices.add(access.index)
+        indices.add(access.index)?;
+        Ok(())
     }
 }
 

@@ -131,5 +131,6 @@ pub fn races_by_tags<A: Allocator + Copy, T: Tags>(
     }
     let mut pairs = pairs_of_words(alloc, words)?;
     follow(alloc, traces, &WordsKeeper { words, tags }, &mut pairs)?;
-    list_words(alloc, &pairs, words)
+    let races = list_words(alloc, &pairs, words)?;
+    Ok(races)
 }
