@@ -13,7 +13,7 @@ use gr_places::index::PlaceIndex;
 use gr_places::places::Placed;
 use gr_places::sides::Sides;
 use gr_races::account::Account;
-use gr_races::between::{Crossing, DetailedEvent};
+use gr_races::between::DetailedEvent;
 use gr_races::kinds::{KindedRace, Operation};
 use gr_races::names::operation_name;
 use gr_timeline::details::Details;
@@ -39,14 +39,6 @@ impl<A: Allocator> PlacedText<'_, A> {
         self.put_at(event)
     }
 
-    fn put_crossings(&mut self, crossings: &[Crossing]) -> Added {
-        for crossing in crossings {
-            write!(self.text, "barrier {} ", crossing.instance)?;
-            put_site(&mut self.text, &self.places, crossing)?;
-        }
-        Ok(())
-    }
-
     /// Adds half of a hand-over, if there is one: its word, and the releases that an acquire names.
     fn put_half(&mut self, label: &str, half: Option<DetailedEvent>) -> Added {
         let Some(half) = half else {
@@ -57,23 +49,15 @@ impl<A: Allocator> PlacedText<'_, A> {
         if let Some(word) = word_of(half.event.at.group, &half.said) {
             write!(self.text, " on {}", WordText(word))?;
         }
-        if half.said.kind.is_acquire() {
-            self.put_names(half.said.names.as_slice())?;
-        }
-        self.put_at(half.event)
-    }
-
-    /// Adds the releases that an acquire names.
-    fn put_names(&mut self, names: &[Name]) -> Added {
-        let mut between = " from";
+        let (names, mut between) = (half.said.names.as_slice(), " from");
         for Name { at, release } in names {
             write!(self.text, "{between} {} {} {release}", at.group, at.item)?;
             between = ",";
         }
-        if names.is_empty() {
+        if names.is_empty() && half.said.kind.is_acquire() {
             write!(self.text, " from none")?;
         }
-        Ok(())
+        self.put_at(half.event)
     }
 
     /// Adds what an access does, and where it is in the source.
@@ -86,7 +70,10 @@ impl<A: Allocator> PlacedText<'_, A> {
     fn put_account(&mut self, word: Word, account: &Account<A>) -> Added {
         self.put_details("first", account.first, &account.first_details)?;
         self.put_details("second", account.second, &account.second_details)?;
-        self.put_crossings(account.between.crossings.as_slice())?;
+        for crossing in account.between.crossings.as_slice() {
+            write!(self.text, "barrier {} ", crossing.instance)?;
+            put_site(&mut self.text, &self.places, crossing)?;
+        }
         self.put_half("release behind first", account.between.release)?;
         self.put_half("acquire before second", account.between.acquire)?;
         put_cause(&mut self.text, word, account.cause)?;

@@ -14,11 +14,8 @@ use gr_races::runs::{Span, number_of, spans_of};
 use std::alloc::Allocator;
 use std::fmt::Display;
 
-/// How many runs of a kind's words, or of items that came to a barrier, are shown at most.
-const MOST_RUNS: u32 = 5;
-
-/// How many barriers that items came to are shown at most.
-const MOST_BARRIERS: usize = 5;
+/// How many runs of words, of items and of divergent barriers, and how many barriers that items came to, are shown at most.
+const MOST_RUNS: usize = 5;
 
 /// Adds the line of a kind, and how many words have it.
 fn put_kind<A: Allocator>(text: &mut String<A>, kind: RaceKind, words: usize) -> Added {
@@ -61,7 +58,7 @@ fn put_runs<A: Allocator, T, U: Display + Drop, F: Fn(&T) -> Option<(U, u32, u32
 ) -> Added
     requires { F.IsAlwaysCallable shown }
 {
-    let (mut count, mut more): (u32, u64) = (0, 0);
+    let (mut count, mut more): (usize, u64) = (0, 0);
     for run in runs {
         let Some((first, number, last)) = shown(run) else {
             continue;
@@ -147,7 +144,7 @@ fn put_arrivals<A: Allocator + Copy>(
     let arrivals = spans_of(alloc, came, |item, barrier| (item, *barrier))?;
     let mut barriers: Vec<Option<Crossing>, A> = Vec::new(alloc);
     for arrival in &arrivals {
-        if barriers.len() < MOST_BARRIERS && !barriers.contains(&arrival.value) {
+        if barriers.len() < MOST_RUNS && !barriers.contains(&arrival.value) {
             barriers.push(arrival.value)?;
             put_arrival(text, places, &arrivals, arrival.value)?;
         }
@@ -170,7 +167,7 @@ fn put_divergences<A: Allocator + Copy>(
         divergences,
         |_, it| (it.instance, (it.group, it.cause)),
     )?;
-    for (place, span) in spans.iter().take(MOST_RUNS as usize).enumerate() {
+    for (place, span) in spans.iter().take(MOST_RUNS).enumerate() {
         let (first, last, (group, cause)) = (span.first, span.last, span.value);
         write!(text, "diverge {group} ")?;
         put_run(text, first, first, last)?;

@@ -59,7 +59,11 @@ fn held_release<A: Allocator>(judged: &Judged<A>, event: EventId, name: Name) ->
 {
     let index = judged.lanes().release_at(name)?;
     let release = EventId { at: name.at, index };
-    (!judged.is_grounded(release)).then_some(release)
+    if judged.is_grounded(release) {
+        None
+    } else {
+        Some(release)
+    }
 }
 
 /// The first release of these names that is held, if one is.
@@ -85,14 +89,18 @@ fn reason_by_names<A: Allocator>(judged: &Judged<A>, event: EventId) -> Option<R
     requires { IsHeldEvent judged.now event }
     ensures { MatchOption result ((n : Name) → HasName judged.now event n → HasGroundedRelease judged.now event n) (λ r. IsCause judged.now event r × LeadsToHeld judged.now r) }
 {
-    let taken = judged.record_of(event)?;
+    let Some(taken) = judged.record_of(event) else {
+        return None;
+    };
     let names = taken.names.as_slice();
     let root = root_by_names(judged, event, word_of(event.at.group, &taken), names);
     if root.is_some() {
         return root;
     }
-    let release = first_held_release(judged, event, names)?;
-    Some(Reason::Release(release))
+    match first_held_release(judged, event, names) {
+        None => None,
+        Some(release) => Some(Reason::Release(release)),
+    }
 }
 
 /// The event right before an item's barrier of this number, if that event is held.
@@ -109,7 +117,11 @@ fn held_before<A: Allocator>(judged: &Judged<A>, item: ItemId, number: u32) -> O
         at: item,
         index: index - 1,
     };
-    (!judged.is_grounded(before)).then_some(before)
+    if judged.is_grounded(before) {
+        None
+    } else {
+        Some(before)
+    }
 }
 
 /// The first item's event that is held and comes right before its barrier of an instance of a group, if there is one.

@@ -126,8 +126,9 @@ pub(crate) fn chain_of<A: Allocator + Copy>(
     requires held { IsHeldEvent judged.now event }
     ensures { IfOk result (λ links. IsChain judged.now event links.items) }
 {
-    let visited = Tally::new(alloc, judged.lanes().shape());
-    let mut visited = visited.map_err(|_| Memory)?;
+    let Ok(mut visited) = Tally::new(alloc, judged.lanes().shape()) else {
+        return Err(Memory);
+    };
     let mut links = Vec::new(alloc);
     follow(judged, &mut links, &mut visited, event)?;
     Ok(links)
