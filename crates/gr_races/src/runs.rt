@@ -96,7 +96,8 @@ pub fn spans_of<A: Allocator, X, T: Copy + PartialEq, F: Fn(u32, &X) -> (u32, T)
 {
     let mut spans: Vec<Span<T>, A> = Vec::new(alloc);
     for (place, item) in items.iter().enumerate() {
-        let (first, value) = number_and_value(place as u32, item);
+        let place = u32::try_from(place).unwrap_or(u32::MAX);
+        let (first, value) = number_and_value(place, item);
         match spans.last_mut() {
             Some(span) if span.last.checked_add(1) == Some(first) && span.value == value => {
                 span.last = first;
