@@ -7,7 +7,6 @@ use crate::values::{
     push_lines,
 };
 use gr_model::memory::Memory;
-use gr_model::race::Race;
 use gr_places::index::PlaceIndex;
 use gr_places::sides::Sides;
 use gr_races::by_kind::RacesByKind;
@@ -86,20 +85,16 @@ fn first_race<'a>(
     places: &PlaceIndex<'a>,
     entry: &KindEntry,
 ) -> Option<RaceObject<'a>> {
-    let Race {
-        word,
-        first,
-        second,
-    } = *entry.races.first()?;
+    let race = entry.races.first()?;
     Some(RaceObject {
-        buffer: buffer_object(sides, word),
+        buffer: buffer_object(sides, race.word),
         cause: entry.kind.cause.map(|cause| CauseObject {
             name: cause_name(cause),
-            sentence: cause_sentence(word, cause),
+            sentence: cause_sentence(race.word, cause),
         }),
-        first: access_object(places, first, None),
-        second: access_object(places, second, None),
-        word: word.into(),
+        first: access_object(places, race.first, None),
+        second: access_object(places, race.second, None),
+        word: race.word.into(),
     })
 }
 

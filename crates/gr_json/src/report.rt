@@ -67,10 +67,8 @@ pub(crate) struct EndLine {
 
 /// The line of a group that is cut.
 pub(crate) fn cut_line(group: &u16) -> CutLine {
-    CutLine {
-        group: *group,
-        line: "cut",
-    }
+    let (group, line) = (*group, "cut");
+    CutLine { group, line }
 }
 
 /// The line of a divergent instance.

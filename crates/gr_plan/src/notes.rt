@@ -47,10 +47,7 @@ pub fn note(plan: &mut Plan, command: &str, errors: &mut Held) -> io::Result<()>
         (Kept::Text(text), Some(_), _) if begins_stream(text) => {
             writeln!(errors, "gpurace: the input is packed already")
         }
-        (Kept::Text(text), Some(number), _) => {
-            let name = line_name(plan, text, number)?;
-            put_bad_line(errors, text, name.as_str())
-        }
+        (Kept::Text(_), Some(number), _) => note_line(plan, number, errors),
         (_, None, Some(name)) if is_missing => writeln!(
             errors,
             "gpurace: {name}: its last stream is truncated, and streams after it may be lost"
@@ -79,6 +76,15 @@ fn line_name(plan: &Plan, text: &[u8], number: u64) -> Result<String, AllocError
         }
         _ => format!(in alloc; "line {number}"),
     }
+}
+
+/// Reports which word of a line of the input is at fault, if the input is a text.
+fn note_line(plan: &Plan, number: u64, errors: &mut Held) -> io::Result<()> {
+    let Kept::Text(text) = &plan.reading.kept else {
+        return Ok(());
+    };
+    let name = line_name(plan, text, number)?;
+    put_bad_line(errors, text, name.as_str())
 }
 
 /// Reports which side file has a line that is out of form, and the form. A file of sites is read as the places that are made of it.
