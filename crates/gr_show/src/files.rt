@@ -3,6 +3,7 @@
 ghost use Rattle.std.specs.Prelude.{◌≡◌, ◌≢◌, IfErr, IfOk, map};
 ghost use Rattle.std.specs.Fn.{FnReturnsAt};
 ghost use Rattle.std.specs.Io.KnownBytes.{Keeps};
+ghost use Rattle.gr_record.specs.declared.fault.Fault.TheVariants as faults;
 ghost use Rattle.gr_places.specs.Opening.{HoldsOfAllFiles, IsSidesFault, side_names};
 ghost use Rattle.gr_show.specs.Told.{IsShown, IsTold, ShowsPrefix};
 ghost use Rattle.gr_places.specs.declared.sides_fault.SidesFault.TheVariants.{Run as ARun};
@@ -38,7 +39,7 @@ where
     requires { O.IsAlwaysCallable opener }
     ensures told { IfOk result (λ told. HoldsOfAllFiles T.remaining (FnReturnsAt O.Fn opener) (side_names sides.now) (map (λ s. s.now) names.now) (λ known said. IsTold (Q.is_text question.now said) (Q.is_found question.now) known told.text.items told.found)) }
     ensures fault { IfErr result (λ f. IsSidesFault T.remaining (FnReturnsAt O.Fn opener) (side_names sides.now) (map (λ s. s.now) names.now) f) }
-    ensures reading { IfErr result (λ f. (f ≢ ARun Fault.Write) × (f ≢ ARun Fault.Threads)) }
+    ensures reading { IfErr result (λ f. (f ≢ ARun faults.Write) × (f ≢ ARun faults.Threads)) }
 {
     let Opened {
         places,
@@ -81,9 +82,9 @@ where
     requires { O.IsAlwaysCallable opener }
     ensures shown { IfOk result (λ found. HoldsOfAllFiles T.remaining (FnReturnsAt O.Fn opener) (side_names sides.now) (map (λ s. s.now) names.now) (λ known said. IsShown (Q.is_text question.now said) (Q.is_found question.now) known found (W.contents writer.old) (W.contents writer.new))) }
     ensures fault { IfErr result (λ f. IsSidesFault T.remaining (FnReturnsAt O.Fn opener) (side_names sides.now) (map (λ s. s.now) names.now) f) }
-    ensures untouched { IfErr result (λ f. f ≢ ARun Fault.Write → Keeps (W.contents writer.old) (W.contents writer.new)) }
-    ensures prefix { IfErr result (λ f. f ≡ ARun Fault.Write → HoldsOfAllFiles T.remaining (FnReturnsAt O.Fn opener) (side_names sides.now) (map (λ s. s.now) names.now) (λ known said. ShowsPrefix (Q.is_text question.now said) known (W.contents writer.old) (W.contents writer.new))) }
-    ensures threads { IfErr result (λ f. f ≢ ARun Fault.Threads) }
+    ensures untouched { IfErr result (λ f. f ≢ ARun faults.Write → Keeps (W.contents writer.old) (W.contents writer.new)) }
+    ensures prefix { IfErr result (λ f. f ≡ ARun faults.Write → HoldsOfAllFiles T.remaining (FnReturnsAt O.Fn opener) (side_names sides.now) (map (λ s. s.now) names.now) (λ known said. ShowsPrefix (Q.is_text question.now said) known (W.contents writer.old) (W.contents writer.new))) }
+    ensures threads { IfErr result (λ f. f ≢ ARun faults.Threads) }
 {
     let told = answer_of_files(alloc, question, sides, names, opener)?;
     write_text(writer, &told.text)?;
