@@ -1,7 +1,7 @@
 //! Each growth is refused in turn: then memory runs out and nothing is written, or the right answer is given and written.
 
 use crate::answers::{ALL, Asked, answered};
-use crate::launches::{Files, LAUNCHES, Launch, NOTED, streams_of};
+use crate::launches::{Files, LAUNCHES, NOTED, streams_of};
 use gr_model::memory::Memory;
 use gr_places::sides_fault::SidesFault;
 use gr_record::fault::Fault;

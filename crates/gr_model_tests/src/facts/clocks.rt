@@ -1,6 +1,6 @@
 //! Facts of vector clocks.
 
-ghost use Rattle.std.specs.Prelude.{◌≡◌, ◌∷◌, [], IfOk};
+ghost use Rattle.std.specs.Prelude.{◌∷◌, [], IfOk};
 ghost use Rattle.gr_clocks.specs.ItemClocks.{AreNew};
 
 use crate::launch::shape_of;

@@ -1,6 +1,6 @@
 //! Senders of plain accesses.
 
-ghost use Rattle.std.specs.Prelude.{◌≡◌, IfSome};
+ghost use Rattle.std.specs.Prelude.{IfSome};
 ghost use Rattle.gr_threads_tests.specs.Senders.{IsReceiptOf, IsSameSender};
 
 use crate::route::three_senders::write;

@@ -1,7 +1,5 @@
 //! What each thread does while streams are still open.
 
-ghost use Rattle.gr_threads_tests.specs.Senders.{IsSameSender};
-
 use crate::detector::gates::{Apart, Turns, came};
 use crate::detector::ones::{Sends, run_one};
 use crate::detector::senders::{plain, sends};
