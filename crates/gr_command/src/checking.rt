@@ -44,6 +44,8 @@ pub fn write_check<T: Read + Drop, O: Fn(&str) -> io::Result<T>, W: Write>(
 {
     let checked = check_files(alloc, arguments.files.as_slice(), opener)?;
     let text = text_of(alloc, &checked, arguments.json)?;
-    write_text(writer, &text)?;
-    Ok(checked.is_accepted())
+    match write_text(writer, &text) {
+        Ok(()) => Ok(checked.is_accepted()),
+        Err(_) => Err(Fault::Write),
+    }
 }
