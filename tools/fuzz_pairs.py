@@ -5,8 +5,9 @@ fuzz_pairs.py [--launches N] [--seed S] [--program FILE]
 
 The launches are those of the examples and random ones, in which each event has a place of a few, or none. Of each racy word the pairs of
 an operation and a place that race have to be those of the kinds that `races` writes, each pair once, with two events that race, of two
-groups if there are such; and the cause of each race has to be the first that applies (docs/OUTPUT.md, "explain --long"). A launch of which
-other pairs or causes are shown is left in a file `different` of the working folder.
+groups if there are such; the cause of each race has to be the first that applies (docs/OUTPUT.md, "explain --long"); and of the first
+divergent barrier each item has to be shown with what it came with. A launch of which anything else is shown is left in a file `different`
+of the working folder.
 """
 import argparse
 import json
@@ -118,12 +119,33 @@ def wrong_cause(lines, sizes, traces):
     return None
 
 
-def judge(program, name, text, sizes, traces, places):
+def wrong_arrivals(lines, sizes, traces, sites):
+    """What is wrong with what the items brought to the first divergent barrier, or None."""
+    divergent = [at for at, barriers in instances(sizes, traces).items() if divergence(sizes[at[0]], barriers)]
+    found = [line for line in lines if line["type"] == "arrivals"]
+    if [(line["group"], line["instance"]) for line in found] != sorted(divergent)[:1]:
+        return f"the first divergent barrier is not {sorted(divergent)[:1]}: {found}"
+    for line in found:
+        barriers = instances(sizes, traces)[line["group"], line["instance"]]
+        came = [barriers.get(item) for item in range(sizes[line["group"]])]
+        expected = [barrier and (barrier.word, "g" in barrier.memory, "l" in barrier.memory, sites.get(barrier.word)) for barrier in came]
+        said = []
+        for run in line["items"]:
+            barrier = run["barrier"]
+            brought = barrier and (barrier["site"], barrier["global"], barrier["local"], barrier["place"])
+            said += [brought] * (run["last"] - run["first"] + 1)
+        if said != expected:
+            return f"the items came with {expected}: {line}"
+    return None
+
+
+def judge(program, name, text, sizes, traces, places, sites):
     """Stops if the kinds that `races` writes of a launch are wrong."""
     with tempfile.TemporaryDirectory() as folder:
         packed = pathlib.Path(folder, "launch")
         packed.write_bytes(subprocess.run([program, "pack"], input=text.encode(), capture_output=True, check=True).stdout)
         lines = "".join(f"{' '.join(str(part) for part in event)} {place}\n" for event, place in places.items())
+        lines += "".join(f"{site} {place}\n" for site, place in sites.items())
         pathlib.Path(folder, "side").write_text(lines)
         words = [program, "races", "--causes", "--json", "--places", f"{folder}/side", str(packed)]
         run = subprocess.run(words, capture_output=True, check=False)
@@ -131,7 +153,9 @@ def judge(program, name, text, sizes, traces, places):
     pairs, _ = relate(sizes, traces)
     races = races_of(grounded_of(events_of(traces)), pairs)
     told = [json.loads(line) for line in said.splitlines()]
-    why = wrong(told, races, places) or wrong_cause(told, sizes, traces) if run.returncode < 2 else run.stderr.decode()
+    why = run.stderr.decode()
+    if run.returncode < 2:
+        why = wrong(told, races, places) or wrong_cause(told, sizes, traces) or wrong_arrivals(told, sizes, traces, sites)
     if why:
         pathlib.Path("different").write_text(f"{name}: {why}\n\nplaces:\n{lines}\nsaid:\n{said}\n{text}", encoding="utf-8")
         sys.exit(f"{name}: {why} (see the file `different`)")
@@ -146,14 +170,15 @@ def main():
     examples = sorted((TOP / "examples").glob("*/trace.txt"))
     for path in examples:
         text = path.read_text()
-        judge(arguments.program, path.parent.name, text, *launch_of(text), {})
+        judge(arguments.program, path.parent.name, text, *launch_of(text), {}, {})
     for seed in range(arguments.seed, arguments.seed + arguments.launches):
         choose = random.Random(seed)
         sizes, traces = random_launch(choose, 1, 6)
         text = as_text(choose, sizes, traces)
         places = {(*event.at, event.index): f"kernel.cl:{choose.randrange(4)}" for event in events_of(traces) if choose.random() < 0.8}
-        judge(arguments.program, f"seed {seed}", text, sizes, traces, places)
-    print(f"{len(examples)} examples and {arguments.launches} launches: each pair that races is shown, with its cause, and no other")
+        sites = {site: f"kernel.cl:{10 + site}" for site in (0, 1, 7) if choose.random() < 0.5}
+        judge(arguments.program, f"seed {seed}", text, sizes, traces, places, sites)
+    print(f"{len(examples)} examples and {arguments.launches} launches: each pair that races is shown, with its cause, and no other, and what came to divergent barriers")
 
 
 if __name__ == "__main__":
