@@ -44,7 +44,6 @@ Examples:
   gpurace replay < trace.gpurace
   gpurace pack < trace.txt | gpurace replay
   gpurace dump trace.gpurace > trace.txt
-  gpurace explain g 16 group0.gpurace group1.gpurace
   gpurace explain --long g 16 group0.gpurace group1.gpurace
   gpurace explain --long launches/000-sum 'partial[10]'
   gpurace races launches/000-sum
@@ -74,7 +73,7 @@ const LONG_PLACES: &str = "\
 With --long: a file of lines GROUP ITEM INDEX TEXT, or SITE TEXT of barriers: where in the source the record or barrier is";
 
 const LONG_BUFFERS: &str = "\
-With --long: a file of lines g FIRST WORDS NAME or l GROUP FIRST WORDS NAME: which words are which buffer";
+With --long, or for a name: a file of lines g FIRST WORDS NAME or l GROUP FIRST WORDS NAME: which words are which buffer";
 
 const JSON: &str = "Writes JSON, an object a line, in place of text";
 
@@ -86,7 +85,8 @@ const WORD: &str = "The number of the word, below 4294967296";
 const FILES: &str =
     "The streams of the launch: files with one or several, a folder of them, or - for standard input";
 
-const PLACES: &str = "A file of lines GROUP ITEM INDEX TEXT: where in the source the access is";
+const PLACES: &str =
+    "A file of lines GROUP ITEM INDEX TEXT, or SITE TEXT of barriers: where in the source they are";
 
 const BUFFERS: &str =
     "A file of lines g FIRST WORDS NAME or l GROUP FIRST WORDS NAME: which words are which buffer";
@@ -204,10 +204,10 @@ With --long more lines follow the line of a race. They say what each of the two 
 the stream of its group, from 0, and how many barriers of its item come before it. Then they say what is between the two, if
 anything is: each barrier of their group that comes before only one of them, a release after the first, and an acquire before
 the second. Then comes the cause of the race, and after it further races of the word. With --buffers there is also the buffer of
-the word, and with --places the place in the source of each of these records and barriers, if the files have it.
+the word, and with --places the place in the source of each of these records, and by its site of each barrier, if the files have it.
+Below a word without a race is how many accesses to it are held: these are not judged, since an unmatched acquire holds them back.
 
-A trace of a million records takes about a second. Accesses that an unmatched acquire holds back are not judged; replay and
-run report what is held, and everything else that is not a race.
+A trace of a million records takes about a second.
 
 If a file of buffers is given, or a folder has one, a word may be given by its name in place of SPACE and WORD, as in
 `gpurace explain FOLDER 'partial[10]'`.",
@@ -216,13 +216,6 @@ If a file of buffers is given, or a folder has one, a word may be given by its n
 Examples:
   gpurace explain l0 4 group*.gpurace
   race local 0 4: 0 0 0 with 0 1 0
-
-  gpurace explain --long g 16 group*.gpurace
-  race global 16: 0 0 0 with 0 1 1
-  first write record 0 phase 0
-  second read record 3 phase 1
-  barrier 0 site 1 l
-  cause flags: with CLK_LOCAL_MEM_FENCE | CLK_GLOBAL_MEM_FENCE at every barrier the two would be ordered
 
 With side files, whose lines say where records and barriers are in the source and which words are which buffer:
   gpurace explain --long --places places --buffers buffers g 16 group*.gpurace
@@ -252,32 +245,19 @@ Reports all words that have a race, kind by kind: which words they are, and two 
 
 A kind is the memory, what the two accesses do, whether they are of one work-group, where they are in the source if --places
 has both, and with --causes the cause of the race. An access is written as GROUP ITEM INDEX; the records of an item are counted
-from 0. The races are found by clocks, as replay finds them. Divergent barriers come first, because they may cause races; the
-last line counts them, unmatched acquires and what these hold back.",
+from 0. The races are found by clocks, as replay finds them. Divergent barriers come first, because they may cause races, and
+below the first one what each item of its group came with, or that it never came. The last line counts divergent barriers,
+unmatched acquires, and all records that are held.",
         ),
         example: "\
-Example:
-  gpurace races --most 1 group*.gpurace
-  kind global write read one group words 48
-  words global 896..943
-  race global 896: 0 3 12 with 0 7 14
-  end kinds 1 races 48 diverge 0 unmatched 0 held 0
-
-With side files, whose lines say where accesses are in the source and which words are which buffer:
-  gpurace races --places places --buffers buffers --most 1 group*.gpurace
+Example, with causes, and with side files, whose lines say where accesses are in the source and which words are which buffer:
+  gpurace races --causes --places places --buffers buffers --most 1 group*.gpurace
   kind global write read one group words 48
   words global 896..943
   race global 896: 0 3 12 with 0 7 14
   buffer psc[448]
   first scan.cl:4992:7
   second scan.cl:5001:16
-  end kinds 1 races 48 diverge 0 unmatched 0 held 0
-
-With --causes the last line of a kind is the cause of all its races, as explain --long gives it:
-  gpurace races --causes --most 1 group*.gpurace
-  kind global write read one group words 48
-  words global 896..943
-  race global 896: 0 3 12 with 0 7 14
   cause no-barrier: nothing orders the two; a barrier with CLK_GLOBAL_MEM_FENCE between them would
   end kinds 1 races 48 diverge 0 unmatched 0 held 0",
         parameters: &[
@@ -300,18 +280,12 @@ With --causes the last line of a kind is the cause of all its races, as explain 
             "\
 Lists all accesses to one word, in an order in which they may have happened. Each line says after which of the accesses above it
 this access is ordered. Two accesses of different work-items race if neither is ordered after the other, unless both read or both
-are atomic with inclusive scope. Accesses that are held are left out.
+are atomic with inclusive scope. Accesses that are held come last.
 
 An access is written as GROUP ITEM INDEX; the records of an item are counted from 0. A word may be given by its name, as in explain.",
         ),
         example: "\
-Examples:
-  gpurace history l0 4 group*.gpurace
-  access 0 0 0 write record 0 phase 0 behind none
-  access 0 1 1 read record 3 phase 1 behind all
-  end accesses 2 held 0 races no
-
-With side files, whose lines say where accesses are in the source and which words are which buffer:
+Example, with side files, whose lines say where accesses are in the source and which words are which buffer:
   gpurace history --places places --buffers buffers l0 4 group*.gpurace
   buffer tile[4]
   access 0 0 0 write record 0 phase 0 behind none at scan.cl:12:5

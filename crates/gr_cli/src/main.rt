@@ -84,7 +84,7 @@ where
     }
     let command = words.first().map_or("", |word| word.as_str());
     let _ = note(plan, command, errors);
-    if status == 0 {
+    if status <= 1 {
         let _ = plan.note_word(errors);
     }
     Ok(status)

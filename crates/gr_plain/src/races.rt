@@ -134,7 +134,7 @@ fn put_arrival<A: Allocator>(
     }
 }
 
-/// Adds for each barrier of an instance the items that came to it; and those that never came.
+/// Adds for each of the first barriers of an instance the items that came to it; how many items came to others; and which never came.
 fn put_arrivals<A: Allocator + Copy>(
     alloc: A,
     text: &mut String<A>,
@@ -142,14 +142,26 @@ fn put_arrivals<A: Allocator + Copy>(
     came: &[Option<Crossing>],
 ) -> Added {
     let arrivals = spans_of(alloc, came, |item, barrier| (item, *barrier))?;
-    let mut barriers: Vec<Option<Crossing>, A> = Vec::new(alloc);
-    for arrival in &arrivals {
-        if barriers.len() < MOST_RUNS && !barriers.contains(&arrival.value) {
-            barriers.push(arrival.value)?;
+    let mut shown: Vec<Option<Crossing>, A> = Vec::new(alloc);
+    let mut more: u64 = 0;
+    for arrival in arrivals.iter().filter(|it| it.value.is_some()) {
+        if shown.contains(&arrival.value) {
+            continue;
+        }
+        if shown.len() < MOST_RUNS {
+            shown.push(arrival.value)?;
             put_arrival(text, places, &arrivals, arrival.value)?;
+        } else {
+            more = more.saturating_add(count_of(arrival.first, arrival.last));
         }
     }
-    Ok(())
+    if more > 0 {
+        writeln!(text, "came and {more} more")?;
+    }
+    match arrivals.iter().any(|it| it.value.is_none()) {
+        true => put_arrival(text, places, &arrivals, None),
+        false => Ok(()),
+    }
 }
 
 /// Adds the first of the divergent barriers, since races may follow from them; what the items brought to the first of all; and how many

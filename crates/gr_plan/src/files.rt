@@ -1,6 +1,6 @@
 //! The streams of the files on the command line: a file may have several, a folder has a file for each, and `-` is standard input.
 
-use crate::account::Account;
+use crate::account::{Account, begins_stream};
 use crate::line::Line;
 use crate::notes::reason_of;
 use crate::plan::Refusal;
@@ -10,6 +10,7 @@ use crate::source::{Piece, Source, file_size};
 use gr_model::memory::Memory;
 use gr_record::fault::Fault;
 use gr_record::input::read_all;
+use gr_record::layout::HEADER_LENGTH;
 use indexmap::IndexMap;
 use std::alloc::Global;
 use std::fs::{self, File};
@@ -249,13 +250,17 @@ impl Files {
         Ok(())
     }
 
-    /// Adds the streams of standard input or of a pipe, all of which is read here. A pipe that can't be opened stays a name.
+    /// Adds the streams of standard input or of a pipe, all of which is read here; but only its first bytes if these begin no stream,
+    /// since a device may have no end. A pipe that can't be opened stays a name.
     fn add_bytes(&mut self, name: &str) -> Result<(), Fault> {
         let alloc = self.rt.alloc();
         let Ok(mut source) = Source::open(self.rt, name, 1) else {
             return Ok(self.add_name(name)?);
         };
-        let bytes = read_all(alloc, &mut source)?;
+        let mut bytes = read_all(alloc, &mut source.by_ref().take(HEADER_LENGTH as u64))?;
+        if begins_stream(&bytes) {
+            bytes = read_all(alloc, &mut bytes.as_slice().chain(source))?;
+        }
         let starts = self.starts_of(name, &mut bytes.as_slice())?;
         let whole = Piece::of_bytes(alloc, bytes)?;
         if starts.len() > 1 {

@@ -126,7 +126,9 @@ impl Naming<'_, '_> {
     fn note(&self, lines: &[BufferLine<'_>], word: Word) -> Result<Option<String>, Memory> {
         let alloc = self.line.rt.alloc();
         let (name, (buffer, index)) = (self.name, self.parts());
-        let (space, spaces) = (space_of(alloc, word)?, spaces_of(alloc, lines, buffer)?);
+        let mut placed = Vec::from_slice(alloc, lines)?;
+        placed.retain(|line| index.is_some_and(|index| word_at(line, index).is_some()));
+        let (space, spaces) = (space_of(alloc, word)?, spaces_of(alloc, &placed, buffer)?);
         if spaces != space {
             let text = format!(in alloc; "this is {name} of {space}; {buffer} is in {spaces}");
             return Ok(Some(text?));

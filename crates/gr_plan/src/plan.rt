@@ -90,8 +90,8 @@ impl Plan {
         Ok(())
     }
 
-    /// Reports what an answer without a race does not say about its word: that nothing accesses it, and that its name is in several
-    /// memories.
+    /// Reports what an answer does not say about its word: that records were lost, that nothing accesses it, and that its name is in
+    /// several memories.
     pub fn note_word(&self, errors: &mut Held) -> io::Result<()> {
         if let Some(sought) = &self.files.seen.sought {
             sought.report(errors)?;

@@ -17,8 +17,8 @@ pub struct Sought {
     is_accessed: bool,
     /// Whether the group of the word's local memory was seen.
     has_group: bool,
-    /// The first group seen that is cut, and may have accessed the word.
-    cut: Option<u16>,
+    /// The first group that is cut and may have accessed the word, and how many such groups there are.
+    cut: Option<(u16, u32)>,
 }
 
 impl Sought {
@@ -37,14 +37,20 @@ impl Sought {
         self.is_accessed |= word_of(group, event) == Some(self.word);
         let may_access = !matches!(self.word, Word::Local(of, _) if of != group);
         if may_access && event.kind == (Kind::End { cut: true }) {
-            self.cut = self.cut.or(Some(group));
+            let (first, groups) = self.cut.unwrap_or((group, 0));
+            self.cut = Some((first.min(group), groups.saturating_add(1)));
         }
     }
 
     /// Reports if no record accesses the word, and if records were lost that may.
     pub fn report(&self, errors: &mut Held) -> io::Result<()> {
-        if let Some(group) = self.cut {
-            writeln!(errors, "gpurace: records of group {group} were lost")?;
+        match self.cut {
+            None => {}
+            Some((group, 1)) => writeln!(errors, "gpurace: records of group {group} were lost")?,
+            Some((group, groups)) => writeln!(
+                errors,
+                "gpurace: records of {groups} groups were lost (the first is group {group})"
+            )?,
         }
         match self.word {
             Word::Local(group, _) if !self.has_group => {
