@@ -67,6 +67,16 @@ pub fn read_file(rt: HostRuntime, path: &str) -> Result<Vec<u8>, Refusal> {
     fs::read(&rt, path).map_err(|error| no_file(rt.alloc(), path, &error))
 }
 
+/// All bytes of standard input or of a pipe; but only the first ones if they begin no stream, since a device may have no end.
+fn bytes_of_pipe(alloc: Global, mut source: Source) -> Result<Vec<u8>, Fault> {
+    let head = read_all(alloc, &mut source.by_ref().take(HEADER_LENGTH as u64))?;
+    if !begins_stream(&head) {
+        return Ok(head);
+    }
+    let mut whole = head.as_slice().chain(source);
+    read_all(alloc, &mut whole)
+}
+
 /// The sorted paths of what is in a folder, if its name has this ending; none if the folder can't be read.
 fn paths_in(rt: HostRuntime, folder: &str, ending: &str) -> Result<Vec<String>, Memory> {
     let alloc = rt.alloc();
@@ -250,17 +260,13 @@ impl Files {
         Ok(())
     }
 
-    /// Adds the streams of standard input or of a pipe, all of which is read here; but only its first bytes if these begin no stream,
-    /// since a device may have no end. A pipe that can't be opened stays a name.
+    /// Adds the streams of standard input or of a pipe. A pipe that can't be opened stays a name.
     fn add_bytes(&mut self, name: &str) -> Result<(), Fault> {
         let alloc = self.rt.alloc();
-        let Ok(mut source) = Source::open(self.rt, name, 1) else {
+        let Ok(source) = Source::open(self.rt, name, 1) else {
             return Ok(self.add_name(name)?);
         };
-        let mut bytes = read_all(alloc, &mut source.by_ref().take(HEADER_LENGTH as u64))?;
-        if begins_stream(&bytes) {
-            bytes = read_all(alloc, &mut bytes.as_slice().chain(source))?;
-        }
+        let bytes = bytes_of_pipe(alloc, source)?;
         let starts = self.starts_of(name, &mut bytes.as_slice())?;
         let whole = Piece::of_bytes(alloc, bytes)?;
         if starts.len() > 1 {

@@ -249,10 +249,7 @@ fn note_stream(to: &mut Held, plan: &mut Plan, stream: u64, is_header: bool) -> 
 fn note_pipe(plan: &Plan, stream: u64, is_after_end: bool, to: &mut Held) -> io::Result<()> {
     match plan.files.names.get(stream as usize) {
         Some(name) if is_after_end && file_kind(plan.rt, name.as_str()) == FileKind::Pipe => {
-            writeln!(
-                to,
-                "gpurace: {name} is a pipe, of which run reads one stream"
-            )
+            writeln!(to, "gpurace: {name} is a pipe: run reads one stream of it")
         }
         _ => Ok(()),
     }

@@ -15,9 +15,6 @@ const FIRST_REPORT: u64 = 500;
 /// How many milliseconds pass between two reports.
 const BETWEEN: u64 = 200;
 
-/// Goes to the start of the line, and clears it.
-const CLEAR: &[u8] = b"\r\x1b[K";
-
 /// How much was read.
 #[derive(Drop)]
 pub struct Progress {
@@ -72,10 +69,10 @@ impl Progress {
         self.rt.stderr().write_all(text.as_bytes())
     }
 
-    /// Clears what was reported.
+    /// Goes to the start of the line, and clears what was reported.
     pub fn clear(&self) {
         if self.next.load(Ordering::SeqCst) != FIRST_REPORT {
-            let _ = self.rt.stderr().write_all(CLEAR);
+            let _ = self.rt.stderr().write_all(b"\r\x1b[K");
         }
     }
 }
