@@ -14,5 +14,3 @@ mod failing;
 mod growths;
 #[cfg(test)]
 mod launches;
-#[cfg(test)]
-mod lines;

@@ -41,12 +41,14 @@ pub(crate) struct CrossingObject<'a> {
     site: u32,
 }
 
-/// What is between two accesses: the halves of a hand-over, each if there is one, and barriers.
+/// What is between two accesses: the halves of a hand-over to the second and of one back, each if there is one, and barriers.
 #[derive(Drop, Serialize)]
 struct BetweenObject<'a> {
     acquire: Option<DetailsObject<'a>>,
+    acquire_back: Option<DetailsObject<'a>>,
     barriers: Vec<CrossingObject<'a>>,
     release: Option<DetailsObject<'a>>,
+    release_back: Option<DetailsObject<'a>>,
 }
 
 /// A race of two accesses.
@@ -125,8 +127,10 @@ fn between_object<'a>(
     let barriers = crossings.map(|it| crossing_object(places, it));
     Ok(BetweenObject {
         acquire: half_object(alloc, places, between.acquire)?,
+        acquire_back: half_object(alloc, places, between.acquire_back)?,
         barriers: barriers.collect(alloc)?,
         release: half_object(alloc, places, between.release)?,
+        release_back: half_object(alloc, places, between.release_back)?,
     })
 }
 

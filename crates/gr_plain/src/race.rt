@@ -19,6 +19,9 @@ use gr_races::names::operation_name;
 use gr_timeline::details::Details;
 use std::alloc::Allocator;
 
+/// How many barriers between two accesses are shown at most.
+const MOST_BARRIERS: usize = 8;
+
 /// A text, with the places of events in the source.
 #[derive(Drop)]
 struct PlacedText<'a, A: Allocator> {
@@ -70,12 +73,19 @@ impl<A: Allocator> PlacedText<'_, A> {
     fn put_account(&mut self, word: Word, account: &Account<A>) -> Added {
         self.put_details("first", account.first, &account.first_details)?;
         self.put_details("second", account.second, &account.second_details)?;
-        for crossing in account.between.crossings.as_slice() {
+        let crossings = account.between.crossings.as_slice();
+        for crossing in crossings.iter().take(MOST_BARRIERS) {
             write!(self.text, "barrier {} ", crossing.instance)?;
             put_site(&mut self.text, &self.places, crossing)?;
         }
+        match crossings.len().saturating_sub(MOST_BARRIERS) {
+            0 => {}
+            more => writeln!(self.text, "barrier and {more} more")?,
+        }
         self.put_half("release behind first", account.between.release)?;
         self.put_half("acquire before second", account.between.acquire)?;
+        self.put_half("release behind second", account.between.release_back)?;
+        self.put_half("acquire before first", account.between.acquire_back)?;
         put_cause(&mut self.text, word, account.cause)?;
         self.put_others(&account.others)
     }

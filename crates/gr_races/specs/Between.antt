@@ -58,10 +58,12 @@ pub record BetweenSaid : Type 0 where
   pub crossings : List Crossing
   pub release : Option DetailedEvent
   pub acquire : Option DetailedEvent
+  pub release_back : Option DetailedEvent
+  pub acquire_back : Option DetailedEvent
 
 abbrev pub between_said : {Z : Type 0} → Between Z → BetweenSaid
-between_said b = record { crossings = b.crossings.items; release = b.release; acquire = b.acquire }
+between_said b = record { crossings = b.crossings.items; release = b.release; acquire = b.acquire; release_back = b.release_back; acquire_back = b.acquire_back }
 
 -- what lies between two accesses
 abbrev pub between_of : Streams → EventId → EventId → BetweenSaid
-between_of s e f = record { crossings = crossings s e f; release = release_behind s e; acquire = acquire_before s f }
+between_of s e f = record { crossings = crossings s e f; release = release_behind s e; acquire = acquire_before s f; release_back = release_behind s f; acquire_back = acquire_before s e }

@@ -1,5 +1,5 @@
-//! What lies between the two accesses of a racing pair: barriers that one of them comes after and the other does not, a release after the
-//! first and an acquire before the second.
+//! What lies between the two accesses of a racing pair: barriers that one of them comes after and the other does not, a release after
+//! either and an acquire before the other.
 
 ghost use Rattle.std.specs.Prelude.{◌≡◌, ◌≤◌, ◌<◌, ◌&&◌, IfOk, None, Some, drop, filter, filter_map, find, if◌then◌else◌, length, nat_lt, option_and_then, take};
 ghost use Rattle.std.specs.List.{enumerate_from, last_or, range_with_len};
@@ -50,6 +50,10 @@ pub struct Between<A: Allocator = Global> {
     pub release: Option<DetailedEvent>,
     /// The last acquire of its item before the second access.
     pub acquire: Option<DetailedEvent>,
+    /// The first release of its item after the second access.
+    pub release_back: Option<DetailedEvent>,
+    /// The last acquire of its item before the first access.
+    pub acquire_back: Option<DetailedEvent>,
 }
 
 /// The instance of a barrier, which has this number among its item's barriers.
@@ -186,10 +190,14 @@ pub fn between_of<A: Allocator>(
     let within = first.at.group < groups && second.at.group < groups;
     prove!(within);
     let release = release_above(traces.list(first.at.group), first.at.item, first.index);
+    let release_back = release_above(traces.list(second.at.group), second.at.item, second.index);
     let acquire = acquire_below(records, second.at, second.index);
+    let acquire_back = acquire_below(records, first.at, first.index);
     Ok(Between {
         crossings: crossings(alloc, traces, first, second)?,
         release: detailed_at(traces, records, first.at, release),
         acquire: detailed_at(traces, records, second.at, acquire),
+        release_back: detailed_at(traces, records, second.at, release_back),
+        acquire_back: detailed_at(traces, records, first.at, acquire_back),
     })
 }
