@@ -202,8 +202,8 @@ by its first access and then by its second.
 
 With --long more lines follow the line of a race. They say what each of the two accesses is, with the number of its record in
 the stream of its group, from 0, and how many barriers of its item come before it. Then they say what is between the two, if
-anything is: each barrier of their group that comes before only one of them, a release after the first, and an acquire before
-the second. Then comes the cause of the race, and after it further races of the word. With --buffers there is also the buffer of
+anything is: each barrier of their group that comes before only one of them, a release after either, and an acquire before the
+other. Then comes the cause of the race, and after it further races of the word. With --buffers there is also the buffer of
 the word, and with --places the place in the source of each of these records, and by its site of each barrier, if the files have it.
 Below a word without a race is how many accesses to it are held: these are not judged, since an unmatched acquire holds them back.
 
