@@ -178,7 +178,8 @@ def main():
         places = {(*event.at, event.index): f"kernel.cl:{choose.randrange(4)}" for event in events_of(traces) if choose.random() < 0.8}
         sites = {site: f"kernel.cl:{10 + site}" for site in (0, 1, 7) if choose.random() < 0.5}
         judge(arguments.program, f"seed {seed}", text, sizes, traces, places, sites)
-    print(f"{len(examples)} examples and {arguments.launches} launches: each pair that races is shown, with its cause, and no other, and what came to divergent barriers")
+    tried = f"{len(examples)} examples and {arguments.launches} launches"
+    print(f"{tried}: each pair that races is shown, with its cause, and no other, and what came to divergent barriers")
 
 
 if __name__ == "__main__":
