@@ -16,21 +16,21 @@ use Rattle.gr_explain.proofs.Sets.{event_from_equal, event_itself}
 
 -- ---- one access more
 
-module _ {Z : Type 0} (wanted : List EventId) (accesses : List ClockedAccess) (a : Access Z) (old new : List (EventId × Access Z)) where
+module _ {Z : Type 0} (wanted : List EventId) (accesses : List ClockedAccess) (x : ClockedAccess) (old new : List (EventId × Access Z)) where
   -- of an event that is another one
-  other_stays : (d : EventId) (o : Option (Access Z)) → event_of (clocked a) ≢ d → IsThatOf accesses d o → IsThatOf (accesses ++ clocked a ∷ []) d o
-  other_stays d None other none = λ x there is. ⊎_elim (λ (was : Contains accesses x). none x was is) (λ (last : clocked a ≡ x). other (ap event_of last ∙ is)) (Contains-push_cases accesses (clocked a) x there)
-  other_stays d (Some b) other that = (Contains-append_left accesses (clocked a ∷ []) (clocked b) that.0, that.1)
+  other_stays : (d : EventId) (o : Option (Access Z)) → event_of x ≢ d → IsThatOf accesses d o → IsThatOf (accesses ++ x ∷ []) d o
+  other_stays d None other none = λ y there is. ⊎_elim (λ (was : Contains accesses y). none y was is) (λ (last : x ≡ y). other (ap event_of last ∙ is)) (Contains-push_cases accesses x y there)
+  other_stays d (Some b) other that = (Contains-append_left accesses (x ∷ []) (clocked b) that.0, that.1)
 
-  -- its event is wanted, and it is kept
-  pub wanted_added : ((d : EventId) → access_at new d ≡ cond (same_event (event_of (clocked a)) d) (Some a) (access_at old d)) → AreThoseOf wanted accesses old → AreThoseOf wanted (accesses ++ clocked a ∷ []) new
-  wanted_added update those d has = ⊎_elim
-      (λ (is : same_event (event_of (clocked a)) d ≡ true). rw (update d, is) (Contains-push accesses (clocked a), event_from_equal (event_of (clocked a)) d is))
-      (λ (fails : same_event (event_of (clocked a)) d ≡ false). rw (update d, fails) (other_stays d (access_at old d) (λ same. grind (arith, event_itself)) (those d has)))
-      (cases_Bool (same_event (event_of (clocked a)) d))
+  -- its event is wanted, and it is kept with a clock of its own
+  pub wanted_added : (a : Access Z) → clocked a ≡ x → ((d : EventId) → access_at new d ≡ cond (same_event (event_of x) d) (Some a) (access_at old d)) → AreThoseOf wanted accesses old → AreThoseOf wanted (accesses ++ x ∷ []) new
+  wanted_added a its update those d has = ⊎_elim
+      (λ (is : same_event (event_of x) d ≡ true). rw (update d, is, its) (Contains-push accesses x, event_from_equal (event_of x) d is))
+      (λ (fails : same_event (event_of x) d ≡ false). rw (update d, fails) (other_stays d (access_at old d) (λ same. grind (arith, event_itself)) (those d has)))
+      (cases_Bool (same_event (event_of x) d))
 
   -- its event is not wanted, and nothing changes
-  pub unwanted_added : ¬ Has wanted (event_of (clocked a)) → new ≡ old → AreThoseOf wanted accesses old → AreThoseOf wanted (accesses ++ clocked a ∷ []) new
+  pub unwanted_added : ¬ Has wanted (event_of x) → new ≡ old → AreThoseOf wanted accesses old → AreThoseOf wanted (accesses ++ x ∷ []) new
   unwanted_added not_wanted same those d has = rw same (other_stays d (access_at old d) (λ is. not_wanted (subst (Has wanted) (sym is) has)) (those d has))
 
 -- ---- the accesses along an order, and its events

@@ -11,6 +11,7 @@ use gr_model::event::EventId;
 use gr_model::memory::Memory;
 use gr_model::race::Race;
 use gr_model::traces::Traces;
+use gr_shadow::lent::LentAccess;
 use gr_taking::keeper::Keeper;
 use gr_taking::source::Reading;
 use gr_taking::traces::follow_until;
@@ -56,13 +57,10 @@ impl<A: Allocator + Copy> Keeper<A> for WantedKeeper<'_, A> {
 
     ghost stands = { λ keeper accesses kept. AreThoseOf keeper.wanted.now.keys accesses kept.entries };
 
-    fn add(&self, kept: &mut Accesses<A>, access: &mut Option<Access<A>>) -> Result<(), Memory> {
-        let Some(access) = access.take() else {
-            return Ok(());
-        };
-        let event = event_of(&access);
+    fn add(&self, kept: &mut Accesses<A>, access: &LentAccess<'_, A>) -> Result<(), Memory> {
+        let event = event_of(access);
         if self.wanted.contains(&event) {
-            kept.insert(event, access)?;
+            kept.insert(event, access.owned()?)?;
         }
         Ok(())
     }

@@ -2,15 +2,15 @@
 
 ghost use Rattle.std.specs.Prelude.{◌≡◌, ◌↔◌, ◌++◌, ◌∷◌, [], IsTrue, OnOk, map};
 ghost use Rattle.std.specs.List.{find};
-ghost use Rattle.gr_clocks.specs.ClockedAccess.{clocked};
 ghost use Rattle.gr_shadow.specs.Clashes.{event_of};
+ghost use Rattle.gr_shadow.specs.Lent.{lent_clocked};
 ghost use Rattle.gr_explain.specs.Alike as spec;
 ghost use Rattle.gr_explain.specs.Alike.{KeepsEvents, event_clashes, is_sought, no_events};
 
-use gr_clocks::access::Access;
 use gr_model::class::{Class, exempt};
 use gr_model::event::{EventId, ItemId};
 use gr_model::memory::Memory;
+use gr_shadow::lent::LentAccess;
 use indexmap::IndexMap;
 use std::alloc::{Allocator, Global};
 use std::hash::{BuildHasherDefault, FoldHasher};
@@ -76,7 +76,7 @@ impl<A: Allocator> Alike<A> {
     }
 
     /// Whether an access, which has this tag, belongs here.
-    pub(crate) fn has(&self, access: &Access<A>, tag: u128) -> bool
+    pub(crate) fn has(&self, access: &LentAccess<'_, A>, tag: u128) -> bool
         ensures { IsTrue result ↔ ((self.now.tag ≡ tag) × (self.now.class ≡ access.now.class)) }
     {
         self.tag == tag && self.class == access.class
@@ -84,8 +84,8 @@ impl<A: Allocator> Alike<A> {
 
     /// An event of these with which a later access to the word clashes: one of another group, if `two`. If accesses of the two classes
     /// are exempt in any two groups, none clashes.
-    pub(crate) fn clashing(&self, access: &Access<A>, two: bool) -> Option<EventId>
-        ensures { result ≡ find (is_sought two self.now.class (clocked access.now)) self.now.events }
+    pub(crate) fn clashing(&self, access: &LentAccess<'_, A>, two: bool) -> Option<EventId>
+        ensures { result ≡ find (is_sought two self.now.class (lent_clocked access.now)) self.now.events }
     {
         if exempt(self.class, 0, access.class, 1) {
             return None;
@@ -106,12 +106,12 @@ impl<A: Allocator> Alike<A> {
 
     /// Adds an access, which has this tag.
     /// Requires: it belongs here (`has`).
-    pub(crate) fn add(&mut self, access: &Access<A>, tag: u128) -> Result<(), Memory>
+    pub(crate) fn add(&mut self, access: &LentAccess<'_, A>, tag: u128) -> Result<(), Memory>
         requires tag { self.old.tag ≡ tag }
         requires class { self.old.class ≡ access.now.class }
         ensures tag { OnOk result ((self.new.tag ≡ tag) × (self.new.tag ≡ self.old.tag)) }
         ensures class { OnOk result ((self.new.class ≡ access.now.class) × (self.new.class ≡ self.old.class)) }
-        ensures events { OnOk result (KeepsEvents self.new.events (self.old.events ++ event_of (clocked access.now) ∷ [])) }
+        ensures events { OnOk result (KeepsEvents self.new.events (self.old.events ++ event_of (lent_clocked access.now) ∷ [])) }
     {
         prove!(self.tag == tag);
         let kept = self.indexes.get(&access.item).copied();
@@ -124,8 +124,8 @@ impl<A: Allocator> Alike<A> {
 
 /// Whether a later access to a word clashes with an event of a class: they are of two items, they are not exempt, and the access's clock
 /// does not count the event.
-pub(crate) fn clashes<A: Allocator>(class: Class, event: EventId, access: &Access<A>) -> bool
-    ensures { result ≡ event_clashes class (clocked access.now) event }
+pub(crate) fn clashes<A: Allocator>(class: Class, event: EventId, access: &LentAccess<'_, A>) -> bool
+    ensures { result ≡ event_clashes class (lent_clocked access.now) event }
 {
     event.at != access.item
         && !exempt(class, event.at.group, access.class, access.item.group)

@@ -6,10 +6,10 @@ ghost use Rattle.gr_explain.specs.LeastRaces.{IsLeastRace};
 ghost use Rattle.gr_explain.specs.Search.{StandsFor};
 
 use crate::search::Search;
-use gr_clocks::access::Access;
 use gr_model::event::{EventId, Word};
 use gr_model::memory::Memory;
 use gr_model::traces::Traces;
+use gr_shadow::lent::LentAccess;
 use gr_taking::keeper::Keeper;
 use gr_taking::traces::follow;
 use std::alloc::Allocator;
@@ -25,11 +25,8 @@ impl<A: Allocator + Copy> Keeper<A> for WordKeeper {
 
     ghost stands = { λ keeper accesses search. StandsFor keeper.word accesses search };
 
-    fn add(&self, kept: &mut Search<A>, access: &mut Option<Access<A>>) -> Result<(), Memory> {
-        if let Some(access) = access {
-            kept.add(self.word, access)?;
-        }
-        Ok(())
+    fn add(&self, kept: &mut Search<A>, access: &LentAccess<'_, A>) -> Result<(), Memory> {
+        kept.add(self.word, access)
     }
 
     fn close(&self, kept: &mut Search<A>, group: u16) {}

@@ -15,6 +15,7 @@ use gr_model::event::Word;
 use gr_model::memory::Memory;
 use gr_model::race::Race;
 use gr_model::traces::Traces;
+use gr_shadow::lent::lend;
 use gr_taking::source::Reading;
 use std::alloc::Allocator;
 
@@ -33,10 +34,11 @@ pub enum Judgement {
 fn are_race<A: Allocator>(word: Word, first: &Access<A>, second: &Access<A>) -> bool
     ensures { IsTrue result ↔ (ClashOn word (clocked first.now) (clocked second.now) × ClashOn word (clocked second.now) (clocked first.now)) }
 {
+    let (first, second) = (lend(first), lend(second));
     first.word == word
         && second.word == word
-        && clashes(first.class, event_of(first), second)
-        && clashes(second.class, event_of(second), first)
+        && clashes(first.class, event_of(&first), &second)
+        && clashes(second.class, event_of(&second), &first)
 }
 
 /// Whether the two events of a pair race on its word, by the accesses of those events that are grounded.

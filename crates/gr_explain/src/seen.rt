@@ -1,17 +1,17 @@
 //! The accesses of one class to a word that came so far.
 
 ghost use Rattle.std.specs.Prelude.{◌≡◌, ◌≢◌, ◌↔◌, ◌⊎◌, IsTrue, MatchOption, OnOk, Some};
-ghost use Rattle.gr_clocks.specs.ClockedAccess.{clocked};
 ghost use Rattle.gr_shadow.specs.Clashes as spec;
+ghost use Rattle.gr_shadow.specs.Lent.{lent_clocked};
 ghost use Rattle.gr_explain.specs.LeastRaces.{IsLeastOf, PairBelow};
 ghost use Rattle.gr_explain.specs.Seen.{IsAmong, IsFirstOf, IsClashing, IsPairWith, IsPassed, nothing_seen};
 
 use crate::indices::Indices;
-use gr_clocks::access::Access;
 use gr_model::class::{Class, exempt};
 use gr_model::event::{EventId, ItemId};
 use gr_model::memory::Memory;
 use gr_model::race::{is_below, turned};
+use gr_shadow::lent::LentAccess;
 use std::alloc::{Allocator, Global};
 use std::collections::BTreeMap;
 use std::marker::Model;
@@ -36,8 +36,8 @@ impl<A: Allocator> Model for Seen<A> {
 }
 
 /// The event of an access.
-pub(crate) fn event_of<A: Allocator>(access: &Access<A>) -> EventId
-    ensures { result ≡ spec.event_of (clocked access.now) }
+pub(crate) fn event_of<A: Allocator>(access: &LentAccess<'_, A>) -> EventId
+    ensures { result ≡ spec.event_of (lent_clocked access.now) }
 {
     EventId {
         at: access.item,
@@ -75,9 +75,9 @@ fn first_of<A: Allocator>(
     class: Class,
     item: ItemId,
     indices: &Indices<A>,
-    access: &Access<A>,
+    access: &LentAccess<'_, A>,
 ) -> Option<EventId>
-    ensures { IsFirstOf class item indices.now (clocked access.now) result }
+    ensures { IsFirstOf class item indices.now (lent_clocked access.now) result }
 {
     if item == access.item || exempt(class, item.group, access.class, access.item.group) {
         return None;
@@ -99,7 +99,7 @@ impl<A: Allocator + Copy> Seen<A> {
     }
 
     /// Whether an access is of the class.
-    pub(crate) fn has(&self, access: &Access<A>) -> bool
+    pub(crate) fn has(&self, access: &LentAccess<'_, A>) -> bool
         ensures { IsTrue result ↔ (access.now.class ≡ self.now.class) }
     {
         access.class == self.class
@@ -107,11 +107,11 @@ impl<A: Allocator + Copy> Seen<A> {
 
     /// Adds an access.
     /// Requires: it is of the class (`has`).
-    pub(crate) fn add(&mut self, access: &Access<A>) -> Result<(), Memory>
+    pub(crate) fn add(&mut self, access: &LentAccess<'_, A>) -> Result<(), Memory>
         requires { access.now.class ≡ self.old.class }
         ensures class { OnOk result (self.new.class ≡ access.now.class) }
         ensures same { OnOk result (self.new.class ≡ self.old.class) }
-        ensures events { OnOk result ((e : EventId) → IsAmong self.new.items e ↔ ((e ≡ spec.event_of (clocked access.now)) ⊎ IsAmong self.old.items e)) }
+        ensures events { OnOk result ((e : EventId) → IsAmong self.new.items e ↔ ((e ≡ spec.event_of (lent_clocked access.now)) ⊎ IsAmong self.old.items e)) }
     {
         let none = Indices::new(self.alloc);
         let indices = self.items.entry(access.item)?.or_insert(none);
@@ -133,8 +133,8 @@ impl<A: Allocator> Seen<A> {
 
     /// Whether the classes alone show that a later access clashes with none of these: such accesses are exempt in any two work-groups, or
     /// they are exempt in one work-group and all of these are of the access's own. A look at each item finds the same.
-    fn is_exempt(&self, access: &Access<A>) -> bool
-        ensures { IsTrue result → (e : EventId) → ¬ IsClashing self.now (clocked access.now) e }
+    fn is_exempt(&self, access: &LentAccess<'_, A>) -> bool
+        ensures { IsTrue result → (e : EventId) → ¬ IsClashing self.now (lent_clocked access.now) e }
     {
         let group = access.item.group;
         exempt(self.class, 0, access.class, 1)
@@ -145,10 +145,10 @@ impl<A: Allocator> Seen<A> {
     /// Of the latter, the least is that of the first event.
     pub(crate) fn with_pairs(
         &self,
-        access: &Access<A>,
+        access: &LentAccess<'_, A>,
         least: Option<(EventId, EventId)>,
     ) -> Option<(EventId, EventId)>
-        ensures { IsLeastOf (λ p. (least ≡ Some p) ⊎ IsPairWith self.now (clocked access.now) p) result }
+        ensures { IsLeastOf (λ p. (least ≡ Some p) ⊎ IsPairWith self.now (lent_clocked access.now) p) result }
     {
         if self.is_exempt(access) {
             return least;

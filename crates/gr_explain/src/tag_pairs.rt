@@ -3,15 +3,15 @@
 ghost use Rattle.std.specs.Prelude.{◌≡◌, ◌∷◌, [], IsTrue, OnOk, ℕ};
 ghost use Rattle.std.specs.List.{position};
 ghost use Rattle.gr_model.specs.declared.event.Word.{Word as AnyWord};
-ghost use Rattle.gr_clocks.specs.ClockedAccess.{clocked};
+ghost use Rattle.gr_shadow.specs.Lent.{lent_clocked};
 ghost use Rattle.gr_explain.specs.TagPairs.{Finds, IsFound, IsPreferred, KeepsMore, IsTagAdded, StandsForTags, is_of_tags};
 
 use crate::alike::Alike;
 use crate::seen::event_of;
-use gr_clocks::access::Access;
 use gr_model::event::EventId;
 use gr_model::memory::Memory;
 use gr_model::race::{Race, turned};
+use gr_shadow::lent::LentAccess;
 use std::alloc::{Allocator, Global};
 
 /// A race, and the tags of its two accesses, in any order.
@@ -52,8 +52,8 @@ fn place_of_tags(found: &[TaggedRace], tag: u128, other: u128) -> Option<usize>
 }
 
 /// The race of a later access with an earlier one.
-fn race_with<A: Allocator>(earlier: EventId, access: &Access<A>) -> Race
-    ensures { IsFound earlier (clocked access.now) result }
+fn race_with<A: Allocator>(earlier: EventId, access: &LentAccess<'_, A>) -> Race
+    ensures { IsFound earlier (lent_clocked access.now) result }
 {
     let (first, second) = turned(earlier, event_of(access));
     Race {
@@ -65,8 +65,8 @@ fn race_with<A: Allocator>(earlier: EventId, access: &Access<A>) -> Race
 
 /// Puts another race of the same two tags in the place of a race of one group, if there is one of two groups: that of a later access with
 /// one of the accesses `alike`.
-fn prefer<A: Allocator>(race: &mut Race, alike: &Alike<A>, access: &Access<A>)
-    ensures { IsPreferred alike.now (clocked access.now) race.old race.new }
+fn prefer<A: Allocator>(race: &mut Race, alike: &Alike<A>, access: &LentAccess<'_, A>)
+    ensures { IsPreferred alike.now (lent_clocked access.now) race.old race.new }
 {
     if race.first.at.group != race.second.at.group {
         return;
@@ -81,10 +81,10 @@ fn prefer<A: Allocator>(race: &mut Race, alike: &Alike<A>, access: &Access<A>)
 fn find_among<A: Allocator>(
     found: &mut Vec<TaggedRace, A>,
     alike: &Alike<A>,
-    access: &Access<A>,
+    access: &LentAccess<'_, A>,
     tag: u128,
 ) -> Result<(), Memory>
-    ensures { OnOk result (Finds (clocked access.now) tag (alike.now ∷ []) found.old.items found.new.items) }
+    ensures { OnOk result (Finds (lent_clocked access.now) tag (alike.now ∷ []) found.old.items found.new.items) }
 {
     match place_of_tags(found, alike.tag(), tag) {
         Some(place) => prefer(&mut found[place].race, alike, access),
@@ -105,10 +105,10 @@ fn find_among<A: Allocator>(
 fn find_races<A: Allocator>(
     found: &mut Vec<TaggedRace, A>,
     lists: &[Alike<A>],
-    access: &Access<A>,
+    access: &LentAccess<'_, A>,
     tag: u128,
 ) -> Result<(), Memory>
-    ensures { OnOk result (Finds (clocked access.now) tag lists.now found.old.items found.new.items) }
+    ensures { OnOk result (Finds (lent_clocked access.now) tag lists.now found.old.items found.new.items) }
 {
     for alike in lists {
         find_among(found, alike, access, tag)?;
@@ -120,10 +120,10 @@ fn find_races<A: Allocator>(
 #[tactic(auto, using(crate::proofs::TagPairLemmas::keeps_set, crate::proofs::TagPairLemmas::keeps_push))]
 fn keep<A: Allocator + Copy>(
     lists: &mut Vec<Alike<A>, A>,
-    access: &Access<A>,
+    access: &LentAccess<'_, A>,
     tag: u128,
 ) -> Result<(), Memory>
-    ensures { OnOk result (KeepsMore lists.old.items tag (clocked access.now) lists.new.items) }
+    ensures { OnOk result (KeepsMore lists.old.items tag (lent_clocked access.now) lists.new.items) }
 {
     match lists.iter().position(|alike| alike.has(access, tag)) {
         Some(place) => lists[place].add(access, tag),
@@ -148,8 +148,8 @@ impl<A: Allocator + Copy> TagPairs<A> {
     }
 
     /// Adds an access to the word, which has this tag and comes after all others.
-    pub(crate) fn add(&mut self, access: &Access<A>, tag: u128) -> Result<(), Memory>
-        ensures { OnOk result (IsTagAdded (clocked access.now) tag self.old self.new) }
+    pub(crate) fn add(&mut self, access: &LentAccess<'_, A>, tag: u128) -> Result<(), Memory>
+        ensures { OnOk result (IsTagAdded (lent_clocked access.now) tag self.old self.new) }
     {
         find_races(&mut self.found, &self.lists, access, tag)?;
         keep(&mut self.lists, access, tag)

@@ -10,11 +10,11 @@ ghost use Rattle.gr_explain.specs.WordPairs.{StandForWords};
 use crate::search::Search;
 use crate::tags::Tags;
 use crate::word_pairs::{WordPairs, add_access, list_words, pairs_of_words};
-use gr_clocks::access::Access;
 use gr_model::event::{EventId, Word};
 use gr_model::memory::Memory;
 use gr_model::race::Race;
 use gr_model::traces::Traces;
+use gr_shadow::lent::LentAccess;
 use gr_taking::keeper::Keeper;
 use gr_taking::traces::follow;
 use std::alloc::Allocator;
@@ -39,12 +39,9 @@ impl<A: Allocator + Copy, T: Tags> Keeper<A> for TaggedKeeper<'_, T> {
     ghost stands = { λ keeper accesses kept. StandsFor keeper.word accesses kept.search
         × StandForWords (T.tag_of keeper.tags.now) (keeper.word ∷ []) accesses kept.pairs.entries };
 
-    fn add(&self, kept: &mut Tagged<A>, access: &mut Option<Access<A>>) -> Result<(), Memory> {
-        if let Some(access) = access {
-            kept.search.add(self.word, access)?;
-            add_access(&mut kept.pairs, self.tags, access)?;
-        }
-        Ok(())
+    fn add(&self, kept: &mut Tagged<A>, access: &LentAccess<'_, A>) -> Result<(), Memory> {
+        kept.search.add(self.word, access)?;
+        add_access(&mut kept.pairs, self.tags, access)
     }
 
     fn close(&self, kept: &mut Tagged<A>, group: u16) {}

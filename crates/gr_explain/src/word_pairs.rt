@@ -4,19 +4,20 @@ ghost use Rattle.std.specs.Prelude.{◌≡◌, ◌∷◌, ◌++◌, [], ℕ, All
 ghost use Rattle.std.specs.Map.{lookup};
 ghost use Rattle.gr_model.specs.declared.event.EventId.{EventId as AnyEvent};
 ghost use Rattle.gr_model.specs.Prelude.{WordBelow};
-ghost use Rattle.gr_clocks.specs.ClockedAccess.{ClockedAccess, clocked};
+ghost use Rattle.gr_clocks.specs.ClockedAccess.{ClockedAccess};
 ghost use Rattle.gr_shadow.specs.Kept.{same_word};
+ghost use Rattle.gr_shadow.specs.Lent.{lent_clocked};
 ghost use Rattle.gr_explain.specs.TagRaces.{AreTagRaces};
 ghost use Rattle.gr_explain.specs.WordPairs.{StandForWords, races_at, races_of};
 
 use crate::seen::event_of;
 use crate::tag_pairs::TagPairs;
 use crate::tags::Tags;
-use gr_clocks::access::Access;
 use gr_model::event::Word;
 use gr_model::memory::Memory;
 use gr_model::race::Race;
 use gr_model::traces::Traces;
+use gr_shadow::lent::LentAccess;
 use gr_taking::keeper::Keeper;
 use gr_taking::traces::follow;
 use indexmap::IndexMap;
@@ -44,9 +45,9 @@ pub(crate) fn pairs_of_words<A: Allocator + Copy>(
 pub(crate) fn add_access<A: Allocator + Copy, T: Tags>(
     pairs: &mut WordPairs<A>,
     tags: &T,
-    access: &Access<A>,
+    access: &LentAccess<'_, A>,
 ) -> Result<(), Memory>
-    ensures { OnOk result ((words : List Word) (accesses : List ClockedAccess) → StandForWords (T.tag_of tags.now) words accesses pairs.old.entries → StandForWords (T.tag_of tags.now) words (accesses ++ clocked access.now ∷ []) pairs.new.entries) }
+    ensures { OnOk result ((words : List Word) (accesses : List ClockedAccess) → StandForWords (T.tag_of tags.now) words accesses pairs.old.entries → StandForWords (T.tag_of tags.now) words (accesses ++ lent_clocked access.now ∷ []) pairs.new.entries) }
 {
     match pairs.get_mut(&access.word) {
         None => Ok(()),
@@ -66,11 +67,8 @@ impl<A: Allocator + Copy, T: Tags> Keeper<A> for WordsKeeper<'_, T> {
 
     ghost stands = { λ keeper accesses pairs. StandForWords (T.tag_of keeper.tags.now) keeper.words.now accesses pairs.entries };
 
-    fn add(&self, kept: &mut WordPairs<A>, access: &mut Option<Access<A>>) -> Result<(), Memory> {
-        if let Some(access) = access {
-            add_access(kept, self.tags, access)?;
-        }
-        Ok(())
+    fn add(&self, kept: &mut WordPairs<A>, access: &LentAccess<'_, A>) -> Result<(), Memory> {
+        add_access(kept, self.tags, access)
     }
 
     fn close(&self, kept: &mut WordPairs<A>, group: u16) {}

@@ -2,11 +2,11 @@
 
 ghost use Rattle.std.specs.Prelude.{◌≡◌, ◌≢◌, ◌<◌, ◌++◌, ◌∷◌, [], Some, IfOk, OnErr, OnOk, IsTrue, length};
 ghost use Rattle.gr_model.specs.Access as model;
-ghost use Rattle.gr_model.specs.Prelude.{IsConvergent, Mark, event_at, word_at, Sees};
+ghost use Rattle.gr_model.specs.Prelude.{HasItem, IsConvergent, Mark, event_at, word_at, Sees};
 ghost use Rattle.gr_steps.specs.Steps.{HasMet};
-ghost use Rattle.gr_clocks.specs.ItemClocks.{AddsGroup, IsGroupSpent, MeetsClocks};
-ghost use Rattle.gr_closure.specs.Accesses.{CountsJust, IsAccess, IsAccessOf};
-ghost use Rattle.gr_lanes.specs.Takes.{IsMereAccess, nothing_taken, with_record};
+ghost use Rattle.gr_clocks.specs.ItemClocks.{AddsGroup, IsGroupSpent, MeetsClocks, clock_in};
+ghost use Rattle.gr_closure.specs.Accesses.{CountsJust, IsAccessOf};
+ghost use Rattle.gr_lanes.specs.Takes.{nothing_taken, with_record};
 ghost use Rattle.gr_sequencer.specs.Known.{CountWhatIsKnown, KnowsOrLearns, IsKnown, IsSnapshotBy, IsNext, IsNextAtOnce, snapshot_at};
 
 use crate::sources::sources_of;
@@ -17,7 +17,7 @@ use gr_clocks::snapshot::Snapshot;
 use gr_lanes::instance::barrier;
 use gr_model::access::release_scope;
 use gr_model::class::class_of;
-use gr_model::event::{Event, EventId, ItemId, Kind, Word, word_of};
+use gr_model::event::{Event, EventId, ItemId, Kind, Space, Word, word_of};
 use gr_model::memory::Memory;
 use gr_model::shape::Shape;
 use gr_order::schedule::Schedule;
@@ -100,6 +100,16 @@ fn flags_of<A: Allocator>(order: &Schedule<A>, group: u16, instance: u32) -> (bo
             Kind::Barrier { global, local } => (global, local),
             _ => unreachable!(),
         },
+    }
+}
+
+impl<A: Allocator> Known<A> {
+    /// The clock of an item in a memory.
+    pub(crate) fn item_clock(&self, item: ItemId, space: Space) -> &Clock<A>
+        requires { HasItem self.now.clocks.sizes item }
+        ensures { result.now.counts ≡ clock_in self.now.clocks space item }
+    {
+        self.clocks.clock_of(item, space)
     }
 }
 
@@ -242,11 +252,7 @@ impl<A: Allocator + Clone> Known<A> {
         }
     }
 
-    /// Handles an access as soon as its record is taken: gives its item the clocks that it has after the access, and returns the
-    /// access.
-    ///
-    /// # Errors
-    /// `Memory`: out of memory. What is known is then as before.
+    /// Gives an event's item the clocks that it has after the event, a mere access, as soon as its record is taken. It takes no memory.
     #[inline(always)]
     pub(crate) fn handle_at_once(
         &mut self,
@@ -254,27 +260,14 @@ impl<A: Allocator + Clone> Known<A> {
         group: u16,
         event: EventId,
         taken: &Event,
-    ) -> Result<Access<A>, Memory>
-        requires next { IsNextAtOnce order.now group taken.now self.old event }
-        requires access { IsMereAccess taken.now }
-        ensures access { IfOk result (IsAccess (with_record order.now.taken group taken.now) event) }
+    )
+        requires { IsNextAtOnce order.now group taken.now self.old event }
         ensures snapshots { self.new.snapshots ≡ self.old.snapshots }
-        ensures clocks { OnOk result (CountWhatIsKnown (with_record order.now.taken group taken.now) (order.now.handled ++ event ∷ []) self.new.clocks) }
-        ensures err { OnErr result (self.new.clocks ≡ self.old.clocks) }
+        ensures clocks { CountWhatIsKnown (with_record order.now.taken group taken.now) (order.now.handled ++ event ∷ []) self.new.clocks }
     {
-        let (Some(word), Some(class)) = (word_of(event.at.group, taken), class_of(&taken.kind))
-        else {
-            unreachable!()
-        };
-        match self.clocks.access_in(event.at, memory_of(word)) {
-            Ok(clock) => Ok(Access {
-                word,
-                item: event.at,
-                index: event.index,
-                class,
-                clock,
-            }),
-            Err(_) => Err(Memory),
+        match self.clocks.access(event.at) {
+            Ok(()) => {}
+            Err(_) => unreachable!(),
         }
     }
 

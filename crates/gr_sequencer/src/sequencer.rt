@@ -3,22 +3,25 @@
 //! Invariant: each item's clock counts exactly what the item knows along the order of the handled events, and each handled release
 //! has a snapshot that counts exactly what is seen at it.
 
-ghost use Rattle.std.specs.Prelude.{[], ◌≡◌, ◌↔◌, ◌+◌, ◌<◌, ℕ, IsTrue, IfOk, IfErr, IfNone, IfSome, OnOk, OnErr, MatchOption, length};
+ghost use Rattle.std.specs.Prelude.{[], ◌≡◌, ◌↔◌, ◌+◌, ◌<◌, ℕ, IsTrue, IfOk, IfErr, IfNone, IfSome, OnOk, OnErr, MatchOption, Some, length};
 ghost use Rattle.gr_model.specs.declared.limits.TheConstants.{MOST_RECORDS};
-ghost use Rattle.gr_model.specs.Prelude.{CanAdd, AreComplete, list_of, Lists, DivergenceBelow, IsDivergence, IsCut, IsHeld};
+ghost use Rattle.gr_model.specs.Prelude.{CanAdd, AreComplete, HasItem, event_at, list_of, Lists, DivergenceBelow, IsDivergence, IsCut, IsHeld};
 ghost use Rattle.gr_model.specs.Prelude.{IsUnmatchedEntry, UnmatchedBelow};
 ghost use Rattle.gr_lanes.specs.Takes.{CanTake, IsEventButItem, IsTakeFault, next_of, with_record};
 ghost use Rattle.gr_steps.specs.Steps.{CanMeet, IsAtRest, IsReady};
-ghost use Rattle.gr_order.specs.Sequences.{CanStep, IsDone, IsSequence, event_count, nothing, taking, with_group};
+ghost use Rattle.gr_order.specs.Sequences.{CanStep, HandlesEvent, IsDone, IsSequence, event_count, nothing, taking, with_group};
 ghost use Rattle.gr_order.specs.Answers.{IsHandleFault, IsMeetFault};
 ghost use Rattle.gr_order.specs.AtOnce.{GoesAtOnce};
+ghost use Rattle.gr_closure.specs.Accesses.{CountsJust};
+ghost use Rattle.gr_closure.specs.Knowledge.{Knows};
 ghost use Rattle.gr_sequencer.specs.Answers.{IsOfGroup, IsOfItem, IsStep};
 
 use crate::handled::Handled;
 use crate::known::Known;
 use gr_agenda::agenda::Agenda;
+use gr_clocks::clock::Clock;
 use gr_lanes::seq_error::SeqError;
-use gr_model::event::{Event, EventId, ItemId};
+use gr_model::event::{Event, EventId, ItemId, Space};
 use gr_model::growing::GrowingShape;
 use gr_model::memory::Memory;
 use gr_model::report::{Divergence, Unmatched};
@@ -163,7 +166,8 @@ impl<A: Allocator + Copy> Sequencer<A> {
     }
 
     /// Takes the next record of a group as `take` does. If the record is a mere access, which releases nothing and names nothing, and no
-    /// event of its item waits, then it handles the event too, and gives the step. Else the event waits, as after `take`.
+    /// event of its item waits, then it handles the event too, and gives it: its clock is then that of its item (`clock_of`). Else the
+    /// event waits, as after `take`.
     ///
     /// # Errors
     /// The first of `UnknownGroup`, `AfterEnd` with the group, `UnknownItem` and `Memory` that is there. Nothing is then
@@ -173,13 +177,14 @@ impl<A: Allocator + Copy> Sequencer<A> {
         &mut self,
         group: u16,
         event: Event,
-    ) -> Result<Option<Handled<A>>, SeqError>
+    ) -> Result<Option<EventId>, SeqError>
         requires good { IsEventButItem event }
         requires room { length (list_of self.old.taken group) < MOST_RECORDS }
         ensures can { OnOk result (CanTake self.old.taken group event) }
         ensures waits { IfOk result (λ o. IfNone o ((¬ GoesAtOnce self.old group event) × (self.new ≡ taking self.old group event))) }
-        ensures goes { IfOk result (λ o. IfSome o (λ h. GoesAtOnce self.old group event × IsStep (taking self.old group event) self.new h)) }
-        ensures item { IfOk result (λ o. IfSome o (λ h. IsOfItem (record { group = group; item = event.item }) h)) }
+        ensures goes { IfOk result (λ o. IfSome o (λ e. GoesAtOnce self.old group event × HandlesEvent (taking self.old group event) e self.new)) }
+        ensures event { IfOk result (λ o. IfSome o (λ e. event_at self.new.taken e ≡ Some event)) }
+        ensures item { IfOk result (λ o. IfSome o (λ e. e.at ≡ record { group = group; item = event.item })) }
         ensures err { IfErr result (λ e. IsTakeFault self.old.taken group event e) }
         ensures unchanged { OnErr result (self.new ≡ self.old) }
         ensures sequence { IsSequence self.new }
@@ -188,40 +193,27 @@ impl<A: Allocator + Copy> Sequencer<A> {
             self.take(group, event)?;
             return Ok(None);
         };
-        let step = self.handle_at_once(group, event, next)?;
-        Ok(Some(step))
+        self.handle_at_once(group, event, next);
+        Ok(Some(next))
     }
 }
 
 impl<A: Allocator + Clone> Sequencer<A> {
-    /// Takes the next record of a group and handles its event, which may be handled at once.
-    ///
-    /// # Errors
-    /// `Memory`: out of memory. Nothing is then taken or handled.
+    /// Takes the next record of a group and handles its event, which may be handled at once. It takes no memory.
     #[inline(always)]
-    fn handle_at_once(
-        &mut self,
-        group: u16,
-        event: Event,
-        next: EventId,
-    ) -> Result<Handled<A>, Memory>
+    fn handle_at_once(&mut self, group: u16, event: Event, next: EventId)
         requires good { IsEventButItem event }
         requires room { length (list_of self.old.taken group) < MOST_RECORDS }
         requires goes { GoesAtOnce self.old group event }
         requires next { next ≡ next_of self.old.taken group event }
         requires ready { IsReady (with_record self.old.taken group event) self.old.handled next }
-        ensures step { IfOk result (λ h. IsStep (taking self.old group event) self.new h) }
-        ensures item { IfOk result (λ h. IsOfItem next.at h) }
-        ensures unchanged { OnErr result (self.new ≡ self.old) }
+        ensures handles { HandlesEvent (taking self.old group event) next self.new }
+        ensures event { event_at self.new.taken next ≡ Some event }
         ensures sequence { IsSequence self.new }
     {
         let order = self.agenda.order();
-        let access = self.known.handle_at_once(order, group, next, &event)?;
+        self.known.handle_at_once(order, group, next, &event);
         self.agenda.take_at_once(group, event);
-        Ok(Handled::One {
-            event: next,
-            access: Some(access),
-        })
     }
 
     /// Handles an event that may be handled.
@@ -324,6 +316,15 @@ impl<A: Allocator> Sequencer<A> {
         ensures sequence { IsSequence self.now }
     {
         self.agenda.order()
+    }
+
+    /// The clock of an item in a memory: it counts just what the item knows.
+    #[inline(always)]
+    pub fn clock_of(&self, item: ItemId, space: Space) -> &Clock<A>
+        requires { HasItem self.now.taken.sizes item }
+        ensures { CountsJust result.now.counts (Knows self.now.taken space self.now.handled item) }
+    {
+        self.known.item_clock(item, space)
     }
 
     /// The sizes of the groups that have come.

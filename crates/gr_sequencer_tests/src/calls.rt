@@ -5,7 +5,7 @@ ghost use Rattle.std.specs.Prelude.{IsTrue};
 ghost use Rattle.gr_lanes.specs.Takes.{IsEventButItem};
 
 use crate::rows::{Record, event_of};
-use gr_model::event::{Event, ItemId, event_ok};
+use gr_model::event::{Event, EventId, ItemId, event_ok};
 use gr_model::memory::Memory;
 use gr_model::shape::Shape;
 use gr_order::go_error::GoError;
@@ -77,7 +77,7 @@ pub(crate) fn take<A: Allocator + Copy>(
 fn take_and_handle_once<A: Allocator + Copy>(
     sequencer: &mut Sequencer<A>,
     record: &Record,
-) -> Result<Option<Handled<A>>, Memory> {
+) -> Result<Option<EventId>, Memory> {
     let event = event_of(record);
     if !is_lawful(&event) || sequencer.taken(record.0) >= 16_777_216 {
         return Err(Memory);
@@ -86,11 +86,11 @@ fn take_and_handle_once<A: Allocator + Copy>(
     answer.map_err(|_| Memory)
 }
 
-/// The step, or `None` if the event waits.
+/// The event that was handled, or `None` if it waits.
 pub(crate) fn take_and_handle<A: Allocator + Copy>(
     sequencer: &mut Sequencer<A>,
     record: &Record,
-) -> Option<Option<Handled<A>>> {
+) -> Option<Option<EventId>> {
     tried(
         sequencer,
         state,

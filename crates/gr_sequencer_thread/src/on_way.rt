@@ -2,10 +2,9 @@
 //!
 //! Invariant: there is a way to each worker that a run may have.
 
-ghost use Rattle.std.specs.Prelude.{◌≡◌, ◌++◌, [], All, IfOk, IsTrue, List, OnOk, length};
-ghost use Rattle.std.specs.Option.{option_map};
+ghost use Rattle.std.specs.Prelude.{◌≡◌, ◌++◌, ◌∷◌, [], All, IfOk, IsTrue, List, OnOk, length};
 ghost use Rattle.gr_clocks.specs.ClockedAccess.{ClockedAccess, clocked};
-ghost use Rattle.gr_closure.specs.AccessesAlong.{in_flight_list};
+ghost use Rattle.gr_shadow.specs.Lent.{lent_clocked};
 ghost use Rattle.gr_sequencer_thread.specs.Feeds.{AreOpen, AreSplit, given_of, works_of};
 
 use crate::outlet::Outlet;
@@ -14,6 +13,7 @@ use gr_clocks::access::Access;
 use gr_model::config::{Config, worker_of};
 use gr_model::limits::MOST_WORKERS;
 use gr_model::memory::Memory;
+use gr_shadow::lent::LentAccess;
 use gr_taking::keeper::Keeper;
 use std::alloc::{Allocator, Global};
 use std::marker::Model;
@@ -115,14 +115,20 @@ impl<A: Allocator + Copy> Keeper<A> for Passing<A> {
     ghost stands = { λ keeper accesses on_way. AreSplit keeper.config.workers (given_of keeper.outlets.value.items) accesses on_way };
 
     #[inline(always)]
-    fn add(&self, kept: &mut OnWay<A>, access: &mut Option<Access<A>>) -> Result<(), Memory>
-        ensures { OnOk result ((accesses : List ClockedAccess) → AreSplit self.now.config.workers (given_of self.now.outlets.value.items) accesses kept.old → AreSplit self.now.config.workers (given_of self.now.outlets.value.items) (accesses ++ in_flight_list (option_map clocked access.old)) kept.new) }
+    fn add(&self, kept: &mut OnWay<A>, access: &LentAccess<'_, A>) -> Result<(), Memory>
+        ensures { OnOk result ((accesses : List ClockedAccess) → AreSplit self.now.config.workers (given_of self.now.outlets.value.items) accesses kept.old → AreSplit self.now.config.workers (given_of self.now.outlets.value.items) (accesses ++ lent_clocked access.now ∷ []) kept.new) }
     {
-        if let Some(access) = access.take() {
-            let worker = usize::from(worker_of(&access.word, self.config.workers()));
-            kept.ways[worker].add(kept.alloc, access)?;
-            kept.count = kept.count.saturating_add(1);
-        }
+        let access = access.owned()?;
+        self.take(kept, access)
+    }
+
+    #[inline(always)]
+    fn take(&self, kept: &mut OnWay<A>, access: Access<A>) -> Result<(), Memory>
+        ensures { OnOk result ((accesses : List ClockedAccess) → AreSplit self.now.config.workers (given_of self.now.outlets.value.items) accesses kept.old → AreSplit self.now.config.workers (given_of self.now.outlets.value.items) (accesses ++ clocked access ∷ []) kept.new) }
+    {
+        let worker = usize::from(worker_of(&access.word, self.config.workers()));
+        kept.ways[worker].add(kept.alloc, access)?;
+        kept.count = kept.count.saturating_add(1);
         Ok(())
     }
 

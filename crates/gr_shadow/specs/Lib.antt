@@ -3,4 +3,5 @@ pub mod Keeps
 pub mod Kept
 pub mod StandsFor
 pub mod Laws
+pub mod Lent
 pub mod Launches

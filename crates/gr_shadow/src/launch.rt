@@ -10,9 +10,11 @@ ghost use Rattle.gr_model.specs.Prelude.{Lists, WordBelow};
 ghost use Rattle.gr_clocks.specs.ClockedAccess.{ClockedAccess, clocked};
 ghost use Rattle.gr_shadow.specs.Clashes.{IsClashIn, IsHitIn};
 ghost use Rattle.gr_shadow.specs.Launches.{StandsForLaunch, StandsForLocal, is_local_of, launch_clash_at, local_clash_at};
+ghost use Rattle.gr_shadow.specs.Lent.{lent_clocked};
 ghost use Rattle.gr_shadow.specs.StandsFor.{IsHitBy};
 
 use crate::clash::Clash;
+use crate::lent::{LentAccess, lend};
 use crate::shadows::Shadows;
 use gr_clocks::access::Access;
 use gr_model::event::Word;
@@ -65,15 +67,15 @@ fn give_up<A: Allocator + Copy>(local: &mut Option<Shadows<A>>)
 /// `Memory` if an allocation is refused, or the shadows were given up. The accesses are then those before the call.
 fn apply_to<A: Allocator + Copy>(
     local: &mut Option<Shadows<A>>,
-    access: &Access<A>,
+    access: &LentAccess<'_, A>,
 ) -> Result<Option<Word>, Memory>
-    ensures stands { (accesses : List ClockedAccess) → StandsForLocal accesses (Some local.old) → OnOk result (StandsForLocal (accesses ++ clocked access.now ∷ []) (Some local.new)) }
-    ensures word { (accesses : List ClockedAccess) → StandsForLocal accesses (Some local.old) → IfOk result (λ answer. (w : AnyWord) → answer ≡ Some w ↔ IsHitBy accesses (clocked access.now) w) }
+    ensures stands { (accesses : List ClockedAccess) → StandsForLocal accesses (Some local.old) → OnOk result (StandsForLocal (accesses ++ lent_clocked access.now ∷ []) (Some local.new)) }
+    ensures word { (accesses : List ClockedAccess) → StandsForLocal accesses (Some local.old) → IfOk result (λ answer. (w : AnyWord) → answer ≡ Some w ↔ IsHitBy accesses (lent_clocked access.now) w) }
     ensures err { OnErr result (local.new ≡ local.old) }
 {
     match local {
         None => Err(Memory),
-        Some(shadows) => shadows.apply(access),
+        Some(shadows) => shadows.apply_lent(access),
     }
 }
 
@@ -121,10 +123,10 @@ impl<A: Allocator + Copy> LaunchShadows<A> {
     }
 
     /// Adds the next access to a group's local words.
-    fn apply_local(&mut self, group: u16, access: &Access<A>) -> Result<Option<Word>, Memory>
+    fn apply_local(&mut self, group: u16, access: &LentAccess<'_, A>) -> Result<Option<Word>, Memory>
         requires { is_local_of group access.now.word ≡ true }
-        ensures stands { (accesses : List ClockedAccess) → StandsForLaunch accesses self.old → OnOk result (StandsForLaunch (accesses ++ clocked access.now ∷ []) self.new) }
-        ensures word { (accesses : List ClockedAccess) → StandsForLaunch accesses self.old → IfOk result (λ answer. (w : AnyWord) → answer ≡ Some w ↔ IsHitBy accesses (clocked access.now) w) }
+        ensures stands { (accesses : List ClockedAccess) → StandsForLaunch accesses self.old → OnOk result (StandsForLaunch (accesses ++ lent_clocked access.now ∷ []) self.new) }
+        ensures word { (accesses : List ClockedAccess) → StandsForLaunch accesses self.old → IfOk result (λ answer. (w : AnyWord) → answer ≡ Some w ↔ IsHitBy accesses (lent_clocked access.now) w) }
         ensures err { (accesses : List ClockedAccess) → StandsForLaunch accesses self.old → OnErr result (StandsForLaunch accesses self.new) }
     {
         self.make_room(group)?;
@@ -140,10 +142,22 @@ impl<A: Allocator + Copy> LaunchShadows<A> {
         ensures word { (accesses : List ClockedAccess) → StandsForLaunch accesses self.old → IfOk result (λ answer. (w : AnyWord) → answer ≡ Some w ↔ IsHitBy accesses (clocked access.now) w) }
         ensures err { (accesses : List ClockedAccess) → StandsForLaunch accesses self.old → OnErr result (StandsForLaunch accesses self.new) }
     {
+        self.apply_lent(&lend(access))
+    }
+
+    /// Adds the next access, whose clock is lent, as `apply` does.
+    ///
+    /// # Errors
+    /// Those of `apply`.
+    pub fn apply_lent(&mut self, access: &LentAccess<'_, A>) -> Result<Option<Word>, Memory>
+        ensures stands { (accesses : List ClockedAccess) → StandsForLaunch accesses self.old → OnOk result (StandsForLaunch (accesses ++ lent_clocked access.now ∷ []) self.new) }
+        ensures word { (accesses : List ClockedAccess) → StandsForLaunch accesses self.old → IfOk result (λ answer. (w : AnyWord) → answer ≡ Some w ↔ IsHitBy accesses (lent_clocked access.now) w) }
+        ensures err { (accesses : List ClockedAccess) → StandsForLaunch accesses self.old → OnErr result (StandsForLaunch accesses self.new) }
+    {
         match access.word {
             Word::Local(group, _) => self.apply_local(group, access),
             Word::Global(_) => {
-                let hit = self.global.apply(access)?;
+                let hit = self.global.apply_lent(access)?;
                 Ok(hit)
             }
         }

@@ -5,6 +5,7 @@
 pub mod clash;
 pub mod launch;
 pub mod laws;
+pub mod lent;
 pub mod merge;
 mod shadow;
 pub mod shadows;

@@ -2,15 +2,15 @@
 
 ghost use Rattle.std.specs.Prelude.{◌≡◌, IfOk, OnOk, OnErr, false, true, ◌++◌, ◌∷◌, [], Some};
 ghost use Rattle.std.specs.List.{find};
-ghost use Rattle.gr_clocks.specs.ClockedAccess.{clocked};
 ghost use Rattle.gr_shadow.specs.Keeps.{Keeps, touch_clashes, touch_of, touch_event};
 ghost use Rattle.gr_shadow.specs.Kept as spec;
 ghost use Rattle.gr_shadow.specs.Kept.{no_shadow, IsShadowAfter};
+ghost use Rattle.gr_shadow.specs.Lent.{lent_clocked};
 
+use crate::lent::LentAccess;
 use crate::touch::{PLACES, Touch, clashing_in, keep_among};
 use crate::touches::{Touches, clashing_in_lists, put};
 use arrayvec::ArrayVec;
-use gr_clocks::access::Access;
 use gr_model::event::EventId;
 use gr_model::memory::Memory;
 use std::alloc::{Allocator, Global};
@@ -71,8 +71,8 @@ impl<A: Allocator + Copy> Shadow<A> {
     }
 
     /// The first kept touch with which an access clashes.
-    fn clashing(&self, access: &Access<A>) -> Option<Touch>
-        ensures { result ≡ find (touch_clashes (clocked access.now)) self.now.touches }
+    fn clashing(&self, access: &LentAccess<'_, A>) -> Option<Touch>
+        ensures { result ≡ find (touch_clashes (lent_clocked access.now)) self.now.touches }
     {
         match clashing_in(self.few.as_slice(), access) {
             Some(touch) => Some(touch),
@@ -100,9 +100,9 @@ impl<A: Allocator + Copy> Shadow<A> {
     ///
     /// # Errors
     /// `Memory` if an allocation is refused. The shadow is then unchanged.
-    pub(crate) fn add(&mut self, access: &Access<A>) -> Result<bool, Memory>
-        ensures shadow { OnOk result (IsShadowAfter self.old (clocked access.now) self.new) }
-        ensures hit { IfOk result (λ hit. hit ≡ spec.is_first_hit self.old (clocked access.now)) }
+    pub(crate) fn add(&mut self, access: &LentAccess<'_, A>) -> Result<bool, Memory>
+        ensures shadow { OnOk result (IsShadowAfter self.old (lent_clocked access.now) self.new) }
+        ensures hit { IfOk result (λ hit. hit ≡ spec.is_first_hit self.old (lent_clocked access.now)) }
         ensures err { OnErr result (self.new ≡ self.old) }
     {
         if self.answered {

@@ -12,9 +12,11 @@ ghost use Rattle.gr_model.specs.Prelude.{Lists, WordBelow};
 ghost use Rattle.gr_clocks.specs.ClockedAccess.{ClockedAccess, clocked};
 ghost use Rattle.gr_shadow.specs.Clashes.{IsHitIn};
 ghost use Rattle.gr_shadow.specs.Kept.{shadow_at, same_word, is_first_hit, IsAfter, answered_words, clash_at};
+ghost use Rattle.gr_shadow.specs.Lent.{lent_clocked};
 ghost use Rattle.gr_shadow.specs.StandsFor.{StandsFor, IsHitBy};
 
 use crate::clash::Clash;
+use crate::lent::{LentAccess, lend};
 use crate::shadow::Shadow;
 use gr_clocks::access::Access;
 use gr_model::event::Word;
@@ -56,9 +58,9 @@ impl<A: Allocator + Copy> Shadows<A> {
     }
 
     /// Adds an access to the shadow of its word, and says whether the word becomes hit by it.
-    fn note(&mut self, access: &Access<A>) -> Result<bool, Memory>
-        ensures kept { OnOk result (IsAfter self.old (clocked access.now) self.new) }
-        ensures hit { IfOk result (λ hit. hit ≡ is_first_hit (shadow_at self.old access.now.word) (clocked access.now)) }
+    fn note(&mut self, access: &LentAccess<'_, A>) -> Result<bool, Memory>
+        ensures kept { OnOk result (IsAfter self.old (lent_clocked access.now) self.new) }
+        ensures hit { IfOk result (λ hit. hit ≡ is_first_hit (shadow_at self.old access.now.word) (lent_clocked access.now)) }
         ensures err { OnErr result (self.new ≡ self.old) }
     {
         match self.words.get_mut(&access.word) {
@@ -94,6 +96,18 @@ impl<A: Allocator + Copy> Shadows<A> {
     pub fn apply(&mut self, access: &Access<A>) -> Result<Option<Word>, Memory>
         ensures stands { (accesses : List ClockedAccess) → StandsFor accesses self.old → OnOk result (StandsFor (accesses ++ clocked access.now ∷ []) self.new) }
         ensures word { (accesses : List ClockedAccess) → StandsFor accesses self.old → IfOk result (λ answer. (w : AnyWord) → answer ≡ Some w ↔ IsHitBy accesses (clocked access.now) w) }
+        ensures err { OnErr result (self.new ≡ self.old) }
+    {
+        self.apply_lent(&lend(access))
+    }
+
+    /// Adds the next access, whose clock is lent, as `apply` does.
+    ///
+    /// # Errors
+    /// `Memory` if an allocation is refused. The accesses are then those before the call.
+    pub fn apply_lent(&mut self, access: &LentAccess<'_, A>) -> Result<Option<Word>, Memory>
+        ensures stands { (accesses : List ClockedAccess) → StandsFor accesses self.old → OnOk result (StandsFor (accesses ++ lent_clocked access.now ∷ []) self.new) }
+        ensures word { (accesses : List ClockedAccess) → StandsFor accesses self.old → IfOk result (λ answer. (w : AnyWord) → answer ≡ Some w ↔ IsHitBy accesses (lent_clocked access.now) w) }
         ensures err { OnErr result (self.new ≡ self.old) }
     {
         let hit = self.note(access)?;

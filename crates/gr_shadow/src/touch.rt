@@ -2,12 +2,12 @@
 
 ghost use Rattle.std.specs.Prelude.{◌≡◌, ◌↔◌, IsTrue, true, false, ◌++◌, ◌∷◌, []};
 ghost use Rattle.std.specs.List.{find};
-ghost use Rattle.gr_clocks.specs.ClockedAccess.{clocked};
 ghost use Rattle.gr_shadow.specs.Clashes.{clashes_with};
 ghost use Rattle.gr_shadow.specs.Keeps.{Keeps, touch_of, touch_clashes, touch_event, is_unseen};
+ghost use Rattle.gr_shadow.specs.Lent.{lent_clocked};
 
+use crate::lent::LentAccess;
 use arrayvec::ArrayVec;
-use gr_clocks::access::Access;
 use gr_model::class::{Class, exempt};
 use gr_model::event::{EventId, ItemId};
 use std::alloc::Allocator;
@@ -39,8 +39,8 @@ impl Default for Touch {
 
 impl Touch {
     /// What is kept of this access.
-    pub(crate) fn of<A: Allocator>(access: &Access<A>) -> Touch
-        ensures { result ≡ touch_of (clocked access.now) }
+    pub(crate) fn of<A: Allocator>(access: &LentAccess<'_, A>) -> Touch
+        ensures { result ≡ touch_of (lent_clocked access.now) }
     {
         Touch {
             item: access.item,
@@ -60,15 +60,15 @@ impl Touch {
     }
 
     /// Whether a later access is of another item, and its clock does not count this one.
-    pub(crate) fn is_unseen<A: Allocator>(&self, access: &Access<A>) -> bool
-        ensures { result ≡ is_unseen (clocked access.now) self.now }
+    pub(crate) fn is_unseen<A: Allocator>(&self, access: &LentAccess<'_, A>) -> bool
+        ensures { result ≡ is_unseen (lent_clocked access.now) self.now }
     {
         self.item != access.item && !access.clock.covers(self.item, self.index)
     }
 
     /// Whether a later access to the same word clashes with this one.
-    pub(crate) fn clashes<A: Allocator>(&self, access: &Access<A>) -> bool
-        ensures { result ≡ clashes_with self.now.item self.now.index self.now.class (clocked access.now) }
+    pub(crate) fn clashes<A: Allocator>(&self, access: &LentAccess<'_, A>) -> bool
+        ensures { result ≡ clashes_with self.now.item self.now.index self.now.class (lent_clocked access.now) }
     {
         self.item != access.item
             && !exempt(self.class, self.item.group, access.class, access.item.group)
@@ -98,8 +98,8 @@ impl Touch {
 }
 
 /// The first of these touches with which an access clashes.
-pub(crate) fn clashing_in<A: Allocator>(touches: &[Touch], access: &Access<A>) -> Option<Touch>
-    ensures { result ≡ find (touch_clashes (clocked access.now)) touches.now }
+pub(crate) fn clashing_in<A: Allocator>(touches: &[Touch], access: &LentAccess<'_, A>) -> Option<Touch>
+    ensures { result ≡ find (touch_clashes (lent_clocked access.now)) touches.now }
 {
     touches.iter().copied().find(|touch| touch.clashes(access))
 }

@@ -2,11 +2,11 @@
 
 ghost use Rattle.std.specs.Prelude.{◌≡◌, OnOk, OnErr, ◌++◌, ◌∷◌, [], IsTrue, ◌↔◌};
 ghost use Rattle.std.specs.List.{All, find};
-ghost use Rattle.gr_clocks.specs.ClockedAccess.{clocked};
 ghost use Rattle.gr_shadow.specs.Keeps.{Keeps, touch_clashes, kept_group, IsOfClass, all_touches, is_unseen};
+ghost use Rattle.gr_shadow.specs.Lent.{lent_clocked};
 
+use crate::lent::LentAccess;
 use crate::touch::Touch;
-use gr_clocks::access::Access;
 use gr_model::class::{Class, exempt};
 use gr_model::memory::Memory;
 use std::alloc::{Allocator, Global};
@@ -34,8 +34,8 @@ fn compact<A: Allocator>(touches: &mut Vec<Touch, A>)
 }
 
 /// The first of these touches that is of another item than a later access, and that its clock does not count.
-fn unseen_in<A: Allocator>(touches: &[Touch], access: &Access<A>) -> Option<Touch>
-    ensures { result ≡ find (is_unseen (clocked access.now)) touches.now }
+fn unseen_in<A: Allocator>(touches: &[Touch], access: &LentAccess<'_, A>) -> Option<Touch>
+    ensures { result ≡ find (is_unseen (lent_clocked access.now)) touches.now }
 {
     touches
         .iter()
@@ -88,8 +88,8 @@ impl<A: Allocator> Touches<A> {
     }
 
     /// The first of these with which a later access to the same word clashes.
-    pub(crate) fn clashing(&self, access: &Access<A>) -> Option<Touch>
-        ensures { result ≡ find (touch_clashes (clocked access.now)) self.now.touches }
+    pub(crate) fn clashing(&self, access: &LentAccess<'_, A>) -> Option<Touch>
+        ensures { result ≡ find (touch_clashes (lent_clocked access.now)) self.now.touches }
     {
         if exempt(self.class, self.group, access.class, access.item.group) {
             return None;
@@ -118,9 +118,9 @@ impl<A: Allocator> Touches<A> {
 /// The first touch of these lists with which a later access to the same word clashes.
 pub(crate) fn clashing_in_lists<A: Allocator>(
     lists: &[Touches<A>],
-    access: &Access<A>,
+    access: &LentAccess<'_, A>,
 ) -> Option<Touch>
-    ensures { result ≡ find (touch_clashes (clocked access.now)) (all_touches lists.now) }
+    ensures { result ≡ find (touch_clashes (lent_clocked access.now)) (all_touches lists.now) }
 {
     for list in lists {
         let touch = list.clashing(access);

@@ -11,9 +11,9 @@ use gr_sequencer::handled::Handled;
 use gr_sequencer::sequencer::Sequencer;
 use std::alloc::Allocator;
 
-/// Has a keeper add the access of a step, if it has one.
+/// Has a keeper take the access of a step, if it has one.
 #[inline(always)]
-pub(crate) fn give<A: Allocator, K: Keeper<A>>(
+fn give<A: Allocator + Copy, K: Keeper<A>>(
     keeper: &K,
     kept: &mut K::Kept,
     step: Handled<A>,
@@ -23,9 +23,13 @@ pub(crate) fn give<A: Allocator, K: Keeper<A>>(
     match step {
         Handled::One {
             event: _,
-            mut access,
-        } => keeper.add(kept, &mut access),
-        Handled::Meet {
+            access: Some(access),
+        } => keeper.take(kept, access),
+        Handled::One {
+            event: _,
+            access: None,
+        }
+        | Handled::Meet {
             group: _,
             instance: _,
         } => Ok(()),

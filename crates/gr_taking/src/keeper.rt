@@ -1,27 +1,35 @@
 //! What is kept of the accesses of a launch.
 
-ghost use Rattle.std.specs.Prelude.{◌++◌, List, OnOk};
-ghost use Rattle.std.specs.Option.{option_map};
+ghost use Rattle.std.specs.Prelude.{◌++◌, ◌∷◌, [], List, OnOk};
 ghost use Rattle.gr_clocks.specs.ClockedAccess.{ClockedAccess, clocked};
-ghost use Rattle.gr_closure.specs.AccessesAlong.{in_flight_list};
 ghost use Rattle.gr_shadow.specs.Launches.{StandsForLaunch};
+ghost use Rattle.gr_shadow.specs.Lent.{lent_clocked};
 
 use gr_clocks::access::Access;
 use gr_model::memory::Memory;
 use gr_shadow::launch::LaunchShadows;
+use gr_shadow::lent::{LentAccess, lend};
 use std::alloc::Allocator;
 
 /// What keeps something of the accesses of a launch, which come one after another along the order in which its events are handled.
-pub trait Keeper<A: Allocator> {
+pub trait Keeper<A: Allocator + Copy> {
     /// What is kept of them.
     type Kept;
 
     // this is kept of these accesses
     ghost stands: { Self → List ClockedAccess → Self.Kept → Type 0 };
 
-    /// Adds the access of an event, if it has one: it comes after all others. It may be taken out.
-    fn add(&self, kept: &mut Self::Kept, access: &mut Option<Access<A>>) -> Result<(), Memory>
-        ensures { OnOk result ((accesses : List ClockedAccess) → stands self.now accesses kept.old → stands self.now (accesses ++ in_flight_list (option_map clocked access.old)) kept.new) };
+    /// Adds an access, which comes after all others. Its clock is lent: who keeps a clock copies it.
+    fn add(&self, kept: &mut Self::Kept, access: &LentAccess<'_, A>) -> Result<(), Memory>
+        ensures { OnOk result ((accesses : List ClockedAccess) → stands self.now accesses kept.old → stands self.now (accesses ++ lent_clocked access.now ∷ []) kept.new) };
+
+    /// Adds an access, which comes after all others, with a clock of its own. Who keeps clocks need not copy it.
+    #[inline(always)]
+    fn take(&self, kept: &mut Self::Kept, access: Access<A>) -> Result<(), Memory>
+        ensures { OnOk result ((accesses : List ClockedAccess) → stands self.now accesses kept.old → stands self.now (accesses ++ clocked access ∷ []) kept.new) }
+    {
+        self.add(kept, &lend(&access))
+    }
 
     /// A group has ended: no access to its local words comes any more.
     fn close(&self, kept: &mut Self::Kept, group: u16)
@@ -32,12 +40,12 @@ pub trait Keeper<A: Allocator> {
 #[derive(Clone, Copy, Debug)]
 pub struct NoKeeper;
 
-impl<A: Allocator> Keeper<A> for NoKeeper {
+impl<A: Allocator + Copy> Keeper<A> for NoKeeper {
     type Kept = ();
 
     ghost stands = { λ keeper accesses kept. Unit {0} };
 
-    fn add(&self, kept: &mut (), access: &mut Option<Access<A>>) -> Result<(), Memory> {
+    fn add(&self, kept: &mut (), access: &LentAccess<'_, A>) -> Result<(), Memory> {
         Ok(())
     }
 
@@ -57,11 +65,9 @@ impl<A: Allocator + Copy> Keeper<A> for ShadowKeeper {
     fn add(
         &self,
         kept: &mut LaunchShadows<A>,
-        access: &mut Option<Access<A>>,
+        access: &LentAccess<'_, A>,
     ) -> Result<(), Memory> {
-        if let Some(access) = access {
-            kept.apply(access)?;
-        }
+        kept.apply_lent(access)?;
         Ok(())
     }
 

@@ -8,10 +8,10 @@ ghost use Rattle.gr_timeline.specs.Histories.{IsHistory, IsKeptOf, lines_of};
 ghost use Rattle.gr_timeline.specs.Racy.{IsRacyIn};
 
 use crate::entry::Entry;
-use gr_clocks::access::Access;
 use gr_model::event::{EventId, Word};
 use gr_model::memory::Memory;
 use gr_model::traces::Traces;
+use gr_shadow::lent::LentAccess;
 use gr_shadow::shadows::Shadows;
 use gr_taking::keeper::Keeper;
 use gr_taking::traces::follow;
@@ -36,20 +36,15 @@ impl<A: Allocator + Copy> Keeper<A> for WordKeeper {
 
     ghost stands = { λ keeper accesses kept. IsKeptOf keeper.word accesses kept.entries.items kept.shadows };
 
-    fn add(&self, kept: &mut KeptWord<A>, access: &mut Option<Access<A>>) -> Result<(), Memory> {
-        let Some(access) = access.take() else {
-            return Ok(());
-        };
+    fn add(&self, kept: &mut KeptWord<A>, access: &LentAccess<'_, A>) -> Result<(), Memory> {
         if access.word == self.word {
-            kept.shadows.apply(&access)?;
+            kept.shadows.apply_lent(access)?;
             let event = EventId {
                 at: access.item,
                 index: access.index,
             };
-            kept.entries.push(Entry {
-                event,
-                clock: access.clock,
-            })?;
+            let clock = access.owned()?.clock;
+            kept.entries.push(Entry { event, clock })?;
         }
         Ok(())
     }

@@ -1,5 +1,5 @@
 use Rattle.gr_model.proofs.Common.{◌≡◌, ◌⊎◌, [], ◌∷◌, ◌++◌, Some, inl, inr, ⊎_elim, take, take_all, take_more}
-use Rattle.gr_clocks.specs.ClockedAccess.{clocked}
+use Rattle.gr_shadow.specs.Lent.{lent_clocked}
 use Rattle.gr_explain.specs.Search.{IsPairOf}
 use Rattle.gr_explain.specs.Seen.{IsPairWith}
 use Rattle.gr_explain.proofs.PairOrder.{least_same, least_then}
@@ -10,7 +10,7 @@ pub loop-seen-preserved : goal.loop-seen-preserved
 loop-seen-preserved g c =
     let first = take c.loop-seen.seen-index c.args.classes.now in
     let d = c.seen-item.result in
-    let y = clocked c.args.access.now in
+    let y = lent_clocked c.args.access.now in
     rw (take_more c.args.classes.now c.loop-seen.seen-index d c.loop-seen-test.true, ← c.seen-item.is)
     (least_same (λ p. ((c.args.least ≡ Some p) ⊎ IsPairOf first y p) ⊎ IsPairWith d y p) (λ p. (c.args.least ≡ Some p) ⊎ IsPairOf (first ++ d ∷ []) y p) c.with_pairs-least.result
     (λ p h. ⊎_elim (λ was. ⊎_elim (λ a. inl a) (λ b. inr (more_pairs first d y p (inl b))) was) (λ is. inr (more_pairs first d y p (inr is))) h)

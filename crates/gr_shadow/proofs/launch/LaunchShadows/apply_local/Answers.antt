@@ -1,5 +1,6 @@
 use Rattle.gr_model.proofs.Common.{◌<◌, List, Some, arith, length, on_ok_weaker, on_err_weaker}
-use Rattle.gr_clocks.specs.ClockedAccess.{ClockedAccess, clocked}
+use Rattle.gr_clocks.specs.ClockedAccess.{ClockedAccess}
+use Rattle.gr_shadow.specs.Lent.{lent_clocked}
 use Rattle.gr_shadow.specs.Launches.{LaunchKept, StandsForLaunch, StandsForLocal, accesses_in, is_local_of}
 use Rattle.gr_shadow.proofs.LaunchLemmas.{answers_by_part, local_at, local_more, local_put}
 use Rattle.gr_shadow.proofs.launch.LaunchShadows.apply_local.Given as given
@@ -21,7 +22,7 @@ pub returns-clause-stands : goal.returns-clause-stands
 returns-clause-stands g c accesses stands =
     let old = before g c accesses stands in
     let is = rw (← c.from.ensures) at c.requires in
-    on_ok_weaker c.apply_to.result (local_more (clocked c.args.access.now) c.from.result c.apply_to.new.local is (there g c) old.0) (c.apply_to.ensures.stands (accesses_in (is_local_of c.from.result) accesses) old.1)
+    on_ok_weaker c.apply_to.result (local_more (lent_clocked c.args.access.now) c.from.result c.apply_to.new.local is (there g c) old.0) (c.apply_to.ensures.stands (accesses_in (is_local_of c.from.result) accesses) old.1)
 
 pub returns-clause-err : goal.returns-clause-err
 returns-clause-err g c accesses stands =
@@ -31,4 +32,4 @@ returns-clause-err g c accesses stands =
 pub returns-clause-word : goal.returns-clause-word
 returns-clause-word g c accesses stands =
     let part = accesses_in (is_local_of c.from.result) accesses in
-    answers_by_part (is_local_of c.from.result) accesses (clocked c.args.access.now) (rw c.from.ensures c.requires) c.apply_to.result (c.apply_to.ensures.word part (before g c accesses stands).1)
+    answers_by_part (is_local_of c.from.result) accesses (lent_clocked c.args.access.now) (rw c.from.ensures c.requires) c.apply_to.result (c.apply_to.ensures.word part (before g c accesses stands).1)

@@ -1,11 +1,4 @@
-use Rattle.gr_model.proofs.Common.{arith}
-use Rattle.gr_clocks.specs.ClockedAccess.{clocked}
-use Rattle.gr_shadow.proofs.ShadowLemmas.{answer_told, stands_after}
 use Rattle.gr_shadow.proofs.shadows.Shadows.apply.Goals as goal
 
-pub returns-clause-stands : goal.returns-clause-stands
-returns-clause-stands g c accesses stands = stands_after accesses _ _ _ stands c.in_ok-hit.ensures.kept
-
 pub returns-clause-word : goal.returns-clause-word
-returns-clause-word g c accesses stands w =
-    grind (arith, answer_told accesses c.args.self.now (clocked c.args.access.now) stands w, c.then_some.ensures, c.in_ok-hit.ensures.hit)
+returns-clause-word g c accesses stands = rw c.lend.ensures at (c.apply_lent.ensures.word accesses stands)

@@ -1,24 +1,23 @@
-use Rattle.gr_model.proofs.Common.{rules, append-nil, ◌≡◌, ◌∙◌, ◌<◌, ◌∷◌, ◌++◌, [], List, ap, arith, get_or, length, set, sym, subst, option_map, get_or-map, length-map, map-set}
+use Rattle.gr_model.proofs.Common.{rules, ◌≡◌, ◌∙◌, ◌<◌, ◌∷◌, ◌++◌, [], ap, arith, get_or, length, set, sym, subst, get_or-map, length-map, map-set}
 use Rattle.gr_model.specs.Prelude.{worker_number}
-use Rattle.gr_clocks.specs.ClockedAccess.{ClockedAccess, clocked}
-use Rattle.gr_closure.specs.AccessesAlong.{in_flight_list}
+use Rattle.gr_clocks.specs.ClockedAccess.{clocked}
 use Rattle.gr_route.specs.declared.work.Work.TheVariants.{Access}
 use Rattle.gr_threads.specs.Given.{accesses_in}
 use Rattle.gr_threads.proofs.Givens.{more_given}
 use Rattle.gr_sequencer_thread.specs.Feeds.{AreSplit, accesses_on_way, given_of}
 use Rattle.gr_sequencer_thread.proofs.StepLemmas.{split_more, worker_below}
-use Rattle.gr_sequencer_thread.proofs.on_way.PassingKeeper.add.Goals as goal
+use Rattle.gr_sequencer_thread.proofs.on_way.PassingKeeper.take.Goals as goal
 
 pub index_mut-requires : goal.index_mut-requires
 index_mut-requires g c =
     let len : length c.kept.inside.ways.items ≡ c.kept.inside.ways.len = search rules in
     let config = c.workers.ensures.config in
-    let below = worker_below c.in-Some.access.word c.workers.result (let some = config.workers.0 in omega (arith, some, c.workers.ensures.number)) in
+    let below = worker_below c.args.access.word c.workers.result (let some = config.workers.0 in omega (arith, some, c.workers.ensures.number)) in
     omega (arith, below, c.from-worker.ensures, c.worker_of.ensures, c.workers.ensures.number, config.workers.1, len, c.kept.invariant)
 
 pub returns-in_ok-add : goal.returns-in_ok-add
 returns-in_ok-add g c accesses split =
-    let x = c.in-Some.access in
+    let x = c.args.access in
     let workers = c.args.self.now.config.workers in
     let given = given_of c.args.self.now.outlets.value.items in
     let ways = c.kept.inside.ways.items in
@@ -28,19 +27,9 @@ returns-in_ok-add g c accesses split =
     let config = c.workers.ensures.config in
     let below : worker_number x.word workers < workers = worker_below x.word workers (let some = config.workers.0 in omega (arith, some)) in
     let within : at < length ways = omega (arith, to, below, config.workers.1, c.kept.invariant) in
-    let more : in_flight_list (option_map clocked c.args.access.now) ≡ clocked x ∷ [] = ap (λ o. in_flight_list (option_map clocked o)) (sym c.take.ensures.value ∙ c.in-Some.is) in
     let now : accesses_on_way (set ways at c.add.new.self) ≡ set (accesses_on_way ways) at (accesses_in way ++ clocked x ∷ []) =
     map-set accesses_in ways at c.add.new.self ∙ ap (set (accesses_on_way ways) at) (ap accesses_in c.in_ok-add.ensures ∙ more_given way (Access x ∷ [])) in
     let mine : accesses_in way ≡ get_or (accesses_on_way ways) at (accesses_in way) = sym (get_or-map accesses_in ways at way (accesses_in way) within ∙ ap accesses_in (sym c.index_mut.ensures.value)) in
-    subst (λ (l : List ClockedAccess). AreSplit workers given (accesses ++ l) (accesses_on_way (set ways at c.add.new.self))) (sym more)
-    (subst (AreSplit workers given (accesses ++ clocked x ∷ [])) (sym now)
+    subst (AreSplit workers given (accesses ++ clocked x ∷ [])) (sym now)
     (split_more workers given accesses (accesses_on_way ways) (clocked x) at to (let n = length-map ways accesses_in in omega (arith, within, n)) (accesses_in way) mine
-    (subst (AreSplit workers given accesses) (sym c.kept.view_is) split)))
-
-pub returns-in_default : goal.returns-in_default
-returns-in_default g c accesses split =
-    let workers = c.args.self.now.config.workers in
-    let given = given_of c.args.self.now.outlets.value.items in
-    let none : in_flight_list (option_map clocked c.args.access.now) ≡ [] = ap (λ o. in_flight_list (option_map clocked o)) (sym c.take.ensures.value ∙ c.in_default.is) in
-    subst (λ (l : List ClockedAccess). AreSplit workers given (accesses ++ l) c.args.kept.now) (sym none)
-    (subst (λ (l : List ClockedAccess). AreSplit workers given l c.args.kept.now) (sym (append-nil accesses)) split)
+    (subst (AreSplit workers given accesses) (sym c.kept.view_is) split))
