@@ -60,7 +60,8 @@ impl<A: Allocator + Copy> Keeper<A> for WantedKeeper<'_, A> {
     fn add(&self, kept: &mut Accesses<A>, access: &LentAccess<'_, A>) -> Result<(), Memory> {
         let event = event_of(access);
         if self.wanted.contains(&event) {
-            kept.insert(event, access.owned()?)?;
+            let owned = access.owned()?;
+            kept.insert(event, owned)?;
         }
         Ok(())
     }

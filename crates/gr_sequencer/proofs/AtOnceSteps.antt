@@ -1,12 +1,10 @@
 -- What is known where an event that names nothing is handled as soon as its record is taken.
 use Rattle.gr_model.proofs.Common.{arith, ◌≡◌, ℕ, ◌<◌, length, [], ◌∷◌, ◌++◌, false, refl, ap, ◌∙◌}
-use Rattle.gr_sequencer.specs.Types.{Event, EventId, Space, MOST_RECORDS}
-use Rattle.gr_model.specs.Prelude.{is_release, Sees, Streams, event_at, list_of}
+use Rattle.gr_sequencer.specs.Types.{Event, EventId, MOST_RECORDS}
+use Rattle.gr_model.specs.Prelude.{is_release, Streams, event_at, list_of}
 use Rattle.gr_steps.specs.Steps.{IsReady}
 use Rattle.gr_steps.proofs.StepGrowth.{lawful_grows}
-use Rattle.gr_clocks.specs.Counts.{Counts, CountsOneMore, count_of}
-use Rattle.gr_clocks.specs.ItemClocks.{ItemClocks, Ticks, clock_in}
-use Rattle.gr_closure.specs.Accesses.{CountsJust}
+use Rattle.gr_clocks.specs.ItemClocks.{ItemClocks, Ticks}
 use Rattle.gr_lanes.specs.Takes.{IsEventButItem, next_of, with_record}
 use Rattle.gr_lanes.proofs.Growth.{prefixes_grow, record_grows}
 use Rattle.gr_order.specs.AtOnce.{GoesAtOnce}
@@ -14,7 +12,7 @@ use Rattle.gr_order.specs.Sequences.{IsSequence, Sequence}
 use Rattle.gr_order.proofs.AtOnceLemmas.{there_at_once}
 use Rattle.gr_sequencer.specs.Known.{CountWhatIsKnown, IsKnown, IsNextAtOnce, Known}
 use Rattle.gr_sequencer.specs.Sources.{AreSources}
-use Rattle.gr_sequencer.proofs.EventSteps.{known_or_learned_alone, known_or_learned_sees, learns_nothing_true, snapshots_longer}
+use Rattle.gr_sequencer.proofs.EventSteps.{learns_nothing_true, snapshots_longer}
 use Rattle.gr_sequencer.proofs.KnownGrowth.{known_grows}
 use Rattle.gr_sequencer.proofs.Teaching.{sources_all, sources_none}
 
@@ -24,12 +22,6 @@ module _ (q : Sequence) (g : ℕ) (x : Event) (known : Known) (e : EventId) (is 
 
   no_sources : AreSources more e []
   no_sources = grind (arith, sources_all more e x is.there [], sources_none more e, is.names)
-
-  -- with one event more its item's clock counts what is seen
-  pub sees_at_once : (m : Space) (n : Counts) → CountsOneMore (clock_in known.clocks m e.at) e.at n → CountsJust n (Sees more m e)
-  sees_at_once m n tick =
-      let c = clock_in known.clocks m e.at in
-      known_or_learned_sees more q.handled known e is.next m (count_of c) (known_or_learned_alone more q.handled known e is.next m c no_sources refl) (count_of n) tick.counts
 
   -- the clocks where the item's have one event more
   pub known_at_once : (new : ItemClocks) → Ticks known.clocks e.at new → CountWhatIsKnown more (q.handled ++ e ∷ []) new

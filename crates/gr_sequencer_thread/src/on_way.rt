@@ -3,13 +3,12 @@
 //! Invariant: there is a way to each worker that a run may have.
 
 ghost use Rattle.std.specs.Prelude.{◌≡◌, ◌++◌, ◌∷◌, [], All, IfOk, IsTrue, List, OnOk, length};
-ghost use Rattle.gr_clocks.specs.ClockedAccess.{ClockedAccess, clocked};
+ghost use Rattle.gr_clocks.specs.ClockedAccess.{ClockedAccess};
 ghost use Rattle.gr_shadow.specs.Lent.{lent_clocked};
 ghost use Rattle.gr_sequencer_thread.specs.Feeds.{AreOpen, AreSplit, given_of, works_of};
 
 use crate::outlet::Outlet;
 use crate::way::Way;
-use gr_clocks::access::Access;
 use gr_model::config::{Config, worker_of};
 use gr_model::limits::MOST_WORKERS;
 use gr_model::memory::Memory;
@@ -118,16 +117,9 @@ impl<A: Allocator + Copy> Keeper<A> for Passing<A> {
     fn add(&self, kept: &mut OnWay<A>, access: &LentAccess<'_, A>) -> Result<(), Memory>
         ensures { OnOk result ((accesses : List ClockedAccess) → AreSplit self.now.config.workers (given_of self.now.outlets.value.items) accesses kept.old → AreSplit self.now.config.workers (given_of self.now.outlets.value.items) (accesses ++ lent_clocked access.now ∷ []) kept.new) }
     {
-        let access = access.owned()?;
-        self.take(kept, access)
-    }
-
-    #[inline(always)]
-    fn take(&self, kept: &mut OnWay<A>, access: Access<A>) -> Result<(), Memory>
-        ensures { OnOk result ((accesses : List ClockedAccess) → AreSplit self.now.config.workers (given_of self.now.outlets.value.items) accesses kept.old → AreSplit self.now.config.workers (given_of self.now.outlets.value.items) (accesses ++ clocked access ∷ []) kept.new) }
-    {
+        let owned = access.owned()?;
         let worker = usize::from(worker_of(&access.word, self.config.workers()));
-        kept.ways[worker].add(kept.alloc, access)?;
+        kept.ways[worker].add(kept.alloc, owned)?;
         kept.count = kept.count.saturating_add(1);
         Ok(())
     }

@@ -9,9 +9,10 @@ use crate::keeper::Keeper;
 use gr_model::memory::Memory;
 use gr_sequencer::handled::Handled;
 use gr_sequencer::sequencer::Sequencer;
+use gr_shadow::lent::lend;
 use std::alloc::Allocator;
 
-/// Has a keeper take the access of a step, if it has one.
+/// Has a keeper add the access of a step, if it has one.
 #[inline(always)]
 fn give<A: Allocator + Copy, K: Keeper<A>>(
     keeper: &K,
@@ -24,7 +25,7 @@ fn give<A: Allocator + Copy, K: Keeper<A>>(
         Handled::One {
             event: _,
             access: Some(access),
-        } => keeper.take(kept, access),
+        } => keeper.add(kept, &lend(&access)),
         Handled::One {
             event: _,
             access: None,

@@ -1,14 +1,13 @@
 //! What is kept of the accesses of a launch.
 
 ghost use Rattle.std.specs.Prelude.{◌++◌, ◌∷◌, [], List, OnOk};
-ghost use Rattle.gr_clocks.specs.ClockedAccess.{ClockedAccess, clocked};
+ghost use Rattle.gr_clocks.specs.ClockedAccess.{ClockedAccess};
 ghost use Rattle.gr_shadow.specs.Launches.{StandsForLaunch};
 ghost use Rattle.gr_shadow.specs.Lent.{lent_clocked};
 
-use gr_clocks::access::Access;
 use gr_model::memory::Memory;
 use gr_shadow::launch::LaunchShadows;
-use gr_shadow::lent::{LentAccess, lend};
+use gr_shadow::lent::LentAccess;
 use std::alloc::Allocator;
 
 /// What keeps something of the accesses of a launch, which come one after another along the order in which its events are handled.
@@ -22,14 +21,6 @@ pub trait Keeper<A: Allocator + Copy> {
     /// Adds an access, which comes after all others. Its clock is lent: who keeps a clock copies it.
     fn add(&self, kept: &mut Self::Kept, access: &LentAccess<'_, A>) -> Result<(), Memory>
         ensures { OnOk result ((accesses : List ClockedAccess) → stands self.now accesses kept.old → stands self.now (accesses ++ lent_clocked access.now ∷ []) kept.new) };
-
-    /// Adds an access, which comes after all others, with a clock of its own. Who keeps clocks need not copy it.
-    #[inline(always)]
-    fn take(&self, kept: &mut Self::Kept, access: Access<A>) -> Result<(), Memory>
-        ensures { OnOk result ((accesses : List ClockedAccess) → stands self.now accesses kept.old → stands self.now (accesses ++ clocked access ∷ []) kept.new) }
-    {
-        self.add(kept, &lend(&access))
-    }
 
     /// A group has ended: no access to its local words comes any more.
     fn close(&self, kept: &mut Self::Kept, group: u16)

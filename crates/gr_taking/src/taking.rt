@@ -34,6 +34,7 @@ fn access_of<'s, A: Allocator>(
 ) -> LentAccess<'s, A>
     requires there { event_at sequencer.now.taken event ≡ Some taken.now }
     requires access { IsMereAccess taken.now }
+    requires sequence { IsSequence sequencer.now }
     requires last { (old : Sequence) × IsLawful old.taken old.handled × HandlesEvent old event sequencer.now }
     ensures { IsAccess sequencer.now.taken event (bare (lent_clocked result)) }
 {

@@ -43,8 +43,11 @@ impl<A: Allocator + Copy> Keeper<A> for WordKeeper {
                 at: access.item,
                 index: access.index,
             };
-            let clock = access.owned()?.clock;
-            kept.entries.push(Entry { event, clock })?;
+            let owned = access.owned()?;
+            kept.entries.push(Entry {
+                event,
+                clock: owned.clock,
+            })?;
         }
         Ok(())
     }

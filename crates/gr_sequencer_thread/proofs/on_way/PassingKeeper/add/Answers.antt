@@ -6,18 +6,18 @@ use Rattle.gr_threads.specs.Given.{accesses_in}
 use Rattle.gr_threads.proofs.Givens.{more_given}
 use Rattle.gr_sequencer_thread.specs.Feeds.{AreSplit, accesses_on_way, given_of}
 use Rattle.gr_sequencer_thread.proofs.StepLemmas.{split_more, worker_below}
-use Rattle.gr_sequencer_thread.proofs.on_way.PassingKeeper.take.Goals as goal
+use Rattle.gr_sequencer_thread.proofs.on_way.PassingKeeper.add.Goals as goal
 
 pub index_mut-requires : goal.index_mut-requires
 index_mut-requires g c =
     let len : length c.kept.inside.ways.items ≡ c.kept.inside.ways.len = search rules in
     let config = c.workers.ensures.config in
-    let below = worker_below c.args.access.word c.workers.result (let some = config.workers.0 in omega (arith, some, c.workers.ensures.number)) in
+    let below = worker_below c.args.access.now.word c.workers.result (let some = config.workers.0 in omega (arith, some, c.workers.ensures.number)) in
     omega (arith, below, c.from-worker.ensures, c.worker_of.ensures, c.workers.ensures.number, config.workers.1, len, c.kept.invariant)
 
 pub returns-in_ok-add : goal.returns-in_ok-add
 returns-in_ok-add g c accesses split =
-    let x = c.args.access in
+    let x = c.in_ok-owned.owned in
     let workers = c.args.self.now.config.workers in
     let given = given_of c.args.self.now.outlets.value.items in
     let ways = c.kept.inside.ways.items in
@@ -30,6 +30,6 @@ returns-in_ok-add g c accesses split =
     let now : accesses_on_way (set ways at c.add.new.self) ≡ set (accesses_on_way ways) at (accesses_in way ++ clocked x ∷ []) =
     map-set accesses_in ways at c.add.new.self ∙ ap (set (accesses_on_way ways) at) (ap accesses_in c.in_ok-add.ensures ∙ more_given way (Access x ∷ [])) in
     let mine : accesses_in way ≡ get_or (accesses_on_way ways) at (accesses_in way) = sym (get_or-map accesses_in ways at way (accesses_in way) within ∙ ap accesses_in (sym c.index_mut.ensures.value)) in
-    subst (AreSplit workers given (accesses ++ clocked x ∷ [])) (sym now)
+    rw c.in_ok-owned.ensures at subst (AreSplit workers given (accesses ++ clocked x ∷ [])) (sym now)
     (split_more workers given accesses (accesses_on_way ways) (clocked x) at to (let n = length-map ways accesses_in in omega (arith, within, n)) (accesses_in way) mine
     (subst (AreSplit workers given accesses) (sym c.kept.view_is) split))
