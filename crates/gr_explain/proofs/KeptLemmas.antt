@@ -25,7 +25,7 @@ module _ {Z : Type 0} (wanted : List EventId) (accesses : List ClockedAccess) (x
   -- its event is wanted, and it is kept with a clock of its own
   pub wanted_added : (a : Access Z) → clocked a ≡ x → ((d : EventId) → access_at new d ≡ cond (same_event (event_of x) d) (Some a) (access_at old d)) → AreThoseOf wanted accesses old → AreThoseOf wanted (accesses ++ x ∷ []) new
   wanted_added a its update those d has = ⊎_elim
-      (λ (is : same_event (event_of x) d ≡ true). rw (update d, is, its) (Contains-push accesses x, event_from_equal (event_of x) d is))
+      (λ (is : same_event (event_of x) d ≡ true). rw (update d, is, its) (Contains-push accesses x, ap event_of its ∙ event_from_equal (event_of x) d is))
       (λ (fails : same_event (event_of x) d ≡ false). rw (update d, fails) (other_stays d (access_at old d) (λ same. grind (arith, event_itself)) (those d has)))
       (cases_Bool (same_event (event_of x) d))
 

@@ -1,5 +1,5 @@
-use Rattle.gr_model.proofs.Common.{◌∷◌, []}
+use Rattle.gr_model.proofs.Common.{◌∷◌, [], on_ok_weaker}
 use Rattle.gr_explain.proofs.tagged.TaggedKeeperKeeper.add.Goals as goal
 
-pub returns-in_ok-add : goal.returns-in_ok-add
-returns-in_ok-add g c accesses stand = (c.in_ok-add.ensures accesses stand.0, c.in_ok-add_access.ensures (c.args.self.now.word ∷ []) accesses stand.1)
+pub returns : goal.returns
+returns g c = on_ok_weaker c.add_access.result (λ added accesses stand. (c.in_ok-add.ensures accesses stand.0, added (c.args.self.now.word ∷ []) accesses stand.1)) c.add_access.ensures
