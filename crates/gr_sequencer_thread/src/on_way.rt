@@ -118,7 +118,7 @@ impl<A: Allocator + Copy> Keeper<A> for Passing<A> {
         ensures { OnOk result ((accesses : List ClockedAccess) → AreSplit self.now.config.workers (given_of self.now.outlets.value.items) accesses kept.old → AreSplit self.now.config.workers (given_of self.now.outlets.value.items) (accesses ++ lent_clocked access.now ∷ []) kept.new) }
     {
         let owned = access.owned()?;
-        let worker = usize::from(worker_of(&access.word, self.config.workers()));
+        let worker = usize::from(worker_of(&owned.word, self.config.workers()));
         kept.ways[worker].add(kept.alloc, owned)?;
         kept.count = kept.count.saturating_add(1);
         Ok(())

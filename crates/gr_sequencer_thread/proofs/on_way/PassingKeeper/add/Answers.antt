@@ -12,11 +12,11 @@ pub index_mut-requires : goal.index_mut-requires
 index_mut-requires g c =
     let len : length c.kept.inside.ways.items ≡ c.kept.inside.ways.len = search rules in
     let config = c.workers.ensures.config in
-    let below = worker_below c.args.access.now.word c.workers.result (let some = config.workers.0 in omega (arith, some, c.workers.ensures.number)) in
+    let below = worker_below c.in_ok-owned.owned.word c.workers.result (let some = config.workers.0 in omega (arith, some, c.workers.ensures.number)) in
     omega (arith, below, c.from-worker.ensures, c.worker_of.ensures, c.workers.ensures.number, config.workers.1, len, c.kept.invariant)
 
-pub returns-in_ok-add : goal.returns-in_ok-add
-returns-in_ok-add g c accesses split =
+pub returns : goal.returns
+returns g c accesses split =
     let x = c.in_ok-owned.owned in
     let workers = c.args.self.now.config.workers in
     let given = given_of c.args.self.now.outlets.value.items in
@@ -30,6 +30,7 @@ returns-in_ok-add g c accesses split =
     let now : accesses_on_way (set ways at c.add.new.self) ≡ set (accesses_on_way ways) at (accesses_in way ++ clocked x ∷ []) =
     map-set accesses_in ways at c.add.new.self ∙ ap (set (accesses_on_way ways) at) (ap accesses_in c.in_ok-add.ensures ∙ more_given way (Access x ∷ [])) in
     let mine : accesses_in way ≡ get_or (accesses_on_way ways) at (accesses_in way) = sym (get_or-map accesses_in ways at way (accesses_in way) within ∙ ap accesses_in (sym c.index_mut.ensures.value)) in
-    rw c.in_ok-owned.ensures at subst (AreSplit workers given (accesses ++ clocked x ∷ [])) (sym now)
+    let all = subst (AreSplit workers given (accesses ++ clocked x ∷ [])) (sym now)
     (split_more workers given accesses (accesses_on_way ways) (clocked x) at to (let n = length-map ways accesses_in in omega (arith, within, n)) (accesses_in way) mine
-    (subst (AreSplit workers given accesses) (sym c.kept.view_is) split))
+    (subst (AreSplit workers given accesses) (sym c.kept.view_is) split)) in
+    rw c.in_ok-owned.ensures at all
