@@ -124,7 +124,11 @@ impl<A: Allocator> Alike<A> {
 
 /// Whether a later access to a word clashes with an event of a class: they are of two items, they are not exempt, and the access's clock
 /// does not count the event.
-pub(crate) fn clashes<A: Allocator>(class: Class, event: EventId, access: &LentAccess<'_, A>) -> bool
+pub(crate) fn clashes<A: Allocator>(
+    class: Class,
+    event: EventId,
+    access: &LentAccess<'_, A>,
+) -> bool
     ensures { result ≡ event_clashes class (lent_clocked access.now) event }
 {
     event.at != access.item

@@ -23,7 +23,10 @@ pub(crate) struct Search<A: Allocator = Global> {
 }
 
 /// Adds an access to those of its class.
-fn put<A: Allocator + Copy>(classes: &mut Vec<Seen<A>, A>, access: &LentAccess<'_, A>) -> Result<(), Memory>
+fn put<A: Allocator + Copy>(
+    classes: &mut Vec<Seen<A>, A>,
+    access: &LentAccess<'_, A>,
+) -> Result<(), Memory>
     ensures { OnOk result (IsSeenMore classes.old.items (event_of (lent_clocked access.now)) access.now.class classes.new.items) }
 {
     match classes.iter().position(|seen| seen.has(access)) {

@@ -173,11 +173,7 @@ impl<A: Allocator + Copy> Sequencer<A> {
     /// The first of `UnknownGroup`, `AfterEnd` with the group, `UnknownItem` and `Memory` that is there. Nothing is then
     /// taken or handled.
     #[inline(always)]
-    pub fn take_and_handle(
-        &mut self,
-        group: u16,
-        event: Event,
-    ) -> Result<Option<EventId>, SeqError>
+    pub fn take_and_handle(&mut self, group: u16, event: Event) -> Result<Option<EventId>, SeqError>
         requires good { IsEventButItem event }
         requires room { length (list_of self.old.taken group) < MOST_RECORDS }
         ensures can { OnOk result (CanTake self.old.taken group event) }

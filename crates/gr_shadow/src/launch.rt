@@ -123,7 +123,11 @@ impl<A: Allocator + Copy> LaunchShadows<A> {
     }
 
     /// Adds the next access to a group's local words.
-    fn apply_local(&mut self, group: u16, access: &LentAccess<'_, A>) -> Result<Option<Word>, Memory>
+    fn apply_local(
+        &mut self,
+        group: u16,
+        access: &LentAccess<'_, A>,
+    ) -> Result<Option<Word>, Memory>
         requires { is_local_of group access.now.word ≡ true }
         ensures stands { (accesses : List ClockedAccess) → StandsForLaunch accesses self.old → OnOk result (StandsForLaunch (accesses ++ lent_clocked access.now ∷ []) self.new) }
         ensures word { (accesses : List ClockedAccess) → StandsForLaunch accesses self.old → IfOk result (λ answer. (w : AnyWord) → answer ≡ Some w ↔ IsHitBy accesses (lent_clocked access.now) w) }

@@ -98,7 +98,10 @@ impl Touch {
 }
 
 /// The first of these touches with which an access clashes.
-pub(crate) fn clashing_in<A: Allocator>(touches: &[Touch], access: &LentAccess<'_, A>) -> Option<Touch>
+pub(crate) fn clashing_in<A: Allocator>(
+    touches: &[Touch],
+    access: &LentAccess<'_, A>,
+) -> Option<Touch>
     ensures { result ≡ find (touch_clashes (lent_clocked access.now)) touches.now }
 {
     touches.iter().copied().find(|touch| touch.clashes(access))

@@ -53,11 +53,7 @@ impl<A: Allocator + Copy> Keeper<A> for ShadowKeeper {
     ghost stands = { λ keeper accesses shadows. StandsForLaunch accesses shadows };
 
     #[inline(always)]
-    fn add(
-        &self,
-        kept: &mut LaunchShadows<A>,
-        access: &LentAccess<'_, A>,
-    ) -> Result<(), Memory> {
+    fn add(&self, kept: &mut LaunchShadows<A>, access: &LentAccess<'_, A>) -> Result<(), Memory> {
         kept.apply_lent(access)?;
         Ok(())
     }

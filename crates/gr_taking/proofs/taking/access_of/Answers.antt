@@ -19,6 +19,6 @@ returns g c =
     let m = memory_of c.in-Some-Some.word in
     let knows = handled_knows s m q.handled c.args.sequencer.now.handled e (rw last.taken c.requires.last.1) (rw last.taken last.handles) in
     let counts : CountsJust c.clock_of.result.now.counts (Sees s m e) = λ d.
-      let counted = rw c.memory_of.ensures at (c.clock_of.ensures d) in
-      (λ below. (knows d).0 (counted.0 below), λ seen. counted.1 ((knows d).1 seen)) in
+    let counted = rw c.memory_of.ensures at (c.clock_of.ensures d) in
+    (λ below. (knows d).0 (counted.0 below), λ seen. counted.1 ((knows d).1 seen)) in
     record { word = grind (arith, c.requires.there); item = refl; index = refl; event = c.args.taken.now; at_event = c.requires.there; class = grind (arith); counts = counts }
