@@ -168,6 +168,11 @@ impl Account {
         self.fault.is_none() && (self.header.is_some() || !self.bytes.is_empty())
     }
 
+    /// Whether there was no byte.
+    pub fn is_empty(&self) -> bool {
+        self.passed == 0 && self.bytes.is_empty()
+    }
+
     /// Whether a header should come next, but its text does.
     pub fn is_text(&self) -> bool {
         self.header.is_none() && self.bytes.starts_with(b"group ")

@@ -97,6 +97,8 @@ impl Naming<'_, '_> {
         let (buffer, _) = self.parts();
         if lines.is_empty() {
             return String::from_str(alloc, "it names no buffer");
+        } else if buffer.contains('[') {
+            return String::from_str(alloc, "a name has one index, which counts words");
         } else if !lines.iter().any(|line| line.name == buffer) {
             let names = list_of(alloc, lines, |line| String::from_str(alloc, line.name))?;
             return format!(in alloc; "its buffers are {names}");
@@ -183,12 +185,20 @@ impl Naming<'_, '_> {
         Ok((word, self.note(&of_space, word)?))
     }
 
-    /// Refuses the name of a buffer without an index. A file of buffers that can't be read has no buffers.
+    /// Refuses a name that does not end with its index, and the name of a buffer without an index. A file of buffers that can't be read has
+    /// no buffers.
     ///
     /// # Errors
-    /// `Usage` if a buffer has the name; `Fault` with `Memory`.
+    /// `Usage` if the name has an index, or a buffer has the name; `Fault` with `Memory`.
     pub fn check(&self) -> Result<(), Refusal> {
         let rt = self.line.rt;
+        if self.name.contains('[') {
+            let name = self.name;
+            let text = format!(in rt.alloc();
+                "{name} names no word: a name is NAME[INDEX], whose index counts words, as in tile[4]"
+            );
+            return Err(Refusal::Usage(text.map_err(Memory::from)?));
+        }
         let Some(path) = buffers_of(self.line, self.files)? else {
             return Ok(());
         };

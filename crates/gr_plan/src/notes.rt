@@ -182,6 +182,9 @@ fn put(
     account: &Account,
 ) -> io::Result<()> {
     let record = account.records;
+    if let (Some(name), true) = (name, account.is_empty()) {
+        return writeln!(to, "gpurace: {name}: the file is empty");
+    }
     if let Some(name) = name {
         write!(to, "gpurace: {name}: stream {stream}, ")?;
         match account.header {
@@ -194,10 +197,14 @@ fn put(
     }
     if is_header && account.is_text() {
         let name = name.unwrap_or("the input");
-        writeln!(
-            to,
-            "gpurace: {name} is a text, of which gpurace pack makes a trace"
-        )?;
+        if account.starts.is_empty() {
+            writeln!(
+                to,
+                "gpurace: {name} is a text, of which gpurace pack makes a trace"
+            )?;
+        } else {
+            writeln!(to, "gpurace: in {name} a text follows packed streams")?;
+        }
     } else if !is_header && account.has_header_inside() {
         writeln!(
             to,

@@ -166,10 +166,14 @@ fn put_due(to: &mut Held, due: Due) -> io::Result<()> {
     write!(to, "{}{last}", if words.is_empty() { "" } else { or })
 }
 
-/// Writes the first bytes of a word; a byte that is not visible ASCII is a question mark.
+/// Writes the first bytes of a word; a byte that is not visible ASCII is a question mark, but a carriage return is `\r`.
 fn put_shown(to: &mut Held, word: &[u8]) -> io::Result<()> {
     for byte in word.iter().take(MOST_SHOWN) {
-        to.write_all(&[if byte.is_ascii_graphic() { *byte } else { b'?' }])?;
+        match *byte {
+            b'\r' => to.write_all(b"\\r")?,
+            byte if byte.is_ascii_graphic() => to.write_all(&[byte])?,
+            _ => to.write_all(b"?")?,
+        }
     }
     Ok(())
 }
@@ -184,7 +188,10 @@ fn put_bad_word(to: &mut Held, line: &[u8], at: usize, due: Due) -> io::Result<(
     }
     write!(to, "; expected ")?;
     put_due(to, due)?;
-    writeln!(to, "")
+    match word_at(line, at) {
+        Some([b'0', b'0'..=b'9', ..]) => writeln!(to, ", without a leading zero"),
+        Some(_) | None => writeln!(to, ""),
+    }
 }
 
 /// Writes which word is at fault in the first line at fault of a text, and what is due in its place. The line is called `name`.
