@@ -134,6 +134,32 @@ race on flag[0]
     {ONE_WRITE}
 """)
 
+    def test_races_of_one_text_at_several_lines_are_several_findings(self):
+        """Both items write tile[0] at line 2, and after a barrier at line 4, whose text is the same."""
+        text = "if (l < 2)\n  tile[0] = n;\nbarrier(F);\ntile[0] = n;\n"
+        steps = "0 w l 64\n1 w l 64\n0 bar 3 l\n1 bar 3 l\n0 w l 64\n1 w l 64\n"
+        places = "".join(f"0 {item} {at} kernel.cl:{line}\n" for item in (0, 1) for at, line in ((0, "2:11"), (2, "4:9")))
+        launch = self.judged([f"group 0 items 2 launch 7\n{steps}end\n"], {"buffers": BUFFERS, "kernel.cl": text, "places": places})
+        self.assertEqual([([access.place for access in it.accesses], it.texts()) for it in launch.findings],
+                         [(["kernel.cl:2:11"] * 2, ["tile[0] = n;"]), (["kernel.cl:4:9"] * 2, ["tile[0] = n; #2"])])
+
+    def test_calls_of_one_text_are_several_findings(self):
+        """A function that writes tile[0] is called by both items at line 4, and then at line 5."""
+        text = "void put(local int *tile) {\n  *tile = 1;\n}\n  put(tile);\n  put(tile);\n"
+        places = "".join(f"0 {item} {at} kernel.cl:2:9 called at kernel.cl:{4 + at}:3\n" for item in (0, 1) for at in (0, 1))
+        steps = "".join(f"{item} w l {word}\n" for item in (0, 1) for word in (64, 65))
+        launch = self.judged([f"group 0 items 2 launch 7\n{steps}end\n"], {"buffers": BUFFERS, "kernel.cl": text, "places": places})
+        self.assertEqual([it.texts() for it in launch.findings], [["*tile = 1; < put(tile);"], ["*tile = 1; < put(tile); #2"]])
+
+    def test_which_one_of_the_lines_of_a_text(self):
+        """Each kernel counts for itself. Of long lines those count that are shown alike."""
+        texts, long_line = Texts(""), "x" * 300
+        texts.files["a.cl"] = ["// a kernel void of sense", "f();", "  f();", "kernel void a() {", " f(); ", "f(); g();", "f();", "__kernel __attribute__((x))", "f();",
+                               long_line + "1", long_line + "2", "__kernel", "f();"]
+        for line, nth in ((2, 1), (3, 2), (5, 1), (6, 1), (7, 2), (9, 1), (10, 1), (11, 2), (13, 1), (14, 1)):
+            self.assertEqual(texts.nth(f"a.cl:{line}:1"), nth, line)
+        self.assertEqual((texts.nth("a.cl:11:300"), texts.nth("site 3")), (1, 1))
+
     def test_a_word_of_two_kinds_is_one_word(self):
         """Words 3 to 5 and 5 to 6 of global memory are four; word 5 of a group is another one."""
         one, other = Finding("race", "sums", "", words=3, runs=[Run(None, 3, 5)]), Finding("race", "sums", "", words=3, runs=[Run(None, 5, 6), Run(0, 5, 5)])

@@ -2,6 +2,7 @@
 
 import json
 import os
+import shutil
 import subprocess
 import sys
 import xml.etree.ElementTree as xml
@@ -289,6 +290,23 @@ class Known(Outputs):
         put_racy(self.kept, 2, kernel="others")
         self.judge("--baseline", "known.json", "--sarif", "made.sarif", status=1)
         self.assertEqual([it["baselineState"] for it in self.made("made.sarif")["runs"][0]["results"]], ["unchanged", "new"])
+
+    def test_a_further_place_of_a_known_text_is_new(self):
+        """Both items write one word at one of two lines of one text. Lines above it change nothing, not even a kernel that has this text, but one of this
+        text in its own kernel does."""
+        def put(launch, line, text):
+            shutil.rmtree(self.kept, ignore_errors=True)
+            places = "".join(f"0 {item} 0 kernel.cl:{line}:1\n" for item in (0, 1))
+            put_launch(self.kept / "sums", [f"group 0 items 2 launch {launch}\n0 w g 0\n1 w g 0\nend\n"],
+                       {"info.txt": info("sums", launch), "kernel.cl": text, "places": places, "buffers": BUFFERS})
+
+        kernel, other = "kernel void sums(..) {\na[0] = n;\nn++;\na[0] = n;\n}\n", "kernel void other(..) {\na[0] = n;\n}\n"
+        put(0, 2, kernel)
+        self.judge("--baseline", "known.json", "--update-baseline", status=0)
+        for line, text, status in ((2, kernel, 0), (5, other + kernel, 0), (4, kernel, 1), (7, other + kernel, 1), (3, kernel.replace("{\n", "{\na[0] = n;\n"), 1)):
+            put(1, line, text)
+            lines = self.judge("--baseline", "known.json", status=status)
+            self.assertEqual("gpurace-judge:     gone: race in sums on input, `a[0] = n;`" in lines, status == 1, (line, text))
 
     def test_a_cause_that_was_not_known_in_time_is_like_any_other(self):
         """In the baseline, or in the run: the finding is known, and not gone. Another cause is another finding."""
