@@ -244,13 +244,13 @@ race on global word 1
 race on global word 2
     lock.cl:4:7: atomic read-modify-write (acquire and release, work-group scope) by group 0, item 0
     lock.cl:8:7: atomic load (acquire, work-group scope) by group 1, item 0
-    `memory_scope_work_group` at lock.cl:4:7 and lock.cl:8:7 reaches no other group: use `memory_scope_device`
+    the scope at lock.cl:4:7 and lock.cl:8:7 reaches no other group: use `memory_scope_device`
 """)
 
     def test_a_hand_over_whose_scope_is_too_narrow(self):
         """The plain accesses race since the release and the acquire between them have work-group scope; so do these themselves."""
         streams = ["group 0 items 1 launch 7\n0 w g 16\n0 st g 20 grp rel\nend\n", "group 1 items 1 launch 7\n0 ld g 20 grp acq < 0 0 0\n0 r g 16\nend\n"]
-        narrow = "`memory_scope_work_group` at f.cl:4:9 and f.cl:5:13 reaches no other group: use `memory_scope_device`"
+        narrow = "the scope at f.cl:4:9 and f.cl:5:13 reaches no other group: use `memory_scope_device`"
         self.assert_report(streams, {"places": "0 0 0 f.cl:3:9\n0 0 1 f.cl:4:9\n1 0 0 f.cl:5:13\n1 0 1 f.cl:6:9\n"}, "found", f"""\
 race on global word 16
     f.cl:3:9: write by group 0, item 0
@@ -532,7 +532,7 @@ reason refused: the trace was refused: gpurace: group 0 missing
 """)
 
     def test_a_race_in_a_launch_with_fences_is_doubtful(self):
-        info = INFO + "fence 3 kernel.cl:4:9\nfence 1 kernel.cl:5:9\nimage 2 kernel.cl:5:1\nnote calls of printf\n"
+        info = INFO + "fence 3 kernel.cl:4:9\nfence 1 kernel.cl:5:9\nimage 2 kernel.cl:5:1\nnote calls of printf\natomics yes\n"
         self.assert_report(["group 0 items 2 launch 7\n0 w g 1\n1 w g 1\nend\n", "group 1 items 2 launch 7\nend\n"], {"info.txt": info}, "doubtful", f"""\
 race on global word 1 (doubtful)
     unknown place: write by group 0, item 0
@@ -542,6 +542,33 @@ reason fences: fences, which are not recorded: the order that they give is not s
 reason images: accesses of images, which are not judged: 2, at kernel.cl:5:1
 reason operations: not recorded: calls of printf
 """)
+
+    def test_fences_alone_order_nothing(self):
+        """A race is found, and that nothing is found is an answer, unless an item has done an atomic access, or may have: where the recorder does not
+        say, or something is not recorded."""
+        alone = "a fence alone orders nothing between work-items"
+        racy, right = (f"group 0 items 2 launch 7\n0 w g 1\n1 w g {word}\nend\n" for word in (1, 2))
+        for stream, more, verdict, messages in ((racy, "atomics no\n", "found", [f"{GLOBAL}; {alone}"]), (right, "atomics no\n", "nothing", []),
+                                                (racy, "atomics yes\n", "doubtful", [GLOBAL]), (right, "", "incomplete", []),
+                                                (racy, "atomics no\nnote calls of sub_group_any\n", "doubtful", [GLOBAL])):
+            for fences, where in (("fence 3 kernel.cl:4:9\n", "3, at kernel.cl:4:9"), ("fences-not-recorded 2\n", "2")):
+                launch = self.judged([stream], {"info.txt": info("sums", 7, more=fences + more)})
+                self.assertEqual((launch.verdict, [it.message for it in launch.findings]), (verdict, messages))
+                noted = [f"fences: {where}: no work-item does an atomic access, and {alone}"]
+                self.assertEqual(launch.notes, noted if verdict in ("found", "nothing") else [])
+
+    def test_atomics_of_a_narrow_scope(self):
+        """A race is found as ever; that there is none is no answer."""
+        said = "reason scopes: atomics of work-item or sub-group scope, taken as of work-group scope: a race in a group may be missed: 3, at kernel.cl:4:9\n"
+        files = {"info.txt": INFO + "narrow-scope 3 kernel.cl:4:9\n"}
+        self.assert_report(["group 0 items 2 launch 7\n0 ld g 1 grp acq\nend\n", "group 1 items 2 launch 7\nend\n"], files, "incomplete", said)
+        streams = ["group 0 items 2 launch 7\n0 w g 1\n1 w g 1\nend\n", "group 1 items 2 launch 7\nend\n"]
+        self.assert_report(streams, files, "found", f"""\
+race on global word 1
+    unknown place: write by group 0, item 0
+    unknown place: write by group 0, item 1
+    {GLOBAL}
+{said}""")
 
     def test_an_access_out_of_bounds_is_a_finding_also_beside_fences(self):
         info = INFO + "fence 1 kernel.cl:5:9\nout-of-bounds 2 kernel.cl:3:9 write 4 1 1 16 bytes after the end of output, which has 128 bytes\n"

@@ -4,7 +4,7 @@ from __future__ import annotations
 import re
 from typing import List, NamedTuple, Optional
 
-DEVICE, GROUP = "`memory_scope_device`", "`memory_scope_work_group`"
+DEVICE = "`memory_scope_device`"
 ATOMICS = {"load": "load", "store": "store", "rmw": "read-modify-write"}
 COPY = "nothing orders the two; wait_group_events after the copy would, or, if the copy comes last, a barrier before it"
 GROUPS = ("nothing orders the two, and a barrier never orders two groups; a second kernel, a word for each group, or a release that an "
@@ -86,8 +86,8 @@ def of_scope(_: str, pair: Pair) -> str:
     narrow = [at for at in (pair.first, pair.second, pair.release, pair.acquire) if at and at.scope == "grp" and at.place]
     places = " and ".join(dict.fromkeys(at.place for at in narrow))
     if places and pair.is_one_group:
-        return f"{GROUP} at {places} does not include {DEVICE}: use {DEVICE}"
-    return places and f"{GROUP} at {places} reaches no other group: use {DEVICE}"
+        return f"the scope at {places} is narrower than {DEVICE}: use that"
+    return places and f"the scope at {places} reaches no other group: use {DEVICE}"
 
 
 def of_divergence(said: str, pair: Pair) -> str:
