@@ -432,9 +432,10 @@ def sums_before():
 def cases():
     zeros, whole = [0] * ALL, sum(numbers())
     yield Case("matmul_right", [matrix(), matrix(), [0] * 64, 8], 0, {2: product()}, (8, 8), (4, 4))
-    yield Case("matmul_wrong", [matrix(), matrix(), [0] * 64, 8], 4 * 32, {}, (8, 8), (4, 4))  # all words of two tiles of four groups
+    yield Case("matmul_wrong", [matrix(), matrix(), [0] * 64, 8], 4 * 32, {}, (8, 8), (4, 4), say=(
+        "is of one round of a loop and the write at ", " of a later one: the missing barrier's place is the end of the loop's body"))  # all words of two tiles of four groups
     yield Case("tree_right", [numbers(), [0] * GROUPS, Local(4 * ITEMS)], 0, {})
-    yield Case("tree_wrong", [numbers(), [0] * GROUPS, Local(4 * ITEMS)], 7 * GROUPS)  # words 1 to 7: the last four steps
+    yield Case("tree_wrong", [numbers(), [0] * GROUPS, Local(4 * ITEMS)], 7 * GROUPS, say=("if these are rounds of a loop, the missing barrier's",))  # words 1 to 7: the last four steps
     yield Case("histogram_right", [numbers(), [0] * 16], 0, {1: [sum(n & 15 == b for n in numbers()) for b in range(16)]})
     yield Case("histogram_wrong", [numbers(), [0] * 16], 16 * GROUPS, say=("use an atomic, such as atomic_inc",))  # each group counts in each bin more than once
     for name, races in (("right", 0), ("relaxed", GROUPS - 1), ("scope", GROUPS)):  # others' parts, and the count itself

@@ -7,6 +7,7 @@ import unittest
 
 from testing.launches import BUFFERS, PLACES, SIDES, info, put_launch
 
+from gpurace_record.causes import of_update
 from gpurace_record.finding import Finding, join
 from gpurace_record.findings import Reader
 from gpurace_record.folders import info_of
@@ -325,15 +326,15 @@ race on global word 5
 
     def test_items_that_count_at_one_line(self):
         """Items of one group, and of two, count at line 4 of a file, or in two steps; between the two another word is read. An atomic comes first."""
-        atomic = "use an atomic (of an int, such as atomic_inc or atomic_add; of a float, a loop of atomic_cmpxchg): each item reads the word and " \
-                 "writes it at this line; without it"
+        atomic = "use an atomic (of an int, such as atomic_add or atomic_cmpxchg; of a float, a loop of atomic_cmpxchg): each item reads the word and " \
+                 "writes it at this line"
         counts = "r g 5", "r g 9", "w g 5"
         one_group = ["group 0 items 2 launch 7\n" + "".join(f"{item} {step}\n" for item in (0, 1) for step in counts) + "end\n"]
         two_groups = [f"group {group} items 1 launch 7\n" + "".join(f"0 {step}\n" for step in counts) + "end\n" for group in (0, 1)]
         for streams, items, said in ((one_group, ("0 0", "0 1"), GLOBAL), (two_groups, ("0 0", "1 0"), GROUPS)):
             at_one_line = "".join(f"{item} 0 a.cl:4:9 called at a.cl:{line}:1\n{item} 2 a.cl:4:5\n" for item, line in zip(items, (7, 8)))
             launch = self.judged(streams, {"places": at_one_line})
-            self.assertEqual({it.message for it in launch.findings}, {f"{atomic} {said}"})
+            self.assertEqual({it.message for it in launch.findings}, {atomic})
             for places in (at_one_line.replace("a.cl:4:5", "a.cl:5:5"), at_one_line.replace(f"{items[1]} 2 a.cl:4:5", f"{items[1]} 2 b.cl:4:5")):
                 launch = self.judged(streams, {"places": places})
                 of_one_place = {ONE_WRITE} if said == GLOBAL and "b.cl" not in places else set()
@@ -373,6 +374,56 @@ race on global word 5
             files = {"info.txt": INFO + f"element bins {kind}\n", "places": places, "buffers": "g 4 9 bins\n", "kernel.cl": "bins[1]++;\n"}
             for it in self.judged(streams, files).findings:
                 self.assertTrue(it.message.startswith(advice), it.message)
+
+    def test_what_a_line_does_by_its_text(self):
+        """The atomics that OpenCL C has: of 64 bits by two extensions, of a float none that computes. Where the text does not tell it is left open."""
+        for kind, line, advice in (("int", "a[i]++;", "use an atomic, such as atomic_inc, atomic_add or atomic_fetch_add"),
+                                   ("uint", "*a -= x;", "use an atomic, such as atomic_dec, atomic_sub or atomic_fetch_sub"),
+                                   ("int", "*a = max(*a, x[i]);", "use an atomic, such as atomic_max or atomic_fetch_max"),
+                                   ("int", "*a=min( *a, f(x));", "use an atomic, such as atomic_min or atomic_fetch_min"),
+                                   ("uint", "a[i >> 5] |= 1u << (i & 31);", "use an atomic, such as atomic_or or atomic_fetch_or"),
+                                   ("uint", "*a &= x;", "use an atomic, such as atomic_and or atomic_fetch_and"),
+                                   ("uint", "*a ^= x;", "use an atomic, such as atomic_xor or atomic_fetch_xor"),
+                                   ("int", "*a *= x;", "use an atomic, such as atomic_cmpxchg"),
+                                   ("int", "*a = *a + max(x, y);", "use an atomic, such as atomic_add or atomic_cmpxchg"),
+                                   ("int", "*a = max(*a, x) + 1;", "use an atomic, such as atomic_add or atomic_cmpxchg"),
+                                   ("int", "i++; *a |= x;", "use an atomic, such as atomic_add or atomic_cmpxchg"),
+                                   ("int", "*a == max(*a, x);", "use an atomic, such as atomic_add or atomic_cmpxchg"),
+                                   ("long", "*a |= x;", "use an atomic, such as atom_or (of cl_khr_int64_extended_atomics) or atomic_fetch_or"),
+                                   ("ulong", "*a -= x;", "use an atomic, such as atom_dec or atom_sub (of cl_khr_int64_base_atomics) or atomic_fetch_sub"),
+                                   ("char", "*a &= x;", "use an atomic of an int, such as atomic_and (OpenCL C has none of char)"),
+                                   ("float", "*a = fmax(*a, x);", "use a loop of atomic_cmpxchg on the bits, begun by an atomic read (OpenCL C has no atomic_max of "
+                                    "float), or give each item a word of its own"),
+                                   ("float", "*a *= x;", "use a loop of atomic_cmpxchg on the bits, begun by an atomic read (OpenCL C has no other atomic of "
+                                    "float), or give each item a word of its own"),
+                                   ("", "*a ^= x;", "use an atomic (of an int, such as atomic_xor; of a float, a loop of atomic_cmpxchg)")):
+            self.assertEqual(of_update(kind, line), advice, line)
+
+    def test_a_barrier_is_missing_before_another_item_hands_over(self):
+        """Item 1 of group 0 writes, and item 0 counts; in group 1 item 0 counts, and item 1 reads after a barrier. Where the barrier names local memory
+        alone, or the counters are two, a barrier before the count is no mend."""
+        def message(flags, word):
+            streams = ["group 0 items 2 launch 7\n1 w g 5\n0 rmw g 9 dev both\nend\n",
+                       f"group 1 items 2 launch 7\n0 rmw g {word} dev both\n0 bar 3 {flags}\n1 bar 3 {flags}\n1 r g 5\nend\n"]
+            launch = self.judged(streams, {"places": "0 1 0 a.cl:1:1\n0 0 0 a.cl:2:1\n1 0 0 a.cl:2:1\n1 1 1 a.cl:5:1\n3 a.cl:3:1\n"})
+            return [it.message for it in launch.findings]
+
+        self.assertEqual(message("gl", 9), ["nothing orders the two; a barrier with CLK_GLOBAL_MEM_FENCE before the release at a.cl:2:1 would, where the "
+                                            "acquire at a.cl:2:1 takes its value"])
+        self.assertEqual((message("l", 9), message("gl", 8)), ([GROUPS], [GROUPS]))
+
+    def test_a_release_that_comes_before_the_write(self):
+        """Of items of two groups, and of one. A later release that nobody takes does not meet the acquire."""
+        gives, takes = "0 st g 9 dev rel\n0 w g 5\n", "ld g 9 dev acq < 0 0 0\n"
+        places = "0 0 0 a.cl:1:1\n0 0 1 a.cl:2:1\n0 0 2 a.cl:3:1\n{0} 0 a.cl:4:1\n{0} 1 a.cl:5:1\n"
+        early = "nothing orders the two: the acquire at a.cl:4:1 takes the release at a.cl:1:1, which comes before the write at a.cl:2:1: release after it"
+        two_groups = [f"group 0 items 1 launch 7\n{gives}end\n", f"group 1 items 1 launch 7\n0 {takes}0 r g 5\nend\n"]
+        one_group = [f"group 0 items 2 launch 7\n{gives}1 {takes}1 r g 5\nend\n"]
+        late = [two_groups[0].replace("end", "0 st g 9 dev rel\nend"), two_groups[1]]
+        for streams, reader, said in ((two_groups, "1 0", early), (one_group, "0 1", early),
+                                      (late, "1 0", f"{HAND_OVER}; the release at a.cl:3:1 and the acquire at a.cl:4:1 do not meet")):
+            launch = self.judged(streams, {"places": places.format(reader)})
+            self.assertEqual([it.message for it in launch.findings], [said])
 
     def test_a_wait_is_no_barrier(self):
         """Item 0 writes before a wait for copies what item 1 reads after it, or what the copy reads on."""
@@ -441,12 +492,49 @@ divergent barrier, number 1 of group 0, and 1 more alike
     some work-items never reach it
 """)
 
-    def test_a_read_and_a_write_of_one_line(self):
-        """Between the two there is room for a barrier once the line is two; between two writes of one line that is no matter."""
-        split = "; since both are at one line, read into a private variable before it and write after it"
-        for steps, more in (("0 r g 5\n1 w g 5\n", split), ("0 w g 5\n1 w g 5\n", "")):
-            launch = self.judged([f"group 0 items 2 launch 7\n{steps}end\n"], {"places": "0 0 0 a.cl:4:20\n0 1 0 a.cl:4:9\n"})
-            self.assertEqual([it.message for it in launch.findings], [GLOBAL + more])
+    def test_a_divergence_by_flags(self):
+        """Items 0 and 2 give local memory, item 1 both, and item 3 none. Where an item is missing the flags are no matter."""
+        steps = "0 bar 1 l\n1 bar 1 gl\n2 bar 1 l\n3 bar 1 -\n"
+        for items, accesses in ((4, ["2 work-items, the first is item 0, with CLK_LOCAL_MEM_FENCE", "item 1, with CLK_GLOBAL_MEM_FENCE | CLK_LOCAL_MEM_FENCE",
+                                     "item 3, with no flag"]), (5, ["4 work-items, the first is item 0", "item 4"])):
+            launch = self.judged([f"group 0 items {items} launch 7\n{steps}end\n"], {"places": "1 b.cl:1:2\n"})
+            self.assertEqual([[it.who for it in finding.accesses] for finding in launch.findings], [accesses])
+
+    def test_a_read_and_a_write_of_one_statement(self):
+        """Item 0 reads at one column what item 1 writes at another. How often they have come there the sites tell: two words one after another are one
+        access. Two statements of one line may be anywhere, and between two writes there is no room for a barrier."""
+        split = "; both are of one statement: where they are of one round, read into a private variable before the barrier and write after it"
+        rounds = ("; the first of the two items has come to this line 2 times and the second once: if these are rounds of a loop, the missing barrier's "
+                  "place is the end of the loop's body, outside of branches that not all work-items take")
+        one, two = "a[l] += a[l + s];\n", "a[l] = s; s += a[l];\n"
+        for line, steps, more in ((one, "0 r g 5 @1\n1 w g 5 @2\n", split), (one, "0 r g 4 @1\n0 r g 5 @1\n1 w g 5 @2\n", split),
+                                  (one, "0 r g 7 @1\n0 r g 5 @1\n1 w g 5 @2\n", rounds), (two, "0 r g 7 @1\n0 r g 5 @1\n1 w g 5 @2\n", ""),
+                                  (two, "0 r g 5 @1\n1 w g 5 @2\n", ""), (one, "0 w g 5 @1\n1 w g 5 @2\n", "")):
+            launch = self.judged([f"group 0 items 2 launch 7 v3\n{steps}end\n"], {"kernel.cl": line, "sites": "kernel.cl:1:16\nkernel.cl:1:5\n"})
+            self.assertEqual([it.message for it in launch.findings], [GLOBAL + more], line + steps)
+        sites = "kernel.cl:1:16\nkernel.cl:1:5\n"
+        for why, stream, files in (("a macro", " v3\n0 r g 5 @1\n1 w g 5 @2", {"kernel.cl": one, "sites": sites.replace(":16", ":5")}),
+                                   ("no text", " v3\n0 r g 5 @1\n1 w g 5 @2", {"sites": sites}),
+                                   ("how often is not known", "\n0 r g 5\n1 w g 5", {"kernel.cl": one, "places": "0 0 0 kernel.cl:1:16\n0 1 0 kernel.cl:1:5\n"})):
+            launch = self.judged([f"group 0 items 2 launch 7{stream}\nend\n"], files)
+            self.assertEqual([it.message for it in launch.findings], [GLOBAL], why)
+
+    def test_rounds_of_a_loop(self):
+        """The loop writes, passes a barrier and reads. Item 0 writes in its second round what item 1 reads in its first one. That these are rounds is
+        known if item 0 has come to the read before, and item 1 has not come to the write, and if no function is called."""
+        writes, waits, reads = "kernel.cl:2:9", "kernel.cl:3:1", "kernel.cl:4:9"
+        before = f"; the last barrier before both is at {waits}"
+        rounds = (f"{before}; the read at {reads} is of one round of a loop and the write at {writes} of a later one: the missing barrier's place is the end of "
+                  "the loop's body, outside of branches that not all work-items take")
+        first, second = "0 w g 7 @1\n0 bar 3 g @2\n0 r g 8 @3\n0 w g 5 @1\n", "1 w g 9 @1\n1 bar 3 g @2\n1 r g 5 @3\n"
+        for steps, places, more in ((first + second, (writes, waits, reads), rounds), (second + first, (writes, waits, reads), rounds),
+                                    (first.replace("0 r g 8 @3\n", "") + second, (writes, waits, reads), before),
+                                    (first + second.replace("1 r", "1 w g 9 @1\n1 r"), (writes, waits, reads), before),
+                                    (first + second, (waits, writes, reads), f"; the last barrier before both is at {writes}"),
+                                    (first + second, (writes, f"{waits} called at kernel.cl:3:5", reads), before),
+                                    (first + second, (writes, waits, f"{reads} called at kernel.cl:9:1"), before)):
+            launch = self.judged([f"group 0 items 2 launch 7 v3\n{steps}end\n"], {"sites": "".join(f"{place}\n" for place in places)})
+            self.assertEqual([it.message for it in launch.findings], [GLOBAL + more], places)
 
     def test_the_last_barrier_before_both(self):
         """In the second round of a loop item 0 writes what item 1 has read in the first one: in the text a barrier is between the two lines."""

@@ -1,6 +1,8 @@
 """What is read of a group's stream: its barriers, and what some of its items do to some words."""
 from __future__ import annotations
 
+import array
+import bisect
 import struct
 from typing import Dict, Iterator, List, NamedTuple, Set, Tuple
 
@@ -14,6 +16,7 @@ NAMES_AT = 12         # in a record
 NO_NAME = (0xffff, 0xffff, 0xffffffff)
 MOST_BYTES = 1 << 27  # of a stream that is read
 MOST_WORDS = 100      # of an item's atomics that are kept
+MOST_HANDS = 100      # of a group's releases and acquires that are kept for all its items
 
 
 class Step(NamedTuple):
@@ -51,36 +54,67 @@ class Atomics(NamedTuple):
             self.loads.setdefault(word, step)
 
 
+class Arrivals:
+    """The records with which an item has come to each site. Words one after another are one access."""
+
+    def __init__(self) -> None:
+        self.of: Dict[int, array.array] = {}
+        self.last = (0, 0)
+
+    def note(self, at: int, site: int, word: int) -> None:
+        if self.last != (site, word - 1):
+            self.of.setdefault(site, array.array("I")).append(at)
+        self.last = (site, word)
+
+    def count(self, site: int, after: int, at: int) -> int:
+        """How often it has come there after a record, up to another one; nothing where the site is not known."""
+        those = self.of.get(site, ()) if site else ()
+        return bisect.bisect_right(those, at) - bisect.bisect_right(those, after)
+
+
 class Group:
-    """The barriers of each item of a group; and of the wanted items all barriers, releases, acquires and accesses to their words, and some
-    atomics of others."""
+    """The barriers of each item of a group, and its first releases and acquires; and of the wanted items all barriers, releases, acquires and
+    accesses to their words, and some atomics of others."""
 
     def __init__(self, stream: memoryview, wanted: Wanted):
         form, _, self.items, _ = HEADER.unpack_from(stream)
         self.barriers: List[List[Step]] = [[] for _ in range(self.items)]
         self.steps: Dict[int, List[Step]] = {item: [] for item in wanted}
         self.atomics: Dict[int, Atomics] = {item: Atomics({}, {}) for item in wanted}
+        self.hands: List[Tuple[int, Step]] = []
+        self.arrivals = {item: Arrivals() for item in wanted}
         count, releases, record = [0] * self.items, [0] * self.items, RECORD_FORMS[form]
         for at, (kind, space, scope, order, item, site, word) in enumerate(record.iter_unpack(stream[HEADER.size:])):
+            is_wanted = item in wanted
+            if is_wanted:
+                self.arrivals[item].note(count[item], site, word)
+            is_step = is_wanted and (order > 1 or (space, word) in wanted[item])
             if kind == BARRIER:
                 step = Step(count[item], "barrier", space, "", "", word, site=site)
                 self.barriers[item].append(step)
-                if item in wanted:
+                if is_wanted:
                     self.steps[item].append(step)
-            elif item in wanted and kind != END and (order > 1 or (space, word) in wanted[item]):
+            elif kind != END and (is_step or (is_wanted and order) or (order > 1 and len(self.hands) < MOST_HANDS)):
                 start = HEADER.size + at * record.size
                 names = names_in(stream[start + NAMES_AT:start + record.size]) if order in (2, 4) else ()
-                self.steps[item].append(Step(count[item], KIND_OF[kind], space, SCOPE_OF[scope], ORDER_OF[order], word,
-                                             releases[item] if order > 2 else -1, names, site))
-            if order and item in wanted:
-                self.atomics[item].note(Step(count[item], KIND_OF[kind], space, SCOPE_OF[scope], ORDER_OF[order], word, site=site))
+                self.note(item, Step(count[item], KIND_OF[kind], space, SCOPE_OF[scope], ORDER_OF[order], word, releases[item] if order > 2 else -1,
+                                     names, site), is_step)
             count[item] += 1
             releases[item] += order > 2
 
-    def steps_of(self, item: int) -> Iterator[Step]:
-        yield from self.steps[item]
-        yield from self.atomics[item].stores.values()
-        yield from self.atomics[item].loads.values()
+    def note(self, item: int, step: Step, is_step: bool) -> None:
+        if is_step:
+            self.steps[item].append(step)
+        if (step.is_release() or step.is_acquire()) and len(self.hands) < MOST_HANDS:
+            self.hands.append((item, step))
+        if step.order and item in self.atomics:
+            self.atomics[item].note(step)
+
+    def all_steps(self) -> Iterator[Tuple[int, Step]]:
+        """With their items."""
+        for item, steps in self.steps.items():
+            yield from ((item, step) for step in (*steps, *self.atomics[item].stores.values(), *self.atomics[item].loads.values()))
+        yield from self.hands
 
     def phase(self, item: int, index: int) -> int:
         """How many barriers of the item come before its record of this index."""

@@ -128,8 +128,7 @@ class Places:
 
     def find(self, groups: Dict[int, Group], sites: List[str]) -> None:
         for number, group in groups.items():
-            for item in group.steps:
-                self.found.update((f"{number} {item} {step.at}", sites[step.site - 1]) for step in group.steps_of(item) if 0 < step.site <= len(sites))
+            self.found.update((f"{number} {item} {step.at}", sites[step.site - 1]) for item, step in group.all_steps() if 0 < step.site <= len(sites))
             for step in (step for steps in group.barriers for step in steps if 0 < step.site <= len(sites)):
                 self.found.setdefault(str(step.word), sites[step.site - 1])
 
