@@ -401,16 +401,16 @@ race on global word 5
 
     def test_a_barrier_is_missing_before_another_item_hands_over(self):
         """Item 1 of group 0 writes, and item 0 counts; in group 1 item 0 counts, and item 1 reads after a barrier. Where the barrier names local memory
-        alone, or the counters are two, a barrier before the count is no mend."""
-        def message(flags, word):
+        alone, or the counters are two, a barrier before the count is no mend; nor where what releases is no work-item, but does copies."""
+        def message(flags, word, more=""):
             streams = ["group 0 items 2 launch 7\n1 w g 5\n0 rmw g 9 dev both\nend\n",
                        f"group 1 items 2 launch 7\n0 rmw g {word} dev both\n0 bar 3 {flags}\n1 bar 3 {flags}\n1 r g 5\nend\n"]
-            launch = self.judged(streams, {"places": "0 1 0 a.cl:1:1\n0 0 0 a.cl:2:1\n1 0 0 a.cl:2:1\n1 1 1 a.cl:5:1\n3 a.cl:3:1\n"})
+            launch = self.judged(streams, {"info.txt": INFO + more, "places": "0 1 0 a.cl:1:1\n0 0 0 a.cl:2:1\n1 0 0 a.cl:2:1\n1 1 1 a.cl:5:1\n3 a.cl:3:1\n"})
             return [it.message for it in launch.findings]
 
         self.assertEqual(message("gl", 9), ["nothing orders the two; a barrier with CLK_GLOBAL_MEM_FENCE before the release at a.cl:2:1 would, where the "
                                             "acquire at a.cl:2:1 takes its value"])
-        self.assertEqual((message("l", 9), message("gl", 8)), ([GROUPS], [GROUPS]))
+        self.assertEqual([message("l", 9), message("gl", 8), message("gl", 9, "copying-item 0 0\n")], [[GROUPS]] * 3)
 
     def test_a_release_that_comes_before_the_write(self):
         """Of items of two groups, and of one. A later release that nobody takes does not meet the acquire."""

@@ -58,8 +58,7 @@ class Pair(NamedTuple):
     store: Optional[At] = None  # an atomic of a word after the one access, and one of the same word before the other
     load: Optional[At] = None
     are_at_one_place: bool = False  # with the same calls that lead there
-    are_of_one_statement: bool = False
-    times: Tuple[int, int] = (0, 0)  # how often each item has come to its place; 0 where that is not known
+    times: Tuple[int, int] = (0, 0)  # of two accesses of one statement, how often each item has come to its place; 0 where that is not known
     rounds: Optional[Tuple[At, At]] = None      # the two, the second of a later round of a loop
     early: Optional[Tuple[At, At, At]] = None   # an access, a release before it, and an acquire before the other access that takes it
     others: Optional[Tuple[At, At]] = None      # a release that no barrier puts after the one access, and an acquire before the other, of one word
@@ -187,7 +186,7 @@ def of_barrier(said: str, pair: Pair) -> str:
 
 def of_one_statement(pair: Pair) -> str:
     """What is known of the rounds of a loop that two accesses of one statement are of."""
-    if not pair.are_of_one_statement or not all(pair.times):
+    if not all(pair.times):
         return ""
     if pair.times[0] == pair.times[1]:
         return SPLIT

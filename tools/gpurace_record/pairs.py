@@ -87,16 +87,17 @@ class Pairs:
         barriers, before = (self.barriers_between(first, second), self.barrier_before(first, second)) if is_one_group else ([], "")
         others = None if is_one_group else self.over_barriers(first, second) or self.over_barriers(second, first)
         early = self.early_release(first, second, one) or self.early_release(second, first, other)
+        is_statement = is_one_group and self.are_of_one_statement(*accesses)
         return causes.Pair(said["space"], is_one_group, one, other, barriers, before.split(CALLED)[0], release, acquire,
                            self.is_update(first) and self.is_update(second), self.is_line_of_updates(first, second, accesses[0].text),
-                           store, load, are_at_one(str, *accesses), self.are_of_one_statement(*accesses),
-                           (self.times(first, first), self.times(second, second)),
+                           store, load, are_at_one(str, *accesses),
+                           (self.times(first, first), self.times(second, second)) if is_statement else (0, 0),
                            self.rounds(first, second, accesses, both, before), early, others, all(meetings))
 
     def times(self, event: Dict[str, Any], other: Dict[str, Any], after: int = -1) -> int:
         """How often the item of an event has come to the place of another one, after a record of it, up to the event."""
         site = self.groups[other["group"]].step(other["item"], other["index"]).site
-        return self.groups[event["group"]].arrivals[event["item"]].count(site, after, event["index"])
+        return self.groups[event["group"]].arrivals_of(event["item"]).count(site, after, event["index"])
 
     def rounds(self, first: Dict[str, Any], second: Dict[str, Any], accesses: List[Access], both: List[causes.At],
                barrier: str) -> Optional[Tuple[causes.At, causes.At]]:
@@ -185,7 +186,7 @@ class Pairs:
         phase, end = group.phase(one["item"], one["index"]), there.phase(other["item"], other["index"])
         full = [at for at, step in enumerate(there.barriers[other["item"]][:end]) if step.space & 1 and (other["group"], at) not in self.divergent]
         releases = [(item, step) for item, step in group.hands if item != one["item"] and step.is_release() and step.scope == "dev"
-                    and group.phase(item, step.at) <= phase]
+                    and group.phase(item, step.at) <= phase and not self.shape.is_copying(one["group"], item)]
         acquires = [(item, step) for item, step in there.hands if step.is_acquire() and step.scope == "dev"
                     and ((item == other["item"] and step.at < other["index"]) or any(there.phase(item, step.at) <= at for at in full))]
         for item, release in releases:

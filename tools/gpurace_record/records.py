@@ -59,12 +59,12 @@ class Arrivals:
 
     def __init__(self) -> None:
         self.of: Dict[int, array.array] = {}
-        self.last = (0, 0)
+        self.records, self.last = 0, (0, 0)
 
-    def note(self, at: int, site: int, word: int) -> None:
+    def note(self, site: int, word: int) -> None:
         if self.last != (site, word - 1):
-            self.of.setdefault(site, array.array("I")).append(at)
-        self.last = (site, word)
+            self.of.setdefault(site, array.array("I")).append(self.records)
+        self.records, self.last = self.records + 1, (site, word)
 
     def count(self, site: int, after: int, at: int) -> int:
         """How often it has come there after a record, up to another one; nothing where the site is not known."""
@@ -78,37 +78,47 @@ class Group:
 
     def __init__(self, stream: memoryview, wanted: Wanted):
         form, _, self.items, _ = HEADER.unpack_from(stream)
+        self.stream, self.form, self.wanted = stream[HEADER.size:], RECORD_FORMS[form], wanted
         self.barriers: List[List[Step]] = [[] for _ in range(self.items)]
         self.steps: Dict[int, List[Step]] = {item: [] for item in wanted}
         self.atomics: Dict[int, Atomics] = {item: Atomics({}, {}) for item in wanted}
         self.hands: List[Tuple[int, Step]] = []
-        self.arrivals = {item: Arrivals() for item in wanted}
-        count, releases, record = [0] * self.items, [0] * self.items, RECORD_FORMS[form]
-        for at, (kind, space, scope, order, item, site, word) in enumerate(record.iter_unpack(stream[HEADER.size:])):
-            is_wanted = item in wanted
-            if is_wanted:
-                self.arrivals[item].note(count[item], site, word)
-            is_step = is_wanted and (order > 1 or (space, word) in wanted[item])
+        self.arrivals: Dict[int, Arrivals] = {}
+        count, releases = [0] * self.items, [0] * self.items
+        for at, (kind, space, scope, order, item, site, word) in enumerate(self.form.iter_unpack(self.stream)):
             if kind == BARRIER:
                 step = Step(count[item], "barrier", space, "", "", word, site=site)
                 self.barriers[item].append(step)
-                if is_wanted:
+                if item in wanted:
                     self.steps[item].append(step)
-            elif kind != END and (is_step or (is_wanted and order) or (order > 1 and len(self.hands) < MOST_HANDS)):
-                start = HEADER.size + at * record.size
-                names = names_in(stream[start + NAMES_AT:start + record.size]) if order in (2, 4) else ()
+            elif kind != END and ((order or (space, word) in wanted[item]) if item in wanted else order > 1 and len(self.hands) < MOST_HANDS):
+                names = self.names_at(at) if order in (2, 4) else ()
                 self.note(item, Step(count[item], KIND_OF[kind], space, SCOPE_OF[scope], ORDER_OF[order], word, releases[item] if order > 2 else -1,
-                                     names, site), is_step)
+                                     names, site))
             count[item] += 1
             releases[item] += order > 2
 
-    def note(self, item: int, step: Step, is_step: bool) -> None:
-        if is_step:
+    def names_at(self, at: int) -> Tuple[Tuple[int, int, int], ...]:
+        places = self.stream[at * self.form.size + NAMES_AT:(at + 1) * self.form.size]
+        return tuple((name[0], name[1], name[2]) for name in RELEASE.iter_unpack(places) if name != NO_NAME)
+
+    def note(self, item: int, step: Step) -> None:
+        has_order = step.is_release() or step.is_acquire()
+        if item in self.wanted and (has_order or (step.space, step.word) in self.wanted[item]):
             self.steps[item].append(step)
-        if (step.is_release() or step.is_acquire()) and len(self.hands) < MOST_HANDS:
-            self.hands.append((item, step))
-        if step.order and item in self.atomics:
+        if item in self.wanted and step.order:
             self.atomics[item].note(step)
+        if has_order and len(self.hands) < MOST_HANDS:
+            self.hands.append((item, step))
+
+    def arrivals_of(self, item: int) -> Arrivals:
+        """Those of one of the wanted items. Few races ask for them."""
+        if not self.arrivals:
+            self.arrivals = {it: Arrivals() for it in self.wanted}
+            for _, _, _, _, it, site, word in self.form.iter_unpack(self.stream):
+                if it in self.wanted:
+                    self.arrivals[it].note(site, word)
+        return self.arrivals[item]
 
     def all_steps(self) -> Iterator[Tuple[int, Step]]:
         """With their items."""
@@ -122,10 +132,6 @@ class Group:
 
     def step(self, item: int, index: int) -> Step:
         return next(step for step in self.steps[item] if step.at == index)
-
-
-def names_in(places: memoryview) -> Tuple[Tuple[int, int, int], ...]:
-    return tuple((name[0], name[1], name[2]) for name in RELEASE.iter_unpack(places) if name != NO_NAME)
 
 
 def groups_of(folder: str, wanted: Dict[int, Wanted]) -> Dict[int, Group]:
