@@ -248,6 +248,10 @@ race on global word 2
     the scope at lock.cl:4:7 and lock.cl:8:7 reaches no other group: use `memory_scope_device`
 """)
 
+    def test_two_scopes_in_a_group(self):
+        launch = self.judged(["group 0 items 2 launch 7\n0 st g 9 grp rlx\n1 ld g 9 dev rlx\nend\n"], {"places": "0 0 0 a.cl:1:1\n0 1 0 a.cl:2:1\n"})
+        self.assertEqual([it.message for it in launch.findings], ["the scope at a.cl:1:1 does not include `memory_scope_device`: use `memory_scope_device`"])
+
     def test_a_hand_over_whose_scope_is_too_narrow(self):
         """The plain accesses race since the release and the acquire between them have work-group scope; so do these themselves."""
         streams = ["group 0 items 1 launch 7\n0 w g 16\n0 st g 20 grp rel\nend\n", "group 1 items 1 launch 7\n0 ld g 20 grp acq < 0 0 0\n0 r g 16\nend\n"]
@@ -508,7 +512,7 @@ divergent barrier, number 1 of group 0, and 1 more alike
                   "place is the end of the loop's body, outside of branches that not all work-items take")
         one, two = "a[l] += a[l + s];\n", "a[l] = s; s += a[l];\n"
         for line, steps, more in ((one, "0 r g 5 @1\n1 w g 5 @2\n", split), (one, "0 r g 4 @1\n0 r g 5 @1\n1 w g 5 @2\n", split),
-                                  (one, "0 r g 7 @1\n0 r g 5 @1\n1 w g 5 @2\n", rounds), (two, "0 r g 7 @1\n0 r g 5 @1\n1 w g 5 @2\n", ""),
+                                  (one, "0 r g 7 @1\n0 r g 5 @1\n1 r g 5 @2\n1 w g 5 @2\n", rounds), (two, "0 r g 7 @1\n0 r g 5 @1\n1 w g 5 @2\n", ""),
                                   (two, "0 r g 5 @1\n1 w g 5 @2\n", ""), (one, "0 w g 5 @1\n1 w g 5 @2\n", "")):
             launch = self.judged([f"group 0 items 2 launch 7 v3\n{steps}end\n"], {"kernel.cl": line, "sites": "kernel.cl:1:16\nkernel.cl:1:5\n"})
             self.assertEqual([it.message for it in launch.findings], [GLOBAL + more], line + steps)

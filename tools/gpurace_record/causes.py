@@ -92,7 +92,7 @@ def of_scope(_: str, pair: Pair) -> str:
     narrow = [at for at in (pair.first, pair.second, pair.release, pair.acquire) if at and at.scope == "grp" and at.place]
     places = " and ".join(dict.fromkeys(at.place for at in narrow))
     if places and pair.is_one_group:
-        return f"the scope at {places} is narrower than {DEVICE}: use that"
+        return f"the scope at {places} does not include {DEVICE}: use {DEVICE}"
     return places and f"the scope at {places} reaches no other group: use {DEVICE}"
 
 

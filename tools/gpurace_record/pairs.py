@@ -96,8 +96,8 @@ class Pairs:
 
     def times(self, event: Dict[str, Any], other: Dict[str, Any], after: int = -1) -> int:
         """How often the item of an event has come to the place of another one, after a record of it, up to the event."""
-        site = self.groups[other["group"]].step(other["item"], other["index"]).site
-        return self.groups[event["group"]].arrivals_of(event["item"]).count(site, after, event["index"])
+        step = self.groups[other["group"]].step(other["item"], other["index"])
+        return self.groups[event["group"]].arrivals_of(event["item"]).count(step, after, event["index"])
 
     def rounds(self, first: Dict[str, Any], second: Dict[str, Any], accesses: List[Access], both: List[causes.At],
                barrier: str) -> Optional[Tuple[causes.At, causes.At]]:

@@ -55,20 +55,20 @@ class Atomics(NamedTuple):
 
 
 class Arrivals:
-    """The records with which an item has come to each site. Words one after another are one access."""
+    """The records with which an item has come to each site, by what it does there. Words one after another are one access."""
 
     def __init__(self) -> None:
-        self.of: Dict[int, array.array] = {}
-        self.records, self.last = 0, (0, 0)
+        self.of: Dict[Tuple[int, int], array.array] = {}
+        self.records, self.last = 0, (0, 0, 0)
 
-    def note(self, site: int, word: int) -> None:
-        if self.last != (site, word - 1):
-            self.of.setdefault(site, array.array("I")).append(self.records)
-        self.records, self.last = self.records + 1, (site, word)
+    def note(self, site: int, kind: int, word: int) -> None:
+        if self.last != (site, kind, word - 1):
+            self.of.setdefault((site, kind), array.array("I")).append(self.records)
+        self.records, self.last = self.records + 1, (site, kind, word)
 
-    def count(self, site: int, after: int, at: int) -> int:
-        """How often it has come there after a record, up to another one; nothing where the site is not known."""
-        those = self.of.get(site, ()) if site else ()
+    def count(self, step: Step, after: int, at: int) -> int:
+        """How often it has come to the site of a step to do the same, after a record and up to another one; 0 where the site is not known."""
+        those = self.of.get((step.site, KIND_OF.index(step.kind)), ()) if step.site else ()
         return bisect.bisect_right(those, at) - bisect.bisect_right(those, after)
 
 
@@ -115,9 +115,9 @@ class Group:
         """Those of one of the wanted items. Few races ask for them."""
         if not self.arrivals:
             self.arrivals = {it: Arrivals() for it in self.wanted}
-            for _, _, _, _, it, site, word in self.form.iter_unpack(self.stream):
+            for kind, _, _, _, it, site, word in self.form.iter_unpack(self.stream):
                 if it in self.wanted:
-                    self.arrivals[it].note(site, word)
+                    self.arrivals[it].note(site, kind, word)
         return self.arrivals[item]
 
     def all_steps(self) -> Iterator[Tuple[int, Step]]:
