@@ -144,6 +144,14 @@ race on flag[0]
         self.assertEqual([([access.place for access in it.accesses], it.texts()) for it in launch.findings],
                          [(["kernel.cl:2:11"] * 2, ["tile[0] = n;"]), (["kernel.cl:4:9"] * 2, ["tile[0] = n; #2"])])
 
+    def test_lines_of_one_text_in_two_files_are_all_shown(self):
+        """A kernel has two files as parts of its text."""
+        places = "".join(f"0 {item} {at} {file}:1:1\n" for item in (0, 1) for at, file in enumerate(("a.inc", "b.inc")))
+        steps = "".join(f"{item} w l {word}\n" for item in (0, 1) for word in (64, 65))
+        files = {"buffers": BUFFERS, "a.inc": "a[i] = 1;\n", "b.inc": "a[i] = 1;\n", "places": places}
+        (finding,) = self.judged([f"group 0 items 2 launch 7\n{steps}end\n"], files).findings
+        self.assertEqual((finding.words, [it.place for it in finding.accesses]), (2, ["a.inc:1:1"] * 2 + ["b.inc:1:1"] * 2))
+
     def test_calls_of_one_text_are_several_findings(self):
         """A function that writes tile[0] is called by both items at line 4, and then at line 5."""
         text = "void put(local int *tile) {\n  *tile = 1;\n}\n  put(tile);\n  put(tile);\n"

@@ -138,7 +138,9 @@ def fingerprint_of(kind: str, kernel: str, buffers: List[str], cause: str, texts
 
 
 def join(one: Finding, other: Finding) -> None:
-    """Puts what another finding of one fingerprint has to the first one."""
+    """Puts what another finding of one fingerprint has to the first one: its words, and lines of one text in other files."""
+    lines = {access.place.rpartition(":")[0] for access in one.accesses}
+    one.accesses += [access for access in other.accesses if access.place.rpartition(":")[0] not in lines]
     one.runs += other.runs
     one.words = words_in(one.runs)
     one.is_equal = one.is_equal and other.is_equal
