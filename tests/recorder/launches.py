@@ -428,11 +428,12 @@ race on global word 5
         """Of items of two groups, and of one. A later release that nobody takes does not meet the acquire."""
         gives, takes = "0 st g 9 dev rel\n0 w g 5\n", "ld g 9 dev acq < 0 0 0\n"
         places = "0 0 0 a.cl:1:1\n0 0 1 a.cl:2:1\n0 0 2 a.cl:3:1\n{0} 0 a.cl:4:1\n{0} 1 a.cl:5:1\n"
-        early = "nothing orders the two: the acquire at a.cl:4:1 takes the release at a.cl:1:1, which comes before the write at a.cl:2:1: release after it"
+        early = ": the acquire at a.cl:4:1 takes that at a.cl:1:1, which comes before the write at a.cl:2:1"
         two_groups = [f"group 0 items 1 launch 7\n{gives}end\n", f"group 1 items 1 launch 7\n0 {takes}0 r g 5\nend\n"]
         one_group = [f"group 0 items 2 launch 7\n{gives}1 {takes}1 r g 5\nend\n"]
         late = [two_groups[0].replace("end", "0 st g 9 dev rel\nend"), two_groups[1]]
-        for streams, reader, said in ((two_groups, "1 0", early), (one_group, "0 1", early),
+        for streams, reader, said in ((two_groups, "1 0", f"nothing orders the two; a release after the write would{early}"),
+                                      (one_group, "0 1", f"{GLOBAL}, or a release after the write{early}"),
                                       (late, "1 0", f"{HAND_OVER}; the release at a.cl:3:1 and the acquire at a.cl:4:1 do not meet")):
             launch = self.judged(streams, {"places": places.format(reader)})
             self.assertEqual([it.message for it in launch.findings], [said])

@@ -114,8 +114,8 @@ def of_nothing(said: str, pair: Pair) -> str:
             return f"a plain {one.what} beside atomics: {order}, or, if they may come in any order, make it an atomic {OWN[one.what]}"
     if pair.early:
         access, release, acquire = pair.early
-        return (f"nothing orders the two: the acquire at {acquire.place} takes the release at {release.place}, which comes before the {access.what} at "
-                f"{access.place}: release after it")
+        mend = f"{said}, or a release after the {access.what}" if pair.is_one_group else f"nothing orders the two; a release after the {access.what} would"
+        return f"{mend}: the acquire at {acquire.place} takes that at {release.place}, which comes before the {access.what} at {access.place}"
     if not pair.is_one_group and pair.release and pair.acquire and pair.release.place and pair.acquire.place:
         return f"{said}; the release at {pair.release.place} and the acquire at {pair.acquire.place} do not meet"
     weak = of_hand_over(said, pair)

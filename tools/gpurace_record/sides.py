@@ -139,7 +139,7 @@ class Places:
         return self.found.get(f"{group} {item} {index}", "")
 
 
-def shown(line: str, column: int) -> str:
+def part_of(line: str, column: int) -> str:
     """A line without the spaces around it; of a long one the part around a column."""
     line = line.rstrip()
     text = line.lstrip()
@@ -158,7 +158,7 @@ class Texts:
         """What is shown of the line of a place that is no call's, or nothing."""
         at = PLACE.fullmatch(place)
         lines, number = (self.text(at[1]), int(at[2])) if at else ([], 0)
-        return shown(lines[number - 1], int(at[3])) if at and 0 < number <= len(lines) else ""
+        return part_of(lines[number - 1], int(at[3])) if at and 0 < number <= len(lines) else ""
 
     def nth(self, place: str) -> int:
         """Which one of the lines that are shown alike the line of a place is, from 1, counted from where its kernel begins."""
@@ -167,7 +167,7 @@ class Texts:
             return 1
         lines = self.text(at[1])[:int(at[2])]
         first = next((number for number in reversed(range(len(lines))) if KERNEL.match(lines[number])), 0)
-        return sum(shown(line, int(at[3])) == text for line in lines[first:])
+        return sum(part_of(line, int(at[3])) == text for line in lines[first:])
 
     def text(self, file: str) -> List[str]:
         if file not in self.files:
