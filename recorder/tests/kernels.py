@@ -289,9 +289,11 @@ kernel void computed(global int *ints, global uint *uints, global float *floats,
     atom_add(&longs[0], 1L << 33); atom_min(&longs[1], -5L - (long)get_global_id(0));
     while (atomic_cmpxchg(&ints[4], (int)get_global_id(0), (int)get_global_id(0) + 1) != (int)get_global_id(0)) ;
 }
-kernel void fenced(global int *data) {
-    data[get_global_id(0)] = 1;
+kernel void fenced(global int *data, int is_wrong) {
+    const int i = get_global_id(0);
+    data[i] = 1;
     mem_fence(CLK_GLOBAL_MEM_FENCE);
+    if (is_wrong && i & 1) data[i] += data[i - 1];
 }
 kernel void equal(global int *out, global int4 *vectors, local short *part) { // each word gets one value from the odd items
     const int l = get_local_id(0);
@@ -339,14 +341,25 @@ kernel void result_pointer(global const float *in, global float *whole) {
 }
 """.replace("local_helper", "void helper(global int *out, int at) { out[at] = at; barrier(CLK_GLOBAL_MEM_FENCE); out[at] += out[at / 64 * 64 + 63 - at % 64]; }")
 LATER = """
-kernel void orders(global atomic_int *flag, global int *data, int order, int scope) { // no constants
+kernel void orders(global atomic_int *flag, global int *data, int order, int number) { // no constants
+    const memory_scope scope = number == 0 ? memory_scope_work_group : number == 1 ? memory_scope_device : number == 2 ? memory_scope_work_item
+                               : (memory_scope)4; // sub_group, which pocl does not name
     if (get_local_id(0) != 0) return;
     if (get_group_id(0) == 0) {
         data[0] = 42;
-        atomic_store_explicit(flag, 1, order ? memory_order_release : memory_order_relaxed, scope ? memory_scope_device : memory_scope_work_group);
+        atomic_store_explicit(flag, 1, order ? memory_order_release : memory_order_relaxed, scope);
     } else {
-        while (atomic_load_explicit(flag, order ? memory_order_acquire : memory_order_relaxed, scope ? memory_scope_device : memory_scope_work_group) != 1) ;
+        while (atomic_load_explicit(flag, order ? memory_order_acquire : memory_order_relaxed, scope) != 1) ;
         data[get_group_id(0)] = data[0];
+    }
+}
+kernel void narrow(global atomic_int *flag, global int *data) { // within a group, by scopes that have one item, or some
+    if (get_local_id(0) == 0) {
+        data[0] = 42;
+        atomic_store_explicit(flag, 1, memory_order_release, memory_scope_work_item);
+    } else {
+        while (atomic_load_explicit(flag, memory_order_acquire, (memory_scope)4) != 1) ;
+        data[get_local_id(0)] = data[0];
     }
 }
 kernel void numbers(global int *out) {
@@ -419,9 +432,10 @@ def sums_before():
 def cases():
     zeros, whole = [0] * ALL, sum(numbers())
     yield Case("matmul_right", [matrix(), matrix(), [0] * 64, 8], 0, {2: product()}, (8, 8), (4, 4))
-    yield Case("matmul_wrong", [matrix(), matrix(), [0] * 64, 8], 4 * 32, {}, (8, 8), (4, 4))  # all words of two tiles of four groups
+    yield Case("matmul_wrong", [matrix(), matrix(), [0] * 64, 8], 4 * 32, {}, (8, 8), (4, 4), say=(
+        "is of one round of a loop and the write at ", " of a later one: the missing barrier's place is the end of the loop's body"))  # all words of two tiles of four groups
     yield Case("tree_right", [numbers(), [0] * GROUPS, Local(4 * ITEMS)], 0, {})
-    yield Case("tree_wrong", [numbers(), [0] * GROUPS, Local(4 * ITEMS)], 7 * GROUPS)  # words 1 to 7: the last four steps
+    yield Case("tree_wrong", [numbers(), [0] * GROUPS, Local(4 * ITEMS)], 7 * GROUPS, say=("if these are rounds of a loop, the missing barrier's",))  # words 1 to 7: the last four steps
     yield Case("histogram_right", [numbers(), [0] * 16], 0, {1: [sum(n & 15 == b for n in numbers()) for b in range(16)]})
     yield Case("histogram_wrong", [numbers(), [0] * 16], 16 * GROUPS, say=("use an atomic, such as atomic_inc",))  # each group counts in each bin more than once
     for name, races in (("right", 0), ("relaxed", GROUPS - 1), ("scope", GROUPS)):  # others' parts, and the count itself
@@ -471,8 +485,10 @@ def cases():
     yield Case("adds_floats", [numbers(), (0.5,) * GROUPS], GROUPS, unsaid="atomic_inc", say=(
         "use a loop of atomic_cmpxchg on the bits, begun by an atomic read (OpenCL C has no atomic_add of float), or give each item a word of its own: ",
         "race on all["))
-    for order, scope, races in ((1, 1, 0), (0, 1, 1), (1, 0, 2)):
-        yield Case("orders", [[0], [0] * GROUPS, order, scope], races, {1: [42] * GROUPS})
+    taken = "atomics of work-item or sub-group scope, taken as of work-group scope: a race in a group may be missed: "
+    for order, scope, races in ((1, 1, 0), (0, 1, 1), (1, 0, 2), (1, 2, 2), (1, 3, 2)):
+        yield Case("orders", [[0], [0] * GROUPS, order, scope], races, {1: [42] * GROUPS}, say=(taken,) if scope > 1 else (), unsaid="" if scope > 1 else taken)
+    yield Case("narrow", [[0], [0] * 4], 0, {1: [42] * 4}, size=(4,), local=(4,), say=(taken,))
     yield Case("divergent", [zeros], ALL, diverge=GROUPS)  # a divergent barrier orders nothing
     yield Case("plain_wait", [[0], [0] * GROUPS], 1, {1: [1] * GROUPS})
     yield Case("outside", [list(range(ALL)), zeros, [5] * 4], 0, {2: [0, 254, 255, 0], 1: [0] * (ALL - 2) + [1, 2]}, say=(
@@ -482,7 +498,8 @@ def cases():
         "out of bounds: write of 16 bytes, partly after the end of out"))
     yield Case("computed", [[0] * 4 + [0], [2 ** 32 - 1, 0, 0, 0, 0, ALL], (0.0,), (0, 0, 0, 0)], 0,
                {0: [3 * ALL, -ALL, 1 - ALL, ALL - 101, ALL]})
-    yield Case("fenced", [zeros], 0, {0: [1] * ALL}, say=("fences, which are not recorded: the order that they give is not seen: 256, at kernel.cl:",))
+    yield Case("fenced", [zeros, 0], 0, {0: [1] * ALL}, say=("fences: 256, at kernel.cl:",))
+    yield Case("fenced", [zeros, 1], ALL // 2, say=("would; a fence alone orders nothing between work-items",))  # what each second item writes
     yield Case("numbers", [[0] * 4 * 48], 0, {0: numbers_of()}, (6, 4, 2), (3, 2, 1), offset=(1, 2, 3))
     same = "write the same value"  # out[0]; y and z of two vectors; four parts of a tile of each group
     yield Case("equal", [[0], [0] * 16, Local(4 * ITEMS)], 1 + 4 + 4 * GROUPS, {0: [7], 1: [0] * 5 + [1, 9, 0] + [0] * 5 + [3, 9, 0]},

@@ -7,6 +7,7 @@ import unittest
 
 from testing.launches import BUFFERS, PLACES, SIDES, info, put_launch
 
+from gpurace_record.causes import of_update
 from gpurace_record.finding import Finding, join
 from gpurace_record.findings import Reader
 from gpurace_record.folders import info_of
@@ -134,6 +135,40 @@ race on flag[0]
     {ONE_WRITE}
 """)
 
+    def test_races_of_one_text_at_several_lines_are_several_findings(self):
+        """Both items write tile[0] at line 2, and after a barrier at line 4, whose text is the same."""
+        text = "if (l < 2)\n  tile[0] = n;\nbarrier(F);\ntile[0] = n;\n"
+        steps = "0 w l 64\n1 w l 64\n0 bar 3 l\n1 bar 3 l\n0 w l 64\n1 w l 64\n"
+        places = "".join(f"0 {item} {at} kernel.cl:{line}\n" for item in (0, 1) for at, line in ((0, "2:11"), (2, "4:9")))
+        launch = self.judged([f"group 0 items 2 launch 7\n{steps}end\n"], {"buffers": BUFFERS, "kernel.cl": text, "places": places})
+        self.assertEqual([([access.place for access in it.accesses], it.texts()) for it in launch.findings],
+                         [(["kernel.cl:2:11"] * 2, ["tile[0] = n;"]), (["kernel.cl:4:9"] * 2, ["tile[0] = n; #2"])])
+
+    def test_lines_of_one_text_in_two_files_are_all_shown(self):
+        """A kernel has two files as parts of its text."""
+        places = "".join(f"0 {item} {at} {file}:1:1\n" for item in (0, 1) for at, file in enumerate(("a.inc", "b.inc")))
+        steps = "".join(f"{item} w l {word}\n" for item in (0, 1) for word in (64, 65))
+        files = {"buffers": BUFFERS, "a.inc": "a[i] = 1;\n", "b.inc": "a[i] = 1;\n", "places": places}
+        (finding,) = self.judged([f"group 0 items 2 launch 7\n{steps}end\n"], files).findings
+        self.assertEqual((finding.words, [it.place for it in finding.accesses]), (2, ["a.inc:1:1"] * 2 + ["b.inc:1:1"] * 2))
+
+    def test_calls_of_one_text_are_several_findings(self):
+        """A function that writes tile[0] is called by both items at line 4, and then at line 5."""
+        text = "void put(local int *tile) {\n  *tile = 1;\n}\n  put(tile);\n  put(tile);\n"
+        places = "".join(f"0 {item} {at} kernel.cl:2:9 called at kernel.cl:{4 + at}:3\n" for item in (0, 1) for at in (0, 1))
+        steps = "".join(f"{item} w l {word}\n" for item in (0, 1) for word in (64, 65))
+        launch = self.judged([f"group 0 items 2 launch 7\n{steps}end\n"], {"buffers": BUFFERS, "kernel.cl": text, "places": places})
+        self.assertEqual([it.texts() for it in launch.findings], [["*tile = 1; < put(tile);"], ["*tile = 1; < put(tile); #2"]])
+
+    def test_which_one_of_the_lines_of_a_text(self):
+        """Each kernel counts for itself. Of long lines those count that are shown alike."""
+        texts, long_line = Texts(""), "x" * 300
+        texts.files["a.cl"] = ["// a kernel void of sense", "f();", "  f();", "kernel void a() {", " f(); ", "f(); g();", "f();", "__kernel __attribute__((x))", "f();",
+                               long_line + "1", long_line + "2", "__kernel", "f();"]
+        for line, nth in ((2, 1), (3, 2), (5, 1), (6, 1), (7, 2), (9, 1), (10, 1), (11, 2), (13, 1), (14, 1)):
+            self.assertEqual(texts.nth(f"a.cl:{line}:1"), nth, line)
+        self.assertEqual((texts.nth("a.cl:11:300"), texts.nth("site 3")), (1, 1))
+
     def test_a_word_of_two_kinds_is_one_word(self):
         """Words 3 to 5 and 5 to 6 of global memory are four; word 5 of a group is another one."""
         one, other = Finding("race", "sums", "", words=3, runs=[Run(None, 3, 5)]), Finding("race", "sums", "", words=3, runs=[Run(None, 5, 6), Run(0, 5, 5)])
@@ -218,13 +253,17 @@ race on global word 1
 race on global word 2
     lock.cl:4:7: atomic read-modify-write (acquire and release, work-group scope) by group 0, item 0
     lock.cl:8:7: atomic load (acquire, work-group scope) by group 1, item 0
-    `memory_scope_work_group` at lock.cl:4:7 and lock.cl:8:7 reaches no other group: use `memory_scope_device`
+    the scope at lock.cl:4:7 and lock.cl:8:7 reaches no other group: use `memory_scope_device`
 """)
+
+    def test_two_scopes_in_a_group(self):
+        launch = self.judged(["group 0 items 2 launch 7\n0 st g 9 grp rlx\n1 ld g 9 dev rlx\nend\n"], {"places": "0 0 0 a.cl:1:1\n0 1 0 a.cl:2:1\n"})
+        self.assertEqual([it.message for it in launch.findings], ["the scope at a.cl:1:1 does not include `memory_scope_device`: use `memory_scope_device`"])
 
     def test_a_hand_over_whose_scope_is_too_narrow(self):
         """The plain accesses race since the release and the acquire between them have work-group scope; so do these themselves."""
         streams = ["group 0 items 1 launch 7\n0 w g 16\n0 st g 20 grp rel\nend\n", "group 1 items 1 launch 7\n0 ld g 20 grp acq < 0 0 0\n0 r g 16\nend\n"]
-        narrow = "`memory_scope_work_group` at f.cl:4:9 and f.cl:5:13 reaches no other group: use `memory_scope_device`"
+        narrow = "the scope at f.cl:4:9 and f.cl:5:13 reaches no other group: use `memory_scope_device`"
         self.assert_report(streams, {"places": "0 0 0 f.cl:3:9\n0 0 1 f.cl:4:9\n1 0 0 f.cl:5:13\n1 0 1 f.cl:6:9\n"}, "found", f"""\
 race on global word 16
     f.cl:3:9: write by group 0, item 0
@@ -299,15 +338,15 @@ race on global word 5
 
     def test_items_that_count_at_one_line(self):
         """Items of one group, and of two, count at line 4 of a file, or in two steps; between the two another word is read. An atomic comes first."""
-        atomic = "use an atomic (of an int, such as atomic_inc or atomic_add; of a float, a loop of atomic_cmpxchg): each item reads the word and " \
-                 "writes it at this line; without it"
+        atomic = "use an atomic (of an int, such as atomic_add or atomic_cmpxchg; of a float, a loop of atomic_cmpxchg): each item reads the word and " \
+                 "writes it at this line"
         counts = "r g 5", "r g 9", "w g 5"
         one_group = ["group 0 items 2 launch 7\n" + "".join(f"{item} {step}\n" for item in (0, 1) for step in counts) + "end\n"]
         two_groups = [f"group {group} items 1 launch 7\n" + "".join(f"0 {step}\n" for step in counts) + "end\n" for group in (0, 1)]
         for streams, items, said in ((one_group, ("0 0", "0 1"), GLOBAL), (two_groups, ("0 0", "1 0"), GROUPS)):
             at_one_line = "".join(f"{item} 0 a.cl:4:9 called at a.cl:{line}:1\n{item} 2 a.cl:4:5\n" for item, line in zip(items, (7, 8)))
             launch = self.judged(streams, {"places": at_one_line})
-            self.assertEqual({it.message for it in launch.findings}, {f"{atomic} {said}"})
+            self.assertEqual({it.message for it in launch.findings}, {atomic})
             for places in (at_one_line.replace("a.cl:4:5", "a.cl:5:5"), at_one_line.replace(f"{items[1]} 2 a.cl:4:5", f"{items[1]} 2 b.cl:4:5")):
                 launch = self.judged(streams, {"places": places})
                 of_one_place = {ONE_WRITE} if said == GLOBAL and "b.cl" not in places else set()
@@ -347,6 +386,57 @@ race on global word 5
             files = {"info.txt": INFO + f"element bins {kind}\n", "places": places, "buffers": "g 4 9 bins\n", "kernel.cl": "bins[1]++;\n"}
             for it in self.judged(streams, files).findings:
                 self.assertTrue(it.message.startswith(advice), it.message)
+
+    def test_what_a_line_does_by_its_text(self):
+        """The atomics that OpenCL C has: of 64 bits by two extensions, of a float none that computes. Where the text does not tell it is left open."""
+        for kind, line, advice in (("int", "a[i]++;", "use an atomic, such as atomic_inc, atomic_add or atomic_fetch_add"),
+                                   ("uint", "*a -= x;", "use an atomic, such as atomic_dec, atomic_sub or atomic_fetch_sub"),
+                                   ("int", "*a = max(*a, x[i]);", "use an atomic, such as atomic_max or atomic_fetch_max"),
+                                   ("int", "*a=min( *a, f(x));", "use an atomic, such as atomic_min or atomic_fetch_min"),
+                                   ("uint", "a[i >> 5] |= 1u << (i & 31);", "use an atomic, such as atomic_or or atomic_fetch_or"),
+                                   ("uint", "*a &= x;", "use an atomic, such as atomic_and or atomic_fetch_and"),
+                                   ("uint", "*a ^= x;", "use an atomic, such as atomic_xor or atomic_fetch_xor"),
+                                   ("int", "*a *= x;", "use an atomic, such as atomic_cmpxchg"),
+                                   ("int", "*a = *a + max(x, y);", "use an atomic, such as atomic_add or atomic_cmpxchg"),
+                                   ("int", "*a = max(*a, x) + 1;", "use an atomic, such as atomic_add or atomic_cmpxchg"),
+                                   ("int", "i++; *a |= x;", "use an atomic, such as atomic_add or atomic_cmpxchg"),
+                                   ("int", "*a == max(*a, x);", "use an atomic, such as atomic_add or atomic_cmpxchg"),
+                                   ("long", "*a |= x;", "use an atomic, such as atom_or (of cl_khr_int64_extended_atomics) or atomic_fetch_or"),
+                                   ("ulong", "*a -= x;", "use an atomic, such as atom_dec or atom_sub (of cl_khr_int64_base_atomics) or atomic_fetch_sub"),
+                                   ("char", "*a &= x;", "use an atomic of an int, such as atomic_and (OpenCL C has none of char)"),
+                                   ("float", "*a = fmax(*a, x);", "use a loop of atomic_cmpxchg on the bits, begun by an atomic read (OpenCL C has no atomic_max of "
+                                    "float), or give each item a word of its own"),
+                                   ("float", "*a *= x;", "use a loop of atomic_cmpxchg on the bits, begun by an atomic read (OpenCL C has no other atomic of "
+                                    "float), or give each item a word of its own"),
+                                   ("", "*a ^= x;", "use an atomic (of an int, such as atomic_xor; of a float, a loop of atomic_cmpxchg)")):
+            self.assertEqual(of_update(kind, line), advice, line)
+
+    def test_a_barrier_is_missing_before_another_item_hands_over(self):
+        """Item 1 of group 0 writes, and item 0 counts; in group 1 item 0 counts, and item 1 reads after a barrier. Where the barrier names local memory
+        alone, or the counters are two, a barrier before the count is no mend; nor where what releases is no work-item, but does copies."""
+        def message(flags, word, more=""):
+            streams = ["group 0 items 2 launch 7\n1 w g 5\n0 rmw g 9 dev both\nend\n",
+                       f"group 1 items 2 launch 7\n0 rmw g {word} dev both\n0 bar 3 {flags}\n1 bar 3 {flags}\n1 r g 5\nend\n"]
+            launch = self.judged(streams, {"info.txt": INFO + more, "places": "0 1 0 a.cl:1:1\n0 0 0 a.cl:2:1\n1 0 0 a.cl:2:1\n1 1 1 a.cl:5:1\n3 a.cl:3:1\n"})
+            return [it.message for it in launch.findings]
+
+        self.assertEqual(message("gl", 9), ["nothing orders the two; a barrier with CLK_GLOBAL_MEM_FENCE before the release at a.cl:2:1 would, where the "
+                                            "acquire at a.cl:2:1 takes its value"])
+        self.assertEqual([message("l", 9), message("gl", 8), message("gl", 9, "copying-item 0 0\n")], [[GROUPS]] * 3)
+
+    def test_a_release_that_comes_before_the_write(self):
+        """Of items of two groups, and of one. A later release that nobody takes does not meet the acquire."""
+        gives, takes = "0 st g 9 dev rel\n0 w g 5\n", "ld g 9 dev acq < 0 0 0\n"
+        places = "0 0 0 a.cl:1:1\n0 0 1 a.cl:2:1\n0 0 2 a.cl:3:1\n{0} 0 a.cl:4:1\n{0} 1 a.cl:5:1\n"
+        early = ": the acquire at a.cl:4:1 takes that at a.cl:1:1, which comes before the write at a.cl:2:1"
+        two_groups = [f"group 0 items 1 launch 7\n{gives}end\n", f"group 1 items 1 launch 7\n0 {takes}0 r g 5\nend\n"]
+        one_group = [f"group 0 items 2 launch 7\n{gives}1 {takes}1 r g 5\nend\n"]
+        late = [two_groups[0].replace("end", "0 st g 9 dev rel\nend"), two_groups[1]]
+        for streams, reader, said in ((two_groups, "1 0", f"nothing orders the two; a release after the write would{early}"),
+                                      (one_group, "0 1", f"{GLOBAL}, or a release after the write{early}"),
+                                      (late, "1 0", f"{HAND_OVER}; the release at a.cl:3:1 and the acquire at a.cl:4:1 do not meet")):
+            launch = self.judged(streams, {"places": places.format(reader)})
+            self.assertEqual([it.message for it in launch.findings], [said])
 
     def test_a_wait_is_no_barrier(self):
         """Item 0 writes before a wait for copies what item 1 reads after it, or what the copy reads on."""
@@ -415,12 +505,49 @@ divergent barrier, number 1 of group 0, and 1 more alike
     some work-items never reach it
 """)
 
-    def test_a_read_and_a_write_of_one_line(self):
-        """Between the two there is room for a barrier once the line is two; between two writes of one line that is no matter."""
-        split = "; since both are at one line, read into a private variable before it and write after it"
-        for steps, more in (("0 r g 5\n1 w g 5\n", split), ("0 w g 5\n1 w g 5\n", "")):
-            launch = self.judged([f"group 0 items 2 launch 7\n{steps}end\n"], {"places": "0 0 0 a.cl:4:20\n0 1 0 a.cl:4:9\n"})
-            self.assertEqual([it.message for it in launch.findings], [GLOBAL + more])
+    def test_a_divergence_by_flags(self):
+        """Items 0 and 2 give local memory, item 1 both, and item 3 none. Where an item is missing the flags are no matter."""
+        steps = "0 bar 1 l\n1 bar 1 gl\n2 bar 1 l\n3 bar 1 -\n"
+        for items, accesses in ((4, ["2 work-items, the first is item 0, with CLK_LOCAL_MEM_FENCE", "item 1, with CLK_GLOBAL_MEM_FENCE | CLK_LOCAL_MEM_FENCE",
+                                     "item 3, with no flag"]), (5, ["4 work-items, the first is item 0", "item 4"])):
+            launch = self.judged([f"group 0 items {items} launch 7\n{steps}end\n"], {"places": "1 b.cl:1:2\n"})
+            self.assertEqual([[it.who for it in finding.accesses] for finding in launch.findings], [accesses])
+
+    def test_a_read_and_a_write_of_one_statement(self):
+        """Item 0 reads at one column what item 1 writes at another. How often they have come there the sites tell: two words one after another are one
+        access. Two statements of one line may be anywhere, and between two writes there is no room for a barrier."""
+        split = "; both are of one statement: where they are of one round, read into a private variable before the barrier and write after it"
+        rounds = ("; the first of the two items has come to this line 2 times and the second once: if these are rounds of a loop, the missing barrier's "
+                  "place is the end of the loop's body, outside of branches that not all work-items take")
+        one, two = "a[l] += a[l + s];\n", "a[l] = s; s += a[l];\n"
+        for line, steps, more in ((one, "0 r g 5 @1\n1 w g 5 @2\n", split), (one, "0 r g 4 @1\n0 r g 5 @1\n1 w g 5 @2\n", split),
+                                  (one, "0 r g 7 @1\n0 r g 5 @1\n1 r g 5 @2\n1 w g 5 @2\n", rounds), (two, "0 r g 7 @1\n0 r g 5 @1\n1 w g 5 @2\n", ""),
+                                  (two, "0 r g 5 @1\n1 w g 5 @2\n", ""), (one, "0 w g 5 @1\n1 w g 5 @2\n", "")):
+            launch = self.judged([f"group 0 items 2 launch 7 v3\n{steps}end\n"], {"kernel.cl": line, "sites": "kernel.cl:1:16\nkernel.cl:1:5\n"})
+            self.assertEqual([it.message for it in launch.findings], [GLOBAL + more], line + steps)
+        sites = "kernel.cl:1:16\nkernel.cl:1:5\n"
+        for why, stream, files in (("a macro", " v3\n0 r g 5 @1\n1 w g 5 @2", {"kernel.cl": one, "sites": sites.replace(":16", ":5")}),
+                                   ("no text", " v3\n0 r g 5 @1\n1 w g 5 @2", {"sites": sites}),
+                                   ("how often is not known", "\n0 r g 5\n1 w g 5", {"kernel.cl": one, "places": "0 0 0 kernel.cl:1:16\n0 1 0 kernel.cl:1:5\n"})):
+            launch = self.judged([f"group 0 items 2 launch 7{stream}\nend\n"], files)
+            self.assertEqual([it.message for it in launch.findings], [GLOBAL], why)
+
+    def test_rounds_of_a_loop(self):
+        """The loop writes, passes a barrier and reads. Item 0 writes in its second round what item 1 reads in its first one. That these are rounds is
+        known if item 0 has come to the read before, and item 1 has not come to the write, and if no function is called."""
+        writes, waits, reads = "kernel.cl:2:9", "kernel.cl:3:1", "kernel.cl:4:9"
+        before = f"; the last barrier before both is at {waits}"
+        rounds = (f"{before}; the read at {reads} is of one round of a loop and the write at {writes} of a later one: the missing barrier's place is the end of "
+                  "the loop's body, outside of branches that not all work-items take")
+        first, second = "0 w g 7 @1\n0 bar 3 g @2\n0 r g 8 @3\n0 w g 5 @1\n", "1 w g 9 @1\n1 bar 3 g @2\n1 r g 5 @3\n"
+        for steps, places, more in ((first + second, (writes, waits, reads), rounds), (second + first, (writes, waits, reads), rounds),
+                                    (first.replace("0 r g 8 @3\n", "") + second, (writes, waits, reads), before),
+                                    (first + second.replace("1 r", "1 w g 9 @1\n1 r"), (writes, waits, reads), before),
+                                    (first + second, (waits, writes, reads), f"; the last barrier before both is at {writes}"),
+                                    (first + second, (writes, f"{waits} called at kernel.cl:3:5", reads), before),
+                                    (first + second, (writes, waits, f"{reads} called at kernel.cl:9:1"), before)):
+            launch = self.judged([f"group 0 items 2 launch 7 v3\n{steps}end\n"], {"sites": "".join(f"{place}\n" for place in places)})
+            self.assertEqual([it.message for it in launch.findings], [GLOBAL + more], places)
 
     def test_the_last_barrier_before_both(self):
         """In the second round of a loop item 0 writes what item 1 has read in the first one: in the text a barrier is between the two lines."""
@@ -506,7 +633,7 @@ reason refused: the trace was refused: gpurace: group 0 missing
 """)
 
     def test_a_race_in_a_launch_with_fences_is_doubtful(self):
-        info = INFO + "fence 3 kernel.cl:4:9\nfence 1 kernel.cl:5:9\nimage 2 kernel.cl:5:1\nnote calls of printf\n"
+        info = INFO + "fence 3 kernel.cl:4:9\nfence 1 kernel.cl:5:9\nimage 2 kernel.cl:5:1\nnote calls of printf\natomics yes\n"
         self.assert_report(["group 0 items 2 launch 7\n0 w g 1\n1 w g 1\nend\n", "group 1 items 2 launch 7\nend\n"], {"info.txt": info}, "doubtful", f"""\
 race on global word 1 (doubtful)
     unknown place: write by group 0, item 0
@@ -516,6 +643,33 @@ reason fences: fences, which are not recorded: the order that they give is not s
 reason images: accesses of images, which are not judged: 2, at kernel.cl:5:1
 reason operations: not recorded: calls of printf
 """)
+
+    def test_fences_alone_order_nothing(self):
+        """A race is found, and that nothing is found is an answer, unless an item has done an atomic access, or may have: where the recorder does not
+        say, or something is not recorded."""
+        alone = "a fence alone orders nothing between work-items"
+        racy, right = (f"group 0 items 2 launch 7\n0 w g 1\n1 w g {word}\nend\n" for word in (1, 2))
+        for stream, more, verdict, messages in ((racy, "atomics no\n", "found", [f"{GLOBAL}; {alone}"]), (right, "atomics no\n", "nothing", []),
+                                                (racy, "atomics yes\n", "doubtful", [GLOBAL]), (right, "", "incomplete", []),
+                                                (racy, "atomics no\nnote calls of sub_group_any\n", "doubtful", [GLOBAL])):
+            for fences, where in (("fence 3 kernel.cl:4:9\n", "3, at kernel.cl:4:9"), ("fences-not-recorded 2\n", "2")):
+                launch = self.judged([stream], {"info.txt": info("sums", 7, more=fences + more)})
+                self.assertEqual((launch.verdict, [it.message for it in launch.findings]), (verdict, messages))
+                noted = [f"fences: {where}: no work-item does an atomic access, and {alone}"]
+                self.assertEqual(launch.notes, noted if verdict in ("found", "nothing") else [])
+
+    def test_atomics_of_a_narrow_scope(self):
+        """A race is found as ever; that there is none is no answer."""
+        said = "reason scopes: atomics of work-item or sub-group scope, taken as of work-group scope: a race in a group may be missed: 3, at kernel.cl:4:9\n"
+        files = {"info.txt": INFO + "narrow-scope 3 kernel.cl:4:9\n"}
+        self.assert_report(["group 0 items 2 launch 7\n0 ld g 1 grp acq\nend\n", "group 1 items 2 launch 7\nend\n"], files, "incomplete", said)
+        streams = ["group 0 items 2 launch 7\n0 w g 1\n1 w g 1\nend\n", "group 1 items 2 launch 7\nend\n"]
+        self.assert_report(streams, files, "found", f"""\
+race on global word 1
+    unknown place: write by group 0, item 0
+    unknown place: write by group 0, item 1
+    {GLOBAL}
+{said}""")
 
     def test_an_access_out_of_bounds_is_a_finding_also_beside_fences(self):
         info = INFO + "fence 1 kernel.cl:5:9\nout-of-bounds 2 kernel.cl:3:9 write 4 1 1 16 bytes after the end of output, which has 128 bytes\n"

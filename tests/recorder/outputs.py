@@ -2,6 +2,7 @@
 
 import json
 import os
+import shutil
 import subprocess
 import sys
 import xml.etree.ElementTree as xml
@@ -76,19 +77,21 @@ class Statuses(Outputs):
                          [{f"a.cl:{word + 1}:1", "a.cl:9:1", "likewise"} for word in (3, 4)])
 
     def test_what_keeps_a_launch_from_being_an_answer_comes_first_in_the_summary(self):
-        put_right(self.kept, more="fence 2 kernel.cl:3:5\n")
+        put_right(self.kept, more="image 2 kernel.cl:3:5\n")
         put_right(self.kept, 1, "other", more="not-recorded a work-group has 2048 work-items\n")
         lines = [line for line in self.judge(status=2) if line.startswith("gpurace-judge")]
         self.assertEqual(lines[:3], [
             "gpurace-judge: nothing found, which is no answer:",
-            "gpurace-judge:     fences, which are not recorded: the order that they give is not seen: 2, at kernel.cl:3:5 (1 launch of right)",
+            "gpurace-judge:     accesses of images, which are not judged: 2, at kernel.cl:3:5 (1 launch of right)",
             "gpurace-judge:     not recorded: a work-group has 2048 work-items (1 launch of other)"])
         self.judge("--error-exitcode", "42", status=2)
 
     def test_a_doubtful_race_is_not_found(self):
-        put_racy(self.kept, more="fence 2 kernel.cl:4:5\n")
+        put_racy(self.kept, more="orders-not-known 2\n")
         lines = self.judge(status=2)
+        self.assertEqual(lines[-4], "gpurace-judge: nothing found for certain, which is no answer:")
         self.assertIn("gpurace-judge:     doubtful: race on tile[8] of group 0, at kernel.cl:3:13 and kernel.cl:5:20 (1 launch of sums)", lines)
+        self.assertIn("gpurace-judge: 1 launch: 0 with findings, 1 with doubtful ones, 0 without, 0 not judged whole", lines[-1])
 
     def test_no_launch(self):
         self.kept.mkdir()
@@ -135,7 +138,7 @@ class Forms(Outputs):
     def put_all(self):
         put_racy(self.kept)
         put_racy(self.kept, 1)
-        put_racy(self.kept, 2, "doubtful", more="fence 2 kernel.cl:4:5\n")
+        put_racy(self.kept, 2, "doubtful", more="orders-not-known 2\n")
         put_right(self.kept, 3)
         files = {"info.txt": info("divergent", 4, more="out-of-bounds 1 kernel.cl:3:9 write 4 0 1 16 bytes after the end of output, which has 128 bytes\n"),
                  "kernel.cl": KERNEL, "places": "1 kernel.cl:5:9\n", "buffers": BUFFERS}
@@ -289,6 +292,23 @@ class Known(Outputs):
         put_racy(self.kept, 2, kernel="others")
         self.judge("--baseline", "known.json", "--sarif", "made.sarif", status=1)
         self.assertEqual([it["baselineState"] for it in self.made("made.sarif")["runs"][0]["results"]], ["unchanged", "new"])
+
+    def test_a_further_place_of_a_known_text_is_new(self):
+        """Both items write one word at one of two lines of one text. Lines above it change nothing, not even a kernel that has this text, but one of this
+        text in its own kernel does."""
+        def put(launch, line, text):
+            shutil.rmtree(self.kept, ignore_errors=True)
+            places = "".join(f"0 {item} 0 kernel.cl:{line}:1\n" for item in (0, 1))
+            put_launch(self.kept / "sums", [f"group 0 items 2 launch {launch}\n0 w g 0\n1 w g 0\nend\n"],
+                       {"info.txt": info("sums", launch), "kernel.cl": text, "places": places, "buffers": BUFFERS})
+
+        kernel, other = "kernel void sums(..) {\na[0] = n;\nn++;\na[0] = n;\n}\n", "kernel void other(..) {\na[0] = n;\n}\n"
+        put(0, 2, kernel)
+        self.judge("--baseline", "known.json", "--update-baseline", status=0)
+        for line, text, status in ((2, kernel, 0), (5, other + kernel, 0), (4, kernel, 1), (7, other + kernel, 1), (3, kernel.replace("{\n", "{\na[0] = n;\n"), 1)):
+            put(1, line, text)
+            lines = self.judge("--baseline", "known.json", status=status)
+            self.assertEqual("gpurace-judge:     gone: race in sums on input, `a[0] = n;`" in lines, status == 1, (line, text))
 
     def test_a_cause_that_was_not_known_in_time_is_like_any_other(self):
         """In the baseline, or in the run: the finding is known, and not gone. Another cause is another finding."""

@@ -73,7 +73,7 @@ class Page(RoomTest):
         super().setUp()
         kept = self.room / "kept"
         put_racy(kept)
-        put_racy(kept, 1, "doubtful", more="fence 2 kernel.cl:4:5\n")
+        put_racy(kept, 1, "doubtful", more="orders-not-known 2\n")
         put_right(kept, 2)
         streams = ["group 0 items 2 launch 3\n0 bar 1 l\n0 bar 2 l\n0 w g 128\n1 bar 1 l\n1 w g 128\nend\n"]
         put_launch(kept / "003-another", streams, {**SIDES, "info.txt": info("another", 3), "kernel.cl": "// <b>&amp;\n" + KERNEL,

@@ -2,25 +2,23 @@
 from __future__ import annotations
 
 import re
-from typing import List, NamedTuple, Optional
+from typing import List, NamedTuple, Optional, Tuple
 
-DEVICE, GROUP = "`memory_scope_device`", "`memory_scope_work_group`"
+DEVICE = "`memory_scope_device`"
 ATOMICS = {"load": "load", "store": "store", "rmw": "read-modify-write"}
 COPY = "nothing orders the two; wait_group_events after the copy would, or, if the copy comes last, a barrier before it"
 GROUPS = ("nothing orders the two, and a barrier never orders two groups; a second kernel, a word for each group, or a release that an "
           "acquire takes, at memory_scope_device, would mend it")
-WHOLE = "use an atomic, such as atomic_inc, atomic_add or atomic_fetch_add"
-LONG = "use an atomic, such as atom_inc or atom_add (of cl_khr_int64_base_atomics) or atomic_fetch_add"
-NARROW = "use an atomic of an int, such as atomic_inc or atomic_add (OpenCL C has none of {})"
-REAL = "use a loop of {} on the bits, begun by an atomic read (OpenCL C has no atomic_add of {}), or give each item a word of its own"
-ADVICE = {"int": WHOLE, "uint": WHOLE, "long": LONG, "ulong": LONG, "float": REAL.format("atomic_cmpxchg", "float"),
-          "double": REAL.format("atom_cmpxchg", "double"),
-          **{kind: NARROW.format(kind) for kind in ("char", "uchar", "short", "ushort", "half")}}
-UNKNOWN = "use an atomic (of an int, such as atomic_inc or atomic_add; of a float, a loop of atomic_cmpxchg)"
+CALL = r"(?<![-=!<>+*/%&|^])=\s*f?{}\s*\((?:[^()]|\([^()]*\))*\)\s*;"  # the word is what a function gives, and no more
+UPDATES = {"add": re.compile(r"\+\+|\+="), "sub": re.compile(r"--|-="), "or": re.compile(r"\|="), "and": re.compile("&="), "xor": re.compile(r"\^="),
+           "max": re.compile(CALL.format("max")), "min": re.compile(CALL.format("min")), "cmpxchg": re.compile(r"(?:[*/%]|<<|>>)=")}
+ATOMICS_OF = {"add": ("inc", "add"), "sub": ("dec", "sub"), "": ("add", "cmpxchg")}  # else the operation itself
+EXTENDED = ("or", "and", "xor", "max", "min")  # of cl_khr_int64_extended_atomics
 OWN = {"read": "load (in OpenCL 1.2 an atomic_or with 0)", "write": "store (in OpenCL 1.2 an atomic_xchg)"}
 ONE_WRITE = ("both items write it at this place: let one of them do so, or give each a word of its own; a barrier would order only rounds "
              "of a loop")
-SPLIT = "; since both are at one line, read into a private variable before it and write after it"
+SPLIT = "; both are of one statement: where they are of one round, read into a private variable before the barrier and write after it"
+END = "the missing barrier's place is the end of the loop's body, outside of branches that not all work-items take"
 HAND_OVER = "nothing orders the two; a release that an acquire takes would"  # in one group
 OLD = re.compile(r"\batom(?:ic)?_(?:add|sub|xchg|inc|dec|cmpxchg|min|max|and|or|xor)\b")  # an atomic of OpenCL 1.x
 RELAXED = "atomics of OpenCL 1.x are relaxed, and those of OpenCL C 2.0 that end in _explicit take an order"
@@ -60,9 +58,17 @@ class Pair(NamedTuple):
     store: Optional[At] = None  # an atomic of a word after the one access, and one of the same word before the other
     load: Optional[At] = None
     are_at_one_place: bool = False  # with the same calls that lead there
-    are_at_one_line: bool = False
+    times: Tuple[int, int] = (0, 0)  # of two accesses of one statement, how often each item has come to its place; 0 where that is not known
+    rounds: Optional[Tuple[At, At]] = None      # the two, the second of a later round of a loop
+    early: Optional[Tuple[At, At, At]] = None   # an access, a release before it, and an acquire before the other access that takes it
+    others: Optional[Tuple[At, At]] = None      # a release that no barrier puts after the one access, and an acquire before the other, of one word
     is_locked: bool = False         # there are such atomics in both directions, as of a lock
     kind: str = ""              # the type of the word, where the kernel's text says it
+
+
+def flags_of(flags: int) -> str:
+    """The flags of a barrier, as in the source."""
+    return " | ".join(name for bit, name in FLAGS.values() if flags & bit) or "no flag"
 
 
 def sentence(name: str, said: str, pair: Pair) -> str:
@@ -86,8 +92,8 @@ def of_scope(_: str, pair: Pair) -> str:
     narrow = [at for at in (pair.first, pair.second, pair.release, pair.acquire) if at and at.scope == "grp" and at.place]
     places = " and ".join(dict.fromkeys(at.place for at in narrow))
     if places and pair.is_one_group:
-        return f"{GROUP} at {places} does not include {DEVICE}: use {DEVICE}"
-    return places and f"{GROUP} at {places} reaches no other group: use {DEVICE}"
+        return f"the scope at {places} does not include {DEVICE}: use {DEVICE}"
+    return places and f"the scope at {places} reaches no other group: use {DEVICE}"
 
 
 def of_divergence(said: str, pair: Pair) -> str:
@@ -106,15 +112,43 @@ def of_nothing(said: str, pair: Pair) -> str:
             if pair.is_one_group:
                 order = f"put a barrier with {FLAGS[pair.space][1]} between the two"
             return f"a plain {one.what} beside atomics: {order}, or, if they may come in any order, make it an atomic {OWN[one.what]}"
+    if pair.early:
+        access, release, acquire = pair.early
+        mend = f"{said}, or a release after the {access.what}" if pair.is_one_group else f"nothing orders the two; a release after the {access.what} would"
+        return f"{mend}: the acquire at {acquire.place} takes that at {release.place}, which comes before the {access.what} at {access.place}"
     if not pair.is_one_group and pair.release and pair.acquire and pair.release.place and pair.acquire.place:
         return f"{said}; the release at {pair.release.place} and the acquire at {pair.acquire.place} do not meet"
     weak = of_hand_over(said, pair)
     if pair.is_one_line and not weak:
-        advice = ADVICE.get(pair.kind, UNKNOWN)
-        return f"{advice}: each item reads the word and writes it at this line; without it {said if pair.is_one_group else GROUPS}"
+        return f"{of_update(pair.kind, pair.first.text)}: each item reads the word and writes it at this line"
     if pair.are_updates:
         return f"{weak or said}; or make each item's read and write of the word one atomic operation"
-    return weak or of_barrier(said, pair)
+    return weak or of_others(pair) or of_barrier(said, pair)
+
+
+def of_update(kind: str, line: str) -> str:
+    """The atomic for what a line does to a word of this type, where its text says that."""
+    found = [name for name, pattern in UPDATES.items() if pattern.search(line)]
+    name = found[0] if len(found) == 1 else ""
+    names, is_fetched = ATOMICS_OF.get(name, (name,)), name not in ("", "cmpxchg")
+    fetch = [f"atomic_fetch_{name}"] if is_fetched else []
+    if kind in ("float", "double"):
+        loop, lacks = "atomic_cmpxchg" if kind == "float" else "atom_cmpxchg", f"atomic_{name}" if is_fetched else "other atomic"
+        return f"use a loop of {loop} on the bits, begun by an atomic read (OpenCL C has no {lacks} of {kind}), or give each item a word of its own"
+    if kind in ("int", "uint"):
+        return f"use an atomic, such as {listed([*(f'atomic_{it}' for it in names), *fetch])}"
+    if kind in ("long", "ulong"):
+        extension = f"cl_khr_int64_{'extended' if name in EXTENDED else 'base'}_atomics"
+        return f"use an atomic, such as {listed([listed([f'atom_{it}' for it in names]) + f' (of {extension})', *fetch])}"
+    of_int = listed([f"atomic_{it}" for it in names])
+    if kind:
+        return f"use an atomic of an int, such as {of_int} (OpenCL C has none of {kind})"
+    return f"use an atomic (of an int, such as {of_int}; of a float, a loop of atomic_cmpxchg)"
+
+
+def listed(names: List[str]) -> str:
+    """`a, b or c`."""
+    return " or ".join([*([", ".join(names[:-1])] if names[1:] else []), names[-1]])
 
 
 def of_hand_over(said: str, pair: Pair) -> str:
@@ -127,6 +161,15 @@ def of_hand_over(said: str, pair: Pair) -> str:
     return weak and f"{lead}: {weak}"
 
 
+def of_others(pair: Pair) -> str:
+    """A barrier that is missing before another item of the group hands over to the other group."""
+    if not pair.others or not all(at.place for at in pair.others):
+        return ""
+    release, acquire = pair.others
+    return (f"nothing orders the two; a barrier with {FLAGS['global'][1]} before the release at {release.place} would, where the acquire at {acquire.place} "
+            "takes its value")
+
+
 def of_barrier(said: str, pair: Pair) -> str:
     """A barrier that is missing in a group: where, or why there is no room for it."""
     if not pair.is_one_group:
@@ -134,8 +177,21 @@ def of_barrier(said: str, pair: Pair) -> str:
     are_writes = pair.first.what == pair.second.what == "write"
     if pair.are_at_one_place and are_writes:
         return ONE_WRITE
-    split = SPLIT if pair.are_at_one_line and not are_writes else ""
-    return said + split + (f"; the last barrier before both is at {pair.before}" if pair.before else "")
+    before = f"; the last barrier before both is at {pair.before}" if pair.before else ""
+    if pair.rounds:
+        one, other = pair.rounds
+        return f"{said}{before}; the {one.what} at {one.place} is of one round of a loop and the {other.what} at {other.place} of a later one: {END}"
+    return said + ("" if are_writes else of_one_statement(pair)) + before
+
+
+def of_one_statement(pair: Pair) -> str:
+    """What is known of the rounds of a loop that two accesses of one statement are of."""
+    if not all(pair.times):
+        return ""
+    if pair.times[0] == pair.times[1]:
+        return SPLIT
+    first, second = ("once" if time == 1 else f"{time} times" for time in pair.times)
+    return f"; the first of the two items has come to this line {first} and the second {second}: if these are rounds of a loop, {END}"
 
 
 def of_groups(said: str, pair: Pair) -> str:

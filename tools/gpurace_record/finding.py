@@ -47,8 +47,8 @@ class Access:
     who: str
     place: str = ""
     text: str = ""  # the line of the source
-    nth: int = 1    # of the lines of this text in its file
     calls: List[Call] = dataclasses.field(default_factory=list)  # the innermost one first
+    nth: Tuple[int, ...] = (1,)  # which line of its text in its kernel it is, and each call's
     scope: str = ""
     order: str = ""
     group: int = 0
@@ -69,12 +69,14 @@ class Access:
         """Gives it its place, which may name the calls that lead there."""
         self.place, *calls = place.split(CALLED)
         self.text, self.calls = texts.line(self.place), [Call(call, texts.line(call)) for call in calls]
-        self.nth = texts.nth(self.place)
+        self.nth = (texts.nth(self.place), *map(texts.nth, calls))
         return self
 
     def where(self) -> str:
-        """The lines of the source; where these are not known the places, and else what is done."""
-        return " < ".join([self.text or self.place or self.what, *(call.text or call.place for call in self.calls)])
+        """The lines of the source, each with its number if it is a further one of its text; where these are not known the places, and else
+        what is done."""
+        lines = [self.text or self.place or self.what, *(call.text or call.place for call in self.calls)]
+        return " < ".join(line + (f" #{nth}" if nth > 1 else "") for line, nth in zip(lines, self.nth))
 
     def sentence(self) -> str:
         how = ", ".join(word for word in (ORDERS.get(self.order), self.scope and f"{SCOPES[self.scope]} scope") if word)
@@ -114,11 +116,11 @@ class Finding:
         return sorted({it.buffer for it in self.maps} - {""})
 
     def texts(self) -> List[str]:
-        """Of a divergent barrier it counts which one of several of one text it is."""
-        return sorted({it.where() + (f" #{it.nth}" if self.kind == "divergence" and it.nth > 1 else "") for it in self.accesses})
+        return sorted({it.where() for it in self.accesses})
 
     def fingerprint(self) -> str:
-        """Survives lines that are added elsewhere: it has the kernel, the buffers, the cause and the lines' texts."""
+        """Survives lines that are added elsewhere: it has the kernel, the buffers, the cause, and the lines' texts with their numbers among those
+        of one text."""
         return fingerprint_of(self.kind, self.kernel, self.buffers(), self.cause, self.texts())
 
     def lines(self) -> Iterator[str]:
@@ -136,7 +138,9 @@ def fingerprint_of(kind: str, kernel: str, buffers: List[str], cause: str, texts
 
 
 def join(one: Finding, other: Finding) -> None:
-    """Puts what another finding of one fingerprint has to the first one."""
+    """Puts what another finding of one fingerprint has to the first one: its words, and lines of one text in other files."""
+    lines = {access.place.rpartition(":")[0] for access in one.accesses}
+    one.accesses += [access for access in other.accesses if access.place.rpartition(":")[0] not in lines]
     one.runs += other.runs
     one.words = words_in(one.runs)
     one.is_equal = one.is_equal and other.is_equal

@@ -65,7 +65,7 @@ class Reader:
         wanted = self.wanted()
         self.groups = groups_of(folder, wanted)
         keys = {f"{group} {item} {index}" for group, item, index, _ in self.unmatched}
-        keys |= {f"{group} {item} {step.at}" for group, it in self.groups.items() for item in it.steps for step in it.steps_of(item)}
+        keys |= {f"{group} {item} {step.at}" for group, it in self.groups.items() for item, step in it.all_steps()}
         self.places = Places(folder, self.groups, keys)
         self.pairs = Pairs(self.groups, self.places, self.shape, self.texts, set(self.divergent), self.waits)
 
@@ -153,21 +153,24 @@ class Reader:
         for (group, instance), cause in self.divergent.items():
             if group in self.groups:
                 is_cut = group in self.cut and cause == "missing"
-                alike[cause, tuple(sorted(place for place, _, _ in self.came(group, instance)))].append((is_cut, group, instance))
+                alike[cause, tuple(sorted(place for place, *_ in self.came(group, instance)))].append((is_cut, group, instance))
         following = words_in([run for kind in self.kinds if kind["race"]["cause"]["name"] == "divergent" for run in runs_of(kind)])
         for (cause, _), instances in alike.items():
             yield self.divergence(cause, *min(instances), len(instances) - 1, following)
         if self.divergent and not alike:
             yield Finding("divergence", self.kernel, f"{len(self.divergent)} divergent barriers")
 
-    def came(self, number: int, instance: int) -> Tuple[Tuple[str, int, int], ...]:
-        """The items of a group by the place of their barrier, which is empty where they had none: it, how many, and the first."""
-        came: Dict[str, List[int]] = collections.defaultdict(list)
+    def came(self, number: int, instance: int) -> Tuple[Tuple[str, str, int, int], ...]:
+        """The items of a group by the place of their barrier, which is empty where they had none, and by its flags where these differ alone: these,
+        how many, and the first."""
+        came: Dict[Tuple[str, str], List[int]] = collections.defaultdict(list)
+        by_flags = self.divergent[number, instance] == "flags"
         for item, barriers in enumerate(self.groups[number].barriers):
             if self.shape.is_copying(number, item):
                 continue
-            came[self.places.site(barriers[instance].word) if instance < len(barriers) else ""].append(item)
-        return tuple((place, len(items), items[0]) for place, items in came.items())
+            step = barriers[instance] if instance < len(barriers) else None
+            came[(self.places.site(step.word), causes.flags_of(step.space) if by_flags else "") if step else ("", "")].append(item)
+        return tuple((*at, len(items), items[0]) for at, items in came.items())
 
     def divergence(self, cause: str, is_cut: bool, group: int, instance: int, others: int, following: int) -> Finding:
         seen = sum(number in self.groups for number, _ in self.divergent)
@@ -177,8 +180,9 @@ class Reader:
         message = DIVERGENT[cause] + (", or theirs is among the records that were lost" if is_cut else "")
         message += f"; {following} race{'s follow' if following > 1 else ' follows'} from it" if following else ""
         accesses = []
-        for place, count, first in self.came(group, instance):
+        for place, flags, count, first in self.came(group, instance):
             items = f"{count} work-items, the first is {self.shape.item(group, first)}" if count > 1 else self.shape.item(group, first)
+            items += f", with {flags}" if flags else ""
             accesses.append(Access("barrier" if place else "no barrier", items).put_at(place, self.texts))
         return Finding("divergence", self.kernel, f"divergent barrier, number {instance} of {who}{more}", cause, message, accesses=accesses,
                        is_doubtful=is_cut)

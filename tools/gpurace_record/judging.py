@@ -15,6 +15,8 @@ from .sides import Texts, PLACE
 
 FOUND, INCOMPLETE = 1, 2
 MOST_PLACES = 3  # of one kind that are shown
+FENCES = ("fence", "fences-not-recorded")  # lines of info.txt
+FENCE = "a fence alone orders nothing between work-items"
 NOT_ALL_KEPT = "only its first records are shown, but all are counted, since it has more than are kept; --keep DIR shows all"
 
 
@@ -125,6 +127,13 @@ def judge(program: str, launch: Launch, info: Info, piped: Optional[Piped]) -> N
     found = Reader(program, launch.folder, info, report).findings() if status == FOUND else []
     if status == FOUND and not found:  # no record of it is in files
         found = [Finding("race", launch.kernel, first_of(report[2:-1]))]
+    fences = counted(info, *FENCES)
+    if fences and info["atomics"] == ["no"] and not info["note"]:
+        launch.notes.append(f"fences: {at_places(fences)}: no work-item does an atomic access, and {FENCE}")
+        for key in FENCES:
+            info[key] = []
+        for finding in found:
+            finding.message += f"; {FENCE}" if finding.cause in ("no-barrier", "no-hand-over") else ""
     launch.reasons += reasons_of(info, report)
     launch.notes += notes_of(info)
     is_doubtful = any(reason.name in ("fences", "hand-overs", "orders") for reason in launch.reasons)
@@ -164,6 +173,11 @@ def at_places(lines: List[str]) -> str:
     return f"{sum(int(number) for number, _ in pairs)}" + (f", at {where}" if where else "")
 
 
+def counted(info: Info, *keys: str) -> List[str]:
+    """The lines `COUNT PLACE`, or `COUNT`, of these keys that count something."""
+    return [line for key in keys for line in info[key] if line.split(" ")[0] != "0"]
+
+
 def reasons_of(info: Info, report: List[str]) -> Iterator[Reason]:
     """What keeps a launch in which nothing is found from having been judged whole."""
     cut = [line.split()[1] for line in report if line.startswith("cut ")] or info["cut"]
@@ -174,11 +188,13 @@ def reasons_of(info: Info, report: List[str]) -> Iterator[Reason]:
     if info["window"]:
         groups = ", ".join(f"{first} to {first + number - 1}" for first, number in windows_of(info))
         yield Reason("window", f"only groups {groups} of {info['groups'][0]} were recorded")
-    for name, keys, text in (("fences", ("fence", "fences-not-recorded"), "fences, which are not recorded: the order that they give is not seen"),
+    for name, keys, text in (("fences", FENCES, "fences, which are not recorded: the order that they give is not seen"),
                              ("images", ("image",), "accesses of images, which are not judged"),
                              ("orders", ("orders-not-known",), "atomics whose order is not known, taken as relaxed"),
+                             ("scopes", ("narrow-scope",), "atomics of work-item or sub-group scope, taken as of work-group scope: a race in a group "
+                              "may be missed"),
                              ("hand-overs", ("names-outside-window",), "hand-overs from groups outside the window, not recorded")):
-        lines = [line for key in keys for line in info[key] if line.split(" ")[0] != "0"]
+        lines = counted(info, *keys)
         if lines:
             yield Reason(name, f"{text}: {at_places(lines)}")
     for text in info["note"]:

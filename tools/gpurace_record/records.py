@@ -1,6 +1,8 @@
 """What is read of a group's stream: its barriers, and what some of its items do to some words."""
 from __future__ import annotations
 
+import array
+import bisect
 import struct
 from typing import Dict, Iterator, List, NamedTuple, Set, Tuple
 
@@ -14,6 +16,7 @@ NAMES_AT = 12         # in a record
 NO_NAME = (0xffff, 0xffff, 0xffffffff)
 MOST_BYTES = 1 << 27  # of a stream that is read
 MOST_WORDS = 100      # of an item's atomics that are kept
+MOST_HANDS = 100      # of a group's releases and acquires that are kept for all its items
 
 
 class Step(NamedTuple):
@@ -51,36 +54,77 @@ class Atomics(NamedTuple):
             self.loads.setdefault(word, step)
 
 
+class Arrivals:
+    """The records with which an item has come to each site, by what it does there. Words one after another are one access."""
+
+    def __init__(self) -> None:
+        self.of: Dict[Tuple[int, int], array.array] = {}
+        self.records, self.last = 0, (0, 0, 0)
+
+    def note(self, site: int, kind: int, word: int) -> None:
+        if self.last != (site, kind, word - 1):
+            self.of.setdefault((site, kind), array.array("I")).append(self.records)
+        self.records, self.last = self.records + 1, (site, kind, word)
+
+    def count(self, step: Step, after: int, at: int) -> int:
+        """How often it has come to the site of a step to do the same, after a record and up to another one; 0 where the site is not known."""
+        those = self.of.get((step.site, KIND_OF.index(step.kind)), ()) if step.site else ()
+        return bisect.bisect_right(those, at) - bisect.bisect_right(those, after)
+
+
 class Group:
-    """The barriers of each item of a group; and of the wanted items all barriers, releases, acquires and accesses to their words, and some
-    atomics of others."""
+    """The barriers of each item of a group, and its first releases and acquires; and of the wanted items all barriers, releases, acquires and
+    accesses to their words, and some atomics of others."""
 
     def __init__(self, stream: memoryview, wanted: Wanted):
         form, _, self.items, _ = HEADER.unpack_from(stream)
+        self.stream, self.form, self.wanted = stream[HEADER.size:], RECORD_FORMS[form], wanted
         self.barriers: List[List[Step]] = [[] for _ in range(self.items)]
         self.steps: Dict[int, List[Step]] = {item: [] for item in wanted}
         self.atomics: Dict[int, Atomics] = {item: Atomics({}, {}) for item in wanted}
-        count, releases, record = [0] * self.items, [0] * self.items, RECORD_FORMS[form]
-        for at, (kind, space, scope, order, item, site, word) in enumerate(record.iter_unpack(stream[HEADER.size:])):
+        self.hands: List[Tuple[int, Step]] = []
+        self.arrivals: Dict[int, Arrivals] = {}
+        count, releases = [0] * self.items, [0] * self.items
+        for at, (kind, space, scope, order, item, site, word) in enumerate(self.form.iter_unpack(self.stream)):
             if kind == BARRIER:
                 step = Step(count[item], "barrier", space, "", "", word, site=site)
                 self.barriers[item].append(step)
                 if item in wanted:
                     self.steps[item].append(step)
-            elif item in wanted and kind != END and (order > 1 or (space, word) in wanted[item]):
-                start = HEADER.size + at * record.size
-                names = names_in(stream[start + NAMES_AT:start + record.size]) if order in (2, 4) else ()
-                self.steps[item].append(Step(count[item], KIND_OF[kind], space, SCOPE_OF[scope], ORDER_OF[order], word,
-                                             releases[item] if order > 2 else -1, names, site))
-            if order and item in wanted:
-                self.atomics[item].note(Step(count[item], KIND_OF[kind], space, SCOPE_OF[scope], ORDER_OF[order], word, site=site))
+            elif kind != END and ((order or (space, word) in wanted[item]) if item in wanted else order > 1 and len(self.hands) < MOST_HANDS):
+                names = self.names_at(at) if order in (2, 4) else ()
+                self.note(item, Step(count[item], KIND_OF[kind], space, SCOPE_OF[scope], ORDER_OF[order], word, releases[item] if order > 2 else -1,
+                                     names, site))
             count[item] += 1
             releases[item] += order > 2
 
-    def steps_of(self, item: int) -> Iterator[Step]:
-        yield from self.steps[item]
-        yield from self.atomics[item].stores.values()
-        yield from self.atomics[item].loads.values()
+    def names_at(self, at: int) -> Tuple[Tuple[int, int, int], ...]:
+        places = self.stream[at * self.form.size + NAMES_AT:(at + 1) * self.form.size]
+        return tuple((name[0], name[1], name[2]) for name in RELEASE.iter_unpack(places) if name != NO_NAME)
+
+    def note(self, item: int, step: Step) -> None:
+        has_order = step.is_release() or step.is_acquire()
+        if item in self.wanted and (has_order or (step.space, step.word) in self.wanted[item]):
+            self.steps[item].append(step)
+        if item in self.wanted and step.order:
+            self.atomics[item].note(step)
+        if has_order and len(self.hands) < MOST_HANDS:
+            self.hands.append((item, step))
+
+    def arrivals_of(self, item: int) -> Arrivals:
+        """Those of one of the wanted items. Few races ask for them."""
+        if not self.arrivals:
+            self.arrivals = {it: Arrivals() for it in self.wanted}
+            for kind, _, _, _, it, site, word in self.form.iter_unpack(self.stream):
+                if it in self.wanted:
+                    self.arrivals[it].note(site, kind, word)
+        return self.arrivals[item]
+
+    def all_steps(self) -> Iterator[Tuple[int, Step]]:
+        """With their items."""
+        for item, steps in self.steps.items():
+            yield from ((item, step) for step in (*steps, *self.atomics[item].stores.values(), *self.atomics[item].loads.values()))
+        yield from self.hands
 
     def phase(self, item: int, index: int) -> int:
         """How many barriers of the item come before its record of this index."""
@@ -88,10 +132,6 @@ class Group:
 
     def step(self, item: int, index: int) -> Step:
         return next(step for step in self.steps[item] if step.at == index)
-
-
-def names_in(places: memoryview) -> Tuple[Tuple[int, int, int], ...]:
-    return tuple((name[0], name[1], name[2]) for name in RELEASE.iter_unpack(places) if name != NO_NAME)
 
 
 def groups_of(folder: str, wanted: Dict[int, Wanted]) -> Dict[int, Group]:

@@ -168,7 +168,9 @@ class Report:
         status, reasons = self.status(), self.reasons()
         new = [entry for entry in self.entries().values() if entry.state == NEW and not entry.finding.is_doubtful]
         is_known = any(finding.state != NEW for launch in self.launches for finding in launch.findings)
+        verdicts, more = [launch.verdict for launch in self.launches], self.not_judged()
         none = "nothing new found" if is_known else "nothing found"
+        none += " for certain" if "doubtful" in verdicts else ""
         said = {0: none, FOUND: count(len(new), "finding"), INCOMPLETE: f"{none}, which is no answer"}[status]
         yield f"{said}{':' if status == INCOMPLETE else '; but besides:' if reasons else ''}"
         shown: Dict[str, int] = {}
@@ -182,10 +184,8 @@ class Report:
                 yield f"    and {number - MOST_ALIKE} more ({name})"
         for it in self.filters:
             yield from it.lines(self)
-        verdicts, more = [launch.verdict for launch in self.launches], self.not_judged()
-        found = verdicts.count("found") + verdicts.count("doubtful")
-        known = f"{verdicts.count('known')} with known ones, " if "known" in verdicts else ""
-        yield (f"{count(len(verdicts) + more, 'launch')}: {found} with findings, {known}{verdicts.count('nothing')} without, "
+        others = "".join(f"{verdicts.count(it)} with {it} ones, " for it in ("doubtful", "known") if it in verdicts)
+        yield (f"{count(len(verdicts) + more, 'launch')}: {verdicts.count('found')} with findings, {others}{verdicts.count('nothing')} without, "
                f"{verdicts.count('incomplete') + more} not judged whole"
                + (f"; they are in {self.kept}" if self.kept else "; --keep DIR keeps them"))
 

@@ -13,6 +13,7 @@ from .records import Group
 
 BUFFER = re.compile(r"(?:g|l (\d+)) (\d+) (\d+) (.+)")
 PLACE = re.compile(r"(.+):(\d+):(\d+)")
+KERNEL = re.compile(r"\s*(?:(?:__)?kernel\s+(?:void|__attribute__)\b|__kernel\s*$)")  # a line with which one begins
 CALLED = " called at "  # between a place and that of each call that leads there, the innermost one first
 MOST_RUNS = 5       # of words of a buffer
 MOST_COLUMNS = 160  # of a line of source
@@ -127,8 +128,7 @@ class Places:
 
     def find(self, groups: Dict[int, Group], sites: List[str]) -> None:
         for number, group in groups.items():
-            for item in group.steps:
-                self.found.update((f"{number} {item} {step.at}", sites[step.site - 1]) for step in group.steps_of(item) if 0 < step.site <= len(sites))
+            self.found.update((f"{number} {item} {step.at}", sites[step.site - 1]) for item, step in group.all_steps() if 0 < step.site <= len(sites))
             for step in (step for steps in group.barriers for step in steps if 0 < step.site <= len(sites)):
                 self.found.setdefault(str(step.word), sites[step.site - 1])
 
@@ -139,6 +139,14 @@ class Places:
         return self.found.get(f"{group} {item} {index}", "")
 
 
+def part_of(line: str, column: int) -> str:
+    """A line without the spaces around it; of a long one the part around a column."""
+    line = line.rstrip()
+    text = line.lstrip()
+    start = max(0, min(column - 1 - (len(line) - len(text)) - MOST_COLUMNS // 2, len(text) - MOST_COLUMNS))
+    return ".. " * (start > 0) + text[start:start + MOST_COLUMNS] + " .." * (start + MOST_COLUMNS < len(text))
+
+
 class Texts:
     """The texts that places are of: those of the folder, and else files that are there."""
 
@@ -147,22 +155,19 @@ class Texts:
         self.files: Dict[str, List[str]] = {}
 
     def line(self, place: str) -> str:
-        """The line of a place that is no call's, or nothing. Of a long one the part around the place's column."""
+        """What is shown of the line of a place that is no call's, or nothing."""
         at = PLACE.fullmatch(place)
-        if not at:
-            return ""
-        lines, number = self.text(at[1]), int(at[2])
-        line = lines[number - 1].rstrip() if 0 < number <= len(lines) else ""
-        text = line.lstrip()
-        column = int(at[3]) - 1 - (len(line) - len(text))
-        start = max(0, min(column - MOST_COLUMNS // 2, len(text) - MOST_COLUMNS))
-        return ".. " * (start > 0) + text[start:start + MOST_COLUMNS] + " .." * (start + MOST_COLUMNS < len(text))
+        lines, number = (self.text(at[1]), int(at[2])) if at else ([], 0)
+        return part_of(lines[number - 1], int(at[3])) if at and 0 < number <= len(lines) else ""
 
     def nth(self, place: str) -> int:
-        """Which one of the lines of its text in its file the line of a place is, from 1."""
-        at = PLACE.fullmatch(place)
-        lines = [line.strip() for line in self.text(at[1])[:int(at[2])]] if at else []
-        return max(1, lines.count(lines[-1])) if lines else 1
+        """Which one of the lines that are shown alike the line of a place is, from 1, counted from where its kernel begins."""
+        at, text = PLACE.fullmatch(place), self.line(place)
+        if not at or not text:
+            return 1
+        lines = self.text(at[1])[:int(at[2])]
+        first = next((number for number in reversed(range(len(lines))) if KERNEL.match(lines[number])), 0)
+        return sum(part_of(line, int(at[3])) == text for line in lines[first:])
 
     def text(self, file: str) -> List[str]:
         if file not in self.files:

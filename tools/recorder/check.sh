@@ -101,6 +101,12 @@ expect "a lock that is a flag" 0 "flag_lock: nothing found (3 groups of 1 work-i
     -- --build-options "-cl-std=CL2.0 -DORDER=memory_order_release" flag_lock.sim
 expect "a relaxed count" 1 "races 5 diverge 0 unmatched 0 held 0" "race on parts\[0..4\]" "a release that an acquire takes, at memory_scope_device, would" \
     -- --opencl20 --build-options -DORDER=memory_order_relaxed sum_all.sim
+# a scope that has no other item of the group is none that has other groups
+for scope in work_item sub_group; do
+    expect "a count of the scope $scope" 1 "races 6 diverge 0 unmatched 0 held 0" "race on parts\[0..4\]" "race on count\[0\]" \
+        "atomics of work-item or sub-group scope, taken as of work-group scope: a race in a group may be missed: 6" \
+        -- --opencl20 --build-options "-DORDER=memory_order_acq_rel -DSCOPE=memory_scope_$scope" sum_all.sim
+done
 # of the six releases that the load is to name, four are of groups that are not recorded
 expect "a window of hand-overs" 2 "sum_all: nothing found in what was recorded (2 groups" "hand-overs from groups outside the window, not recorded: 4" \
     -- --opencl20 --groups 4:2 --build-options "-DORDER=memory_order_release -DACQUIRES" sum_all.sim
@@ -148,7 +154,7 @@ expect "parts of words" 1 "races 2 diverge 0 unmatched 0 held 0" "race on bytes\
     "write by group 4 (1,1), item 1 (1,0)" "race on shorts\[12\]" "a release that an acquire takes, at memory_scope_device, would" -- parts.sim
 # four work-items execute a fence, and one of them writes after the buffer; two groups write four words and end
 expect "what is left out" 1 "left_out: FOUND (2 groups of 2 work-items, 6 records)" \
-    "note: fences, which are not recorded: the order that they give is not seen: 4" \
+    "note: fences: 4: no work-item does an atomic access, and a fence alone orders nothing between work-items" \
     "out of bounds: write of 4 bytes, right after the end of words, which has 16 bytes:" "kernel.cl:8:[0-9]*: write by group 1, item 1" -- left_out.sim
 # an atomic and reads by a call that begin before a buffer, or end after it
 expect "out of bounds" 1 "out of bounds: read of 4 bytes, 8 bytes before the start of words, which has 16 bytes:" "kernel.cl:3:[0-9]*: read by group 0, item 0" \

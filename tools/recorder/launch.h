@@ -121,7 +121,8 @@ using Buffers = std::array<std::map<uint32_t, Buffer>, 2>; // by space, by numbe
 
 // What the report of this launch does not speak of.
 struct Losses {
-    std::atomic<uint64_t> fences{0}, unknown_orders{0}, names_outside_window{0}, accesses_of_parts_of_words{0};
+    std::atomic<uint64_t> fences{0}, unknown_orders{0}, narrow_scopes{0}, names_outside_window{0}, accesses_of_parts_of_words{0};
+    std::atomic<bool> has_atomics{false}; // an item has done an atomic access
 };
 
 // The releases whose release sequences the value of each atomic word belongs to. A word is its buffer's number and its offset.

@@ -405,14 +405,20 @@ private:
         const bool can_fail = call_kind == Call::explicit_exchange;
         const uint8_t order = order_of(item, call->getArgOperand(count - (can_fail ? 3 : 2)), kind);
         const uint8_t failure = can_fail ? order_of(item, call->getArgOperand(count - 2), GPURACE_LOAD) : order;
-        const bool is_narrow = item->getOperand(call->getArgOperand(count - 1)).getUInt() == 1;
-        return {item, kind, order, failure, uint8_t(is_narrow ? GPURACE_GROUP : GPURACE_DEVICE)};
+        return {item, kind, order, failure, scope_of(item->getOperand(call->getArgOperand(count - 1)).getUInt())};
+    }
+    // memory_scope_work_item is 0, work_group 1, device 2, all_svm_devices 3, sub_group 4. A trace has none that is narrower than a work-group.
+    uint8_t scope_of(uint64_t scope) {
+        const bool is_narrow = scope == 0 || scope == 4;
+        launch_->losses.narrow_scopes += is_narrow;
+        return is_narrow || scope == 1 ? GPURACE_GROUP : GPURACE_DEVICE;
     }
 
     // Records an atomic as the load that it is unless a store follows; null where it is out of bounds. The atomics of OpenCL 1.2
     // are relaxed, of device scope on global memory and of group scope on local memory.
     Record *atomic_load(const Memory *memory, const WorkItem *item, size_t address, size_t size) {
         Group &group = group_of(item->getWorkGroup());
+        launch_->losses.has_atomics = true;
         const bool is_explicit = running.given.item == item;
         const bool is_inside = is_explicit && !item->getCallStack().empty();
         const uint32_t place = is_inside ? caller_of(group, item) : place_of(group, item);

@@ -249,8 +249,9 @@ private:
     void write_losses(std::ostream &out) const {
         const Losses &losses = launch_.losses;
         for (const auto &[place, outside] : launch_.outside) out << outside.line(launch_.places[place]);
-        out << "fences-not-recorded " << losses.fences << "\norders-not-known " << losses.unknown_orders << "\nnames-outside-window " << losses.names_outside_window
-            << "\nacquire-loads-added " << added_loads_ << "\naccesses-of-parts-of-words " << losses.accesses_of_parts_of_words << '\n';
+        out << "fences-not-recorded " << losses.fences << "\norders-not-known " << losses.unknown_orders << "\nnarrow-scope " << losses.narrow_scopes
+            << "\nnames-outside-window " << losses.names_outside_window << "\nacquire-loads-added " << added_loads_ << "\naccesses-of-parts-of-words "
+            << losses.accesses_of_parts_of_words << "\natomics " << (losses.has_atomics ? "yes" : "no") << '\n';
     }
 };
 

@@ -45,8 +45,9 @@ std::string buffers_of(const Launch &launch) {
 void write_losses(std::ostream &out, Launch &launch) {
     const std::lock_guard<std::mutex> held(launch.losses.lock);
     for (size_t site = 0; site < launch.losses.of_site.size(); site++) {
-        const uint64_t count = launch.losses.of_site[site];
+        const uint64_t count = launch.losses.of_site[site], narrow = launch.losses.narrow[site];
         const Site &at = launch.sites[site];
+        if (narrow > 0) out << "narrow-scope " << narrow << ' ' << at.place << '\n';
         if (count == 0) continue;
         if (at.kind == FENCE || at.kind == IMAGE) {
             out << (at.kind == FENCE ? "fence " : "image ") << count << ' ' << at.place << '\n';
@@ -57,7 +58,8 @@ void write_losses(std::ostream &out, Launch &launch) {
         }
     }
     out << "names-outside-window " << launch.losses.names_outside << "\nrepeated-not-recorded "
-        << launch.losses.repeated << "\nacquire-loads-added " << launch.losses.added << '\n';
+        << launch.losses.repeated << "\nacquire-loads-added " << launch.losses.added << "\natomics "
+        << (launch.losses.has_atomics ? "yes\n" : "no\n");
 }
 
 } // namespace

@@ -419,6 +419,14 @@ uint8_t order_of(uint32_t order, int kind) {
     return takes ? (gives ? GPURACE_BOTH : GPURACE_ACQUIRE) : gives ? GPURACE_RELEASE : GPURACE_RELAXED;
 }
 
+// memory_scope_work_item is 0, work_group 1, device 2, all_svm_devices 3, sub_group 4. A trace has none that is narrower than a work-group: such
+// atomics are counted.
+uint8_t scope_of(Losses &losses, uint32_t number, uint32_t scope) {
+    const bool is_narrow = scope == 0 || scope == 4;
+    if (is_narrow) losses.narrow[number].fetch_add(1, std::memory_order_relaxed);
+    return is_narrow || scope == 1 ? GPURACE_GROUP : GPURACE_DEVICE;
+}
+
 struct AtomicRecord {
     int kind, space;
     uint8_t order, scope;
@@ -481,7 +489,9 @@ extern "C" HOOK uint64_t gr_atomic(void *state, uint32_t number, uint32_t what, 
     AtomicRecord record{};
     const Span *span = span_of(group, site, address, site.bytes, record.space);
     if (!span && site.space != GENERIC) return note_outside(group, item.number, number, site, address), 0;
-    record.scope = record.space == LOCAL || (how >> 16 & 255) == 1 ? GPURACE_GROUP : GPURACE_DEVICE;
+    if (!launch.losses.has_atomics.load(std::memory_order_relaxed)) launch.losses.has_atomics = true;
+    record.scope = scope_of(launch.losses, number, how >> 16 & 255);
+    if (record.space == LOCAL) record.scope = GPURACE_GROUP;
     const bool is_named = launch.has_names && span;
     Stripe &stripe = launch.sequences.stripe_of(address);
     std::unique_lock<Stripe> held(stripe, std::defer_lock);

@@ -56,10 +56,12 @@ struct Result {
 
 struct Losses { // what the report on the launch does not speak of, or says in another way
     std::vector<std::atomic<uint64_t>> of_site;  // fences, images, accesses out of bounds
+    std::vector<std::atomic<uint64_t>> narrow;   // of each site its atomics whose scope is narrower than a work-group
     std::map<uint32_t, Outside> outside;         // by site
     std::mutex lock;
     std::atomic<uint64_t> repeated{0}, added{0}, names_outside{0};
-    explicit Losses(size_t sites) : of_site(sites) {}
+    std::atomic<bool> has_atomics{false};        // an item has done an atomic access
+    explicit Losses(size_t sites) : of_site(sites), narrow(sites) {}
 };
 
 class Launch {
