@@ -290,6 +290,12 @@ class Files(Outputs):
         self.assertNotIn("Broken pipe", ran.stderr)
         self.assertEqual(self.made("made.json")["status"], 1)
 
+    def test_a_standard_error_that_cant_be_written_changes_nothing(self):
+        put_right(self.kept)
+        with open("/dev/full", "w") as full:
+            ran = self.ran(status=0, stderr=full)
+        self.assertEqual(ran.stdout.splitlines(), self.judge(status=0))
+
     def test_one_that_fails_is_a_reason_in_the_others(self):
         put_right(self.kept)
         (self.room / "full").symlink_to("/dev/full")

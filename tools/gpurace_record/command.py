@@ -5,7 +5,6 @@ import argparse
 import os
 import re
 import shutil
-import signal
 import subprocess
 import sys
 import traceback
@@ -97,7 +96,7 @@ def parser() -> Parser:
     made.add_argument("--ignore-program-status", action="store_true", help="accepts a program that ends with a status other than 0")
     add_outputs(made)
     own = made.add_argument_group("of the native recorder")
-    own.add_argument("--most-records", metavar="N", type=number, help="records at most N records of each launch; what comes after them is reported as cut")
+    own.add_argument("--most-records", metavar="N", type=number, help="records at most N accesses and barriers of each launch; what comes after them is reported as cut")
     own.add_argument("--timeout", metavar="S", type=number, help="ends the program if a kernel has not ended after S seconds")
     own.add_argument("--seed", metavar="N", type=number, help="makes the order of work-items and work-groups a function of N, on one thread")
     own.add_argument("--schedules", metavar="K", type=above_zero, help="runs the program K times, with the seeds N, N + 1 and so on")
@@ -257,7 +256,6 @@ class Recorder:
         variables = (simulator.environment(options, folder) if options.simulator else
                      native.environment(self.out, options, folder, seed, is_judged=not options.keep))
         run = Run(self.command, {**variables, **recording.of_tests(tests, judge is not None)}, lock)
-        sys.stdout.flush()
         reasons = run.reasons(options.timeout, options.ignore_program_status)
         self.report.run_reasons += reasons + (recording.under_way(folder) if reasons else [])
         if options.simulator and run.stopped_by:
@@ -273,7 +271,7 @@ class Recorder:
         is_stopped = False
         try:
             judge.finish()
-        except (KeyboardInterrupt, Stopped):
+        except Stopped:
             is_stopped = True
         kernels = judge.stop()
         if is_stopped or kernels:
@@ -304,7 +302,6 @@ def conclude(report: Report, options: argparse.Namespace) -> int:
     """Writes what there is, and answers the status."""
     made = [(getattr(options, form), partial(make, report, options.words)) for form, make in outputs.FORMS.items() if getattr(options, form)]
     made += [(it.path, partial(it.text, report)) for it in report.filters if isinstance(it, Baseline) and options.update_baseline]
-    sys.stdout.flush()
     write_all(made if options.report else [*made, (STANDARD_OUTPUT, partial(outputs.as_text, report, options.words))], report)
     status = report.status()
     return int(options.error_exitcode) if status == 1 and options.error_exitcode else status
@@ -312,12 +309,12 @@ def conclude(report: Report, options: argparse.Namespace) -> int:
 
 def guarded(run: Callable[[], int]) -> int:
     """Runs a command: its reader may stop reading, and Ctrl-C may stop it after the program's end. A fault is no finding."""
-    signal.signal(signal.SIGTERM, recording.stop)
+    recording.stop_at_signals()
     try:
         return run()
     except Missing as missing:
         stop(MISSING, str(missing))
-    except (KeyboardInterrupt, Stopped):
+    except Stopped:
         return INCOMPLETE
     except BrokenPipeError:
         os.dup2(os.open(os.devnull, os.O_WRONLY), sys.stdout.fileno())
@@ -333,5 +330,5 @@ def guarded(run: Callable[[], int]) -> int:
 def main(words: List[str]) -> int:
     options = options_of(words)
     if options.check:
-        return 0 if native.check(say) else MISSING
+        return guarded(lambda: 0 if native.check(say) else MISSING)
     return guarded(lambda: record(options))
