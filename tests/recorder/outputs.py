@@ -116,6 +116,10 @@ class Statuses(Outputs):
         put_launch(self.kept / "000-three", ["group 0 items 2 launch 0\n0 w g 1\nend cut\n"], {"info.txt": info("three", 0, 3, "cut 0\ncut 1\ncut 2\n")})
         self.assertIn("records of 3 of 3 groups were lost (the first is group 0)", "".join(self.judge(status=2)))
 
+    def test_records_beyond_the_most(self):
+        put_launch(self.kept / "000-most", ["group 0 items 2 launch 0\n0 w g 1\nend cut\n"], {"info.txt": info("most", 0, more="cut 0\nmost-records 1\n")})
+        self.assertIn("records of 1 of 1 groups were lost (the first is group 0): --most-records 1 allows no more", "".join(self.judge(status=2)))
+
     def test_a_launch_that_cant_be_judged_is_no_answer(self):
         put_right(self.kept)
         put_right(self.kept, 1, "other")

@@ -56,6 +56,8 @@ class Run:
         self.stopped_by = ""
         with subprocess.Popen([*dies_with_us(), *words], env=variables, pass_fds=[lock]) as program:
             self.status = self.wait(program)
+        if self.stopped_by:
+            end_others(variables["GPURACE_OUT"])
 
     def wait(self, program: subprocess.Popen) -> int:
         """A signal that stops us stops the program, too: it is sent there, and SIGKILL where that doesn't end it. A terminal sends Ctrl-C to
@@ -82,6 +84,29 @@ class Run:
         if self.status > 0:
             return [Reason("program-status", f"the program ended with status {self.status}")]
         return [Reason("program-signal", f"the program ended with signal {-self.status} ({signal_name(-self.status)})")]
+
+
+def signalled(folder: str, number: int) -> bool:
+    """Sends a signal to the processes that have the recorder's layer and write to this folder. Answers whether there are any."""
+    found = []
+    for pid in filter(str.isdigit, os.listdir("/proc") if os.path.isdir("/proc") else ()):
+        with contextlib.suppress(OSError), open(f"/proc/{pid}/environ", "rb") as variables, open(f"/proc/{pid}/maps", "rb") as files:
+            if b"GPURACE_OUT=" + os.fsencode(folder) in variables.read().split(b"\0") and b"/layer.so\n" in files.read():
+                os.kill(int(pid), number)
+                found.append(pid)
+    return bool(found)
+
+
+def end_others(folder: str) -> None:
+    """The program was stopped. What it has started, as a script does, is stopped, too, and may still write what is recorded."""
+    ends_at = time.monotonic() + CLOSES
+    is_left = signalled(folder, signal.SIGTERM)
+    with contextlib.suppress(Stopped):
+        while is_left and time.monotonic() < ends_at:
+            time.sleep(0.05)
+            is_left = signalled(folder, 0)
+    if is_left:
+        signalled(folder, signal.SIGKILL)
 
 
 def under_way(folder: str) -> List[Reason]:
