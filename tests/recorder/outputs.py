@@ -330,8 +330,10 @@ class Files(Outputs):
         (self.room / "link").symlink_to("made")
         for words, said in ((("--json", "made", "--sarif", "./made"), "--json and --sarif name one file: ./made"),
                             (("--report", "link", "--html", "made"), "--html and --report name one file: link"),
+                            (("--json", "/dev/stdout", "--sarif", "/dev/fd/1"), "--json and --sarif name one file: /dev/fd/1"),
                             (("--json", "link", "--baseline", "made", "--update-baseline"), "--json and --baseline name one file: made")):
             self.assertEqual(self.ran(*words, status=3).stderr, f"gpurace-judge: {said}\n")
+        self.ran("--json", "/dev/stdout", "--report", "/dev/stderr", status=0, stderr=subprocess.STDOUT)
 
 
 class Sources(Outputs):

@@ -18,7 +18,7 @@ from .known import Baseline, Suppressions, Wrong
 from .recording import Missing, Run, Stopped
 from .report import NAME, Filter, Report, say, unrecorded
 from .sources import Sources
-from .writing import STANDARD_OUTPUT, can_be_written, write_all
+from .writing import STANDARD_OUTPUT, can_be_written, name_of, write_all
 
 WRONG_WORDS, MISSING = 3, 70
 OF_REPORT = (*outputs.FORMS, "baseline", "update_baseline", "suppress", "sources", "error_exitcode")
@@ -138,8 +138,8 @@ def filters_of(options: argparse.Namespace) -> List[Filter]:
         path = getattr(options, name)
         if path and (name in outputs.FORMS or (name == "baseline" and options.update_baseline)) and not can_be_written(path):
             stop(WRONG_WORDS, f"{path} can't be written")
-        if path and named.setdefault(os.path.realpath(path), name) != name:
-            stop(WRONG_WORDS, f"--{named[os.path.realpath(path)]} and --{name} name one file: {path}")
+        if path and named.setdefault(name_of(path), name) != name:
+            stop(WRONG_WORDS, f"--{named[name_of(path)]} and --{name} name one file: {path}")
     if options.html:
         page.needed()
     if options.update_baseline and not options.baseline:

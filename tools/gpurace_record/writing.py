@@ -24,6 +24,12 @@ def open_file(path: str) -> Optional[int]:
     return None
 
 
+def name_of(path: str) -> str:
+    """One for all paths of a file."""
+    number = open_file(path)
+    return os.path.realpath(path) if number is None else f"/dev/fd/{number}"
+
+
 def is_stream(path: str) -> bool:
     """Whether it is written into as it is, and can't be written again."""
     return open_file(path) is not None or (os.path.exists(path) and not os.path.isfile(path))
