@@ -19,7 +19,7 @@ from .judging import Reason, count
 from .pipes import dies_with_us
 
 TOOLS = os.path.dirname(os.path.dirname(os.path.realpath(__file__)))
-CLOSES = 5.0    # seconds that a program has to end after a signal
+CLOSES = 10.0   # seconds that a program has to end after a signal
 TOGETHER = 1.0  # seconds, in which signals are one
 SHARED_MEMORY, LEAST_ROOM = "/dev/shm", 1 << 30
 ALL_NOTED = "all-noted"  # a file that the recorder removes, which takes no room, where it can't note a launch that it has not recorded
@@ -69,7 +69,7 @@ class Run:
             except Stopped as why:
                 if not self.stopped_by:
                     self.stopped_by = "Ctrl-C" if why.number == signal.SIGINT else signal_name(why.number)
-                    sent = [(CLOSES if why.number == signal.SIGINT else 0.0, why.number), (CLOSES, signal.SIGKILL)]
+                    sent = [(CLOSES / 2 if why.number == signal.SIGINT else 0.0, why.number), (CLOSES, signal.SIGKILL)]
             except subprocess.TimeoutExpired:
                 program.send_signal(sent.pop(0)[1])
 

@@ -128,7 +128,8 @@ public:
     Signals(const Signals &) = delete;
 
 private:
-    std::map<int, struct sigaction> before_;
+    static constexpr int NUMBERS[] = {SIGINT, SIGTERM, SIGHUP};
+    struct sigaction before_[std::size(NUMBERS)];
 };
 
 // While this lives a signal or its time ends the launch, and what was recorded is written as cut.

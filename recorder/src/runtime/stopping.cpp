@@ -62,17 +62,14 @@ Signals::Signals() {
     noted.sa_handler = note_interrupt;
     sigemptyset(&noted.sa_mask);
     interrupt = 0;
-    for (const int signal : {SIGINT, SIGTERM, SIGHUP}) {
-        struct sigaction before;
-        sigaction(signal, nullptr, &before);
-        if (before.sa_handler == SIG_IGN) continue; // as nohup has it
-        before_[signal] = before;
-        sigaction(signal, &noted, nullptr);
+    for (size_t at = 0; at < std::size(NUMBERS); at++) {
+        sigaction(NUMBERS[at], nullptr, &before_[at]);
+        if (before_[at].sa_handler != SIG_IGN) sigaction(NUMBERS[at], &noted, nullptr); // as nohup has it
     }
 }
 
 Signals::~Signals() {
-    for (const auto &[signal, before] : before_) sigaction(signal, &before, nullptr);
+    for (size_t at = 0; at < std::size(NUMBERS); at++) sigaction(NUMBERS[at], &before_[at], nullptr);
     if (interrupt) kill(getpid(), interrupt); // now the program's own way
 }
 
