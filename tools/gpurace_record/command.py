@@ -96,7 +96,8 @@ def parser() -> Parser:
     made.add_argument("--ignore-program-status", action="store_true", help="accepts a program that ends with a status other than 0")
     add_outputs(made)
     own = made.add_argument_group("of the native recorder")
-    own.add_argument("--most-records", metavar="N", type=number, help="records at most N accesses and barriers of each launch; what comes after them is reported as cut")
+    own.add_argument("--most-records", metavar="N", type=number,
+                     help="records at most N accesses and barriers of each launch; what comes after them is reported as cut")
     own.add_argument("--timeout", metavar="S", type=number, help="ends the program if a kernel has not ended after S seconds")
     own.add_argument("--seed", metavar="N", type=number, help="makes the order of work-items and work-groups a function of N, on one thread")
     own.add_argument("--schedules", metavar="K", type=above_zero, help="runs the program K times, with the seeds N, N + 1 and so on")
