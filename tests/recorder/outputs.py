@@ -2,6 +2,7 @@
 
 import json
 import os
+import resource
 import shutil
 import subprocess
 import sys
@@ -13,8 +14,8 @@ from testing.program import TOP, RoomTest, python_with
 from gpurace_record.finding import Finding
 from gpurace_record.judging import Launch
 from gpurace_record.known import Baseline, entry_of
-from gpurace_record.outputs import write
 from gpurace_record.report import Report
+from gpurace_record.writing import write
 
 VALIDATES = python_with("jsonschema")
 VALIDATE = "import json, jsonschema, sys; jsonschema.validate(json.loads(sys.argv[1]), json.load(open(sys.argv[2])))"
@@ -28,11 +29,15 @@ class Outputs(RoomTest):
 
     def judge(self, *options, status):
         """What gpurace-judge says of the launches, with this status."""
+        return self.ran(*options, status=status).stdout.splitlines()
+
+    def ran(self, *options, status, **more):
+        """A run of gpurace-judge that had this status."""
         words = [sys.executable, str(JUDGE), *options, str(self.kept)]
-        ran = subprocess.run(words, stdout=subprocess.PIPE, stderr=subprocess.PIPE, text=True, cwd=self.room, timeout=300, check=False,
-                             env={**os.environ, "GPURACE_PROGRAM": os.environ["GPURACE"]})
-        self.assertEqual(ran.returncode, status, ran.stdout + ran.stderr)
-        return ran.stdout.splitlines()
+        settings = {"stdout": subprocess.PIPE, "stderr": subprocess.PIPE, "text": True, **more}
+        ran = subprocess.run(words, cwd=self.room, timeout=300, check=False, env={**os.environ, "GPURACE_PROGRAM": os.environ["GPURACE"]}, **settings)
+        self.assertEqual(ran.returncode, status, (ran.stdout or "") + (ran.stderr or ""))
+        return ran
 
     def made(self, name):
         return json.loads((self.room / name).read_text())
@@ -114,6 +119,10 @@ class Statuses(Outputs):
         put_launch(self.kept / "000-three", ["group 0 items 2 launch 0\n0 w g 1\nend cut\n"], {"info.txt": info("three", 0, 3, "cut 0\ncut 1\ncut 2\n")})
         self.assertIn("records of 3 of 3 groups were lost (the first is group 0)", "".join(self.judge(status=2)))
 
+    def test_records_beyond_the_most(self):
+        put_launch(self.kept / "000-most", ["group 0 items 2 launch 0\n0 w g 1\nend cut\n"], {"info.txt": info("most", 0, more="cut 0\nmost-records 1\n")})
+        self.assertIn("records of 1 of 1 groups were lost (the first is group 0): --most-records 1 allows no more", "".join(self.judge(status=2)))
+
     def test_a_launch_that_cant_be_judged_is_no_answer(self):
         put_right(self.kept)
         put_right(self.kept, 1, "other")
@@ -173,6 +182,20 @@ class Forms(Outputs):
         self.assertEqual([it["contents"]["text"] for it in run["artifacts"]], [KERNEL] * 3)
         self.assert_valid(made, TOP / "tests" / "recorder" / "sarif.schema.json")
 
+    def test_sarif_of_texts_of_one_name(self):
+        """Each result's line is a line of its own text, whose artifact has a URI of its own."""
+        put_racy(self.kept)
+        put_racy(self.kept, 1, added_lines=7)
+        put_racy(self.kept, 2)
+        (self.kept / "001-sums" / "kernel.cl").write_text("\n" * 7 + KERNEL.replace("input[l];", "input[l] + 1;"))
+        self.judge("--sarif", "made.sarif", status=1)
+        run = self.made("made.sarif")["runs"][0]
+        texts = {it["location"]["uri"]: it["contents"]["text"].splitlines() for it in run["artifacts"]}
+        places = [it["locations"][0]["physicalLocation"] for it in run["results"]]
+        found = [(it["artifactLocation"]["uri"], it["region"]["startLine"]) for it in places]
+        self.assertEqual([*sorted(texts), *found], ["sums.2/kernel.cl", "sums/kernel.cl", ("sums/kernel.cl", 3), ("sums.2/kernel.cl", 10)])
+        self.assertEqual([texts[uri][line - 1].strip() for uri, line in found], ["tile[l] = input[l];", "tile[l] = input[l] + 1;"])
+
     def test_calls_that_lead_to_an_access(self):
         """The access of line 3 is in a function that line 5 calls: JSON, SARIF and the fingerprint have the call."""
         put_racy(self.kept)
@@ -212,9 +235,14 @@ class Forms(Outputs):
         self.judge("--junit", "made.xml", status=1)
         self.assertIn("input[l]; // ? <&>", xml.parse(self.room / "made.xml").getroot().find(".//failure").text)
 
+
+class Files(Outputs):
+    """Where outputs go."""
+
     def test_a_file_that_cant_be_written(self):
         put_right(self.kept)
         self.judge("--json", "nowhere/made.json", status=3)
+        self.judge("--json", str(self.kept), status=3)
 
     def test_a_file_that_cant_be_put_in_its_place(self):
         """It was a file when the words were looked at; no part of it stays."""
@@ -223,6 +251,92 @@ class Forms(Outputs):
         with self.assertRaises(OSError) as fault:
             write(str(made), "text")
         self.assertEqual((fault.exception.filename, [it.name for it in self.room.iterdir()]), (str(made), ["made.json"]))
+
+    def test_a_link_leads_where_it_did(self):
+        put_right(self.kept)
+        (self.room / "target").write_text("old")
+        for name, target in (("link", "target"), ("to link", "link"), ("to nothing", "new")):
+            (self.room / name).symlink_to(target)
+            self.judge("--json", name, status=0)
+            self.assertEqual((os.readlink(self.room / name), self.made(target)["status"]), (target, 0))
+
+    def test_a_device_a_pipe_and_an_open_file_are_written_into(self):
+        """The device is a terminal."""
+        put_right(self.kept)
+        os.mkfifo(self.room / "fifo")
+        terminal, device = os.openpty()
+        self.addCleanup(os.close, device)
+        pipe, to_pipe = os.pipe()
+        reads = [os.open(self.room / "fifo", os.O_RDONLY | os.O_NONBLOCK), terminal, pipe]
+        (self.room / "link").symlink_to(os.ttyname(device))
+        self.ran("--json", "fifo", "--sarif", "link", "--junit", f"/dev/fd/{to_pipe}", status=0, pass_fds=[to_pipe])
+        os.close(to_pipe)
+        self.assertTrue((self.room / "fifo").is_fifo() and (self.room / "link").is_char_device())
+        for read, said in zip(reads, ('"gpurace_record": 1', '"version": "2.1.0"', "<testsuites>")):
+            self.assertIn(said, os.read(read, 1 << 16).decode())
+            os.close(read)
+
+    def test_standard_output_goes_on_as_it_is(self):
+        """It is a file, and not the program's alone: what is there stays. With --report it has no report."""
+        put_right(self.kept)
+        with open(self.room / "out", "w") as out:
+            out.write("before\n")
+            out.flush()
+            self.ran("--json", "/dev/stdout", "--report", "report", status=0, stdout=out)
+            out.write("after\n")
+        lines = (self.room / "out").read_text().splitlines()
+        self.assertEqual((lines[0], json.loads("\n".join(lines[1:-1]))["status"], lines[-1]), ("before", 0, "after"))
+        self.assertEqual((self.room / "report").read_text().splitlines(), self.judge(status=0))
+
+    def test_a_reader_that_ends_is_no_fault(self):
+        put_racy(self.kept)
+        pipe, to_pipe = os.pipe()
+        os.close(pipe)
+        ran = self.ran("--json", "made.json", status=1, stdout=to_pipe)
+        os.close(to_pipe)
+        self.assertNotIn("Broken pipe", ran.stderr)
+        self.assertEqual(self.made("made.json")["status"], 1)
+
+    def test_a_standard_error_that_cant_be_written_changes_nothing(self):
+        put_right(self.kept)
+        with open("/dev/full", "w") as full:
+            ran = self.ran(status=0, stderr=full)
+        self.assertEqual(ran.stdout.splitlines(), self.judge(status=0))
+
+    def test_one_that_fails_is_a_reason_in_the_others(self):
+        put_right(self.kept)
+        (self.room / "full").symlink_to("/dev/full")
+        (self.room / "made.xml.part").mkdir()
+        ran = self.ran("--json", "made.json", "--sarif", "full", "--junit", "made.xml", status=2)
+        faults = [("made.xml", "Is a directory"), ("full", "No space left on device")]
+        self.assertEqual([line for line in ran.stderr.splitlines() if "made.xml" in line or "full" in line],
+                         [f"gpurace-judge: {path}: {why}" for path, why in faults])
+        said = [f"{path} could not be written: {why}" for path, why in faults]
+        self.assertEqual([(it["name"], it["text"]) for it in self.made("made.json")["reasons"]], [("fault", text) for text in said])
+        self.assertEqual((self.made("made.json")["status"], ran.stdout.splitlines()[1:4]), (
+            2, ["gpurace-judge: nothing found, which is no answer:", *(f"gpurace-judge:     {text}" for text in said)]))
+
+    def test_a_baseline_is_written_whole_or_not_at_all(self):
+        """No file may be as long as the new one."""
+        put_racy(self.kept)
+        old = json.dumps({"gpurace_baseline": 1, "findings": []})
+        (self.room / "known.json").write_text(old)
+
+        def limit():
+            resource.setrlimit(resource.RLIMIT_FSIZE, (100, 100))
+        ran = self.ran("--baseline", "known.json", "--update-baseline", status=2, preexec_fn=limit)
+        self.assertIn("gpurace-judge: known.json: File too large\n", ran.stderr)
+        self.assertEqual(((self.room / "known.json").read_text(), sorted(it.name for it in self.room.iterdir())), (old, ["kept", "known.json"]))
+
+    def test_two_of_one_path_are_refused(self):
+        put_right(self.kept)
+        (self.room / "link").symlink_to("made")
+        for words, said in ((("--json", "made", "--sarif", "./made"), "--json and --sarif name one file: ./made"),
+                            (("--report", "link", "--html", "made"), "--html and --report name one file: link"),
+                            (("--json", "/dev/stdout", "--sarif", "/dev/fd/1"), "--json and --sarif name one file: /dev/fd/1"),
+                            (("--json", "link", "--baseline", "made", "--update-baseline"), "--json and --baseline name one file: made")):
+            self.assertEqual(self.ran(*words, status=3).stderr, f"gpurace-judge: {said}\n")
+        self.ran("--json", "/dev/stdout", "--report", "/dev/stderr", status=0, stderr=subprocess.STDOUT)
 
 
 class Sources(Outputs):
@@ -249,6 +363,12 @@ class Sources(Outputs):
         run = self.assert_places("tree/lib/sums.cl:5:20", "tree/lib/sums.cl:3:13")
         self.assertEqual(run["results"][0]["locations"][0]["physicalLocation"]["artifactLocation"]["uri"], "tree/lib/sums.cl")
         self.assertEqual(run["artifacts"], [{"location": {"uri": "tree/lib/sums.cl"}, "contents": {"text": KERNEL}}])
+
+    def test_a_file_whose_name_has_other_characters(self):
+        """By RFC 3986 a space is %20, and the two bytes of an é in UTF-8 are %C3%A9."""
+        self.put("tree/an é/s 1.cl", KERNEL)
+        run = self.assert_places("tree/an é/s 1.cl:5:20", "tree/an é/s 1.cl:3:13")
+        self.assertEqual({it["location"]["uri"] for it in run["artifacts"]}, {"tree/an%20%C3%A9/s%201.cl"})
 
     def test_a_text_within_a_program(self):
         self.put("tree/sums.py", "import pyopencl\n\nTEXT = \"\"\"" + KERNEL + "\"\"\"\n" + "".join(f"print({number})\n" for number in range(40)))

@@ -36,3 +36,12 @@ class Words(unittest.TestCase):
 
     def test_a_file_of_the_simulator(self):
         self.assertEqual(self.refused("nothing.sim"), "gpurace-record: there is no file nothing.sim\n")
+
+    def test_words_after_two_dashes_are_the_program_s(self):
+        self.assertEqual(self.refused("--seed", "1", "--", "--json"), "gpurace-record: there is no program --json\n")
+        self.assertEqual(self.refused("--", "./text", "--json"), "gpurace-record: ./text is not executable\n")
+
+    def test_recording_alone_has_no_report(self):
+        for words in (("--json", "made"), ("--report", "made"), ("--baseline", "made"), ("--error-exitcode", "7")):
+            self.assertEqual(self.refused("--only-record", "--keep", "kept", *words, "./program"),
+                             f"gpurace-record: --only-record judges nothing, so it takes no {words[0]}\n")

@@ -5,11 +5,11 @@ import argparse
 import os
 import re
 import shutil
-import signal
 import subprocess
 import sys
 import traceback
-from typing import Callable, List, NoReturn, Optional
+from functools import partial
+from typing import Callable, Dict, List, NoReturn, Optional, Tuple
 
 from . import native, outputs, page, recording, simulator
 from .judges import Judge
@@ -18,8 +18,10 @@ from .known import Baseline, Suppressions, Wrong
 from .recording import Missing, Run, Stopped
 from .report import NAME, Filter, Report, say, unrecorded
 from .sources import Sources
+from .writing import STANDARD_OUTPUT, can_be_written, name_of, write_all
 
 WRONG_WORDS, MISSING = 3, 70
+OF_REPORT = (*outputs.FORMS, "baseline", "update_baseline", "suppress", "sources", "error_exitcode")
 PARTS = re.compile("[0-9]{1,9}:[0-9]{1,9}(,[0-9]{1,9}:[0-9]{1,9})*")
 RUNS = """\
 Kernels run instrumented on the host's threads, at native speed, whatever the device is. If a package is missing, it says which.
@@ -78,7 +80,7 @@ def width(prog: str) -> argparse.RawDescriptionHelpFormatter:
 
 def parser() -> Parser:
     made = Parser(prog="gpurace-record", allow_abbrev=False, epilog=RUNS + STATUSES, formatter_class=width,
-                  usage="gpurace-record [OPTION..] PROGRAM ARG..  |  [OPTION..] FILE.sim  |  --check",
+                  usage="gpurace-record [OPTION..] [--] PROGRAM ARG..  |  [OPTION..] FILE.sim  |  --check",
                   description="Records the kernels that a program launches, and says what gpurace finds in them, with lines of source.")
     made.add_argument("words", nargs=argparse.REMAINDER, metavar="PROGRAM", help="the program and its arguments, or a simulator file of oclgrind-kernel")
     made.add_argument("--check", action="store_true", help="says what this machine has and what is missing, and records one small kernel")
@@ -94,7 +96,8 @@ def parser() -> Parser:
     made.add_argument("--ignore-program-status", action="store_true", help="accepts a program that ends with a status other than 0")
     add_outputs(made)
     own = made.add_argument_group("of the native recorder")
-    own.add_argument("--most-records", metavar="N", type=number, help="records at most N records of each launch; what comes after them is reported as cut")
+    own.add_argument("--most-records", metavar="N", type=number,
+                     help="records at most N accesses and barriers of each launch; what comes after them is reported as cut")
     own.add_argument("--timeout", metavar="S", type=number, help="ends the program if a kernel has not ended after S seconds")
     own.add_argument("--seed", metavar="N", type=number, help="makes the order of work-items and work-groups a function of N, on one thread")
     own.add_argument("--schedules", metavar="K", type=above_zero, help="runs the program K times, with the seeds N, N + 1 and so on")
@@ -107,9 +110,10 @@ def parser() -> Parser:
 
 def add_outputs(made: argparse.ArgumentParser) -> None:
     """The options of what is reported, and in which form."""
-    forms = made.add_argument_group("for build servers")
+    forms = made.add_argument_group("of the report")
     for form, what in (("json", "every launch and every finding as JSON"), ("sarif", "the findings as SARIF 2.1.0"),
-                       ("junit", "a case for each kernel as JUnit"), ("html", "a page to look at: sources, findings, pictures")):
+                       ("junit", "a case for each kernel as JUnit"), ("html", "a page to look at: sources, findings, pictures"),
+                       ("report", "the report as text, in place of standard output")):
         forms.add_argument(f"--{form}", metavar="FILE", help=f"writes {what}")
     forms.add_argument("--baseline", metavar="FILE", help="the findings of this file are known, and only others count")
     forms.add_argument("--update-baseline", action="store_true", help="writes what is found into the baseline, so that it is known")
@@ -130,10 +134,13 @@ def report_for(options: argparse.Namespace, kept: Optional[str]) -> Report:
 
 def filters_of(options: argparse.Namespace) -> List[Filter]:
     """What is known or suppressed."""
-    for name in (*outputs.FORMS, "baseline"):
+    named: Dict[str, str] = {}
+    for name in (*outputs.FORMS, "baseline", "suppress"):
         path = getattr(options, name)
-        if path and (os.path.isdir(path) or not os.access(os.path.dirname(path) or ".", os.W_OK)):
+        if path and (name in outputs.FORMS or (name == "baseline" and options.update_baseline)) and not can_be_written(path):
             stop(WRONG_WORDS, f"{path} can't be written")
+        if path and named.setdefault(name_of(path), name) != name:
+            stop(WRONG_WORDS, f"--{named[name_of(path)]} and --{name} name one file: {path}")
     if options.html:
         page.needed()
     if options.update_baseline and not options.baseline:
@@ -145,15 +152,15 @@ def filters_of(options: argparse.Namespace) -> List[Filter]:
         stop(WRONG_WORDS, str(wrong))
 
 
-def with_values(made: Parser, words: List[str]) -> List[str]:
-    """The words, each option up to the program joined with its value, which may begin as an option does."""
+def parted(made: Parser, words: List[str]) -> Tuple[List[str], List[str]]:
+    """The options, each joined with its value, which may begin as an option does; and the program's words, which `--` may come before."""
     joined, at = [], 0
-    while at < len(words) and words[at].startswith("-"):
+    while at < len(words) and words[at].startswith("-") and words[at] != "--":
         option = made._option_string_actions.get(words[at])
         has_value = option is not None and option.nargs is None and at + 1 < len(words)
         joined.append(f"{words[at]}={words[at + 1]}" if has_value else words[at])
         at += 2 if has_value else 1
-    return joined + words[at:]
+    return joined, words[at + 1:] if words[at:at + 1] == ["--"] else words[at:]
 
 
 def no_program(name: str) -> str:
@@ -166,7 +173,9 @@ def no_program(name: str) -> str:
 
 def options_of(words: List[str]) -> argparse.Namespace:
     made = parser()
-    options = made.parse_args(with_values(made, words))
+    own, program = parted(made, words)
+    options = made.parse_args(own)
+    options.words += program
     if options.check:
         return options
     if not options.words:
@@ -182,6 +191,9 @@ def options_of(words: List[str]) -> argparse.Namespace:
         stop(WRONG_WORDS, f"--{'optimized' if options.optimized else 'opencl20'} is of --simulator")
     if options.only_record and not options.keep:
         stop(WRONG_WORDS, "--only-record needs --keep DIR")
+    for name in OF_REPORT:
+        if options.only_record and getattr(options, name):
+            stop(WRONG_WORDS, f"--only-record judges nothing, so it takes no --{name.replace('_', '-')}")
     if options.keep and os.path.exists(options.keep) and (not os.path.isdir(options.keep) or os.listdir(options.keep)):
         stop(WRONG_WORDS, f"{options.keep} is {'not empty' if os.path.isdir(options.keep) else 'no folder'}")
     return options
@@ -245,7 +257,6 @@ class Recorder:
         variables = (simulator.environment(options, folder) if options.simulator else
                      native.environment(self.out, options, folder, seed, is_judged=not options.keep))
         run = Run(self.command, {**variables, **recording.of_tests(tests, judge is not None)}, lock)
-        sys.stdout.flush()
         reasons = run.reasons(options.timeout, options.ignore_program_status)
         self.report.run_reasons += reasons + (recording.under_way(folder) if reasons else [])
         if options.simulator and run.stopped_by:
@@ -261,7 +272,7 @@ class Recorder:
         is_stopped = False
         try:
             judge.finish()
-        except (KeyboardInterrupt, Stopped):
+        except Stopped:
             is_stopped = True
         kernels = judge.stop()
         if is_stopped or kernels:
@@ -289,32 +300,22 @@ def record(options: argparse.Namespace) -> int:
 
 
 def conclude(report: Report, options: argparse.Namespace) -> int:
-    """Writes and says what there is, and answers the status."""
+    """Writes what there is, and answers the status."""
+    made = [(getattr(options, form), partial(make, report, options.words)) for form, make in outputs.FORMS.items() if getattr(options, form)]
+    made += [(it.path, partial(it.text, report)) for it in report.filters if isinstance(it, Baseline) and options.update_baseline]
+    write_all(made if options.report else [*made, (STANDARD_OUTPUT, partial(outputs.as_text, report, options.words))], report)
     status = report.status()
-    try:
-        for form, make in outputs.FORMS.items():
-            if getattr(options, form):
-                outputs.write(getattr(options, form), make(report, options.words))
-        for it in report.filters:
-            if isinstance(it, Baseline) and options.update_baseline:
-                it.write(report)
-    except OSError as error:
-        say(f"{error.filename}: {error.strerror}")
-        status = status or INCOMPLETE
-    for line in report.lines():
-        print(line)
-    sys.stdout.flush()
     return int(options.error_exitcode) if status == 1 and options.error_exitcode else status
 
 
 def guarded(run: Callable[[], int]) -> int:
     """Runs a command: its reader may stop reading, and Ctrl-C may stop it after the program's end. A fault is no finding."""
-    signal.signal(signal.SIGTERM, recording.stop)
+    recording.stop_at_signals()
     try:
         return run()
     except Missing as missing:
         stop(MISSING, str(missing))
-    except (KeyboardInterrupt, Stopped):
+    except Stopped:
         return INCOMPLETE
     except BrokenPipeError:
         os.dup2(os.open(os.devnull, os.O_WRONLY), sys.stdout.fileno())
@@ -330,5 +331,5 @@ def guarded(run: Callable[[], int]) -> int:
 def main(words: List[str]) -> int:
     options = options_of(words)
     if options.check:
-        return 0 if native.check(say) else MISSING
+        return guarded(lambda: 0 if native.check(say) else MISSING)
     return guarded(lambda: record(options))

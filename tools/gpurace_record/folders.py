@@ -24,6 +24,7 @@ class Stream(NamedTuple):
     start: int
     end: Optional[int]
     records: int
+    is_cut: bool = False
 
 
 def info_of(folder: str, name: str = "info.txt") -> Info:
@@ -70,7 +71,7 @@ def streams_in(data: bytes) -> Iterator[Stream]:
         if end > len(data) or records == 0 or data[end - size] != END:
             yield Stream(group, at, None, (len(data) - start) // size)
             return
-        yield Stream(group, at, end, records)
+        yield Stream(group, at, end, records, is_cut=data[end - size + 1] == 1)
         at = end
 
 

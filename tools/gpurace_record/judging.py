@@ -182,7 +182,8 @@ def reasons_of(info: Info, report: List[str]) -> Iterator[Reason]:
     """What keeps a launch in which nothing is found from having been judged whole."""
     cut = [line.split()[1] for line in report if line.startswith("cut ")] or info["cut"]
     if cut:
-        groups, why = report[1].split()[1], "a group did more than a trace has room for, or was stopped"
+        groups, most = report[1].split()[1], info["most-records"]
+        why = f"--most-records {most[0]} allows no more" if most else "a group did more than a trace has room for, or was stopped"
         yield Reason("cut", f"records of {len(cut)} of {groups} groups were lost (the first is group {cut[0] or 0}): "
                      + ("the program ended while its kernel ran" if info["died"] else why))
     if info["window"]:

@@ -63,19 +63,18 @@ class Baseline(Filter):
 
     def lines(self, report: Report) -> Iterator[str]:
         known = [entry for entry in report.entries().values() if entry.state == "known"]
-        yield f"{count(len(known), 'known finding')} of {self.path}{', which is written anew' if self.is_updated else ''}"
+        yield f"{count(len(known), 'known finding')} of {self.path}{', to be written anew' if self.is_updated else ''}"
         for it in self.gone(report):
             buffers = f" on {', '.join(it['buffers'])}" if it["buffers"] else ""
             yield f"    gone: {it['kind']} in {it['kernel']}{buffers}" + "".join(f", `{text}`" for text in it["texts"])
 
-    def write(self, report: Report) -> None:
+    def text(self, report: Report) -> str:
         """What is known now: the findings of this run, and those of kernels that it did not judge whole."""
         found = [entry_of(entry.finding) for entry in report.entries().values() if entry.state == "known"]
         gone = self.gone(report)
         found += [{key: it[key] for key in KEYS} for it in self.known.values() if it not in gone and not any(is_alike(it, other) for other in found)]
         lines = sorted(json.dumps(it, ensure_ascii=False) for it in found)
-        with open(self.path, "w", encoding="utf-8") as out:
-            out.write(f'{{"gpurace_baseline": {VERSION}, "findings": [\n' + ",\n".join(lines) + "\n]}\n")
+        return f'{{"gpurace_baseline": {VERSION}, "findings": [\n' + ",\n".join(lines) + "\n]}\n"
 
 
 @dataclasses.dataclass

@@ -26,15 +26,13 @@ def missing_packages() -> List[str]:
 
 def build(say: Callable[[str], None]) -> str:
     """The folder with the recorder, built where it is missing or older than its sources."""
-    out = os.path.join(RECORDER, "out") if os.access(RECORDER, os.W_OK) else os.path.join(cache(), "recorder")
     missing = missing_packages()
     if missing:  # programs are compiled with them, too
         raise Missing(f"packages are missing (Debian: apt-get install {' '.join(missing)})")
     sources = [os.path.join(folder, name) for folder, _, names in os.walk(os.path.join(RECORDER, "src")) for name in names]
     shared = os.path.join(TOOLS, "recorder")
     sources += [os.path.join(RECORDER, "Makefile"), *(os.path.join(shared, name) for name in os.listdir(shared) if name.endswith(".h"))]
-    recording.build("the recorder", "a minute", RECORDER, out, ["layer.so", "instrument-kernels"], sources, [], say)
-    return out
+    return recording.build("the recorder", "a minute", RECORDER, "recorder", ["layer.so", "instrument-kernels"], sources, [], say)
 
 
 def environment(out: str, options: argparse.Namespace, folder: str, seed: Optional[int], is_judged: bool) -> Dict[str, str]:

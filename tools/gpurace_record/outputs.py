@@ -1,13 +1,15 @@
-"""What a run has found as JSON, SARIF and JUnit (docs/OUTPUT.md)."""
+"""What a run has found as text, JSON, SARIF and JUnit (docs/OUTPUT.md)."""
 from __future__ import annotations
 
 import dataclasses
+import itertools
 import json
 import os
 import re
 import shlex
 import xml.etree.ElementTree as xml
-from typing import Any, Callable, Dict, List, Tuple
+from typing import Any, Callable, Dict, List, Optional, Tuple
+from urllib.parse import quote
 
 from . import page
 from .finding import Access, Finding
@@ -23,19 +25,6 @@ RULES = {"race": ("DataRace", "Two work-items access a word, one of them modifie
          "out-of-bounds": ("OutOfBounds", "An access to global or local memory is in no buffer."),
          "unmatched": ("UnmatchedAcquire", "An acquire never gets a release that it names.")}
 NOT_OF_XML = re.compile("[^\t\n\r\u0020-\ud7ff\ue000-\ufffd\U00010000-\U0010ffff]")
-
-
-def write(path: str, text: str) -> None:
-    """Writes a file whole or not at all."""
-    part = f"{path}.part"
-    try:
-        with open(part, "w", encoding="utf-8") as out:
-            out.write(text)
-        os.replace(part, path)
-    except OSError as error:
-        if os.path.exists(part):
-            os.remove(part)
-        raise OSError(error.errno, error.strerror, path) from None
 
 
 def launch_object(launch: Launch, kept: bool) -> Dict[str, Any]:
@@ -67,38 +56,51 @@ def as_json(report: Report, words: List[str]) -> str:
     return json.dumps(made, indent=1) + "\n"
 
 
-def uri_of(launch: Launch, file: str) -> str:
-    """Where a file of a kernel's text is: by its kernel, where the program gave the text to OpenCL."""
-    return os.path.relpath(file) if "/" in file else f"{launch.kernel}/{file}"
+class Artifacts:
+    """The texts of kernels by their URIs: a file of --sources, or else the name that the text has in its launch, below the kernel's name. Another
+    text of that name has a number. None where a text is not known."""
+
+    def __init__(self, report: Report):
+        self.texts: Dict[str, Optional[List[str]]] = {}
+        for launch in report.launches:
+            for file in launch.texts:
+                self.uri(launch, file)
+
+    def uri(self, launch: Launch, file: str) -> str:
+        text, is_path = launch.texts.get(file), "/" in file
+        folder, name = os.path.split(os.path.relpath(file)) if is_path else (launch.kernel, file)
+        for number in itertools.count(1):
+            uri = quote(os.fsencode(os.path.join(folder if number == 1 else f"{folder}.{number}", name)))
+            if self.texts.setdefault(uri, text) == text or (is_path and text is None):
+                break
+        return uri
+
+    def location(self, launch: Launch, place: str, text: str, said: str) -> Dict[str, Any]:
+        at = PLACE.fullmatch(place)
+        if not at:
+            return {"message": {"text": said}}
+        region: Dict[str, Any] = {"startLine": max(1, int(at[2])), "startColumn": max(1, int(at[3]))}
+        if text:
+            region["snippet"] = {"text": text}
+        physical = {"artifactLocation": {"uri": self.uri(launch, at[1])}, "region": region}
+        return {"physicalLocation": physical, "message": {"text": said}}
+
+    def stack(self, launch: Launch, access: Access) -> Dict[str, Any]:
+        """The calls that lead to an access, and it as the innermost frame."""
+        frames = [self.location(launch, access.place, access.text, access.sentence())]
+        frames += [self.location(launch, call.place, call.text, f"called at {call.place}") for call in access.calls]
+        return {"message": {"text": access.sentence()}, "frames": [{"location": frame} for frame in frames]}
 
 
-def location(launch: Launch, place: str, text: str, said: str) -> Dict[str, Any]:
-    at = PLACE.fullmatch(place)
-    if not at:
-        return {"message": {"text": said}}
-    region: Dict[str, Any] = {"startLine": max(1, int(at[2])), "startColumn": max(1, int(at[3]))}
-    if text:
-        region["snippet"] = {"text": text}
-    physical = {"artifactLocation": {"uri": uri_of(launch, at[1])}, "region": region}
-    return {"physicalLocation": physical, "message": {"text": said}}
-
-
-def stack(launch: Launch, access: Access) -> Dict[str, Any]:
-    """The calls that lead to an access, and it as the innermost frame."""
-    frames = [location(launch, access.place, access.text, access.sentence())]
-    frames += [location(launch, call.place, call.text, f"called at {call.place}") for call in access.calls]
-    return {"message": {"text": access.sentence()}, "frames": [{"location": frame} for frame in frames]}
-
-
-def result(mark: str, entry: Entry, has_baseline: bool) -> Dict[str, Any]:
+def result(mark: str, entry: Entry, artifacts: Artifacts, has_baseline: bool) -> Dict[str, Any]:
     it, launch = entry.finding, entry.launches[0]
-    places = [location(launch, access.place, access.text, access.sentence()) for access in it.accesses]
+    places = [artifacts.location(launch, access.place, access.text, access.sentence()) for access in it.accesses]
     made = {"ruleId": RULES[it.kind][0], "level": "warning" if it.is_doubtful else "error",
             "message": {"text": f"{it.title}{': ' if it.message else ''}{it.message}"}, "occurrenceCount": len(entry.launches),
             "partialFingerprints": {"gpurace/v1": mark}, "locations": places[:1],
             "relatedLocations": [{"id": number, **place} for number, place in enumerate(places[1:], 1)]}
     if any(access.calls for access in it.accesses):
-        made["stacks"] = [stack(launch, access) for access in it.accesses if access.calls]
+        made["stacks"] = [artifacts.stack(launch, access) for access in it.accesses if access.calls]
     if has_baseline:
         made["baselineState"] = "unchanged" if entry.state == "known" else "new"
     if entry.state == "suppressed":
@@ -109,15 +111,15 @@ def result(mark: str, entry: Entry, has_baseline: bool) -> Dict[str, Any]:
 def as_sarif(report: Report, words: List[str]) -> str:
     """SARIF 2.1.0: a result for each finding, with the texts of the kernels."""
     baseline = next((it for it in report.filters if isinstance(it, Baseline)), None)
-    results = [result(mark, entry, bool(baseline)) for mark, entry in report.entries().items()]
+    artifacts = Artifacts(report)
+    results = [result(mark, entry, artifacts, bool(baseline)) for mark, entry in report.entries().items()]
     for it in baseline.gone(report) if baseline else []:
         results.append({"ruleId": RULES[it["kind"]][0], "baselineState": "absent", "level": "note",
                         "message": {"text": f"gone: {it['kind']} in {it['kernel']}: {'; '.join(it['texts'])}"}})
-    texts = {uri_of(launch, file): lines for launch in report.launches for file, lines in launch.texts.items()}
     rules = [{"id": name, "shortDescription": {"text": text}} for name, text in RULES.values()]
     notes = [{"level": "warning", "descriptor": {"id": reason.name}, "message": {"text": reason.text}} for reason in report.reasons()]
     run = {"tool": {"driver": {"name": "gpurace", "rules": rules}}, "results": results, "columnKind": "utf16CodeUnits",
-           "artifacts": [{"location": {"uri": uri}, "contents": {"text": "\n".join(lines) + "\n"}} for uri, lines in texts.items()],
+           "artifacts": [{"location": {"uri": uri}, "contents": {"text": "\n".join(lines) + "\n"}} for uri, lines in artifacts.texts.items() if lines],
            "invocations": [{"executionSuccessful": not report.run_reasons, "exitCode": report.status(), "arguments": words,
                             "toolExecutionNotifications": notes}]}
     return json.dumps({"$schema": SARIF, "version": "2.1.0", "runs": [run]}, indent=1) + "\n"
@@ -165,4 +167,8 @@ def as_junit(report: Report, words: List[str]) -> str:
     return '<?xml version="1.0" encoding="UTF-8"?>\n' + xml.tostring(whole, encoding="unicode") + "\n"
 
 
-FORMS: Dict[str, Callable[[Report, List[str]], str]] = {"json": as_json, "sarif": as_sarif, "junit": as_junit, "html": page.as_html}
+def as_text(report: Report, words: List[str]) -> str:
+    return "".join(f"{line}\n" for line in report.lines())
+
+
+FORMS: Dict[str, Callable[[Report, List[str]], str]] = {"json": as_json, "sarif": as_sarif, "junit": as_junit, "html": page.as_html, "report": as_text}

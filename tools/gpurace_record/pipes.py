@@ -11,12 +11,17 @@ from typing import Any, Callable, List, Tuple
 
 from .folders import JOINED, Info, end_files, streams_of
 
-DIES_WITH_US = ["setpriv", "--pdeathsig", "KILL", "sh", "-c", '[ "$PPID" = "$0" ] && exec "$@"', str(os.getpid())]
+STILL_OURS = ["sh", "-c", '[ "$PPID" = "$0" ] && exec "$@"', str(os.getpid())]
+
+
+def dies_with_us() -> List[str]:
+    """The words before those of a process that ends with the thread that starts it, however that ends; none where there is no setpriv."""
+    return ["setpriv", "--pdeathsig", "KILL"] if shutil.which("setpriv") else []
 
 
 def start(words: List[str], **more: Any) -> subprocess.Popen:
-    """Starts a process that Ctrl-C is not for, and that ends with the thread that starts it, however that ends."""
-    words = DIES_WITH_US + words if shutil.which("setpriv") else words
+    """Starts a process that Ctrl-C is not for, and that ends with us."""
+    words = dies_with_us() + STILL_OURS + words
     return subprocess.Popen(words, stdout=subprocess.PIPE, stderr=subprocess.DEVNULL,
                             start_new_session=True, **more)
 

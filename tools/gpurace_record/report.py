@@ -1,6 +1,7 @@
 """What is said of all launches of a run: each outcome once, the reasons that keep it from being an answer, and the status."""
 from __future__ import annotations
 
+import contextlib
 import dataclasses
 import os
 import sys
@@ -30,7 +31,8 @@ class Entry:
 
 
 def say(text: str) -> None:
-    print(f"{NAME}: {text}", file=sys.stderr, flush=True)
+    with contextlib.suppress(OSError):  # its terminal may be gone
+        print(f"{NAME}: {text}", file=sys.stderr, flush=True)
 
 
 def names_of(kernels: List[str]) -> str:

@@ -7,7 +7,7 @@ import shutil
 from typing import Callable, Dict, List
 
 from . import recording
-from .recording import TOOLS, Missing, cache, missing_of
+from .recording import TOOLS, Missing, missing_of
 
 RECORDER = os.path.join(TOOLS, "recorder")
 NEEDED = [("g++", "g++"), ("make", "make"), ("llvm-config-14", "llvm-14-dev"),
@@ -26,11 +26,9 @@ def find(program: str) -> str:
 
 def build(say: Callable[[str], None]) -> str:
     """The plugin, built where it is missing or older than its sources."""
-    out = os.path.join(RECORDER, "out") if os.access(RECORDER, os.W_OK) else cache()
     sources = [os.path.join(RECORDER, name) for name in os.listdir(RECORDER) if name.endswith((".cpp", ".h")) or name == "Makefile"]
     sources.append(os.path.join(TOOLS, "gpurace_trace.h"))
-    recording.build("the plugin", "half a minute", RECORDER, out, ["recorder.so"], sources, missing_of(NEEDED), say)
-    return os.path.join(out, "recorder.so")
+    return os.path.join(recording.build("the plugin", "half a minute", RECORDER, "simulator", ["recorder.so"], sources, missing_of(NEEDED), say), "recorder.so")
 
 
 def words(oclgrind: str, plugin: str, options: argparse.Namespace) -> List[str]:

@@ -86,6 +86,7 @@ void end_folder(Launch &launch, double seconds) {
     info << shape_of(request) << "items " << kept * items << "\nrecords " << launch.records << '\n';
     for (uint64_t group = 0; group < kept; group++)
         if (launch.is_cut[group]) info << "cut " << group << '\n';
+    if (launch.counted > launch.most_records) info << "most-records " << launch.most_records << '\n';
     for (const std::string &note : request.program->notes) info << "note " << note << '\n';
     write_losses(info, launch);
     std::string equal = launch.stored.lines("g");

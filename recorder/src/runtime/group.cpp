@@ -31,7 +31,7 @@ void settle(Item &item) {
 }
 
 void Group::put(uint32_t &records, const Site &site, uint64_t head, uint32_t word, const Name *names, size_t count) {
-    if (stream->is_full()) { // who acquires from what is lost must not be recorded either
+    if (stream->is_full() || launch->has_most()) { // who acquires from what is lost must not be recorded either
         launch->is_over = true;
         is_cut = true;
         return;
@@ -127,7 +127,6 @@ void Group::begin_item(Item &item, uint64_t each, const Sizes &at, const Sizes &
 
 // When all items have come to barriers or ended, they go on: a divergent barrier is what items do.
 bool Group::sweep() {
-    if (launch->written > settings().most_records) launch->is_over = true;
     if (launch->written > settings().most_pending) launch->streams.open_pipes();
     for (size_t at = order.size(); at > 1; at--) std::swap(order[at - 1], order[random->below(uint32_t(at))]);
     size_t ended = 0, at_barriers = 0;

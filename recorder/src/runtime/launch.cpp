@@ -137,6 +137,7 @@ void Launch::run_workers() {
 
 Result Launch::run() {
     Result result;
+    const Signals signals;
     if (request.is_recorded() && !begin_folder(*this, result.error)) return result;
     const double start = seconds_now();
     run_workers();

@@ -48,7 +48,7 @@ struct Request {
 struct Result {
     uint64_t records = 0;
     double seconds = 0;        // of the kernel
-    bool is_stopped = false;   // it was ended before its end, by Ctrl-C or since its time was over
+    bool is_stopped = false;   // it was ended before its end, by a signal or since its time was over
     bool is_timed_out = false;
     bool has_run = false;
     std::string error;         // why the kernel could not be run at all
@@ -84,6 +84,8 @@ public:
     std::vector<uint8_t> zeros;             // what a load out of every buffer takes
     std::atomic<uint64_t> next_group{0};    // that no thread has begun
     std::atomic<uint64_t> written{0};       // records
+    const uint64_t most_records = settings().most_records; // without the ends of groups
+    std::atomic<uint64_t> counted{0};       // records that were to be written, if there is a most of them
     std::atomic<bool> is_over{false};       // no more is recorded
     std::atomic<bool> is_stopped{false};    // nothing more is run
     std::atomic<bool> is_timed_out{false}, has_failed{false};
@@ -91,6 +93,8 @@ public:
     std::vector<char> is_cut;               // of each recorded group
     size_t stack_bytes;
 
+    // Whether the next record would be one too many.
+    bool has_most() { return most_records != UINT64_MAX && counted.fetch_add(1, std::memory_order_relaxed) >= most_records; }
     // Ends the groups of all threads as cut, when these don't do it themselves.
     void abandon();
     // The `number`th group to begin.
@@ -118,15 +122,24 @@ void write_prints(); // what kernels have printed
 
 constexpr int TIMED_OUT = 124; // the status of a program that was ended since a kernel's time was over
 
-// While this lives the launch is ended by Ctrl-C and by its time, and what was recorded is written as cut.
+// While this lives a launch is ended by Ctrl-C, SIGTERM or SIGHUP, and not the program: they reach it at the end.
+class Signals {
+public:
+    Signals();
+    ~Signals();
+    Signals(const Signals &) = delete;
+
+private:
+    static constexpr int NUMBERS[] = {SIGINT, SIGTERM, SIGHUP};
+    struct sigaction before_[std::size(NUMBERS)];
+};
+
+// While this lives a signal or its time ends the launch, and what was recorded is written as cut.
 class Watched {
 public:
     explicit Watched(Launch &launch);
     ~Watched();
     Watched(const Watched &) = delete;
-
-private:
-    struct sigaction before_;
 };
 
 } // namespace gpurace

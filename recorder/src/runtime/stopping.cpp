@@ -11,8 +11,8 @@ namespace {
 
 constexpr double GRACE = 1.0; // seconds in which threads are to see that the launch is stopped
 
-volatile sig_atomic_t was_interrupted = 0;
-void note_interrupt(int) { was_interrupted = 1; }
+volatile sig_atomic_t interrupt = 0; // the signal that came
+void note_interrupt(int signal) { interrupt = signal; }
 
 // The thread that watches: one for the process, since launches may be many and short.
 struct Watcher {
@@ -32,8 +32,8 @@ struct Watcher {
             if (!launch) continue;
             if (seen != number) seen = number, stopped_at = 0;
             const double now = seconds_now();
-            if (!stopped_at && (was_interrupted || (end > 0 && now > end))) {
-                launch->is_timed_out = !was_interrupted;
+            if (!stopped_at && (interrupt || (end > 0 && now > end))) {
+                launch->is_timed_out = !interrupt;
                 launch->is_stopped = launch->is_over = true;
                 stopped_at = now;
             }
@@ -46,9 +46,9 @@ struct Watcher {
         stopped.abandon();
         if (stopped.request.is_recorded()) end_folder(stopped, 0);
         std::fflush(nullptr);
-        if (was_interrupted) {
-            std::signal(SIGINT, SIG_DFL);
-            kill(getpid(), SIGINT);
+        if (interrupt) {
+            std::signal(interrupt, SIG_DFL);
+            kill(getpid(), interrupt);
         }
         _exit(TIMED_OUT);
     }
@@ -57,12 +57,23 @@ auto &watcher = *new Watcher;
 
 } // namespace
 
+Signals::Signals() {
+    struct sigaction noted {};
+    noted.sa_handler = note_interrupt;
+    sigemptyset(&noted.sa_mask);
+    interrupt = 0;
+    for (size_t at = 0; at < std::size(NUMBERS); at++) {
+        sigaction(NUMBERS[at], nullptr, &before_[at]);
+        if (before_[at].sa_handler != SIG_IGN) sigaction(NUMBERS[at], &noted, nullptr); // as nohup has it
+    }
+}
+
+Signals::~Signals() {
+    for (size_t at = 0; at < std::size(NUMBERS); at++) sigaction(NUMBERS[at], &before_[at], nullptr);
+    if (interrupt) kill(getpid(), interrupt); // now the program's own way
+}
+
 Watched::Watched(Launch &launch) {
-    struct sigaction interrupt {};
-    interrupt.sa_handler = note_interrupt;
-    sigemptyset(&interrupt.sa_mask);
-    was_interrupted = 0;
-    sigaction(SIGINT, &interrupt, &before_);
     const std::lock_guard<std::mutex> held(watcher.lock);
     if (!watcher.has_thread) try {
         pthread_atfork(nullptr, nullptr, [] { new (&watcher) Watcher; }); // a forked process has no such thread
@@ -82,8 +93,6 @@ Watched::Watched(Launch &launch) {
 Watched::~Watched() {
     const std::lock_guard<std::mutex> held(watcher.lock);
     watcher.launch = nullptr;
-    sigaction(SIGINT, &before_, nullptr);
-    if (was_interrupted) kill(getpid(), SIGINT); // now the program's own way
 }
 
 } // namespace gpurace
