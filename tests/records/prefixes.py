@@ -30,7 +30,7 @@ class Prefixes(ProgramTest):
 
     def test_a_file_of_nothing_is_no_stream(self):
         self.put("stream", b"")
-        self.assert_run(self.gpurace("run", "stream"), b"", 2, TRUNCATED + b"gpurace: stream: stream 0, at its header\n")
+        self.assert_run(self.gpurace("run", "stream"), b"", 2, TRUNCATED + b"gpurace: stream: the file is empty\n")
 
     def test_the_lines_before_the_break_are_dumped_in_part(self):
         stream = pack(RACE.decode())
