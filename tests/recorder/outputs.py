@@ -282,7 +282,7 @@ class Files(Outputs):
         with open(self.room / "out", "w") as out:
             out.write("before\n")
             out.flush()
-            self.ran("--json", "/dev/stdout", "--report", "report", status=0, stdout=out)
+            self.ran("--json", "-", "--report", "report", status=0, stdout=out)
             out.write("after\n")
         lines = (self.room / "out").read_text().splitlines()
         self.assertEqual((lines[0], json.loads("\n".join(lines[1:-1]))["status"], lines[-1]), ("before", 0, "after"))
@@ -334,6 +334,7 @@ class Files(Outputs):
         for words, said in ((("--json", "made", "--sarif", "./made"), "--json and --sarif name one file: ./made"),
                             (("--report", "link", "--html", "made"), "--html and --report name one file: link"),
                             (("--json", "/dev/stdout", "--sarif", "/dev/fd/1"), "--json and --sarif name one file: /dev/fd/1"),
+                            (("--json", "-", "--sarif", "/dev/stdout"), "--json and --sarif name one file: /dev/stdout"),
                             (("--json", "link", "--baseline", "made", "--update-baseline"), "--json and --baseline name one file: made")):
             self.assertEqual(self.ran(*words, status=3).stderr, f"gpurace-judge: {said}\n")
         self.ran("--json", "/dev/stdout", "--report", "/dev/stderr", status=0, stderr=subprocess.STDOUT)

@@ -60,6 +60,10 @@ def above_zero(text: str) -> str:
     return text
 
 
+def output(text: str) -> str:
+    return STANDARD_OUTPUT if text == "-" else text
+
+
 def exit_status(text: str) -> str:
     if not 0 < int(number(text)) < 256:
         raise argparse.ArgumentTypeError("a number from 1 to 255 is needed")
@@ -110,11 +114,11 @@ def parser() -> Parser:
 
 def add_outputs(made: argparse.ArgumentParser) -> None:
     """The options of what is reported, and in which form."""
-    forms = made.add_argument_group("of the report")
+    forms = made.add_argument_group("of the report", "An output FILE that is - is standard output.")
     for form, what in (("json", "every launch and every finding as JSON"), ("sarif", "the findings as SARIF 2.1.0"),
                        ("junit", "a case for each kernel as JUnit"), ("html", "a page to look at: sources, findings, pictures"),
                        ("report", "the report as text, in place of standard output")):
-        forms.add_argument(f"--{form}", metavar="FILE", help=f"writes {what}")
+        forms.add_argument(f"--{form}", metavar="FILE", type=output, help=f"writes {what}")
     forms.add_argument("--baseline", metavar="FILE", help="the findings of this file are known, and only others count")
     forms.add_argument("--update-baseline", action="store_true", help="writes what is found into the baseline, so that it is known")
     forms.add_argument("--suppress", metavar="FILE", help="lines KEY PATTERN .. -- WHY, with the keys kernel, buffer and place: these don't count")
