@@ -5,11 +5,10 @@
 #![tactic(auto)]
 
 use gr_command::execute::execute;
-use gr_command::status::{FAILED, REFUSED, USAGE, status_of_sides_fault};
+use gr_command::status::{FAILED, FOUND, REFUSED, USAGE, status_of_sides_fault};
 use gr_model::memory::Memory;
 use gr_places::sides_fault::write_sides_fault;
-use gr_plan::held::Held;
-use gr_plan::notes::note;
+use gr_plan::notes::report;
 use gr_plan::plan::{Plan, Refusal, plan_of};
 use gr_plan::progress::{Cleared, Watched};
 use std::env::{self, Args};
@@ -73,21 +72,36 @@ where
         progress: plan.files.progress.clone()?,
     };
     let mut writer = BufWriter::new(alloc, writer).map_err(|_| Memory)?;
-    let mut held = Held::new(rt.stderr());
+    let mut errors = rt.stderr();
     let asked = plan.words.as_ref().map_or(words, |asked| asked.as_slice());
-    let (input, files, errors) = (&mut plan.reading, &plan.files, &mut held);
+    let (input, files) = (&mut plan.reading, &plan.files);
     let opener = move |name: &str| Watched::open(files, name);
-    let status = execute(handle, alloc, asked, input, opener, &mut writer, errors);
+    let outcome = execute(
+        handle,
+        alloc,
+        asked,
+        input,
+        opener,
+        &mut writer,
+        &mut errors,
+    );
     drop(writer);
     if let Some(progress) = &plan.files.progress {
         progress.clear();
     }
-    let command = words.first().map_or("", |word| word.as_str());
-    let _ = note(plan, command, errors);
-    if status <= 1 {
-        let _ = plan.note_word(errors);
+    match outcome {
+        Ok(status) => {
+            if status <= FOUND {
+                let _ = plan.note_word(&mut errors);
+            }
+            Ok(status)
+        }
+        Err(fault) => {
+            let command = words.first().map_or("", |word| word.as_str());
+            let _ = report(plan, command, &fault, &mut errors);
+            Ok(status_of_sides_fault(&fault))
+        }
     }
-    Ok(status)
 }
 
 /// Does what the words of the command line ask for, and gives the exit status. Only a run in threads uses `handle`.

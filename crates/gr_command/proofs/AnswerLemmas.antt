@@ -1,5 +1,5 @@
--- The effects of a run, by its outcome.
-use Rattle.gr_model.proofs.Common.{◌≡◌, ◌≢◌, ◌⊎◌, ℕ, Bool, true, false, List, [], Option, None, Some, Result, Ok, Err, inl, inr, refl, subst, sym, IfOk, IfErr, IfSome, OnOk, Appends, Keeps}
+-- The outcomes of a run.
+use Rattle.gr_model.proofs.Common.{◌≡◌, ◌≢◌, ◌⊎◌, ℕ, Bool, true, false, List, [], Option, None, Some, Result, Ok, Err, ap, inl, inr, refl, subst, sym, IfOk, IfErr, IfSome, OnOk, Appends, Keeps}
 use Rattle.clap.specs.Words.{IsAmong, Kinds}
 use Rattle.clap.specs.declared.error.kind.ErrorKind.{ErrorKind}
 use Rattle.clap.specs.declared.error.kind.ErrorKind.TheVariants.{OutOfMemory}
@@ -12,36 +12,45 @@ use Rattle.gr_arguments.specs.declared.request.Task.TheVariants.{Replay, Pack, D
 use Rattle.gr_model.specs.Prelude.{WholeReport}
 use Rattle.gr_record.specs.Prelude.{Fails, IsOutside}
 use Rattle.gr_record.proofs.Outside.{at_any}
-use Rattle.gr_places.specs.FaultText.{sides_fault_line}
+use Rattle.gr_places.specs.declared.sides_fault.SidesFault.{SidesFault}
 use Rattle.gr_places.specs.declared.sides_fault.SidesFault.TheVariants.{Run}
 use Rattle.gr_text.specs.Prelude.{Fault, packed, dumped, upgraded, text_before_fault}
 use Rattle.gr_record.specs.declared.fault.Fault.TheVariants.{Write, Memory}
 use Rattle.gr_replay.specs.Replays.{IsExact, IsExactOfEach, IsReplayFault, WritesPrefix}
-use Rattle.gr_report.specs.FaultText.{fault_line}
 use Rattle.gr_report.specs.Putting.{AppendsPrefix}
 use Rattle.gr_report.specs.ReportText.{report_text}
 use Rattle.gr_streams.specs.Streams.{IsRunFault, WritesPrefixOfEach}
 use Rattle.gr_text.specs.Writes.{Writes}
-use Rattle.gr_command.specs.Answers.{IsAnswerOf, IsAnswerTo, IsDone, IsFaultTold, IsPartialDump, IsUsageTold, WritesReportPrefix}
-use Rattle.gr_command.specs.Statuses.{fault_status, sides_fault_status}
-use Rattle.gr_command.specs.Outcomes.{IsOutcome, IsTold}
-use Rattle.gr_command.specs.declared.status.TheConstants.{NOTHING, USAGE, NO_MEMORY_OR_THREAD, FAILED}
+use Rattle.gr_command.specs.Answers.{IsAnswerOf, IsAnswerTo, IsDone, IsPartialDump, IsUsageTold, WritesReportPrefix}
+use Rattle.gr_command.specs.Outcomes.{HasStatus, IsOutcome, Outcome, of_run}
+use Rattle.gr_command.specs.declared.status.TheConstants.{NOTHING, USAGE}
 
-module _ {F : Type 0} (line_of : F → List ℕ) (status_of : F → ℕ) (writing : F) (old new old_errors new_errors : Option (List ℕ)) (status : ℕ) {X : Type 0} (Has : X → Type 0) (Ends : X → ℕ → Type 0) (IsWhy : F → Type 0) (Prefix : Type 0) where
-  -- the outcome of a call, as `view` shows it
-  pub outcome_of : {R : Type 0} (view : R → X) (outcome : Result R F)
-      → IfOk outcome (λ r. Has (view r))
-      → IfErr outcome IsWhy
-      → IfErr outcome (λ f. f ≢ writing → Keeps old new)
-      → IfErr outcome (λ f. f ≡ writing → Prefix)
-      → IfOk outcome (λ r. Ends (view r) status)
-      → OnOk outcome (Keeps old_errors new_errors)
-      → IfErr outcome (λ f. status ≡ status_of f)
-      → IfErr outcome (λ f. AppendsPrefix old_errors new_errors (line_of f))
-      → IsOutcome line_of status_of writing old new old_errors new_errors status Has Ends IsWhy Prefix
-  outcome_of view (Ok r) has why untouched prefix ends silent fault_ends line = inl (view r, record { has = has; silent = silent; ends = ends })
-  outcome_of view (Err f) has why untouched prefix ends silent fault_ends line =
-      inr (f, record { why = why; told = record { line = line; ends = fault_ends; untouched = untouched }; prefix = prefix })
+-- a run's faults are the same if they are so as faults with side files
+of_same_run : {f g : Fault} → Run f ≡ Run g → f ≡ g
+of_same_run same = cc
+
+-- the outcome of a call whose faults are those of a run, and of one whose faults may be of side files; `view` shows the call's result
+module _ {old new : Option (List ℕ)} {outcome : Outcome} {X R : Type 0} {Has : X → Type 0} {Ends : X → ℕ → Type 0} {Prefix : Type 0} (view : R → X) where
+  pub run_outcome : {IsWhy : Fault → Type 0} (result : Result R Fault)
+      → HasStatus (λ r. Ends (view r)) Run result outcome
+      → IfOk result (λ r. Has (view r))
+      → IfErr result IsWhy
+      → IfErr result (λ f. f ≢ Write → Keeps old new)
+      → IfErr result (λ f. f ≡ Write → Prefix)
+      → IsOutcome old new outcome Has Ends (of_run IsWhy) Prefix
+  run_outcome (Ok r) (status, is, ends) has why untouched prefix = rw is (record { done = (view r, has, ends); why = tt; untouched = tt; prefix = tt })
+  run_outcome (Err f) is has why untouched prefix =
+      rw is (record { done = tt; why = why; untouched = λ h. untouched (λ e. h (ap Run e)); prefix = λ h. prefix (of_same_run h) })
+
+  pub sides_outcome : {IsWhy : SidesFault → Type 0} (result : Result R SidesFault)
+      → HasStatus (λ r. Ends (view r)) (λ f. f) result outcome
+      → IfOk result (λ r. Has (view r))
+      → IfErr result IsWhy
+      → IfErr result (λ f. f ≢ Run Write → Keeps old new)
+      → IfErr result (λ f. f ≡ Run Write → Prefix)
+      → IsOutcome old new outcome Has Ends IsWhy Prefix
+  sides_outcome (Ok r) (status, is, ends) has why untouched prefix = rw is (record { done = (view r, has, ends); why = tt; untouched = tt; prefix = tt })
+  sides_outcome (Err f) is has why untouched prefix = rw is (record { done = tt; why = why; untouched = untouched; prefix = prefix })
 
 -- two things hold of an outcome
 pub both : {R F : Type 0} (P Q : R → Type 0) (outcome : Result R F) → IfOk outcome P → IfOk outcome Q → IfOk outcome (λ r. P r × Q r)
@@ -49,49 +58,41 @@ both P Q (Ok r) p q = (p, q)
 both P Q (Err f) p q = tt
 
 -- the outcome of a partial dump
-module _ (input old new old_errors new_errors : Option (List ℕ)) (status : ℕ) where
-  pub partial_of : (outcome : Result (Unit {0}) Fault)
-      → OnOk outcome (IfSome input (λ bytes. Writes (dumped bytes) old new))
-      → IfErr outcome (λ f. f ≢ Write → IfSome input (λ bytes. Fails f (dumped bytes)))
-      → IfErr outcome (λ f. f ≢ Write → ¬ IsOutside f → IfSome input (λ bytes. Appends old new (text_before_fault bytes)))
-      → IfErr outcome (λ f. IsOutside f → Keeps old new)
-      → IfErr outcome (λ f. f ≡ Write → IfSome input (λ bytes. AppendsPrefix old new (text_before_fault bytes)))
-      → OnOk outcome (status ≡ NOTHING)
-      → OnOk outcome (Keeps old_errors new_errors)
-      → IfErr outcome (λ f. status ≡ fault_status f)
-      → IfErr outcome (λ f. AppendsPrefix old_errors new_errors (fault_line f))
-      → IsPartialDump input old new old_errors new_errors status
-  partial_of (Ok done) whole why partial untouched prefix ends silent fault_ends line = inl (whole, silent, ends)
-  partial_of (Err f) whole why partial untouched prefix ends silent fault_ends line =
-      inr (f, record { why = why; line = line; ends = fault_ends; partial = partial; untouched = untouched; prefix = prefix })
+module _ (input old new : Option (List ℕ)) (outcome : Outcome) where
+  pub partial_of : (result : Result (Unit {0}) Fault)
+      → HasStatus (λ done status. status ≡ NOTHING) Run result outcome
+      → OnOk result (IfSome input (λ bytes. Writes (dumped bytes) old new))
+      → IfErr result (λ f. f ≢ Write → IfSome input (λ bytes. Fails f (dumped bytes)))
+      → IfErr result (λ f. f ≢ Write → ¬ IsOutside f → IfSome input (λ bytes. Appends old new (text_before_fault bytes)))
+      → IfErr result (λ f. IsOutside f → Keeps old new)
+      → IfErr result (λ f. f ≡ Write → IfSome input (λ bytes. AppendsPrefix old new (text_before_fault bytes)))
+      → IsPartialDump input old new outcome
+  partial_of (Ok done) (status, is, ends) whole why partial untouched prefix = rw is (record { whole = (ends, whole); part = tt })
+  partial_of (Err f) is whole why partial untouched prefix =
+      rw is (record { whole = tt; part = record { why = why; partial = partial; untouched = untouched; prefix = prefix } })
 
 -- ---- memory ran out before anything was done
 
-memory_is_no_writing : Run Memory ≡ Run Write → ⊥
-memory_is_no_writing e = let same : Memory ≡ Write = cc in absurd cc
+module _ {T X : Type 0} (remaining : T → Option (List ℕ)) (Gives : List ℕ → Result T X → Type 0) (input old new old_errors new_errors : Option (List ℕ)) (kept : Keeps old new) (silent : Keeps old_errors new_errors) where
+  no_memory_to_run : {Y : Type 0} {Has : Y → Type 0} {Ends : Y → ℕ → Type 0} {IsWhy : SidesFault → Type 0} {Prefix : Type 0} → IsWhy (Run Memory) → IsOutcome old new (Err (Run Memory)) Has Ends IsWhy Prefix
+  no_memory_to_run why = record { done = tt; why = why; untouched = λ h. kept; prefix = λ h. let same : Memory ≡ Write = of_same_run h in absurd cc }
 
-module _ {T X : Type 0} (remaining : T → Option (List ℕ)) (Gives : List ℕ → Result T X → Type 0) (input old new old_errors new_errors : Option (List ℕ)) (status : ℕ) (told : IsFaultTold old new old_errors new_errors status Memory) where
-  no_memory_to_perform : (t : Task) → IsAnswerOf input old new old_errors new_errors status t
-  no_memory_to_perform (Replay json) = inr (Memory, record { why = at_any input (λ bytes. IsReplayFault bytes Memory) (λ bytes. inl (inl tt)); told = told; prefix = λ h. absurd cc })
-  no_memory_to_perform Pack = inr (Memory, record { why = λ _. at_any input (λ bytes. Fails Memory (packed bytes)) (λ bytes. tt); told = told; prefix = λ h. absurd cc })
+  no_memory_to_perform : (t : Task) → IsAnswerOf input old new (Err (Run Memory)) t
+  no_memory_to_perform (Replay json) = no_memory_to_run (at_any input (λ bytes. IsReplayFault bytes Memory) (λ bytes. inl (inl tt)))
+  no_memory_to_perform Pack = no_memory_to_run (λ _. at_any input (λ bytes. Fails Memory (packed bytes)) (λ bytes. tt))
   no_memory_to_perform (Dump true) =
-      inr (Memory, record { why = λ _. at_any input (λ bytes. Fails Memory (dumped bytes)) (λ bytes. tt); line = told.line; ends = told.ends; partial = λ _ inside. absurd (inside tt); untouched = λ _. told.untouched (λ e. cc); prefix = λ h. absurd cc })
-  no_memory_to_perform (Dump false) = inr (Memory, record { why = λ _. at_any input (λ bytes. Fails Memory (dumped bytes)) (λ bytes. tt); told = told; prefix = λ h. absurd cc })
-  no_memory_to_perform Upgrade = inr (Memory, record { why = λ _. at_any input (λ bytes. Fails Memory (upgraded bytes)) (λ bytes. tt); told = told; prefix = λ h. absurd cc })
+      record { whole = tt; part = record { why = λ _. at_any input (λ bytes. Fails Memory (dumped bytes)) (λ bytes. tt); partial = λ _ inside. absurd (inside tt); untouched = λ _. kept; prefix = λ h. absurd cc } }
+  no_memory_to_perform (Dump false) = no_memory_to_run (λ _. at_any input (λ bytes. Fails Memory (dumped bytes)) (λ bytes. tt))
+  no_memory_to_perform Upgrade = no_memory_to_run (λ _. at_any input (λ bytes. Fails Memory (upgraded bytes)) (λ bytes. tt))
 
-  no_memory_with_sides : IsTold sides_fault_line sides_fault_status (Run Write) old new old_errors new_errors status (Run Memory)
-  no_memory_with_sides = record { line = told.line; ends = told.ends; untouched = λ h. told.untouched (λ e. cc) }
+  no_memory_to_answer : (a : Inquiry) (q : Query) → IsAnswerTo remaining Gives old new (Err (Run Memory)) a q
+  no_memory_to_answer a (query.Explain false w) = no_memory_to_run (inl (inl refl))
+  no_memory_to_answer a q = no_memory_to_run (inl (inl refl))
 
-  no_memory_to_answer : (a : Inquiry) (q : Query) → IsAnswerTo remaining Gives old new old_errors new_errors status a q
-  no_memory_to_answer a (query.Run config) = inr (Memory, record { why = inl (inl refl); told = told; prefix = λ h. absurd cc })
-  no_memory_to_answer a query.Check = inr (Memory, record { why = inl (inl refl); told = told; prefix = λ h. absurd cc })
-  no_memory_to_answer a (query.Explain false w) = inr (Run Memory, record { why = inl (inl refl); told = no_memory_with_sides; prefix = λ h. absurd (memory_is_no_writing h) })
-  no_memory_to_answer a q = inr (Run Memory, record { why = inl (inl refl); told = no_memory_with_sides; prefix = λ h. absurd (memory_is_no_writing h) })
-
-  pub no_memory_to_do : (a : Asked) → IsDone remaining Gives input old new old_errors new_errors status a
-  no_memory_to_do (perform t) = no_memory_to_perform t
-  no_memory_to_do (ask a) = no_memory_to_answer a a.query
-  no_memory_to_do (refuse why) = (inr told.ends, told.untouched (λ e. cc))
+  pub no_memory_to_do : (a : Asked) → IsDone remaining Gives input old new old_errors new_errors (Err (Run Memory)) a
+  no_memory_to_do (perform t) = (no_memory_to_perform t, silent)
+  no_memory_to_do (ask a) = (no_memory_to_answer a a.query, silent)
+  no_memory_to_do (refuse why) = (inr refl, kept)
 
 -- ---- a run whose report is JSON
 
@@ -122,17 +123,14 @@ of_input (Some bytes) old new (r, exact, prefix) = (r, exact, (report_text r, re
 
 -- ---- words that are not taken
 
--- the effects if the words are wrong, and if they ask for help; memory may run out in both cases
-module _ (k : ErrorKind) (kinds : Kinds) (old new old_errors new_errors : Option (List ℕ)) (status : ℕ)
-    (memory : k ≡ OutOfMemory → IsFaultTold old new old_errors new_errors status Memory) (among : (k ≡ OutOfMemory) ⊎ IsAmong k kinds) where
-  pub wrong_of : (IsWrongUsage k → (status ≡ USAGE) × Keeps old new) → AreWrong kinds → IsUsageTold old new status
-  wrong_of wrong are = elim among [
-    | inl e ↦ (inr (memory e).ends, (memory e).untouched (λ h. cc))
-    | inr a ↦ (inl (wrong (are.1 k a)).0, (wrong (are.1 k a)).1)
-  ]
+-- the outcome if the words are wrong, and if they ask for help; memory may run out in both cases
+module _ (k : ErrorKind) (kinds : Kinds) (old new : Option (List ℕ)) (outcome : Outcome) (memory : k ≡ OutOfMemory → (outcome ≡ Err (Run Memory)) × Keeps old new)
+    (among : (k ≡ OutOfMemory) ⊎ IsAmong k kinds) where
+  pub wrong_of : (IsWrongUsage k → (outcome ≡ Ok USAGE) × Keeps old new) → AreWrong kinds → IsUsageTold old new outcome
+  wrong_of wrong are = elim among [ inl e ↦ (inr (memory e).0, (memory e).1) | inr a ↦ (inl (wrong (are.1 k a)).0, (wrong (are.1 k a)).1) ]
 
-  pub help_of : (IsHelp k → (status ≡ NOTHING) ⊎ (status ≡ FAILED)) → AreHelp kinds → (status ≡ NOTHING) ⊎ (status ≡ NO_MEMORY_OR_THREAD) ⊎ (status ≡ FAILED)
-  help_of help are = elim among [ inl e ↦ inr (inl (memory e).ends) | inr a ↦ elim (help (are.1 k a)) [ inl n ↦ inl n | inr f ↦ inr (inr f) ] ]
+  pub help_of : (IsHelp k → (outcome ≡ Ok NOTHING) ⊎ (outcome ≡ Err (Run Write))) → AreHelp kinds → (outcome ≡ Ok NOTHING) ⊎ (outcome ≡ Err (Run Memory)) ⊎ (outcome ≡ Err (Run Write))
+  help_of help are = elim among [ inl e ↦ inr (inl (memory e).0) | inr a ↦ elim (help (are.1 k a)) [ inl n ↦ inl n | inr f ↦ inr (inr f) ] ]
 
 -- words that the parser takes fail only if memory runs out
 pub only_memory : (k : ErrorKind) (kinds : Kinds) → kinds ≡ [] → (k ≡ OutOfMemory) ⊎ IsAmong k kinds → k ≡ OutOfMemory

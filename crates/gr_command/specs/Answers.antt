@@ -1,6 +1,6 @@
--- The effects of a run of the program: standard output, standard error, and its status.
+-- The effects of a run of the program: its outcome, and what is on standard output and standard error.
 -- Source: docs/OUTPUT.md, "The report", "Lines of faults" and "Statuses".
-use Rattle.std.specs.Prelude.{◌≡◌, ◌≢◌, ◌⊎◌, ℕ, Bool, false, true, List, Option, Result, IfSome, ⊤}
+use Rattle.std.specs.Prelude.{◌≡◌, ◌≢◌, ◌⊎◌, ℕ, Bool, false, true, List, Option, Result, Ok, Err, IfSome, IfOk, IfErr, ⊤}
 use Rattle.std.specs.Io.KnownBytes.{Appends, Keeps}
 use Rattle.gr_model.specs.Prelude.{WholeReport, Streams}
 use Rattle.gr_arguments.specs.Asked.{Asked, Inquiry, ask, perform, refuse}
@@ -10,9 +10,8 @@ use Rattle.gr_arguments.specs.declared.request.Query.TheVariants as query
 use Rattle.gr_arguments.specs.declared.request.Task.{Task}
 use Rattle.gr_arguments.specs.declared.request.Task.TheVariants.{Replay, Pack, Dump, Upgrade}
 use Rattle.gr_text.specs.Prelude.{Fault, packed, dumped, upgraded, text_before_fault}
-use Rattle.gr_record.specs.declared.fault.Fault.TheVariants.{Write}
+use Rattle.gr_record.specs.declared.fault.Fault.TheVariants.{Memory, Write}
 use Rattle.gr_report.specs.ReportText.{report_text}
-use Rattle.gr_report.specs.FaultText.{fault_line}
 use Rattle.gr_timeline.specs.Racy.{IsRacyIn}
 use Rattle.gr_places.specs.Checked.{CheckedSaid, IsCheckFileFault, IsCheckedAsKnown, is_accepted}
 use Rattle.gr_timeline.specs.Why.{IsWhy}
@@ -21,7 +20,6 @@ use Rattle.gr_replay.specs.Replays.{IsExact, IsExactOfEach, IsReplayFault}
 use Rattle.gr_record.specs.Prelude.{Fails, IsOutside}
 use Rattle.gr_text.specs.Writes.{Writes, WritesPrefix as WritesPrefixOf}
 use Rattle.gr_places.specs.declared.sides_fault.SidesFault.TheVariants.{Run}
-use Rattle.gr_places.specs.FaultText.{sides_fault_line}
 use Rattle.gr_places.specs.Opening.{HoldsOfAllFiles, IsSidesFault, Pair}
 use Rattle.gr_races.specs.Shown.{HasRace}
 use Rattle.gr_places.specs.Sides.{SidesSaid}
@@ -31,9 +29,9 @@ use Rattle.gr_show.specs.Rendering.{Renders}
 use Rattle.gr_show.specs.Shown.{AreRaces, IsExplanation, IsHeldIn, IsLine, IsHistoryOf, IsLongAnswer}
 use Rattle.gr_report.specs.Putting.{AppendsPrefix}
 use Rattle.gr_streams.specs.Streams.{IsRunFault}
-use Rattle.gr_command.specs.declared.status.TheConstants.{NOTHING, USAGE, NO_MEMORY_OR_THREAD}
-use Rattle.gr_command.specs.Outcomes.{IsOutcome, IsTold}
-use Rattle.gr_command.specs.Statuses.{check_status, fault_status, race_status, sides_fault_status, IsReportStatus}
+use Rattle.gr_command.specs.declared.status.TheConstants.{NOTHING, USAGE}
+use Rattle.gr_command.specs.Outcomes.{IsOutcome, Outcome, of_run}
+use Rattle.gr_command.specs.Statuses.{check_status, race_status, IsReportStatus}
 
 -- ---- reports
 
@@ -52,39 +50,33 @@ WritesReportPrefix json r old new = (text : List ℕ) × IsReportTextOf json r t
 
 -- ---- tasks over standard input
 
--- a fault is reported
-abbrev pub IsFaultTold : Option (List ℕ) → Option (List ℕ) → Option (List ℕ) → Option (List ℕ) → ℕ → Fault → Type 0
-IsFaultTold = IsTold fault_line fault_status Write
-
-module _ (input old new old_errors new_errors : Option (List ℕ)) (status : ℕ) where
+module _ (input old new : Option (List ℕ)) (outcome : Outcome) where
   -- the report of the input, with its whole text or JSON written; or why there is none
   abbrev pub IsReport : Bool → WholeReport → Type 0
   IsReport json r = IfSome input (λ bytes. IsExact bytes r) × WritesReport json r old new
 
   abbrev pub IsAnswer : Bool → Type 0
   IsAnswer json =
-      IsOutcome fault_line fault_status Write old new old_errors new_errors status (IsReport json) IsReportStatus
-      (λ f. IfSome input (λ bytes. IsReplayFault bytes f)) (IfSome input (λ bytes. (r : WholeReport) × IsExact bytes r × WritesReportPrefix json r old new))
+      IsOutcome old new outcome (IsReport json) IsReportStatus
+      (of_run (λ f. IfSome input (λ bytes. IsReplayFault bytes f))) (IfSome input (λ bytes. (r : WholeReport) × IsExact bytes r × WritesReportPrefix json r old new))
 
   -- the meaning of the input is written whole; or why it has none
   abbrev pub IsRewriting : (List ℕ → Result (List ℕ) Fault) → Type 0
   IsRewriting meaning =
-      IsOutcome fault_line fault_status Write old new old_errors new_errors status
-      (λ (done : Unit {0}). IfSome input (λ bytes. Writes (meaning bytes) old new)) (λ done ended. ended ≡ NOTHING)
-      (λ f. f ≢ Write → IfSome input (λ bytes. Fails f (meaning bytes))) (IfSome input (λ bytes. WritesPrefixOf (meaning bytes) old new))
+      IsOutcome old new outcome (λ (done : Unit {0}). IfSome input (λ bytes. Writes (meaning bytes) old new)) (λ done ended. ended ≡ NOTHING)
+      (of_run (λ f. f ≢ Write → IfSome input (λ bytes. Fails f (meaning bytes)))) (IfSome input (λ bytes. WritesPrefixOf (meaning bytes) old new))
 
-  -- a fault is reported, and its status is that of the run; what comes before it in the input is written, or nothing if reading fails or memory runs out, or a prefix if the writer fails
+  -- of a text with a fault, what comes before it in the input is written, or nothing if reading fails or memory runs out, or a prefix if the writer fails
   pub record IsPartlyDone (f : Fault) : Type 0 where
     pub why : f ≢ Write → IfSome input (λ bytes. Fails f (dumped bytes))
-    pub line : AppendsPrefix old_errors new_errors (fault_line f)
-    pub ends : status ≡ fault_status f
     pub partial : f ≢ Write → ¬ IsOutside f → IfSome input (λ bytes. Appends old new (text_before_fault bytes))
     pub untouched : IsOutside f → Keeps old new
     pub prefix : f ≡ Write → IfSome input (λ bytes. AppendsPrefix old new (text_before_fault bytes))
 
   -- the text of the input is written whole; or it has a fault
-  abbrev pub IsPartialDump : Type 0
-  IsPartialDump = (IfSome input (λ bytes. Writes (dumped bytes) old new) × Keeps old_errors new_errors × (status ≡ NOTHING)) ⊎ ((f : Fault) × IsPartlyDone f)
+  pub record IsPartialDump : Type 0 where
+    pub whole : IfOk outcome (λ status. (status ≡ NOTHING) × IfSome input (λ bytes. Writes (dumped bytes) old new))
+    pub part : IfErr outcome (of_run IsPartlyDone)
 
   -- the effects of each task
   abbrev pub IsAnswerOf : Task → Type 0
@@ -134,12 +126,12 @@ module _ {T X : Type 0} (remaining : T → Option (List ℕ)) (Gives : List ℕ 
   ChecksPrefixOfFiles names = HoldsOfFiles remaining Gives names (λ known. (c : CheckedSaid) × IsCheckedAsKnown names known c × (text : List ℕ) × AppendsPrefix old new text)
 
   -- the effects of an inquiry
-  module _ (old_errors new_errors : Option (List ℕ)) (status : ℕ) (a : Inquiry) where
+  module _ (outcome : Outcome) (a : Inquiry) where
     -- a text that answers it, from its side files and the streams in its files, is written whole, and the status says whether what
     -- it looks for is found; or why there is no text
     abbrev pub IsAnswered : (SidesSaid → Streams → List ℕ → Type 0) → (Streams → Type 0) → Type 0
     IsAnswered IsTextOf IsFoundIn =
-        IsOutcome sides_fault_line sides_fault_status (Run Write) old new old_errors new_errors status
+        IsOutcome old new outcome
         (λ found. HoldsOfAllFiles remaining Gives (sides_of a) a.files (λ known said. IsShown (IsTextOf said) IsFoundIn known found old new))
         (λ found ended. ended ≡ race_status found) (IsSidesFault remaining Gives (sides_of a) a.files)
         (HoldsOfAllFiles remaining Gives (sides_of a) a.files (λ known said. ShowsPrefix (IsTextOf said) known old new))
@@ -147,15 +139,15 @@ module _ {T X : Type 0} (remaining : T → Option (List ℕ)) (Gives : List ℕ 
     -- the text of a check, and whether the files are accepted; or why there is none
     abbrev pub IsCheckOutcome : Type 0
     IsCheckOutcome =
-        IsOutcome fault_line fault_status Write old new old_errors new_errors status
-        (IsCheckedOfFiles a.files) (λ accepted ended. ended ≡ check_status accepted) (IsCheckFileFault remaining Gives a.files) (ChecksPrefixOfFiles a.files)
+        IsOutcome old new outcome
+        (IsCheckedOfFiles a.files) (λ accepted ended. ended ≡ check_status accepted) (of_run (IsCheckFileFault remaining Gives a.files)) (ChecksPrefixOfFiles a.files)
 
     -- the report of a run in threads, and its whole text or JSON; or why there is none
     abbrev pub IsRunAnswer : Type 0
     IsRunAnswer =
-        IsOutcome fault_line fault_status Write old new old_errors new_errors status
+        IsOutcome old new outcome
         (λ r. IsReportOfFiles remaining Gives a.files r × WritesReport a.json r old new) IsReportStatus
-        (IsFaultOfFiles remaining Gives a.files) (WritesPrefixOfFiles remaining Gives a.files a.json old new)
+        (of_run (IsFaultOfFiles remaining Gives a.files)) (WritesPrefixOfFiles remaining Gives a.files a.json old new)
 
     -- the line of a word's least racing pair, or a rendering if it is JSON or the long form, and whether the word is racy; a rendering of
     -- the races, and whether there is one; of all accesses to a word, and whether it is racy; of why an event is held, and whether it is
@@ -171,12 +163,12 @@ module _ {T X : Type 0} (remaining : T → Option (List ℕ)) (Gives : List ℕ 
 -- ---- whatever words ask for
 
 -- the words are reported as wrong, unless memory ran out first; nothing is written
-abbrev pub IsUsageTold : Option (List ℕ) → Option (List ℕ) → ℕ → Type 0
-IsUsageTold old new status = ((status ≡ USAGE) ⊎ (status ≡ NO_MEMORY_OR_THREAD)) × Keeps old new
+abbrev pub IsUsageTold : Option (List ℕ) → Option (List ℕ) → Outcome → Type 0
+IsUsageTold old new outcome = ((outcome ≡ Ok USAGE) ⊎ (outcome ≡ Err (Run Memory))) × Keeps old new
 
--- the effects of what words ask for, over this input, with files that are opened in this way
-module _ {T X : Type 0} (remaining : T → Option (List ℕ)) (Gives : List ℕ → Result T X → Type 0) (input old new old_errors new_errors : Option (List ℕ)) (status : ℕ) where
+-- the effects of what words ask for, over this input, with files that are opened in this way; standard error is for wrong words alone
+module _ {T X : Type 0} (remaining : T → Option (List ℕ)) (Gives : List ℕ → Result T X → Type 0) (input old new old_errors new_errors : Option (List ℕ)) (outcome : Outcome) where
   abbrev pub IsDone : Asked → Type 0
-  IsDone (perform t) = IsAnswerOf input old new old_errors new_errors status t
-  IsDone (ask a) = IsAnswerTo remaining Gives old new old_errors new_errors status a a.query
-  IsDone (refuse why) = IsUsageTold old new status
+  IsDone (perform t) = IsAnswerOf input old new outcome t × Keeps old_errors new_errors
+  IsDone (ask a) = IsAnswerTo remaining Gives old new outcome a a.query × Keeps old_errors new_errors
+  IsDone (refuse why) = IsUsageTold old new outcome

@@ -1,30 +1,31 @@
--- The form of all effects of a run of the program: what was asked for is done, or a fault is reported.
+-- The form of all outcomes of a run of the program: what was asked for is done and has a status, or a fault says why it is not.
 -- Source: docs/OUTPUT.md, "Lines of faults" and "Statuses".
-use Rattle.std.specs.Prelude.{◌≡◌, ◌≢◌, ◌⊎◌, ℕ, List, Option}
+use Rattle.std.specs.Prelude.{◌≡◌, ◌≢◌, ℕ, List, Option, Result, Ok, Err, IfOk, IfErr, IsOkAnd, ⊥}
 use Rattle.std.specs.Io.KnownBytes.{Keeps}
-use Rattle.gr_report.specs.Putting.{AppendsPrefix}
+use Rattle.gr_record.specs.declared.fault.Fault.{Fault}
+use Rattle.gr_record.specs.declared.fault.Fault.TheVariants.{Write}
+use Rattle.gr_places.specs.declared.sides_fault.SidesFault.{SidesFault}
+use Rattle.gr_places.specs.declared.sides_fault.SidesFault.TheVariants.{Buffers, Places, Run}
 
--- the lines of faults, their statuses, and the fault of the writer; standard output and standard error before and after; and the status
-module _ {F : Type 0} (line_of : F → List ℕ) (status_of : F → ℕ) (writing : F) (old new old_errors new_errors : Option (List ℕ)) (status : ℕ) where
-  -- the line of f is written, or a prefix of it if standard error fails too; the status is that of f; and nothing else is written, unless the writer failed
-  pub record IsTold (f : F) : Type 0 where
-    pub line : AppendsPrefix old_errors new_errors (line_of f)
-    pub ends : status ≡ status_of f
-    pub untouched : f ≢ writing → Keeps old new
+-- a status, or the fault that says why there is none
+abbrev pub Outcome : Type 0
+Outcome = Result ℕ SidesFault
 
-  -- what having an outcome means, and its status; why there is none, and what a writer that failed has of it
-  module _ {X : Type 0} (Has : X → Type 0) (Ends : X → ℕ → Type 0) (IsWhy : F → Type 0) (Prefix : Type 0) where
-    -- x is the outcome, nothing is written on standard error, and the status is that of x
-    pub record IsDoneWith (x : X) : Type 0 where
-      pub has : Has x
-      pub silent : Keeps old_errors new_errors
-      pub ends : Ends x status
+-- a result has a status, or its fault is the outcome's
+abbrev pub HasStatus : {X F : Type 0} → (X → ℕ → Type 0) → (F → SidesFault) → Result X F → Outcome → Type 0
+HasStatus Ends fault (Ok x) outcome = IsOkAnd outcome (Ends x)
+HasStatus Ends fault (Err f) outcome = outcome ≡ Err (fault f)
 
-    -- f is why there is none, and it is reported
-    pub record IsUndoneBy (f : F) : Type 0 where
-      pub why : IsWhy f
-      pub told : IsTold f
-      pub prefix : f ≡ writing → Prefix
+-- a property of faults without side files
+abbrev pub of_run : (Fault → Type 0) → SidesFault → Type 0
+of_run IsWhy (Run f) = IsWhy f
+of_run IsWhy (Places line) = ⊥
+of_run IsWhy (Buffers line) = ⊥
 
-    abbrev pub IsOutcome : Type 0
-    IsOutcome = ((x : X) × IsDoneWith x) ⊎ ((f : F) × IsUndoneBy f)
+-- standard output before and after, and the outcome; what having a result means, and its status; why there is none, and what a writer that
+-- failed has of it
+pub record IsOutcome (old new : Option (List ℕ)) (outcome : Outcome) {X : Type 0} (Has : X → Type 0) (Ends : X → ℕ → Type 0) (IsWhy : SidesFault → Type 0) (Prefix : Type 0) : Type 0 where
+  pub done : IfOk outcome (λ status. (x : X) × Has x × Ends x status)
+  pub why : IfErr outcome IsWhy
+  pub untouched : IfErr outcome (λ f. f ≢ Run Write → Keeps old new)
+  pub prefix : IfErr outcome (λ f. f ≡ Run Write → Prefix)

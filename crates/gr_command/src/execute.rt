@@ -1,35 +1,30 @@
 //! A run of the program, over values.
 
-ghost use Rattle.std.specs.Prelude.{◌≡◌, ◌⊎◌, ◌≤◌, IfOk, IfErr, OnOk, map};
+ghost use Rattle.std.specs.Prelude.{◌≡◌, ◌⊎◌, ◌≤◌, Err, IfOk, Ok, map};
 ghost use Rattle.std.specs.Fn.{FnReturnsAt};
 ghost use Rattle.std.specs.Io.KnownBytes.{Keeps};
 ghost use Rattle.clap.specs.Words.{kind_of};
-ghost use Rattle.gr_report.specs.FaultText.{fault_line};
-ghost use Rattle.gr_report.specs.Putting.{AppendsPrefix};
 ghost use Rattle.gr_report.specs.Whole.{whole_of};
-ghost use Rattle.gr_places.specs.FaultText.{sides_fault_line};
+ghost use Rattle.gr_places.specs.declared.sides_fault.SidesFault.TheVariants.{Run as OfRun};
 ghost use Rattle.gr_arguments.specs.Asked.{Asked, AsksTo, inquiry_of};
 ghost use Rattle.gr_arguments.specs.Commands.{AreHelp, AreWrong, IsHelp, IsWrongUsage, faults};
-ghost use Rattle.gr_command.specs.Answers.{IsAnswerOf, IsAnswerTo, IsAnswered, IsDone, IsFaultTold, in_form};
-ghost use Rattle.gr_command.specs.Statuses.{check_status, fault_status, race_status, sides_fault_status, IsReportStatus};
+ghost use Rattle.gr_command.specs.Answers.{IsAnswerOf, IsAnswerTo, IsAnswered, IsDone, in_form};
+ghost use Rattle.gr_command.specs.Outcomes.{HasStatus};
+ghost use Rattle.gr_command.specs.Statuses.{check_status, race_status, IsReportStatus};
 
 use crate::checking::write_check;
 use crate::reporting::{replay_json, run_files};
-use crate::status::{
-    FAILED, NO_MEMORY_OR_THREAD, NOTHING, USAGE, status_of, status_of_check, status_of_race,
-    status_of_report, status_of_sides_fault,
-};
+use crate::status::{FAILED, NOTHING, USAGE, status_of_check, status_of_race, status_of_report};
 use clap::Error;
 use clap::error::ErrorKind;
 use gr_arguments::command::{EXPLAIN_USAGE, HISTORY_USAGE, RACES_USAGE, RUN_USAGE, WHY_HELD_USAGE};
 use gr_arguments::request::{Arguments, Misuse, Query, Request, Task};
 use gr_arguments::request_of;
 use gr_places::files::SideNames;
-use gr_places::sides_fault::{SidesFault, write_sides_fault};
+use gr_places::sides_fault::SidesFault;
 use gr_record::fault::Fault;
 use gr_replay::replay;
 use gr_report::report::Report;
-use gr_report::write_fault;
 use gr_show::question::{InJson, JsonQuestion, Question};
 use gr_show::questions::{HeldEvent, LeastRace, LongRace, Races, WordHistory};
 use gr_show::tell_files;
@@ -54,125 +49,103 @@ decimal digits";
 const NO_SET_UP: &str = "\
 N of --workers is 1 to 8, N of --queues is 1 to 4, and N of --capacity is 1 to 65536, in decimal digits";
 
-/// Writes the line of a fault to standard error, and gives its status. If standard error fails, that is ignored: there is nowhere
-/// left to report it.
-pub fn fail<E: Write>(fault: &Fault, errors: &mut E) -> u8
-    ensures status { result ≡ fault_status fault.now }
-    ensures told { AppendsPrefix (E.contents errors.old) (E.contents errors.new) (fault_line fault.now) }
-{
-    let _ = write_fault(fault, errors);
-    status_of(fault)
-}
-
 /// Writes help to standard output, or what is wrong with the words to standard error, and gives the status.
-fn write_usage<W: Write, E: Write>(error: &Error, writer: &mut W, errors: &mut E) -> u8
-    ensures known { result ≤ FAILED }
-    ensures memory { kind_of error.now ≡ ErrorKind.OutOfMemory → IsFaultTold (W.contents writer.old) (W.contents writer.new) (E.contents errors.old) (E.contents errors.new) result Fault.Memory }
-    ensures wrong { IsWrongUsage (kind_of error.now) → (result ≡ USAGE) × Keeps (W.contents writer.old) (W.contents writer.new) }
-    ensures help { IsHelp (kind_of error.now) → (result ≡ NOTHING) ⊎ (result ≡ FAILED) }
+///
+/// # Errors
+/// `Memory`, before anything is written; `Write`.
+fn write_usage<W: Write, E: Write>(
+    error: &Error,
+    writer: &mut W,
+    errors: &mut E,
+) -> Result<u8, SidesFault>
+    ensures known { IfOk result (λ status. status ≤ FAILED) }
+    ensures memory { kind_of error.now ≡ ErrorKind.OutOfMemory → (result ≡ Err (OfRun Fault.Memory)) × Keeps (W.contents writer.old) (W.contents writer.new) × Keeps (E.contents errors.old) (E.contents errors.new) }
+    ensures wrong { IsWrongUsage (kind_of error.now) → (result ≡ Ok USAGE) × Keeps (W.contents writer.old) (W.contents writer.new) }
+    ensures help { IsHelp (kind_of error.now) → (result ≡ Ok NOTHING) ⊎ (result ≡ Err (OfRun Fault.Write)) }
 {
     if error.kind() == ErrorKind::OutOfMemory {
-        return fail(&Fault::Memory, errors);
+        return Err(SidesFault::Run(Fault::Memory));
     }
     if error.use_stderr() {
         let _ = write!(errors, "{error}");
-        return USAGE;
+        return Ok(USAGE);
     }
     match write!(writer, "{error}").and_then(|()| writer.flush()) {
-        Ok(()) => NOTHING,
-        Err(_) => fail(&Fault::Write, errors),
+        Ok(()) => Ok(NOTHING),
+        Err(_) => Err(SidesFault::Run(Fault::Write)),
     }
 }
 
-/// Reports a run that failed, and gives the status of the outcome.
-fn conclude<E: Write>(outcome: Result<Report, Fault>, errors: &mut E) -> u8
-    ensures report { IfOk outcome (λ report. IsReportStatus (whole_of report) result) }
-    ensures silent { OnOk outcome (Keeps (E.contents errors.old) (E.contents errors.new)) }
-    ensures fault { IfErr outcome (λ fault. result ≡ fault_status fault) }
-    ensures told { IfErr outcome (λ fault. AppendsPrefix (E.contents errors.old) (E.contents errors.new) (fault_line fault)) }
+/// The status of a report.
+fn reported(outcome: Result<Report, Fault>) -> Result<u8, SidesFault>
+    ensures { HasStatus (λ report. IsReportStatus (whole_of report)) OfRun outcome result }
 {
     match outcome {
-        Ok(report) => status_of_report(&report),
-        Err(fault) => fail(&fault, errors),
+        Ok(report) => Ok(status_of_report(&report)),
+        Err(fault) => Err(SidesFault::Run(fault)),
     }
 }
 
-/// Reports a rewriting that failed, and gives the status of the outcome.
-fn conclude_rewriting<E: Write>(outcome: Result<(), Fault>, errors: &mut E) -> u8
-    ensures done { OnOk outcome (result ≡ NOTHING) }
-    ensures silent { OnOk outcome (Keeps (E.contents errors.old) (E.contents errors.new)) }
-    ensures fault { IfErr outcome (λ fault. result ≡ fault_status fault) }
-    ensures told { IfErr outcome (λ fault. AppendsPrefix (E.contents errors.old) (E.contents errors.new) (fault_line fault)) }
+/// The status of a rewriting.
+fn rewritten(outcome: Result<(), Fault>) -> Result<u8, SidesFault>
+    ensures { HasStatus (λ done status. status ≡ NOTHING) OfRun outcome result }
 {
     match outcome {
-        Ok(()) => NOTHING,
-        Err(fault) => fail(&fault, errors),
+        Ok(()) => Ok(NOTHING),
+        Err(fault) => Err(SidesFault::Run(fault)),
     }
 }
 
-/// Does the task, and gives the exit status. Either the whole result of the task is written, and nothing on standard error; or
-/// standard error says why not, and the status is that of the fault.
-fn perform<R: Read, W: Write, E: Write>(
+/// Does the task, and gives the exit status.
+///
+/// # Errors
+/// Those of the task.
+fn perform<R: Read, W: Write>(
     alloc: Global,
     task: Task,
     reader: &mut R,
     writer: &mut W,
-    errors: &mut E,
-) -> u8
-    ensures { IsAnswerOf (R.remaining reader.old) (W.contents writer.old) (W.contents writer.new) (E.contents errors.old) (E.contents errors.new) result task }
+) -> Result<u8, SidesFault>
+    ensures { IsAnswerOf (R.remaining reader.old) (W.contents writer.old) (W.contents writer.new) result task }
 {
     match task {
-        Task::Replay { json: false } => conclude(replay(alloc, reader, writer), errors),
-        Task::Replay { json: true } => conclude(replay_json(alloc, reader, writer), errors),
-        Task::Pack => conclude_rewriting(pack(alloc, reader, writer), errors),
-        Task::Dump { partial: false } => conclude_rewriting(dump(alloc, reader, writer), errors),
-        Task::Dump { partial: true } => {
-            conclude_rewriting(dump_partial(alloc, reader, writer), errors)
-        }
-        Task::Upgrade => conclude_rewriting(upgrade(alloc, reader, writer), errors),
+        Task::Replay { json: false } => reported(replay(alloc, reader, writer)),
+        Task::Replay { json: true } => reported(replay_json(alloc, reader, writer)),
+        Task::Pack => rewritten(pack(alloc, reader, writer)),
+        Task::Dump { partial: false } => rewritten(dump(alloc, reader, writer)),
+        Task::Dump { partial: true } => rewritten(dump_partial(alloc, reader, writer)),
+        Task::Upgrade => rewritten(upgrade(alloc, reader, writer)),
     }
 }
 
-/// Writes the line of a fault of a launch with side files to standard error, and gives its status. If standard error fails, that is
-/// ignored.
-fn fail_with_sides<E: Write>(fault: &SidesFault, errors: &mut E) -> u8
-    ensures status { result ≡ sides_fault_status fault.now }
-    ensures told { AppendsPrefix (E.contents errors.old) (E.contents errors.new) (sides_fault_line fault.now) }
-{
-    let _ = write_sides_fault(fault, errors);
-    status_of_sides_fault(fault)
-}
-
-/// Reports a question that could not be answered, and gives the status of the outcome.
-fn conclude_telling<E: Write>(outcome: Result<bool, SidesFault>, errors: &mut E) -> u8
-    ensures race { IfOk outcome (λ found. result ≡ race_status found) }
-    ensures silent { OnOk outcome (Keeps (E.contents errors.old) (E.contents errors.new)) }
-    ensures fault { IfErr outcome (λ fault. result ≡ sides_fault_status fault) }
-    ensures told { IfErr outcome (λ fault. AppendsPrefix (E.contents errors.old) (E.contents errors.new) (sides_fault_line fault)) }
+/// The status of an answer, by whether what it looks for was found.
+fn answered(outcome: Result<bool, SidesFault>) -> Result<u8, SidesFault>
+    ensures { HasStatus (λ found status. status ≡ race_status found) (λ f. f) outcome result }
 {
     match outcome {
-        Ok(found) => status_of_race(found),
-        Err(fault) => fail_with_sides(&fault, errors),
+        Ok(found) => Ok(status_of_race(found)),
+        Err(fault) => Err(fault),
     }
 }
 
 /// Writes the answer to a question about a launch whose streams are in files, as text or as JSON, and gives the exit status.
-fn tell<Q, T, O, W, E>(
+///
+/// # Errors
+/// Those of `tell_files`.
+fn tell<Q, T, O, W>(
     alloc: Global,
     question: Q,
     arguments: &Arguments<'_>,
     opener: O,
     writer: &mut W,
-    errors: &mut E,
-) -> u8
+) -> Result<u8, SidesFault>
 where
     Q: JsonQuestion + Drop,
     T: Read + Drop,
     O: Fn(&str) -> io::Result<T>,
     W: Write,
-    E: Write,
     requires { O.IsAlwaysCallable opener }
-    ensures { IsAnswered T.remaining (FnReturnsAt O.Fn opener) (W.contents writer.old) (W.contents writer.new) (E.contents errors.old) (E.contents errors.new) result (inquiry_of arguments.now) (in_form arguments.now.json (Q.is_json question) (Q.is_text question)) (Q.is_found question) }
+    ensures { IsAnswered T.remaining (FnReturnsAt O.Fn opener) (W.contents writer.old) (W.contents writer.new) result (inquiry_of arguments.now) (in_form arguments.now.json (Q.is_json question) (Q.is_text question)) (Q.is_found question) }
 {
     let sides = SideNames {
         places: arguments.places,
@@ -181,67 +154,56 @@ where
     let files = arguments.files.as_slice();
     if arguments.json {
         let outcome = tell_files(alloc, &InJson(question), &sides, files, opener, writer);
-        conclude_telling(outcome, errors)
+        answered(outcome)
     } else {
         let outcome = tell_files(alloc, &question, &sides, files, opener, writer);
-        conclude_telling(outcome, errors)
+        answered(outcome)
     }
 }
 
-/// Reports a check that failed, and gives the status of the outcome.
-fn conclude_check<E: Write>(outcome: Result<bool, Fault>, errors: &mut E) -> u8
-    ensures accepted { IfOk outcome (λ accepted. result ≡ check_status accepted) }
-    ensures silent { OnOk outcome (Keeps (E.contents errors.old) (E.contents errors.new)) }
-    ensures fault { IfErr outcome (λ fault. result ≡ fault_status fault) }
-    ensures told { IfErr outcome (λ fault. AppendsPrefix (E.contents errors.old) (E.contents errors.new) (fault_line fault)) }
+/// The status of a check.
+fn checked(outcome: Result<bool, Fault>) -> Result<u8, SidesFault>
+    ensures { HasStatus (λ accepted status. status ≡ check_status accepted) OfRun outcome result }
 {
     match outcome {
-        Ok(accepted) => status_of_check(accepted),
-        Err(fault) => fail(&fault, errors),
+        Ok(accepted) => Ok(status_of_check(accepted)),
+        Err(fault) => Err(SidesFault::Run(fault)),
     }
 }
 
 /// Answers what is asked about a launch whose streams are in files, and gives the exit status.
-fn ask<H, T, O, W, E>(
+///
+/// # Errors
+/// Why there is no answer.
+fn ask<H, T, O, W>(
     rt: H,
     alloc: Global,
     arguments: &Arguments<'_>,
     opener: O,
     writer: &mut W,
-    errors: &mut E,
-) -> u8
+) -> Result<u8, SidesFault>
 where
     H: Threads + Wait + Clock + Copy + Send + 'static,
     T: Read + Send + Drop + 'static,
     O: Fn(&str) -> io::Result<T>,
     W: Write,
-    E: Write,
     requires { O.IsAlwaysCallable opener }
-    ensures { IsAnswerTo T.remaining (FnReturnsAt O.Fn opener) (W.contents writer.old) (W.contents writer.new) (E.contents errors.old) (E.contents errors.new) result (inquiry_of arguments.now) arguments.now.query }
+    ensures { IsAnswerTo T.remaining (FnReturnsAt O.Fn opener) (W.contents writer.old) (W.contents writer.new) result (inquiry_of arguments.now) arguments.now.query }
 {
     match arguments.query {
-        Query::Explain { long, word } => {
-            if long {
-                tell(alloc, LongRace(word), arguments, opener, writer, errors)
-            } else {
-                tell(alloc, LeastRace(word), arguments, opener, writer, errors)
-            }
+        Query::Explain { long: true, word } => {
+            tell(alloc, LongRace(word), arguments, opener, writer)
+        }
+        Query::Explain { long: false, word } => {
+            tell(alloc, LeastRace(word), arguments, opener, writer)
         }
         Query::Races { most, causes } => {
-            let question = Races { most, causes };
-            tell(alloc, question, arguments, opener, writer, errors)
+            tell(alloc, Races { most, causes }, arguments, opener, writer)
         }
-        Query::History { word } => {
-            tell(alloc, WordHistory(word), arguments, opener, writer, errors)
-        }
-        Query::Run { config } => {
-            let outcome = run_files(rt, alloc, config, arguments, opener, writer);
-            conclude(outcome, errors)
-        }
-        Query::Check => conclude_check(write_check(alloc, arguments, opener, writer), errors),
-        Query::WhyHeld { event } => {
-            tell(alloc, HeldEvent(event), arguments, opener, writer, errors)
-        }
+        Query::History { word } => tell(alloc, WordHistory(word), arguments, opener, writer),
+        Query::Run { config } => reported(run_files(rt, alloc, config, arguments, opener, writer)),
+        Query::Check => checked(write_check(alloc, arguments, opener, writer)),
+        Query::WhyHeld { event } => tell(alloc, HeldEvent(event), arguments, opener, writer),
     }
 }
 
@@ -270,7 +232,11 @@ fn refuse<E: Write>(why: Misuse, errors: &mut E) -> u8
 }
 
 /// Does what the words ask for, and gives the exit status. The words are those after the program's name. If they name files, `opener`
-/// opens them; no other request opens a file. Only a run in threads uses `rt`.
+/// opens them; no other request opens a file. Only a run in threads uses `rt`. Standard error has what is wrong with the words, and nothing
+/// else.
+///
+/// # Errors
+/// Why what they ask for is not done.
 pub fn execute<H, S, R, T, O, W, E>(
     rt: H,
     alloc: Global,
@@ -279,7 +245,7 @@ pub fn execute<H, S, R, T, O, W, E>(
     opener: O,
     writer: &mut W,
     errors: &mut E,
-) -> u8
+) -> Result<u8, SidesFault>
 where
     H: Threads + Wait + Clock + Copy + Send + 'static,
     S: AsStr,
@@ -289,15 +255,15 @@ where
     W: Write,
     E: Write,
     requires { O.IsAlwaysCallable opener }
-    ensures known { result ≤ FAILED }
+    ensures known { IfOk result (λ status. status ≤ FAILED) }
     ensures does { (a : Asked) → AsksTo a (map S.text words.now) → IsDone T.remaining (FnReturnsAt O.Fn opener) (R.remaining reader.old) (W.contents writer.old) (W.contents writer.new) (E.contents errors.old) (E.contents errors.new) result a }
-    ensures wrong { AreWrong (faults (map S.text words.now)) → ((result ≡ USAGE) ⊎ (result ≡ NO_MEMORY_OR_THREAD)) × Keeps (W.contents writer.old) (W.contents writer.new) }
-    ensures help { AreHelp (faults (map S.text words.now)) → (result ≡ NOTHING) ⊎ (result ≡ NO_MEMORY_OR_THREAD) ⊎ (result ≡ FAILED) }
+    ensures wrong { AreWrong (faults (map S.text words.now)) → ((result ≡ Ok USAGE) ⊎ (result ≡ Err (OfRun Fault.Memory))) × Keeps (W.contents writer.old) (W.contents writer.new) }
+    ensures help { AreHelp (faults (map S.text words.now)) → (result ≡ Ok NOTHING) ⊎ (result ≡ Err (OfRun Fault.Memory)) ⊎ (result ≡ Err (OfRun Fault.Write)) }
 {
     match request_of(alloc, words) {
-        Ok(Request::Perform(task)) => perform(alloc, task, reader, writer, errors),
-        Ok(Request::Ask(arguments)) => ask(rt, alloc, &arguments, opener, writer, errors),
-        Ok(Request::Refuse(why)) => refuse(why, errors),
+        Ok(Request::Perform(task)) => perform(alloc, task, reader, writer),
+        Ok(Request::Ask(arguments)) => ask(rt, alloc, &arguments, opener, writer),
+        Ok(Request::Refuse(why)) => Ok(refuse(why, errors)),
         Err(error) => write_usage(&error, writer, errors),
     }
 }

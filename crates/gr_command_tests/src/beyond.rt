@@ -37,16 +37,16 @@ fn open_none(_: &str) -> io::Result<&'static [u8]> {
     Err(io::Error::from(ErrorKind::OutOfMemory))
 }
 
-/// The status of words if there is no memory to open a file, and whether only that is reported.
+/// The outcome of words if there is no memory to open a file, and whether nothing is written.
 fn run_without_memory<H: Threads + Wait + Clock + Copy + Send + 'static>(
     rt: H,
     alloc: Global,
     words: &[&str],
-) -> (u8, bool) {
+) -> (Result<u8, SidesFault>, bool) {
     let mut input: &[u8] = b"";
     let mut output = Vec::new(alloc);
     let mut errors = Vec::new(alloc);
-    let status = execute(
+    let outcome = execute(
         rt,
         alloc,
         words,
@@ -55,18 +55,16 @@ fn run_without_memory<H: Threads + Wait + Clock + Copy + Send + 'static>(
         &mut output,
         &mut errors,
     );
-    let is_reported = errors.as_slice() == b"gpurace: out of memory\n".as_slice();
-    (status, is_reported && output.is_empty())
+    (outcome, errors.is_empty() && output.is_empty())
 }
 
 #[test]
 fn a_file_that_wants_memory_to_be_opened_is_reported(rt: HostRuntime) {
     let explain = ["explain", "g", "16", "wanting"];
-    assert_eq!(rt; run_without_memory(rt, rt.alloc(), &explain), (4, true));
-    assert_eq!(rt;
-        run_without_memory(rt, rt.alloc(), &["run", "wanting"]),
-        (4, true)
-    );
+    let due = (Err(SidesFault::Run(Fault::Memory)), true);
+    assert_eq!(rt; run_without_memory(rt, rt.alloc(), &explain), due);
+    let run = ["run", "wanting"];
+    assert_eq!(rt; run_without_memory(rt, rt.alloc(), &run), due);
 }
 
 /// Faults of side files, and their lines.

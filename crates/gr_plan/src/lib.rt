@@ -4,7 +4,6 @@
 
 mod account;
 pub mod files;
-pub mod held;
 mod line;
 mod named;
 pub mod notes;

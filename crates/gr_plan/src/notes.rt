@@ -1,65 +1,71 @@
-//! What is added to the line of a fault: which file it is about, and where in the file.
+//! The line of a fault, and what is added to it: which file it is about, and where in the file.
 
 use crate::account::{Account, begins_stream};
 use crate::files::{FileKind, file_kind, launch_in};
-use crate::held::Held;
 use crate::plan::Plan;
 use crate::reading::Kept;
 use crate::seen::Seen;
 use crate::text_fault::put_bad_line;
+use gr_places::sides_fault::{SidesFault, write_sides_fault};
 use gr_record::error::RecordError;
 use gr_record::fault::Fault;
 use std::alloc::{AllocError, Global};
 use std::fs::File;
-use std::io::{self, ErrorKind, Read, Write};
+use std::io::{self, ErrorKind, Read, Stderr, Write};
 use std::mem;
 
-/// How the line of a stream's fault ends if it is about the header.
-const OF_HEADER: [&str; 4] = [
-    ": bad magic\n",
-    ": bad header\n",
-    ": group given twice\n",
-    ": other launch\n",
-];
-
-/// Passes on the line of a fault that is held back, and adds a note.
-pub fn note(plan: &mut Plan, command: &str, errors: &mut Held) -> io::Result<()> {
-    let line = errors.text();
-    if line == "gpurace: read fault\n" {
-        return note_unread(plan, command, errors);
+/// Writes the line of a fault of a command, and what is added to it.
+pub fn report(
+    plan: &mut Plan,
+    command: &str,
+    fault: &SidesFault,
+    errors: &mut Stderr,
+) -> io::Result<()> {
+    let unread = match fault {
+        SidesFault::Run(Fault::Read) => unread_of(plan),
+        SidesFault::Run(_) | SidesFault::Places(_) | SidesFault::Buffers(_) => None,
+    };
+    let is_replaced = matches!(
+        command,
+        "races" | "history" | "check" | "why-held" | "upgrade"
+    );
+    if !(is_replaced && unread.is_some()) && write_sides_fault(fault, errors).is_err() {
+        return Ok(());
     }
-    let is_header = OF_HEADER.iter().any(|end| line.ends_with(end));
-    let is_missing = line.starts_with("gpurace: group ") && line.ends_with(" missing\n");
-    let number = number_in(line, "gpurace: line ").filter(|_| line.ends_with(": bad line\n"));
-    let stream = number_in(line, "gpurace: stream ");
-    let is_after_end = command == "run" && line.ends_with(": after end\n");
-    let is_of_places = line.starts_with("gpurace: places: line ");
-    let is_of_buffers = line.starts_with("gpurace: buffers: line ");
-    errors.pass()?;
-    if let Some(stream) = stream {
-        note_stream(errors, plan, stream, is_header)?;
-        return note_pipe(plan, stream, is_after_end, errors);
+    if let Some((name, error)) = unread {
+        return note_unread(plan, command, name, &error, errors);
     }
-    if is_of_places || is_of_buffers {
-        return note_side(plan, is_of_places, errors);
-    }
-    match (&plan.reading.kept, number, &plan.files.torn) {
-        (Kept::Text(text), Some(_), _) if begins_stream(text) => {
-            writeln!(errors, "gpurace: the input is packed already")
-        }
-        (Kept::Text(_), Some(number), _) => note_line(plan, number, errors),
-        (_, None, Some(name)) if is_missing => writeln!(
-            errors,
-            "gpurace: {name}: its last stream is truncated, and streams after it may be lost"
-        ),
-        _ => Ok(()),
+    match fault {
+        SidesFault::Run(fault) => note(plan, command, fault, errors),
+        SidesFault::Places(_) => note_side(plan, true, errors),
+        SidesFault::Buffers(_) => note_side(plan, false, errors),
     }
 }
 
-/// The number after a word, and before a colon.
-fn number_in(text: &str, word: &str) -> Option<u64> {
-    let (number, _) = text.strip_prefix(word)?.split_once(':')?;
-    number.parse::<u64>().ok()
+/// Adds to the line of a fault where it is.
+fn note(plan: &mut Plan, command: &str, fault: &Fault, errors: &mut Stderr) -> io::Result<()> {
+    match *fault {
+        Fault::Stream(stream, error) => {
+            let is_header = matches!(error, RecordError::BadMagic | RecordError::BadHeader);
+            note_stream(errors, plan, stream, is_header)?;
+            if command == "run" && error == RecordError::AfterEnd {
+                return note_pipe(plan, stream, errors);
+            }
+            Ok(())
+        }
+        Fault::SameGroup(stream) | Fault::OtherLaunch(stream) => {
+            note_stream(errors, plan, stream, true)
+        }
+        Fault::BadLine(line) => note_line(plan, line, errors),
+        Fault::MissingGroup(_) => match &plan.files.torn {
+            None => Ok(()),
+            Some(name) => writeln!(
+                errors,
+                "gpurace: {name}: its last stream is truncated, and streams after it may be lost"
+            ),
+        },
+        _ => Ok(()),
+    }
 }
 
 /// What a line of the input, which is this text, is called: by its number, or by its file and its number there if there are several files.
@@ -78,17 +84,20 @@ fn line_name(plan: &Plan, text: &[u8], number: u64) -> Result<String, AllocError
     }
 }
 
-/// Reports which word of a line of the input is at fault, if the input is a text.
-fn note_line(plan: &Plan, number: u64, errors: &mut Held) -> io::Result<()> {
+/// Reports which word of a line of the input is at fault, or that the input is no text.
+fn note_line(plan: &Plan, number: u64, errors: &mut Stderr) -> io::Result<()> {
     let Kept::Text(text) = &plan.reading.kept else {
         return Ok(());
     };
+    if begins_stream(text) {
+        return writeln!(errors, "gpurace: the input is packed already");
+    }
     let name = line_name(plan, text, number)?;
     put_bad_line(errors, text, name.as_str())
 }
 
 /// Reports which side file has a line that is out of form, and the form. A file of sites is read as the places that are made of it.
-fn note_side(plan: &Plan, is_of_places: bool, errors: &mut Held) -> io::Result<()> {
+fn note_side(plan: &Plan, is_of_places: bool, errors: &mut Stderr) -> io::Result<()> {
     let files = &plan.files;
     let (path, form) = match is_of_places {
         true => (&files.places, "GROUP ITEM INDEX TEXT, or SITE TEXT"),
@@ -131,6 +140,11 @@ fn first_error(plan: &Plan, is_read: bool) -> Option<(&str, io::Error)> {
     })
 }
 
+/// The file that can't be read, and why: the first that can't be opened, or else the first that can't be read.
+fn unread_of(plan: &Plan) -> Option<(&str, io::Error)> {
+    first_error(plan, false).or_else(|| first_error(plan, true))
+}
+
 /// The name of a file, and why it can't be opened or read.
 pub fn reason_of(alloc: Global, name: &str, error: &io::Error) -> Result<String, AllocError> {
     let text = format!(in alloc; "{error}")?;
@@ -141,7 +155,7 @@ pub fn reason_of(alloc: Global, name: &str, error: &io::Error) -> Result<String,
 }
 
 /// Reports that a folder has no stream, or that it holds the folders of launches; or that the command takes no folder.
-fn note_folder(rt: HostRuntime, name: &str, command: &str, to: &mut Held) -> io::Result<()> {
+fn note_folder(rt: HostRuntime, name: &str, command: &str, to: &mut Stderr) -> io::Result<()> {
     write!(to, "gpurace: {name}: ")?;
     match launch_in(rt, name) {
         _ if command == "pack" => writeln!(to, "this is a folder; pack takes files of text"),
@@ -156,27 +170,25 @@ fn note_folder(rt: HostRuntime, name: &str, command: &str, to: &mut Held) -> io:
     }
 }
 
-/// Reports which file can't be read, and why: the first that can't be opened, or else the first that can't be read.
-fn note_unread(plan: &Plan, command: &str, errors: &mut Held) -> io::Result<()> {
-    let unopened = first_error(plan, false);
-    let Some((name, error)) = unopened.or_else(|| first_error(plan, true)) else {
-        return errors.pass();
-    };
-    match command {
-        "races" | "history" | "check" | "why-held" | "upgrade" => errors.forget(),
-        _ => errors.pass()?,
-    }
+/// Reports which file can't be read, and why.
+fn note_unread(
+    plan: &Plan,
+    command: &str,
+    name: &str,
+    error: &io::Error,
+    errors: &mut Stderr,
+) -> io::Result<()> {
     let mut sides = plan.files.places.iter().chain(&plan.files.buffers);
     if error.kind() == ErrorKind::IsADirectory && sides.all(|side| side.as_str() != name) {
         return note_folder(plan.rt, name, command, errors);
     }
-    let reason = reason_of(plan.rt.alloc(), name, &error)?;
+    let reason = reason_of(plan.rt.alloc(), name, error)?;
     writeln!(errors, "gpurace: {reason}")
 }
 
 /// Writes where the fault of a stream is, if its file has a name, and what may have caused it.
 fn put(
-    to: &mut Held,
+    to: &mut Stderr,
     (stream, is_header): (u64, bool),
     name: Option<&str>,
     account: &Account,
@@ -229,7 +241,7 @@ fn account_again(plan: &Plan, name: &str) -> Option<Account> {
 }
 
 /// Reports the fault of a stream that is read from a file of its own or from the input.
-fn note_stream(to: &mut Held, plan: &mut Plan, stream: u64, is_header: bool) -> io::Result<()> {
+fn note_stream(to: &mut Stderr, plan: &mut Plan, stream: u64, is_header: bool) -> io::Result<()> {
     let number = stream as usize;
     if let Some(name) = plan.files.names.get(number) {
         let name = name.as_str();
@@ -252,10 +264,10 @@ fn note_stream(to: &mut Held, plan: &mut Plan, stream: u64, is_header: bool) -> 
     put(to, (stream, is_header), name, &account)
 }
 
-/// Reports that `run` reads one stream of a pipe, if this one is of a pipe and more came after its end.
-fn note_pipe(plan: &Plan, stream: u64, is_after_end: bool, to: &mut Held) -> io::Result<()> {
+/// Reports that `run` reads one stream of a pipe, if this one is of a pipe.
+fn note_pipe(plan: &Plan, stream: u64, to: &mut Stderr) -> io::Result<()> {
     match plan.files.names.get(stream as usize) {
-        Some(name) if is_after_end && file_kind(plan.rt, name.as_str()) == FileKind::Pipe => {
+        Some(name) if file_kind(plan.rt, name.as_str()) == FileKind::Pipe => {
             writeln!(to, "gpurace: {name} is a pipe: run reads one stream of it")
         }
         _ => Ok(()),

@@ -2,7 +2,6 @@
 
 use crate::account::Account;
 use crate::files::{FileKind, Files, copies_of, file_kind, paths_of_streams};
-use crate::held::Held;
 use crate::line::{Line, Taking, is_option, may_be_command, taking_of};
 use crate::named::{Naming, naming_in, spelling_of};
 use crate::progress::Progress;
@@ -17,7 +16,7 @@ use gr_model::memory::Memory;
 use gr_places::sides_fault::SidesFault;
 use gr_record::fault::Fault;
 use std::alloc::Global;
-use std::io::{self, IsTerminal, Write};
+use std::io::{self, IsTerminal, Stderr, Write};
 use std::sync::Arc;
 
 /// How the words of a command line are done.
@@ -92,7 +91,7 @@ impl Plan {
 
     /// Reports what an answer does not say about its word: that records were lost, that nothing accesses it, and that its name is in
     /// several memories.
-    pub fn note_word(&self, errors: &mut Held) -> io::Result<()> {
+    pub fn note_word(&self, errors: &mut Stderr) -> io::Result<()> {
         if let Some(sought) = &self.files.seen.sought {
             sought.report(errors)?;
         }

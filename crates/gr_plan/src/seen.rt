@@ -1,14 +1,13 @@
 //! What is seen in the records of files while their streams are found: whether they access the word that is asked for, and where in the
 //! source they are, by their sites and the folder's file `sites`.
 
-use crate::held::Held;
 use gr_arguments::words::word_named;
 use gr_model::event::{Event, Kind, Word, word_of};
 use gr_model::memory::Memory;
 use gr_record::header::Header;
 use itoa::Buffer;
 use std::alloc::Global;
-use std::io::{self, Write};
+use std::io::{self, Stderr, Write};
 
 /// A word that is asked for, and what was seen of it.
 #[derive(Clone, Copy)]
@@ -43,7 +42,7 @@ impl Sought {
     }
 
     /// Reports if no record accesses the word, and if records were lost that may.
-    pub fn report(&self, errors: &mut Held) -> io::Result<()> {
+    pub fn report(&self, errors: &mut Stderr) -> io::Result<()> {
         match self.cut {
             None => {}
             Some((group, 1)) => writeln!(errors, "gpurace: records of group {group} were lost")?,

@@ -1,11 +1,10 @@
 //! Which word of a line of a text is at fault, and what should be in its place (docs/FORMATS.md, "Text form").
 
-use crate::held::Held;
 use gr_model::limits::MOST_RECORDS;
 use gr_record::header::{Header, Version};
 use gr_text::place::{Place, take_line};
 use gr_text::words::{is_word, parse_number, parse_short};
-use std::io::{self, Write};
+use std::io::{self, Stderr, Write};
 
 /// How many bytes of a word are shown, at most.
 const MOST_SHOWN: usize = 64;
@@ -147,7 +146,7 @@ impl Due {
 }
 
 /// Writes what is due: of several words with `or` before the last.
-fn put_due(to: &mut Held, due: Due) -> io::Result<()> {
+fn put_due(to: &mut Stderr, due: Due) -> io::Result<()> {
     let (words, or, last) = match due {
         Due::Header => return write!(to, "the header of a stream, which begins with group"),
         Due::Items(most) => return write!(to, "a number from 1 to {most}"),
@@ -167,7 +166,7 @@ fn put_due(to: &mut Held, due: Due) -> io::Result<()> {
 }
 
 /// Writes the first bytes of a word; a byte that is not visible ASCII is a question mark, but a carriage return is `\r`.
-fn put_shown(to: &mut Held, word: &[u8]) -> io::Result<()> {
+fn put_shown(to: &mut Stderr, word: &[u8]) -> io::Result<()> {
     for byte in word.iter().take(MOST_SHOWN) {
         match *byte {
             b'\r' => to.write_all(b"\\r")?,
@@ -179,7 +178,7 @@ fn put_shown(to: &mut Held, word: &[u8]) -> io::Result<()> {
 }
 
 /// Writes the word at fault at a place of a line, and what is due there.
-fn put_bad_word(to: &mut Held, line: &[u8], at: usize, due: Due) -> io::Result<()> {
+fn put_bad_word(to: &mut Stderr, line: &[u8], at: usize, due: Due) -> io::Result<()> {
     write!(to, ", word {}: ", at.saturating_add(1))?;
     match word_at(line, at) {
         None => write!(to, "the line ends")?,
@@ -195,7 +194,7 @@ fn put_bad_word(to: &mut Held, line: &[u8], at: usize, due: Due) -> io::Result<(
 }
 
 /// Writes which word is at fault in the first line at fault of a text, and what is due in its place. The line is called `name`.
-pub fn put_bad_line(to: &mut Held, text: &[u8], name: &str) -> io::Result<()> {
+pub fn put_bad_line(to: &mut Stderr, text: &[u8], name: &str) -> io::Result<()> {
     let Some((line, place)) = bad_line(text) else {
         return Ok(());
     };

@@ -33,6 +33,10 @@ const BURST: u32 = 4096;
 /// The turns of so many groups take about as long as a wait.
 const GROUPS_FOR_A_WAIT: usize = 1024;
 
+/// If turns let no event go, the next ones come after more waits than these, half a millisecond at least, unless events come before: a group
+/// that waits for others should not take its later events yet.
+const PATIENCE: usize = 16;
+
 /// If so many accesses are on their way, no more events are handled.
 const MOST_ON_WAY: usize = 4096;
 
@@ -50,10 +54,11 @@ pub struct Feed<A: Allocator = Global> {
     // For how many groups the end was not popped yet.
     open: u16,
     failed: bool,
-    // How many events were popped since the groups had their turns, and how many must be before the next turns: at least as many as
-    // there are groups, and as half of the events that were left, since a group that waits for others should not take its later events yet.
+    // How many events were left when the groups last had their turns, and how many were popped since.
+    left: usize,
     fresh: usize,
-    due: usize,
+    // Whether these turns let no event go: each group that has events waits for others.
+    is_stuck: bool,
 }
 
 impl<A: Allocator> Model for Feed<A> {
@@ -129,8 +134,9 @@ impl<A: Allocator> Feed<A> {
             on_way,
             open,
             failed: false,
+            left: 0,
             fresh: 0,
-            due: 0,
+            is_stuck: false,
         }
     }
 
@@ -141,6 +147,24 @@ impl<A: Allocator> Feed<A> {
         self.open == 0
             && (self.failed
                 || (self.on_way.is_empty() && are_empty(&self.backlogs) && self.sequencer.at_end()))
+    }
+
+    /// How many events were popped and not handled.
+    fn waiting(&self) -> u64 {
+        let coming = self.left.saturating_add(self.fresh);
+        self.sequencer.held().saturating_add(coming as u64)
+    }
+
+    /// Whether the groups are to take turns now: no more events come, or at least as many came since the last turns as there are groups, and
+    /// as half of those that were left, or the thread has waited long enough for them.
+    fn are_turns_due(&self, waits: usize) -> bool {
+        let patience = if self.is_stuck {
+            PATIENCE
+        } else {
+            self.backlogs.len() / GROUPS_FOR_A_WAIT
+        };
+        let enough = (self.left / 2).max(self.backlogs.len());
+        self.open == 0 || self.fresh >= enough || waits > patience
     }
 }
 
@@ -190,18 +214,15 @@ impl<A: Allocator + Copy> Feed<A> {
         some
     }
 
-    /// Lets each group take its turn, unless few events came since the last turns and more may come soon, as the thread has waited only so
-    /// often, or too many accesses are on their way. Gives whether an event was taken.
+    /// Lets each group take its turn if turns are due, as the thread has waited so often since an event came, and not too many accesses are
+    /// on their way. Gives whether an event was taken.
     pub(crate) fn take_turns<R: Wait>(&mut self, rt: &R, waits: usize) -> bool
         ensures { feed_line self.new ≡ feed_line self.old }
     {
-        if self.failed {
+        if self.failed || !self.are_turns_due(waits) || self.on_way.len() >= MOST_ON_WAY {
             return false;
         }
-        let is_early = self.fresh < self.due && waits <= self.backlogs.len() / GROUPS_FOR_A_WAIT;
-        if is_early || self.on_way.len() >= MOST_ON_WAY {
-            return false;
-        }
+        let waiting = self.waiting();
         let passing = Passing {
             config: self.config,
             outlets: Snapshot::of(&self.outlets),
@@ -213,9 +234,9 @@ impl<A: Allocator + Copy> Feed<A> {
             self.backlogs.as_mut_slice(),
         ) {
             Ok(took) => {
-                let left = look_at(rt, &mut self.backlogs, &self.inlets);
+                self.left = look_at(rt, &mut self.backlogs, &self.inlets);
                 self.fresh = 0;
-                self.due = (left / 2).max(self.backlogs.len());
+                self.is_stuck = self.waiting() >= waiting;
                 took
             }
             Err(Memory) => {
@@ -247,8 +268,9 @@ impl<A: Allocator + Copy> Feed<A> {
             on_way: _,
             open: _,
             failed,
+            left: _,
             fresh: _,
-            due: _,
+            is_stuck: _,
         } = self;
         stop_all(rt, &mut outlets);
         let report = findings(alloc, &sequencer, failed);

@@ -2,14 +2,16 @@
 //!
 //! Invariant: there is a way to each worker that a run may have.
 
-ghost use Rattle.std.specs.Prelude.{◌≡◌, ◌++◌, ◌∷◌, [], All, IfOk, IsTrue, List, OnOk, length};
+ghost use Rattle.std.specs.Prelude.{◌≡◌, ◌≢◌, ◌++◌, ◌∷◌, [], All, IfOk, IsTrue, List, OnOk, length};
 ghost use Rattle.gr_clocks.specs.ClockedAccess.{ClockedAccess};
 ghost use Rattle.gr_shadow.specs.Lent.{lent_clocked};
+ghost use Rattle.gr_model.specs.Prelude.{worker_number};
 ghost use Rattle.gr_sequencer_thread.specs.Feeds.{AreOpen, AreSplit, given_of, works_of};
 
 use crate::outlet::Outlet;
 use crate::way::Way;
 use gr_model::config::{Config, worker_of};
+use gr_model::event::Word;
 use gr_model::limits::MOST_WORKERS;
 use gr_model::memory::Memory;
 use gr_shadow::lent::LentAccess;
@@ -39,6 +41,21 @@ impl<A: Allocator> Model for OnWay<A> {
     ghost view = { λ w. accesses_on_way w.ways.items };
 
     ghost invariant = { λ w. length w.ways.items ≡ MOST_WORKERS };
+}
+
+/// The worker of a word. With a number of workers that is known here no division is needed.
+#[inline(always)]
+fn way_of(word: &Word, workers: u16) -> u16
+    requires { workers ≢ 0 }
+    ensures { result ≡ worker_number word.now workers }
+{
+    match workers {
+        1 => worker_of(word, 1),
+        2 => worker_of(word, 2),
+        4 => worker_of(word, 4),
+        8 => worker_of(word, 8),
+        _ => worker_of(word, workers),
+    }
 }
 
 impl<A: Allocator + Copy> OnWay<A> {
@@ -118,7 +135,7 @@ impl<A: Allocator + Copy> Keeper<A> for Passing<A> {
         ensures { OnOk result ((accesses : List ClockedAccess) → AreSplit self.now.config.workers (given_of self.now.outlets.value.items) accesses kept.old → AreSplit self.now.config.workers (given_of self.now.outlets.value.items) (accesses ++ lent_clocked access.now ∷ []) kept.new) }
     {
         let owned = access.owned()?;
-        let worker = usize::from(worker_of(&owned.word, self.config.workers()));
+        let worker = usize::from(way_of(&owned.word, self.config.workers()));
         kept.ways[worker].add(kept.alloc, owned)?;
         kept.count = kept.count.saturating_add(1);
         Ok(())

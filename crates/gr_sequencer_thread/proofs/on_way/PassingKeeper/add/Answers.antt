@@ -13,7 +13,7 @@ index_mut-requires g c =
     let len : length c.kept.inside.ways.items ≡ c.kept.inside.ways.len = search rules in
     let config = c.workers.ensures.config in
     let below = worker_below c.in_ok-owned.owned.word c.workers.result (let some = config.workers.0 in omega (arith, some, c.workers.ensures.number)) in
-    omega (arith, below, c.from-worker.ensures, c.worker_of.ensures, c.workers.ensures.number, config.workers.1, len, c.kept.invariant)
+    omega (arith, below, c.from-worker.ensures, c.way_of.ensures, c.workers.ensures.number, config.workers.1, len, c.kept.invariant)
 
 pub returns : goal.returns
 returns g c accesses split =
@@ -23,7 +23,7 @@ returns g c accesses split =
     let ways = c.kept.inside.ways.items in
     let at = c.from-worker.result in
     let way = c.index_mut.result.now in
-    let to : at ≡ worker_number x.word workers = c.from-worker.ensures ∙ (c.worker_of.ensures ∙ ap (λ n. worker_number x.word n) c.workers.ensures.number) in
+    let to : at ≡ worker_number x.word workers = c.from-worker.ensures ∙ (c.way_of.ensures ∙ ap (λ n. worker_number x.word n) c.workers.ensures.number) in
     let config = c.workers.ensures.config in
     let below : worker_number x.word workers < workers = worker_below x.word workers (let some = config.workers.0 in omega (arith, some)) in
     let within : at < length ways = omega (arith, to, below, config.workers.1, c.kept.invariant) in
