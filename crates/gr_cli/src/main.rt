@@ -8,11 +8,11 @@ use gr_command::execute::execute;
 use gr_command::status::{FAILED, FOUND, REFUSED, USAGE, status_of_sides_fault};
 use gr_model::memory::Memory;
 use gr_places::sides_fault::write_sides_fault;
-use gr_plan::notes::report;
+use gr_plan::notes::{note_buffers, report};
 use gr_plan::plan::{Plan, Refusal, plan_of};
 use gr_plan::progress::{Cleared, Watched};
 use std::env::{self, Args};
-use std::io::{self, BufWriter, ErrorKind, IsTerminal, Write};
+use std::io::{self, BufWriter, ErrorKind, IsTerminal, Stderr, Write};
 use std::process::ExitCode;
 use std::sync::Wait;
 use std::thread::Threads;
@@ -40,7 +40,7 @@ fn words_of(rt: HostRuntime) -> Result<Vec<String>, Refusal> {
 }
 
 /// Reports why nothing is done, and gives the exit status. If standard error fails, that is ignored.
-fn refuse<E: Write>(refusal: &Refusal, errors: &mut E) -> u8 {
+fn refuse(refusal: &Refusal, errors: &mut Stderr) -> u8 {
     match refusal {
         Refusal::Fault(fault) => {
             let _ = write_sides_fault(fault, errors);
@@ -50,8 +50,9 @@ fn refuse<E: Write>(refusal: &Refusal, errors: &mut E) -> u8 {
             let _ = writeln!(errors, "gpurace: {reason}");
             FAILED
         }
-        Refusal::Empty(name) => {
-            let _ = writeln!(errors, "gpurace: {name}: the file is empty");
+        Refusal::Buffers(fault, path) => {
+            let _ = write_sides_fault(fault, errors);
+            let _ = note_buffers(path.as_str(), errors);
             REFUSED
         }
         Refusal::Usage(text) => {
@@ -99,7 +100,12 @@ where
         Err(fault) => {
             let command = words.first().map_or("", |word| word.as_str());
             let _ = report(plan, command, &fault, &mut errors);
-            Ok(status_of_sides_fault(&fault))
+            let is_empty = plan.reading.empty_file().is_some();
+            Ok(if is_empty {
+                REFUSED
+            } else {
+                status_of_sides_fault(&fault)
+            })
         }
     }
 }

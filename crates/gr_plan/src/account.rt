@@ -163,6 +163,11 @@ impl Account {
         Ok(seen.begin(&header)?)
     }
 
+    /// Whether all bytes are checked, and the next ones are not of a stream.
+    pub fn is_refused(&self) -> bool {
+        self.judges && self.fault.is_some()
+    }
+
     /// Whether the bytes end inside a stream.
     pub fn is_torn(&self) -> bool {
         self.fault.is_none() && (self.header.is_some() || !self.bytes.is_empty())

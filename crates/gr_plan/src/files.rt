@@ -77,47 +77,47 @@ fn bytes_of_pipe(alloc: Global, mut source: Source) -> Result<Vec<u8>, Fault> {
     read_all(alloc, &mut whole)
 }
 
-/// The sorted paths of what is in a folder, if its name has this ending; none if the folder can't be read.
-fn paths_in(rt: HostRuntime, folder: &str, ending: &str) -> Result<Vec<String>, Memory> {
+/// The sorted paths of what is in a folder, if its name has this ending.
+///
+/// # Errors
+/// `NoFile` if the folder can't be read, or has a name that is not UTF-8.
+fn paths_in(rt: HostRuntime, folder: &str, ending: &str) -> Result<Vec<String>, Refusal> {
     let alloc = rt.alloc();
+    let refused = |error: io::Error| no_file(alloc, folder, &error);
     let mut paths = Vec::new(alloc);
-    let entries = match fs::read_dir(&rt, folder) {
-        Ok(entries) => entries,
-        Err(error) if error.kind() == ErrorKind::OutOfMemory => return Err(Memory),
-        Err(_) => return Ok(paths),
-    };
-    for entry in entries {
-        match entry {
-            Ok(entry) if entry.file_name().ends_with(ending) => {
-                paths.push(path_below(alloc, folder, entry.file_name())?)?;
-            }
-            Err(error) if error.kind() == ErrorKind::OutOfMemory => return Err(Memory),
-            Ok(_) | Err(_) => {}
+    for entry in fs::read_dir(&rt, folder).map_err(refused)? {
+        let entry = entry.map_err(refused)?;
+        if entry.file_name().ends_with(ending) {
+            let path = path_below(alloc, folder, entry.file_name())?;
+            paths.push(path).map_err(Memory::from)?;
         }
     }
-    paths.sort()?;
+    paths.sort().map_err(Memory::from)?;
     Ok(paths)
 }
 
-/// The sorted paths of the files of streams in a folder; none if the folder can't be read.
-pub fn paths_of_streams(rt: HostRuntime, folder: &str) -> Result<Vec<String>, Memory> {
+/// The sorted paths of the files of streams in a folder.
+///
+/// # Errors
+/// `NoFile` if the folder can't be read, or has a name that is not UTF-8.
+pub fn paths_of_streams(rt: HostRuntime, folder: &str) -> Result<Vec<String>, Refusal> {
     paths_in(rt, folder, ".gpurace")
 }
 
 /// The first folder of a launch in a folder, if there is one: it has files of streams.
-pub fn launch_in(rt: HostRuntime, folder: &str) -> Result<Option<String>, Memory> {
-    for path in paths_in(rt, folder, "")? {
-        if !paths_of_streams(rt, path.as_str())?.is_empty() {
-            return Ok(Some(path));
+pub fn launch_in(rt: HostRuntime, folder: &str) -> Option<String> {
+    for path in paths_in(rt, folder, "").ok()? {
+        if paths_of_streams(rt, path.as_str()).is_ok_and(|paths| !paths.is_empty()) {
+            return Some(path);
         }
     }
-    Ok(None)
+    None
 }
 
 /// The path of a side file in a folder, if it is there.
 fn side_file(rt: HostRuntime, folder: &str, name: &str) -> Result<Option<String>, Memory> {
     let path = path_below(rt.alloc(), folder, name)?;
-    let is_there = file_kind(rt, path.as_str()) == FileKind::File;
+    let is_there = file_kind(rt, path.as_str()) != FileKind::Missing;
     Ok(is_there.then_some(path))
 }
 

@@ -156,7 +156,7 @@ impl Naming<'_, '_> {
             {
                 return Ok(no_file(alloc, file, &error));
             }
-            if let Some(launch) = launch_in(rt, file)? {
+            if let Some(launch) = launch_in(rt, file) {
                 let text = format!(in alloc;
                     "{file} holds launches; give one of them, such as {launch}"
                 );
@@ -169,14 +169,17 @@ impl Naming<'_, '_> {
     /// The word of the name, by the file of buffers, and a note if the name is in several memories.
     ///
     /// # Errors
-    /// `Usage` if no word has the name, or there is no file of buffers; `NoFile`; `Fault` if the file can't be read.
+    /// `Usage` if no word has the name, or there is no file of buffers; `NoFile`; `Buffers`; `Fault` with `Memory`.
     pub fn word(&self) -> Result<(Word, Option<String>), Refusal> {
         let rt = self.line.rt;
         let Some(path) = buffers_of(self.line, self.files)? else {
             return Err(self.refusal_without_buffers()?);
         };
         let bytes = read_file(rt, path.as_str())?;
-        let lines = lines_said(rt.alloc(), &bytes).map_err(|fault| Refusal::Fault(fault))?;
+        let lines = match lines_said(rt.alloc(), &bytes) {
+            Ok(lines) => lines,
+            Err(fault) => return Err(Refusal::Buffers(fault, path)),
+        };
         let mut of_space = Vec::from_slice(rt.alloc(), &lines).map_err(Memory::from)?;
         of_space.retain(|line| self.is_of(line));
         let Some(word) = word_said(&of_space, self.name) else {
@@ -185,21 +188,25 @@ impl Naming<'_, '_> {
         Ok((word, self.note(&of_space, word)?))
     }
 
-    /// Refuses a name that does not end with its index, and the name of a buffer without an index. A file of buffers that can't be read has
-    /// no buffers.
+    /// Refuses a name that does not end with its index: one that has an index, that is before files without a file of buffers, or that a buffer
+    /// has. A file of buffers that can't be read has no buffers.
     ///
     /// # Errors
-    /// `Usage` if the name has an index, or a buffer has the name; `Fault` with `Memory`.
+    /// `Usage`; `Fault` with `Memory`.
     pub fn check(&self) -> Result<(), Refusal> {
         let rt = self.line.rt;
-        if self.name.contains('[') {
+        let path = buffers_of(self.line, self.files)?;
+        let mut kinds = self.files.iter().map(|file| file_kind(rt, file));
+        let has_files = !self.files.is_empty() && kinds.all(|kind| kind != FileKind::Missing);
+        let is_alone = self.space.is_none() && path.is_none() && has_files;
+        if self.name.contains('[') || is_alone {
             let name = self.name;
             let text = format!(in rt.alloc();
                 "{name} names no word: a name is NAME[INDEX], whose index counts words, as in tile[4]"
             );
             return Err(Refusal::Usage(text.map_err(Memory::from)?));
         }
-        let Some(path) = buffers_of(self.line, self.files)? else {
+        let Some(path) = path else {
             return Ok(());
         };
         let Ok(bytes) = read_file(rt, path.as_str()) else {

@@ -14,6 +14,11 @@ use std::fs::File;
 use std::io::{self, ErrorKind, Read, Stderr, Write};
 use std::mem;
 
+/// The form of a line of places, and of one of buffers.
+const PLACE: &str = "GROUP ITEM INDEX TEXT, or SITE TEXT; TEXT begins with no digit";
+
+const BUFFER: &str = "g FIRST WORDS NAME, or l GROUP FIRST WORDS NAME";
+
 /// Writes the line of a fault of a command, and what is added to it.
 pub fn report(
     plan: &mut Plan,
@@ -21,6 +26,9 @@ pub fn report(
     fault: &SidesFault,
     errors: &mut Stderr,
 ) -> io::Result<()> {
+    if let Some(name) = plan.reading.empty_file() {
+        return writeln!(errors, "gpurace: {name}: the file is empty");
+    }
     let unread = match fault {
         SidesFault::Run(Fault::Read) => unread_of(plan),
         SidesFault::Run(_) | SidesFault::Places(_) | SidesFault::Buffers(_) => None,
@@ -57,6 +65,10 @@ fn note(plan: &mut Plan, command: &str, fault: &Fault, errors: &mut Stderr) -> i
             note_stream(errors, plan, stream, true)
         }
         Fault::BadLine(line) => note_line(plan, line, errors),
+        Fault::NoEnd => match plan.reading.names.last() {
+            None => Ok(()),
+            Some(name) => writeln!(errors, "gpurace: {name}: its last stream has no end"),
+        },
         Fault::MissingGroup(_) => match &plan.files.torn {
             None => Ok(()),
             Some(name) => writeln!(
@@ -99,20 +111,23 @@ fn note_line(plan: &Plan, number: u64, errors: &mut Stderr) -> io::Result<()> {
 /// Reports which side file has a line that is out of form, and the form. A file of sites is read as the places that are made of it.
 fn note_side(plan: &Plan, is_of_places: bool, errors: &mut Stderr) -> io::Result<()> {
     let files = &plan.files;
-    let (path, form) = match is_of_places {
-        true => (&files.places, "GROUP ITEM INDEX TEXT, or SITE TEXT"),
-        false => (
-            &files.buffers,
-            "g FIRST WORDS NAME, or l GROUP FIRST WORDS NAME",
+    match (&files.places, &files.buffers) {
+        (Some(path), _) if is_of_places && files.has_piece(path.as_str()) => writeln!(
+            errors,
+            "gpurace: {path}: its lines are texts; none is empty or begins with a digit"
         ),
-    };
-    match path {
-        None => Ok(()),
-        Some(path) if files.has_piece(path.as_str()) => {
-            writeln!(errors, "gpurace: {path}: its lines are texts, none empty")
-        }
-        Some(path) => writeln!(errors, "gpurace: {path}: its lines are {form}"),
+        (Some(path), _) if is_of_places => writeln!(
+            errors,
+            "gpurace: {path}: its lines are {PLACE}"
+        ),
+        (_, Some(path)) if !is_of_places => note_buffers(path.as_str(), errors),
+        (_, _) => Ok(()),
     }
+}
+
+/// Reports which file of buffers has a line that is out of form, and the form.
+pub fn note_buffers(path: &str, errors: &mut Stderr) -> io::Result<()> {
+    writeln!(errors, "gpurace: {path}: its lines are {BUFFER}")
 }
 
 /// Opens a file, and reads of it if asked to. Pipes are left as they are.
@@ -159,11 +174,11 @@ fn note_folder(rt: HostRuntime, name: &str, command: &str, to: &mut Stderr) -> i
     write!(to, "gpurace: {name}: ")?;
     match launch_in(rt, name) {
         _ if command == "pack" => writeln!(to, "this is a folder; pack takes files of text"),
-        Ok(Some(launch)) => writeln!(
+        Some(launch) => writeln!(
             to,
             "this folder holds launches; give one of them, such as {launch}"
         ),
-        Ok(None) | Err(_) => writeln!(
+        None => writeln!(
             to,
             "no stream in this folder: no file whose name ends in .gpurace"
         ),

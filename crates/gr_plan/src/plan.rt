@@ -7,7 +7,6 @@ use crate::named::{Naming, naming_in, spelling_of};
 use crate::progress::Progress;
 use crate::reading::{Kept, Reading};
 use crate::seen::Sought;
-use crate::source::file_size;
 use clap::error::ErrorKind;
 use gr_arguments::request::Request;
 use gr_arguments::request_of;
@@ -34,12 +33,12 @@ pub struct Plan {
 /// Why nothing is done.
 #[derive(Debug, Drop)]
 pub enum Refusal {
-    /// Reading fails, memory runs out, or a line of a file of buffers is out of form.
+    /// Reading fails, or memory runs out.
     Fault(SidesFault),
+    /// A file of buffers has a line that is out of form: the fault, and which file.
+    Buffers(SidesFault, String),
     /// A file that is needed first can't be read: which file, and why.
     NoFile(String),
-    /// A file of streams has no byte: which file.
-    Empty(String),
     /// A word is given by a name that no word has, or no file has: why.
     Usage(String),
 }
@@ -140,10 +139,8 @@ impl Plan {
         let (kept, names) = if line.command == "pack" {
             (Kept::Text(Vec::new(alloc)), copies_of(alloc, &line.values)?)
         } else {
-            let names = files_given(self.rt, &line.values)?;
-            check_filled(self.rt, &names)?;
             let account = Account::new(alloc, line.command != "replay");
-            (Kept::Streams(account), names)
+            (Kept::Streams(account), files_given(self.rt, &line.values)?)
         };
         self.reading = Reading::new(self.rt, names, kept)?;
         self.words = Some(copies_of(alloc, &line.head(true)?)?);
@@ -199,7 +196,7 @@ fn asks_for_report(rt: HostRuntime, words: &[String]) -> bool {
 }
 
 /// The files of streams that names mean: those of a folder, or the name itself.
-fn files_given(rt: HostRuntime, names: &[&str]) -> Result<Vec<String>, Memory> {
+fn files_given(rt: HostRuntime, names: &[&str]) -> Result<Vec<String>, Refusal> {
     let mut given = Vec::new(rt.alloc());
     for name in names {
         let paths = match file_kind(rt, name) {
@@ -207,22 +204,12 @@ fn files_given(rt: HostRuntime, names: &[&str]) -> Result<Vec<String>, Memory> {
             _ => Vec::new(rt.alloc()),
         };
         if paths.is_empty() {
-            given.push(String::from_str(rt.alloc(), name)?)?;
+            let name = String::from_str(rt.alloc(), name).map_err(Memory::from)?;
+            given.push(name).map_err(Memory::from)?;
         }
-        given.extend(paths)?;
+        given.extend(paths).map_err(Memory::from)?;
     }
     Ok(given)
-}
-
-/// Refuses an empty file: whoever was to write it has failed, and its group would be left out.
-fn check_filled(rt: HostRuntime, names: &[String]) -> Result<(), Refusal> {
-    for name in names {
-        if file_size(rt, name.as_str()) == Some(0) {
-            let name = String::from_str(rt.alloc(), name.as_str());
-            return Err(Refusal::Empty(name.map_err(Memory::from)?));
-        }
-    }
-    Ok(())
 }
 
 /// The memory and the number of a word that come after the files, and the files.

@@ -8,6 +8,9 @@ use gr_model::memory::Memory;
 use std::io::{self, Read};
 use std::sync::Arc;
 
+/// How a text begins.
+const HEADER: &[u8] = b"group ";
+
 /// What is kept of an input, to report where a fault of it is.
 #[derive(Drop)]
 pub enum Kept {
@@ -17,6 +20,25 @@ pub enum Kept {
     Streams(Account),
     /// Nothing: memory ran out.
     Nothing,
+}
+
+impl Kept {
+    /// Whether what was read has a fault, whatever comes after it: then no more is read, since a pipe or a device may have no end.
+    fn is_refused(&self) -> bool {
+        match self {
+            Kept::Text(text) => text.len() >= HEADER.len() && !text.starts_with(HEADER),
+            Kept::Streams(account) => account.is_refused(),
+            Kept::Nothing => false,
+        }
+    }
+
+    /// Whether it is a text whose last line has no line feed.
+    fn is_line_open(&self) -> bool {
+        match self {
+            Kept::Text(text) => text.last().is_some_and(|byte| *byte != b'\n'),
+            Kept::Streams(_) | Kept::Nothing => false,
+        }
+    }
 }
 
 /// The input, with what is kept of it.
@@ -32,6 +54,8 @@ pub struct Reading {
     read: u64,
     /// The places of the files that were read from, and the bytes at which they begin.
     begins: Vec<(usize, u64)>,
+    /// Whether the file at `at` has no byte.
+    is_empty: bool,
     /// What is kept of the bytes that were read.
     pub kept: Kept,
     /// Who reports how far the reading is.
@@ -62,14 +86,20 @@ impl Reading {
             at: 0,
             read: 0,
             begins: Vec::new(rt.alloc()),
+            is_empty: false,
             kept,
             progress: None,
         })
     }
 
+    /// Whether a byte of the present file was read.
+    fn is_begun(&self) -> bool {
+        self.begins.last().map(|(file, _)| *file) == Some(self.at)
+    }
+
     /// Keeps what a report of a fault needs of the bytes that were read.
     fn note(&mut self, piece: &[u8]) -> Result<(), Memory> {
-        if self.begins.last().map(|(file, _)| *file) != Some(self.at) {
+        if !self.is_begun() {
             self.begins.push((self.at, self.read))?;
         }
         self.read = self.read.saturating_add(piece.len() as u64);
@@ -85,6 +115,12 @@ impl Reading {
         Ok(())
     }
 
+    /// The name of a file that has no byte, if one has none: whoever was to write it has failed, and its group would be left out.
+    pub fn empty_file(&self) -> Option<&str> {
+        let name = self.names.get(self.at).filter(|_| self.is_empty)?;
+        Some(name.as_str())
+    }
+
     /// The name of the file that has this byte of the input, and the byte at which it begins.
     pub fn file_at(&self, byte: u64) -> Option<(&str, u64)> {
         let mut begins = self.begins.iter().rev();
@@ -94,8 +130,9 @@ impl Reading {
 }
 
 impl Read for Reading {
+    /// Reads of the files in turn. A file that can't be opened, or has no byte, is an error.
     fn read(&mut self, buf: &mut [u8]) -> io::Result<usize> {
-        if buf.is_empty() {
+        if buf.is_empty() || self.kept.is_refused() {
             return Ok(0);
         }
         if self.sources.is_empty() {
@@ -105,12 +142,20 @@ impl Read for Reading {
             let Some(source) = self.sources.get_mut(self.at) else {
                 return Ok(0);
             };
-            let n = source.read(buf)?;
+            let mut n = source.read(buf)?;
+            if n == 0 && self.kept.is_line_open() {
+                buf[0] = b'\n';
+                n = 1;
+            }
             if n > 0 {
                 if self.note(&buf[..n]).is_err() {
                     self.kept = Kept::Nothing;
                 }
                 return Ok(n);
+            }
+            if !self.names.is_empty() && !self.is_begun() {
+                self.is_empty = true;
+                return Err(io::Error::from(io::ErrorKind::UnexpectedEof));
             }
             self.at = self.at.saturating_add(1);
         }

@@ -13,7 +13,7 @@ const MOST_SHOWN: usize = 64;
 const MOST_NUMBERS: usize = 1 << 32;
 
 /// What may come after the last word, if a record may have a site.
-const SITE_OR_END: &str = "@ and a site, or the end of the line";
+const SITE_OR_END: &str = "@ and a site from 1 to 65535, or the end of the line";
 
 /// Words; one of them is due.
 type Words = &'static [&'static str];

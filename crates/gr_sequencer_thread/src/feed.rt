@@ -96,6 +96,11 @@ fn look_at<R: Wait, A: Allocator>(
     left
 }
 
+/// How many events were popped and not handled, of which so many are still to be taken.
+fn waiting_of<A: Allocator>(sequencer: &Sequencer<A>, coming: usize) -> u64 {
+    sequencer.held().saturating_add(coming as u64)
+}
+
 /// Shows a watcher that so many events of a group were popped.
 pub(crate) fn show<W: Watch, A: Allocator>(watch: &Arc<W, A>, group: u16, count: usize) {
     for _ in 0..count {
@@ -147,12 +152,6 @@ impl<A: Allocator> Feed<A> {
         self.open == 0
             && (self.failed
                 || (self.on_way.is_empty() && are_empty(&self.backlogs) && self.sequencer.at_end()))
-    }
-
-    /// How many events were popped and not handled.
-    fn waiting(&self) -> u64 {
-        let coming = self.left.saturating_add(self.fresh);
-        self.sequencer.held().saturating_add(coming as u64)
     }
 
     /// Whether the groups are to take turns now: no more events come, or at least as many came since the last turns as there are groups, and
@@ -222,7 +221,8 @@ impl<A: Allocator + Copy> Feed<A> {
         if self.failed || !self.are_turns_due(waits) || self.on_way.len() >= MOST_ON_WAY {
             return false;
         }
-        let waiting = self.waiting();
+        let coming = self.left.saturating_add(self.fresh);
+        let waiting = waiting_of(&self.sequencer, coming);
         let passing = Passing {
             config: self.config,
             outlets: Snapshot::of(&self.outlets),
@@ -234,9 +234,10 @@ impl<A: Allocator + Copy> Feed<A> {
             self.backlogs.as_mut_slice(),
         ) {
             Ok(took) => {
-                self.left = look_at(rt, &mut self.backlogs, &self.inlets);
+                let left = look_at(rt, &mut self.backlogs, &self.inlets);
+                self.left = left;
                 self.fresh = 0;
-                self.is_stuck = self.waiting() >= waiting;
+                self.is_stuck = waiting_of(&self.sequencer, left) >= waiting;
                 took
             }
             Err(Memory) => {

@@ -20,7 +20,7 @@ use std::time::Clock;
 const MOST_READS: u64 = 4_294_967_296;
 
 /// How many bytes are asked for at once.
-const PIECE_LENGTH: usize = 65_536;
+const PIECE_LENGTH: usize = 16_384;
 
 /// Reads the rest of the stream at a place, and sends its events as they come. What was read before is already on its way.
 /// This ends at the end of the reader, or at the first fault, or as soon as the run was abandoned.

@@ -254,7 +254,7 @@ private:
         words.insert(words.end(), options_.begin(), options_.end());
         const Words own = unit_options(units_[at], features_);
         words.insert(words.end(), own.begin(), own.end());
-        words.insert(words.end(), {"-fdebug-prefix-map=" + folder + "/=", "-I", headers, "-MD", "-MF", out + ".d", text, "-o", out});
+        words.insert(words.end(), {"-fdebug-prefix-map=" + folder + "/=", "-I", headers, "-I", ".", "-MD", "-MF", out + ".d", text, "-o", out});
         return run(words, log);
     }
 
