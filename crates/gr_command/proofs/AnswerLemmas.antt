@@ -30,27 +30,29 @@ of_same_run : {f g : Fault} → Run f ≡ Run g → f ≡ g
 of_same_run same = cc
 
 -- the outcome of a call whose faults are those of a run, and of one whose faults may be of side files; `view` shows the call's result
-module _ {old new : Option (List ℕ)} {outcome : Outcome} {X R : Type 0} {Has : X → Type 0} {Ends : X → ℕ → Type 0} {Prefix : Type 0} (view : R → X) where
-  pub run_outcome : {IsWhy : Fault → Type 0} (result : Result R Fault)
+module _ {old new : Option (List ℕ)} {X R : Type 0} {Has : X → Type 0} {Ends : X → ℕ → Type 0} {Prefix : Type 0} (view : R → X) where
+  pub run_outcome : {IsWhy : Fault → Type 0} (result : Result R Fault) (outcome : Outcome)
       → HasStatus (λ r. Ends (view r)) Run result outcome
       → IfOk result (λ r. Has (view r))
       → IfErr result IsWhy
       → IfErr result (λ f. f ≢ Write → Keeps old new)
       → IfErr result (λ f. f ≡ Write → Prefix)
       → IsOutcome old new outcome Has Ends (of_run IsWhy) Prefix
-  run_outcome (Ok r) (status, is, ends) has why untouched prefix = rw is (record { done = (view r, has, ends); why = tt; untouched = tt; prefix = tt })
-  run_outcome (Err f) is has why untouched prefix =
+  run_outcome (Ok r) (Ok status) ends has why untouched prefix = record { done = (view r, has, ends); why = tt; untouched = tt; prefix = tt }
+  run_outcome (Ok r) (Err f) none has why untouched prefix = absurd none
+  run_outcome (Err f) outcome is has why untouched prefix =
       rw is (record { done = tt; why = why; untouched = λ h. untouched (λ e. h (ap Run e)); prefix = λ h. prefix (of_same_run h) })
 
-  pub sides_outcome : {IsWhy : SidesFault → Type 0} (result : Result R SidesFault)
+  pub sides_outcome : {IsWhy : SidesFault → Type 0} (result : Result R SidesFault) (outcome : Outcome)
       → HasStatus (λ r. Ends (view r)) (λ f. f) result outcome
       → IfOk result (λ r. Has (view r))
       → IfErr result IsWhy
       → IfErr result (λ f. f ≢ Run Write → Keeps old new)
       → IfErr result (λ f. f ≡ Run Write → Prefix)
       → IsOutcome old new outcome Has Ends IsWhy Prefix
-  sides_outcome (Ok r) (status, is, ends) has why untouched prefix = rw is (record { done = (view r, has, ends); why = tt; untouched = tt; prefix = tt })
-  sides_outcome (Err f) is has why untouched prefix = rw is (record { done = tt; why = why; untouched = untouched; prefix = prefix })
+  sides_outcome (Ok r) (Ok status) ends has why untouched prefix = record { done = (view r, has, ends); why = tt; untouched = tt; prefix = tt }
+  sides_outcome (Ok r) (Err f) none has why untouched prefix = absurd none
+  sides_outcome (Err f) outcome is has why untouched prefix = rw is (record { done = tt; why = why; untouched = untouched; prefix = prefix })
 
 -- two things hold of an outcome
 pub both : {R F : Type 0} (P Q : R → Type 0) (outcome : Result R F) → IfOk outcome P → IfOk outcome Q → IfOk outcome (λ r. P r × Q r)
@@ -58,8 +60,8 @@ both P Q (Ok r) p q = (p, q)
 both P Q (Err f) p q = tt
 
 -- the outcome of a partial dump
-module _ (input old new : Option (List ℕ)) (outcome : Outcome) where
-  pub partial_of : (result : Result (Unit {0}) Fault)
+module _ (input old new : Option (List ℕ)) where
+  pub partial_of : (result : Result (Unit {0}) Fault) (outcome : Outcome)
       → HasStatus (λ done status. status ≡ NOTHING) Run result outcome
       → OnOk result (IfSome input (λ bytes. Writes (dumped bytes) old new))
       → IfErr result (λ f. f ≢ Write → IfSome input (λ bytes. Fails f (dumped bytes)))
@@ -67,8 +69,9 @@ module _ (input old new : Option (List ℕ)) (outcome : Outcome) where
       → IfErr result (λ f. IsOutside f → Keeps old new)
       → IfErr result (λ f. f ≡ Write → IfSome input (λ bytes. AppendsPrefix old new (text_before_fault bytes)))
       → IsPartialDump input old new outcome
-  partial_of (Ok done) (status, is, ends) whole why partial untouched prefix = rw is (record { whole = (ends, whole); part = tt })
-  partial_of (Err f) is whole why partial untouched prefix =
+  partial_of (Ok done) (Ok status) ends whole why partial untouched prefix = record { whole = (ends, whole); part = tt }
+  partial_of (Ok done) (Err f) none whole why partial untouched prefix = absurd none
+  partial_of (Err f) outcome is whole why partial untouched prefix =
       rw is (record { whole = tt; part = record { why = why; partial = partial; untouched = untouched; prefix = prefix } })
 
 -- ---- memory ran out before anything was done

@@ -191,11 +191,12 @@ where
     ensures { IsAnswerTo T.remaining (FnReturnsAt O.Fn opener) (W.contents writer.old) (W.contents writer.new) result (inquiry_of arguments.now) arguments.now.query }
 {
     match arguments.query {
-        Query::Explain { long: true, word } => {
-            tell(alloc, LongRace(word), arguments, opener, writer)
-        }
-        Query::Explain { long: false, word } => {
-            tell(alloc, LeastRace(word), arguments, opener, writer)
+        Query::Explain { long, word } => {
+            if long {
+                tell(alloc, LongRace(word), arguments, opener, writer)
+            } else {
+                tell(alloc, LeastRace(word), arguments, opener, writer)
+            }
         }
         Query::Races { most, causes } => {
             tell(alloc, Races { most, causes }, arguments, opener, writer)

@@ -33,8 +33,8 @@ const BURST: u32 = 4096;
 /// The turns of so many groups take about as long as a wait.
 const GROUPS_FOR_A_WAIT: usize = 1024;
 
-/// If turns let no event go, the next ones come after more waits than these, half a millisecond at least, unless events come before: a group
-/// that waits for others should not take its later events yet.
+/// If turns let no event go, the next ones come after the queues were looked at so often: a group that waits for others should not take its
+/// later events yet. An idle thread looks so often in half a millisecond.
 const PATIENCE: usize = 16;
 
 /// If so many accesses are on their way, no more events are handled.
@@ -57,8 +57,9 @@ pub struct Feed<A: Allocator = Global> {
     // How many events were left when the groups last had their turns, and how many were popped since.
     left: usize,
     fresh: usize,
-    // Whether these turns let no event go: each group that has events waits for others.
+    // Whether these turns let no event go: each group that has events waits for others; and how often the queues were looked at since.
     is_stuck: bool,
+    looks: usize,
 }
 
 impl<A: Allocator> Model for Feed<A> {
@@ -142,6 +143,7 @@ impl<A: Allocator> Feed<A> {
             left: 0,
             fresh: 0,
             is_stuck: false,
+            looks: 0,
         }
     }
 
@@ -155,15 +157,15 @@ impl<A: Allocator> Feed<A> {
     }
 
     /// Whether the groups are to take turns now: no more events come, or at least as many came since the last turns as there are groups, and
-    /// as half of those that were left, or the thread has waited long enough for them.
+    /// as half of those that were left, or none came while the thread waited so often.
     fn are_turns_due(&self, waits: usize) -> bool {
-        let patience = if self.is_stuck {
-            PATIENCE
-        } else {
-            self.backlogs.len() / GROUPS_FOR_A_WAIT
-        };
         let enough = (self.left / 2).max(self.backlogs.len());
-        self.open == 0 || self.fresh >= enough || waits > patience
+        let has_waited = if self.is_stuck {
+            self.looks > PATIENCE
+        } else {
+            waits > self.backlogs.len() / GROUPS_FOR_A_WAIT
+        };
+        self.open == 0 || self.fresh >= enough || has_waited
     }
 }
 
@@ -207,14 +209,15 @@ impl<A: Allocator + Copy> Feed<A> {
         ensures { feed_line self.new ≡ feed_line self.old }
     {
         let mut some = false;
+        self.looks = self.looks.saturating_add(1);
         for queue in 0..self.inlets.len() {
             some |= self.drain(rt, queue, watch);
         }
         some
     }
 
-    /// Lets each group take its turn if turns are due, as the thread has waited so often since an event came, and not too many accesses are
-    /// on their way. Gives whether an event was taken.
+    /// Lets each group take its turn if turns are due, where the thread has waited so often since an event came, and not too many accesses
+    /// are on their way. Gives whether an event was taken.
     pub(crate) fn take_turns<R: Wait>(&mut self, rt: &R, waits: usize) -> bool
         ensures { feed_line self.new ≡ feed_line self.old }
     {
@@ -237,6 +240,7 @@ impl<A: Allocator + Copy> Feed<A> {
                 let left = look_at(rt, &mut self.backlogs, &self.inlets);
                 self.left = left;
                 self.fresh = 0;
+                self.looks = 0;
                 self.is_stuck = waiting_of(&self.sequencer, left) >= waiting;
                 took
             }
@@ -272,6 +276,7 @@ impl<A: Allocator + Copy> Feed<A> {
             left: _,
             fresh: _,
             is_stuck: _,
+            looks: _,
         } = self;
         stop_all(rt, &mut outlets);
         let report = findings(alloc, &sequencer, failed);
