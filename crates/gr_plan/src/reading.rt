@@ -97,7 +97,7 @@ impl Reading {
         self.begins.last().map(|(file, _)| *file) == Some(self.at)
     }
 
-    /// Keeps what a report of a fault needs of the bytes that were read.
+    /// Notes the bytes that were read.
     fn note(&mut self, piece: &[u8]) -> Result<(), Memory> {
         if !self.is_begun() {
             self.begins.push((self.at, self.read))?;
@@ -113,6 +113,13 @@ impl Reading {
             progress.add(piece.len() as u64, records);
         }
         Ok(())
+    }
+
+    /// Keeps what a report of a fault needs of the bytes that were read; nothing more if memory runs out.
+    fn keep(&mut self, piece: &[u8]) {
+        if self.note(piece).is_err() {
+            self.kept = Kept::Nothing;
+        }
     }
 
     /// The name of a file that has no byte, if one has none: whoever was to write it has failed, and its group would be left out.
@@ -142,15 +149,15 @@ impl Read for Reading {
             let Some(source) = self.sources.get_mut(self.at) else {
                 return Ok(0);
             };
-            let mut n = source.read(buf)?;
-            if n == 0 && self.kept.is_line_open() {
-                buf[0] = b'\n';
-                n = 1;
-            }
+            let n = source.read(buf)?;
             if n > 0 {
-                if self.note(&buf[..n]).is_err() {
-                    self.kept = Kept::Nothing;
-                }
+                self.keep(&buf[..n]);
+                return Ok(n);
+            }
+            if self.kept.is_line_open() {
+                let mut line_end: &[u8] = b"\n";
+                let n = line_end.read(buf)?;
+                self.keep(&buf[..n]);
                 return Ok(n);
             }
             if !self.names.is_empty() && !self.is_begun() {
