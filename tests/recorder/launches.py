@@ -363,6 +363,36 @@ race on global word 5
             for it in self.judged(streams, {"places": places, "kernel.cl": line}).findings:
                 self.assertTrue(it.message.startswith(message), f"{line}: {it.message}")
 
+    def test_items_that_read_a_word_before_they_write_it(self):
+        """Item 0 reads the word in a condition and then writes it, another item reads it there, too. It is no such check if the reads are at two places,
+        in no condition or with a barrier between; where an item has come to the line more often than the other, it may be one."""
+        def message(text, steps, places="kernel.cl:1:5 kernel.cl:1:14", groups=1):
+            form = "group {} items {} launch 7 v3\n{}end\n"
+            streams = [form.format(0, 2, "".join(steps))] if groups == 1 else [form.format(0, 1, steps[0]), form.format(1, 1, steps[1].replace("1 ", "0 ", 1))]
+            return self.judged(streams, {"kernel.cl": text, "sites": "".join(f"{place}\n" for place in places.split())}).findings[0].message
+
+        first, second, two = "0 r g 5 @1\n0 w g 5 @2\n", "1 r g 5 @1\n", "kernel.cl:1:5 kernel.cl:2:1"
+        cmpxchg, greatest = ("use an atomic (of an int, such as {}; of a float, a loop of atomic_cmpxchg)".format(it) for it in ("atomic_cmpxchg", "atomic_max or atomic_min"))
+        where = "where items read the word at kernel.cl:1:5 and then write it at kernel.cl:2:1, "
+        self.assertEqual(message("if (*a == 0) *a = 1;", (first, second)), f"{cmpxchg}: items read the word at this line and then write it")
+        self.assertEqual(message("if (x > *a)\n*a = x;", (first, second), two), f"{GLOBAL}; or, {where}{greatest}")
+        self.assertEqual(message("if (x > *a)\n*a = x;", (first, second), two, 2), f"nothing orders the two; {where}{greatest}")
+        self.assertEqual(message("int t = *a;\n*a = x;", (first, second), two), GLOBAL)
+        self.assertEqual(message("if (x > *a)\n*a = x;", (first, second.replace("@1", "@3")), f"{two} kernel.cl:3:1"), GLOBAL)
+        self.assertEqual(message("if (x > *a)\n*a = x;", ("0 r g 5 @1\n0 bar 1 g @3\n0 w g 5 @2\n", "1 bar 1 g @3\n1 r g 5 @1\n"), f"{two} b.cl:9:9"),
+                         f"{GLOBAL}; the last barrier before both is at b.cl:9:9")
+        where = where.replace("2:1", "1:14")
+        self.assertEqual(message("if (*a == 0) *a = 1;", (first, "1 r g 7 @1\n" + second)), f"{GLOBAL}; or, {where}{cmpxchg}")
+
+    def test_items_that_count_in_rounds_of_a_loop(self):
+        """Item 1 adds to word 5 of a buffer and then to word 6, item 0 to word 5. If item 0 reads word 6 at another place, an atomic is no mend alone."""
+        sites, adds = "kernel.cl:1:1\nkernel.cl:1:9\n", "{0} r g {1} @1\n{0} w g {1} @1\n"
+        atomic = "use an atomic (of an int, such as atomic_inc or atomic_add; of a float, a loop of atomic_cmpxchg): each item reads the word and writes it at this line"
+        for other, message in (("", atomic), ("0 r g 6 @2\n", f"{GLOBAL}; or make each item's read and write of the word one atomic operation")):
+            stream = f"group 0 items 2 launch 7 v3\n{adds.format(1, 5)}{adds.format(1, 6)}{other}{adds.format(0, 5)}end\n"
+            launch = self.judged([stream], {"kernel.cl": "a[i] += a[k];", "sites": sites, "buffers": "g 0 9 a\n"})
+            self.assertEqual([it.message for it in launch.findings], [message])
+
     def test_the_part_of_a_long_line(self):
         """Its end, its start, and what is around a column; spaces before it are none of it."""
         line = "".join(f"{number:9};" for number in range(40))  # 392 characters without the spaces before the first number
@@ -408,6 +438,13 @@ race on global word 5
                                     "float), or give each item a word of its own"),
                                    ("float", "*a *= x;", "use a loop of atomic_cmpxchg on the bits, begun by an atomic read (OpenCL C has no other atomic of "
                                     "float), or give each item a word of its own"),
+                                   ("int", "if (x > *a) *a = x;", "use an atomic, such as atomic_max or atomic_min"),
+                                   ("int", "if (p->a == 0) p->a = 1;", "use an atomic, such as atomic_cmpxchg"),
+                                   ("int", "*a = *a != x ? x : 0;", "use an atomic, such as atomic_cmpxchg"),
+                                   ("long", "*a = *a < x ? x : *a;", "use an atomic, such as atom_max or atom_min (of cl_khr_int64_extended_atomics)"),
+                                   ("int", "if (x < n && *a == x) *a = 0;", "use an atomic, such as atomic_add or atomic_cmpxchg"),
+                                   ("float", "if (x < *a) *a = x;", "use a loop of atomic_cmpxchg on the bits, begun by an atomic read (OpenCL C has no other atomic of "
+                                    "float), or give each item a word of its own"),
                                    ("", "*a ^= x;", "use an atomic (of an int, such as atomic_xor; of a float, a loop of atomic_cmpxchg)")):
             self.assertEqual(of_update(kind, line), advice, line)
 
@@ -423,6 +460,14 @@ race on global word 5
         self.assertEqual(message("gl", 9), ["nothing orders the two; a barrier with CLK_GLOBAL_MEM_FENCE before the release at a.cl:2:1 would, where the "
                                             "acquire at a.cl:2:1 takes its value"])
         self.assertEqual([message("l", 9), message("gl", 8), message("gl", 9, "copying-item 0 0\n")], [[GROUPS]] * 3)
+
+    def test_a_barrier_that_does_not_order_what_is_handed_over(self):
+        """An item writes and counts, and another one reads after a count in the other group; between the two and the counts a barrier names local memory."""
+        places = "0 0 0 a.cl:1:1\n0 1 0 a.cl:1:1\n2 a.cl:2:1\n3 a.cl:3:1\n"
+        counts, reads = "0 rmw g 9 dev both\n", "group 1 items 2 launch 7\n0 rmw g 9 dev both < 0 0 0\n0 bar 3 {0}\n1 bar 3 {0}\n1 r g 5\nend\n"
+        for writes, flags, place in ((f"0 w g 5\n{counts}", "l", "a.cl:3:1"), (f"1 w g 5\n0 bar 2 l\n1 bar 2 l\n{counts}", "gl", "a.cl:2:1")):
+            launch = self.judged([f"group 0 items 2 launch 7\n{writes}end\n", reads.format(flags)], {"places": places})
+            self.assertEqual([it.message for it in launch.findings], [f"the barrier at {place} does not order global memory: give it CLK_GLOBAL_MEM_FENCE"])
 
     def test_a_release_that_comes_before_the_write(self):
         """Of items of two groups, and of one. A later release that nobody takes does not meet the acquire."""
@@ -571,6 +616,21 @@ divergent barrier, number 1 of group 0, and 1 more alike
                 message = self.judged(streams, {"places": places, "kernel.cl": text}).findings[0].message
                 self.assertEqual(message, f"{said}: the read-modify-write at kernel.cl:3:1 is no release and the read-modify-write at kernel.cl:1:1 is no "
                                  f"acquire{ending}; or make each item's read and write of the word one atomic operation")
+
+    def test_a_counter_in_a_group_is_no_lock(self):
+        """Each item counts at one line before and after its access. Two atomics that a macro has at one place are a lock."""
+        for sites, message in (((1, 1), GLOBAL), ((1, 2), "nothing orders the two; a release that an acquire takes would: the read-modify-write at kernel.cl:1:1 "
+                                                  "is no release and the read-modify-write at kernel.cl:1:1 is no acquire")):
+            steps = "".join("{0} rmw g 9 dev rlx @{1}\n{0} {2} g 5 @3\n{0} rmw g 9 dev rlx @{3}\n".format(item, sites[0], kind, sites[1])
+                            for item, kind in enumerate("wr"))
+            launch = self.judged([f"group 0 items 2 launch 7 v3\n{steps}end\n"], {"sites": "kernel.cl:1:1\nkernel.cl:1:1\nkernel.cl:2:1\n"})
+            self.assertEqual([it.message for it in launch.findings], [message])
+
+    def test_a_barrier_to_which_one_of_two_items_comes(self):
+        """It is divergent. One that both come to, with other sites, is another matter."""
+        for other, more in (("", "; one of the two items never comes to the divergent barrier at a.cl:3:1"), ("1 bar 4 g\n", "")):
+            launch = self.judged([f"group 0 items 2 launch 7\n0 w g 5\n0 bar 3 g\n1 r g 5\n{other}end\n"], {"places": "3 a.cl:3:1\n4 a.cl:4:1\n"})
+            self.assertEqual([it.message for it in launch.findings if it.kind == "race"], [GLOBAL + more])
 
     def test_a_hand_over_in_a_group_by_atomics_that_are_relaxed(self):
         """A counter in the place of the load is no hand-over: there a barrier is missing."""

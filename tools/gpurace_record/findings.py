@@ -100,13 +100,25 @@ class Reader:
     def races(self) -> Iterator[Finding]:
         if self.fault:
             yield Finding("race", self.kernel, f"races that could not be read: {self.fault}")
+        self.met = [places for kind, places in ((it, self.places_of(it)) for it in self.kinds)
+                    if len(places) > 1 and not self.pairs.is_one_operation(kind["race"], self.accesses(kind))]
         for kind in self.kinds:
             yield self.race(kind)
+
+    @staticmethod
+    def places_of(kind: Dict[str, Any]) -> Set[Tuple[str, str]]:
+        """The places of two accesses of a group between which a barrier is missing, each after their buffer; none where this is not known."""
+        race = kind["race"]
+        is_known = race["buffer"] and kind["kind"]["one_group"] and race["cause"]["name"] == "no-barrier"
+        return {(race["buffer"]["name"], race[key]["place"] or "") for key in ("first", "second")} if is_known else set()
+
+    def accesses(self, kind: Dict[str, Any]) -> List[Access]:
+        return [self.access(kind["kind"][key], kind["race"][key]) for key in ("first", "second")]
 
     def race(self, kind: Dict[str, Any]) -> Finding:
         said, race = kind["kind"], kind["race"]
         group = race["word"].get("group")
-        accesses = [self.access(said[key], race[key]) for key in ("first", "second")]
+        accesses = self.accesses(kind)
         runs = runs_of(kind)
         finding = Finding("race", self.kernel, "", race["cause"]["name"], race["cause"]["sentence"], words_in(runs), runs,
                           accesses=accesses, maps=self.maps(said["space"], runs))
@@ -115,7 +127,8 @@ class Reader:
         buffer = race["buffer"]
         element = self.elements.of(buffer["name"]) if buffer else None
         number = buffer["index"] if buffer else race["word"]["number"]
-        pair = self.pairs.between(said, race, accesses)
+        own = self.places_of(kind)
+        pair = self.pairs.between(said, race, accesses, any(own & it and own != it for it in self.met))
         if pair:
             self.pairs.put_marks((race["first"], race["second"]), accesses)
             pair = pair._replace(kind=element.kind_of(number) if element else "")
