@@ -93,6 +93,17 @@ race on tile[0] of 2 groups (2 words); on tile[0] of group 0
     {LOCAL}
 """)
 
+    def test_a_number_that_both_write(self):
+        """The text has it after its `=`; where a file says that all stores write one value, that is enough."""
+        stream = "group 0 items 2 launch 7 v3\n0 w g 5 @1\n1 w g 5 @{}\nend\n"
+        files = {"sites": "kernel.cl:1:11\nkernel.cl:2:4\n"}
+        for site, text, said in ((1, "if (x) *a = 0;", f"{ONE_WRITE}; both write 0"), (1, "if (x) *a = x;", ONE_WRITE), (1, "if (x) *a = 0 + x;", ONE_WRITE),
+                                 (2, "if (x) *a = 1.5f;\n*a = 1.5f;", f"{GLOBAL}; both write 1.5f"), (2, "if (x) *a = 0;\n*a = 1;", GLOBAL)):
+            launch = self.judged([stream.format(site)], {**files, "kernel.cl": text})
+            self.assertEqual([it.message for it in launch.findings], [said], text)
+        launch = self.judged([stream.format(1)], {**files, "kernel.cl": "if (x) *a = 0;", "equal": "g 5 5\n"})
+        self.assertEqual([(it.message, it.is_equal) for it in launch.findings], [(ONE_WRITE, True)])
+
     def test_words_of_a_buffer_and_of_none(self):
         """Words with one place of two are of one kind. Both accesses to output[0] have a place, so it is of another."""
         streams = ["group 0 items 1 launch 7\n0 w g 5\n0 w g 128\n0 w g 200\nend\n",

@@ -70,6 +70,7 @@ class Pair(NamedTuple):
     missed: str = ""                # the place of a divergent barrier after the access of one item, to which the other never comes
     is_also_met: bool = False       # in its group, items that are at other places race with one of the two, too, and lack a barrier
     kind: str = ""                  # the type of the word, where the kernel's text says it
+    value: str = ""                 # the number that both items write, where the text has it
 
 
 def flags_of(flags: int) -> str:
@@ -80,7 +81,7 @@ def flags_of(flags: int) -> str:
 def sentence(name: str, said: str, pair: Pair) -> str:
     """The cause of this name as a sentence; what gpurace has said where the records say nothing more."""
     special = {"flags": of_flags, "scope": of_scope, "divergent": of_divergence, "no-hand-over": of_groups}.get(name, of_nothing)
-    return special(said, pair) or said
+    return (special(said, pair) or said) + (f"; both write {pair.value}" if pair.value else "")
 
 
 def of_flags(_: str, pair: Pair) -> str:

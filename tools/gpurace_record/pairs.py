@@ -11,6 +11,7 @@ from .finding import Access, Mark
 from .records import Group, Step
 from .sides import CALLED, PLACE, Places, Shape, Texts
 
+NUMBER = re.compile(r"=\s*(-?\d[\w.]*|true|false)\s*;")  # that is written at the place of its `=`
 MOST_STEPS = 3       # of an item on each side of its access that are kept
 UPDATE = re.compile(r"\+\+|--|(?:[-+*/%&|^]|<<|>>)=|(?:^|[;{})])\s*([^;{}=]+?)\s*=(?!=)[^;]*?(?<!\w)\1(?!\w)")  # in a line of source
 
@@ -103,7 +104,8 @@ class Pairs:
                            (self.times(first, first), self.times(second, second)) if are_rounds else (0, 0),
                            self.rounds(first, second, accesses, both, before), early, others,
                            all(it and (it[0].place, it[0].site) != (it[1].place, it[1].site) for it in meetings),
-                           self.check(first, second), is_also_met=is_also_met, missed=self.missed(first, second) if is_one_group else "")
+                           self.check(first, second), is_also_met=is_also_met, missed=self.missed(first, second) if is_one_group else "",
+                           value=self.value(accesses))
 
     def times(self, event: Dict[str, Any], other: Dict[str, Any], after: int = -1) -> int:
         """How often the item of an event has come to the place of another one, after a record of it, up to the event."""
@@ -130,6 +132,16 @@ class Pairs:
         start, end = sorted((int(one[3]), int(other[3])))
         line = "".join(self.texts.text(one[1])[int(one[2]) - 1:int(one[2])])
         return line != "" and ";" not in line[start - 1:end - 1]
+
+    def value(self, accesses: List[Access]) -> str:
+        """The number that both accesses write, by the text of their lines."""
+        values = set()
+        for access in accesses:
+            at = PLACE.fullmatch(access.place) if access.what == "write" else None
+            line = "".join(self.texts.text(at[1])[int(at[2]) - 1:int(at[2])]) if at else ""
+            number = NUMBER.match(line, int(at[3]) - 1) if at else None
+            values.add(number[1] if number else "")
+        return values.pop() if len(values) == 1 else ""
 
     def is_update(self, event: Dict[str, Any]) -> bool:
         """Whether the event is one of a plain read of a word and the write to it that the item does next."""
