@@ -571,12 +571,13 @@ divergent barrier, number 1 of group 0, and 1 more alike
 
     def test_a_read_and_a_write_of_one_statement(self):
         """Item 0 reads at one column what item 1 writes at another. How often they have come there the sites tell: two words one after another are one
-        access. Two statements of one line may be anywhere, and between two writes there is no room for a barrier."""
+        access. One that comes there again, later, may be in another round. Two statements of one line may be anywhere, and between two writes there is no room for a barrier."""
         split = "; both are of one statement: where they are of one round, read into a private variable before the barrier and write after it"
-        rounds = ("; the first of the two items has come to this line 2 times and the second once: if these are rounds of a loop, the missing barrier's "
-                  "place is the end of the loop's body, outside of branches that not all work-items take")
+        end = "the missing barrier's place is the end of the loop's body, outside of branches that not all work-items take"
+        rounds = f"; the first of the two items has come to this line 2 times and the second once: if these are rounds of a loop, {end}"
         one, two = "a[l] += a[l + s];\n", "a[l] = s; s += a[l];\n"
         for line, steps, more in ((one, "0 r g 5 @1\n1 w g 5 @2\n", split), (one, "0 r g 4 @1\n0 r g 5 @1\n1 w g 5 @2\n", split),
+                                  (one, "0 r g 5 @1\n0 r g 7 @1\n1 w g 5 @2\n", f"{split}; where they are of two, {end}"),
                                   (one, "0 r g 7 @1\n0 r g 5 @1\n1 r g 5 @2\n1 w g 5 @2\n", rounds), (two, "0 r g 7 @1\n0 r g 5 @1\n1 w g 5 @2\n", ""),
                                   (two, "0 r g 5 @1\n1 w g 5 @2\n", ""), (one, "0 w g 5 @1\n1 w g 5 @2\n", "")):
             launch = self.judged([f"group 0 items 2 launch 7 v3\n{steps}end\n"], {"kernel.cl": line, "sites": "kernel.cl:1:16\nkernel.cl:1:5\n"})

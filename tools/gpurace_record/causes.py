@@ -69,6 +69,7 @@ class Pair(NamedTuple):
     check: Optional[Tuple[At, At]] = None  # a read by both items, and the write of one of them that comes next
     missed: str = ""                # the place of a divergent barrier after the access of one item, to which the other never comes
     is_also_met: bool = False       # in its group, items that are at other places race with one of the two, too, and lack a barrier
+    is_repeated: bool = False       # of two accesses of one statement, one of the items comes to its place several times
     kind: str = ""                  # the type of the word, where the kernel's text says it
     value: str = ""                 # the number that both items write, where the text has it
 
@@ -212,7 +213,7 @@ def of_one_statement(pair: Pair) -> str:
     if not all(pair.times):
         return ""
     if pair.times[0] == pair.times[1]:
-        return "" if pair.is_one_line else SPLIT
+        return "" if pair.is_one_line else SPLIT + (f"; where they are of two, {END}" if pair.is_repeated else "")
     first, second = ("once" if time == 1 else f"{time} times" for time in pair.times)
     return f"; the first of the two items has come to this line {first} and the second {second}: if these are rounds of a loop, {END}"
 

@@ -11,6 +11,7 @@ from .finding import Access, Mark
 from .records import Group, Step
 from .sides import CALLED, PLACE, Places, Shape, Texts
 
+MOST_RECORDS = 1 << 32  # of an item
 NUMBER = re.compile(r"=\s*(-?\d[\w.]*|true|false)\s*;")  # that is written at the place of its `=`
 MOST_STEPS = 3       # of an item on each side of its access that are kept
 UPDATE = re.compile(r"\+\+|--|(?:[-+*/%&|^]|<<|>>)=|(?:^|[;{})])\s*([^;{}=]+?)\s*=(?!=)[^;]*?(?<!\w)\1(?!\w)")  # in a line of source
@@ -105,11 +106,15 @@ class Pairs:
                            self.rounds(first, second, accesses, both, before), early, others,
                            all(it and (it[0].place, it[0].site) != (it[1].place, it[1].site) for it in meetings),
                            self.check(first, second), is_also_met=is_also_met, missed=self.missed(first, second) if is_one_group else "",
-                           value=self.value(accesses))
+                           value=self.value(accesses), is_repeated=are_rounds and (self.is_repeated(first) or self.is_repeated(second)))
 
     def times(self, event: Dict[str, Any], other: Dict[str, Any], after: int = -1) -> int:
         """How often the item of an event has come to the place of another one, after a record of it, up to the event."""
         return self.groups[event["group"]].arrivals_of(event["item"]).count(self.step(other), after, event["index"])
+
+    def is_repeated(self, event: Dict[str, Any]) -> bool:
+        """Whether the event's item comes to its place several times."""
+        return self.groups[event["group"]].arrivals_of(event["item"]).count(self.step(event), -1, MOST_RECORDS) > 1
 
     def rounds(self, first: Dict[str, Any], second: Dict[str, Any], accesses: List[Access], both: List[causes.At],
                barrier: str) -> Optional[Tuple[causes.At, causes.At]]:
