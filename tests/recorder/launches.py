@@ -21,6 +21,7 @@ GROUPS = ("nothing orders the two, and a barrier never orders two groups; a seco
           "at memory_scope_device, would mend it")
 ONE_WRITE = "both items write it at this place: let one of them do so, or give each a word of its own; a barrier would order only rounds of a loop"
 HAND_OVER = "nothing orders the two; a release that an acquire takes, at memory_scope_device, would"
+OUTSIDE = "its place is outside of branches and loops that they take differently, and before any early return"
 
 
 def tile(group):
@@ -225,7 +226,7 @@ divergent barrier, number 0 of group 0
     kernel.cl:2:5: item 1
         barrier(CLK_LOCAL_MEM_FENCE);
         called at kernel.cl:5:12: if (l) meet();
-    the work-items are at different barriers
+    the work-items are at different barriers; let all of them come to one barrier, outside of the branch
 """)
 
     def test_two_pairs_of_places(self):
@@ -528,14 +529,14 @@ race on global word 5
 
     def test_divergent_barriers_come_first(self):
         streams = ["group 0 items 3 launch 7 v2\n0 bar 1 l\n1 bar 2 l\n0 w g 1\n1 w g 0\n0 bar 1 l\n1 bar 2 l\n0 r g 0\nend\n"]
-        self.assert_report(streams, {**SIDES, "places": "1 kernel.cl:3:1\n2 kernel.cl:5:1\n"}, "found", """\
+        self.assert_report(streams, {**SIDES, "places": "1 kernel.cl:3:1\n2 kernel.cl:5:1\n"}, "found", f"""\
 divergent barrier, number 0 of group 0, and 1 more alike
     kernel.cl:3:1: item 0
         tile[l] = input[l];
     kernel.cl:5:1: item 1
         tile[l] += tile[l + 8];
     no barrier: item 2
-    some work-items never reach it; 1 race follows from it
+    some work-items never reach it; 1 race follows from it; {OUTSIDE}
 race on input[0]
     unknown place: write by group 0, item 1
     unknown place: read by group 0, item 0
@@ -546,14 +547,14 @@ race on input[0]
         """The first barriers are at lines 2 and 4, whose text is the same; only line 4 has the second and third ones, which differ in their
         items."""
         streams = ["group 0 items 3 launch 7 v2\n0 bar 1 l\n1 bar 2 l\n0 bar 2 l\n0 bar 2 l\n1 bar 2 l\nend\n"]
-        self.assert_report(streams, {"kernel.cl": "if (a)\n  barrier(F);\nif (b)\n  barrier(F);\n", "places": "1 kernel.cl:2:3\n2 kernel.cl:4:3\n"}, "found", """\
+        self.assert_report(streams, {"kernel.cl": "if (a)\n  barrier(F);\nif (b)\n  barrier(F);\n", "places": "1 kernel.cl:2:3\n2 kernel.cl:4:3\n"}, "found", f"""\
 divergent barrier, number 0 of group 0
     kernel.cl:2:3: item 0
         barrier(F);
     kernel.cl:4:3: item 1
         barrier(F);
     no barrier: item 2
-    some work-items never reach it
+    some work-items never reach it; {OUTSIDE}
 divergent barrier, number 1 of group 0, and 1 more alike
     kernel.cl:4:3: 2 work-items, the first is item 0
         barrier(F);
@@ -567,7 +568,8 @@ divergent barrier, number 1 of group 0, and 1 more alike
         for items, accesses in ((4, ["2 work-items, the first is item 0, with CLK_LOCAL_MEM_FENCE", "item 1, with CLK_GLOBAL_MEM_FENCE | CLK_LOCAL_MEM_FENCE",
                                      "item 3, with no flag"]), (5, ["4 work-items, the first is item 0", "item 4"])):
             launch = self.judged([f"group 0 items {items} launch 7\n{steps}end\n"], {"places": "1 b.cl:1:2\n"})
-            self.assertEqual([[it.who for it in finding.accesses] for finding in launch.findings], [accesses])
+            said = "the work-items give different flags; let all of them give the same" if items == 4 else f"some work-items never reach it; {OUTSIDE}"
+            self.assertEqual([([it.who for it in finding.accesses], finding.message) for finding in launch.findings], [(accesses, said)])
 
     def test_a_read_and_a_write_of_one_statement(self):
         """Item 0 reads at one column what item 1 writes at another. How often they have come there the sites tell: two words one after another are one
@@ -660,11 +662,11 @@ divergent barrier, number 1 of group 0, and 1 more alike
     def test_streams_in_one_file(self):
         streams = ["group 1 items 2 launch 7\n0 bar 3 l\n1 w g 1\nend\n" "group 2 items 1 launch 7\nend\n"
                    "group 0 items 2 launch 7\n0 bar 3 l\n1 bar 3 l\nend cut\n"]
-        self.assert_report(streams, {"places": "3 b.cl:1:2\n"}, "found", """\
+        self.assert_report(streams, {"places": "3 b.cl:1:2\n"}, "found", f"""\
 divergent barrier, number 0 of group 1
     b.cl:1:2: item 0
     no barrier: item 1
-    some work-items never reach it
+    some work-items never reach it; {OUTSIDE}
 reason cut: records of 1 of 3 groups were lost (the first is group 0): a group did more than a trace has room for, or was stopped
 """)
 

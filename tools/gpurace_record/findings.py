@@ -21,6 +21,8 @@ from .sides import Places, Run, Shape, Texts, buffers_of, equal_of, joined, name
 
 DIVERGENT = {"missing": "some work-items never reach it", "site": "the work-items are at different barriers",
              "flags": "the work-items give different flags"}
+MENDS = {"missing": "its place is outside of branches and loops that they take differently, and before any early return",
+         "site": "let all of them come to one barrier, outside of the branch", "flags": "let all of them give the same"}
 MOST_KINDS = 200     # of races of a launch
 MOST_DIVERGENT = 100  # groups with divergent barriers that are looked at
 MOST_SECONDS = 60    # that looking for causes may take
@@ -168,8 +170,12 @@ class Reader:
                 is_cut = group in self.cut and cause == "missing"
                 alike[cause, tuple(sorted(place for place, *_ in self.came(group, instance)))].append((is_cut, group, instance))
         following = words_in([run for kind in self.kinds if kind["race"]["cause"]["name"] == "divergent" for run in runs_of(kind)])
+        mends = dict(MENDS)
         for (cause, _), instances in alike.items():
-            yield self.divergence(cause, *min(instances), len(instances) - 1, following)
+            finding = self.divergence(cause, *min(instances), len(instances) - 1, following)
+            mend = "" if finding.is_doubtful else mends.pop(cause, "")  # of others the first one may be the cause
+            finding.message += f"; {mend}" if mend else ""
+            yield finding
         if self.divergent and not alike:
             yield Finding("divergence", self.kernel, f"{len(self.divergent)} divergent barriers")
 
