@@ -94,6 +94,15 @@ race on tile[0] of 2 groups (2 words); on tile[0] of group 0
     {LOCAL}
 """)
 
+    def test_an_atomic_that_takes_many_names(self):
+        """It is loads and itself, all of one place. At another place a load is one."""
+        streams = ["group 0 items 1 launch 7 v3\n0 rmw g 5 grp both @1\nend\n",
+                   "group 1 items 1 launch 7 v3\n0 ld g 5 grp acq @{}\n0 ld g 5 grp acq @2\n0 rmw g 5 grp both @2\nend\n"]
+        update, load = ("rmw", "both"), ("load", "acq")
+        for site, seen in ((2, [[update, update]]), (1, [[update, load], [update, update]])):
+            launch = self.judged([streams[0], streams[1].format(site)], {"info.txt": INFO + "acquire-loads-added 2\n", "sites": "a.cl:1:1\na.cl:2:1\n"})
+            self.assertEqual(sorted([(it.what, it.order) for it in finding.accesses] for finding in launch.findings), seen)
+
     def test_a_number_that_both_write(self):
         """The text has it after its `=`; where a file says that all stores write one value, that is enough."""
         stream = "group 0 items 2 launch 7 v3\n0 w g 5 @1\n1 w g 5 @{}\nend\n"

@@ -57,6 +57,7 @@ class Reader:
         self.elements = Elements(info["element"])
         self.shape, self.texts, self.buffers, self.equal = Shape(info), Texts(folder), buffers_of(folder), equal_of(folder)
         self.waits = {int(site) for site in info["wait"]}
+        self.are_loads_added = any(count != "0" for count in info["acquire-loads-added"])
         lines = [line.split() for line in report]
         self.cut = {int(line[1]) for line in lines if line[0] == "cut"}
         self.divergent = {(int(line[1]), int(line[2])): line[3] for line in lines if line[0] == "diverge"}
@@ -146,7 +147,8 @@ class Reader:
         access.put_at(event["place"] or "", self.texts)
         if group in self.groups:
             step = self.groups[group].step(item, index)
-            access.scope, access.order = step.scope, step.order
+            step = self.groups[group].whole(item, step) if self.are_loads_added else step
+            access.what, access.scope, access.order = step.kind, step.scope, step.order
         return access
 
     def maps(self, space: str, runs: List[Run]) -> List[Map]:
