@@ -21,6 +21,8 @@ GROUPS = ("nothing orders the two, and a barrier never orders two groups; a seco
           "at memory_scope_device, would mend it")
 ONE_WRITE = "both items write it at this place: let one of them do so, or give each a word of its own; a barrier would order only rounds of a loop"
 HAND_OVER = "nothing orders the two; a release that an acquire takes, at memory_scope_device, would"
+END = "the missing barrier's place is the end of the loop's body, outside of branches that not all work-items take"
+ROUNDS = f"; the first of the two items has come to this line 2 times and the second once: if these are rounds of a loop, {END}"
 OUTSIDE = "its place is outside of branches and loops that they take differently, and before any early return"
 
 
@@ -386,7 +388,7 @@ race on global word 5
 
     def test_items_that_read_a_word_before_they_write_it(self):
         """Item 0 reads the word in a condition and then writes it, another item reads it there, too. It is no such check if the reads are at two places,
-        in no condition or with a barrier between; where an item has come to the line more often than the other, it may be one."""
+        in no condition or with a barrier between; where an item comes to its place several times, it may be one."""
         def message(text, steps, places="kernel.cl:1:5 kernel.cl:1:14", groups=1):
             form = "group {} items {} launch 7 v3\n{}end\n"
             streams = [form.format(0, 2, "".join(steps))] if groups == 1 else [form.format(0, 1, steps[0]), form.format(1, 1, steps[1].replace("1 ", "0 ", 1))]
@@ -394,16 +396,18 @@ race on global word 5
 
         first, second, two = "0 r g 5 @1\n0 w g 5 @2\n", "1 r g 5 @1\n", "kernel.cl:1:5 kernel.cl:2:1"
         cmpxchg, greatest = ("use an atomic (of an int, such as {}; of a float, a loop of atomic_cmpxchg)".format(it) for it in ("atomic_cmpxchg", "atomic_max or atomic_min"))
-        where = "where items read the word at kernel.cl:1:5 and then write it at kernel.cl:2:1, "
+        where = "or, where items read the word at kernel.cl:1:5 and then write it at kernel.cl:2:1, "
         self.assertEqual(message("if (*a == 0) *a = 1;", (first, second)), f"{cmpxchg}: items read the word at this line and then write it")
-        self.assertEqual(message("if (x > *a)\n*a = x;", (first, second), two), f"{GLOBAL}; or, {where}{greatest}")
-        self.assertEqual(message("if (x > *a)\n*a = x;", (first, second), two, 2), f"nothing orders the two; {where}{greatest}")
+        self.assertEqual(message("if (x > *a)\n*a = x;", (first, second), two), f"{GLOBAL}; {where}{greatest}")
+        self.assertEqual(message("if (x > *a)\n*a = x;", (first, second), two, 2), f"nothing orders the two; a second kernel would; {where}{greatest}")
         self.assertEqual(message("int t = *a;\n*a = x;", (first, second), two), GLOBAL)
         self.assertEqual(message("if (x > *a)\n*a = x;", (first, second.replace("@1", "@3")), f"{two} kernel.cl:3:1"), GLOBAL)
         self.assertEqual(message("if (x > *a)\n*a = x;", ("0 r g 5 @1\n0 bar 1 g @3\n0 w g 5 @2\n", "1 bar 1 g @3\n1 r g 5 @1\n"), f"{two} b.cl:9:9"),
                          f"{GLOBAL}; the last barrier before both is at b.cl:9:9")
         where = where.replace("2:1", "1:14")
-        self.assertEqual(message("if (*a == 0) *a = 1;", (first, "1 r g 7 @1\n" + second)), f"{GLOBAL}; or, {where}{cmpxchg}")
+        self.assertEqual(message("if (*a == 0) *a = 1;", (first, "1 r g 7 @1\n" + second)), f"{GLOBAL}{ROUNDS}; {where}{cmpxchg}")
+        self.assertEqual(message("if (*a == 0) *a = 1;", (first + "0 r g 7 @1\n", second)), f"{cmpxchg}: items read the word at this line and then write it")
+        self.assertEqual(message("if (*a == 0) *a = 1;", (first, second + "1 r g 7 @1\n")), f"{GLOBAL}; {where}{cmpxchg}")
 
     def test_items_that_count_in_rounds_of_a_loop(self):
         """Item 1 adds to word 5 of a buffer and then to word 6, item 0 to word 5. If item 0 reads word 6 at another place, an atomic is no mend alone."""
@@ -584,12 +588,10 @@ divergent barrier, number 1 of group 0, and 1 more alike
         """Item 0 reads at one column what item 1 writes at another. How often they have come there the sites tell: two words one after another are one
         access. One that comes there again, later, may be in another round. Two statements of one line may be anywhere, and between two writes there is no room for a barrier."""
         split = "; both are of one statement: where they are of one round, read into a private variable before the barrier and write after it"
-        end = "the missing barrier's place is the end of the loop's body, outside of branches that not all work-items take"
-        rounds = f"; the first of the two items has come to this line 2 times and the second once: if these are rounds of a loop, {end}"
         one, two = "a[l] += a[l + s];\n", "a[l] = s; s += a[l];\n"
         for line, steps, more in ((one, "0 r g 5 @1\n1 w g 5 @2\n", split), (one, "0 r g 4 @1\n0 r g 5 @1\n1 w g 5 @2\n", split),
-                                  (one, "0 r g 5 @1\n0 r g 7 @1\n1 w g 5 @2\n", f"{split}; where they are of two, {end}"),
-                                  (one, "0 r g 7 @1\n0 r g 5 @1\n1 r g 5 @2\n1 w g 5 @2\n", rounds), (two, "0 r g 7 @1\n0 r g 5 @1\n1 w g 5 @2\n", ""),
+                                  (one, "0 r g 5 @1\n0 r g 7 @1\n1 w g 5 @2\n", f"{split}; where they are of two, {END}"),
+                                  (one, "0 r g 7 @1\n0 r g 5 @1\n1 r g 5 @2\n1 w g 5 @2\n", ROUNDS), (two, "0 r g 7 @1\n0 r g 5 @1\n1 w g 5 @2\n", ""),
                                   (two, "0 r g 5 @1\n1 w g 5 @2\n", ""), (one, "0 w g 5 @1\n1 w g 5 @2\n", "")):
             launch = self.judged([f"group 0 items 2 launch 7 v3\n{steps}end\n"], {"kernel.cl": line, "sites": "kernel.cl:1:16\nkernel.cl:1:5\n"})
             self.assertEqual([it.message for it in launch.findings], [GLOBAL + more], line + steps)

@@ -142,10 +142,11 @@ def of_check(said: str, pair: Pair) -> str:
         return ""
     read, write = pair.check
     atomic = of_update(pair.kind, read.text)
-    if not pair.is_also_met and all(pair.times) and pair.times[0] == pair.times[1]:
+    if not pair.is_also_met and all(pair.times) and not pair.is_repeated:
         return f"{atomic}: items read the word at this line and then write it"
-    lead = f"{said}; or, where" if pair.is_one_group else "nothing orders the two; where"
-    return f"{lead} items read the word at {read.place} and then write it at {write.place}, {atomic}"
+    rounds = of_one_statement(pair) if pair.times[0] != pair.times[1] else ""
+    lead = said + rounds if pair.is_one_group else "nothing orders the two; a second kernel would"
+    return f"{lead}; or, where items read the word at {read.place} and then write it at {write.place}, {atomic}"
 
 
 def of_update(kind: str, line: str) -> str:
