@@ -281,6 +281,10 @@ kernel void outside(global const int *in, global int *out, global int *ok) {
     if (i == 6) { const int4 part = vload4(0, in + 254); ok[1] = part.x; ok[2] = part.y; ok[3] = part.z; }
     if (i == 7) vstore4((int4)(1, 2, 3, 4), 0, out + 254);
 }
+kernel void null_pointer(global int *out, int zero) {
+    global int *none = (global int *)(ulong)zero;
+    none[2] = out[get_global_id(0)];
+}
 kernel void computed(global int *ints, global uint *uints, global float *floats, global long *longs) {
     atomic_add(&ints[0], 3); atomic_sub(&ints[1], 1); atomic_min(&ints[2], -(int)get_global_id(0)); atomic_max(&ints[3], (int)get_global_id(0) - 100);
     atomic_and(&uints[0], ~(1u << (get_global_id(0) & 31))); atomic_or(&uints[1], 1u << (get_global_id(0) & 31)); atomic_xor(&uints[2], 5u);
@@ -496,6 +500,7 @@ def cases():
         "read by group 0, item 5", "out of bounds: read of 4 bytes, 8 bytes before the start of in, which has 1024 bytes",
         "out of bounds: read of 16 bytes, partly after the end of in",
         "out of bounds: write of 16 bytes, partly after the end of out"))
+    yield Case("null_pointer", [[0] * 4, 0], 0, size=(4,), local=(4,), say=("out of bounds: write of 4 bytes, through a null pointer",))
     yield Case("computed", [[0] * 4 + [0], [2 ** 32 - 1, 0, 0, 0, 0, ALL], (0.0,), (0, 0, 0, 0)], 0,
                {0: [3 * ALL, -ALL, 1 - ALL, ALL - 101, ALL]})
     yield Case("fenced", [zeros, 0], 0, {0: [1] * ALL}, say=("fences: 256, at kernel.cl:",))

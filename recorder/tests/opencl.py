@@ -8,7 +8,7 @@ LOADER = ctypes.CDLL(None)  # what is loaded already: the simulator loads itself
 if not hasattr(LOADER, "clGetPlatformIDs"):
     LOADER = ctypes.CDLL("libOpenCL.so.1")
 for _name in ("clCreateContext", "clCreateCommandQueue", "clCreateProgramWithSource", "clCreateKernel", "clCreateBuffer", "clCreateUserEvent",
-              "clLinkProgram", "clSVMAlloc", "clCreateProgramWithBinary", "clCreateImage", "clCreateSampler",
+              "clLinkProgram", "clSVMAlloc", "clCreateContextFromType", "clCreateProgramWithBinary", "clCreateImage", "clCreateSampler",
               "clCreateProgramWithIL"):
     getattr(LOADER, _name).restype = POINTER
 

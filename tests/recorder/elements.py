@@ -5,6 +5,7 @@ import unittest
 import testing.launches  # noqa: F401  it knows where the package is
 
 from gpurace_record.elements import Elements
+from gpurace_record.sides import name_of
 
 PARTICLE = '{"bytes":32,"members":[[0,"position","float3"],[16,"mass","half"],[20,"next",{"bytes":8,"members":[[0,"at",[2,"int"]]]}],[28,"link",4]]}'
 
@@ -44,6 +45,10 @@ class ElementsOfWords(unittest.TestCase):
         elements = Elements([f"p {PARTICLE}", 'small "uchar"'])
         self.assertEqual([elements.of("p").kind_of(word) for word in (9, 12, 14, 15)], ["float", "half", "int", ""])
         self.assertEqual(elements.of("small.byte").kind_of(3), "uchar")
+
+    def test_more_runs_than_are_shown(self):
+        for runs, more in ((5, ""), (6, " and 1 more run"), (7, " and 2 more runs")):
+            self.assertEqual(name_of("a", "global", [(2 * at, 2 * at) for at in range(runs)], 1, None), f"a[0], a[2], a[4], a[6], a[8]{more}")
 
     def test_a_type_that_is_not_known(self):
         elements = Elements(['a "float"', 'b "float"', "bare 0"])

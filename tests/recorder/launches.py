@@ -21,6 +21,9 @@ GROUPS = ("nothing orders the two, and a barrier never orders two groups; a seco
           "at memory_scope_device, would mend it")
 ONE_WRITE = "both items write it at this place: let one of them do so, or give each a word of its own; a barrier would order only rounds of a loop"
 HAND_OVER = "nothing orders the two; a release that an acquire takes, at memory_scope_device, would"
+END = "the missing barrier's place is the end of the loop's body, outside of branches that not all work-items take"
+ROUNDS = f"; the first of the two items has come to this line 2 times and the second once: if these are rounds of a loop, {END}"
+OUTSIDE = "its place is outside of branches and loops that they take differently, and before any early return"
 
 
 def tile(group):
@@ -92,6 +95,26 @@ race on tile[0] of 2 groups (2 words); on tile[0] of group 0
     unknown place: write by group 0, item 1
     {LOCAL}
 """)
+
+    def test_an_atomic_that_takes_many_names(self):
+        """It is loads and itself, all of one place. At another place a load is one."""
+        streams = ["group 0 items 1 launch 7 v3\n0 rmw g 5 grp both @1\nend\n",
+                   "group 1 items 1 launch 7 v3\n0 ld g 5 grp acq @{}\n0 ld g 5 grp acq @2\n0 rmw g 5 grp both @2\nend\n"]
+        update, load = ("rmw", "both"), ("load", "acq")
+        for site, seen in ((2, [[update, update]]), (1, [[update, load], [update, update]])):
+            launch = self.judged([streams[0], streams[1].format(site)], {"info.txt": INFO + "acquire-loads-added 2\n", "sites": "a.cl:1:1\na.cl:2:1\n"})
+            self.assertEqual(sorted([(it.what, it.order) for it in finding.accesses] for finding in launch.findings), seen)
+
+    def test_a_number_that_both_write(self):
+        """The text has it after its `=`; where a file says that all stores write one value, that is enough."""
+        stream = "group 0 items 2 launch 7 v3\n0 w g 5 @1\n1 w g 5 @{}\nend\n"
+        files = {"sites": "kernel.cl:1:11\nkernel.cl:2:4\n"}
+        for site, text, said in ((1, "if (x) *a = 0;", f"{ONE_WRITE}; both write 0"), (1, "if (x) *a = x;", ONE_WRITE), (1, "if (x) *a = 0 + x;", ONE_WRITE),
+                                 (2, "if (x) *a = 1.5f;\n*a = 1.5f;", f"{GLOBAL}; both write 1.5f"), (2, "if (x) *a = 0;\n*a = 1;", GLOBAL)):
+            launch = self.judged([stream.format(site)], {**files, "kernel.cl": text})
+            self.assertEqual([it.message for it in launch.findings], [said], text)
+        launch = self.judged([stream.format(1)], {**files, "kernel.cl": "if (x) *a = 0;", "equal": "g 5 5\n"})
+        self.assertEqual([(it.message, it.is_equal) for it in launch.findings], [(ONE_WRITE, True)])
 
     def test_words_of_a_buffer_and_of_none(self):
         """Words with one place of two are of one kind. Both accesses to output[0] have a place, so it is of another."""
@@ -214,7 +237,7 @@ divergent barrier, number 0 of group 0
     kernel.cl:2:5: item 1
         barrier(CLK_LOCAL_MEM_FENCE);
         called at kernel.cl:5:12: if (l) meet();
-    the work-items are at different barriers
+    the work-items are at different barriers; let all of them come to one barrier, outside of the branch
 """)
 
     def test_two_pairs_of_places(self):
@@ -363,6 +386,38 @@ race on global word 5
             for it in self.judged(streams, {"places": places, "kernel.cl": line}).findings:
                 self.assertTrue(it.message.startswith(message), f"{line}: {it.message}")
 
+    def test_items_that_read_a_word_before_they_write_it(self):
+        """Item 0 reads the word in a condition and then writes it, another item reads it there, too. It is no such check if the reads are at two places,
+        in no condition or with a barrier between; where an item comes to its place several times, it may be one."""
+        def message(text, steps, places="kernel.cl:1:5 kernel.cl:1:14", groups=1):
+            form = "group {} items {} launch 7 v3\n{}end\n"
+            streams = [form.format(0, 2, "".join(steps))] if groups == 1 else [form.format(0, 1, steps[0]), form.format(1, 1, steps[1].replace("1 ", "0 ", 1))]
+            return self.judged(streams, {"kernel.cl": text, "sites": "".join(f"{place}\n" for place in places.split())}).findings[0].message
+
+        first, second, two = "0 r g 5 @1\n0 w g 5 @2\n", "1 r g 5 @1\n", "kernel.cl:1:5 kernel.cl:2:1"
+        cmpxchg, greatest = ("use an atomic (of an int, such as {}; of a float, a loop of atomic_cmpxchg)".format(it) for it in ("atomic_cmpxchg", "atomic_max or atomic_min"))
+        where = "or, where items read the word at kernel.cl:1:5 and then write it at kernel.cl:2:1, "
+        self.assertEqual(message("if (*a == 0) *a = 1;", (first, second)), f"{cmpxchg}: items read the word at this line and then write it")
+        self.assertEqual(message("if (x > *a)\n*a = x;", (first, second), two), f"{GLOBAL}; {where}{greatest}")
+        self.assertEqual(message("if (x > *a)\n*a = x;", (first, second), two, 2), f"nothing orders the two; a second kernel would; {where}{greatest}")
+        self.assertEqual(message("int t = *a;\n*a = x;", (first, second), two), GLOBAL)
+        self.assertEqual(message("if (x > *a)\n*a = x;", (first, second.replace("@1", "@3")), f"{two} kernel.cl:3:1"), GLOBAL)
+        self.assertEqual(message("if (x > *a)\n*a = x;", ("0 r g 5 @1\n0 bar 1 g @3\n0 w g 5 @2\n", "1 bar 1 g @3\n1 r g 5 @1\n"), f"{two} b.cl:9:9"),
+                         f"{GLOBAL}; the last barrier before both is at b.cl:9:9")
+        where = where.replace("2:1", "1:14")
+        self.assertEqual(message("if (*a == 0) *a = 1;", (first, "1 r g 7 @1\n" + second)), f"{GLOBAL}{ROUNDS}; {where}{cmpxchg}")
+        self.assertEqual(message("if (*a == 0) *a = 1;", (first + "0 r g 7 @1\n", second)), f"{cmpxchg}: items read the word at this line and then write it")
+        self.assertEqual(message("if (*a == 0) *a = 1;", (first, second + "1 r g 7 @1\n")), f"{GLOBAL}; {where}{cmpxchg}")
+
+    def test_items_that_count_in_rounds_of_a_loop(self):
+        """Item 1 adds to word 5 of a buffer and then to word 6, item 0 to word 5. If item 0 reads word 6 at another place, an atomic is no mend alone."""
+        sites, adds = "kernel.cl:1:1\nkernel.cl:1:9\n", "{0} r g {1} @1\n{0} w g {1} @1\n"
+        atomic = "use an atomic (of an int, such as atomic_inc or atomic_add; of a float, a loop of atomic_cmpxchg): each item reads the word and writes it at this line"
+        for other, message in (("", atomic), ("0 r g 6 @2\n", f"{GLOBAL}; or make each item's read and write of the word one atomic operation")):
+            stream = f"group 0 items 2 launch 7 v3\n{adds.format(1, 5)}{adds.format(1, 6)}{other}{adds.format(0, 5)}end\n"
+            launch = self.judged([stream], {"kernel.cl": "a[i] += a[k];", "sites": sites, "buffers": "g 0 9 a\n"})
+            self.assertEqual([it.message for it in launch.findings], [message])
+
     def test_the_part_of_a_long_line(self):
         """Its end, its start, and what is around a column; spaces before it are none of it."""
         line = "".join(f"{number:9};" for number in range(40))  # 392 characters without the spaces before the first number
@@ -408,6 +463,13 @@ race on global word 5
                                     "float), or give each item a word of its own"),
                                    ("float", "*a *= x;", "use a loop of atomic_cmpxchg on the bits, begun by an atomic read (OpenCL C has no other atomic of "
                                     "float), or give each item a word of its own"),
+                                   ("int", "if (x > *a) *a = x;", "use an atomic, such as atomic_max or atomic_min"),
+                                   ("int", "if (p->a == 0) p->a = 1;", "use an atomic, such as atomic_cmpxchg"),
+                                   ("int", "*a = *a != x ? x : 0;", "use an atomic, such as atomic_cmpxchg"),
+                                   ("long", "*a = *a < x ? x : *a;", "use an atomic, such as atom_max or atom_min (of cl_khr_int64_extended_atomics)"),
+                                   ("int", "if (x < n && *a == x) *a = 0;", "use an atomic, such as atomic_add or atomic_cmpxchg"),
+                                   ("float", "if (x < *a) *a = x;", "use a loop of atomic_cmpxchg on the bits, begun by an atomic read (OpenCL C has no other atomic of "
+                                    "float), or give each item a word of its own"),
                                    ("", "*a ^= x;", "use an atomic (of an int, such as atomic_xor; of a float, a loop of atomic_cmpxchg)")):
             self.assertEqual(of_update(kind, line), advice, line)
 
@@ -423,6 +485,14 @@ race on global word 5
         self.assertEqual(message("gl", 9), ["nothing orders the two; a barrier with CLK_GLOBAL_MEM_FENCE before the release at a.cl:2:1 would, where the "
                                             "acquire at a.cl:2:1 takes its value"])
         self.assertEqual([message("l", 9), message("gl", 8), message("gl", 9, "copying-item 0 0\n")], [[GROUPS]] * 3)
+
+    def test_a_barrier_that_does_not_order_what_is_handed_over(self):
+        """An item writes and counts, and another one reads after a count in the other group; between the two and the counts a barrier names local memory."""
+        places = "0 0 0 a.cl:1:1\n0 1 0 a.cl:1:1\n2 a.cl:2:1\n3 a.cl:3:1\n"
+        counts, reads = "0 rmw g 9 dev both\n", "group 1 items 2 launch 7\n0 rmw g 9 dev both < 0 0 0\n0 bar 3 {0}\n1 bar 3 {0}\n1 r g 5\nend\n"
+        for writes, flags, place in ((f"0 w g 5\n{counts}", "l", "a.cl:3:1"), (f"1 w g 5\n0 bar 2 l\n1 bar 2 l\n{counts}", "gl", "a.cl:2:1")):
+            launch = self.judged([f"group 0 items 2 launch 7\n{writes}end\n", reads.format(flags)], {"places": places})
+            self.assertEqual([it.message for it in launch.findings], [f"the barrier at {place} does not order global memory: give it CLK_GLOBAL_MEM_FENCE"])
 
     def test_a_release_that_comes_before_the_write(self):
         """Of items of two groups, and of one. A later release that nobody takes does not meet the acquire."""
@@ -472,14 +542,14 @@ race on global word 5
 
     def test_divergent_barriers_come_first(self):
         streams = ["group 0 items 3 launch 7 v2\n0 bar 1 l\n1 bar 2 l\n0 w g 1\n1 w g 0\n0 bar 1 l\n1 bar 2 l\n0 r g 0\nend\n"]
-        self.assert_report(streams, {**SIDES, "places": "1 kernel.cl:3:1\n2 kernel.cl:5:1\n"}, "found", """\
+        self.assert_report(streams, {**SIDES, "places": "1 kernel.cl:3:1\n2 kernel.cl:5:1\n"}, "found", f"""\
 divergent barrier, number 0 of group 0, and 1 more alike
     kernel.cl:3:1: item 0
         tile[l] = input[l];
     kernel.cl:5:1: item 1
         tile[l] += tile[l + 8];
     no barrier: item 2
-    some work-items never reach it; 1 race follows from it
+    some work-items never reach it; 1 race follows from it; {OUTSIDE}
 race on input[0]
     unknown place: write by group 0, item 1
     unknown place: read by group 0, item 0
@@ -490,14 +560,14 @@ race on input[0]
         """The first barriers are at lines 2 and 4, whose text is the same; only line 4 has the second and third ones, which differ in their
         items."""
         streams = ["group 0 items 3 launch 7 v2\n0 bar 1 l\n1 bar 2 l\n0 bar 2 l\n0 bar 2 l\n1 bar 2 l\nend\n"]
-        self.assert_report(streams, {"kernel.cl": "if (a)\n  barrier(F);\nif (b)\n  barrier(F);\n", "places": "1 kernel.cl:2:3\n2 kernel.cl:4:3\n"}, "found", """\
+        self.assert_report(streams, {"kernel.cl": "if (a)\n  barrier(F);\nif (b)\n  barrier(F);\n", "places": "1 kernel.cl:2:3\n2 kernel.cl:4:3\n"}, "found", f"""\
 divergent barrier, number 0 of group 0
     kernel.cl:2:3: item 0
         barrier(F);
     kernel.cl:4:3: item 1
         barrier(F);
     no barrier: item 2
-    some work-items never reach it
+    some work-items never reach it; {OUTSIDE}
 divergent barrier, number 1 of group 0, and 1 more alike
     kernel.cl:4:3: 2 work-items, the first is item 0
         barrier(F);
@@ -511,17 +581,17 @@ divergent barrier, number 1 of group 0, and 1 more alike
         for items, accesses in ((4, ["2 work-items, the first is item 0, with CLK_LOCAL_MEM_FENCE", "item 1, with CLK_GLOBAL_MEM_FENCE | CLK_LOCAL_MEM_FENCE",
                                      "item 3, with no flag"]), (5, ["4 work-items, the first is item 0", "item 4"])):
             launch = self.judged([f"group 0 items {items} launch 7\n{steps}end\n"], {"places": "1 b.cl:1:2\n"})
-            self.assertEqual([[it.who for it in finding.accesses] for finding in launch.findings], [accesses])
+            said = "the work-items give different flags; let all of them give the same" if items == 4 else f"some work-items never reach it; {OUTSIDE}"
+            self.assertEqual([([it.who for it in finding.accesses], finding.message) for finding in launch.findings], [(accesses, said)])
 
     def test_a_read_and_a_write_of_one_statement(self):
         """Item 0 reads at one column what item 1 writes at another. How often they have come there the sites tell: two words one after another are one
-        access. Two statements of one line may be anywhere, and between two writes there is no room for a barrier."""
+        access. One that comes there again, later, may be in another round. Two statements of one line may be anywhere, and between two writes there is no room for a barrier."""
         split = "; both are of one statement: where they are of one round, read into a private variable before the barrier and write after it"
-        rounds = ("; the first of the two items has come to this line 2 times and the second once: if these are rounds of a loop, the missing barrier's "
-                  "place is the end of the loop's body, outside of branches that not all work-items take")
         one, two = "a[l] += a[l + s];\n", "a[l] = s; s += a[l];\n"
         for line, steps, more in ((one, "0 r g 5 @1\n1 w g 5 @2\n", split), (one, "0 r g 4 @1\n0 r g 5 @1\n1 w g 5 @2\n", split),
-                                  (one, "0 r g 7 @1\n0 r g 5 @1\n1 r g 5 @2\n1 w g 5 @2\n", rounds), (two, "0 r g 7 @1\n0 r g 5 @1\n1 w g 5 @2\n", ""),
+                                  (one, "0 r g 5 @1\n0 r g 7 @1\n1 w g 5 @2\n", f"{split}; where they are of two, {END}"),
+                                  (one, "0 r g 7 @1\n0 r g 5 @1\n1 r g 5 @2\n1 w g 5 @2\n", ROUNDS), (two, "0 r g 7 @1\n0 r g 5 @1\n1 w g 5 @2\n", ""),
                                   (two, "0 r g 5 @1\n1 w g 5 @2\n", ""), (one, "0 w g 5 @1\n1 w g 5 @2\n", "")):
             launch = self.judged([f"group 0 items 2 launch 7 v3\n{steps}end\n"], {"kernel.cl": line, "sites": "kernel.cl:1:16\nkernel.cl:1:5\n"})
             self.assertEqual([it.message for it in launch.findings], [GLOBAL + more], line + steps)
@@ -572,6 +642,21 @@ divergent barrier, number 1 of group 0, and 1 more alike
                 self.assertEqual(message, f"{said}: the read-modify-write at kernel.cl:3:1 is no release and the read-modify-write at kernel.cl:1:1 is no "
                                  f"acquire{ending}; or make each item's read and write of the word one atomic operation")
 
+    def test_a_counter_in_a_group_is_no_lock(self):
+        """Each item counts at one line before and after its access. Two atomics that a macro has at one place are a lock."""
+        for sites, message in (((1, 1), GLOBAL), ((1, 2), "nothing orders the two; a release that an acquire takes would: the read-modify-write at kernel.cl:1:1 "
+                                                  "is no release and the read-modify-write at kernel.cl:1:1 is no acquire")):
+            steps = "".join("{0} rmw g 9 dev rlx @{1}\n{0} {2} g 5 @3\n{0} rmw g 9 dev rlx @{3}\n".format(item, sites[0], kind, sites[1])
+                            for item, kind in enumerate("wr"))
+            launch = self.judged([f"group 0 items 2 launch 7 v3\n{steps}end\n"], {"sites": "kernel.cl:1:1\nkernel.cl:1:1\nkernel.cl:2:1\n"})
+            self.assertEqual([it.message for it in launch.findings], [message])
+
+    def test_a_barrier_to_which_one_of_two_items_comes(self):
+        """It is divergent. One that both come to, with other sites, is another matter."""
+        for other, more in (("", "; one of the two items never comes to the divergent barrier at a.cl:3:1"), ("1 bar 4 g\n", "")):
+            launch = self.judged([f"group 0 items 2 launch 7\n0 w g 5\n0 bar 3 g\n1 r g 5\n{other}end\n"], {"places": "3 a.cl:3:1\n4 a.cl:4:1\n"})
+            self.assertEqual([it.message for it in launch.findings if it.kind == "race"], [GLOBAL + more])
+
     def test_a_hand_over_in_a_group_by_atomics_that_are_relaxed(self):
         """A counter in the place of the load is no hand-over: there a barrier is missing."""
         places = "0 0 0 a.cl:1:1\n0 0 1 a.cl:2:1\n0 1 0 a.cl:3:1\n0 1 1 a.cl:4:1\n"
@@ -588,11 +673,11 @@ divergent barrier, number 1 of group 0, and 1 more alike
     def test_streams_in_one_file(self):
         streams = ["group 1 items 2 launch 7\n0 bar 3 l\n1 w g 1\nend\n" "group 2 items 1 launch 7\nend\n"
                    "group 0 items 2 launch 7\n0 bar 3 l\n1 bar 3 l\nend cut\n"]
-        self.assert_report(streams, {"places": "3 b.cl:1:2\n"}, "found", """\
+        self.assert_report(streams, {"places": "3 b.cl:1:2\n"}, "found", f"""\
 divergent barrier, number 0 of group 1
     b.cl:1:2: item 0
     no barrier: item 1
-    some work-items never reach it
+    some work-items never reach it; {OUTSIDE}
 reason cut: records of 1 of 3 groups were lost (the first is group 0): a group did more than a trace has room for, or was stopped
 """)
 

@@ -12,8 +12,10 @@ GROUPS = ("nothing orders the two, and a barrier never orders two groups; a seco
 CALL = r"(?<![-=!<>+*/%&|^])=\s*f?{}\s*\((?:[^()]|\([^()]*\))*\)\s*;"  # the word is what a function gives, and no more
 UPDATES = {"add": re.compile(r"\+\+|\+="), "sub": re.compile(r"--|-="), "or": re.compile(r"\|="), "and": re.compile("&="), "xor": re.compile(r"\^="),
            "max": re.compile(CALL.format("max")), "min": re.compile(CALL.format("min")), "cmpxchg": re.compile(r"(?:[*/%]|<<|>>)=")}
-ATOMICS_OF = {"add": ("inc", "add"), "sub": ("dec", "sub"), "": ("add", "cmpxchg")}  # else the operation itself
-EXTENDED = ("or", "and", "xor", "max", "min")  # of cl_khr_int64_extended_atomics
+ATOMICS_OF = {"add": ("inc", "add"), "sub": ("dec", "sub"), "greatest": ("max", "min"), "": ("add", "cmpxchg")}  # else the operation itself
+EXTENDED = ("or", "and", "xor", "max", "min", "greatest")  # of cl_khr_int64_extended_atomics
+CONDITION = re.compile(r"\b(?:if|while)\b|\?")
+CHECKS = {"cmpxchg": re.compile(r"[=!]="), "greatest": re.compile(r"(?<![-<>])[<>](?![<>])")}  # in a line with a condition
 OWN = {"read": "load (in OpenCL 1.2 an atomic_or with 0)", "write": "store (in OpenCL 1.2 an atomic_xchg)"}
 ONE_WRITE = ("both items write it at this place: let one of them do so, or give each a word of its own; a barrier would order only rounds "
              "of a loop")
@@ -33,6 +35,7 @@ class At(NamedTuple):
     is_copy: bool = False  # of the item that does asynchronous copies
     order: str = ""
     text: str = ""         # the line of the source
+    site: int = 0          # the line of the file of sites that has the place
 
 
 class Barrier(NamedTuple):
@@ -62,8 +65,13 @@ class Pair(NamedTuple):
     rounds: Optional[Tuple[At, At]] = None      # the two, the second of a later round of a loop
     early: Optional[Tuple[At, At, At]] = None   # an access, a release before it, and an acquire before the other access that takes it
     others: Optional[Tuple[At, At]] = None      # a release that no barrier puts after the one access, and an acquire before the other, of one word
-    is_locked: bool = False         # there are such atomics in both directions, as of a lock
-    kind: str = ""              # the type of the word, where the kernel's text says it
+    is_locked: bool = False         # there are such atomics in both directions, at two places, as of a lock
+    check: Optional[Tuple[At, At]] = None  # a read by both items, and the write of one of them that comes next
+    missed: str = ""                # the place of a divergent barrier after the access of one item, to which the other never comes
+    is_also_met: bool = False       # in its group, items that are at other places race with one of the two, too, and lack a barrier
+    is_repeated: bool = False       # of two accesses of one statement, one of the items comes to its place several times
+    kind: str = ""                  # the type of the word, where the kernel's text says it
+    value: str = ""                 # the number that both items write, where the text has it
 
 
 def flags_of(flags: int) -> str:
@@ -74,7 +82,7 @@ def flags_of(flags: int) -> str:
 def sentence(name: str, said: str, pair: Pair) -> str:
     """The cause of this name as a sentence; what gpurace has said where the records say nothing more."""
     special = {"flags": of_flags, "scope": of_scope, "divergent": of_divergence, "no-hand-over": of_groups}.get(name, of_nothing)
-    return special(said, pair) or said
+    return (special(said, pair) or said) + (f"; both write {pair.value}" if pair.value else "")
 
 
 def of_flags(_: str, pair: Pair) -> str:
@@ -119,18 +127,34 @@ def of_nothing(said: str, pair: Pair) -> str:
     if not pair.is_one_group and pair.release and pair.acquire and pair.release.place and pair.acquire.place:
         return f"{said}; the release at {pair.release.place} and the acquire at {pair.acquire.place} do not meet"
     weak = of_hand_over(said, pair)
-    if pair.is_one_line and not weak:
+    if pair.is_one_line and not weak and not pair.is_also_met:
         return f"{of_update(pair.kind, pair.first.text)}: each item reads the word and writes it at this line"
-    if pair.are_updates:
-        return f"{weak or said}; or make each item's read and write of the word one atomic operation"
-    return weak or of_others(pair) or of_barrier(said, pair)
+    if pair.is_one_line or pair.are_updates:
+        mend = weak or said + (of_one_statement(pair) if pair.is_one_line else "")
+        return f"{mend}; or make each item's read and write of the word one atomic operation"
+    return weak or of_check(said, pair) or of_others(pair) or of_barrier(said, pair)
+
+
+def of_check(said: str, pair: Pair) -> str:
+    """Both items read the word in a condition, and one writes it then, as the other may have done. Rounds of a loop may look so."""
+    are_writes = pair.first.what == pair.second.what == "write"
+    if not pair.check or not CONDITION.search(pair.check[0].text) or pair.rounds or (are_writes and pair.is_also_met):
+        return ""
+    read, write = pair.check
+    atomic = of_update(pair.kind, read.text)
+    if not pair.is_also_met and all(pair.times) and not pair.is_repeated:
+        return f"{atomic}: items read the word at this line and then write it"
+    rounds = of_one_statement(pair) if pair.times[0] != pair.times[1] else ""
+    lead = said + rounds if pair.is_one_group else "nothing orders the two; a second kernel would"
+    return f"{lead}; or, where items read the word at {read.place} and then write it at {write.place}, {atomic}"
 
 
 def of_update(kind: str, line: str) -> str:
     """The atomic for what a line does to a word of this type, where its text says that."""
     found = [name for name, pattern in UPDATES.items() if pattern.search(line)]
+    found = found or [name for name, pattern in CHECKS.items() if CONDITION.search(line) and pattern.search(line)]
     name = found[0] if len(found) == 1 else ""
-    names, is_fetched = ATOMICS_OF.get(name, (name,)), name not in ("", "cmpxchg")
+    names, is_fetched = ATOMICS_OF.get(name, (name,)), name not in ("", "cmpxchg", "greatest")
     fetch = [f"atomic_fetch_{name}"] if is_fetched else []
     if kind in ("float", "double"):
         loop, lacks = "atomic_cmpxchg" if kind == "float" else "atom_cmpxchg", f"atomic_{name}" if is_fetched else "other atomic"
@@ -178,6 +202,7 @@ def of_barrier(said: str, pair: Pair) -> str:
     if pair.are_at_one_place and are_writes:
         return ONE_WRITE
     before = f"; the last barrier before both is at {pair.before}" if pair.before else ""
+    before += f"; one of the two items never comes to the divergent barrier at {pair.missed}" if pair.missed else ""
     if pair.rounds:
         one, other = pair.rounds
         return f"{said}{before}; the {one.what} at {one.place} is of one round of a loop and the {other.what} at {other.place} of a later one: {END}"
@@ -189,7 +214,7 @@ def of_one_statement(pair: Pair) -> str:
     if not all(pair.times):
         return ""
     if pair.times[0] == pair.times[1]:
-        return SPLIT
+        return "" if pair.is_one_line else SPLIT + (f"; where they are of two, {END}" if pair.is_repeated else "")
     first, second = ("once" if time == 1 else f"{time} times" for time in pair.times)
     return f"; the first of the two items has come to this line {first} and the second {second}: if these are rounds of a loop, {END}"
 

@@ -21,6 +21,8 @@ from .sides import Places, Run, Shape, Texts, buffers_of, equal_of, joined, name
 
 DIVERGENT = {"missing": "some work-items never reach it", "site": "the work-items are at different barriers",
              "flags": "the work-items give different flags"}
+MENDS = {"missing": "its place is outside of branches and loops that they take differently, and before any early return",
+         "site": "let all of them come to one barrier, outside of the branch", "flags": "let all of them give the same"}
 MOST_KINDS = 200     # of races of a launch
 MOST_DIVERGENT = 100  # groups with divergent barriers that are looked at
 MOST_SECONDS = 60    # that looking for causes may take
@@ -55,6 +57,7 @@ class Reader:
         self.elements = Elements(info["element"])
         self.shape, self.texts, self.buffers, self.equal = Shape(info), Texts(folder), buffers_of(folder), equal_of(folder)
         self.waits = {int(site) for site in info["wait"]}
+        self.are_loads_added = any(count != "0" for count in info["acquire-loads-added"])
         lines = [line.split() for line in report]
         self.cut = {int(line[1]) for line in lines if line[0] == "cut"}
         self.divergent = {(int(line[1]), int(line[2])): line[3] for line in lines if line[0] == "diverge"}
@@ -100,13 +103,25 @@ class Reader:
     def races(self) -> Iterator[Finding]:
         if self.fault:
             yield Finding("race", self.kernel, f"races that could not be read: {self.fault}")
+        self.met = [places for kind, places in ((it, self.places_of(it)) for it in self.kinds)
+                    if len(places) > 1 and not self.pairs.is_one_operation(kind["race"], self.accesses(kind))]
         for kind in self.kinds:
             yield self.race(kind)
+
+    @staticmethod
+    def places_of(kind: Dict[str, Any]) -> Set[Tuple[str, str]]:
+        """The places of two accesses of a group between which a barrier is missing, each after their buffer; none where this is not known."""
+        race = kind["race"]
+        is_known = race["buffer"] and kind["kind"]["one_group"] and race["cause"]["name"] == "no-barrier"
+        return {(race["buffer"]["name"], race[key]["place"] or "") for key in ("first", "second")} if is_known else set()
+
+    def accesses(self, kind: Dict[str, Any]) -> List[Access]:
+        return [self.access(kind["kind"][key], kind["race"][key]) for key in ("first", "second")]
 
     def race(self, kind: Dict[str, Any]) -> Finding:
         said, race = kind["kind"], kind["race"]
         group = race["word"].get("group")
-        accesses = [self.access(said[key], race[key]) for key in ("first", "second")]
+        accesses = self.accesses(kind)
         runs = runs_of(kind)
         finding = Finding("race", self.kernel, "", race["cause"]["name"], race["cause"]["sentence"], words_in(runs), runs,
                           accesses=accesses, maps=self.maps(said["space"], runs))
@@ -115,10 +130,11 @@ class Reader:
         buffer = race["buffer"]
         element = self.elements.of(buffer["name"]) if buffer else None
         number = buffer["index"] if buffer else race["word"]["number"]
-        pair = self.pairs.between(said, race, accesses)
+        own = self.places_of(kind)
+        pair = self.pairs.between(said, race, accesses, any(own & it and own != it for it in self.met))
         if pair:
             self.pairs.put_marks((race["first"], race["second"]), accesses)
-            pair = pair._replace(kind=element.kind_of(number) if element else "")
+            pair = pair._replace(kind=element.kind_of(number) if element else "", value="" if finding.is_equal else pair.value)
             finding.message = causes.sentence(finding.cause, finding.message, pair)
         shown, word = (name_of(buffer["name"] if buffer else "", said["space"], [(number, number)], 1, it) for it in (element, None))
         finding.shown = shown + ("" if group is None else f" of {self.shape.group_name(group)}")
@@ -131,7 +147,8 @@ class Reader:
         access.put_at(event["place"] or "", self.texts)
         if group in self.groups:
             step = self.groups[group].step(item, index)
-            access.scope, access.order = step.scope, step.order
+            step = self.groups[group].whole(item, step) if self.are_loads_added else step
+            access.what, access.scope, access.order = step.kind, step.scope, step.order
         return access
 
     def maps(self, space: str, runs: List[Run]) -> List[Map]:
@@ -155,8 +172,12 @@ class Reader:
                 is_cut = group in self.cut and cause == "missing"
                 alike[cause, tuple(sorted(place for place, *_ in self.came(group, instance)))].append((is_cut, group, instance))
         following = words_in([run for kind in self.kinds if kind["race"]["cause"]["name"] == "divergent" for run in runs_of(kind)])
+        mends = dict(MENDS)
         for (cause, _), instances in alike.items():
-            yield self.divergence(cause, *min(instances), len(instances) - 1, following)
+            finding = self.divergence(cause, *min(instances), len(instances) - 1, following)
+            mend = "" if finding.is_doubtful else mends.pop(cause, "")  # of others the first one may be the cause
+            finding.message += f"; {mend}" if mend else ""
+            yield finding
         if self.divergent and not alike:
             yield Finding("divergence", self.kernel, f"{len(self.divergent)} divergent barriers")
 

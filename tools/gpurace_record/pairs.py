@@ -1,14 +1,18 @@
 """The two accesses of a race, and what their items did around them."""
 from __future__ import annotations
 
+import bisect
+import itertools
 import re
-from typing import Any, Callable, Dict, List, Optional, Set, Tuple
+from typing import Any, Callable, Dict, Iterable, Iterator, List, Optional, Set, Tuple
 
 from . import causes
 from .finding import Access, Mark
 from .records import Group, Step
 from .sides import CALLED, PLACE, Places, Shape, Texts
 
+MOST_RECORDS = 1 << 32  # of an item
+NUMBER = re.compile(r"=\s*(-?\d[\w.]*|true|false)\s*;")  # that is written at the place of its `=`
 MOST_STEPS = 3       # of an item on each side of its access that are kept
 UPDATE = re.compile(r"\+\+|--|(?:[-+*/%&|^]|<<|>>)=|(?:^|[;{})])\s*([^;{}=]+?)\s*=(?!=)[^;]*?(?<!\w)\1(?!\w)")  # in a line of source
 
@@ -31,6 +35,11 @@ def is_between(place: str, first: Access, second: Access) -> bool:
         return False
     lines = [(int(each[2]), int(each[3])) for each in at if each]
     return len(lines) == 3 and lines[0] < lines[1] < lines[2]
+
+
+def near(own: Step, steps: Iterable[Step]) -> Iterator[Step]:
+    """Those of an item's steps that are barriers, or access the word of one of them."""
+    return (step for step in steps if step.kind == "barrier" or (step.space, step.word) == (own.space, own.word))
 
 
 class Pairs:
@@ -72,7 +81,7 @@ class Pairs:
         return Mark("barrier", self.places.site(step.word).split(CALLED)[0], instance=self.groups[group].phase(item, step.at),
                     flags=step.space, is_wait=step.word in self.waits)
 
-    def between(self, said: Dict[str, Any], race: Dict[str, Any], accesses: List[Access]) -> Optional[causes.Pair]:
+    def between(self, said: Dict[str, Any], race: Dict[str, Any], accesses: List[Access], is_also_met: bool = False) -> Optional[causes.Pair]:
         """The two accesses with what is between them; None if their records were not read."""
         first, second = race["first"], race["second"]
         if first["group"] not in self.groups or second["group"] not in self.groups:
@@ -84,20 +93,28 @@ class Pairs:
         meetings = [self.meeting(first, second), self.meeting(second, first)]
         store, load = meetings[0] or meetings[1] or (None, None)
         is_one_group = said["one_group"]
-        barriers, before = (self.barriers_between(first, second), self.barrier_before(first, second)) if is_one_group else ([], "")
+        before = self.barrier_before(first, second) if is_one_group else ""
+        barriers = self.barriers_between(first, second) if is_one_group else self.barriers_around(first, second) or self.barriers_around(second, first)
         others = None if is_one_group else self.over_barriers(first, second) or self.over_barriers(second, first)
         early = self.early_release(first, second, one) or self.early_release(second, first, other)
-        is_statement = is_one_group and self.are_of_one_statement(*accesses)
+        is_line = self.is_line_of_updates(first, second, accesses[0].text)
+        are_rounds = (is_line and is_also_met) or (is_one_group and self.are_of_one_statement(*accesses))
         return causes.Pair(said["space"], is_one_group, one, other, barriers, before.split(CALLED)[0], release, acquire,
-                           self.is_update(first) and self.is_update(second), self.is_line_of_updates(first, second, accesses[0].text),
+                           self.is_update(first) and self.is_update(second), is_line,
                            store, load, are_at_one(str, *accesses),
-                           (self.times(first, first), self.times(second, second)) if is_statement else (0, 0),
-                           self.rounds(first, second, accesses, both, before), early, others, all(meetings))
+                           (self.times(first, first), self.times(second, second)) if are_rounds else (0, 0),
+                           self.rounds(first, second, accesses, both, before), early, others,
+                           all(it and (it[0].place, it[0].site) != (it[1].place, it[1].site) for it in meetings),
+                           self.check(first, second), is_also_met=is_also_met, missed=self.missed(first, second) if is_one_group else "",
+                           value=self.value(accesses), is_repeated=are_rounds and (self.is_repeated(first) or self.is_repeated(second)))
 
     def times(self, event: Dict[str, Any], other: Dict[str, Any], after: int = -1) -> int:
         """How often the item of an event has come to the place of another one, after a record of it, up to the event."""
-        step = self.groups[other["group"]].step(other["item"], other["index"])
-        return self.groups[event["group"]].arrivals_of(event["item"]).count(step, after, event["index"])
+        return self.groups[event["group"]].arrivals_of(event["item"]).count(self.step(other), after, event["index"])
+
+    def is_repeated(self, event: Dict[str, Any]) -> bool:
+        """Whether the event's item comes to its place several times."""
+        return self.groups[event["group"]].arrivals_of(event["item"]).count(self.step(event), -1, MOST_RECORDS) > 1
 
     def rounds(self, first: Dict[str, Any], second: Dict[str, Any], accesses: List[Access], both: List[causes.At],
                barrier: str) -> Optional[Tuple[causes.At, causes.At]]:
@@ -121,6 +138,16 @@ class Pairs:
         line = "".join(self.texts.text(one[1])[int(one[2]) - 1:int(one[2])])
         return line != "" and ";" not in line[start - 1:end - 1]
 
+    def value(self, accesses: List[Access]) -> str:
+        """The number that both accesses write, by the text of their lines."""
+        values = set()
+        for access in accesses:
+            at = PLACE.fullmatch(access.place) if access.what == "write" else None
+            line = "".join(self.texts.text(at[1])[int(at[2]) - 1:int(at[2])]) if at else ""
+            number = NUMBER.match(line, int(at[3]) - 1) if at else None
+            values.add(number[1] if number else "")
+        return values.pop() if len(values) == 1 else ""
+
     def is_update(self, event: Dict[str, Any]) -> bool:
         """Whether the event is one of a plain read of a word and the write to it that the item does next."""
         group, item = self.groups[event["group"]], event["item"]
@@ -129,25 +156,48 @@ class Pairs:
         return other is not None and any((step.at - own.at, step.kind) == other and (step.space, step.word) == (own.space, own.word)
                                          for step in group.steps[item])
 
+    def is_one_operation(self, race: Dict[str, Any], accesses: List[Access]) -> bool:
+        """Whether what both items do should be one atomic operation: they update the word at one line, or read it and then write it."""
+        first, second = race["first"], race["second"]
+        are_read = first["group"] in self.groups and second["group"] in self.groups
+        return are_read and (self.is_line_of_updates(first, second, accesses[0].text) or self.check(first, second) is not None)
+
     def is_line_of_updates(self, first: Dict[str, Any], second: Dict[str, Any], text: str) -> bool:
         """Whether both items update the word at one line, which has this text. One that swaps words, say, is none."""
-        line = self.line_of_update(first)
+        lines = {line_of(self.place(event, step).split(CALLED)[0]) for event in (first, second) for step in [self.step(event), *self.update(event)[-2:]]}
+        are_both = self.update(first) and self.update(second)
         is_shown = not text or UPDATE.search(text) or (self.is_update(first) and self.is_update(second))
-        return line != "" and line == self.line_of_update(second) and bool(is_shown)
+        return bool(are_both and is_shown) and len(lines) == 1 and "" not in lines
 
-    def line_of_update(self, event: Dict[str, Any]) -> str:
-        """The line at which an item reads the word of the event and writes it next, both plainly and with no barrier between; empty if it
-        does not, or the line is not known."""
-        number, item = event["group"], event["item"]
-        group = self.groups[number]
-        own = group.step(item, event["index"])
-        steps = [step for step in group.steps[item] if step.kind != "barrier" and (step.space, step.word) == (own.space, own.word)]
-        at = steps.index(own) - (own.kind == "write")
-        update = steps[at:at + 2] if at >= 0 else []
-        if [step.kind for step in update] != ["read", "write"] or len({group.phase(item, step.at) for step in update}) > 1:
-            return ""
-        lines = {line_of(self.places.event(number, item, step.at).split(CALLED)[0]) for step in update}
-        return lines.pop() if len(lines) == 1 else ""
+    def update(self, event: Dict[str, Any]) -> List[Step]:
+        """Plain reads of the word of the event and the write to it that its item does next, with no barrier between, if the event is one of these."""
+        own, steps = self.step(event), self.groups[event["group"]].steps[event["item"]]
+        write = next((step for step in near(own, steps[bisect.bisect_left(steps, (own.at,)):]) if step.kind != "read"), own)
+        before = reversed(steps[:bisect.bisect_left(steps, (write.at,))])
+        reads = list(itertools.takewhile(lambda step: step.kind == "read", near(own, before)))
+        return [*reversed(reads), write] if reads and write.kind == "write" else []
+
+    def reads(self, event: Dict[str, Any]) -> Dict[str, Step]:
+        """By their places, the plain reads of an event: itself, or those that its item does just before it writes."""
+        own = self.step(event)
+        return {self.place(event, step): step for step in ([own] if own.kind == "read" else self.update(event)[:-1])}
+
+    def check(self, first: Dict[str, Any], second: Dict[str, Any]) -> Optional[Tuple[causes.At, causes.At]]:
+        """A read and the write that an item does next, if one of the two is this write, and the other item reads at the read's place, too."""
+        reads = [self.reads(event) for event in (first, second)]
+        common = [place for place in reads[0] if place and place in reads[1]]
+        for event, own in zip((first, second), reads):
+            update = self.update(event)
+            if common and update and update[-1].at == event["index"]:
+                return self.at(event, own[common[0]]), self.at(event, update[-1])
+        return None
+
+    def step(self, event: Dict[str, Any]) -> Step:
+        return self.groups[event["group"]].step(event["item"], event["index"])
+
+    def place(self, event: Dict[str, Any], step: Step) -> str:
+        """The place of a step of an event's item, with its calls."""
+        return self.places.event(event["group"], event["item"], step.at)
 
     def hand_over(self, one: Dict[str, Any], other: Dict[str, Any]) -> Tuple[Optional[causes.At], Optional[causes.At]]:
         """The release of an event's item after it, and the acquire of another event's item before that one, if there are such. What waits
@@ -185,19 +235,49 @@ class Pairs:
         group, there = self.groups[one["group"]], self.groups[other["group"]]
         phase, end = group.phase(one["item"], one["index"]), there.phase(other["item"], other["index"])
         full = [at for at, step in enumerate(there.barriers[other["item"]][:end]) if step.space & 1 and (other["group"], at) not in self.divergent]
-        releases = [(item, step) for item, step in group.hands if item != one["item"] and step.is_release() and step.scope == "dev"
-                    and group.phase(item, step.at) <= phase and not self.shape.is_copying(one["group"], item)]
-        acquires = [(item, step) for item, step in there.hands if step.is_acquire() and step.scope == "dev"
-                    and ((item == other["item"] and step.at < other["index"]) or any(there.phase(item, step.at) <= at for at in full))]
-        for item, release in releases:
-            for taker, acquire in acquires:
-                if (release.space, release.word) == (acquire.space, acquire.word):
-                    return self.at({**one, "item": item}, release), self.at({**other, "item": taker}, acquire)
+        for item, release, taker, acquire in self.hands(one, other):
+            is_after = (taker == other["item"] and acquire.at < other["index"]) or any(there.phase(taker, acquire.at) <= at for at in full)
+            if item != one["item"] and group.phase(item, release.at) <= phase and is_after:
+                return self.at({**one, "item": item}, release), self.at({**other, "item": taker}, acquire)
         return None
 
+    def hands(self, one: Dict[str, Any], other: Dict[str, Any]) -> Iterator[Tuple[int, Step, int, Step]]:
+        """Releases of an event's group and acquires of another event's group, of one word and device scope, each after its item."""
+        acquires = [(item, step) for item, step in self.groups[other["group"]].hands if step.is_acquire() and step.scope == "dev"]
+        for item, release in self.groups[one["group"]].hands:
+            if release.is_release() and release.scope == "dev" and not self.shape.is_copying(one["group"], item):
+                yield from ((item, release, taker, acquire) for taker, acquire in acquires
+                            if (release.space, release.word) == (acquire.space, acquire.word))
+
+    def barriers_around(self, one: Dict[str, Any], other: Dict[str, Any]) -> List[causes.Barrier]:
+        """The barriers between an event and a release by its group, and between an acquire of the same word by another event's group and that event."""
+        for item, release, taker, acquire in self.hands(one, other):
+            before, after = self.barriers_to(one, item, release.at, 1), self.barriers_to(other, taker, acquire.at, -1)
+            if before is not None and after is not None:
+                return before + after
+        return []
+
+    def barriers_to(self, event: Dict[str, Any], item: int, at: int, step: int) -> Optional[List[causes.Barrier]]:
+        """The barriers between an event and a record of an item of its group that comes after it, or, with the step -1, before it; within one item
+        none are needed. None if the record does not come there."""
+        group = self.groups[event["group"]]
+        if item == event["item"]:
+            return [] if (at - event["index"]) * step > 0 else None
+        start, end = (group.phase(event["item"], event["index"]), group.phase(item, at))[::step]
+        return [self.barrier(event["group"], start + k, it) for k, it in enumerate(group.barriers[event["item"]][start:end])] or None
+
+    def missed(self, first: Dict[str, Any], second: Dict[str, Any]) -> str:
+        """The place of the divergent barrier that one of two items comes to next after the access, and the other one, with as many barriers before its
+        own access, never does."""
+        group = self.groups[first["group"]]
+        at, other = (group.phase(event["item"], event["index"]) for event in (first, second))
+        own = [steps[at] for steps in (group.barriers[event["item"]] for event in (first, second)) if at < len(steps)]
+        is_missed = at == other and len(own) == 1 and (first["group"], at) in self.divergent
+        return self.places.site(own[0].word).split(CALLED)[0] if is_missed else ""
+
     def at(self, event: Dict[str, Any], step: Step) -> causes.At:
-        place = self.places.event(event["group"], event["item"], step.at).split(CALLED)[0]
-        return causes.At(step.kind, place, step.scope, order=step.order, text=self.texts.line(place))
+        place = self.place(event, step).split(CALLED)[0]
+        return causes.At(step.kind, place, step.scope, order=step.order, text=self.texts.line(place), site=step.site)
 
     def barrier_before(self, first: Dict[str, Any], second: Dict[str, Any]) -> str:
         """The place of the last barrier that both items have passed, with its calls, if no other one is between the two; else nothing."""
@@ -213,5 +293,8 @@ class Pairs:
         phases = sorted((group.phase(event["item"], event["index"]), event["item"]) for event in (first, second))
         steps = group.barriers[phases[1][1]]
         between = [(at, steps[at]) for at in range(phases[0][0], phases[1][0])]
-        return [causes.Barrier(self.places.site(step.word), step.space, (number, at) in self.divergent, step.word in self.waits)
-                for at, step in between]
+        return [self.barrier(number, at, step) for at, step in between]
+
+    def barrier(self, group: int, at: int, step: Step) -> causes.Barrier:
+        """A step of a group's item that is its barrier of this number."""
+        return causes.Barrier(self.places.site(step.word), step.space, (group, at) in self.divergent, step.word in self.waits)

@@ -10,7 +10,7 @@ from .finding import ORDERS, SCOPES, WHAT, Access, Finding, Map, Mark
 
 WIDTH, LANES = 400, (104, 296)  # of the picture, and the middles of the lanes
 BOX, ROW, LINE = 180, 50, 15    # a node's width, a row's height, a line's
-COLUMNS, PLACE = 52, 26         # of the sentence, and of a place
+COLUMNS, PLACE = 48, 26         # of the sentence, and of a place
 FLAGS = {0: "no flag", 1: "global", 2: "local", 3: "global and local"}
 SHORT = {"rmw": "atomic rmw", "both": "acq_rel"}
 

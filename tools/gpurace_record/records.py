@@ -130,6 +130,15 @@ class Group:
         """How many barriers of the item come before its record of this index."""
         return sum(barrier.at < index for barrier in self.barriers[item])
 
+    def whole(self, item: int, step: Step) -> Step:
+        """The atomic that a step is a part of: one that takes many names is recorded as loads of its word, and itself right after them."""
+        for other in self.steps[item][bisect.bisect_left(self.steps[item], (step.at + 1,)):]:
+            is_part = step.kind == "load" and step.site and (step.at + 1, step.site, step.space, step.word) == (other.at, other.site, other.space, other.word)
+            if not is_part:
+                break
+            step = other
+        return step
+
     def step(self, item: int, index: int) -> Step:
         return next(step for step in self.steps[item] if step.at == index)
 

@@ -102,7 +102,8 @@ def name_of(name: str, space: str, runs: Spans, groups: int, element: Optional[E
         shown = ", ".join(f"{name}[{number}]" for number in numbers)
     else:
         shown = f"{space} word{'s' if len(runs) > 1 or '..' in numbers[0] else ''} " + ", ".join(numbers)
-    shown += f" and {len(runs) - MOST_RUNS} more runs" if len(runs) > MOST_RUNS else ""
+    more = len(runs) - MOST_RUNS
+    shown += f" and {more} more run{'s' if more > 1 else ''}" if more > 0 else ""
     return shown + (f" of {groups} groups" if groups > 1 else "")
 
 

@@ -2,6 +2,8 @@
 #include "layer.h"
 
 #include <algorithm>
+#include <cstdio>
+#include <mutex>
 
 namespace gpurace {
 
@@ -24,6 +26,38 @@ cl_mem CL_API_CALL create_sub_buffer(cl_mem buffer, cl_mem_flags flags, cl_buffe
 cl_mem CL_API_CALL create_image(cl_context context, cl_mem_flags flags, const cl_image_format *format,
                                 const cl_image_desc *shape, void *host, cl_int *error) {
     return driver.clCreateImage(context, mappable(flags), format, shape, host, error);
+}
+
+bool has_device(cl_device_type type) {
+    cl_platform_id platforms[16];
+    cl_uint count = 0, found = 0;
+    driver.clGetPlatformIDs(16, platforms, &count);
+    for (cl_uint at = 0; at < std::min(count, 16u) && found == 0; at++) driver.clGetDeviceIDs(platforms[at], type, 0, nullptr, &found);
+    return found > 0;
+}
+// Kernels run on the host's threads whatever their device is. So a program that asks for a device of a type that none has, as for a GPU,
+// gets those that are there.
+bool are_others_given(cl_int error, cl_device_type type) {
+    const cl_device_type usual = CL_DEVICE_TYPE_CPU | CL_DEVICE_TYPE_GPU | CL_DEVICE_TYPE_ACCELERATOR;
+    if (error != CL_DEVICE_NOT_FOUND || !(type & usual) || has_device(type)) return false;
+    static std::once_flag is_said;
+    std::call_once(is_said, [] {
+        std::fputs("gpurace-recorder: no device here is of the type that the program asks for; it gets what there is\n", stderr);
+    });
+    return true;
+}
+cl_int CL_API_CALL device_ids(cl_platform_id platform, cl_device_type type, cl_uint most, cl_device_id *devices, cl_uint *count) {
+    const cl_int error = driver.clGetDeviceIDs(platform, type, most, devices, count);
+    return are_others_given(error, type) ? driver.clGetDeviceIDs(platform, CL_DEVICE_TYPE_ALL, most, devices, count) : error;
+}
+cl_context CL_API_CALL context_of_type(const cl_context_properties *properties, cl_device_type type,
+                                       void(CL_CALLBACK *notify)(const char *, const void *, size_t, void *), void *data, cl_int *error) {
+    cl_int status = CL_SUCCESS;
+    cl_context made = driver.clCreateContextFromType(properties, type, notify, data, &status);
+    if (are_others_given(status, type)) // pocl 3.1 answers a context then, too
+        made = driver.clCreateContextFromType(properties, CL_DEVICE_TYPE_ALL, notify, data, &status);
+    if (error) *error = status;
+    return made;
 }
 
 void limit_items(size_t &most) { most = settings().most_items ? std::min<size_t>(most, settings().most_items) : most; }
@@ -71,6 +105,8 @@ SEEN CL_API_ENTRY cl_int CL_API_CALL clInitLayer(cl_uint count, const cl_icd_dis
     layer.clCreateBuffer = create_buffer;
     layer.clCreateSubBuffer = create_sub_buffer;
     layer.clCreateImage = create_image;
+    layer.clGetDeviceIDs = device_ids;
+    layer.clCreateContextFromType = context_of_type;
     layer.clGetDeviceInfo = device_info;
     layer.clGetKernelWorkGroupInfo = group_info;
     *made_count = sizeof layer / sizeof(void *);

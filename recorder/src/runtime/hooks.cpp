@@ -39,6 +39,8 @@ void end_turn(Item &item) {
     return nullptr;
 }
 
+constexpr uint64_t NULL_BYTES = 1 << 16; // after address 0, where Linux maps nothing
+
 // Where an address is in relation to the buffer that the code names, or else to the nearest one.
 std::string place_of(const Group &group, const Site &site, uint64_t address) {
     const auto distance = [&](const Span &span) {
@@ -47,6 +49,7 @@ std::string place_of(const Group &group, const Site &site, uint64_t address) {
     const Span *near = site.entry >= 0 ? group.entry_spans[size_t(site.entry)] : nullptr;
     const std::vector<Entry> &entries = group.launch->request.entries;
     if (!near && site.entry >= 0) return "in " + entries[size_t(site.entry)].name + ", which has no memory";
+    if (!near && address < NULL_BYTES) return "through a null pointer";
     for (const Span &span : site.space == LOCAL ? group.spans : group.launch->spans)
         if (site.entry < 0 && (!near || distance(span) < distance(*near))) near = &span;
     if (!near) return "in no buffer";
