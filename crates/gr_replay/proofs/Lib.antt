@@ -1,7 +1,6 @@
 pub mod Joining
 pub mod Launching
 pub mod Apart
-pub mod Pairing
 mod Inputs
 pub mod OneLaunch
 pub mod Alone

@@ -7,7 +7,6 @@ mod input;
 pub mod joined;
 pub mod launch;
 pub mod laws;
-mod races;
 pub mod records;
 mod run;
 

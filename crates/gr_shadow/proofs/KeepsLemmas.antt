@@ -1,10 +1,9 @@
 -- What is kept of a list of touches gives the same clashes.
-use Rattle.gr_model.proofs.Common.{◌≡◌, ◌⊎◌, ◌↔◌, ℕ, zero, suc, ◌+◌, ◌<◌, ◌≤◌, All, Bool, true, false, cond, ◌&&◌, List, [], ◌∷◌, ◌++◌, length, get_or, slice_set, is_some, Option, Some, None, Contains, drop, refl, sym, ◌∙◌, ap, arith, ⊎_elim, append_assoc, not, list_any, Contains-permutation, IsPermutation-sym, nat_tests, same_from_decides, append-nil, drop_all, drop_more, Any-from_list_any, find-append, list_any_at, All-tail, All-contains, All-contains_itself, All-weaker, Contains-append_left, Contains-append_right, Contains-append_cases, Contains-push, Contains-push_cases}
+use Rattle.gr_model.proofs.Common.{◌≡◌, ◌⊎◌, ◌↔◌, ℕ, zero, suc, ◌+◌, ◌<◌, ◌≤◌, All, Bool, true, false, ◌&&◌, ◌||◌, List, [], ◌∷◌, ◌++◌, length, get_or, slice_set, is_some, Some, Contains, drop, refl, sym, ◌∙◌, ap, arith, ⊎_elim, append_assoc, not, list_any, Contains-permutation, IsPermutation-sym, nat_tests, same_from_decides, append-nil, drop_all, drop_more, Any-from_list_any, list_any-append, list_any_at, All-tail, All-contains, All-contains_itself, All-weaker, Contains-append_left, Contains-append_right, Contains-append_cases, Contains-push, Contains-push_cases}
 use Rattle.std.specs.List.{All, find}
 use Rattle.std.specs.Bool.{MatchBool}
 use Rattle.std.specs.List.Retain.{DedupsFrom, IsDeduped}
 use Rattle.std.specs.List.Sorted.{IsPermutation}
-use Rattle.std.specs.Option.{option_or}
 use Rattle.gr_model.specs.declared.class.Class.{Class}
 use Rattle.gr_model.specs.Prelude.{exempt}
 use Rattle.gr_clocks.specs.ClockedAccess.{ClockedAccess}
@@ -152,23 +151,19 @@ pub Keeps-push : (lists : List TouchList) (new : TouchList) (x : List Touch) →
 Keeps-push [] new x k = rw append-nil k
 Keeps-push (l ∷ lists) new x k = Keeps-second l.touches _ (all_touches lists) x (Keeps-push lists new x k)
 
--- what is found after the first lists
-pub found_at : (f : Touch → Bool) (lists : List TouchList) (k : ℕ) (l : TouchList) → k < length lists → l ≡ get_or lists k l → find f (all_touches (drop k lists)) ≡ option_or (find f l.touches) (find f (all_touches (drop (k + 1) lists)))
-found_at f lists k l lt is = rw (drop_more lists k l lt, ← is) (find-append f l.touches (all_touches (drop (k + 1) lists)))
+-- a test of the touches after the first lists
+pub any_at : (f : Touch → Bool) (lists : List TouchList) (k : ℕ) (l : TouchList) → k < length lists → l ≡ get_or lists k l → list_any f (all_touches (drop k lists)) ≡ (list_any f l.touches || list_any f (all_touches (drop (k + 1) lists)))
+any_at f lists k l lt is = rw (drop_more lists k l lt, ← is) (list_any-append f l.touches (all_touches (drop (k + 1) lists)))
 
-pub found_nowhere : (f : Touch → Bool) (lists : List TouchList) (k : ℕ) → length lists ≤ k → find f (all_touches (drop k lists)) ≡ None
-found_nowhere f lists k all = rw (drop_all k lists all) refl
+pub any_nowhere : (f : Touch → Bool) (lists : List TouchList) (k : ℕ) → length lists ≤ k → list_any f (all_touches (drop k lists)) ≡ false
+any_nowhere f lists k all = rw (drop_all k lists all) refl
 
 -- ---- touches of one class
 
 touch_told : (y : ClockedAccess) (c : Class) (g : ℕ) (t : Touch) → IsOfClass c g t → touch_clashes y t ≡ (not (exempt c g y.class y.item.group) && is_unseen y t)
 touch_told y c g t of = grind (arith, of.apart, of.same)
 
-unless_exempt : {X : Type 0} (e u : Bool) (x y : Option X) → cond (not e && u) x (cond e None y) ≡ cond e None (cond u x y)
-unless_exempt e u x y = grind arith
-
 -- of touches of one class an access clashes with none where it is exempt with them, and else with those that it has not seen
-pub class_told : (y : ClockedAccess) (c : Class) (g : ℕ) (ts : List Touch) → All (IsOfClass c g) ts → find (touch_clashes y) ts ≡ cond (exempt c g y.class y.item.group) None (find (is_unseen y) ts)
+pub class_told : (y : ClockedAccess) (c : Class) (g : ℕ) (ts : List Touch) → All (IsOfClass c g) ts → list_any (touch_clashes y) ts ≡ (not (exempt c g y.class y.item.group) && list_any (is_unseen y) ts)
 class_told y c g [] of = grind arith
-class_told y c g (t ∷ ts) of =
-    rw (touch_told y c g t (of 0 t (omega arith)), class_told y c g ts (All-tail (IsOfClass c g) t ts of)) (unless_exempt (exempt c g y.class y.item.group) (is_unseen y t) (Some t) (find (is_unseen y) ts))
+class_told y c g (t ∷ ts) of = grind (arith, touch_told y c g t (of 0 t (omega arith)), class_told y c g ts (All-tail (IsOfClass c g) t ts of))

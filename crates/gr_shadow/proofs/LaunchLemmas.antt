@@ -9,9 +9,8 @@ use Rattle.gr_model.proofs.HitLaws.{IsHit-filter}
 use Rattle.gr_model.proofs.Pairs.{PairIn, PairIn-from_some, SomeOf, SomePair-from_in}
 use Rattle.gr_shadow.specs.Clashes.{ClockedAccess, IsHitIn, clashes}
 use Rattle.gr_shadow.specs.Kept.{Kept, shadow_at}
-use Rattle.gr_shadow.specs.Launches.{LaunchKept, StandsForLaunch, StandsForLocal, accesses_in, is_global, is_local_of, launch_clash_at}
+use Rattle.gr_shadow.specs.Launches.{LaunchKept, StandsForLaunch, StandsForLocal, accesses_in, is_global, is_local_of}
 use Rattle.gr_shadow.specs.StandsFor.{IsHitBy, StandsFor}
-use Rattle.gr_shadow.proofs.ListingLemmas.{HasClash, clash_there}
 use Rattle.gr_shadow.proofs.ShadowLemmas.{hit_by_push, word_of_clash}
 
 -- ---- no word is hit
@@ -140,14 +139,3 @@ hit_below {accesses} {k} stands w = (⊎_elim (λ a. unfiltered is_global _ acce
     by_word : (w : Word) → IsHitIn accesses w → IsHitBelow accesses (length k.local) w
     by_word (Global v) h = inl (hit_in_part is_global accesses (Global v) refl h)
     by_word (Local g v) h = let p = hit_kept g v stands h in inr (g, slice_get_within k.local g (Some p.1) p.2, p.0)
-
--- ---- the clash of a word that is hit
-
-pub launch_clash_there : {accesses : List ClockedAccess} {k : LaunchKept} → StandsForLaunch accesses k → (w : Word) → IsHitIn accesses w → HasClash accesses (launch_clash_at k) w
-launch_clash_there {accesses} {k} stands (Global v) h =
-    let there = clash_there stands.global (Global v) (hit_in_part is_global accesses (Global v) refl h) in
-    (there.0, there.1, there.2, unfiltered is_global _ accesses there.3)
-launch_clash_there {accesses} {k} stands (Local g v) h =
-    let p = hit_kept g v stands h in
-    let there = clash_there p.3 (Local g v) p.0 in
-    (there.0, rw p.2 there.1, there.2, unfiltered (is_local_of g) _ accesses there.3)

@@ -2,5 +2,4 @@ pub mod KeepsLemmas
 pub mod HitLemmas
 pub mod ShadowLemmas
 pub mod MapLemmas
-pub mod ListingLemmas
 pub mod LaunchLemmas

@@ -1,21 +1,18 @@
 -- What shadows say of the accesses that they represent.
-use Rattle.gr_model.proofs.Common.{◌≡◌, ◌⊎◌, ◌↔◌, inl, inr, Bool, true, false, ◌&&◌, ◌||◌, IsTrue, List, [], ◌∷◌, ◌++◌, map, cond, Option, Some, None, refl, sym, ◌∙◌, ap, arith, and_from, and_parts, or_parts, Decides-or, list_any, map_push}
-use Rattle.std.specs.List.{find}
+use Rattle.gr_model.proofs.Common.{◌≡◌, ◌⊎◌, ◌↔◌, Bool, true, false, ◌&&◌, ◌||◌, IsTrue, List, [], ◌∷◌, ◌++◌, map, cond, refl, sym, ◌∙◌, arith, and_from, and_parts, or_parts, Decides-or, list_any, map_push}
 use Rattle.indexmap.proofs.SetLemmas.{filter_keep, filter_skip}
 use Rattle.gr_model.specs.declared.event.Word.{Word}
 use Rattle.gr_model.specs.contracts.event.WordEq.TheImpl.Laws as equal
 use Rattle.gr_model.specs.Prelude.{ClashesAt}
-use Rattle.gr_model.proofs.Pairs.{SomeOf, SomeOf-at, SomeOf-place}
+use Rattle.gr_model.proofs.Pairs.{SomeOf, SomeOf-place}
 use Rattle.gr_model.proofs.WordLemmas.{same_from_equal}
 use Rattle.gr_clocks.specs.ClockedAccess.{ClockedAccess}
-use Rattle.gr_shadow.specs.Clashes.{clashes, event_of, IsClashIn, IsClashOf, IsHitIn}
-use Rattle.gr_shadow.specs.declared.touch.Touch.{Touch}
-use Rattle.gr_shadow.specs.Keeps.{Keeps, touch_of, touch_clashes, touch_event}
-use Rattle.gr_shadow.specs.Kept.{WordShadow, clashes_before, is_first_hit, IsShadowAfter, Kept, same_word, shadow_at, IsAfter}
-use Rattle.gr_shadow.specs.StandsFor.{accesses_to, KeepsClash, StandsFor, IsHitBy}
+use Rattle.gr_shadow.specs.Clashes.{clashes, IsHitIn}
+use Rattle.gr_shadow.specs.Keeps.{Keeps, touch_of, touch_clashes}
+use Rattle.gr_shadow.specs.Kept.{clashes_before, is_first_hit, IsShadowAfter, Kept, same_word, shadow_at, IsAfter}
+use Rattle.gr_shadow.specs.StandsFor.{accesses_to, StandsFor, IsHitBy}
 use Rattle.gr_shadow.proofs.HitLemmas.{SomePair-push}
-use Rattle.gr_shadow.proofs.KeepsLemmas.{clashes_kept, find_is, find_told, Keeps-self, Keeps-trans, Keeps-append}
-use Rattle.gr_shadow.proofs.MapLemmas.{Contains-some}
+use Rattle.gr_shadow.proofs.KeepsLemmas.{clashes_kept, Keeps-self, Keeps-trans, Keeps-append}
 
 -- an access before y clashes with it, at the word w
 abbrev pub ClashesBefore : List ClockedAccess → ClockedAccess → Word → Type 0
@@ -50,56 +47,12 @@ pub answer_told : (xs : List ClockedAccess) (kept : Kept) (y : ClockedAccess) �
 answer_told xs kept y stands w =
     grind (arith, hit_by_push xs y w, stands.answered w, word_of_clash xs y w, clashes_before_told xs kept y w stands)
 
--- ---- clashes
-
--- a touch of the accesses to a word is that of one of them
-some_access : (w : Word) (t : Touch) (xs : List ClockedAccess) → SomeOf (λ u. u ≡ t) (map touch_of (accesses_to w xs)) → SomeOf (λ x. (x.word ≡ w) × (touch_of x ≡ t)) xs
-some_access w t [] h = h
-some_access w t (x ∷ xs) h = grind (arith, some_access w t xs, same_from_equal x.word w)
-
--- an access that clashes with a touch that is kept clashes with the touch's access
-pub clash_in : (xs : List ClockedAccess) (kept : Kept) (y : ClockedAccess) (w : Word) (t : Touch) → StandsFor xs kept → (shadow_at kept w).answered ≡ false → y.word ≡ w → find (touch_clashes y) (shadow_at kept w).touches ≡ Some t → IsClashIn (xs ++ y ∷ []) w (touch_event t) (event_of y)
-clash_in xs kept y w t stands not_yet at is =
-    let found = find_is (touch_clashes y) _ t is in
-    let there = (Contains-some (map touch_of (accesses_to w xs)) t).0 ((stands.touches w not_yet).each t found.0) in
-    let x = SomeOf-place _ xs (some_access w t xs there) in
-    (SomePair-push (IsClashOf w (touch_event t) (event_of y)) xs y).1 (inr (SomeOf-at _ xs x.0 x.1 x.2 (record {
-      clash = record { first = x.3.0; second = at; clashes = ap (touch_clashes y) x.3.1 ∙ found.1 };
-      earlier = ap touch_event x.3.1;
-      later = refl;
-    })))
-
--- a clash stays one where the list becomes longer
-clash_stays : (xs : List ClockedAccess) (y : ClockedAccess) (w : Word) (old new : WordShadow) → new.clash ≡ old.clash → KeepsClash xs w old → KeepsClash (xs ++ y ∷ []) w new
-clash_stays xs y w old new same keeps = record {
-  earlier = keeps.earlier;
-  later = keeps.later;
-  kept = same ∙ keeps.kept;
-  clash = (SomePair-push (IsClashOf w keeps.earlier keeps.later) xs y).1 (inl keeps.clash);
-}
-
--- the shadow of a word after its first hit, and after another access
-pub hit_after : (old new : WordShadow) (y : ClockedAccess) (t : Touch) → old.answered ≡ false → find (touch_clashes y) old.touches ≡ Some t → new.answered ≡ true → new.clash ≡ Some (touch_event t, touch_event (touch_of y)) → IsShadowAfter old y new
-hit_after old new y t not_yet found answered clash = record {
-  answered = grind (arith, find_told (touch_clashes y) old.touches);
-  clash = λ _. rw (clash, not_yet, found) refl;
-  touches = λ not_answered. cc;
-}
-
-pub kept_after : (old new : WordShadow) (y : ClockedAccess) → old.answered ≡ false → find (touch_clashes y) old.touches ≡ None → new.answered ≡ old.answered → Keeps new.touches (old.touches ++ touch_of y ∷ []) → IsShadowAfter old y new
-kept_after old new y not_yet none answered kept = record {
-  answered = grind (arith, find_told (touch_clashes y) old.touches);
-  clash = λ is. cc;
-  touches = λ _. kept;
-}
-
 -- ---- what is kept after one more access represents the list with it
 
 pub stands_after : (xs : List ClockedAccess) (old : Kept) (y : ClockedAccess) (new : Kept) → StandsFor xs old → IsAfter old y new → StandsFor (xs ++ y ∷ []) new
 stands_after xs old y new stands after = record {
   touches = λ w. touched w (same_word y.word w) refl;
   answered = λ w. told w (same_word y.word w) refl;
-  clashes = λ w. clashed w (same_word y.word w) refl;
 }
   where
     here : (w : Word) → same_word y.word w ≡ true → IsShadowAfter (shadow_at old w) y (shadow_at new w)
@@ -111,25 +64,6 @@ stands_after xs old y new stands after = record {
         rw (filter_keep (λ x. same_word x.word w) xs y t, map_push touch_of (accesses_to w xs) y) (Keeps-trans _ _ _ (step.touches not_yet) (Keeps-append _ _ _ _ (stands.touches w (or_parts _ _ (sym step.answered ∙ not_yet)).0) (Keeps-self (touch_of y ∷ []))))
     touched w false f not_yet =
         rw (filter_skip (λ x. same_word x.word w) xs y f, after.others w f) (stands.touches w (rw (after.others w f) at not_yet))
-
-    clashed : (w : Word) (b : Bool) → same_word y.word w ≡ b → IsTrue (shadow_at new w).answered → KeepsClash (xs ++ y ∷ []) w (shadow_at new w)
-    clashed w true t a = by_answer (shadow_at old w).answered refl (find (touch_clashes y) (shadow_at old w).touches) refl
-      where
-        step : IsShadowAfter (shadow_at old w) y (shadow_at new w)
-        step = here w t
-
-        -- the clash of a word that was answered before, and of one that is answered after the access
-        by_answer : (b : Bool) → (shadow_at old w).answered ≡ b → (o : Option Touch) → find (touch_clashes y) (shadow_at old w).touches ≡ o → KeepsClash (xs ++ y ∷ []) w (shadow_at new w)
-        by_answer true was o found = clash_stays xs y w (shadow_at old w) (shadow_at new w) (rw (step.clash a, was) refl) (stands.clashes w was)
-        by_answer false not_yet None found = grind (arith, step.answered, find_told (touch_clashes y) (shadow_at old w).touches)
-        by_answer false not_yet (Some u) found = record {
-          earlier = touch_event u;
-          later = event_of y;
-          kept = rw (step.clash a, not_yet, found) refl;
-          clash = clash_in xs old y w u stands not_yet (same_from_equal y.word w t) found;
-        }
-    clashed w false f a =
-        clash_stays xs y w (shadow_at old w) (shadow_at new w) (rw (after.others w f) refl) (stands.clashes w (rw (after.others w f) at a))
 
     told : (w : Word) (b : Bool) → same_word y.word w ≡ b → IsTrue (shadow_at new w).answered ↔ IsHitIn (xs ++ y ∷ []) w
     told w true t =

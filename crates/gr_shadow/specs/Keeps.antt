@@ -1,6 +1,5 @@
 -- What is kept of the accesses to a word: a touch of each, or a later one in its place.
 use Rattle.std.specs.Prelude.{◌≡◌, ℕ, ◌≤◌, Bool, ◌&&◌, not, nat_lt, List, [], ◌∷◌, ◌++◌, Contains}
-use Rattle.gr_model.specs.declared.event.EventId.{EventId}
 use Rattle.gr_model.specs.declared.class.Class.{Class}
 use Rattle.gr_model.specs.declared.class.Class.TheVariants.{PlainRead, PlainWrite, GroupRead, GroupModify, DeviceRead, DeviceModify}
 use Rattle.gr_clocks.specs.Rows.{same_item}
@@ -11,10 +10,6 @@ use Rattle.gr_shadow.specs.Clashes.{clashes_with}
 
 abbrev pub touch_of : ClockedAccess → Touch
 touch_of x = record { item = x.item; index = x.index; class = x.class }
-
--- the event of a touch's access
-abbrev pub touch_event : Touch → EventId
-touch_event t = record { at = t.item; index = t.index }
 
 -- a later access clashes with that of a touch
 abbrev pub touch_clashes : ClockedAccess → Touch → Bool

@@ -3,9 +3,8 @@
 use Rattle.std.specs.Prelude.{◌≡◌, ℕ, ◌==◌, Bool, true, false, List, [], filter, slice_get, Option, Some, None}
 use Rattle.gr_model.specs.declared.event.Word.{Word}
 use Rattle.gr_model.specs.declared.event.Word.TheVariants.{Global, Local}
-use Rattle.gr_shadow.specs.declared.clash.Clash.{Clash}
 use Rattle.gr_shadow.specs.Clashes.{ClockedAccess, IsHitIn}
-use Rattle.gr_shadow.specs.Kept.{Kept, clash_at}
+use Rattle.gr_shadow.specs.Kept.{Kept}
 use Rattle.gr_shadow.specs.StandsFor.{StandsFor}
 
 -- what is kept of global words, and of each group what is kept of its local words, or that it was given up
@@ -34,14 +33,3 @@ StandsForLocal accesses (Some (Some kept)) = StandsFor accesses kept
 pub record StandsForLaunch (accesses : List ClockedAccess) (kept : LaunchKept) : Type 0 where
   pub global : StandsFor (accesses_in is_global accesses) kept.global
   pub local : (g : ℕ) → StandsForLocal (accesses_in (is_local_of g) accesses) (slice_get kept.local g)
-
--- ---- the clash that answered a word
-
-abbrev pub local_clash_at : Option (Option Kept) → Word → Option Clash
-local_clash_at None w = None
-local_clash_at (Some None) w = None
-local_clash_at (Some (Some kept)) w = clash_at kept w
-
-abbrev pub launch_clash_at : LaunchKept → Word → Option Clash
-launch_clash_at kept (Global v) = clash_at kept.global (Global v)
-launch_clash_at kept (Local g v) = local_clash_at (slice_get kept.local g) (Local g v)

@@ -3,17 +3,15 @@
 //! Semantics: as `Shadows` (docs/MODEL.md, "Hits"). A word's hits are those of the accesses to its memory alone, so each
 //! memory has shadows of its own, and those of a group that has ended can be given up where none of its words is hit.
 
-ghost use Rattle.std.specs.Prelude.{◌≡◌, ◌<◌, ◌++◌, ◌∷◌, [], ℕ, ◌↔◌, ◌⊎◌, true, All, Contains, IfOk, IsFalse, List, OnErr, OnOk, Some, length, map, slice_get};
-ghost use Rattle.std.specs.List.{filter_map};
+ghost use Rattle.std.specs.Prelude.{◌≡◌, ◌<◌, ◌++◌, ◌∷◌, [], ℕ, ◌↔◌, ◌⊎◌, true, Contains, IfOk, IsFalse, List, OnErr, OnOk, Some, length};
 ghost use Rattle.gr_model.specs.declared.event.Word.{Word as AnyWord};
 ghost use Rattle.gr_model.specs.Prelude.{Lists, WordBelow};
 ghost use Rattle.gr_clocks.specs.ClockedAccess.{ClockedAccess, clocked};
-ghost use Rattle.gr_shadow.specs.Clashes.{IsClashIn, IsHitIn};
-ghost use Rattle.gr_shadow.specs.Launches.{StandsForLaunch, StandsForLocal, is_local_of, launch_clash_at, local_clash_at};
+ghost use Rattle.gr_shadow.specs.Clashes.{IsHitIn};
+ghost use Rattle.gr_shadow.specs.Launches.{StandsForLaunch, StandsForLocal, is_local_of};
 ghost use Rattle.gr_shadow.specs.Lent.{lent_clocked};
 ghost use Rattle.gr_shadow.specs.StandsFor.{IsHitBy};
 
-use crate::clash::Clash;
 use crate::lent::{LentAccess, lend};
 use crate::shadows::Shadows;
 use gr_clocks::access::Access;
@@ -190,48 +188,5 @@ impl<A: Allocator + Copy> LaunchShadows<A> {
         }
         order_words(&mut words);
         Ok(words)
-    }
-
-    /// The clash that answered a local word of a group.
-    fn local_clash(&self, group: u16, word: Word) -> Option<Clash>
-        ensures { result ≡ local_clash_at (slice_get self.now.local group) word }
-    {
-        match self.local.get(usize::from(group)) {
-            None | Some(None) => None,
-            Some(Some(shadows)) => shadows.clash_at(word),
-        }
-    }
-
-    /// The clash that answered a word.
-    fn clash_at(&self, word: Word) -> Option<Clash>
-        ensures { result ≡ launch_clash_at self.now word }
-    {
-        match word {
-            Word::Global(_) => self.global.clash_at(word),
-            Word::Local(group, _) => self.local_clash(group, word),
-        }
-    }
-
-    /// The clashes that answered these words, without those that were not answered.
-    fn clashes_at(&self, words: &[Word]) -> Result<Vec<Clash, A>, Memory>
-        ensures { IfOk result (λ clashes. clashes.items ≡ filter_map (launch_clash_at self.now) words.now) }
-    {
-        let clashes = words
-            .iter()
-            .filter_map(|word| self.clash_at(*word))
-            .collect(self.alloc)?;
-        Ok(clashes)
-    }
-
-    /// The words that are hit in the accesses so far, ascending, each once and with two accesses that clash on it.
-    ///
-    /// # Errors
-    /// `Memory` if an allocation is refused.
-    pub fn clashes(&self) -> Result<Vec<Clash, A>, Memory>
-        ensures words { (accesses : List ClockedAccess) → StandsForLaunch accesses self.now → IfOk result (λ clashes. Lists WordBelow (IsHitIn accesses) (map (λ c. c.word) clashes.items)) }
-        ensures pairs { (accesses : List ClockedAccess) → StandsForLaunch accesses self.now → IfOk result (λ clashes. All (λ c. IsClashIn accesses c.word c.earlier c.later) clashes.items) }
-    {
-        let words = self.racy()?;
-        self.clashes_at(&words)
     }
 }

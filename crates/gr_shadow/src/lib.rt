@@ -2,7 +2,6 @@
 //! with the earlier ones to its word. Nothing here knows of streams, names or barriers.
 #![tactic(auto)]
 
-pub mod clash;
 pub mod launch;
 pub mod laws;
 pub mod lent;

@@ -1,25 +1,21 @@
 //! What is kept of the accesses to one word.
 
-ghost use Rattle.std.specs.Prelude.{◌≡◌, IfOk, OnOk, OnErr, false, true, ◌++◌, ◌∷◌, [], Some};
-ghost use Rattle.std.specs.List.{find};
-ghost use Rattle.gr_shadow.specs.Keeps.{Keeps, touch_clashes, touch_of, touch_event};
-ghost use Rattle.gr_shadow.specs.Kept as spec;
-ghost use Rattle.gr_shadow.specs.Kept.{no_shadow, IsShadowAfter};
+ghost use Rattle.std.specs.Prelude.{◌≡◌, IfOk, OnOk, OnErr, true, ◌++◌, ◌∷◌, []};
+ghost use Rattle.gr_shadow.specs.Keeps.{Keeps};
+ghost use Rattle.gr_shadow.specs.Kept.{clashes_before, is_first_hit, no_shadow, IsShadowAfter};
 ghost use Rattle.gr_shadow.specs.Lent.{lent_clocked};
 
 use crate::lent::LentAccess;
-use crate::touch::{PLACES, Touch, clashing_in, keep_among};
-use crate::touches::{Touches, clashing_in_lists, put};
+use crate::touch::{PLACES, Touch, clashes_with_one, keep_among};
+use crate::touches::{Touches, clashes_in_lists, put};
 use arrayvec::ArrayVec;
-use gr_model::event::EventId;
 use gr_model::memory::Memory;
 use std::alloc::{Allocator, Global};
 use std::marker::Model;
 
 /// What is kept of the accesses to one word: whether the word was answered, and if not, for each item and class the touch with the greatest
 /// index. The first few items and classes have theirs in the shadow itself, for good, so nothing is moved when more come; the others have
-/// theirs in lists, one for each class. A word that was answered has the two touches of the clash that answered it, the earlier first, and
-/// no lists.
+/// theirs in lists, one for each class.
 #[derive(Drop)]
 #[derive_where(Debug)]
 pub(crate) struct Shadow<A: Allocator = Global> {
@@ -31,11 +27,11 @@ pub(crate) struct Shadow<A: Allocator = Global> {
 impl<A: Allocator> Model for Shadow<A> {
     ghost use Rattle.std.specs.Prelude.{◌++◌};
     ghost use Rattle.gr_shadow.specs.Keeps.{all_touches};
-    ghost use Rattle.gr_shadow.specs.Kept.{WordShadow, clash_of};
+    ghost use Rattle.gr_shadow.specs.Kept.{WordShadow};
 
     ghost Value = { WordShadow };
 
-    ghost view = { λ s. record { touches = s.few.items ++ all_touches s.lists.items; answered = s.answered; clash = clash_of s.answered s.few.items } };
+    ghost view = { λ s. record { touches = s.few.items ++ all_touches s.lists.items; answered = s.answered } };
 }
 
 impl<A: Allocator + Copy> Shadow<A> {
@@ -57,27 +53,11 @@ impl<A: Allocator + Copy> Shadow<A> {
         self.answered
     }
 
-    /// The events of the clash that answered the word, the earlier first, or `None` where it was not answered.
-    pub(crate) fn clash(&self) -> Option<(EventId, EventId)>
-        ensures { result ≡ self.now.clash }
+    /// Whether an access clashes with a touch that is kept.
+    fn clashes(&self, access: &LentAccess<'_, A>) -> bool
+        ensures { result ≡ clashes_before self.now (lent_clocked access.now) }
     {
-        if !self.answered {
-            return None;
-        }
-        match self.few.as_slice() {
-            [earlier, later, ..] => Some((earlier.event(), later.event())),
-            _ => None,
-        }
-    }
-
-    /// The first kept touch with which an access clashes.
-    fn clashing(&self, access: &LentAccess<'_, A>) -> Option<Touch>
-        ensures { result ≡ find (touch_clashes (lent_clocked access.now)) self.now.touches }
-    {
-        match clashing_in(self.few.as_slice(), access) {
-            Some(touch) => Some(touch),
-            None => clashing_in_lists(&self.lists, access),
-        }
+        clashes_with_one(self.few.as_slice(), access) || clashes_in_lists(&self.lists, access)
     }
 
     /// Keeps a touch.
@@ -102,28 +82,26 @@ impl<A: Allocator + Copy> Shadow<A> {
     /// `Memory` if an allocation is refused. The shadow is then unchanged.
     pub(crate) fn add(&mut self, access: &LentAccess<'_, A>) -> Result<bool, Memory>
         ensures shadow { OnOk result (IsShadowAfter self.old (lent_clocked access.now) self.new) }
-        ensures hit { IfOk result (λ hit. hit ≡ spec.is_first_hit self.old (lent_clocked access.now)) }
+        ensures hit { IfOk result (λ hit. hit ≡ is_first_hit self.old (lent_clocked access.now)) }
         ensures err { OnErr result (self.new ≡ self.old) }
     {
         if self.answered {
             return Ok(false);
         }
-        let touch = Touch::of(access);
-        let Some(earlier) = self.clashing(access) else {
-            self.keep(touch)?;
-            return Ok(false);
-        };
-        *self = Shadow::answered(*self.lists.allocator(), earlier, touch);
-        Ok(true)
+        if self.clashes(access) {
+            *self = Shadow::answered(*self.lists.allocator());
+            return Ok(true);
+        }
+        self.keep(Touch::of(access))?;
+        Ok(false)
     }
 
-    /// The shadow of a word that was answered by the clash of two touches.
-    fn answered(alloc: A, earlier: Touch, later: Touch) -> Shadow<A>
-        ensures answered { result.answered ≡ true }
-        ensures clash { result.clash ≡ Some (touch_event earlier, touch_event later) }
+    /// The shadow of a word that was answered. Of its accesses nothing is kept.
+    fn answered(alloc: A) -> Shadow<A>
+        ensures { result.answered ≡ true }
     {
         Shadow {
-            few: ArrayVec::from([earlier, later]),
+            few: ArrayVec::new(),
             lists: Vec::new(alloc),
             answered: true,
         }

@@ -11,11 +11,10 @@ ghost use Rattle.gr_model.specs.declared.event.Word.{Word as AnyWord};
 ghost use Rattle.gr_model.specs.Prelude.{Lists, WordBelow};
 ghost use Rattle.gr_clocks.specs.ClockedAccess.{ClockedAccess, clocked};
 ghost use Rattle.gr_shadow.specs.Clashes.{IsHitIn};
-ghost use Rattle.gr_shadow.specs.Kept.{shadow_at, same_word, is_first_hit, IsAfter, answered_words, clash_at};
+ghost use Rattle.gr_shadow.specs.Kept.{shadow_at, same_word, is_first_hit, IsAfter, answered_words};
 ghost use Rattle.gr_shadow.specs.Lent.{lent_clocked};
 ghost use Rattle.gr_shadow.specs.StandsFor.{StandsFor, IsHitBy};
 
-use crate::clash::Clash;
 use crate::lent::{LentAccess, lend};
 use crate::shadow::Shadow;
 use gr_clocks::access::Access;
@@ -145,17 +144,5 @@ impl<A: Allocator + Copy> Shadows<A> {
         ensures { result ≡ list_any (λ e. e.1.answered) self.now }
     {
         self.words.iter().any(|entry| entry.1.is_answered())
-    }
-
-    /// The clash that answered a word, or `None` where it was not answered.
-    pub(crate) fn clash_at(&self, word: Word) -> Option<Clash>
-        ensures { result ≡ clash_at self.now word }
-    {
-        let (earlier, later) = self.words.get(&word)?.clash()?;
-        Some(Clash {
-            word,
-            earlier,
-            later,
-        })
     }
 }

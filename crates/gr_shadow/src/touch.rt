@@ -1,15 +1,15 @@
 //! What is kept of an access.
 
 ghost use Rattle.std.specs.Prelude.{◌≡◌, ◌↔◌, IsTrue, true, false, ◌++◌, ◌∷◌, []};
-ghost use Rattle.std.specs.List.{find};
+ghost use Rattle.std.specs.List.{list_any};
 ghost use Rattle.gr_shadow.specs.Clashes.{clashes_with};
-ghost use Rattle.gr_shadow.specs.Keeps.{Keeps, touch_of, touch_clashes, touch_event, is_unseen};
+ghost use Rattle.gr_shadow.specs.Keeps.{Keeps, touch_of, touch_clashes, is_unseen};
 ghost use Rattle.gr_shadow.specs.Lent.{lent_clocked};
 
 use crate::lent::LentAccess;
 use arrayvec::ArrayVec;
 use gr_model::class::{Class, exempt};
-use gr_model::event::{EventId, ItemId};
+use gr_model::event::ItemId;
 use std::alloc::Allocator;
 
 /// How many touches of a word are kept in its shadow itself.
@@ -46,16 +46,6 @@ impl Touch {
             item: access.item,
             index: access.index,
             class: access.class,
-        }
-    }
-
-    /// The event of the access.
-    pub(crate) fn event(&self) -> EventId
-        ensures { result ≡ touch_event self.now }
-    {
-        EventId {
-            at: self.item,
-            index: self.index,
         }
     }
 
@@ -97,14 +87,11 @@ impl Touch {
     }
 }
 
-/// The first of these touches with which an access clashes.
-pub(crate) fn clashing_in<A: Allocator>(
-    touches: &[Touch],
-    access: &LentAccess<'_, A>,
-) -> Option<Touch>
-    ensures { result ≡ find (touch_clashes (lent_clocked access.now)) touches.now }
+/// Whether an access clashes with one of these touches.
+pub(crate) fn clashes_with_one<A: Allocator>(touches: &[Touch], access: &LentAccess<'_, A>) -> bool
+    ensures { result ≡ list_any (touch_clashes (lent_clocked access.now)) touches.now }
 {
-    touches.iter().copied().find(|touch| touch.clashes(access))
+    touches.iter().any(|touch| touch.clashes(access))
 }
 
 /// Keeps a touch if there is one of its item and class, and says whether there is.

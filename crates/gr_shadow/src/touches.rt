@@ -1,7 +1,7 @@
 //! What is kept of the accesses of one class to a word.
 
 ghost use Rattle.std.specs.Prelude.{◌≡◌, OnOk, OnErr, ◌++◌, ◌∷◌, [], IsTrue, ◌↔◌};
-ghost use Rattle.std.specs.List.{All, find};
+ghost use Rattle.std.specs.List.{All, list_any};
 ghost use Rattle.gr_shadow.specs.Keeps.{Keeps, touch_clashes, kept_group, IsOfClass, all_touches, is_unseen};
 ghost use Rattle.gr_shadow.specs.Lent.{lent_clocked};
 
@@ -33,14 +33,11 @@ fn compact<A: Allocator>(touches: &mut Vec<Touch, A>)
     touches.dedup_by(|next, kept| kept.takes(next));
 }
 
-/// The first of these touches that is of another item than a later access, and that its clock does not count.
-fn unseen_in<A: Allocator>(touches: &[Touch], access: &LentAccess<'_, A>) -> Option<Touch>
-    ensures { result ≡ find (is_unseen (lent_clocked access.now)) touches.now }
+/// Whether one of these touches is of another item than a later access, and its clock does not count it.
+fn has_unseen<A: Allocator>(touches: &[Touch], access: &LentAccess<'_, A>) -> bool
+    ensures { result ≡ list_any (is_unseen (lent_clocked access.now)) touches.now }
 {
-    touches
-        .iter()
-        .copied()
-        .find(|touch| touch.is_unseen(access))
+    touches.iter().any(|touch| touch.is_unseen(access))
 }
 
 /// Touches of one class, and where it has group scope of one group: so all of them are exempt with a later access, or
@@ -87,14 +84,12 @@ impl<A: Allocator> Touches<A> {
         self.class == touch.class && self.group == kept_group(touch.class, touch.item.group)
     }
 
-    /// The first of these with which a later access to the same word clashes.
-    pub(crate) fn clashing(&self, access: &LentAccess<'_, A>) -> Option<Touch>
-        ensures { result ≡ find (touch_clashes (lent_clocked access.now)) self.now.touches }
+    /// Whether a later access to the same word clashes with one of these.
+    pub(crate) fn clash(&self, access: &LentAccess<'_, A>) -> bool
+        ensures { result ≡ list_any (touch_clashes (lent_clocked access.now)) self.now.touches }
     {
-        if exempt(self.class, self.group, access.class, access.item.group) {
-            return None;
-        }
-        unseen_in(&self.touches, access)
+        !exempt(self.class, self.group, access.class, access.item.group)
+            && has_unseen(&self.touches, access)
     }
 
     /// Keeps a touch.
@@ -115,20 +110,19 @@ impl<A: Allocator> Touches<A> {
     }
 }
 
-/// The first touch of these lists with which a later access to the same word clashes.
-pub(crate) fn clashing_in_lists<A: Allocator>(
+/// Whether a later access to the same word clashes with a touch of these lists.
+pub(crate) fn clashes_in_lists<A: Allocator>(
     lists: &[Touches<A>],
     access: &LentAccess<'_, A>,
-) -> Option<Touch>
-    ensures { result ≡ find (touch_clashes (lent_clocked access.now)) (all_touches lists.now) }
+) -> bool
+    ensures { result ≡ list_any (touch_clashes (lent_clocked access.now)) (all_touches lists.now) }
 {
     for list in lists {
-        let touch = list.clashing(access);
-        if touch.is_some() {
-            return touch;
+        if list.clash(access) {
+            return true;
         }
     }
-    None
+    false
 }
 
 /// Keeps a touch in the list to which it belongs.
