@@ -12,17 +12,18 @@ use std::alloc::{AllocError, Global};
 
 pub const EXPLAIN_USAGE: &str = "\
 gpurace explain [OPTIONS] <SPACE> <WORD> <FILE>...
-       gpurace explain [OPTIONS] <NAME[INDEX]> <FILE>...";
+       gpurace explain [OPTIONS] <NAME[INDEX]> <FILE>...  (- is standard input)";
 
 pub const HISTORY_USAGE: &str = "\
 gpurace history [OPTIONS] <SPACE> <WORD> <FILE>...
-       gpurace history [OPTIONS] <NAME[INDEX]> <FILE>...";
+       gpurace history [OPTIONS] <NAME[INDEX]> <FILE>...  (- is standard input)";
 
-pub const RACES_USAGE: &str = "gpurace races [OPTIONS] <FILE>...";
+pub const RACES_USAGE: &str = "gpurace races [OPTIONS] <FILE>...  (- is standard input)";
 
-pub const RUN_USAGE: &str = "gpurace run [OPTIONS] <FILE>...";
+pub const RUN_USAGE: &str = "gpurace run [OPTIONS] <FILE>...  (- is standard input)";
 
-pub const WHY_HELD_USAGE: &str = "gpurace why-held [OPTIONS] <GROUP> <ITEM> <INDEX> <FILE>...";
+pub const WHY_HELD_USAGE: &str =
+    "gpurace why-held [OPTIONS] <GROUP> <ITEM> <INDEX> <FILE>...  (- is standard input)";
 
 const ABOUT: &str =
     "Reports the data races of an OpenCL kernel launch, and its divergent barriers, from its trace";
@@ -32,8 +33,8 @@ Reports the data races of an OpenCL kernel launch, and its divergent barriers, f
 
 A race is that of the OpenCL 2.0 memory model: two accesses of different work-items to one word, at least one of
 them a write, not both atomic with inclusive scope, and neither of which happens before the other. The report is
-exact for the trace: it names each word that has a race, each divergent barrier, each acquire that never gets a
-release it names, and no other.";
+exact for the trace: of the records that it judges, it names each word that has a race, each divergent barrier, each
+acquire that never gets a release it names, and no other. It counts the records that it does not judge (`held`).";
 
 const AFTER_HELP: &str = "\
 Files: FILE is a file with one stream, a file with several, a folder as gpurace-record leaves it, or - for standard input.
@@ -54,7 +55,8 @@ Examples:
 
 Exit status:
   0  nothing was found, or what was asked for is done
-  1  something was found: a race; by replay and run also a divergent barrier or an unmatched acquire
+  1  something was found: a race; by replay and run also a divergent barrier or an unmatched acquire; by why-held
+     that the record is held
   2  the trace or a side file was refused; standard error says where and why
   3  the arguments are wrong
   4  memory ran out, or a thread could not be started
@@ -207,8 +209,6 @@ other. Then comes the cause of the race, and after it further races of the word.
 the word, and with --places the place in the source of each of these records, and by its site of each barrier, if the files have it.
 Below a word without a race is how many accesses to it are held: these are not judged, since an unmatched acquire holds them back.
 
-A trace of a million records takes about a second.
-
 If a file of buffers is given, or a folder has one, a word may be given by its name in place of SPACE and WORD, as in
 `gpurace explain FOLDER 'partial[10]'`.",
         ),
@@ -328,7 +328,7 @@ Example:
     },
     Page {
         name: "check",
-        usage: "gpurace check [OPTIONS] <FILE>...",
+        usage: "gpurace check [OPTIONS] <FILE>...  (- is standard input)",
         about: "Reports which record of a trace is at fault, and what would be right",
         long_about: Some(
             "\

@@ -5,8 +5,9 @@
 #![tactic(auto)]
 
 use gr_command::execute::execute;
-use gr_command::status::{FAILED, FOUND, REFUSED, USAGE, status_of_sides_fault};
+use gr_command::status::{FAILED, FOUND, NOTHING, REFUSED, USAGE, status_of_sides_fault};
 use gr_model::memory::Memory;
+use gr_places::shown::Shown;
 use gr_places::sides_fault::write_sides_fault;
 use gr_plan::notes::{note_buffers, report};
 use gr_plan::plan::{Plan, Refusal, plan_of};
@@ -47,7 +48,7 @@ fn refuse(refusal: &Refusal, errors: &mut Stderr) -> u8 {
             status_of_sides_fault(fault)
         }
         Refusal::NoFile(reason) => {
-            let _ = writeln!(errors, "gpurace: {reason}");
+            let _ = writeln!(errors, "gpurace: {}", Shown(reason.as_str()));
             FAILED
         }
         Refusal::Buffers(fault, path) => {
@@ -56,7 +57,7 @@ fn refuse(refusal: &Refusal, errors: &mut Stderr) -> u8 {
             REFUSED
         }
         Refusal::Usage(text) => {
-            let _ = writeln!(errors, "error: {text}");
+            let _ = writeln!(errors, "error: {}", Shown(text.as_str()));
             USAGE
         }
     }
@@ -92,8 +93,11 @@ where
     }
     match outcome {
         Ok(status) => {
-            if status <= FOUND {
-                let _ = plan.note_word(&mut errors);
+            if status <= REFUSED {
+                let _ = plan.note_answer(status == REFUSED, &mut errors);
+            }
+            if let (Some(note), NOTHING | FOUND) = (&plan.note, status) {
+                let _ = writeln!(errors, "gpurace: {}", Shown(note.as_str()));
             }
             Ok(status)
         }

@@ -24,9 +24,9 @@ use Rattle.gr_places.specs.Opening.{HoldsOfAllFiles, IsSidesFault, Pair}
 use Rattle.gr_races.specs.Shown.{HasRace}
 use Rattle.gr_places.specs.Sides.{SidesSaid}
 use Rattle.gr_places.specs.Files.{HoldsOfFiles, IsOpeningFault}
-use Rattle.gr_show.specs.Told.{IsShown, ShowsPrefix}
-use Rattle.gr_show.specs.Rendering.{Renders}
-use Rattle.gr_show.specs.Shown.{AreRaces, IsExplanation, IsHeldIn, IsLine, IsHistoryOf, IsLongAnswer}
+use Rattle.gr_command.specs.Told.{IsShown, ShowsPrefix}
+use Rattle.gr_command.specs.Rendering.{Renders}
+use Rattle.gr_command.specs.Shown.{AreRaces, IsExplanation, IsHeldIn, IsLine, IsHistoryOf, IsLongAnswer}
 use Rattle.gr_report.specs.Putting.{AppendsPrefix}
 use Rattle.gr_streams.specs.Streams.{IsRunFault}
 use Rattle.gr_command.specs.declared.status.TheConstants.{NOTHING, USAGE}

@@ -6,13 +6,13 @@ ghost use Rattle.std.specs.Io.KnownBytes.{Keeps};
 ghost use Rattle.gr_places.specs.Checked.{IsCheckFileFault};
 ghost use Rattle.gr_command.specs.Answers.{ChecksPrefixOfFiles, IsCheckedOfFiles};
 
+use crate::writing::write_text;
 use gr_arguments::request::Arguments;
 use gr_json::check::check_json;
 use gr_model::memory::Memory;
 use gr_places::checking::{Checked, check_files};
 use gr_plain::check::check_text;
 use gr_record::fault::Fault;
-use gr_show::writing::write_text;
 use std::alloc::Global;
 use std::io::{self, Read, Write};
 

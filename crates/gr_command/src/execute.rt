@@ -13,6 +13,9 @@ ghost use Rattle.gr_command.specs.Outcomes.{HasStatus};
 ghost use Rattle.gr_command.specs.Statuses.{check_status, race_status, IsReportStatus};
 
 use crate::checking::write_check;
+use crate::files::tell_files;
+use crate::question::{InJson, JsonQuestion, Question};
+use crate::questions::{HeldEvent, LeastRace, LongRace, Races, WordHistory};
 use crate::reporting::{replay_json, run_files};
 use crate::status::{FAILED, NOTHING, USAGE, status_of_check, status_of_race, status_of_report};
 use clap::Error;
@@ -25,9 +28,6 @@ use gr_places::sides_fault::SidesFault;
 use gr_record::fault::Fault;
 use gr_replay::replay;
 use gr_report::report::Report;
-use gr_show::question::{InJson, JsonQuestion, Question};
-use gr_show::questions::{HeldEvent, LeastRace, LongRace, Races, WordHistory};
-use gr_show::tell_files;
 use gr_text::{dump, dump_partial, pack, upgrade};
 use std::alloc::Global;
 use std::convert::AsStr;
@@ -40,14 +40,9 @@ const NO_WORD: &str = "\
 SPACE and WORD name no word of memory: SPACE is g, or l with a group from 0 to 65534 as in l3, and WORD is a number \
 below 4294967296 in decimal digits";
 
-const NO_COUNT: &str = "N of --most is no number below 4294967296 in decimal digits";
-
 const NO_EVENT: &str = "\
 GROUP, ITEM and INDEX name no event: GROUP and ITEM are numbers below 65536 and INDEX is one below 4294967296, in \
 decimal digits";
-
-const NO_SET_UP: &str = "\
-N of --workers is 1 to 8, N of --queues is 1 to 4, and N of --capacity is 1 to 65536, in decimal digits";
 
 /// Writes help to standard output, or what is wrong with the words to standard error, and gives the status.
 ///
@@ -90,10 +85,8 @@ fn reported(outcome: Result<Report, Fault>) -> Result<u8, SidesFault>
 fn rewritten(outcome: Result<(), Fault>) -> Result<u8, SidesFault>
     ensures { HasStatus (λ done status. status ≡ NOTHING) OfRun outcome result }
 {
-    match outcome {
-        Ok(()) => Ok(NOTHING),
-        Err(fault) => Err(SidesFault::Run(fault)),
-    }
+    outcome?;
+    Ok(NOTHING)
 }
 
 /// Does the task, and gives the exit status.
@@ -122,10 +115,7 @@ fn perform<R: Read, W: Write>(
 fn answered(outcome: Result<bool, SidesFault>) -> Result<u8, SidesFault>
     ensures { HasStatus (λ found status. status ≡ race_status found) (λ f. f) outcome result }
 {
-    match outcome {
-        Ok(found) => Ok(status_of_race(found)),
-        Err(fault) => Err(fault),
-    }
+    Ok(status_of_race(outcome?))
 }
 
 /// Writes the answer to a question about a launch whose streams are in files, as text or as JSON, and gives the exit status.
@@ -165,10 +155,7 @@ where
 fn checked(outcome: Result<bool, Fault>) -> Result<u8, SidesFault>
     ensures { HasStatus (λ accepted status. status ≡ check_status accepted) OfRun outcome result }
 {
-    match outcome {
-        Ok(accepted) => Ok(status_of_check(accepted)),
-        Err(fault) => Err(SidesFault::Run(fault)),
-    }
+    Ok(status_of_check(outcome?))
 }
 
 /// Answers what is asked about a launch whose streams are in files, and gives the exit status.
@@ -214,8 +201,8 @@ fn wrong_usage(why: Misuse) -> (&'static str, &'static str) {
         Misuse::SidesAlone => ("--places and --buffers go with --long", EXPLAIN_USAGE),
         Misuse::NoWordToExplain => (NO_WORD, EXPLAIN_USAGE),
         Misuse::NoWordOfHistory => (NO_WORD, HISTORY_USAGE),
-        Misuse::NoCount => (NO_COUNT, RACES_USAGE),
-        Misuse::NoSetUp => (NO_SET_UP, RUN_USAGE),
+        Misuse::NoCount => ("N of --most is out of range", RACES_USAGE),
+        Misuse::NoSetUp => ("N of an option is out of range", RUN_USAGE),
         Misuse::NoEvent => (NO_EVENT, WHY_HELD_USAGE),
     }
 }

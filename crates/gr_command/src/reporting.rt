@@ -8,6 +8,7 @@ ghost use Rattle.gr_replay.specs.Replays.{IsExact, IsReplayFault};
 ghost use Rattle.gr_report.specs.Whole.{whole_of};
 ghost use Rattle.gr_command.specs.Answers.{IsFaultOfFiles, IsReportOfFiles, WritesPrefixOfFiles, WritesReport, WritesReportPrefix};
 
+use crate::writing::write_text;
 use gr_arguments::request::Arguments;
 use gr_json::report::report_json;
 use gr_model::config::Config;
@@ -15,7 +16,6 @@ use gr_places::opening::open_all;
 use gr_record::fault::Fault;
 use gr_replay::read_report;
 use gr_report::report::Report;
-use gr_show::writing::write_text;
 use gr_streams::{NoWatch, detect_streams, run_streams};
 use std::alloc::Global;
 use std::io::{self, Read, Write};

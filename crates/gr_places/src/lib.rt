@@ -18,6 +18,7 @@ mod neighbours;
 pub mod opening;
 pub mod places;
 pub mod sentences;
+pub mod shown;
 pub mod sides;
 pub mod sides_fault;
 pub mod spot;

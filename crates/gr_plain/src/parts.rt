@@ -7,6 +7,7 @@ use gr_model::event::{EventId, Kind, Word};
 use gr_places::buffers::element_of;
 use gr_places::index::PlaceIndex;
 use gr_places::places::Placed;
+use gr_places::shown::Shown;
 use gr_places::sides::Sides;
 use gr_races::between::Crossing;
 use gr_races::cause::Cause;
@@ -54,7 +55,7 @@ impl Display for AtText<'_> {
     fn fmt<W: fmt::Write>(&self, f: &mut Formatter<W>) -> fmt::Result {
         match self.0 {
             None => Ok(()),
-            Some(place) => write!(f, " at {place}"),
+            Some(place) => write!(f, " at {}", Shown(place)),
         }
     }
 }
@@ -109,7 +110,7 @@ pub(crate) fn put_buffer<A: Allocator>(
 ) -> Added {
     match element_of(sides.buffers, word) {
         None => Ok(()),
-        Some(named) => writeln!(text, "buffer {}[{}]", named.name, named.index),
+        Some(named) => writeln!(text, "buffer {}[{}]", Shown(named.name), named.index),
     }
 }
 

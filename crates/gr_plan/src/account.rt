@@ -1,7 +1,7 @@
 //! What was read of the streams in a series of bytes: where each begins, and how many records there were.
 
 use crate::seen::Seen;
-use gr_model::limits::MOST_GROUPS;
+use gr_model::limits::{MOST_GROUPS, MOST_RECORDS};
 use gr_model::memory::Memory;
 use gr_places::opening::fault_of;
 use gr_record::error::RecordError;
@@ -72,15 +72,25 @@ impl Account {
         Ok(records)
     }
 
-    /// Takes, passes and shows the bytes of a reader, up to its end or to bytes that are not of a stream.
+    /// Takes, passes and shows the bytes of a reader, up to its end or to bytes that are not of a stream. Adds them to those that are kept,
+    /// if some are.
     ///
     /// # Errors
     /// `Read` if the reader fails; `Memory`.
-    pub fn read<R: Read>(&mut self, reader: &mut R, seen: &mut Seen) -> Result<(), Fault> {
+    pub fn read<R: Read>(
+        &mut self,
+        reader: &mut R,
+        seen: &mut Seen,
+        mut kept: Option<&mut Vec<u8>>,
+    ) -> Result<(), Fault> {
         let mut piece = [0u8; PIECE_LENGTH];
         for _ in 0..u64::MAX {
             let n = reader.read(&mut piece).map_err(|error| fault_of(&error))?;
             self.take(&piece[..n], seen)?;
+            self.pass(seen)?;
+            if let Some(kept) = &mut kept {
+                kept.extend_from_slice(&piece[..n]).map_err(Memory::from)?;
+            }
             if n == 0 || self.fault.is_some() {
                 break;
             }
@@ -138,6 +148,9 @@ impl Account {
             }
         }
         let record = self.rest(at).get(..length).ok_or(RecordError::Truncated)?;
+        if judges && self.records >= MOST_RECORDS as u64 {
+            return Err(RecordError::TooManyRecords);
+        }
         let is_end = record.first() == Some(&END);
         match read_event(header, record) {
             Err(error) if judges || error == RecordError::BadKind => return Err(error),

@@ -1,6 +1,6 @@
 //! The streams of the files on the command line: a file may have several, a folder has a file for each, and `-` is standard input.
 
-use crate::account::{Account, begins_stream};
+use crate::account::Account;
 use crate::line::Line;
 use crate::notes::reason_of;
 use crate::plan::Refusal;
@@ -9,8 +9,6 @@ use crate::seen::{Seen, Sited};
 use crate::source::{Piece, Source, file_size};
 use gr_model::memory::Memory;
 use gr_record::fault::Fault;
-use gr_record::input::read_all;
-use gr_record::layout::HEADER_LENGTH;
 use indexmap::IndexMap;
 use std::alloc::Global;
 use std::fs::{self, File};
@@ -65,16 +63,6 @@ pub fn no_file(alloc: Global, path: &str, error: &io::Error) -> Refusal {
 /// All bytes of a side file.
 pub fn read_file(rt: HostRuntime, path: &str) -> Result<Vec<u8>, Refusal> {
     fs::read(&rt, path).map_err(|error| no_file(rt.alloc(), path, &error))
-}
-
-/// All bytes of standard input or of a pipe; but only the first ones if they begin no stream, since a device may have no end.
-fn bytes_of_pipe(alloc: Global, mut source: Source) -> Result<Vec<u8>, Fault> {
-    let head = read_all(alloc, &mut source.by_ref().take(HEADER_LENGTH as u64))?;
-    if !begins_stream(&head) {
-        return Ok(head);
-    }
-    let mut whole = head.as_slice().chain(source);
-    read_all(alloc, &mut whole)
 }
 
 /// The sorted paths of what is in a folder, if its name has this ending.
@@ -152,6 +140,8 @@ pub struct Files {
     pub seen: Seen,
     /// The first file that ends inside a stream, among those that were read.
     pub torn: Option<String>,
+    /// The first fault of a record in standard input or in a pipe, after which no more was read of it.
+    pub refused: Option<Fault>,
 }
 
 impl Files {
@@ -167,6 +157,7 @@ impl Files {
             takes_sides: false,
             seen: Seen::default(),
             torn: None,
+            refused: None,
         }
     }
 
@@ -220,12 +211,24 @@ impl Files {
         }
     }
 
-    /// Where each stream of a reader begins. The reader is of what has this name.
-    fn starts_of<R: Read>(&mut self, name: &str, reader: &mut R) -> Result<Vec<u64>, Fault> {
-        let mut account = Account::new(self.rt.alloc(), false);
-        account.read(reader, &mut self.seen)?;
+    /// Where each stream of a reader begins. The reader is of what has this name. If its bytes are to be kept, it may have no end, and is read
+    /// up to its first fault.
+    fn starts_of<R: Read>(
+        &mut self,
+        name: &str,
+        reader: &mut R,
+        kept: Option<&mut Vec<u8>>,
+    ) -> Result<Vec<u64>, Fault> {
+        let mut account = Account::new(self.rt.alloc(), kept.is_some());
+        account.read(reader, &mut self.seen, kept)?;
         if self.torn.is_none() && account.is_torn() {
             self.torn = Some(self.copy_of(name)?);
+        }
+        if account.is_refused() && account.header.is_some() {
+            let streams = self.names.len().saturating_add(account.starts.len());
+            let stream = streams.saturating_sub(1) as u64;
+            let fault = account.fault.map(|error| Fault::Stream(stream, error));
+            self.refused = self.refused.or(fault);
         }
         Ok(account.starts)
     }
@@ -239,6 +242,12 @@ impl Files {
     fn add_name(&mut self, name: &str) -> Result<(), Memory> {
         let name = self.copy_of(name)?;
         Ok(self.names.push(name)?)
+    }
+
+    /// Adds the name of what can't be opened or read. What was seen of the records is then not all.
+    fn add_unseen(&mut self, name: &str) -> Result<(), Memory> {
+        self.seen.sought = None;
+        self.add_name(name)
     }
 
     /// Has a name open a piece. A name that has one keeps it.
@@ -263,11 +272,11 @@ impl Files {
     /// Adds the streams of standard input or of a pipe. A pipe that can't be opened stays a name.
     fn add_bytes(&mut self, name: &str) -> Result<(), Fault> {
         let alloc = self.rt.alloc();
-        let Ok(source) = Source::open(self.rt, name, 1) else {
-            return Ok(self.add_name(name)?);
+        let Ok(mut source) = Source::open(self.rt, name, 1) else {
+            return Ok(self.add_unseen(name)?);
         };
-        let bytes = bytes_of_pipe(alloc, source)?;
-        let starts = self.starts_of(name, &mut bytes.as_slice())?;
+        let mut bytes = Vec::new(alloc);
+        let starts = self.starts_of(name, &mut source, Some(&mut bytes))?;
         let whole = Piece::of_bytes(alloc, bytes)?;
         if starts.len() > 1 {
             return Ok(self.add_parts(name, &whole, &starts)?);
@@ -280,15 +289,16 @@ impl Files {
     fn add_file(&mut self, path: &str) -> Result<(), Fault> {
         let rt = self.rt;
         let Ok(mut file) = File::open(&rt, path) else {
-            return Ok(self.add_name(path)?);
+            return Ok(self.add_unseen(path)?);
         };
-        match self.starts_of(path, &mut file) {
+        match self.starts_of(path, &mut file, None) {
             Ok(starts) if starts.len() > 1 => {
                 let whole = Piece::of_file(rt, self.copy_of(path)?);
                 Ok(self.add_parts(path, &whole, &starts)?)
             }
+            Ok(_) => Ok(self.add_name(path)?),
             Err(Fault::Memory) => Err(Fault::Memory),
-            Ok(_) | Err(_) => Ok(self.add_name(path)?),
+            Err(_) => Ok(self.add_unseen(path)?),
         }
     }
 

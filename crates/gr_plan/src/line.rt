@@ -1,5 +1,8 @@
 //! The words of a command line: the command, its options, and the others.
 
+use crate::plan::Refusal;
+use gr_arguments::words::number_of;
+use gr_model::limits::{MOST_PLACES, MOST_QUEUES, MOST_WORKERS};
 use gr_model::memory::Memory;
 
 /// What a command does with the files that it is given.
@@ -107,6 +110,25 @@ impl<'a> Line<'a> {
             }
             word.strip_prefix(option)?.strip_prefix('=')
         })
+    }
+
+    /// Refuses the first option whose value is no number that it may have.
+    pub fn check_numbers(&self) -> Result<(), Refusal> {
+        for (option, least, most) in [
+            ("--most", 0, u32::MAX),
+            ("--workers", 1, u32::from(MOST_WORKERS)),
+            ("--queues", 1, u32::from(MOST_QUEUES)),
+            ("--capacity", 1, MOST_PLACES),
+        ] {
+            let value = self.value_of(option).unwrap_or("1");
+            if !number_of(value).is_some_and(|number| (least..=most).contains(&number)) {
+                let text = format!(in self.rt.alloc();
+                    "{option} takes a number from {least} to {most}, not '{value}'"
+                );
+                return Err(Refusal::Usage(text.map_err(Memory::from)?));
+            }
+        }
+        Ok(())
     }
 
     /// The path that an option gives, if it is there.

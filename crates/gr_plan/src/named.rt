@@ -4,7 +4,7 @@
 use crate::files::{FileKind, buffers_of, file_kind, launch_in, no_file, read_file};
 use crate::line::{Line, Taking, taking_of};
 use crate::plan::Refusal;
-use gr_arguments::words::group_of;
+use gr_arguments::words::{group_of, number_of};
 use gr_model::event::Word;
 use gr_model::memory::Memory;
 use gr_places::buffers::{BufferLine, Element, buffers_of as lines_said, element_of};
@@ -16,6 +16,11 @@ use std::fs;
 /// What is reported about a name if no file says which word has it.
 const NO_BUFFERS: &str =
     "is the name of a word, and there is no file of buffers that says which: give a folder that has one, or --buffers FILE";
+
+/// What is due for a number without a memory, and for a name without an index.
+const NO_SPACE: &str = "before a number comes its memory, which is g, or l with a group as in l3";
+
+const NO_INDEX: &str = "a name is NAME[INDEX], whose index counts words, as in tile[4]";
 
 /// How many names, or memories, are shown at most.
 const MOST_SHOWN: usize = 8;
@@ -199,11 +204,11 @@ impl Naming<'_, '_> {
         let mut kinds = self.files.iter().map(|file| file_kind(rt, file));
         let has_files = !self.files.is_empty() && kinds.all(|kind| kind != FileKind::Missing);
         let is_alone = self.space.is_none() && path.is_none() && has_files;
-        if self.name.contains('[') || is_alone {
-            let name = self.name;
-            let text = format!(in rt.alloc();
-                "{name} names no word: a name is NAME[INDEX], whose index counts words, as in tile[4]"
-            );
+        let is_number = self.name.is_empty() || number_of(self.name).is_some();
+        let is_number = is_number && self.space.is_none();
+        if is_number || is_alone || self.name.contains('[') {
+            let due = if is_number { NO_SPACE } else { NO_INDEX };
+            let text = format!(in rt.alloc(); "'{}' names no word: {due}", self.name);
             return Err(Refusal::Usage(text.map_err(Memory::from)?));
         }
         let Some(path) = path else {

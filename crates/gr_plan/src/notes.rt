@@ -19,8 +19,24 @@ const PLACE: &str = "GROUP ITEM INDEX TEXT, or SITE TEXT; TEXT begins with no di
 
 const BUFFER: &str = "g FIRST WORDS NAME, or l GROUP FIRST WORDS NAME";
 
-/// Writes the line of a fault of a command, and what is added to it.
+/// Writes the line of a fault of a command, and what is added to it. If no more was read of a pipe after a record that is refused, that is
+/// the fault, and not a group that is missing.
 pub fn report(
+    plan: &mut Plan,
+    command: &str,
+    fault: &SidesFault,
+    errors: &mut Stderr,
+) -> io::Result<()> {
+    match (*fault, plan.files.refused) {
+        (SidesFault::Run(Fault::MissingGroup(_)), Some(refused)) => {
+            report_fault(plan, command, &SidesFault::Run(refused), errors)
+        }
+        (fault, _) => report_fault(plan, command, &fault, errors),
+    }
+}
+
+/// Writes the line of a fault, and what is added to it.
+fn report_fault(
     plan: &mut Plan,
     command: &str,
     fault: &SidesFault,
@@ -70,13 +86,26 @@ fn note(plan: &mut Plan, command: &str, fault: &Fault, errors: &mut Stderr) -> i
             Some(name) => writeln!(errors, "gpurace: {name}: its last stream has no end"),
         },
         Fault::MissingGroup(_) => match &plan.files.torn {
-            None => Ok(()),
+            None => note_missing(plan, errors),
             Some(name) => writeln!(
                 errors,
                 "gpurace: {name}: its last stream is truncated, and streams after it may be lost"
             ),
         },
         _ => Ok(()),
+    }
+}
+
+/// Reports which files have no stream of a group, unless they are standard input alone.
+fn note_missing(plan: &Plan, errors: &mut Stderr) -> io::Result<()> {
+    let mut names = plan.reading.names.iter().chain(&plan.files.names);
+    match (names.next(), names.last()) {
+        (None, _) => Ok(()),
+        (Some(name), None) => writeln!(errors, "gpurace: {name}: it has no stream of this group"),
+        (Some(name), Some(last)) => writeln!(
+            errors,
+            "gpurace: {name} to {last}: none has a stream of this group"
+        ),
     }
 }
 
@@ -163,6 +192,7 @@ fn unread_of(plan: &Plan) -> Option<(&str, io::Error)> {
 /// The name of a file, and why it can't be opened or read.
 pub fn reason_of(alloc: Global, name: &str, error: &io::Error) -> Result<String, AllocError> {
     let text = format!(in alloc; "{error}")?;
+    let name = if name.is_empty() { "''" } else { name };
     match text.as_str().split_once(" (os error ") {
         None => format!(in alloc; "{name}: {text}"),
         Some((message, _)) => format!(in alloc; "{name}: {message}"),
@@ -249,7 +279,7 @@ fn account_again(plan: &Plan, name: &str) -> Option<Account> {
     let mut source = plan.files.open(name).ok()?;
     let mut account = Account::new(plan.rt.alloc(), false);
     account.last = Some(0);
-    match account.read(&mut source, &mut Seen::default()) {
+    match account.read(&mut source, &mut Seen::default(), None) {
         Err(Fault::Memory) => None,
         Ok(()) | Err(_) => Some(account),
     }

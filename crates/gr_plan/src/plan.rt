@@ -27,7 +27,7 @@ pub struct Plan {
     pub reading: Reading,
     pub files: Files,
     /// A note about the name of a word, if other words have it, too.
-    note: Option<String>,
+    pub note: Option<String>,
 }
 
 /// Why nothing is done.
@@ -88,16 +88,15 @@ impl Plan {
         Ok(())
     }
 
-    /// Reports what an answer does not say about its word: that records were lost, that nothing accesses it, and that its name is in
-    /// several memories.
-    pub fn note_word(&self, errors: &mut Stderr) -> io::Result<()> {
-        if let Some(sought) = &self.files.seen.sought {
-            sought.report(errors)?;
+    /// Reports what an answer does not say about its word or its record, or a check that refuses its files about one that is empty.
+    pub fn note_answer(&self, is_refused: bool, errors: &mut Stderr) -> io::Result<()> {
+        let mut names = self.files.names.iter().filter(|_| is_refused);
+        let empty = names.find(|name| self.files.size_of(name.as_str()) == Some(0));
+        match (empty, &self.files.seen.sought) {
+            (Some(name), _) => writeln!(errors, "gpurace: {name}: the file is empty"),
+            (None, Some(sought)) => sought.report(errors),
+            (None, None) => Ok(()),
         }
-        if let Some(note) = &self.note {
-            writeln!(errors, "gpurace: {note}")?;
-        }
-        Ok(())
     }
 
     /// How many bytes are read, if that is known.
@@ -115,6 +114,13 @@ impl Plan {
     /// Takes the words of a command line. If they are not a command on files, they stay as they are, and the input is standard input.
     fn take_words(&mut self, words: &[String]) -> Result<(), Refusal> {
         let Some(line) = line_of(self.rt, words)? else {
+            if let [help, word] = words
+                && help.as_str() == "help"
+                && taking_of(word.as_str()).is_none()
+            {
+                // by itself an unknown command is refused with those that are like it
+                self.words = Some(copies_of(self.rt.alloc(), &[word.as_str()])?);
+            }
             return Ok(());
         };
         let Some(Taking::Each(leading)) = taking_of(line.command) else {
@@ -130,6 +136,7 @@ impl Plan {
         if let (2, Some((word, names))) = (leading, word_at_end(&line.values)) {
             return self.take_each(&line, word, names);
         }
+        line.check_numbers()?;
         naming_in(&line, false).map_or(Ok(()), |naming| naming.check())
     }
 
@@ -154,9 +161,7 @@ impl Plan {
         before: &[&str],
         names: &[&str],
     ) -> Result<(), Refusal> {
-        if let [space, number] = before {
-            self.files.seen.sought = Sought::new(space, number);
-        }
+        self.files.seen.sought = Sought::new(before);
         self.files.add_all(line, names)?;
         self.words = Some(words_with(line, before, &self.files)?);
         Ok(())

@@ -1,48 +1,79 @@
-//! What is seen in the records of files while their streams are found: whether they access the word that is asked for, and where in the
-//! source they are, by their sites and the folder's file `sites`.
+//! What is seen in the records of files while their streams are found: whether they access the word that is asked for, or how many there
+//! are of the item of the record that is asked for; and where in the source they are, by their sites and the folder's file `sites`.
 
-use gr_arguments::words::word_named;
-use gr_model::event::{Event, Kind, Word, word_of};
+use gr_arguments::words::{event_named, word_named};
+use gr_model::event::{Event, EventId, ItemId, Kind, Word, word_of};
 use gr_model::memory::Memory;
 use gr_record::header::Header;
 use itoa::Buffer;
 use std::alloc::Global;
 use std::io::{self, Stderr, Write};
 
-/// A word that is asked for, and what was seen of it.
+/// What is asked for.
+#[derive(Clone, Copy)]
+enum Asked {
+    Word(Word),
+    Record(EventId),
+}
+
+/// A word or a record that is asked for, and what was seen of it.
 #[derive(Clone, Copy)]
 pub struct Sought {
-    word: Word,
-    is_accessed: bool,
-    /// Whether the group of the word's local memory was seen.
+    asked: Asked,
+    /// How many accesses to the word, or records of the record's item, were seen.
+    seen: u32,
+    /// Whether the group of the record, or of the word's local memory, was seen.
     has_group: bool,
-    /// The first group that is cut and may have accessed the word, and how many such groups there are.
+    /// The first group that is cut and may have it, and how many such groups there are.
     cut: Option<(u16, u32)>,
 }
 
 impl Sought {
-    /// The word that the command line names. Nothing of it was seen.
-    pub fn new(space: &str, number: &str) -> Option<Sought> {
+    /// The word or the record that the command line names before the files. Nothing of it was seen.
+    pub fn new(words: &[&str]) -> Option<Sought> {
+        let asked = match words {
+            [space, number] => Asked::Word(word_named(space, number)?),
+            [group, item, index] => Asked::Record(event_named(group, item, index)?),
+            _ => return None,
+        };
         Some(Sought {
-            word: word_named(space, number)?,
-            is_accessed: false,
+            asked,
+            seen: 0,
             has_group: false,
             cut: None,
         })
     }
 
+    /// The group that alone may have it, if there is one.
+    fn group(&self) -> Option<u16> {
+        match self.asked {
+            Asked::Word(Word::Global(_)) => None,
+            Asked::Word(Word::Local(group, _)) => Some(group),
+            Asked::Record(event) => Some(event.at.group),
+        }
+    }
+
     /// Sees a record of a group.
     fn pass(&mut self, group: u16, event: &Event) {
-        self.is_accessed |= word_of(group, event) == Some(self.word);
-        let may_access = !matches!(self.word, Word::Local(of, _) if of != group);
-        if may_access && event.kind == (Kind::End { cut: true }) {
+        let is_counted = match self.asked {
+            Asked::Word(word) => word_of(group, event) == Some(word),
+            Asked::Record(EventId { at, .. }) => {
+                (at.group, at.item) == (group, event.item) && !event.kind.is_end()
+            }
+        };
+        self.seen = self.seen.saturating_add(u32::from(is_counted));
+        let may_have = self.group().is_none_or(|of| of == group);
+        if may_have && event.kind == (Kind::End { cut: true }) {
             let (first, groups) = self.cut.unwrap_or((group, 0));
             self.cut = Some((first.min(group), groups.saturating_add(1)));
         }
     }
 
-    /// Reports if no record accesses the word, and if records were lost that may.
+    /// Reports if no record accesses the word, or if the record is not there, and if records were lost that may.
     pub fn report(&self, errors: &mut Stderr) -> io::Result<()> {
+        if matches!(self.asked, Asked::Record(event) if event.index < self.seen) {
+            return Ok(());
+        }
         match self.cut {
             None => {}
             Some((group, 1)) => writeln!(errors, "gpurace: records of group {group} were lost")?,
@@ -51,18 +82,23 @@ impl Sought {
                 "gpurace: records of {groups} groups were lost (the first is group {group})"
             )?,
         }
-        match self.word {
-            Word::Local(group, _) if !self.has_group => {
+        match (self.group(), self.asked) {
+            (Some(group), _) if !self.has_group => {
                 writeln!(errors, "gpurace: the launch has no group {group}")
             }
-            _ if self.is_accessed => Ok(()),
-            Word::Global(word) => {
+            (_, Asked::Record(EventId { at, .. })) => {
+                let (ItemId { group, item }, records) = (at, self.seen);
                 writeln!(
                     errors,
-                    "gpurace: no record accesses word {word} of global memory"
+                    "gpurace: item {item} of group {group} has fewer records: {records}"
                 )
             }
-            Word::Local(group, word) => writeln!(
+            _ if self.seen > 0 => Ok(()),
+            (_, Asked::Word(Word::Global(word))) => writeln!(
+                errors,
+                "gpurace: no record accesses word {word} of global memory"
+            ),
+            (_, Asked::Word(Word::Local(group, word))) => writeln!(
                 errors,
                 "gpurace: no record accesses word {word} of group {group}'s local memory"
             ),
@@ -145,7 +181,7 @@ impl Sited {
 pub struct Seen {
     /// Makes the places of a folder from its sites, if these are wanted.
     pub sited: Option<Sited>,
-    /// Looks for a word, if one is asked for.
+    /// Looks for a word or a record, if one is asked for.
     pub sought: Option<Sought>,
 }
 
@@ -153,7 +189,7 @@ impl Seen {
     /// Passes the header of a stream.
     pub fn begin(&mut self, header: &Header) -> Result<(), Memory> {
         if let Some(sought) = &mut self.sought {
-            sought.has_group |= matches!(sought.word, Word::Local(of, _) if of == header.group);
+            sought.has_group |= sought.group() == Some(header.group);
         }
         if let Some(sited) = &mut self.sited {
             sited.passed.clear();

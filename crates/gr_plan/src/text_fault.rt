@@ -71,14 +71,19 @@ fn is_site(word: &[u8]) -> bool {
     number.is_some_and(|site| site > 0)
 }
 
-/// What is due at this place of the line of a header. The end of the line gives the version.
-fn due_in_header(line: &[u8], at: usize) -> Due {
-    let version = match line {
-        [.., b' ', b'v', b'4'] => Version::Four,
-        [.., b' ', b'v', b'3'] => Version::Three,
-        [.., b' ', b'v', b'2'] => Version::Two,
+/// The version of the stream of a line. That of a header is at the end of its line.
+fn version_of(place: Place, line: &[u8]) -> Version {
+    match (place, line) {
+        (Place::Inside { header, .. }, _) => header.version,
+        (_, [.., b' ', b'v', b'4']) => Version::Four,
+        (_, [.., b' ', b'v', b'3']) => Version::Three,
+        (_, [.., b' ', b'v', b'2']) => Version::Two,
         _ => Version::One,
-    };
+    }
+}
+
+/// What is due at this place of the line of a header of this version.
+fn due_in_header(version: Version, at: usize) -> Due {
     match at {
         0 => Due::Header,
         1 => Due::Number("a group", version.most_groups()),
@@ -130,6 +135,28 @@ fn due_in_record(header: Header, line: &[u8], at: usize) -> Due {
     }
 }
 
+/// What is due at this place of a line, if its stream is of this version.
+fn due_at(place: Place, version: Version, line: &[u8], at: usize) -> Due {
+    match place {
+        Place::Outside => due_in_header(version, at),
+        Place::Inside { header, .. } => due_in_record(Header { version, ..header }, line, at),
+    }
+}
+
+/// What would allow the word at this place of a line: no zero before it, another version, or another order; nothing if none would.
+fn remedy(place: Place, line: &[u8], at: usize) -> &'static str {
+    let word = word_or_none(line, at);
+    let allows = |version| due_at(place, version, line, at).is_met(word);
+    match version_of(place, line) {
+        _ if matches!(word, [b'0', b'0'..=b'9', ..]) => ", without a leading zero",
+        Version::One if allows(Version::Three) => "; allowed if the header ends with v3 or v4",
+        Version::One if allows(Version::Two) => "; allowed if the header ends with v2 or v4",
+        _ if allows(Version::Four) => "; allowed if the header ends with v4",
+        _ if is_word(word, "<") && at <= 6 => "; names need the order acq or both",
+        _ => "",
+    }
+}
+
 impl Due {
     /// Whether a word is one that is due.
     fn is_met(self, word: &[u8]) -> bool {
@@ -165,32 +192,19 @@ fn put_due(to: &mut Stderr, due: Due) -> io::Result<()> {
     write!(to, "{}{last}", if words.is_empty() { "" } else { or })
 }
 
-/// Writes the first bytes of a word; a byte that is not visible ASCII is a question mark, but a carriage return is `\r`.
-fn put_shown(to: &mut Stderr, word: &[u8]) -> io::Result<()> {
-    for byte in word.iter().take(MOST_SHOWN) {
-        match *byte {
-            b'\r' => to.write_all(b"\\r")?,
-            byte if byte.is_ascii_graphic() => to.write_all(&[byte])?,
-            _ => to.write_all(b"?")?,
-        }
-    }
-    Ok(())
-}
-
-/// Writes the word at fault at a place of a line, and what is due there.
-fn put_bad_word(to: &mut Stderr, line: &[u8], at: usize, due: Due) -> io::Result<()> {
+/// Writes the word at fault at a place of a line, what is due there, and what would allow the word.
+fn put_bad_word(to: &mut Stderr, place: Place, line: &[u8], at: usize) -> io::Result<()> {
     write!(to, ", word {}: ", at.saturating_add(1))?;
+    let word = word_or_none(line, at);
+    let shown = word.get(..MOST_SHOWN).unwrap_or(word).escape_ascii();
     match word_at(line, at) {
         None => write!(to, "the line ends")?,
         Some([]) => write!(to, "a space too many")?,
-        Some(word) => put_shown(to, word)?,
+        Some(_) => write!(to, "{shown}")?,
     }
     write!(to, "; expected ")?;
-    put_due(to, due)?;
-    match word_at(line, at) {
-        Some([b'0', b'0'..=b'9', ..]) => writeln!(to, ", without a leading zero"),
-        Some(_) | None => writeln!(to, ""),
-    }
+    put_due(to, due_at(place, version_of(place, line), line, at))?;
+    writeln!(to, "{}", remedy(place, line, at))
 }
 
 /// Writes which word is at fault in the first line at fault of a text, and what is due in its place. The line is called `name`.
@@ -200,14 +214,11 @@ pub fn put_bad_line(to: &mut Stderr, text: &[u8], name: &str) -> io::Result<()> 
     };
     write!(to, "gpurace: {name}")?;
     for at in 0..usize::MAX {
-        let due = match place {
-            Place::Outside => due_in_header(line, at),
-            Place::Inside { header, .. } => due_in_record(header, line, at),
-        };
+        let due = due_at(place, version_of(place, line), line, at);
         match word_at(line, at) {
             Some(word) if due.is_met(word) => {}
             None if matches!(due, Due::Last(_, _)) => break,
-            Some(_) | None => return put_bad_word(to, line, at, due),
+            Some(_) | None => return put_bad_word(to, place, line, at),
         }
     }
     writeln!(to, ": its names do not ascend by group, item and number")

@@ -6,10 +6,6 @@ use Rattle.gr_model.proofs.StreamPrefixes.{next_ok, next_room, next_unended}
 use Rattle.gr_lanes.specs.Takes.{CanTake, IsEventButItem, with_record}
 use Rattle.gr_taking.specs.Sources.{AreTakenFrom, MayTake}
 
--- streams with these lists
-abbrev with_lists : Streams → List (List Event) → Streams
-with_lists s lists = record { sizes = s.sizes; lists = lists }
-
 -- the first of the records to come was taken
 one_taken_from : (s t new : Streams) (g : ℕ) (old rest : List Event) (e : Event) → g < length s.lists → AreTakenFrom s g old t (e ∷ rest) → new ≡ with_record t g e → AreTakenFrom s g old new rest
 one_taken_from s t new g old rest e there from is = grind (arith, append_assoc, get_or-set_same, set-set)

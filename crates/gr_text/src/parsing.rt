@@ -2,7 +2,7 @@
 
 ghost use Rattle.std.specs.Prelude.{◌≡◌, ◌≢◌, ◌^◌, ◌<◌, ◌++◌, ℕ, List, Some, None, IfSome, MatchOption, All, decimal, ◌≤◌, take, []};
 ghost use Rattle.std.specs.Option.{option_map};
-ghost use Rattle.gr_text.specs.Prelude.{at_end, space_said, scope_said, order_said, flags_said, header_made, header_said, version_said, name_said, names_said, kind_said, atomic_said, barrier_said, event_said, checked, line_said, sited_said, Line, SitedLine, line_text, sited_text, IsSaid, IsSitedSaid, Two};
+ghost use Rattle.gr_text.specs.Prelude.{at_end, space_said, scope_said, order_said, flags_said, header_made, header_said, version_said, name_said, names_said, kind_said, atomic_said, barrier_said, event_said, checked, line_said, sited_said, Line, SitedLine, line_text, IsSaid, Two};
 
 use crate::line::{Line, SitedLine};
 use crate::words::{is_word, parse_number, parse_short, split_at_mark, split_word};
@@ -296,35 +296,12 @@ pub(crate) fn read_sited_line(version: Version, line: &[u8]) -> Option<SitedLine
 
 /// What a line says, given without its line feed, or `None` if the text form of a stream of versions 1 and 2 has no such
 /// line (docs/FORMATS.md, "Text form").
+#[tactic(auto, using(crate::proofs::LineSites::line_told, crate::proofs::LinesAgain::text_is_read))]
 pub fn parse_line(line: &[u8]) -> Option<Line>
     // What is read has this line.
     ensures found { IfSome result (λ l. IsSaid Two l × (line.now ≡ line_text l)) }
     // What has this line is read.
     ensures only { (l : Line) → IsSaid Two l → line.now ≡ line_text l → result ≡ Some l }
 {
-    parse_line_of(Version::Two, line)
-}
-
-/// What a line says, given without its line feed, or `None` if the text form of a stream of this version has no such line
-/// (docs/FORMATS.md, "Text form"). A header is read whatever its own version is.
-#[tactic(auto, using(crate::proofs::LineSites::line_told, crate::proofs::LinesAgain::text_is_read))]
-pub fn parse_line_of(version: Version, line: &[u8]) -> Option<Line>
-    // What is read has this line.
-    ensures found { IfSome result (λ l. IsSaid version l × (line.now ≡ line_text l)) }
-    // What has this line is read.
-    ensures only { (l : Line) → IsSaid version l → line.now ≡ line_text l → result ≡ Some l }
-{
-    read_line(version, line)
-}
-
-/// What a line says with its site, given without its line feed, or `None` if the text form of a stream of this version has
-/// no such line (docs/FORMATS.md, "Text form"). A header is read whatever its own version is, and has no site.
-#[tactic(auto, using(crate::proofs::LineSites::sited_told, crate::proofs::LineSites::sited_text_is_read))]
-pub fn parse_sited_line(version: Version, line: &[u8]) -> Option<SitedLine>
-    // What is read has this line.
-    ensures found { IfSome result (λ l. IsSitedSaid version l × (line.now ≡ sited_text l)) }
-    // What has this line is read.
-    ensures only { (l : SitedLine) → IsSitedSaid version l → line.now ≡ sited_text l → result ≡ Some l }
-{
-    read_sited_line(version, line)
+    read_line(Version::Two, line)
 }

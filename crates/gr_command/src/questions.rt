@@ -6,8 +6,8 @@ ghost use Rattle.gr_races.specs.Accounts.{account_said};
 ghost use Rattle.gr_races.specs.Shown.{HasRace};
 ghost use Rattle.gr_timeline.specs.Racy.{IsRacyIn};
 ghost use Rattle.gr_timeline.specs.Why.{IsWhy, answer_of};
-ghost use Rattle.gr_show.specs.Rendering.{Renders};
-ghost use Rattle.gr_show.specs.Shown.{AreRaces, IsExplanation, IsHeldIn, IsLine, IsLongAnswer, IsHistoryOf, history_said, races_said};
+ghost use Rattle.gr_command.specs.Rendering.{Renders};
+ghost use Rattle.gr_command.specs.Shown.{AreRaces, IsExplanation, IsHeldIn, IsLine, IsLongAnswer, IsHistoryOf, history_said, races_said};
 
 use crate::question::{JsonQuestion, OrMemory, Question, Text};
 use gr_explain::explain::explain;

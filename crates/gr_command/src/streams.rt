@@ -6,8 +6,8 @@ ghost use Rattle.gr_replay.specs.Each.{IsEachFault, all_known};
 ghost use Rattle.gr_places.specs.Files.{IsShowFault};
 ghost use Rattle.gr_places.specs.Sides.{sides_said};
 ghost use Rattle.gr_timeline.specs.Racy.{IsRacyIn};
-ghost use Rattle.gr_show.specs.Shown.{IsLine};
-ghost use Rattle.gr_show.specs.Told.{IsShown, IsTold, ShowsPrefix};
+ghost use Rattle.gr_command.specs.Shown.{IsLine};
+ghost use Rattle.gr_command.specs.Told.{IsShown, IsTold, ShowsPrefix};
 
 use crate::question::{Question, Rendered};
 use crate::questions::LeastRace;

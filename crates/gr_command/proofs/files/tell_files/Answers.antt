@@ -1,6 +1,6 @@
 use Rattle.gr_model.proofs.Common.{inr, err_from_is_err_and}
-use Rattle.gr_show.proofs.StreamLemmas.{writing_fault}
-use Rattle.gr_show.proofs.files.tell_files.Goals as goal
+use Rattle.gr_command.proofs.StreamLemmas.{writing_fault}
+use Rattle.gr_command.proofs.files.tell_files.Goals as goal
 
 pub returns-in_err-write_text-clause-fault : goal.returns-in_err-write_text-clause-fault
 returns-in_err-write_text-clause-fault g c =

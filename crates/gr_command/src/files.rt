@@ -5,7 +5,7 @@ ghost use Rattle.std.specs.Fn.{FnReturnsAt};
 ghost use Rattle.std.specs.Io.KnownBytes.{Keeps};
 ghost use Rattle.gr_record.specs.declared.fault.Fault.TheVariants as faults;
 ghost use Rattle.gr_places.specs.Opening.{HoldsOfAllFiles, IsSidesFault, side_names};
-ghost use Rattle.gr_show.specs.Told.{IsShown, IsTold, ShowsPrefix};
+ghost use Rattle.gr_command.specs.Told.{IsShown, IsTold, ShowsPrefix};
 ghost use Rattle.gr_places.specs.declared.sides_fault.SidesFault.TheVariants.{Run as ARun};
 
 use crate::question::{Question, Rendered};

@@ -1,8 +1,8 @@
 use Rattle.gr_model.proofs.Common.{◌∙◌, ap, sym, err_from_is_err_and}
 use Rattle.gr_places.specs.SideLines.{buffers_in, places_in}
 use Rattle.gr_places.proofs.FileLemmas.{buffers_refused, holds_of_all, places_refused, streams_refused, unread}
-use Rattle.gr_show.proofs.StreamLemmas.{shown_fault}
-use Rattle.gr_show.proofs.files.answer_of_files.Goals as goal
+use Rattle.gr_command.proofs.StreamLemmas.{shown_fault}
+use Rattle.gr_command.proofs.files.answer_of_files.Goals as goal
 
 pub returns-in_err-place_bytes-clause-fault : goal.returns-in_err-place_bytes-clause-fault
 returns-in_err-place_bytes-clause-fault g c =

@@ -1,2 +1,0 @@
-pub mod StreamLemmas
-pub mod ShownLemmas
