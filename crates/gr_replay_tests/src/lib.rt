@@ -1,4 +1,4 @@
-//! Tests alone: refused growths, failing readers and writers, and what is read of streams.
+//! Tests alone: facts of records and streams, and reports and faults that no file has.
 #![tactic(auto)]
 
 #[cfg(test)]
@@ -7,7 +7,3 @@ mod each;
 mod facts;
 #[cfg(test)]
 mod formats;
-#[cfg(test)]
-mod launches;
-#[cfg(test)]
-mod waiting;

@@ -1,33 +1,7 @@
-//! Readers that fail, and writers that fail.
+//! Writers that fail.
 
 use std::alloc::Global;
-use std::io::{self, ErrorKind, Read, Write};
-
-/// Gives one byte at a call, and fails at its last call.
-#[derive(Drop)]
-pub struct FailingReader<'a> {
-    /// What it has left.
-    pub bytes: &'a [u8],
-    /// How many calls succeed.
-    pub calls: usize,
-}
-
-impl Read for FailingReader<'_> {
-    fn read(&mut self, buf: &mut [u8]) -> io::Result<usize> {
-        if self.calls == 0 {
-            return Err(io::Error::from(ErrorKind::BrokenPipe));
-        }
-        self.calls -= 1;
-        match (self.bytes.split_first(), buf.split_first_mut()) {
-            (Some((byte, others)), Some((place, _))) => {
-                *place = *byte;
-                self.bytes = others;
-                Ok(1)
-            }
-            _ => Ok(0),
-        }
-    }
-}
+use std::io::{self, ErrorKind, Write};
 
 /// How a writer fails.
 #[derive(Clone, Copy, Debug, PartialEq, Eq)]
