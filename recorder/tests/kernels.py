@@ -437,7 +437,7 @@ def cases():
     zeros, whole = [0] * ALL, sum(numbers())
     yield Case("matmul_right", [matrix(), matrix(), [0] * 64, 8], 0, {2: product()}, (8, 8), (4, 4))
     yield Case("matmul_wrong", [matrix(), matrix(), [0] * 64, 8], 4 * 32, {}, (8, 8), (4, 4), say=(
-        "is of one round of a loop and the write at ", " of a later one: the missing barrier's place is the end of the loop's body"))  # all words of two tiles of four groups
+        "is of one round of a loop and the write at ", " of a later one", "the missing barrier's place is the end of the loop's body"))  # all words of two tiles of four groups
     yield Case("tree_right", [numbers(), [0] * GROUPS, Local(4 * ITEMS)], 0, {})
     yield Case("tree_wrong", [numbers(), [0] * GROUPS, Local(4 * ITEMS)], 7 * GROUPS, say=("if these are rounds of a loop, the missing barrier's",))  # words 1 to 7: the last four steps
     yield Case("histogram_right", [numbers(), [0] * 16], 0, {1: [sum(n & 15 == b for n in numbers()) for b in range(16)]})
@@ -470,7 +470,7 @@ def cases():
         "race on p[1].position.y", "race on p[1].links[1]", "race on m[1][2]", "race on r[3]", "OpenCL C has no atomic_add of float"))
     yield Case("swaps", [list(range(2 * ALL)), 0], 0, {0: [at ^ 1 for at in range(2 * ALL)]})
     yield Case("swaps", [list(range(2 * ALL)), 1], ALL - 1, unsaid="use an atomic")
-    after = "nothing orders the two; wait_group_events after the copy would, or, if the copy comes last, a barrier before it"
+    after = "wait_group_events after the copy would, or, if the copy comes last, a barrier before it"
     yield Case("copies_wrong", [list(range(ALL)), zeros], ALL, say=(after,))  # each word of each tile
     yield Case("copies_unwaited", [list(range(ALL)), zeros], ALL, say=(after,))
     mirrored = [g * 64 + 63 - l for g in range(GROUPS) for l in range(ITEMS)]
@@ -487,7 +487,7 @@ def cases():
     yield Case("wait_of_some", [list(range(ALL)), zeros], 48 * GROUPS, {}, diverge=GROUPS,
                say=(after, "16 work-items, the first is item 0"))  # what the others read
     yield Case("adds_floats", [numbers(), (0.5,) * GROUPS], GROUPS, unsaid="atomic_inc", say=(
-        "use a loop of atomic_cmpxchg on the bits, begun by an atomic read (OpenCL C has no atomic_add of float), or give each item a word of its own: ",
+        "use a loop of atomic_cmpxchg on the bits, begun by an atomic read (OpenCL C has no atomic_add of float), or give each item a word of its own",
         "race on all["))
     taken = "atomics of work-item or sub-group scope, taken as of work-group scope: a race in a group may be missed: "
     for order, scope, races in ((1, 1, 0), (0, 1, 1), (1, 0, 2), (1, 2, 2), (1, 3, 2)):
@@ -504,7 +504,7 @@ def cases():
     yield Case("computed", [[0] * 4 + [0], [2 ** 32 - 1, 0, 0, 0, 0, ALL], (0.0,), (0, 0, 0, 0)], 0,
                {0: [3 * ALL, -ALL, 1 - ALL, ALL - 101, ALL]})
     yield Case("fenced", [zeros, 0], 0, {0: [1] * ALL}, say=("fences: 256, at kernel.cl:",))
-    yield Case("fenced", [zeros, 1], ALL // 2, say=("would; a fence alone orders nothing between work-items",))  # what each second item writes
+    yield Case("fenced", [zeros, 1], ALL // 2, say=("a fence alone orders nothing between work-items",))  # what each second item writes
     yield Case("numbers", [[0] * 4 * 48], 0, {0: numbers_of()}, (6, 4, 2), (3, 2, 1), offset=(1, 2, 3))
     same = "write the same value"  # out[0]; y and z of two vectors; four parts of a tile of each group
     yield Case("equal", [[0], [0] * 16, Local(4 * ITEMS)], 1 + 4 + 4 * GROUPS, {0: [7], 1: [0] * 5 + [1, 9, 0] + [0] * 5 + [3, 9, 0]},

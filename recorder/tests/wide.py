@@ -73,7 +73,7 @@ def product():
 
 def cases():
     far = [Case("far_right", [[0] * FAR_GROUPS], 0, {0: list(range(FAR_GROUPS))}), Case("far_wrong", [[0] * FAR_GROUPS], 1, say=(
-        "race on out[0]", "write by group 0, item 3", "write by group 300, item 3", "a release that an acquire takes, at memory_scope_device, would"))]
+        "race on out[0]", "write by group 0, item 3", "write by group 300, item 3", "let one of them do so, or give each a word of its own by another index"))]
     # all words of the two tiles of each group
     tiles = [Case(f"product_{name}", [matrix(ROWS, INNER), matrix(INNER, COLUMNS), [0] * (ROWS * COLUMNS), INNER], races, results, (COLUMNS, ROWS), (4, 4),
                   say=say) for name, races, results, say in (

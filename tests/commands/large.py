@@ -231,7 +231,7 @@ class Groups(ProgramTest):
     def test_a_missing_group_of_64(self):
         self.put_reads()
         names = [name for name in self.names if name != "group40"]
-        self.assert_run(self.gpurace("races", *names), b"", 2, b"gpurace: group 40 missing\n")
+        self.assert_run(self.gpurace("races", *names), b"", 2, b"gpurace: group 40 missing\ngpurace: group0 to group63: none has a stream of this group\n")
 
 
 def named(before, names, count):

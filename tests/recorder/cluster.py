@@ -8,7 +8,7 @@ import subprocess
 import time
 import unittest
 
-from testing.launches import put_racy, put_right
+from testing.launches import put_racy, put_right, put_script
 from testing.program import TOP, RoomTest, python_with
 
 PYTHON = python_with("distributed") if shutil.which("dask-scheduler") and shutil.which("dask-worker") else None
@@ -20,8 +20,7 @@ class Cluster(RoomTest):
     def setUp(self):
         super().setUp()
         self.slow = self.room / "gpurace"
-        self.slow.write_text(f"#!/bin/sh\n[ \"$1\" = replay ] && sleep 0.3\nexec '{os.environ['GPURACE']}' \"$@\"\n")
-        self.slow.chmod(0o755)
+        put_script(self.slow, f"[ \"$1\" = replay ] && sleep 0.3\nexec '{os.environ['GPURACE']}' \"$@\"\n")
         for number in range(LAUNCHES):
             (put_racy if number % 3 == 0 else put_right)(self.room / "kept", number)
 

@@ -51,5 +51,7 @@ class ElementsOfWords(unittest.TestCase):
             self.assertEqual(name_of("a", "global", [(2 * at, 2 * at) for at in range(runs)], 1, None), f"a[0], a[2], a[4], a[6], a[8]{more}")
 
     def test_a_type_that_is_not_known(self):
-        elements = Elements(['a "float"', 'b "float"', "bare 0"])
-        self.assertEqual([elements.of(name) for name in ("unknown", "a=b", "bare", "")], [None] * 4)
+        """Nor is that of two arguments of two types."""
+        elements = Elements(['a "float2"', 'b "float2"', 'c "float"', "bare 0"])
+        self.assertEqual([elements.of(name) for name in ("unknown", "a=c", "a=unknown", "bare=bare", "bare", "")], [None] * 6)
+        self.assertEqual(elements.of("a=b").span(3, 3), "a=b[1].y")

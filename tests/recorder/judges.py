@@ -3,7 +3,7 @@
 import os
 import time
 
-from testing.launches import info, put_launch, put_right
+from testing.launches import info, put_launch, put_right, put_script
 from testing.program import RoomTest
 
 from gpurace_record.judges import Judge
@@ -64,8 +64,7 @@ class Judges(RoomTest):
     def test_that_a_judge_was_killed_is_said(self):
         """What is in files is shown."""
         killed = self.room / "killed"
-        killed.write_text(f'#!/bin/sh\n[ "$1" = run ] && kill -KILL $$\nexec "{os.environ["GPURACE"]}" "$@"\n')
-        killed.chmod(0o755)
+        put_script(killed, f'[ "$1" = run ] && kill -KILL $$\nexec "{os.environ["GPURACE"]}" "$@"\n')
         self.judge.program = str(killed)
         self.put()
         self.judge.start()
@@ -113,8 +112,7 @@ class Judges(RoomTest):
         self.wait(lambda: self.report.launches)
         started = self.room / "started"
         self.judge.program = str(self.room / "waits")
-        (self.room / "waits").write_text(f'#!/bin/sh\ntouch "{started}"\nsleep 1\nexec "{os.environ["GPURACE"]}" "$@"\n')
-        (self.room / "waits").chmod(0o755)
+        put_script(self.room / "waits", f'touch "{started}"\nsleep 1\nexec "{os.environ["GPURACE"]}" "$@"\n')
         put_right(self.room / "kept", 2, "second")
         self.wait(started.exists)
         put_launch(self.folder, [], {"begun.txt": info("sums", 0)})

@@ -5,9 +5,9 @@ import pathlib
 import tempfile
 import unittest
 
-from testing.launches import BUFFERS, PLACES, SIDES, info, put_launch
+from testing.launches import BUFFERS, PLACES, SIDES, info, put_launch, put_script
 
-from gpurace_record.causes import of_update
+from gpurace_record.causes import checked, of_operation, of_update
 from gpurace_record.finding import Finding, join
 from gpurace_record.findings import Reader
 from gpurace_record.folders import info_of
@@ -19,16 +19,27 @@ LOCAL = "nothing orders the two; a barrier with CLK_LOCAL_MEM_FENCE between them
 GLOBAL = "nothing orders the two; a barrier with CLK_GLOBAL_MEM_FENCE between them would"
 GROUPS = ("nothing orders the two, and a barrier never orders two groups; a second kernel, a word for each group, or a release that an acquire takes, "
           "at memory_scope_device, would mend it")
-ONE_WRITE = "both items write it at this place: let one of them do so, or give each a word of its own; a barrier would order only rounds of a loop"
+ONE_OF_THEM = "both items write it at this place; let one of them do so, or give each a word of its own by another index; a barrier "
+ONE_WRITE, ONE_WRITE_OF_GROUPS = f"{ONE_OF_THEM}would order only rounds of a loop", f"{ONE_OF_THEM}never orders two groups"
+OWN_WORDS = "; if each is to write a word of its own, an index is wrong"
+NOT_JUDGED = ("; a fence may order the two, which is not judged; in its place let the atomic after the one access have memory_order_release, and that "
+              "before the other one memory_order_acquire (OpenCL C 2.0)")
 HAND_OVER = "nothing orders the two; a release that an acquire takes, at memory_scope_device, would"
 END = "the missing barrier's place is the end of the loop's body, outside of branches that not all work-items take"
-ROUNDS = f"; the first of the two items has come to this line 2 times and the second once: if these are rounds of a loop, {END}"
+ROUNDS = f"; the first of the two items has come to this line twice and the second once; if these are rounds of a loop, {END}"
+IN_TURN = f"; one of the items comes to both places in turn; if these are rounds of a loop, {END}"
 OUTSIDE = "its place is outside of branches and loops that they take differently, and before any early return"
 
 
 def tile(group):
     """Item 0 writes tile[0] and reads tile[8] and tile[9], which item 1 writes; no barrier is between."""
     return f"group {group} items 2 launch 7\n0 w l 64\n0 r l 72\n0 r l 73\n1 w l 72\n1 w l 73\nend\n"
+
+
+def in_lines(message, at_first=0):
+    """The sentences of a message, each on a line of a report; the first one goes on after so many semicolons."""
+    parts = message.split("; ")
+    return "\n    ".join(["; ".join(parts[:at_first + 1]), *parts[at_first + 1:]])
 
 
 class Launches(unittest.TestCase):
@@ -44,7 +55,7 @@ class Launches(unittest.TestCase):
     def assert_report(self, streams, files, verdict, report):
         launch = self.judged(streams, files)
         lines = [line for it in launch.findings for line in it.lines()] + [f"reason {it.name}: {it.text}" for it in launch.reasons]
-        self.assertEqual((launch.verdict, "".join(f"{line}\n" for line in lines)), (verdict, report))
+        self.assertEqual((launch.verdict, "".join(f"{line}\n" for line in lines).replace(launch.folder, "FOLDER")), (verdict, report))
 
     def test_a_barrier_is_missing(self):
         """The accesses to tile[8] have places, those to tile[9] have none: two kinds."""
@@ -77,7 +88,8 @@ race on tile[0] of group 0
         tile[l] = input[l];
     kernel.cl:5:20: write by group 0, asynchronous copy
         tile[l] += tile[l + 8];
-    nothing orders the two; wait_group_events after the copy would, or, if the copy comes last, a barrier before it
+    nothing orders the two
+    wait_group_events after the copy would, or, if the copy comes last, a barrier before it
 """)
 
     def test_equal_values(self):
@@ -110,7 +122,7 @@ race on tile[0] of 2 groups (2 words); on tile[0] of group 0
         stream = "group 0 items 2 launch 7 v3\n0 w g 5 @1\n1 w g 5 @{}\nend\n"
         files = {"sites": "kernel.cl:1:11\nkernel.cl:2:4\n"}
         for site, text, said in ((1, "if (x) *a = 0;", f"{ONE_WRITE}; both write 0"), (1, "if (x) *a = x;", ONE_WRITE), (1, "if (x) *a = 0 + x;", ONE_WRITE),
-                                 (2, "if (x) *a = 1.5f;\n*a = 1.5f;", f"{GLOBAL}; both write 1.5f"), (2, "if (x) *a = 0;\n*a = 1;", GLOBAL)):
+                                 (2, "if (x) *a = 1.5f;\n*a = 1.5f;", f"{GLOBAL}; both write 1.5f"), (2, "if (x) *a = 0;\n*a = 1;", GLOBAL + OWN_WORDS)):
             launch = self.judged([stream.format(site)], {**files, "kernel.cl": text})
             self.assertEqual([it.message for it in launch.findings], [said], text)
         launch = self.judged([stream.format(1)], {**files, "kernel.cl": "if (x) *a = 0;", "equal": "g 5 5\n"})
@@ -125,13 +137,13 @@ race on input[5], global word 200 (2 words); on input[5]
     unknown place: write by group 1, item 0
     kernel.cl:3:13: write by group 0, item 0
         tile[l] = input[l];
-    {GROUPS}
+    {in_lines(GROUPS)}
 race on output[0]
     kernel.cl:5:20: write by group 0, item 0
         tile[l] += tile[l + 8];
     kernel.cl:5:20: write by group 1, item 0
         tile[l] += tile[l + 8];
-    {GROUPS}
+    {in_lines(ONE_WRITE_OF_GROUPS)}
 """)
 
     def test_both_sides_of_one_mistake_are_one_finding(self):
@@ -155,7 +167,7 @@ race on flag[0]
 race on flag[0]
     a.cl:2:13: write by group 0, item 0
     a.cl:2:13: write by group 0, item 1
-    {ONE_WRITE}
+    {in_lines(ONE_WRITE)}
 """)
 
     def test_races_of_one_text_at_several_lines_are_several_findings(self):
@@ -213,7 +225,7 @@ race on tile[1] of group 0
     kernel.cl:2:14: write by group 0, item 1
         tile[at] = value;
         called at kernel.cl:6:5: put(tile, l, 1);
-    {LOCAL}
+    {in_lines(LOCAL + OWN_WORDS, 1)}
 race on tile[6] of group 0
     kernel.cl:2:14: write by group 0, item 1
         tile[at] = value;
@@ -222,7 +234,7 @@ race on tile[6] of group 0
         tile[at] = value;
         called at kernel.cl:7:5: put(tile, l + 1, 2);
         called at other.cl:9:1
-    {LOCAL}
+    {in_lines(LOCAL + OWN_WORDS, 1)}
 """)
 
     def test_a_barrier_that_is_called_twice(self):
@@ -237,7 +249,8 @@ divergent barrier, number 0 of group 0
     kernel.cl:2:5: item 1
         barrier(CLK_LOCAL_MEM_FENCE);
         called at kernel.cl:5:12: if (l) meet();
-    the work-items are at different barriers; let all of them come to one barrier, outside of the branch
+    the work-items are at different barriers
+    let all of them come to one barrier, outside of the branch
 """)
 
     def test_two_pairs_of_places(self):
@@ -302,7 +315,7 @@ race on global word 20
         """Neither, one or the other of the two atomics orders, or the acquire took no value of the release; a third atomic, after the read,
         has no part in it. Which item is shown first makes no difference."""
         store, load = "the store at f.cl:4:9 is no release", "the load at f.cl:5:13 is no acquire"
-        for store_order, load_order, more in (("rlx", "rlx", f": {store} and {load}"), ("rlx", "acq", f": {store}"), ("rel", "rlx", f": {load}"),
+        for store_order, load_order, more in (("rlx", "rlx", f"; {store} and {load}"), ("rlx", "acq", f"; {store}"), ("rel", "rlx", f"; {load}"),
                                               ("rel", "acq", "; the release at f.cl:4:9 and the acquire at f.cl:5:13 do not meet")):
             sides = [(f"0 w g 16\n0 st g 20 dev {store_order}\n", ("f.cl:3:9", "f.cl:4:9"), ("write", "f.cl:3:9")),
                      (f"0 ld g 20 dev {load_order}\n0 r g 16\n0 ld g 24 dev rlx\n", ("f.cl:5:13", "f.cl:6:9"), ("read", "f.cl:6:9"))]
@@ -324,14 +337,13 @@ race on global word 20
         places = "".join(f"{group} 0 {at} f.cl:{at + 3}:9\n" for group in (0, 1) for at in range(4))
         launch = self.judged([f"group {group} items 1 launch 7\n{inside}" for group in (0, 1)], {"places": places})
         self.assertEqual({it.message for it in launch.findings}, {
-            f"{HAND_OVER}: the read-modify-write at f.cl:6:9 is no release; or make each item's read and write of the word one atomic operation"})
+            f"{HAND_OVER}; the read-modify-write at f.cl:6:9 is no release; or make each item's read and write of the word one atomic operation"})
 
     def test_causes_that_take_too_long(self):
         """A program that does not answer with causes, and without them as ever."""
         with tempfile.TemporaryDirectory() as folder:
             slow = pathlib.Path(folder) / "gpurace"
-            slow.write_text(f"#!/bin/sh\ncase \"$*\" in *--causes*) exec sleep 100;; esac\nexec '{os.environ['GPURACE']}' \"$@\"\n")
-            slow.chmod(0o755)
+            put_script(slow, f"case \"$*\" in *--causes*) exec sleep 100;; esac\nexec '{os.environ['GPURACE']}' \"$@\"\n")
             place = pathlib.Path(folder) / "sums"
             put_launch(place, [tile(0)], {})
             report = replay(os.environ["GPURACE"], [str(place / "group00.gpurace")])[1]
@@ -349,7 +361,8 @@ race on global word 20
 race on global word 5
     unknown place: atomic read-modify-write (relaxed, device scope) by group 0, item 0
     unknown place: read by {other}
-    a plain read beside atomics: {mend}, or, if they may come in any order, make it an atomic load (in OpenCL 1.2 an atomic_or with 0)
+    a plain read beside atomics
+    {mend}, or, if they may come in any order, make it an atomic load (in OpenCL 1.2 an atomic_or with 0)
 """)
 
     def test_items_that_count(self):
@@ -361,19 +374,19 @@ race on global word 5
 
     def test_items_that_count_at_one_line(self):
         """Items of one group, and of two, count at line 4 of a file, or in two steps; between the two another word is read. An atomic comes first."""
-        atomic = "use an atomic (of an int, such as atomic_add or atomic_cmpxchg; of a float, a loop of atomic_cmpxchg): each item reads the word and " \
+        atomic = "use an atomic (such as atomic_add or atomic_cmpxchg of an int, or a loop of atomic_cmpxchg of a float); each item reads the word and " \
                  "writes it at this line"
         counts = "r g 5", "r g 9", "w g 5"
         one_group = ["group 0 items 2 launch 7\n" + "".join(f"{item} {step}\n" for item in (0, 1) for step in counts) + "end\n"]
         two_groups = [f"group {group} items 1 launch 7\n" + "".join(f"0 {step}\n" for step in counts) + "end\n" for group in (0, 1)]
-        for streams, items, said in ((one_group, ("0 0", "0 1"), GLOBAL), (two_groups, ("0 0", "1 0"), GROUPS)):
+        two_writes, one_write = ({GLOBAL, GLOBAL + OWN_WORDS}, {GROUPS}), ({GLOBAL, ONE_WRITE}, {GROUPS, ONE_WRITE_OF_GROUPS})
+        for at, (streams, items) in enumerate(((one_group, ("0 0", "0 1")), (two_groups, ("0 0", "1 0")))):
             at_one_line = "".join(f"{item} 0 a.cl:4:9 called at a.cl:{line}:1\n{item} 2 a.cl:4:5\n" for item, line in zip(items, (7, 8)))
             launch = self.judged(streams, {"places": at_one_line})
             self.assertEqual({it.message for it in launch.findings}, {atomic})
-            for places in (at_one_line.replace("a.cl:4:5", "a.cl:5:5"), at_one_line.replace(f"{items[1]} 2 a.cl:4:5", f"{items[1]} 2 b.cl:4:5")):
-                launch = self.judged(streams, {"places": places})
-                of_one_place = {ONE_WRITE} if said == GLOBAL and "b.cl" not in places else set()
-                self.assertEqual({it.message for it in launch.findings}, {said} | of_one_place)
+            for places, said in ((at_one_line.replace("a.cl:4:5", "a.cl:5:5"), one_write[at]),
+                                 (at_one_line.replace(f"{items[1]} 2 a.cl:4:5", f"{items[1]} 2 b.cl:4:5"), two_writes[at])):
+                self.assertEqual({it.message for it in self.judged(streams, {"places": places}).findings}, said)
 
     def test_items_that_swap_at_one_line(self):
         """Each reads the word and another one, and writes it. Where the line's text has no update of it, that is no count."""
@@ -395,24 +408,60 @@ race on global word 5
             return self.judged(streams, {"kernel.cl": text, "sites": "".join(f"{place}\n" for place in places.split())}).findings[0].message
 
         first, second, two = "0 r g 5 @1\n0 w g 5 @2\n", "1 r g 5 @1\n", "kernel.cl:1:5 kernel.cl:2:1"
-        cmpxchg, greatest = ("use an atomic (of an int, such as {}; of a float, a loop of atomic_cmpxchg)".format(it) for it in ("atomic_cmpxchg", "atomic_max or atomic_min"))
+        cmpxchg, most = ("use an atomic (such as {} of an int, or a loop of atomic_cmpxchg of a float)".format(it) for it in ("atomic_cmpxchg", "atomic_max"))
         where = "or, where items read the word at kernel.cl:1:5 and then write it at kernel.cl:2:1, "
-        self.assertEqual(message("if (*a == 0) *a = 1;", (first, second)), f"{cmpxchg}: items read the word at this line and then write it")
-        self.assertEqual(message("if (x > *a)\n*a = x;", (first, second), two), f"{GLOBAL}; {where}{greatest}")
-        self.assertEqual(message("if (x > *a)\n*a = x;", (first, second), two, 2), f"nothing orders the two; a second kernel would; {where}{greatest}")
+        self.assertEqual(message("if (*a == 0) *a = 1;", (first, second)), f"{cmpxchg}; items read the word at this line and then write it")
+        self.assertEqual(message("if (x > *a)\n*a = x;", (first, second), two), f"{GLOBAL}; {where}{most}")
+        self.assertEqual(message("if (x > *a)\n*a = x;", (first, second), two, 2),
+                         f"items read the word at kernel.cl:1:5 and then write it at kernel.cl:2:1; {most}")
         self.assertEqual(message("int t = *a;\n*a = x;", (first, second), two), GLOBAL)
         self.assertEqual(message("if (x > *a)\n*a = x;", (first, second.replace("@1", "@3")), f"{two} kernel.cl:3:1"), GLOBAL)
         self.assertEqual(message("if (x > *a)\n*a = x;", ("0 r g 5 @1\n0 bar 1 g @3\n0 w g 5 @2\n", "1 bar 1 g @3\n1 r g 5 @1\n"), f"{two} b.cl:9:9"),
                          f"{GLOBAL}; the last barrier before both is at b.cl:9:9")
         where = where.replace("2:1", "1:14")
         self.assertEqual(message("if (*a == 0) *a = 1;", (first, "1 r g 7 @1\n" + second)), f"{GLOBAL}{ROUNDS}; {where}{cmpxchg}")
-        self.assertEqual(message("if (*a == 0) *a = 1;", (first + "0 r g 7 @1\n", second)), f"{cmpxchg}: items read the word at this line and then write it")
+        self.assertEqual(message("if (*a == 0) *a = 1;", (first + "0 r g 7 @1\n", second)), f"{cmpxchg}; items read the word at this line and then write it")
         self.assertEqual(message("if (*a == 0) *a = 1;", (first, second + "1 r g 7 @1\n")), f"{GLOBAL}; {where}{cmpxchg}")
+
+    def test_what_a_check_and_a_write_are(self):
+        """One atomic does both only if the check asks for a value, or compares with what is written; for all else there is a loop of one."""
+        loop = "let one item do both, or use a loop of atomic_cmpxchg, begun by an atomic read, that writes only while the check holds"
+        for check, write, advice in (("if (*a == 0)", "*a = i + 1;", "atomic_cmpxchg"), ("while (*a != 0) ;", "*a = 1;", "atomic_cmpxchg"),
+                                     ("if (a[w] != 1)", "a[w] = 1;", "atomic_xchg"), ("if (a[w] != 1)", "a[w] = 10;", loop), ("if (a[w] != 1)", "a[w]++;", loop),
+                                     ("if (in[i] > *a)", "*a = in[i];", "atomic_max or atomic_fetch_max"), ("if (*a <= x+1)", "*a = x + 1;", "atomic_max or atomic_fetch_max"),
+                                     ("if (*a > x) {", "*a = x;", "atomic_min or atomic_fetch_min"), ("if (f(x) < *a)", "*a = f(x);", "atomic_min or atomic_fetch_min"),
+                                     ("if (!seen[w]) {", "seen[w] = 1;", "atomic_cmpxchg"), ("if (seen[w]) continue;", "seen[w] = 1;", "atomic_cmpxchg"),
+                                     ("if (x < n && x > p->a)", "p->a = x;", "atomic_max or atomic_fetch_max"), ("if (f > x && !*b)", "*a = x;", loop),
+                                     ("if (*a > 3)", "*a = 0;", loop), ("if (*a > 30)", "*a = 3;", loop), ("if (**a > x)", "*a = x;", loop), ("if (*a < 10)", "*a += 1;", loop),
+                                     ("if (x > *a) { *a = x; *b = i; }", "if (x > *a) { *a = x; *b = i; }", loop), ("if (*a == 0)", "*a |= 1;", loop),
+                                     ("*a = x > *a ? x : *a;", "*a = x > *a ? x : *a;", "atomic_max or atomic_min")):
+            self.assertEqual(of_operation("int", checked(check, write)), advice if advice == loop else f"use an atomic, such as {advice}", check + write)
+        self.assertEqual(of_operation("ulong", checked("if (*a > 3)", "*a = 0;")), loop.replace("cmpxchg", "cmpxchg (atom_cmpxchg of cl_khr_int64_base_atomics)"))
+        self.assertTrue(of_operation("float", checked("if (*a > 3)", "*a = 0;")).startswith("use a loop of atomic_cmpxchg on the bits"))
+
+    def test_an_item_that_waits(self):
+        """It reads a flag in a loop that does nothing else, in the same group or another one; the flag is stored plainly, or by an atomic."""
+        flag = ("nothing orders the two; the read waits for the write; make that an atomic store with memory_order_release, and the read an atomic load with "
+                "memory_order_acquire")
+        beside = "a plain read beside atomics; since it waits, make it an atomic load with memory_order_acquire"
+        files = {"kernel.cl": "*ready = 1;\nwhile (*ready == 0) ;\nwhile (a[i] > x) i++;\n", "sites": "kernel.cl:1:8\nkernel.cl:2:8\nkernel.cl:3:8\n"}
+        for store, line, messages in (("w g 5", 2, (flag, flag)), ("st g 5 dev rel", 2, (beside, beside)), ("w g 5", 3, (GLOBAL, GROUPS))):
+            for groups, message in zip((1, 2), messages):
+                steps, second = (f"0 {store} @1\n", f"{2 - groups} r g 5 @{line}\n"), "end\ngroup 1 items 2 launch 7 v3\n" if groups == 2 else ""
+                launch = self.judged([f"group 0 items 2 launch 7 v3\n{steps[0]}{second}{steps[1]}end\n"], files)
+                self.assertEqual([it.message for it in launch.findings], [message])
+
+    def test_items_of_two_groups_that_read_what_neighbours_write(self):
+        """By one statement: then the kernel needs another buffer. By two it may be anything."""
+        streams = ["group 0 items 1 launch 7 v3\n0 w g 5 @1\nend\n", "group 1 items 1 launch 7 v3\n0 r g 5 @2\nend\n"]
+        for line, more in (("u[g] = u[g - 1];", "; both are of one statement; let the kernel write to another buffer than it reads"), ("u[g] = 1; u[g - 1];", "")):
+            launch = self.judged(streams, {"kernel.cl": line, "sites": "kernel.cl:1:6\nkernel.cl:1:11\n"})
+            self.assertEqual([it.message for it in launch.findings], [GROUPS + more])
 
     def test_items_that_count_in_rounds_of_a_loop(self):
         """Item 1 adds to word 5 of a buffer and then to word 6, item 0 to word 5. If item 0 reads word 6 at another place, an atomic is no mend alone."""
         sites, adds = "kernel.cl:1:1\nkernel.cl:1:9\n", "{0} r g {1} @1\n{0} w g {1} @1\n"
-        atomic = "use an atomic (of an int, such as atomic_inc or atomic_add; of a float, a loop of atomic_cmpxchg): each item reads the word and writes it at this line"
+        atomic = "use an atomic (such as atomic_inc or atomic_add of an int, or a loop of atomic_cmpxchg of a float); each item reads the word and writes it at this line"
         for other, message in (("", atomic), ("0 r g 6 @2\n", f"{GLOBAL}; or make each item's read and write of the word one atomic operation")):
             stream = f"group 0 items 2 launch 7 v3\n{adds.format(1, 5)}{adds.format(1, 6)}{other}{adds.format(0, 5)}end\n"
             launch = self.judged([stream], {"kernel.cl": "a[i] += a[k];", "sites": sites, "buffers": "g 0 9 a\n"})
@@ -431,13 +480,13 @@ race on global word 5
         """Two items count in element 1 of a buffer at one line: what is advised is there for its type."""
         streams = ["group 0 items 2 launch 7\n" + "".join(f"{item} {kind} g 5\n" for item in (0, 1) for kind in "rw") + "end\n"]
         places = "".join(f"0 {item} {index} kernel.cl:1:9\n" for item in (0, 1) for index in (0, 1))
-        for kind, advice in (('"uint"', "use an atomic, such as atomic_inc, atomic_add or atomic_fetch_add: "), ('[2,{"bytes":4,"members":[[0,"count","short"]]}]',
-                              "use an atomic of an int, such as atomic_inc or atomic_add (OpenCL C has none of short): "),
-                             ('"ulong"', "use an atomic, such as atom_inc or atom_add (of cl_khr_int64_base_atomics) or atomic_fetch_add: "),
+        for kind, advice in (('"uint"', "use an atomic, such as atomic_inc, atomic_add or atomic_fetch_add; "), ('[2,{"bytes":4,"members":[[0,"count","short"]]}]',
+                              "use an atomic of an int, such as atomic_inc or atomic_add (OpenCL C has none of short); "),
+                             ('"ulong"', "use an atomic, such as atom_inc or atom_add (of cl_khr_int64_base_atomics) or atomic_fetch_add; "),
                              ('"float4"', "use a loop of atomic_cmpxchg on the bits, begun by an atomic read (OpenCL C has no atomic_add of float), or give each item "),
                              ('"double"', "use a loop of atom_cmpxchg on the bits, begun by an atomic read (OpenCL C has no atomic_add of double), or give each item "),
-                             ('"short"', "use an atomic of an int, such as atomic_inc or atomic_add (OpenCL C has none of short): "),
-                             ("0", "use an atomic (of an int, such as atomic_inc or atomic_add; of a float, a loop of atomic_cmpxchg): ")):
+                             ('"short"', "use an atomic of an int, such as atomic_inc or atomic_add (OpenCL C has none of short); "),
+                             ("0", "use an atomic (such as atomic_inc or atomic_add of an int, or a loop of atomic_cmpxchg of a float); ")):
             files = {"info.txt": INFO + f"element bins {kind}\n", "places": places, "buffers": "g 4 9 bins\n", "kernel.cl": "bins[1]++;\n"}
             for it in self.judged(streams, files).findings:
                 self.assertTrue(it.message.startswith(advice), it.message)
@@ -470,7 +519,7 @@ race on global word 5
                                    ("int", "if (x < n && *a == x) *a = 0;", "use an atomic, such as atomic_add or atomic_cmpxchg"),
                                    ("float", "if (x < *a) *a = x;", "use a loop of atomic_cmpxchg on the bits, begun by an atomic read (OpenCL C has no other atomic of "
                                     "float), or give each item a word of its own"),
-                                   ("", "*a ^= x;", "use an atomic (of an int, such as atomic_xor; of a float, a loop of atomic_cmpxchg)")):
+                                   ("", "*a ^= x;", "use an atomic (such as atomic_xor of an int, or a loop of atomic_cmpxchg of a float)")):
             self.assertEqual(of_update(kind, line), advice, line)
 
     def test_a_barrier_is_missing_before_another_item_hands_over(self):
@@ -486,6 +535,42 @@ race on global word 5
                                             "acquire at a.cl:2:1 takes its value"])
         self.assertEqual([message("l", 9), message("gl", 8), message("gl", 9, "copying-item 0 0\n")], [[GROUPS]] * 3)
 
+    def test_a_barrier_is_missing_after_another_item_has_taken(self):
+        """Item 1 of group 0 writes, a barrier is next and item 0 releases; in group 1 item 0 takes that, and item 1 reads. Where the first barrier names
+        local memory alone, or there is one before item 0 takes, a barrier after that is not what is missing."""
+        places = "0 1 0 a.cl:1:1\n0 0 1 a.cl:3:1\n1 0 0 a.cl:4:1\n1 0 1 a.cl:4:1\n1 1 0 a.cl:6:1\n1 1 1 a.cl:6:1\n"
+        late = "nothing orders the two; a barrier with CLK_GLOBAL_MEM_FENCE after the acquire at a.cl:4:1 would, where that takes the value of the release at a.cl:3:1"
+        for flags, takes, message in (("g", "0 ld g 9 dev acq < 0 0 0\n1 r g 5\n", late), ("g", "1 r g 5\n0 ld g 9 dev acq < 0 0 0\n", late),
+                                      ("l", "0 ld g 9 dev acq < 0 0 0\n1 r g 5\n", GROUPS), ("g", "1 r g 5\n1 bar 3 g\n0 bar 3 g\n0 ld g 9 dev acq < 0 0 0\n", GROUPS)):
+            gives = f"group 0 items 2 launch 7\n1 w g 5\n0 bar 2 {flags}\n1 bar 2 {flags}\n0 st g 9 dev rel\nend\n"
+            launch = self.judged([gives, f"group 1 items 2 launch 7\n{takes}end\n"], {"places": places})
+            self.assertEqual([it.message for it in launch.findings], [message])
+
+    def test_items_that_read_a_word_and_write_it_later(self):
+        """In no condition, at two places. Of a read and a write in one group a barrier is missing, and of writes at one place in rounds of a loop."""
+        text, sites = "at = *count;\n*count = at + 1;\n*other = at;\n", "kernel.cl:1:6\nkernel.cl:2:8\nkernel.cl:3:8\n"
+        atomic = "use an atomic (such as atomic_add or atomic_cmpxchg of an int, or a loop of atomic_cmpxchg of a float)"
+        where = "items read the word at kernel.cl:1:6 and then write it at kernel.cl:2:8"
+        counts, again, reads = "{0} r g 5 @1\n{0} w g 2{0} @3\n{0} w g 5 @2\n", "{0} r g 7 @1\n{0} w g 7 @2\n", "{0} r g 5 @1\n{0} w g 8 @3\n"
+        next_to_it, one = counts.replace("{0} w g 2{0} @3\n", ""), f"{GLOBAL}; or make each item's read and write of the word one atomic operation"
+        one_group, two_groups = "group 0 items 2 launch 7 v3\n{}{}end\n", "group 0 items 2 launch 7 v3\n{}end\ngroup 1 items 2 launch 7 v3\n{}end\n"
+        for form, steps, messages in ((one_group, (counts, counts), {GLOBAL, f"{where}; {atomic}"}), (one_group, (counts, reads), {GLOBAL}),
+                                      (one_group, (next_to_it, next_to_it), {one, f"{where}; {atomic}"}),
+                                      (one_group, (counts + again, counts), {GLOBAL + IN_TURN, ONE_WRITE}), (two_groups, (counts, reads), {f"{GROUPS}; or, where {where}, {atomic}"}),
+                                      (two_groups, (counts + again, counts), {f"{GROUPS}; or, where {where}, {atomic}", f"{where}; {atomic}"})):
+            stream = form.format(*(it.format(item) for it, item in zip(steps, (0, 1))))
+            launch = self.judged([stream], {"kernel.cl": text, "sites": sites})
+            self.assertEqual({it.message for it in launch.findings}, messages, stream)
+
+    def test_a_buffer_that_is_two_arguments(self):
+        """Where one item reads and another one writes it may be another buffer that was meant; of two writes, and beside a barrier, that is not said."""
+        twice = "; the buffer is given as two arguments: if that is a mistake, give the kernel another one to write to"
+        flags = "the barrier at site 3 does not order global memory: give it CLK_GLOBAL_MEM_FENCE"
+        for name, steps, message in (("in=out", "0 r g 5\n1 w g 5\n", GLOBAL + twice), ("in=out", "0 w g 5\n1 w g 5\n", GLOBAL), ("in", "0 r g 5\n1 w g 5\n", GLOBAL),
+                                     ("in=out", "0 r g 5\n0 bar 3 l\n1 bar 3 l\n1 w g 5\n", flags)):
+            launch = self.judged([f"group 0 items 2 launch 7\n{steps}end\n"], {"buffers": f"g 0 9 {name}\n"})
+            self.assertEqual([it.message for it in launch.findings], [message])
+
     def test_a_barrier_that_does_not_order_what_is_handed_over(self):
         """An item writes and counts, and another one reads after a count in the other group; between the two and the counts a barrier names local memory."""
         places = "0 0 0 a.cl:1:1\n0 1 0 a.cl:1:1\n2 a.cl:2:1\n3 a.cl:3:1\n"
@@ -498,7 +583,7 @@ race on global word 5
         """Of items of two groups, and of one. A later release that nobody takes does not meet the acquire."""
         gives, takes = "0 st g 9 dev rel\n0 w g 5\n", "ld g 9 dev acq < 0 0 0\n"
         places = "0 0 0 a.cl:1:1\n0 0 1 a.cl:2:1\n0 0 2 a.cl:3:1\n{0} 0 a.cl:4:1\n{0} 1 a.cl:5:1\n"
-        early = ": the acquire at a.cl:4:1 takes that at a.cl:1:1, which comes before the write at a.cl:2:1"
+        early = "; the acquire at a.cl:4:1 takes that at a.cl:1:1, which comes before the write at a.cl:2:1"
         two_groups = [f"group 0 items 1 launch 7\n{gives}end\n", f"group 1 items 1 launch 7\n0 {takes}0 r g 5\nend\n"]
         one_group = [f"group 0 items 2 launch 7\n{gives}1 {takes}1 r g 5\nend\n"]
         late = [two_groups[0].replace("end", "0 st g 9 dev rel\nend"), two_groups[1]]
@@ -549,7 +634,8 @@ divergent barrier, number 0 of group 0, and 1 more alike
     kernel.cl:5:1: item 1
         tile[l] += tile[l + 8];
     no barrier: item 2
-    some work-items never reach it; 1 race follows from it; {OUTSIDE}
+    some work-items never reach it; 1 race follows from it
+    {OUTSIDE}
 race on input[0]
     unknown place: write by group 0, item 1
     unknown place: read by group 0, item 0
@@ -567,7 +653,8 @@ divergent barrier, number 0 of group 0
     kernel.cl:4:3: item 1
         barrier(F);
     no barrier: item 2
-    some work-items never reach it; {OUTSIDE}
+    some work-items never reach it
+    {OUTSIDE}
 divergent barrier, number 1 of group 0, and 1 more alike
     kernel.cl:4:3: 2 work-items, the first is item 0
         barrier(F);
@@ -587,12 +674,12 @@ divergent barrier, number 1 of group 0, and 1 more alike
     def test_a_read_and_a_write_of_one_statement(self):
         """Item 0 reads at one column what item 1 writes at another. How often they have come there the sites tell: two words one after another are one
         access. One that comes there again, later, may be in another round. Two statements of one line may be anywhere, and between two writes there is no room for a barrier."""
-        split = "; both are of one statement: where they are of one round, read into a private variable before the barrier and write after it"
+        split = "; both are of one statement; where they are of one round, read into a private variable before the barrier and write after it"
         one, two = "a[l] += a[l + s];\n", "a[l] = s; s += a[l];\n"
         for line, steps, more in ((one, "0 r g 5 @1\n1 w g 5 @2\n", split), (one, "0 r g 4 @1\n0 r g 5 @1\n1 w g 5 @2\n", split),
                                   (one, "0 r g 5 @1\n0 r g 7 @1\n1 w g 5 @2\n", f"{split}; where they are of two, {END}"),
                                   (one, "0 r g 7 @1\n0 r g 5 @1\n1 r g 5 @2\n1 w g 5 @2\n", ROUNDS), (two, "0 r g 7 @1\n0 r g 5 @1\n1 w g 5 @2\n", ""),
-                                  (two, "0 r g 5 @1\n1 w g 5 @2\n", ""), (one, "0 w g 5 @1\n1 w g 5 @2\n", "")):
+                                  (two, "0 r g 5 @1\n1 w g 5 @2\n", ""), (one, "0 w g 5 @1\n1 w g 5 @2\n", OWN_WORDS)):
             launch = self.judged([f"group 0 items 2 launch 7 v3\n{steps}end\n"], {"kernel.cl": line, "sites": "kernel.cl:1:16\nkernel.cl:1:5\n"})
             self.assertEqual([it.message for it in launch.findings], [GLOBAL + more], line + steps)
         sites = "kernel.cl:1:16\nkernel.cl:1:5\n"
@@ -607,7 +694,7 @@ divergent barrier, number 1 of group 0, and 1 more alike
         known if item 0 has come to the read before, and item 1 has not come to the write, and if no function is called."""
         writes, waits, reads = "kernel.cl:2:9", "kernel.cl:3:1", "kernel.cl:4:9"
         before = f"; the last barrier before both is at {waits}"
-        rounds = (f"{before}; the read at {reads} is of one round of a loop and the write at {writes} of a later one: the missing barrier's place is the end of "
+        rounds = (f"{before}; the read at {reads} is of one round of a loop and the write at {writes} of a later one; the missing barrier's place is the end of "
                   "the loop's body, outside of branches that not all work-items take")
         first, second = "0 w g 7 @1\n0 bar 3 g @2\n0 r g 8 @3\n0 w g 5 @1\n", "1 w g 9 @1\n1 bar 3 g @2\n1 r g 5 @3\n"
         for steps, places, more in ((first + second, (writes, waits, reads), rounds), (second + first, (writes, waits, reads), rounds),
@@ -618,6 +705,34 @@ divergent barrier, number 1 of group 0, and 1 more alike
                                     (first + second, (writes, waits, f"{reads} called at kernel.cl:9:1"), before)):
             launch = self.judged([f"group 0 items 2 launch 7 v3\n{steps}end\n"], {"sites": "".join(f"{place}\n" for place in places)})
             self.assertEqual([it.message for it in launch.findings], [GLOBAL + more], places)
+
+    def test_a_loop_without_a_barrier(self):
+        """Item 1 comes to the read, to the write and to the read again, and item 0 reads what it writes. After a barrier, or with no further read, these
+        need be no rounds; nor are reads one after another before all writes."""
+        sites = "kernel.cl:2:9\nkernel.cl:3:9\nkernel.cl:4:9\n"
+        for steps, more in (("1 r g 7 @1\n1 w g 5 @2\n1 r g 9 @1\n0 r g 5 @1\n", IN_TURN), ("1 r g 7 @1\n1 w g 5 @2\n0 r g 5 @1\n", ""),
+                            ("1 r g 7 @1\n1 w g 5 @2\n1 bar 1 g @3\n1 r g 9 @1\n0 r g 5 @1\n0 bar 1 g @3\n", ""),
+                            ("1 r g 7 @1\n1 r g 9 @1\n1 w g 5 @2\n1 w g 6 @2\n0 r g 5 @1\n", "")):
+            launch = self.judged([f"group 0 items 2 launch 7 v3\n{steps}end\n"], {"sites": sites})
+            self.assertEqual([it.message for it in launch.findings], [GLOBAL + more], steps)
+
+    def test_a_hand_over_by_atomics_that_are_relaxed_and_barriers(self):
+        """Item 1 of group 0 writes and item 0 stores a flag, in group 1 item 0 loads it and item 1 reads. If a barrier between names local memory alone,
+        or is not there, a release and an acquire are not what is missing."""
+        text = "group 0 items 2 launch 7\n1 w g 5\n{0}0 st g 9 dev {1}\nend\n", "group 1 items 2 launch 7\n0 ld g 9 dev {1}\n{0}1 r g 5\nend\n"
+        places = "0 1 0 a.cl:1:1\n0 0 1 a.cl:3:1\n1 0 0 a.cl:4:1\n1 1 1 a.cl:6:1\n"
+        full, narrow = ("0 bar 3 {0}\n1 bar 3 {0}\n".format(flags) for flags in ("gl", "l"))
+        store, load = "the store at a.cl:3:1 is no release", "the load at a.cl:4:1 is no acquire"
+        for barriers, orders, message in (((full, full), ("rlx", "rlx"), f"{HAND_OVER}; {store} and {load}"), ((full, full), ("rel", "rlx"), f"{HAND_OVER}; {load}"),
+                                          ((full, narrow), ("rlx", "rlx"), GROUPS), ((narrow, full), ("rlx", "rlx"), GROUPS), ((full, ""), ("rlx", "rlx"), GROUPS)):
+            launch = self.judged([it.format(barrier, order) for it, barrier, order in zip(text, barriers, orders)], {"places": places})
+            self.assertEqual([it.message for it in launch.findings], [message])
+
+    def test_the_sentences_of_a_message(self):
+        """Two share a line of 90 columns; a longer one is on a line of its own."""
+        for lengths, lines in (((), []), ((20, 68), [90]), ((20, 69), [20, 69]), ((100, 10, 70, 20), [100, 82, 20])):
+            finding = Finding("race", "sums", "", message="; ".join("x" * it for it in lengths))
+            self.assertEqual([len(line) for line in finding.sentences()], lines)
 
     def test_the_last_barrier_before_both(self):
         """In the second round of a loop item 0 writes what item 1 has read in the first one: in the text a barrier is between the two lines."""
@@ -633,18 +748,18 @@ divergent barrier, number 1 of group 0, and 1 more alike
         two_groups = [f"group {group} items 1 launch 7\n" + "".join(f"0 {step}\n" for step in steps) + "end\n" for group in (0, 1)]
         old = "while (atomic_cmpxchg(lock, 0, 1)) ;\n*total += 1;\natomic_xchg(lock, 0);\n"
         new = old.replace("cmpxchg(", "exchange_explicit(").replace("xchg(", "store_explicit(")
-        why = " (atomics of OpenCL 1.x are relaxed, and those of OpenCL C 2.0 that end in _explicit take an order)"
+        why = "; atomics of OpenCL 1.x are relaxed, and those of OpenCL C 2.0 that end in _explicit take an order"
         in_group = "nothing orders the two; a release that an acquire takes would"
         for streams, items, said in ((one_group, ("0 0", "0 1"), in_group), (two_groups, ("0 0", "1 0"), HAND_OVER)):
             places = "".join(f"{item} {index} kernel.cl:{line}:1\n" for item in items for index, line in enumerate((1, 2, 2, 3)))
             for text, ending in ((old, why), (new, "")):
                 message = self.judged(streams, {"places": places, "kernel.cl": text}).findings[0].message
-                self.assertEqual(message, f"{said}: the read-modify-write at kernel.cl:3:1 is no release and the read-modify-write at kernel.cl:1:1 is no "
+                self.assertEqual(message, f"{said}; the read-modify-write at kernel.cl:3:1 is no release and the read-modify-write at kernel.cl:1:1 is no "
                                  f"acquire{ending}; or make each item's read and write of the word one atomic operation")
 
     def test_a_counter_in_a_group_is_no_lock(self):
         """Each item counts at one line before and after its access. Two atomics that a macro has at one place are a lock."""
-        for sites, message in (((1, 1), GLOBAL), ((1, 2), "nothing orders the two; a release that an acquire takes would: the read-modify-write at kernel.cl:1:1 "
+        for sites, message in (((1, 1), GLOBAL), ((1, 2), "nothing orders the two; a release that an acquire takes would; the read-modify-write at kernel.cl:1:1 "
                                                   "is no release and the read-modify-write at kernel.cl:1:1 is no acquire")):
             steps = "".join("{0} rmw g 9 dev rlx @{1}\n{0} {2} g 5 @3\n{0} rmw g 9 dev rlx @{3}\n".format(item, sites[0], kind, sites[1])
                             for item, kind in enumerate("wr"))
@@ -660,7 +775,7 @@ divergent barrier, number 1 of group 0, and 1 more alike
     def test_a_hand_over_in_a_group_by_atomics_that_are_relaxed(self):
         """A counter in the place of the load is no hand-over: there a barrier is missing."""
         places = "0 0 0 a.cl:1:1\n0 0 1 a.cl:2:1\n0 1 0 a.cl:3:1\n0 1 1 a.cl:4:1\n"
-        weak = ", or a release that an acquire takes: the store at a.cl:2:1 is no release and the load at a.cl:3:1 is no acquire"
+        weak = ", or a release that an acquire takes; the store at a.cl:2:1 is no release and the load at a.cl:3:1 is no acquire"
         for load, more in (("ld", weak), ("rmw", "")):
             streams = [f"group 0 items 2 launch 7\n0 w g 5\n0 st g 9 grp rlx\n1 {load} g 9 grp rlx\n1 r g 5\nend\n"]
             self.assertEqual([it.message for it in self.judged(streams, {"places": places}).findings], [GLOBAL + more])
@@ -677,7 +792,8 @@ divergent barrier, number 1 of group 0, and 1 more alike
 divergent barrier, number 0 of group 1
     b.cl:1:2: item 0
     no barrier: item 1
-    some work-items never reach it; {OUTSIDE}
+    some work-items never reach it
+    {OUTSIDE}
 reason cut: records of 1 of 3 groups were lost (the first is group 0): a group did more than a trace has room for, or was stopped
 """)
 
@@ -714,7 +830,7 @@ races that could not be read: gpurace: places: line 2: bad line
 
     def test_a_group_that_is_not_there(self):
         self.assert_report([tile(1)], SIDES, "incomplete", """\
-reason refused: the trace was refused: gpurace: group 0 missing
+reason refused: the trace was refused: gpurace: group 0 missing; FOLDER/group00.gpurace: it has no stream of this group
 """)
 
     def test_a_race_in_a_launch_with_fences_is_doubtful(self):
@@ -723,25 +839,39 @@ reason refused: the trace was refused: gpurace: group 0 missing
 race on global word 1 (doubtful)
     unknown place: write by group 0, item 0
     unknown place: write by group 0, item 1
-    {GLOBAL}
+    {in_lines(GLOBAL + NOT_JUDGED, 1)}
 reason fences: fences, which are not recorded: the order that they give is not seen: 4, at kernel.cl:4:9, kernel.cl:5:9
 reason images: accesses of images, which are not judged: 2, at kernel.cl:5:1
 reason operations: not recorded: calls of printf
 """)
 
     def test_fences_alone_order_nothing(self):
-        """A race is found, and that nothing is found is an answer, unless an item has done an atomic access, or may have: where the recorder does not
-        say, or something is not recorded."""
-        alone = "a fence alone orders nothing between work-items"
+        """A race is found, unless an item has done an atomic access, or may have: where the recorder does not say, or something is not recorded. That
+        nothing is found is an answer: a fence can only order more."""
+        alone, none = "a fence alone orders nothing between work-items", "what they order is not seen, and does not race without it"
         racy, right = (f"group 0 items 2 launch 7\n0 w g 1\n1 w g {word}\nend\n" for word in (1, 2))
-        for stream, more, verdict, messages in ((racy, "atomics no\n", "found", [f"{GLOBAL}; {alone}"]), (right, "atomics no\n", "nothing", []),
-                                                (racy, "atomics yes\n", "doubtful", [GLOBAL]), (right, "", "incomplete", []),
-                                                (racy, "atomics no\nnote calls of sub_group_any\n", "doubtful", [GLOBAL])):
+        alone = f"no work-item does an atomic access, and {alone}"
+        for stream, more, verdict, messages, note in (
+                (racy, "atomics no\n", "found", [f"{GLOBAL}; {alone.partition(', and ')[2]}"], alone), (right, "atomics no\n", "nothing", [], alone),
+                (racy, "atomics yes\n", "doubtful", [GLOBAL + NOT_JUDGED], ""), (right, "", "nothing", [], none), (right, "atomics yes\n", "nothing", [], none),
+                (racy, "atomics no\nnote calls of sub_group_any\n", "doubtful", [GLOBAL + NOT_JUDGED], "")):
             for fences, where in (("fence 3 kernel.cl:4:9\n", "3, at kernel.cl:4:9"), ("fences-not-recorded 2\n", "2")):
                 launch = self.judged([stream], {"info.txt": info("sums", 7, more=fences + more)})
                 self.assertEqual((launch.verdict, [it.message for it in launch.findings]), (verdict, messages))
-                noted = [f"fences: {where}: no work-item does an atomic access, and {alone}"]
-                self.assertEqual(launch.notes, noted if verdict in ("found", "nothing") else [])
+                self.assertEqual(launch.notes, [f"fences: {where}: {note}"] if note else [])
+
+    def test_fences_of_opencl_1(self):
+        """They order no two work-groups. Within one they may, and so may another fence, and one in a kernel whose atomics may acquire."""
+        two_groups = ["group 0 items 2 launch 7{0}\n0 w g 1\nend\n", "group 1 items 2 launch 7{0}\n0 r g 1\nend\n"]
+        one_group = ["group 0 items 2 launch 7{0}\n0 w g 1\n1 r g 1\nend\n", "group 1 items 2 launch 7{0}\nend\n"]
+        fence, of_groups = "  write_mem_fence(F);", f"{GROUPS}; mem_fence orders nothing between two work-groups"
+        for streams, version, text, verdict, message in (
+                (two_groups, "", fence, "found", of_groups), (two_groups, " v3", fence.replace("write_", ""), "found", of_groups),
+                (two_groups, " v2", fence, "doubtful", GROUPS + NOT_JUDGED), (two_groups, "", "  atomic_work_item_fence(F);", "doubtful", GROUPS + NOT_JUDGED),
+                (two_groups, "", "  FENCE;", "doubtful", GROUPS + NOT_JUDGED), (one_group, "", fence, "doubtful", GLOBAL + NOT_JUDGED)):
+            files = {"info.txt": INFO + "fence 2 kernel.cl:1:3 called at kernel.cl:9:1\natomics yes\n", "kernel.cl": text}
+            launch = self.judged([it.format(version) for it in streams], files)
+            self.assertEqual((launch.verdict, [it.message for it in launch.findings]), (verdict, [message]), text)
 
     def test_atomics_of_a_narrow_scope(self):
         """A race is found as ever; that there is none is no answer."""
@@ -771,7 +901,7 @@ race on global word 1
 race on global word 1
     unknown place: write by group 2 (0,1), item 5 (2,1)
     unknown place: write by group 3 (1,1), item 4 (1,1)
-    {GROUPS}
+    {in_lines(GROUPS)}
 reason window: only groups 2 to 3 of 4 were recorded
 """)
 
@@ -783,8 +913,8 @@ reason window: only groups 2 to 3 of 4 were recorded
                    "0 w g 6\n1 r g 6\n0 r g 40\n1 w g 40\nend\n", "group 1 items 2 launch 7\nend\n"]
         launch = self.judged(streams, {"info.txt": INFO + elements, "buffers": "g 0 16 marks.byte\ng 32 16 other\nl 0 0 64 l_data\n"})
         self.assertEqual(sorted(next(it.lines()) for it in launch.findings), [
-            "race on l_data[1].y, l_data[2] (5 words); on l_data[1].y of group 0, which is word l_data[5]",
-            "race on marks[6], other[8] (2 words); on marks[6], which is word marks.byte[6]"])
+            "race on l_data[1].y, l_data[2] (5 words); on l_data[1].y of group 0, which gpurace explain calls l_data[5]",
+            "race on marks[6], other[8] (2 words); on marks[6], which gpurace explain calls marks.byte[6]"])
 
     def test_the_text_of_a_file_that_is_included(self):
         with tempfile.TemporaryDirectory() as folder:

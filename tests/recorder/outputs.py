@@ -147,7 +147,7 @@ class Forms(Outputs):
     def put_all(self):
         put_racy(self.kept)
         put_racy(self.kept, 1)
-        put_racy(self.kept, 2, "doubtful", more="orders-not-known 2\n")
+        put_racy(self.kept, 2, "doubtful", more="orders-not-known 2\nelement tile \"float2\"\n")
         put_right(self.kept, 3)
         files = {"info.txt": info("divergent", 4, more="out-of-bounds 1 kernel.cl:3:9 write 4 0 1 16 bytes after the end of output, which has 128 bytes\n"),
                  "kernel.cl": KERNEL, "places": "1 kernel.cl:5:9\n", "buffers": BUFFERS}
@@ -159,7 +159,8 @@ class Forms(Outputs):
         made = self.made("made.json")
         self.assertEqual([(it["number"], it["kernel"], it["verdict"], len(it["findings"])) for it in made["launches"]], [
             (0, "sums", "found", 1), (1, "sums", "found", 1), (2, "doubtful", "doubtful", 1), (3, "right", "nothing", 0), (4, "divergent", "found", 2)])
-        race, _, divergence, outside = made["findings"]
+        race, doubtful, divergence, outside = made["findings"]
+        self.assertEqual([(it["shown"], it["word"]) for it in (race, doubtful)], [("tile[8] of group 0", None), ("tile[4].x of group 0", "tile[8]")])
         self.assertEqual((race["kind"], race["title"], race["cause"], race["launches"], race["words"]), ("race", "race on tile[8] of group 0", "no-barrier", 2, 1))
         self.assertEqual(race["buffers"], [{"buffer": "tile", "space": "local", "words": 16, "groups": 1, "spans": [[8, 8]]}])
         self.assertEqual([(it["what"], it["who"], it["place"], it["text"]) for it in race["accesses"]], [

@@ -76,7 +76,7 @@ class Page(RoomTest):
         put_racy(kept, 1, "doubtful", more="orders-not-known 2\n")
         put_right(kept, 2)
         streams = ["group 0 items 2 launch 3\n0 bar 1 l\n0 bar 2 l\n0 w g 128\n1 bar 1 l\n1 w g 128\nend\n"]
-        put_launch(kept / "003-another", streams, {**SIDES, "info.txt": info("another", 3), "kernel.cl": "// <b>&amp;\n" + KERNEL,
+        put_launch(kept / "003-another", streams, {**SIDES, "info.txt": info("another", 3, more='element output "int2"\n'), "kernel.cl": "// <b>&amp;\n" + KERNEL,
                                                    "places": "1 kernel.cl:4:1\n2 kernel.cl:5:1\n0 0 2 kernel.cl:4:9\n0 1 1 kernel.cl:6:9\n"})
         words = [PYTHON, str(TOP / "tools" / "gpurace-judge"), "--html", str(self.room / "page.html"), str(kept)]
         ran = subprocess.run(words, env={**os.environ, "GPURACE_PROGRAM": os.environ["GPURACE"]}, capture_output=True, timeout=300, check=False)
@@ -92,6 +92,9 @@ class Page(RoomTest):
         self.assertIn("does not come", self.text)
         self.assertIn('class="badge doubtful">doubtful<', self.text)
         self.assertIn('<td class="wide">kernel.cl:3:13, kernel.cl:5:20</td>', self.text)
+        self.assertEqual(re.findall('<p class="soft">On (.*):</p>', self.text), ["output[0].x, which gpurace explain calls output[0]"])
+        self.assertEqual(re.findall('<p class="message">(some work-items[^<]*|its place[^<]*)</p>', self.text), [
+            "some work-items never reach it; 1 race follows from it", "its place is outside of branches and loops that they take differently, and before any early return"])
 
     def test_it_needs_nothing_else(self):
         self.assertEqual(re.findall(r'(?:src|href)="(?!#|data:)|@import|url\((?!data:)', self.text), [])

@@ -5,7 +5,7 @@ a capacity of 1 to 65,536, often 1, and 1, 2 or 4 processors. Then, on 1, 2 and 
 one another through queues of one place; a stream that stalls for a second, with the program's processor time
 too; a stream that is cut in the middle, as a file and as a pipe; and a folder in the place of a file. Standard output,
 standard error and status must be those of `replay`, and no run may take more than 60 seconds. Also each allocation of a
-run is refused in turn (tools/refuse_growth.c): the run must say that memory ran out or a thread could not be started, or
+run is refused in turn (tools/refuse.c): the run must say that memory ran out or a thread could not be started, or
 answer as ever. The same seed gives the same runs. Says at the end how many were made; the status is 1 where one differed or
 hung. Needs taskset and a C compiler.
 """
@@ -227,8 +227,8 @@ def run_cut(stress):
 
 def refusing(folder):
     """A library that refuses a program one allocation."""
-    library = pathlib.Path(folder) / "refuse_growth.so"
-    subprocess.run(["cc", "-shared", "-fPIC", "-O2", "-o", library, TOP / "tools/refuse_growth.c"], check=True)
+    library = pathlib.Path(folder) / "refuse.so"
+    subprocess.run(["cc", "-shared", "-fPIC", "-O2", "-o", library, TOP / "tools/refuse.c"], check=True)
     return library
 
 

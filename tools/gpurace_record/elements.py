@@ -34,7 +34,9 @@ class Elements:
         """The element of a buffer; None where its type is not known."""
         name, _, grain = buffer.rpartition(".")
         name, grain = (name, grain) if grain in GRAINS and name else (buffer, "")
-        return Element(name, self.types[name], GRAINS.get(grain, 4)) if bytes_of(self.types.get(name, 0)) else None
+        types = [self.types.get(it, 0) for it in name.split("=")]  # of the arguments that it is
+        is_known = bytes_of(types[0]) != 0 and all(it == types[0] for it in types)
+        return Element(name, types[0], GRAINS.get(grain, 4)) if is_known else None
 
 
 def numbers_of(type: str) -> Tuple[str, int]:

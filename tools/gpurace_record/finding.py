@@ -16,6 +16,7 @@ ORDERS = {"rlx": "relaxed", "acq": "acquire", "rel": "release", "both": "acquire
 SCOPES = {"grp": "work-group", "dev": "device"}
 NEW = "new"          # the state of a finding that is neither known nor suppressed
 NO_PLACE = "unknown place"
+MOST_COLUMNS = 90    # of a line of several sentences
 
 
 @dataclasses.dataclass
@@ -123,12 +124,26 @@ class Finding:
         of one text."""
         return fingerprint_of(self.kind, self.kernel, self.buffers(), self.cause, self.texts())
 
+    def on(self) -> str:
+        """The word that the two accesses race on, with its name to `gpurace explain`."""
+        return self.shown + (f", which gpurace explain calls {self.word}" if self.word else "")
+
+    def sentences(self) -> List[str]:
+        """The message, each sentence on a line; short ones share one."""
+        lines: List[str] = []
+        for said in filter(None, self.message.split("; ")):
+            if lines and len(lines[-1]) + len("; ") + len(said) <= MOST_COLUMNS:
+                lines[-1] += f"; {said}"
+            else:
+                lines.append(said)
+        return lines
+
     def lines(self) -> Iterator[str]:
-        on = (f"; on {self.shown}" if self.words > 1 else "") + (f", which is word {self.word}" if self.word else "")
+        on = f"; on {self.on()}" if self.words > 1 else self.on()[len(self.shown):]
         yield self.title + on + (" (doubtful)" if self.is_doubtful else "")
         for access in self.accesses:
             yield from (f"    {line}" for line in access.lines())
-        yield from [f"    {self.message}"] if self.message else []
+        yield from (f"    {line}" for line in self.sentences())
         if self.is_equal:
             yield f"    all stores to {'it' if self.words == 1 else 'each of them'} write the same value"
 

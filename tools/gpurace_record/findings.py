@@ -134,7 +134,8 @@ class Reader:
         pair = self.pairs.between(said, race, accesses, any(own & it and own != it for it in self.met))
         if pair:
             self.pairs.put_marks((race["first"], race["second"]), accesses)
-            pair = pair._replace(kind=element.kind_of(number) if element else "", value="" if finding.is_equal else pair.value)
+            pair = pair._replace(kind=element.kind_of(number) if element else "", value="" if finding.is_equal else pair.value,
+                                 are_equal=finding.is_equal, is_given_twice="=" in buffer["name"] if buffer else False)
             finding.message = causes.sentence(finding.cause, finding.message, pair)
         shown, word = (name_of(buffer["name"] if buffer else "", said["space"], [(number, number)], 1, it) for it in (element, None))
         finding.shown = shown + ("" if group is None else f" of {self.shape.group_name(group)}")

@@ -54,6 +54,11 @@ def streams_of(folder: str) -> List[str]:
     return sorted(glob.glob(os.path.join(glob.escape(folder), "*.gpurace")))
 
 
+def may_acquire(folder: str) -> bool:
+    """Whether the launch's streams are of a version that the native recorder takes where an atomic may acquire."""
+    return any(RECORD_FORMS.get(mapped(path)[:4]) is LONG for path in streams_of(folder))
+
+
 def mapped(path: str) -> bytes:
     """The bytes of a file, which come into memory when they are looked at."""
     with open(path, "rb") as given:

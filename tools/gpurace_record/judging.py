@@ -3,20 +3,25 @@ from __future__ import annotations
 
 import dataclasses
 import os
+import re
 import subprocess
 import traceback
 from typing import Dict, Iterator, List, Optional, Tuple
 
 from .finding import KINDS, NEW, Finding
 from .findings import Reader, out_of_bounds
-from .folders import Info, end_files, info_of, kept_of, streams_of, windows_of
+from .folders import Info, end_files, info_of, kept_of, may_acquire, streams_of, windows_of
 from .pipes import Piped
-from .sides import Texts, PLACE
+from .sides import CALLED, PLACE, Texts
 
 FOUND, INCOMPLETE = 1, 2
 MOST_PLACES = 3  # of one kind that are shown
 FENCES = ("fence", "fences-not-recorded")  # lines of info.txt
 FENCE = "a fence alone orders nothing between work-items"
+OF_GROUP = "mem_fence orders nothing between two work-groups"
+NOT_JUDGED = ("a fence may order the two, which is not judged; in its place let the atomic after the one access have memory_order_release, and that "
+              "before the other one memory_order_acquire (OpenCL C 2.0)")
+OF_OPENCL1 = re.compile(r"(?:read_|write_)?mem_fence\b")
 NOT_ALL_KEPT = "only its first records are shown, but all are counted, since it has more than are kept; --keep DIR shows all"
 
 
@@ -127,20 +132,42 @@ def judge(program: str, launch: Launch, info: Info, piped: Optional[Piped]) -> N
     found = Reader(program, launch.folder, info, report).findings() if status == FOUND else []
     if status == FOUND and not found:  # no record of it is in files
         found = [Finding("race", launch.kernel, first_of(report[2:-1]))]
-    fences = counted(info, *FENCES)
-    if fences and info["atomics"] == ["no"] and not info["note"]:
-        launch.notes.append(f"fences: {at_places(fences)}: no work-item does an atomic access, and {FENCE}")
-        for key in FENCES:
-            info[key] = []
-        for finding in found:
-            finding.message += f"; {FENCE}" if finding.cause in ("no-barrier", "no-hand-over") else ""
+    look_at_fences(launch, info, found)
     launch.reasons += reasons_of(info, report)
     launch.notes += notes_of(info)
-    is_doubtful = any(reason.name in ("fences", "hand-overs", "orders") for reason in launch.reasons)
+    is_doubtful = any(reason.name in ("hand-overs", "orders") for reason in launch.reasons)
     for finding in found:
         finding.is_doubtful = finding.is_doubtful or (finding.kind == "race" and is_doubtful)
     launch.findings = sorted([*found, *out_of_bounds(info, launch.folder)], key=lambda it: list(KINDS).index(it.kind))
     launch.texts = texts_of(launch)
+
+
+def look_at_fences(launch: Launch, info: Info, found: List[Finding]) -> None:
+    """Which of the findings fences make doubtful: the order that they give is not in the trace. It may only take races away, so that a launch without
+    any is judged. Without atomics fences order nothing, and those of OpenCL 1.x order no two work-groups."""
+    fences, races = counted(info, *FENCES), [it for it in found if it.kind == "race"]
+    if not fences:
+        return
+    are_alone = info["atomics"] == ["no"] and not info["note"]
+    are_of_group = not are_alone and are_of_opencl1(launch.folder, fences)
+    why = FENCE if are_alone else OF_GROUP
+    for race in races:
+        race.is_doubtful = race.is_doubtful or not (are_alone or (are_of_group and race.cause == "no-hand-over"))
+        race.message += f"; {NOT_JUDGED if race.is_doubtful else why}" if race.cause in ("no-barrier", "no-hand-over") else ""
+    if any(it.is_doubtful for it in races):
+        return
+    why = f"no work-item does an atomic access, and {FENCE}" if are_alone else why if races else "what they order is not seen, and does not race without it"
+    launch.notes.append(f"fences: {at_places(fences)}: {why}")
+    for key in FENCES:
+        info[key] = []
+
+
+def are_of_opencl1(folder: str, fences: List[str]) -> bool:
+    """Whether each of the places is one of mem_fence or its like in the text, and no atomic acquires, so that no order leads to another work-group."""
+    texts = Texts(folder)
+    places = [PLACE.fullmatch(line.partition(" ")[2].split(CALLED)[0]) for line in fences]
+    lines = ["".join(texts.text(at[1])[int(at[2]) - 1:int(at[2])])[int(at[3]) - 1:] if at else "" for at in places]
+    return all(map(OF_OPENCL1.match, lines)) and not may_acquire(folder)
 
 
 def first_of(lines: List[str]) -> str:

@@ -39,7 +39,7 @@ def finding_object(mark: str, entry: Entry) -> Dict[str, Any]:
     accesses = [{key: value or None if key in ("place", "text", "scope", "order") else value
                  for key, value in dataclasses.asdict(access).items() if key not in ("marks", "nth")} for access in it.accesses]
     return {"fingerprint": mark, "kind": it.kind, "kernel": it.kernel, "title": it.title, "cause": it.cause, "message": it.message,
-            "words": it.words, "shown": it.shown or None, "buffers": [dataclasses.asdict(buffer) for buffer in it.maps], "accesses": accesses,
+            "words": it.words, "shown": it.shown or None, "word": it.word or None, "buffers": [dataclasses.asdict(buffer) for buffer in it.maps], "accesses": accesses,
             "is_equal": it.is_equal, "is_doubtful": it.is_doubtful, "state": entry.state, "why": entry.why or None,
             "launches": len(entry.launches), "text": list(it.lines())}
 

@@ -90,27 +90,42 @@ class Pairs:
                              for access, event in zip(accesses, (first, second))]
         hands = [self.hand_over(first, second), self.hand_over(second, first)]  # the order of the two says nothing of time
         release, acquire = next((both for both in hands if all(both)), hands[0])
-        meetings = [self.meeting(first, second), self.meeting(second, first)]
-        store, load = meetings[0] or meetings[1] or (None, None)
         is_one_group = said["one_group"]
+        meetings = [self.meeting(first, second), self.meeting(second, first)]
+        over = None if is_one_group else self.meeting_over_barriers(first, second) or self.meeting_over_barriers(second, first)
+        store, load = meetings[0] or meetings[1] or over or (None, None)
         before = self.barrier_before(first, second) if is_one_group else ""
         barriers = self.barriers_between(first, second) if is_one_group else self.barriers_around(first, second) or self.barriers_around(second, first)
         others = None if is_one_group else self.over_barriers(first, second) or self.over_barriers(second, first)
+        late = None if is_one_group else self.before_barriers(first, second) or self.before_barriers(second, first)
+        check = self.check(first, second)
         early = self.early_release(first, second, one) or self.early_release(second, first, other)
         is_line = self.is_line_of_updates(first, second, accesses[0].text)
-        are_rounds = (is_line and is_also_met) or (is_one_group and self.are_of_one_statement(*accesses))
+        is_statement = self.are_of_one_statement(*accesses)
+        are_rounds = (is_line and is_also_met) or (is_one_group and is_statement)
         return causes.Pair(said["space"], is_one_group, one, other, barriers, before.split(CALLED)[0], release, acquire,
                            self.is_update(first) and self.is_update(second), is_line,
                            store, load, are_at_one(str, *accesses),
                            (self.times(first, first), self.times(second, second)) if are_rounds else (0, 0),
-                           self.rounds(first, second, accesses, both, before), early, others,
+                           self.rounds(first, second, accesses, both, before), early, others, late,
                            all(it and (it[0].place, it[0].site) != (it[1].place, it[1].site) for it in meetings),
-                           self.check(first, second), is_also_met=is_also_met, missed=self.missed(first, second) if is_one_group else "",
-                           value=self.value(accesses), is_repeated=are_rounds and (self.is_repeated(first) or self.is_repeated(second)))
+                           check, is_also_met=is_also_met, missed=self.missed(first, second) if is_one_group else "",
+                           value=self.value(accesses), is_repeated=(are_rounds or check is not None) and (self.is_repeated(first) or self.is_repeated(second)),
+                           is_one_statement=is_statement, are_in_turn=is_one_group and not barriers and (self.are_in_turn(first, second) or self.are_in_turn(second, first)))
 
     def times(self, event: Dict[str, Any], other: Dict[str, Any], after: int = -1) -> int:
         """How often the item of an event has come to the place of another one, after a record of it, up to the event."""
         return self.groups[event["group"]].arrivals_of(event["item"]).count(self.step(other), after, event["index"])
+
+    def are_in_turn(self, one: Dict[str, Any], other: Dict[str, Any]) -> bool:
+        """Whether an event's item comes to the place of another event before it and after it, with no barrier between."""
+        group, item, at = self.groups[one["group"]], one["item"], one["index"]
+        phase, barriers = group.phase(item, at), group.barriers[item]
+        start = barriers[phase - 1].at if phase else -1
+        end = barriers[phase].at if phase < len(barriers) else MOST_RECORDS
+        arrivals, there = group.arrivals_of(item), self.step(other)
+        is_same_place = (there.site, there.kind) == (self.step(one).site, self.step(one).kind)
+        return not is_same_place and arrivals.count(there, start, at) > 0 and arrivals.count(there, at, end) > 0
 
     def is_repeated(self, event: Dict[str, Any]) -> bool:
         """Whether the event's item comes to its place several times."""
@@ -218,6 +233,21 @@ class Pairs:
         word = min(words, key=lambda word: stores.stores[word].at)
         return self.at(one, stores.stores[word]), self.at(other, loads.loads[word])
 
+    def meeting_over_barriers(self, one: Dict[str, Any], other: Dict[str, Any]) -> Optional[Tuple[causes.At, causes.At]]:
+        """An atomic that stores, of an event's group after it, and one that loads the same word, of another event's group before that one. Barriers are
+        between, where they are not of the events' items."""
+        met, there = self.groups[one["group"]].meetings, self.groups[other["group"]].meetings
+        for word in sorted(met.stores.keys() & there.loads.keys()):
+            (item, store), (taker, load) = met.step(word, met.stores[word]), there.step(word, there.loads[word])
+            if self.is_ordered(one, item, store.at, 1) and self.is_ordered(other, taker, load.at, -1):
+                return self.at({**one, "item": item}, store), self.at({**other, "item": taker}, load)
+        return None
+
+    def is_ordered(self, event: Dict[str, Any], item: int, at: int, step: int) -> bool:
+        """Whether an event on a global word is ordered before a record of an item of its group, or, with the step -1, after it."""
+        barriers = self.barriers_to(event, item, at, step)
+        return barriers is not None and (not barriers or any(it.flags & 1 and not it.is_divergent for it in barriers))
+
     def early_release(self, one: Dict[str, Any], other: Dict[str, Any], access: causes.At) -> Optional[Tuple[causes.At, causes.At, causes.At]]:
         """The access of an event, the last release of its item, if that comes before it, and an acquire of another event's item before that one
         that takes this release."""
@@ -238,6 +268,16 @@ class Pairs:
         for item, release, taker, acquire in self.hands(one, other):
             is_after = (taker == other["item"] and acquire.at < other["index"]) or any(there.phase(taker, acquire.at) <= at for at in full)
             if item != one["item"] and group.phase(item, release.at) <= phase and is_after:
+                return self.at({**one, "item": item}, release), self.at({**other, "item": taker}, acquire)
+        return None
+
+    def before_barriers(self, one: Dict[str, Any], other: Dict[str, Any]) -> Optional[Tuple[causes.At, causes.At]]:
+        """A release by an event's group that comes after it, by its item or by a barrier, and an acquire of the same word by another item of another
+        event's group, with no barrier between that and the event. Both have device scope."""
+        there = self.groups[other["group"]]
+        phase = there.phase(other["item"], other["index"])
+        for item, release, taker, acquire in self.hands(one, other):
+            if taker != other["item"] and there.phase(taker, acquire.at) == phase and self.is_ordered(one, item, release.at, 1):
                 return self.at({**one, "item": item}, release), self.at({**other, "item": taker}, acquire)
         return None
 

@@ -9,6 +9,7 @@ from typing import Dict, Iterator, List, NamedTuple, Set, Tuple
 from .folders import HEADER, RECORD_FORMS, mapped, streams_in, streams_of
 
 BARRIER, END = 5, 6
+GLOBAL, DEVICE = 0, 2  # a space and a scope
 KIND_OF = ["read", "write", "load", "store", "rmw", "barrier"]
 SCOPE_OF, ORDER_OF = ["", "grp", "dev"], ["", "rlx", "acq", "rel", "both"]
 RELEASE = struct.Struct("<HHI")  # that an acquire names
@@ -54,6 +55,24 @@ class Atomics(NamedTuple):
             self.loads.setdefault(word, step)
 
 
+class Meetings(NamedTuple):
+    """Of the global words on which a group may meet others, its last atomic of device scope that stores, and its first one that loads: the item, the
+    number of the record, what it is, its order and its site."""
+    stores: Dict[int, Tuple[int, int, int, int, int]]
+    loads: Dict[int, Tuple[int, int, int, int, int]]
+
+    def note(self, word: int, met: Tuple[int, int, int, int, int]) -> None:
+        if KIND_OF[met[2]] != "load" and (word in self.stores or len(self.stores) < MOST_WORDS):
+            self.stores[word] = met
+        if KIND_OF[met[2]] != "store" and (word in self.loads or len(self.loads) < MOST_WORDS):
+            self.loads.setdefault(word, met)
+
+    @staticmethod
+    def step(word: int, met: Tuple[int, int, int, int, int]) -> Tuple[int, Step]:
+        item, at, kind, order, site = met
+        return item, Step(at, KIND_OF[kind], GLOBAL, SCOPE_OF[DEVICE], ORDER_OF[order], word, site=site)
+
+
 class Arrivals:
     """The records with which an item has come to each site, by what it does there. Words one after another are one access."""
 
@@ -84,6 +103,7 @@ class Group:
         self.atomics: Dict[int, Atomics] = {item: Atomics({}, {}) for item in wanted}
         self.hands: List[Tuple[int, Step]] = []
         self.arrivals: Dict[int, Arrivals] = {}
+        self.meetings = Meetings({}, {})
         count, releases = [0] * self.items, [0] * self.items
         for at, (kind, space, scope, order, item, site, word) in enumerate(self.form.iter_unpack(self.stream)):
             if kind == BARRIER:
@@ -95,6 +115,8 @@ class Group:
                 names = self.names_at(at) if order in (2, 4) else ()
                 self.note(item, Step(count[item], KIND_OF[kind], space, SCOPE_OF[scope], ORDER_OF[order], word, releases[item] if order > 2 else -1,
                                      names, site))
+            if order and scope == DEVICE and space == GLOBAL:
+                self.meetings.note(word, (item, count[item], kind, order, site))
             count[item] += 1
             releases[item] += order > 2
 
@@ -112,7 +134,7 @@ class Group:
             self.hands.append((item, step))
 
     def arrivals_of(self, item: int) -> Arrivals:
-        """Those of one of the wanted items. Few races ask for them."""
+        """Those of one of the wanted items, which not every race asks for."""
         if not self.arrivals:
             self.arrivals = {it: Arrivals() for it in self.wanted}
             for kind, _, _, _, it, site, word in self.form.iter_unpack(self.stream):
@@ -125,6 +147,7 @@ class Group:
         for item, steps in self.steps.items():
             yield from ((item, step) for step in (*steps, *self.atomics[item].stores.values(), *self.atomics[item].loads.values()))
         yield from self.hands
+        yield from (self.meetings.step(word, met) for those in self.meetings for word, met in those.items())
 
     def phase(self, item: int, index: int) -> int:
         """How many barriers of the item come before its record of this index."""

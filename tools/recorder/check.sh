@@ -151,7 +151,7 @@ expect "components that are written" 1 "race on both\[0\].y, both\[1\].y" "kerne
     "kernel.cl:12:[0-9]*: write by group 0, item 0" -- --build-options -DWRONG components.sim
 # twelve bytes and shorts lie side by side; the thirteenth of each is written by several
 expect "parts of words" 1 "races 2 diverge 0 unmatched 0 held 0" "race on bytes\[12\]" "write by group 4 (1,1), item 0 (0,0)" \
-    "write by group 4 (1,1), item 1 (1,0)" "race on shorts\[12\]" "a release that an acquire takes, at memory_scope_device, would" -- parts.sim
+    "write by group 4 (1,1), item 1 (1,0)" "race on shorts\[12\]" "let one of them do so, or give each a word of its own by another index" -- parts.sim
 # four work-items execute a fence, and one of them writes after the buffer; two groups write four words and end
 expect "what is left out" 1 "left_out: FOUND (2 groups of 2 work-items, 6 records)" \
     "note: fences: 4: no work-item does an atomic access, and a fence alone orders nothing between work-items" \

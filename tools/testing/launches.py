@@ -1,5 +1,6 @@
 """What the tests of the recorder use: launches that are written by hand, as folders."""
 
+import subprocess
 import sys
 
 from testing.program import TOP, pack
@@ -36,6 +37,12 @@ def put_launch(folder, streams, files):
         (folder / f"group{number:02}.gpurace").write_bytes(pack(text))
     for name, text in files.items():
         (folder / name).write_text(text, encoding="utf-8")
+
+
+def put_script(path, text):
+    """Writes a script that can be run at once: another process does so, since each that is forked here meanwhile would keep the file open for writing,
+    and what is open for writing can't be run."""
+    subprocess.run(["sh", "-c", 'cat > "$0" && chmod 755 "$0"', str(path)], input=f"#!/bin/sh\n{text}".encode(), check=True)
 
 
 def put_racy(folder, launch=0, kernel="sums", added_lines=0, more=""):
