@@ -1,5 +1,5 @@
 -- The events of two accesses along an order of which the later one clashes with the earlier one.
-use Rattle.gr_model.proofs.Common.{◌↔◌, arith, ◌≡◌, ◌≢◌, List}
+use Rattle.gr_model.proofs.Common.{◌↔◌, arith, ◌≡◌, List}
 use Rattle.gr_closure.specs.Types.{EventId, Word}
 use Rattle.gr_model.specs.Prelude.{IsLawful, SomePair, IsRacePair, IsTurned, Pair, RacesInOrder, EventBelow, Streams}
 use Rattle.gr_model.proofs.Cuts.{same_event}
@@ -25,10 +25,6 @@ module _ (s : Streams) (w : Word) (e f : EventId) where
       same : (d g : EventId) (x y : ClockedAccess) → IsAccess s d (bare x) → IsAccess s g (bare y) → AreClashing d g ↔ IsClashOf w e f x y
       same d g x y of_d of_g =
           grind (arith, clash_is_hit s w d g x y of_d of_g, hit_is_clash s w d g x y of_d of_g, same_event (event_of x) d, same_event (event_of y) g)
-
-pub clashing_events_differ : (s : Streams) (order : List EventId) (accesses : List ClockedAccess) (w : Word) (e f : EventId) → AreAccesses s order accesses → IsClashIn accesses w e f → e ≢ f
-clashing_events_differ s order accesses w e f are h same =
-    let c = clash_there s w e f order accesses are h in grind (arith, c.7.0.may_race.others, c.7, same)
 
 pub clashes_are_race_pairs : (s : Streams) (order : List EventId) (accesses : List ClockedAccess) (w : Word) (e f : EventId) (pair : Pair) → IsLawful s order → AreAccesses s order accesses → IsClashIn accesses w e f → IsTurned e f pair → EventBelow pair.0 pair.1 → IsRacePair s w pair
 clashes_are_race_pairs s order accesses w e f pair lawful are h turned below =

@@ -1,10 +1,10 @@
 -- What follows of the accesses along an order, each the contract of a function that does nothing.
-use Rattle.std.specs.Prelude.{◌≡◌, ◌≢◌, ◌↔◌, ℕ, List, [], ◌∷◌, ◌++◌, None}
+use Rattle.std.specs.Prelude.{◌≡◌, ◌↔◌, ℕ, List, [], ◌∷◌, ◌++◌, None}
 use Rattle.gr_closure.specs.Types.{EventId, Word}
-use Rattle.gr_model.specs.Prelude.{Streams, Grows, word_at, IsGrounded, IsLawful, IsWholeOrder, IsIn, RacesInOrder, IsRacy, IsRacePair, IsTurned, Pair, EventBelow, SomePair}
+use Rattle.gr_model.specs.Prelude.{Streams, Grows, word_at, IsGrounded, IsLawful, IsWholeOrder, IsIn, RacesInOrder, IsRacy, SomePair}
 use Rattle.gr_steps.specs.Steps.{Handles, Meets}
 use Rattle.gr_clocks.specs.ClockedAccess.{ClockedAccess, bare}
-use Rattle.gr_shadow.specs.Clashes.{IsClashIn, IsHitIn}
+use Rattle.gr_shadow.specs.Clashes.{IsHitIn}
 use Rattle.gr_closure.specs.Accesses.{IsAccess}
 use Rattle.gr_closure.specs.AccessesAlong.{AreAccesses}
 
@@ -19,14 +19,6 @@ LawfulHitsAreRaces = (s : Streams) (order : List EventId) (accesses : List Clock
 -- and along one of all grounded events exactly where it is racy among these
 abbrev pub WholeHitsAreRaces : Type 0
 WholeHitsAreRaces = (s : Streams) (order : List EventId) (accesses : List ClockedAccess) (w : Word) → IsWholeOrder s order → AreAccesses s order accesses → IsHitIn accesses w ↔ IsRacy s (IsGrounded s) w
-
--- the events of two accesses along a lawful order that clash on a word are a racing pair of it, the smaller event first
-abbrev pub ClashesAreRacePairs : Type 0
-ClashesAreRacePairs = (s : Streams) (order : List EventId) (accesses : List ClockedAccess) (w : Word) (e f : EventId) (pair : Pair) → IsLawful s order → AreAccesses s order accesses → IsClashIn accesses w e f → IsTurned e f pair → EventBelow pair.0 pair.1 → IsRacePair s w pair
-
--- and they differ
-abbrev pub ClashingEventsDiffer : Type 0
-ClashingEventsDiffer = (s : Streams) (order : List EventId) (accesses : List ClockedAccess) (w : Word) (e f : EventId) → AreAccesses s order accesses → IsClashIn accesses w e f → e ≢ f
 
 -- ---- steps
 

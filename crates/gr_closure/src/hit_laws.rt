@@ -1,6 +1,6 @@
 //! Laws of hits along an order. Each is the contract of a function that does nothing. docs/MODEL.md, "Hits", gives them in words.
 
-ghost use Rattle.gr_closure.specs.HitLaws.{AccessesStay, ClashesAreRacePairs, ClashingEventsDiffer, HandledAdds, HitsAreClashes, LawfulHitsAreRaces, MetAddNone, OthersAddNone, WholeHitsAreRaces};
+ghost use Rattle.gr_closure.specs.HitLaws.{AccessesStay, HandledAdds, HitsAreClashes, LawfulHitsAreRaces, MetAddNone, OthersAddNone, WholeHitsAreRaces};
 
 /// A word is hit in the accesses along an order exactly where two events of the order clash on it. If the order is lawful, these are the
 /// words that are racy within it. If it also has all grounded events, they are those that are racy among the grounded events.
@@ -8,13 +8,6 @@ pub fn hits_tell_races()
     ensures clashes { HitsAreClashes }
     ensures lawful { LawfulHitsAreRaces }
     ensures whole { WholeHitsAreRaces }
-{}
-
-/// Take two accesses along a lawful order, the later of which clashes with the earlier. Their events differ, and are a racing pair of their
-/// word once the smaller one comes first.
-pub fn clashes_tell_pairs()
-    ensures pairs { ClashesAreRacePairs }
-    ensures differ { ClashingEventsDiffer }
 {}
 
 /// An event that is handled adds its access to those along the order. An event without a word adds none, nor do the

@@ -7,7 +7,8 @@ use gr_places::index::PlaceIndex;
 use gr_places::places::Placed;
 use gr_places::sides::Sides;
 use gr_races::kinds::Operation;
-use gr_races::names::{atomic_of, kind_name, operation_name, order_name, scope_name};
+use gr_races::names::{atomic_of, kind_name, operation_name};
+use gr_text::line_text::{word_of_order, word_of_scope};
 use gr_timeline::details::Details;
 use serde::Serialize;
 use std::alloc::Global;
@@ -123,8 +124,8 @@ impl From<Kind> for KindObject {
         let atomic = atomic_of(kind);
         KindObject {
             kind: kind_name(kind),
-            order: atomic.map(|(_, order)| order_name(order)),
-            scope: atomic.map(|(scope, _)| scope_name(scope)),
+            order: atomic.map(|(_, order)| word_of_order(order)),
+            scope: atomic.map(|(scope, _)| word_of_scope(scope)),
         }
     }
 }

@@ -13,7 +13,7 @@ pub use Rattle.gr_model.specs.Instances.{AreMixed, Arrivals, HasArrived, HasDive
 pub use Rattle.gr_model.specs.LawfulOrders.{IsAt, IsIn, IsLawful, IsWholeOrder}
 pub use Rattle.gr_model.specs.NameLists.{AreAscending, AreNames, AreNamesWithin, IsNameInRange, IsNameWithin, NameBelow}
 pub use Rattle.gr_model.specs.Names.{HasAcquireCause, HasItsReleases, HasName, IsAbsent, IsOfItsWord, IsOfOtherWord, Matches, MatchesBy, names_at, names_of, release_place}
-pub use Rattle.gr_model.specs.RacePairs.{ArePairedRaces, HasTags, IsRacePair, IsTurned, Pair, TagsRace}
+pub use Rattle.gr_model.specs.RacePairs.{HasTags, IsRacePair, IsTurned, Pair, TagsRace}
 pub use Rattle.gr_model.specs.Races.{IsRace, IsRacy, MayRace, RacesInOrder}
 pub use Rattle.gr_model.specs.Reports.{AreRaces, DivergenceBelow, EventBelow, IsCut, IsDivergence, IsHeld, IsReportButRaces, IsReportOf, IsUnmatchedAcquire, IsUnmatchedEntry, Lists, UnmatchedBelow, WholeReport, WordBelow}
 pub use Rattle.gr_model.specs.Shapes.{HasItem, IsPartOfShape, IsShape, IsShapeFault, items_of}

@@ -1,10 +1,9 @@
 -- Racing pairs of a word.
 -- Source: docs/MODEL.md, "Races" and "The report". That the smaller event comes first is this project's own.
-use Rattle.std.specs.Prelude.{◌≡◌, ◌⊎◌, ℕ, List, All, map}
+use Rattle.std.specs.Prelude.{◌≡◌, ◌⊎◌, ℕ}
 use Rattle.gr_model.specs.Types.{EventId, Word}
-use Rattle.gr_model.specs.declared.race.Race.{Race}
 use Rattle.gr_model.specs.Races.{IsRace}
-use Rattle.gr_model.specs.Reports.{AreRaces, EventBelow}
+use Rattle.gr_model.specs.Reports.{EventBelow}
 use Rattle.gr_model.specs.Streams.{Streams}
 use Rattle.gr_model.specs.Waits.{IsGrounded}
 
@@ -22,11 +21,6 @@ pub record IsRacePair (s : Streams) (w : Word) (pair : Pair) : Type 0 where
 -- the pair is of these two events
 abbrev pub IsTurned : EventId → EventId → Pair → Type 0
 IsTurned e f pair = (pair ≡ (e, f)) ⊎ (pair ≡ (f, e))
-
--- the racy words, ascending, each once and with a racing pair
-pub record ArePairedRaces (s : Streams) (races : List Race) : Type 0 where
-  pub words : AreRaces s (map (λ r. r.word) races)
-  pub pairs : All (λ r. IsRacePair s r.word (r.first, r.second)) races
 
 -- ---- by tags: a tag is a number that each event is given, that of its place in a program say
 

@@ -11,7 +11,8 @@ use gr_places::shown::Shown;
 use gr_places::sides::Sides;
 use gr_races::between::Crossing;
 use gr_races::cause::Cause;
-use gr_races::names::{atomic_of, cause_name, cause_sentence, kind_name, order_name, scope_name};
+use gr_races::names::{atomic_of, cause_name, cause_sentence, kind_name};
+use gr_text::line_text::{word_of_order, word_of_scope};
 use gr_timeline::details::Details;
 use std::alloc::{AllocError, Allocator};
 use std::fmt::{self, Display, Formatter};
@@ -69,7 +70,7 @@ impl Display for KindText {
         write!(f, "{}", kind_name(self.0))?;
         match atomic_of(self.0) {
             None => Ok(()),
-            Some((scope, order)) => write!(f, " {} {}", scope_name(scope), order_name(order)),
+            Some((scope, order)) => write!(f, " {} {}", word_of_scope(scope), word_of_order(order)),
         }
     }
 }

@@ -43,24 +43,6 @@ pub fn atomic_of(kind: Kind) -> Option<(Scope, Order)> {
     }
 }
 
-/// The name of a scope.
-pub fn scope_name(scope: Scope) -> &'static str {
-    match scope {
-        Scope::Group => "grp",
-        Scope::Device => "dev",
-    }
-}
-
-/// The name of an order.
-pub fn order_name(order: Order) -> &'static str {
-    match order {
-        Order::Relaxed => "rlx",
-        Order::Acquire => "acq",
-        Order::Release => "rel",
-        Order::Both => "both",
-    }
-}
-
 /// The name of why an instance of barriers is divergent.
 pub fn divergence_name(cause: DivergenceCause) -> &'static str {
     match cause {

@@ -8,8 +8,7 @@ use gr_model::event::Word;
 use gr_model::report::{Divergence, Unmatched};
 use std::alloc::{Allocator, Global};
 
-/// The report of a launch. The reports that `detect` (gr_replay) and `World::report` (gr_world) make have ascending
-/// lists without repeats.
+/// The report of a launch. Those that the detector makes have ascending lists without repeats.
 #[derive(Drop)]
 #[derive_where(Debug, PartialEq)]
 pub struct Report<A: Allocator = Global> {

@@ -20,7 +20,8 @@ fn word_of_space(space: Space) -> &'static str
     }
 }
 
-fn word_of_scope(scope: Scope) -> &'static str
+/// The name of a scope.
+pub fn word_of_scope(scope: Scope) -> &'static str
     ensures { result.now ≡ scope_word scope }
 {
     match scope {
@@ -29,7 +30,8 @@ fn word_of_scope(scope: Scope) -> &'static str
     }
 }
 
-fn word_of_order(order: Order) -> &'static str
+/// The name of an order.
+pub fn word_of_order(order: Order) -> &'static str
     ensures { result.now ≡ order_word order }
 {
     match order {

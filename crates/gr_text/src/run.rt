@@ -114,8 +114,8 @@ pub fn dump_partial<A: Allocator + Copy, T: Read, W: Write>(
     }
 }
 
-/// Reads streams to their end, one after another, and writes the same streams in version 2: of the same groups, items
-/// and launches, and with the same records. Streams of version 2 are written as they are.
+/// Reads streams to their end, one after another, and writes the same streams, those of version 1 in version 2: of the
+/// same groups, items and launches, and with the same records. Streams of other versions are written as they are.
 ///
 /// # Errors
 /// `Stream` with the place of the first stream that has a fault, from 0, and that fault. `Read` if the reader fails, or
