@@ -66,7 +66,13 @@ LAUNCHES = {
     "group 0 items 1 launch 7\n0 ld g 20 dev acq < 1 1 0\nend\n",
     "a group that is given twice": TEXT + TEXT,
     "a missing group": "group 0 items 1 launch 7\nend\ngroup 2 items 1 launch 7\nend\n",
+    "a header alone": header(0, 2),
 }
+
+# a stream that breaks off in its third record, and the text of what comes before
+BROKEN = RACE[:52]
+BEFORE = TEXT[:-4].encode()
+TRUNCATED = b"gpurace: stream 0: truncated\n"
 
 # a launch with side files: between a write and a read of word 16 are two barriers, a release and an acquire
 NOTED = """group 0 items 2 launch 7
@@ -115,10 +121,16 @@ def shown(words, ran):
     return sorted(map(without_standing, lines)) if words[0] == "history" else lines, ran.returncode
 
 
+def are_some(said, due):
+    """Whether these are lines of those, in their order, each of which may be cut short."""
+    left = iter(due)
+    return all(any(it.startswith(line) if line else not it for it in left) for line in said)
+
+
 def has_answer(words, ran, answer):
     """Whether a run has the answer. Of the notes below it a part may be missing: there was no memory for it."""
     said, due = ran.stderr.splitlines(), answer.stderr.splitlines()
-    return shown(words, ran) == shown(words, answer) and said[:1] == due[:1] and all(any(it.startswith(line) for it in due) for line in said)
+    return shown(words, ran) == shown(words, answer) and said[:1] == due[:1] and are_some(said, due)
 
 
 class Refusals(ProgramTest):
@@ -141,24 +153,33 @@ class Refusals(ProgramTest):
         with os.fdopen(taken, "rb") as pipe:
             return ran, bool(pipe.read())
 
-    def each_refused(self, words, given, **settings):
-        """The numbers of the calls that can be refused, from 1, and the run of each."""
+    def each_refused(self, words, given, answer, **settings):
+        """The numbers of the calls that can be refused, from 1, and the run of each. A run in which none is refused has the answer. Threads
+        don't make the same calls each time: several such runs end it."""
+        refused, others = 0, 0
         for number in range(1, MOST):
             ran, is_refused = self.with_refused(words, given, REFUSED=number, **settings)
-            if not is_refused:
-                self.assertGreater(number, 1, f"{words}: nothing was refused")
+            if is_refused:
+                refused += 1
+                yield number, ran
+                continue
+            self.assertEqual((shown(words, ran), ran.stderr), (shown(words, answer), answer.stderr), f"{words}, call {number}")
+            others += 1
+            if others == (3 if words[0] == "run" else 1):
+                self.assertGreater(refused, 0, f"{words}: nothing was refused")
                 return
-            yield number, ran
         self.fail(f"{words} has more calls")
 
     def assert_wanting(self, words, given=b"", **settings):
         """Each run with an allocation refused has the answer, or says that memory ran out, or that a thread can't be started, and writes
         nothing. Gives the answer."""
-        answer = self.gpurace(*words, given=given)
-        for number, ran in self.each_refused(words, given, **settings):
+        answer, wanting = self.gpurace(*words, given=given), 0
+        for number, ran in self.each_refused(words, given, answer, **settings):
             if not has_answer(words, ran, answer):
-                wanted = NO_THREAD if b"thread" in ran.stderr else NO_MEMORY
+                wanted = NO_THREAD if words[0] == "run" and b"thread" in ran.stderr else NO_MEMORY
                 self.assertEqual((ran.stdout, ran.stderr, ran.returncode), wanted, f"{words}, call {number}")
+                wanting += 1
+        self.assertGreater(wanting, 0, f"{words}: no refusal is reported")
         return answer
 
     def assert_wanting_of_input(self, words, given=b""):
@@ -197,12 +218,12 @@ class Growths(Refusals):
                     self.assert_wanting_of_input(words.split(), pack(text))
 
     def test_a_stream_that_breaks_off_is_dumped_in_part(self):
-        answer = self.assert_wanting_of_input(["dump", "--partial"], pack(TEXT)[:52])
-        self.assert_run(answer, TEXT[:-4].encode(), 2, b"gpurace: stream 0: truncated\n")
+        answer = self.assert_wanting_of_input(["dump", "--partial"], BROKEN)
+        self.assert_run(answer, BEFORE, 2, TRUNCATED)
 
-    def ask_all(self, text):
+    def ask_all(self, launch):
         """The report of a launch, and all questions about it."""
-        stream = pack(text)
+        stream = pack(launch) if isinstance(launch, str) else launch
         self.put("launch", stream)
         self.assert_wanting_of_input(["replay"], stream)
         for words in QUESTIONS:
@@ -225,8 +246,8 @@ class Growths(Refusals):
         self.assertEqual(answer.stdout.splitlines()[2:], [b"race global 28", b"end races 1 diverge 0 unmatched 0 held 0"])
 
 
-for launch, its_text in LAUNCHES.items():
-    setattr(Growths, f"test_questions_about_{launch.replace(' ', '_')}", functools.partialmethod(Growths.ask_all, its_text))
+for name_of_launch, launch_of_name in LAUNCHES.items():
+    setattr(Growths, f"test_questions_about_{name_of_launch.replace(' ', '_')}", functools.partialmethod(Growths.ask_all, launch_of_name))
 
 
 class Openings(Refusals):
@@ -237,41 +258,50 @@ class Openings(Refusals):
 
 
 class Reads(Refusals):
-    """Reads give one byte each, and all from some one on fail."""
+    """Each read gives one byte. From one of them on, all fail."""
 
-    each_read = functools.partialmethod(Refusals.each_refused, REFUSED_KIND="read", REFUSED_ERROR=errno.EIO, REFUSED_SIZE=1)
+    def each_read(self, words, given=b""):
+        """The answer, and the runs of which a read failed."""
+        answer = self.gpurace(*words, given=given)
+        failing = self.each_refused(words, given, answer, REFUSED_KIND="read", REFUSED_ERROR=errno.EIO, REFUSED_SIZE=1)
+        return answer, [ran for _, ran in failing]
 
     def test_standard_input_that_fails(self):
-        for words, given in (*((words, RACE) for words in INPUTS), ("pack", TEXT.encode())):
+        for words, given in (*((words, RACE) for words in INPUTS), ("dump --partial", BROKEN), ("pack", TEXT.encode())):
             with self.subTest(words=words):
-                reads = list(self.each_read(words.split(), given))
-                self.assertGreater(len(reads), len(given))
-                for _, ran in reads:
+                _, failing = self.each_read(words.split(), given)
+                self.assertGreater(len(failing), len(given))
+                for ran in failing:
                     self.assert_run(ran, b"", 5, READ_FAULT)
 
     def test_a_fault_comes_before_a_failure_after_it(self):
-        given = RACE[:13] + b"\x02" + RACE[14:]
-        for number, ran in self.each_read(["replay"], given):
-            self.assert_run(ran, b"", *((5, READ_FAULT) if number <= 32 else (2, b"gpurace: stream 0: bad field at byte 1\n")))
+        answer, failing = self.each_read(["replay"], RACE[:13] + b"\x02" + RACE[14:])
+        self.assert_run(answer, b"", 2, b"gpurace: stream 0: bad field 1\n")
+        self.assertEqual(len(failing), 32)
+        for ran in failing:
+            self.assert_run(ran, b"", 5, READ_FAULT)
 
     def test_files_that_fail(self):
         for name, content in (("launch", pack(NOTED)), ("places", PLACES), ("buffers", BUFFERS)):
             self.put(name, content)
         for words in ("races --causes", "explain --long g 16", "history g 16", "why-held 0 0 0", "check", "run"):
             sides = SIDES if words.startswith(("races", "explain", "history")) else ()
+            line = READ_FAULT if words.startswith(("explain", "run")) else b""
+            due = b"%sgpurace: %s: Input/output error\n" % (line, b"places" if sides else b"launch")
             with self.subTest(words=words):
-                for number, ran in self.each_read([*words.split(), *sides, "launch"], b""):
-                    self.assertRegex(ran.stderr, rb"^(gpurace: read fault\n)?gpurace: (launch|places|buffers): Input/output error\n$", f"read {number}")
-                    self.assertEqual((ran.stdout, ran.returncode), (b"", 5), f"read {number}")
+                for ran in self.each_read([*words.split(), *sides, "launch"])[1]:
+                    self.assert_run(ran, b"", 5, due)
 
 
 class Writes(Refusals):
-    """Writes take seven bytes each, and all from some one on fail, or take nothing."""
+    """Each write takes seven bytes. From one of them on, all fail or take nothing."""
 
     def assert_prefixes(self, words, given=b""):
         answer = self.gpurace(*words, given=given)
         for error in (errno.ENOSPC, 0):
-            for number, ran in self.each_refused(words, given, REFUSED_KIND="write", REFUSED_ERROR=error, REFUSED_SIZE=7):
+            failing = list(self.each_refused(words, given, answer, REFUSED_KIND="write", REFUSED_ERROR=error, REFUSED_SIZE=7))
+            self.assertEqual(len(failing), -(-len(answer.stdout) // 7), words)
+            for number, ran in failing:
                 self.assert_run(ran, answer.stdout[: 7 * (number - 1)], 5, WRITE_FAULT)
 
     def test_standard_output_that_fails(self):
@@ -281,5 +311,6 @@ class Writes(Refusals):
         for words in (*FILES, *JSON):
             with self.subTest(words=words):
                 self.assert_prefixes([*words.split(), "race"])
+        self.assert_prefixes(["dump", "--partial"], BROKEN)
         self.assert_prefixes(["pack"], TEXT.encode())
         self.assert_prefixes(["--version"])

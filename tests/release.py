@@ -17,11 +17,15 @@ def copy_of_repository(to):
         shutil.copy2(TOP / name, to / name)
     shutil.copytree(TOP / "tools", to / "tools")
     shutil.copytree(TOP / "recorder", to / "recorder", ignore=shutil.ignore_patterns("out"))
-    shutil.copytree(TOP / "crates", to / "crates", ignore=shutil.ignore_patterns("out", "proofs", "specs", "wrong", "must-fail"))
+    shutil.copytree(TOP / "crates", to / "crates", ignore=shutil.ignore_patterns("out", "proofs", "wrong", "must-fail"))
     built = to / "crates" / "gr_cli" / "out" / "gr_cli"
     built.parent.mkdir()
     shutil.copyfile(os.environ["GPURACE"], built)
     built.chmod(0o755)
+    kit = to / "kit" / "rt"
+    kit.parent.mkdir()
+    kit.write_text("#!/bin/sh\necho a kit\n")
+    kit.chmod(0o755)
     return built
 
 
@@ -31,10 +35,12 @@ class Release(unittest.TestCase):
         self.addCleanup(shutil.rmtree, self.top, ignore_errors=True)
         self.built = copy_of_repository(self.top)
         self.source = self.top / "crates" / "gr_model" / "src" / "lib.rt"
+        self.definition = self.top / "crates" / "gr_model" / "specs" / "Races.antt"
         self.assertEqual(self.release("take").returncode, 0)
 
     def release(self, *words):
-        return subprocess.run([self.top / "tools" / "release", *words], stdout=subprocess.PIPE, stderr=subprocess.PIPE, check=False)
+        environ = {**os.environ, "PATH": f"{self.top / 'kit'}:{os.environ['PATH']}"}
+        return subprocess.run([self.top / "tools" / "release", *words], stdout=subprocess.PIPE, stderr=subprocess.PIPE, env=environ, check=False)
 
     def script(self, *words, **settings):
         settings = {"input": b"", "stdout": subprocess.PIPE, "stderr": subprocess.PIPE, "check": False, **settings}
@@ -48,25 +54,30 @@ class Release(unittest.TestCase):
 
     def test_what_was_taken_is_accepted(self):
         self.assertEqual(self.release("check", "--strict").returncode, 0)
+        self.assertEqual((self.top / "release" / "KIT").read_text(), "a kit\n")
 
     def test_a_changed_byte_is_refused(self):
         self.change_a_byte()
         self.assertEqual(self.release("check").returncode, 1)
         self.assertEqual(self.release("check", "--strict").returncode, 1)
 
-    def test_a_changed_source_is_named_and_strictly_refused(self):
-        self.source.write_text(self.source.read_text() + "\n")
-        self.assertIn(b"crates/gr_model/src/lib.rt", self.release("check").stderr)
-        self.assertEqual(self.release("check").returncode, 0)
-        self.assertEqual(self.release("check", "--strict").returncode, 1)
+    def test_a_changed_source_or_definition_is_named_and_strictly_refused(self):
+        for changed in (self.source, self.definition):
+            self.assertEqual(self.release("take").returncode, 0)
+            changed.write_text(changed.read_text() + "\n")
+            self.assertIn(b": %s\n" % bytes(changed.relative_to(self.top)), self.release("check").stderr)
+            self.assertEqual(self.release("check").returncode, 0)
+            self.assertEqual(self.release("check", "--strict").returncode, 1)
 
     def test_an_added_source_is_strictly_refused(self):
         (self.source.parent / "more.rt").write_text("")
         self.assertEqual(self.release("check", "--strict").returncode, 1)
 
-    def test_a_missing_release_is_refused(self):
-        (self.top / "release" / "SOURCES").unlink()
-        self.assertEqual(self.release("check").returncode, 1)
+    def test_a_part_of_the_release_that_is_missing_is_refused(self):
+        for name in ("SOURCES", "KIT"):
+            self.assertEqual(self.release("take").returncode, 0)
+            (self.top / "release" / name).unlink()
+            self.assertEqual(self.release("check").returncode, 1)
 
     def test_the_script_runs_what_was_built_while_no_source_is_newer(self):
         self.assertEqual(self.script("--which").stdout, b"%s\n" % bytes(self.built))

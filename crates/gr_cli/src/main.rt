@@ -7,8 +7,8 @@
 use gr_command::execute::execute;
 use gr_command::status::{FAILED, FOUND, NOTHING, REFUSED, USAGE, status_of_sides_fault};
 use gr_model::memory::Memory;
-use gr_places::shown::Shown;
-use gr_places::sides_fault::write_sides_fault;
+use gr_places::escaped::Escaped;
+use gr_places::sides_fault::{SidesFault, write_sides_fault};
 use gr_plan::notes::{note_buffers, report};
 use gr_plan::plan::{Plan, Refusal, plan_of};
 use gr_plan::progress::{Cleared, Watched};
@@ -48,7 +48,7 @@ fn refuse(refusal: &Refusal, errors: &mut Stderr) -> u8 {
             status_of_sides_fault(fault)
         }
         Refusal::NoFile(reason) => {
-            let _ = writeln!(errors, "gpurace: {}", Shown(reason.as_str()));
+            let _ = writeln!(errors, "gpurace: {}", Escaped(reason.as_str()));
             FAILED
         }
         Refusal::Buffers(fault, path) => {
@@ -57,8 +57,35 @@ fn refuse(refusal: &Refusal, errors: &mut Stderr) -> u8 {
             REFUSED
         }
         Refusal::Usage(text) => {
-            let _ = writeln!(errors, "error: {}", Shown(text.as_str()));
+            let _ = writeln!(errors, "error: {}", Escaped(text.as_str()));
             USAGE
+        }
+    }
+}
+
+/// Reports on standard error what an outcome does not say, or its fault, and gives the exit status.
+fn conclude(
+    plan: &mut Plan,
+    command: &str,
+    outcome: Result<u8, SidesFault>,
+    errors: &mut Stderr,
+) -> u8 {
+    match outcome {
+        Ok(status) => {
+            if status <= REFUSED {
+                let _ = plan.note_answer(status == REFUSED, errors);
+            }
+            if let (Some(note), NOTHING | FOUND) = (&plan.note, status) {
+                let _ = writeln!(errors, "gpurace: {}", Escaped(note.as_str()));
+            }
+            status
+        }
+        Err(fault) => {
+            let _ = report(plan, command, &fault, errors);
+            if plan.reading.empty_file().is_some() {
+                return REFUSED;
+            }
+            status_of_sides_fault(&fault)
         }
     }
 }
@@ -91,27 +118,8 @@ where
     if let Some(progress) = &plan.files.progress {
         progress.clear();
     }
-    match outcome {
-        Ok(status) => {
-            if status <= REFUSED {
-                let _ = plan.note_answer(status == REFUSED, &mut errors);
-            }
-            if let (Some(note), NOTHING | FOUND) = (&plan.note, status) {
-                let _ = writeln!(errors, "gpurace: {}", Shown(note.as_str()));
-            }
-            Ok(status)
-        }
-        Err(fault) => {
-            let command = words.first().map_or("", |word| word.as_str());
-            let _ = report(plan, command, &fault, &mut errors);
-            let is_empty = plan.reading.empty_file().is_some();
-            Ok(if is_empty {
-                REFUSED
-            } else {
-                status_of_sides_fault(&fault)
-            })
-        }
-    }
+    let command = words.first().map_or("", |word| word.as_str());
+    Ok(conclude(plan, command, outcome, &mut errors))
 }
 
 /// Does what the words of the command line ask for, and gives the exit status. Only a run in threads uses `handle`.

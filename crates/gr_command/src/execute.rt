@@ -202,7 +202,10 @@ fn wrong_usage(why: Misuse) -> (&'static str, &'static str) {
         Misuse::NoWordToExplain => (NO_WORD, EXPLAIN_USAGE),
         Misuse::NoWordOfHistory => (NO_WORD, HISTORY_USAGE),
         Misuse::NoCount => ("N of --most is out of range", RACES_USAGE),
-        Misuse::NoSetUp => ("N of an option is out of range", RUN_USAGE),
+        Misuse::NoSetUp => (
+            "N of --workers, --queues or --capacity is out of range",
+            RUN_USAGE,
+        ),
         Misuse::NoEvent => (NO_EVENT, WHY_HELD_USAGE),
     }
 }

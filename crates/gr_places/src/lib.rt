@@ -8,6 +8,7 @@
 pub mod buffers;
 pub mod checking;
 pub mod counts;
+pub mod escaped;
 pub mod fault_places;
 pub mod files;
 pub mod index;
@@ -18,7 +19,6 @@ mod neighbours;
 pub mod opening;
 pub mod places;
 pub mod sentences;
-pub mod shown;
 pub mod sides;
 pub mod sides_fault;
 pub mod spot;

@@ -3,9 +3,9 @@
 use gr_model::memory::Memory;
 use gr_places::checking::Checked;
 use gr_places::counts::Counts;
+use gr_places::escaped::Escaped;
 use gr_places::fault_places::FaultPlace;
 use gr_places::sentences::wrong_and_right;
-use gr_places::shown::Shown;
 use gr_places::spot::Spot;
 use gr_record::fault::Fault;
 use gr_report::put_fault;
@@ -26,7 +26,7 @@ fn put_counts<W: Write>(writer: &mut W, counts: &Counts) -> io::Result<()> {
 fn put_file<W: Write>(writer: &mut W, label: &str, name: Option<&str>) -> io::Result<()> {
     match name {
         None => Ok(()),
-        Some(name) => writeln!(writer, "{label} {}", Shown(name)),
+        Some(name) => writeln!(writer, "{label} {}", Escaped(name)),
     }
 }
 

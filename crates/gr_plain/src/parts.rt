@@ -5,9 +5,9 @@ ghost use Rattle.gr_plain.specs.Explanations.{event_text, word_text};
 
 use gr_model::event::{EventId, Kind, Word};
 use gr_places::buffers::element_of;
+use gr_places::escaped::Escaped;
 use gr_places::index::PlaceIndex;
 use gr_places::places::Placed;
-use gr_places::shown::Shown;
 use gr_places::sides::Sides;
 use gr_races::between::Crossing;
 use gr_races::cause::Cause;
@@ -56,7 +56,7 @@ impl Display for AtText<'_> {
     fn fmt<W: fmt::Write>(&self, f: &mut Formatter<W>) -> fmt::Result {
         match self.0 {
             None => Ok(()),
-            Some(place) => write!(f, " at {}", Shown(place)),
+            Some(place) => write!(f, " at {}", Escaped(place)),
         }
     }
 }
@@ -111,7 +111,7 @@ pub(crate) fn put_buffer<A: Allocator>(
 ) -> Added {
     match element_of(sides.buffers, word) {
         None => Ok(()),
-        Some(named) => writeln!(text, "buffer {}[{}]", Shown(named.name), named.index),
+        Some(named) => writeln!(text, "buffer {}[{}]", Escaped(named.name), named.index),
     }
 }
 

@@ -2,9 +2,9 @@
 
 use crate::parts::{Added, WordText, put_cause, put_race, put_site};
 use gr_model::memory::Memory;
+use gr_places::escaped::Escaped;
 use gr_places::index::PlaceIndex;
 use gr_places::places::Placed;
-use gr_places::shown::Shown;
 use gr_places::sides::Sides;
 use gr_races::between::Crossing;
 use gr_races::by_kind::RacesByKind;
@@ -100,7 +100,7 @@ fn put_entry<A: Allocator>(
     put_race(text, sides, race.word, (race.first, race.second))?;
     for (label, event) in [("first", race.first), ("second", race.second)] {
         if let Some(place) = places.place_of(Placed::Event(event)) {
-            writeln!(text, "{label} {}", Shown(place))?;
+            writeln!(text, "{label} {}", Escaped(place))?;
         }
     }
     if kind.all_write_here() {

@@ -200,8 +200,8 @@ impl Files {
         }
     }
 
-    /// Adds the streams of what has this name. `run` reads pipes while they are written, so each has one stream; for all other
-    /// commands the whole pipe is read here.
+    /// Adds the streams of what has this name. `run` reads pipes while they are written, so each has one stream. Other pipes, and standard
+    /// input, are read here, up to their end or their first fault.
     fn add(&mut self, line: &Line<'_>, name: &str) -> Result<(), Refusal> {
         match file_kind(self.rt, name) {
             FileKind::Pipe if line.command == "run" => Ok(self.add_name(name)?),

@@ -112,15 +112,16 @@ impl<'a> Line<'a> {
         })
     }
 
-    /// Refuses the first option whose value is no number that it may have.
+    /// Refuses the first of the command's options whose value is no number that it may have.
     pub fn check_numbers(&self) -> Result<(), Refusal> {
-        for (option, least, most) in [
-            ("--most", 0, u32::MAX),
-            ("--workers", 1, u32::from(MOST_WORKERS)),
-            ("--queues", 1, u32::from(MOST_QUEUES)),
-            ("--capacity", 1, MOST_PLACES),
+        for (command, option, least, most) in [
+            ("races", "--most", 0, u32::MAX),
+            ("run", "--workers", 1, u32::from(MOST_WORKERS)),
+            ("run", "--queues", 1, u32::from(MOST_QUEUES)),
+            ("run", "--capacity", 1, MOST_PLACES),
         ] {
-            let value = self.value_of(option).unwrap_or("1");
+            let value = self.value_of(option).filter(|_| command == self.command);
+            let value = value.unwrap_or("1");
             if !number_of(value).is_some_and(|number| (least..=most).contains(&number)) {
                 let text = format!(in self.rt.alloc();
                     "{option} takes a number from {least} to {most}, not '{value}'"

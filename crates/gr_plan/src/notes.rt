@@ -6,6 +6,7 @@ use crate::plan::Plan;
 use crate::reading::Kept;
 use crate::seen::Seen;
 use crate::text_fault::put_bad_line;
+use gr_places::escaped::Escaped;
 use gr_places::sides_fault::{SidesFault, write_sides_fault};
 use gr_record::error::RecordError;
 use gr_record::fault::Fault;
@@ -14,10 +15,17 @@ use std::fs::File;
 use std::io::{self, ErrorKind, Read, Stderr, Write};
 use std::mem;
 
-/// The form of a line of places, and of one of buffers.
-const PLACE: &str = "GROUP ITEM INDEX TEXT, or SITE TEXT; TEXT begins with no digit";
+/// The form of a file of places, of one of sites, and of one of buffers.
+const PLACES: &str = "its lines are GROUP ITEM INDEX TEXT, or SITE TEXT; TEXT begins with no digit";
 
-const BUFFER: &str = "g FIRST WORDS NAME, or l GROUP FIRST WORDS NAME";
+const SITES: &str = "its lines are texts; none is empty or begins with a digit";
+
+const BUFFERS: &str = "its lines are g FIRST WORDS NAME, or l GROUP FIRST WORDS NAME";
+
+/// Reports something of a file.
+pub fn note_file(name: &str, what: &str, errors: &mut Stderr) -> io::Result<()> {
+    writeln!(errors, "gpurace: {}: {what}", Escaped(name))
+}
 
 /// Writes the line of a fault of a command, and what is added to it. If no more was read of a pipe after a record that is refused, that is
 /// the fault, and not a group that is missing.
@@ -43,7 +51,7 @@ fn report_fault(
     errors: &mut Stderr,
 ) -> io::Result<()> {
     if let Some(name) = plan.reading.empty_file() {
-        return writeln!(errors, "gpurace: {name}: the file is empty");
+        return note_file(name, "the file is empty", errors);
     }
     let unread = match fault {
         SidesFault::Run(Fault::Read) => unread_of(plan),
@@ -83,28 +91,31 @@ fn note(plan: &mut Plan, command: &str, fault: &Fault, errors: &mut Stderr) -> i
         Fault::BadLine(line) => note_line(plan, line, errors),
         Fault::NoEnd => match plan.reading.names.last() {
             None => Ok(()),
-            Some(name) => writeln!(errors, "gpurace: {name}: its last stream has no end"),
+            Some(name) => note_file(name.as_str(), "its last stream has no end", errors),
         },
         Fault::MissingGroup(_) => match &plan.files.torn {
             None => note_missing(plan, errors),
-            Some(name) => writeln!(
+            Some(name) => note_file(
+                name.as_str(),
+                "its last stream is truncated, and streams after it may be lost",
                 errors,
-                "gpurace: {name}: its last stream is truncated, and streams after it may be lost"
             ),
         },
         _ => Ok(()),
     }
 }
 
-/// Reports which files have no stream of a group, unless they are standard input alone.
+/// Reports which files have no stream of a group. Of standard input without a name nothing is said.
 fn note_missing(plan: &Plan, errors: &mut Stderr) -> io::Result<()> {
     let mut names = plan.reading.names.iter().chain(&plan.files.names);
     match (names.next(), names.last()) {
         (None, _) => Ok(()),
-        (Some(name), None) => writeln!(errors, "gpurace: {name}: it has no stream of this group"),
+        (Some(name), None) => note_file(name.as_str(), "it has no stream of this group", errors),
         (Some(name), Some(last)) => writeln!(
             errors,
-            "gpurace: {name} to {last}: none has a stream of this group"
+            "gpurace: {} to {}: none has a stream of this group",
+            Escaped(name.as_str()),
+            Escaped(last.as_str())
         ),
     }
 }
@@ -141,14 +152,10 @@ fn note_line(plan: &Plan, number: u64, errors: &mut Stderr) -> io::Result<()> {
 fn note_side(plan: &Plan, is_of_places: bool, errors: &mut Stderr) -> io::Result<()> {
     let files = &plan.files;
     match (&files.places, &files.buffers) {
-        (Some(path), _) if is_of_places && files.has_piece(path.as_str()) => writeln!(
-            errors,
-            "gpurace: {path}: its lines are texts; none is empty or begins with a digit"
-        ),
-        (Some(path), _) if is_of_places => writeln!(
-            errors,
-            "gpurace: {path}: its lines are {PLACE}"
-        ),
+        (Some(path), _) if is_of_places && files.has_piece(path.as_str()) => {
+            note_file(path.as_str(), SITES, errors)
+        }
+        (Some(path), _) if is_of_places => note_file(path.as_str(), PLACES, errors),
         (_, Some(path)) if !is_of_places => note_buffers(path.as_str(), errors),
         (_, _) => Ok(()),
     }
@@ -156,7 +163,7 @@ fn note_side(plan: &Plan, is_of_places: bool, errors: &mut Stderr) -> io::Result
 
 /// Reports which file of buffers has a line that is out of form, and the form.
 pub fn note_buffers(path: &str, errors: &mut Stderr) -> io::Result<()> {
-    writeln!(errors, "gpurace: {path}: its lines are {BUFFER}")
+    note_file(path, BUFFERS, errors)
 }
 
 /// Opens a file, and reads of it if asked to. Pipes are left as they are.
@@ -201,16 +208,18 @@ pub fn reason_of(alloc: Global, name: &str, error: &io::Error) -> Result<String,
 
 /// Reports that a folder has no stream, or that it holds the folders of launches; or that the command takes no folder.
 fn note_folder(rt: HostRuntime, name: &str, command: &str, to: &mut Stderr) -> io::Result<()> {
-    write!(to, "gpurace: {name}: ")?;
     match launch_in(rt, name) {
-        _ if command == "pack" => writeln!(to, "this is a folder; pack takes files of text"),
+        _ if command == "pack" => note_file(name, "this is a folder; pack takes files of text", to),
         Some(launch) => writeln!(
             to,
-            "this folder holds launches; give one of them, such as {launch}"
+            "gpurace: {}: this folder holds launches; give one of them, such as {}",
+            Escaped(name),
+            Escaped(launch.as_str())
         ),
-        None => writeln!(
+        None => note_file(
+            name,
+            "no stream in this folder: no file whose name ends in .gpurace",
             to,
-            "no stream in this folder: no file whose name ends in .gpurace"
         ),
     }
 }
@@ -228,7 +237,7 @@ fn note_unread(
         return note_folder(plan.rt, name, command, errors);
     }
     let reason = reason_of(plan.rt.alloc(), name, error)?;
-    writeln!(errors, "gpurace: {reason}")
+    writeln!(errors, "gpurace: {}", Escaped(reason.as_str()))
 }
 
 /// Writes where the fault of a stream is, if its file has a name, and what may have caused it.
@@ -240,10 +249,10 @@ fn put(
 ) -> io::Result<()> {
     let record = account.records;
     if let (Some(name), true) = (name, account.is_empty()) {
-        return writeln!(to, "gpurace: {name}: the file is empty");
+        return note_file(name, "the file is empty", to);
     }
     if let Some(name) = name {
-        write!(to, "gpurace: {name}: stream {stream}, ")?;
+        write!(to, "gpurace: {}: stream {stream}, ", Escaped(name))?;
         match account.header {
             _ if account.fault == Some(RecordError::AfterEnd) && !is_header => {
                 writeln!(to, "after its end")?;
@@ -253,7 +262,7 @@ fn put(
         }
     }
     if is_header && account.is_text() {
-        let name = name.unwrap_or("the input");
+        let name = Escaped(name.unwrap_or("the input"));
         if account.starts.is_empty() {
             writeln!(
                 to,
@@ -291,7 +300,7 @@ fn note_stream(to: &mut Stderr, plan: &mut Plan, stream: u64, is_header: bool) -
     if let Some(name) = plan.files.names.get(number) {
         let name = name.as_str();
         return match account_again(plan, name) {
-            None => writeln!(to, "gpurace: {name}: stream {number}"),
+            None => writeln!(to, "gpurace: {}: stream {number}", Escaped(name)),
             Some(account) => put(to, (stream, is_header), Some(name), &account),
         };
     }
@@ -313,6 +322,7 @@ fn note_stream(to: &mut Stderr, plan: &mut Plan, stream: u64, is_header: bool) -
 fn note_pipe(plan: &Plan, stream: u64, to: &mut Stderr) -> io::Result<()> {
     match plan.files.names.get(stream as usize) {
         Some(name) if file_kind(plan.rt, name.as_str()) == FileKind::Pipe => {
+            let name = Escaped(name.as_str());
             writeln!(to, "gpurace: {name} is a pipe: run reads one stream of it")
         }
         _ => Ok(()),

@@ -4,6 +4,7 @@ use crate::account::Account;
 use crate::files::{FileKind, Files, copies_of, file_kind, paths_of_streams};
 use crate::line::{Line, Taking, is_option, may_be_command, taking_of};
 use crate::named::{Naming, naming_in, spelling_of};
+use crate::notes::note_file;
 use crate::progress::Progress;
 use crate::reading::{Kept, Reading};
 use crate::seen::Sought;
@@ -15,7 +16,7 @@ use gr_model::memory::Memory;
 use gr_places::sides_fault::SidesFault;
 use gr_record::fault::Fault;
 use std::alloc::Global;
-use std::io::{self, IsTerminal, Stderr, Write};
+use std::io::{self, IsTerminal, Stderr};
 use std::sync::Arc;
 
 /// How the words of a command line are done.
@@ -39,7 +40,7 @@ pub enum Refusal {
     Buffers(SidesFault, String),
     /// A file that is needed first can't be read: which file, and why.
     NoFile(String),
-    /// A word is given by a name that no word has, or no file has: why.
+    /// The words are wrong: why.
     Usage(String),
 }
 
@@ -88,12 +89,12 @@ impl Plan {
         Ok(())
     }
 
-    /// Reports what an answer does not say about its word or its record, or a check that refuses its files about one that is empty.
+    /// Reports what an answer does not say of its word or its record. Of files that `check` refuses it names one that is empty.
     pub fn note_answer(&self, is_refused: bool, errors: &mut Stderr) -> io::Result<()> {
         let mut names = self.files.names.iter().filter(|_| is_refused);
         let empty = names.find(|name| self.files.size_of(name.as_str()) == Some(0));
         match (empty, &self.files.seen.sought) {
-            (Some(name), _) => writeln!(errors, "gpurace: {name}: the file is empty"),
+            (Some(name), _) => note_file(name.as_str(), "the file is empty", errors),
             (None, Some(sought)) => sought.report(errors),
             (None, None) => Ok(()),
         }

@@ -1,6 +1,7 @@
 //! Which word of a line of a text is at fault, and what should be in its place (docs/FORMATS.md, "Text form").
 
 use gr_model::limits::MOST_RECORDS;
+use gr_places::escaped::Escaped;
 use gr_record::header::{Header, Version};
 use gr_text::place::{Place, take_line};
 use gr_text::words::{is_word, parse_number, parse_short};
@@ -212,7 +213,7 @@ pub fn put_bad_line(to: &mut Stderr, text: &[u8], name: &str) -> io::Result<()> 
     let Some((line, place)) = bad_line(text) else {
         return Ok(());
     };
-    write!(to, "gpurace: {name}")?;
+    write!(to, "gpurace: {}", Escaped(name))?;
     for at in 0..usize::MAX {
         let due = due_at(place, version_of(place, line), line, at);
         match word_at(line, at) {

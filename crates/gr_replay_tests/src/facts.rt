@@ -3,12 +3,13 @@
 ghost use Rattle.std.specs.Prelude.{◌≡◌};
 
 use gr_intake::backlog::Backlog;
-use gr_model::event::{Event, Kind, Space};
+use gr_model::event::{Event, EventId, ItemId, Kind, Space};
 use gr_model::memory::Memory;
 use gr_model::names::Names;
 use gr_record::fault::Fault;
 use gr_record::header::{Header, Version};
 use gr_replay::replay;
+use gr_timeline::reason::Reason;
 use std::alloc::Global;
 use std::test::*;
 
@@ -65,4 +66,14 @@ fn replay_of_a_refused_input(alloc: Global, bytes: &[u8]) -> bool {
 #[test]
 fn a_refused_input(rt: HostRuntime) {
     assert!(rt; replay_of_a_refused_input(rt.alloc(), &[0]));
+}
+
+/// A barrier is held because of the event before the barrier that it meets.
+#[test]
+fn leads_to_of_a_barrier() {
+    let event = EventId {
+        at: ItemId { group: 0, item: 1 },
+        index: 2,
+    };
+    prove!(Reason::Barrier(event).leads_to() == Some(event));
 }

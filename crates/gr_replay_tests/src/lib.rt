@@ -1,4 +1,4 @@
-//! Tests alone: facts of records and streams, and reports and faults that no file has.
+//! Tests alone: facts of records, streams and answers, and reports and faults that no file has.
 #![tactic(auto)]
 
 #[cfg(test)]

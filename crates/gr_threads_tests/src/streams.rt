@@ -1,14 +1,16 @@
-//! A launch whose race is seen while its stream is still being read; and no stream at all.
+//! A launch whose race is seen while its stream is still being read, or of which each growth is refused in turn; and no stream at all.
 
 use crate::detector::counts::Counts;
 use crate::detector::gates::came;
 use gr_detector::Watch;
 use gr_model::config::Config;
+use gr_model::memory::Memory;
 use gr_model::shape::ShapeError;
 use gr_record::fault::Fault;
 use gr_streams::{NoWatch, run_streams};
 use gr_text::packing::pack_text;
-use std::alloc::Global;
+use refusing::Refusing;
+use std::alloc::{Allocator, Global};
 use std::io::{self, ErrorKind, Read, Write};
 use std::sync::atomic::Ordering;
 use std::sync::{Arc, Wait};
@@ -88,6 +90,46 @@ fn a_race_is_seen_before_its_stream_is_read_to_the_end(rt: HostRuntime) -> Resul
     );
     assert_eq!(rt; counts.races.load(Ordering::SeqCst), 1);
     Ok(())
+}
+
+/// Whether a run over the race writes its report, or memory runs out with nothing written. Its threads have then dropped the watch.
+fn is_race_reported<
+    R: Threads + Wait + Clock + Copy + Send + 'static,
+    A: Allocator + Copy + Send + Sync + Drop + 'static,
+>(rt: R, alloc: Global, heap: A) -> Result<bool, Memory> {
+    let input = Gated {
+        bytes: pack_text(alloc, RACE.as_bytes()).map_err(|_| Memory)?,
+        place: 0,
+        gate: usize::MAX,
+        counts: Arc::new(alloc, Counts::default())?,
+    };
+    let inputs = vec![in heap; input]?;
+    let watch = Arc::new(heap, Counts::default())?;
+    let theirs = Arc::try_clone(&watch)?;
+    let config = Config::new(1, 1, 1).map_err(|_| Memory)?;
+    let mut text = Vec::new(alloc);
+    let answer = run_streams(rt, heap, inputs, config, theirs, &mut text);
+    let is_free = Arc::strong_count(&watch) == 1;
+    match answer {
+        Ok(_) => Ok(is_free && text.as_slice() == REPORT.as_bytes()),
+        Err(Fault::Memory) if is_free && text.is_empty() => Err(Memory),
+        Err(_) => Ok(false),
+    }
+}
+
+#[test]
+fn each_refused_growth_is_want_of_memory(rt: HostRuntime) -> Result<(), Fail> {
+    for at in 0..10_000_u64 {
+        let heap = Box::new(rt.alloc(), Refusing::new(rt.alloc(), at))?;
+        let heap: &'static Refusing<Global> = Box::leak(heap);
+        let is_due = is_race_reported(rt, rt.alloc(), heap).unwrap_or(heap.refused());
+        assert!(rt; is_due, "the growth numbered {at}");
+        if !heap.refused() {
+            assert!(rt; at > 20, "readers, queues and clocks grow");
+            return Ok(());
+        }
+    }
+    Err("a growth was refused each time")?
 }
 
 #[test]

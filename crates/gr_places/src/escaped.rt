@@ -1,12 +1,12 @@
-//! Texts of others as they are shown.
+//! Names and places as they are shown.
 
 use std::fmt::{self, Display, Formatter};
 
 /// A text of others in one line, its control characters escaped: it gives a terminal no command.
 #[derive(Clone, Copy)]
-pub struct Shown<'a>(pub &'a str);
+pub struct Escaped<'a>(pub &'a str);
 
-impl Display for Shown<'_> {
+impl Display for Escaped<'_> {
     fn fmt<W: fmt::Write>(&self, f: &mut Formatter<W>) -> fmt::Result {
         for letter in self.0.chars() {
             match letter {
